@@ -1,0 +1,5 @@
+pub mod Tree
+pub mod Seen
+pub mod Building
+pub mod Codes
+pub mod Order

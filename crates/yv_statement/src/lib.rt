@@ -1,0 +1,10 @@
+//! Statements of YANG files as trees, what is refused, and which of several refusals comes first.
+#![tactic(auto)]
+
+mod refusal;
+mod statement;
+#[cfg(test)]
+mod tests;
+
+pub use refusal::{Code, Refusal, Stop, lesser, refused};
+pub use statement::Statement;

@@ -1,0 +1,114 @@
+ghost use Rattle.std.specs.Prelude.{◌≡◌, OnOk, OnErr, string_bytes};
+ghost use Rattle.std.specs.Option.{option_map};
+ghost use Rattle.yv_statement.specs.Tree.{trees};
+ghost use Rattle.yv_statement.specs.Building.{bare, push_child, with_argument, with_more};
+
+use std::alloc::{AllocError, Global};
+use std::marker::Model;
+
+/// A statement of a YANG file: a keyword, perhaps an argument, and the statements of its block
+/// (RFC 7950, section 6.3). Contracts see it as a tree.
+#[derive(Drop)]
+pub struct Statement<'a> {
+    keyword: &'a str,
+    argument: Option<String>,
+    children: Vec<Statement<'a>>,
+    line: u64,
+    offset: u64,
+}
+
+impl<'a> Model for Statement<'a> {
+    ghost use Rattle.std.specs.Prelude.{string_bytes, ◌+◌, Option};
+    ghost use Rattle.std.proofs.Common.{arith};
+    ghost use Rattle.yv_statement.specs.Tree.{Tree, tree_code, forest, count, most_le-count};
+
+    ghost Value = { Tree };
+
+    ghost coded = { tree_code };
+
+    ghost use Rattle.yv_statement.specs.Seen.{seen};
+
+    ghost view = { seen };
+
+    ghost size = { λ t. count t.children + 1 };
+
+    ghost size_decreases = { λ a h. omega (arith, most_le-count a.children.items) };
+}
+
+impl<'a> Statement<'a> {
+    /// A statement without argument and block, whose keyword stands at this line and offset.
+    pub fn new(alloc: Global, keyword: &'a str, line: u64, offset: u64) -> Self
+        ensures { result ≡ bare line offset keyword.now }
+    {
+        Statement {
+            keyword,
+            argument: None,
+            children: Vec::new(alloc),
+            line,
+            offset,
+        }
+    }
+
+    /// Gives it this argument, in place of one that it had.
+    pub fn give(&mut self, text: String)
+        ensures { self.new ≡ with_argument (string_bytes text) self.old }
+    {
+        self.argument = Some(text);
+    }
+
+    /// Gives it more of its argument, or the first part.
+    pub fn extend(&mut self, alloc: Global, text: &str) -> Result<(), AllocError>
+        ensures ok { OnOk result (self.new ≡ with_more text.now self.old) }
+        ensures err { OnErr result (self.new ≡ self.old) }
+    {
+        match &mut self.argument {
+            Some(front) => front.push_str(text)?,
+            None => self.argument = Some(String::from_str(alloc, text)?),
+        }
+        Ok(())
+    }
+
+    /// Adds a statement to its block, behind the others.
+    pub fn adopt(&mut self, child: Statement<'a>) -> Result<(), AllocError>
+        ensures ok { OnOk result (self.new ≡ push_child self.old child.entry) }
+        ensures err { OnErr result (self.new ≡ self.old) }
+    {
+        self.children.push(child)?;
+        Ok(())
+    }
+
+    /// The keyword, with its prefix where it has one.
+    pub fn keyword(&self) -> &str
+        ensures { result.now ≡ self.now.head.keyword }
+    {
+        self.keyword
+    }
+
+    /// The argument, where it has one.
+    pub fn argument(&self) -> Option<&str>
+        ensures { option_map (λ text. text.now) result ≡ self.now.head.argument }
+    {
+        self.argument.as_deref()
+    }
+
+    /// The line of the keyword, from 1.
+    pub fn line(&self) -> u64
+        ensures { result ≡ self.now.head.line }
+    {
+        self.line
+    }
+
+    /// The keyword's offset in bytes.
+    pub fn offset(&self) -> u64
+        ensures { result ≡ self.now.head.offset }
+    {
+        self.offset
+    }
+
+    /// The statements of its block, in order.
+    pub fn children(&self) -> &[Statement<'a>]
+        ensures { result.now ≡ trees self.now.children }
+    {
+        &self.children
+    }
+}
