@@ -1,10 +1,12 @@
 -- How least refusals are joined.
-use Rattle.std.proofs.Common.{◌≡◌, ℕ, ◌+◌, ◌<◌, ◌≤◌, ◌⊎◌, inl, inr, ⊎_elim, List, [], ◌∷◌, length, Bool, true, false, cond, refl, sym, ◌∙◌, ap, subst, arith, Option, Some, None}
+use Rattle.std.proofs.Common.{◌≡◌, ℕ, ◌+◌, ◌<◌, ◌≤◌, ◌⊎◌, inl, inr, ⊎_elim, List, [], ◌∷◌, length, Bool, true, false, cond, refl, sym, ◌∙◌, ap, subst, arith, Option, Some, None, get_or}
 use Rattle.std.specs.List.{slice_get}
 use Rattle.std.proofs.lemmas.Option.{same_Some, slice_get_within}
 use Rattle.std.proofs.lemmas.Bool.{cases_lt, cases_eq, false≢true}
 use Rattle.yv_statement.specs.declared.refusal.Refusal.{Refusal}
-use Rattle.yv_statement.specs.Codes.{phase_of}
+use Rattle.yv_statement.specs.Codes.{phase_of, number_of}
+use Rattle.yv_statement.specs.contracts.refusal.Code.{the_type}
+use denote.Enum.Bare.{tag_one}
 use Rattle.yv_statement.specs.Order.{keys_of, IsUpToBy, IsUpTo, IsLeast, IsLesser, Stands, Among}
 
 up_to_by_trans : (xs ys zs : List ℕ) → IsUpToBy xs ys → IsUpToBy ys zs → IsUpToBy xs zs
@@ -86,3 +88,29 @@ lesser_first a b r s e f h = rw (e, f) (inl (refl, h))
 
 pub lesser_second : (a b : Option Refusal) (r s : Refusal) → a ≡ Some r → b ≡ Some s → (IsUpTo r s → ⊥) → IsLesser a b (Some s)
 lesser_second a b r s e f h = rw (e, f) (inr (refl, up_to_by_or (keys_of r) (keys_of s) refl h))
+
+up_to_by_both : (xs ys : List ℕ) → IsUpToBy xs ys → IsUpToBy ys xs → xs ≡ ys
+up_to_by_both [] [] p q = refl
+up_to_by_both [] (y ∷ ys) p q = absurd q
+up_to_by_both (x ∷ xs) [] p q = absurd p
+up_to_by_both (x ∷ xs) (y ∷ ys) (inl p) (inl q) = absurd (omega arith)
+up_to_by_both (x ∷ xs) (y ∷ ys) (inl p) (inr q) = absurd (let e = q.0 in omega arith)
+up_to_by_both (x ∷ xs) (y ∷ ys) (inr p) (inl q) = absurd (let e = p.0 in omega arith)
+up_to_by_both (x ∷ xs) (y ∷ ys) (inr p) (inr q) = ap (λ n. n ∷ xs) p.0 ∙ ap (λ l. y ∷ l) (up_to_by_both xs ys p.1 q.1)
+
+at_place : ℕ → List ℕ → ℕ
+at_place k xs = get_or xs k 0
+
+same_keys : (r s : Refusal) → keys_of r ≡ keys_of s → r ≡ s
+unfolding at_place
+same_keys r s e =
+    let code : r.code ≡ s.code = tag_one the_type tt r.code s.code (ap (at_place 3) e) in
+    λ i. record { code = code i; file = ap (at_place 1) e i; offset = ap (at_place 2) e i; line = ap (at_place 4) e i }
+
+-- no two refusals are up to each other
+pub up_to_both : (r s : Refusal) → IsUpTo r s → IsUpTo s r → r ≡ s
+up_to_both r s p q = same_keys r s (up_to_by_both (keys_of r) (keys_of s) p q)
+
+-- the least of several is one
+pub least_one : (P : Refusal → Type 0) (r s : Refusal) → IsLeast P (Some r) → IsLeast P (Some s) → r ≡ s
+least_one P r s p q = up_to_both r s (p.1 s q.0) (q.1 r p.0)

@@ -1,6 +1,7 @@
 //! Statements of YANG files as trees, what is refused, and which of several refusals comes first.
 #![tactic(auto)]
 
+pub mod laws;
 mod refusal;
 mod statement;
 #[cfg(test)]

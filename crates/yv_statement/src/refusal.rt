@@ -195,7 +195,12 @@ impl Refusal {
         if self.offset != other.offset {
             return self.offset < other.offset;
         }
-        self.code.number() <= other.code.number()
+        let number = self.code.number();
+        let other_number = other.code.number();
+        if number != other_number {
+            return number < other_number;
+        }
+        self.line <= other.line
     }
 }
 
