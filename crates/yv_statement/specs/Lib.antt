@@ -1,3 +1,4 @@
+pub mod Legal
 pub mod Tree
 pub mod Seen
 pub mod Building

@@ -1,11 +1,14 @@
-//! Statements of YANG files as trees, what is refused, and which of several refusals comes first.
+//! Statements of YANG files as trees, the characters that they may have, what is refused, and which of
+//! several refusals comes first.
 #![tactic(auto)]
 
 pub mod laws;
+mod legal;
 mod refusal;
 mod statement;
 #[cfg(test)]
 mod tests;
 
+pub use legal::{is_legal, is_legal_text};
 pub use refusal::{Code, Refusal, Stop, lesser, refused};
 pub use statement::Statement;

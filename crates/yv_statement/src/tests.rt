@@ -1,4 +1,4 @@
-use crate::{Code, Refusal, Statement, lesser, refused};
+use crate::{Code, Refusal, Statement, is_legal_text, lesser, refused};
 use std::test::Fail;
 
 #[test]
@@ -47,4 +47,12 @@ fn the_lesser_comes_by_phase_file_offset_and_code(rt: HostRuntime) {
     assert!(rt; lesser(None, refusal).map(|r| r.offset) == Some(40));
     assert!(rt; Code::Cardinality.name() == "Cardinality");
     assert_eq!(rt; Code::Cardinality.phase(), 2);
+}
+
+#[test]
+fn controls_and_noncharacters_are_not_legal(rt: HostRuntime) {
+    assert!(rt; is_legal_text("a\t\r\n\u{e9}\u{fdf0}\u{10fffd}"));
+    for text in ["a\u{0}", "\u{1f}", "\u{fdd0}", "\u{fdef}", "\u{fffe}", "\u{10ffff}"] {
+        assert!(rt; !is_legal_text(text));
+    }
 }
