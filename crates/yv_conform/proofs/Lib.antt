@@ -1,0 +1,13 @@
+pub mod Ascending
+pub mod Conditions
+pub mod Counting
+pub mod Counts
+pub mod Fitting
+pub mod Inside
+pub mod Keywords
+pub mod Marks
+pub mod Numbers
+pub mod Repeats
+pub mod Smaller
+pub mod Tables
+pub mod WordCuts

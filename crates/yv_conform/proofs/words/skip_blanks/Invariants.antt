@@ -1,0 +1,12 @@
+use Rattle.std.proofs.Common.{◌≡◌, ◌≤◌, length, List, ℕ}
+use Rattle.yv_conform.specs.Words.{words}
+use Rattle.yv_conform.proofs.words.skip_blanks.Given as goal
+
+abbrev pub invariant-loop-rest : goal.invariant-loop-rest
+invariant-loop-rest l = record {
+  same : (marks : List ℕ) → words marks l.rest ≡ words marks l.text;
+  shorter : length l.rest ≤ length l.text;
+}
+
+abbrev pub decreases-loop-rest : goal.decreases-loop-rest
+decreases-loop-rest l = length l.rest

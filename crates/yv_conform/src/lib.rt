@@ -1,0 +1,19 @@
+//! Whether the statements of a YANG file are as the tables of RFC 7950 say.
+#![tactic(auto)]
+
+mod argument;
+mod condition;
+mod distinct;
+mod fault;
+mod form;
+mod keyword;
+mod lists;
+mod seen;
+mod table;
+#[cfg(test)]
+mod tests;
+mod text;
+mod words;
+
+pub use fault::conform;
+pub use keyword::Keyword;

@@ -1,0 +1,41 @@
+-- The command line is one of those whose matches clap's clauses give exactly.
+use Rattle.std.proofs.Common.{◌≡◌, ◌∙◌, sym, subst, true, refl, codes, List, [], Some, None, Result, Ok, Err, IfOk, IfErr}
+use Rattle.clap.specs.Words.{App, Text, Row, first_of, is_simple, is_simple_and_free, fault_of, FailsBy, HasKind, HasMatchesOf, subcommand_of, subcommand_rows_of}
+use Rattle.clap.specs.declared.parser.matches.ArgMatches.{ArgMatches}
+use Rattle.clap.specs.declared.error.Error.{Error}
+use Rattle.clap.proofs.OnLiterals.{clap_on_literals}
+use Rattle.yv_job.specs.CommandLine.{yangcheck_app}
+use Rattle.yv_job.specs.Asks.{IsAsked}
+use Rattle.yv_job.specs.Jobs.{Asked, Compiles, Draws, Checks}
+
+pub app_simple : is_simple yangcheck_app ≡ true
+unfolding clap_on_literals
+app_simple = refl
+
+pub app_free : is_simple_and_free yangcheck_app ≡ true
+unfolding clap_on_literals
+app_free = refl
+
+own_matches : (words : List Text) (r : Result ArgMatches Error) → FailsBy (fault_of yangcheck_app words) r → IfOk r (HasMatchesOf yangcheck_app words)
+    → IfOk r (λ m. (fault_of yangcheck_app words ≡ []) × (subcommand_rows_of m ≡ subcommand_of yangcheck_app words)) × IfErr r (HasKind (fault_of yangcheck_app words))
+own_matches words (Ok m) f h = ((f, (h app_simple).1), tt)
+own_matches words (Err e) f h = (tt, f)
+
+-- what a parse by an equal command line says
+pub matches_here : (a : App) (words : List Text) (r : Result ArgMatches Error) → a ≡ yangcheck_app → (is_simple_and_free a ≡ true → FailsBy (fault_of a words) r) → IfOk r (HasMatchesOf a words)
+    → IfOk r (λ m. (fault_of yangcheck_app words ≡ []) × (subcommand_rows_of m ≡ subcommand_of yangcheck_app words)) × IfErr r (HasKind (fault_of yangcheck_app words))
+matches_here a words r e kinds matches =
+    own_matches words r
+    (subst (λ b. is_simple_and_free b ≡ true → FailsBy (fault_of b words) r) e kinds app_free)
+    (subst (λ b. IfOk r (HasMatchesOf b words)) e matches)
+
+-- a command that lacks its name is none
+pub no_module : (name : Text) (rows : List Row) → name ≡ codes "tree" → None ≡ first_of (codes "module") rows → (a : Asked) → IsAsked name rows a → ⊥
+no_module name rows e f Compiles h = let g : codes "compile" ≡ codes "tree" = sym h ∙ e in cc
+no_module name rows e f (Draws m) h = let g : None ≡ Some m = f ∙ h.1 in cc
+no_module name rows e f (Checks d) h = let g : codes "validate" ≡ codes "tree" = sym h.0 ∙ e in cc
+
+pub no_data : (name : Text) (rows : List Row) → name ≡ codes "validate" → None ≡ first_of (codes "data") rows → (a : Asked) → IsAsked name rows a → ⊥
+no_data name rows e f Compiles h = let g : codes "compile" ≡ codes "validate" = sym h ∙ e in cc
+no_data name rows e f (Draws m) h = let g : codes "tree" ≡ codes "validate" = sym h.0 ∙ e in cc
+no_data name rows e f (Checks d) h = let g : None ≡ Some d = f ∙ h.1 in cc

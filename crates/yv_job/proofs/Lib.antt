@@ -1,0 +1,4 @@
+pub mod AppFacts
+pub mod NameLemmas
+pub mod AskLemmas
+pub mod FaultLemmas

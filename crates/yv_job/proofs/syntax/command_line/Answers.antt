@@ -1,0 +1,11 @@
+use Rattle.std.proofs.Common.{ap₂, ◌∙◌}
+use Rattle.std.proofs.lemmas.Result.{IfOk-weaker}
+use Rattle.clap.specs.Words.{with_subcommand, App}
+use Rattle.yv_job.proofs.syntax.command_line.Goals as goal
+
+pub returns : goal.returns
+returns c =
+    let joined = λ (a : App) (b : App). with_subcommand a b.top in
+    let one = c.in_ok-one.ensures.app ∙ ap₂ joined c.top.ensures.app c.in_ok-compile.ensures.app in
+    let two = c.in_ok-two.ensures.app ∙ ap₂ joined one c.in_ok-tree.ensures.app in
+    IfOk-weaker c.with_command-3.result _ _ (λ m h. h ∙ ap₂ joined two c.in_ok-validate.ensures.app) c.with_command-3.ensures.app

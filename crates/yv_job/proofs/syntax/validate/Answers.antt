@@ -1,0 +1,10 @@
+use Rattle.std.proofs.Common.{ap, ap₂, ◌∙◌}
+use Rattle.std.proofs.lemmas.Result.{IfOk-weaker}
+use Rattle.clap.specs.Words.{with_rule}
+use Rattle.yv_job.specs.CommandLine.{with_shared}
+use Rattle.yv_job.proofs.syntax.validate.Goals as goal
+
+pub returns-clause-app : goal.returns-clause-app
+returns-clause-app c =
+    let checking = c.in_ok-checking.ensures.app ∙ ap₂ with_rule c.command-command.ensures.app c.required-data.ensures.rule in
+    IfOk-weaker c.shared.result _ _ (λ m h. h ∙ ap with_shared checking) c.shared.ensures.app

@@ -1,0 +1,68 @@
+-- Which task the words of a command line ask for. The first word is the program's name.
+use Rattle.std.specs.Prelude.{◌≡◌, ◌≤◌, ℕ, List, [], Option, Some, None, codes, length}
+use Rattle.std.specs.Str.Parse.{IsNumeral, digits_value}
+use Rattle.clap.specs.Words.{Text, Row, all_of, first_of, fault_of, subcommand_of}
+use Rattle.yv_job.specs.Jobs.{Task, Choice, Asked, Compiles, Draws, Checks}
+use Rattle.yv_job.specs.CommandLine.{yangcheck_app}
+use Rattle.yv_job.specs.Names.{Entry, IsNames, IsSupport}
+
+-- the command of this name, with the values of its arguments, compiles, draws or checks
+abbrev pub IsAsked : Text → List Row → Asked → Type 0
+IsAsked name rows Compiles = name ≡ codes "compile"
+IsAsked name rows (Draws m) = (name ≡ codes "tree") × (first_of (codes "module") rows ≡ Some m)
+IsAsked name rows (Checks f) = (name ≡ codes "validate") × (first_of (codes "data") rows ≡ Some f)
+
+-- the text is decimal digits alone, and writes the number
+abbrev pub IsDecimal : Text → ℕ → Type 0
+IsDecimal t n = IsNumeral 10 t × (digits_value 10 t ≡ n)
+
+-- the limit is a decimal number from 1 to 1,000,000, and 100,000 where none was named
+abbrev pub IsLimit : Option Text → ℕ → Type 0
+IsLimit None n = n ≡ 100000
+IsLimit (Some t) n = IsDecimal t n × (1 ≤ n) × (n ≤ 1000000)
+
+-- modules with their features, none where none were named
+abbrev pub IsSupportFor : Option Text → List Entry → Type 0
+IsSupportFor None es = es ≡ []
+IsSupportFor (Some t) es = IsSupport t es
+
+-- modules that are not implemented, none where none were named
+abbrev pub IsImportsFor : Option Text → List Text → Type 0
+IsImportsFor None ns = ns ≡ []
+IsImportsFor (Some t) ns = IsNames t ns
+
+-- the choice is that of `--support` and `--import-only`
+pub record IsChoice (rows : List Row) (c : Choice) : Type 0 where
+  pub support : IsSupportFor (first_of (codes "support") rows) c.support
+  pub imports : IsImportsFor (first_of (codes "import-only") rows) c.imports
+
+-- the files are those that were given, 1 to 256 of them
+pub record IsFiles (rows : List Row) (files : List Text) : Type 0 where
+  pub given : all_of (codes "file") rows ≡ Some files
+  pub fewest : 1 ≤ length files
+  pub most : length files ≤ 256
+
+-- the command of this name, with the values of its arguments, asks for the task
+pub record Asks (name : Text) (rows : List Row) (t : Task) : Type 0 where
+  pub asked : IsAsked name rows t.asked
+  pub files : IsFiles rows t.files
+  pub limit : IsLimit (first_of (codes "max-nodes") rows) t.limit
+  pub choice : IsChoice rows t.choice
+
+-- the same of a command that may not be there
+abbrev pub AsksIn : Option (Text × List Row) → Task → Type 0
+AsksIn None t = ⊥
+AsksIn (Some p) t = Asks p.0 p.1 t
+
+-- clap finds no fault in the words
+abbrev pub AreUnderstood : List Text → Type 0
+AreUnderstood words = fault_of yangcheck_app words ≡ []
+
+-- the words ask for the task: clap understands them, and the command that it finds asks for it
+pub record WordsAsk (words : List Text) (t : Task) : Type 0 where
+  pub understood : AreUnderstood words
+  pub found : AsksIn (subcommand_of yangcheck_app words) t
+
+-- no words ask for two tasks
+abbrev pub WordsAskOnce : Type 0
+WordsAskOnce = (words : List Text) (t u : Task) → WordsAsk words t → WordsAsk words u → t ≡ u

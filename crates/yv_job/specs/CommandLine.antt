@@ -1,0 +1,54 @@
+-- The command line, as clap reads it: three commands with their options.
+use Rattle.std.specs.Prelude.{Some, true, codes}
+use Rattle.clap.specs.Lexer.{usize_max}
+use Rattle.clap.specs.Words.{App, Rule, Text, new_app, new_rule, with_rule, with_subcommand}
+use Rattle.clap.specs.declared.builder.action.ArgAction.TheVariants.{Set}
+
+-- `--id VALUE`, at most once
+abbrev pub option_rule : Text → Rule
+option_rule id = record (new_rule id) { long = Some id; value_names = 1; action = Some Set }
+
+-- `--id VALUE`, exactly once
+abbrev pub required_rule : Text → Rule
+required_rule id = record (option_rule id) { required = true }
+
+-- FILE...
+abbrev pub files_rule : Rule
+files_rule = record (new_rule (codes "file")) {
+  value_names = 1;
+  range = Some (record { start_inclusive = 1; end_inclusive = usize_max });
+  required = true;
+}
+
+-- with what all commands take: `--max-nodes N`, `--support S`, `--import-only L` and FILE...
+abbrev pub with_shared : App → App
+with_shared a =
+    let counted = with_rule a (option_rule (codes "max-nodes")) in
+    let supported = with_rule counted (option_rule (codes "support")) in
+    let chosen = with_rule supported (option_rule (codes "import-only")) in
+    with_rule chosen files_rule
+
+-- `compile`
+abbrev pub compile_app : App
+compile_app = with_shared (new_app (codes "compile"))
+
+-- `tree --module M`
+abbrev pub tree_app : App
+tree_app = with_shared (with_rule (new_app (codes "tree")) (required_rule (codes "module")))
+
+-- `validate --data F`
+abbrev pub validate_app : App
+validate_app = with_shared (with_rule (new_app (codes "validate")) (required_rule (codes "data")))
+
+-- a command that has a version, and wants one of its subcommands
+abbrev pub top_app : Text → App
+top_app name =
+    let a = new_app name in
+    record a { top = record a.top { has_version = true; subcommand_required = true } }
+
+-- the program with its three commands
+abbrev pub yangcheck_app : App
+yangcheck_app =
+    let one = with_subcommand (top_app (codes "yangcheck")) compile_app.top in
+    let two = with_subcommand one tree_app.top in
+    with_subcommand two validate_app.top

@@ -1,0 +1,7 @@
+pub mod Names
+pub mod Jobs
+pub mod CommandLine
+pub mod Asks
+pub mod Taken
+pub mod Faults
+pub mod Matched

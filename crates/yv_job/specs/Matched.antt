@@ -1,0 +1,21 @@
+-- Cited by private clauses alone: what comes of one command, and of one error of clap.
+use Rattle.std.specs.Prelude.{◌≢◌, List, Option}
+use Rattle.clap.specs.Words.{Text, Row}
+use Rattle.clap.specs.declared.error.kind.ErrorKind.{ErrorKind}
+use Rattle.clap.specs.declared.error.kind.ErrorKind.TheVariants as kind
+use Rattle.yv_job.specs.Asks.{AsksIn}
+use Rattle.yv_job.specs.Faults.{IsHelp}
+use Rattle.yv_job.specs.Jobs.{Task}
+use Rattle.yv_job.specs.Taken.{IsTakenIn}
+use Rattle.yv_job.specs.declared.job.JobFault.{JobFault}
+use Rattle.yv_job.specs.declared.job.JobFault.TheVariants.{Usage, Help, NoMemory}
+
+-- the command that was found asks for no task, or isn't taken
+abbrev pub AsksForNothing : Option (Text × List Row) → Type 0
+AsksForNothing found = IsTakenIn found → (t : Task) → AsksIn found t → ⊥
+
+-- what an error of this kind comes to
+abbrev pub IsFaultFor : ErrorKind → JobFault → Type 0
+IsFaultFor k (Usage text) = (k ≢ kind.OutOfMemory) × (IsHelp k → ⊥)
+IsFaultFor k (Help text) = IsHelp k
+IsFaultFor k NoMemory = Unit {0}

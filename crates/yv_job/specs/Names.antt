@@ -1,0 +1,54 @@
+-- Names and lists of them, as a command line spells them.
+use Rattle.std.specs.Prelude.{◌≡◌, ◌<◌, ◌&&◌, ◌||◌, ◌==◌, ℕ, Bool, true, false, nat_le, List, [], ◌∷◌, ◌++◌, length, map}
+use Rattle.std.specs.List.{All, list_all, join_with_byte}
+
+-- an ASCII letter or `_`
+abbrev pub is_first_byte : ℕ → Bool
+is_first_byte b = ((nat_le 65 b && nat_le b 90) || (nat_le 97 b && nat_le b 122)) || b == 95
+
+-- the same, a digit, `-` or `.`
+abbrev pub is_later_byte : ℕ → Bool
+is_later_byte b = ((is_first_byte b || (nat_le 48 b && nat_le b 57)) || b == 45) || b == 46
+
+-- one first byte, then later ones (RFC 7950, 6.2)
+abbrev pub is_identifier : List ℕ → Bool
+is_identifier [] = false
+is_identifier (b ∷ bs) = is_first_byte b && list_all is_later_byte bs
+
+-- the text is an identifier
+abbrev pub IsIdentifier : List ℕ → Type 0
+IsIdentifier t = is_identifier t ≡ true
+
+-- the text is these names joined by commas, perhaps none
+pub record JoinsNames (text : List ℕ) (names : List (List ℕ)) : Type 0 where
+  pub spelled : join_with_byte 44 names ≡ text
+  pub each : All IsIdentifier names
+
+-- the text is these names joined by commas, one or more
+pub record IsNames (text : List ℕ) (names : List (List ℕ)) : Type 0 where
+  pub joined : JoinsNames text names
+  pub some : 0 < length names
+
+-- a module with some of its features
+pub record Entry : Type 0 where
+  pub «module» : List ℕ
+  pub features : List (List ℕ)
+
+-- the module, `:`, and its features joined by commas, or none
+abbrev pub entry_text : Entry → List ℕ
+entry_text e = e.module ++ (58 ∷ join_with_byte 44 e.features)
+
+-- the module and the features are identifiers
+abbrev pub HasIdentifiers : Entry → Type 0
+HasIdentifiers e = IsIdentifier e.module × All IsIdentifier e.features
+
+-- the text is that of the entry
+pub record IsEntry (text : List ℕ) (e : Entry) : Type 0 where
+  pub spelled : entry_text e ≡ text
+  pub names : HasIdentifiers e
+
+-- the text is that of these entries joined by `/`, one or more
+pub record IsSupport (text : List ℕ) (entries : List Entry) : Type 0 where
+  pub spelled : join_with_byte 47 (map entry_text entries) ≡ text
+  pub each : All HasIdentifiers entries
+  pub some : 0 < length entries

@@ -1,0 +1,86 @@
+// The texts of `--help`.
+
+pub const VERSION: &str = "0.1.0";
+
+pub const ABOUT: &str = "Compiles YANG modules and validates JSON documents against them";
+
+pub const DETAILS: &str = "\
+Compiles YANG 1.1 modules (RFC 7950) and validates JSON documents (RFC 7951)
+against them.
+
+Modules that are no correct YANG are refused by one line, FILE:LINE: NAME, which
+says what is wrong first. The faults of a document get a line each, KIND PATH.";
+
+pub const CLOSING: &str = "\
+Example:
+  yangcheck validate --data config.json example.yang
+
+Exit status:
+  0  compiled, or valid
+  1  modules were refused, or faults were found
+  2  usage, or the document is too large or no JSON
+  3  out of memory, pattern not built, cannot read or cannot write";
+
+pub const COMPILE_ABOUT: &str = "Count the nodes of a schema (not in this version)";
+
+pub const COMPILE_DETAILS: &str = "\
+Compiles modules and prints `nodes: N`, the number of nodes of their schema.
+This version does not take the command yet.";
+
+pub const COMPILE_CLOSING: &str = "\
+Example:
+  yangcheck compile example.yang types.yang
+
+Exit status:
+  0  compiled
+  1  modules were refused
+  2  usage
+  3  out of memory, pattern not built, cannot read or cannot write";
+
+pub const TREE_ABOUT: &str = "Draw the tree of a module (not in this version)";
+
+pub const TREE_DETAILS: &str = "\
+Compiles modules and draws the tree diagram (RFC 8340) of one of them.
+This version does not take the command yet.";
+
+pub const TREE_CLOSING: &str = "\
+Example:
+  yangcheck tree --module example example.yang types.yang
+
+Exit status:
+  0  drawn
+  1  modules were refused, or there is no such module
+  2  usage
+  3  out of memory, pattern not built, cannot read or cannot write";
+
+pub const VALIDATE_ABOUT: &str = "Validate a JSON document against a module";
+
+pub const VALIDATE_DETAILS: &str = "\
+Validates a JSON document (RFC 7951) against a YANG 1.1 module (RFC 7950).
+
+The module is compiled first. If it is refused, one line FILE:LINE: NAME says
+what is wrong first, and the document is not read. Otherwise each fault of the
+document gets a line, KIND PATH, and the last line is `valid` or `faults: N`.";
+
+pub const VALIDATE_CLOSING: &str = "\
+Example:
+  yangcheck validate --data config.json example.yang
+
+Exit status:
+  0  valid
+  1  the module was refused, or faults were found
+  2  usage, or the document is too large or no JSON
+  3  out of memory, pattern not built, cannot read or cannot write";
+
+pub const DATA: &str = "The JSON document, or - for standard input";
+
+pub const FILE: &str = "The files of the YANG modules; this version takes one";
+
+pub const MODULE: &str = "The module to draw";
+
+pub const MAX_NODES: &str = "The most nodes of the schema, from 1 to 1000000 [default: 100000]";
+
+pub const SUPPORT: &str = "\
+Of the modules named here only these features: MODULE:FEATURE,FEATURE/MODULE:FEATURE";
+
+pub const IMPORT_ONLY: &str = "Modules that are there for their definitions alone: MODULE,MODULE";

@@ -1,0 +1,17 @@
+//! What a command line of `yangcheck` asks for.
+#![tactic(auto)]
+
+mod help;
+mod job;
+mod laws;
+mod matches;
+mod names;
+mod options;
+mod syntax;
+#[cfg(test)]
+mod tests;
+mod words;
+
+pub use job::{Command, Job, JobFault, Selection};
+pub use laws::words_ask_once;
+pub use words::read_job;

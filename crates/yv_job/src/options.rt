@@ -1,0 +1,74 @@
+// The values of the options that all commands share.
+ghost use Rattle.std.specs.Prelude.{◌≡◌, ◌≤◌, ◌==◌, ℕ, List, slice_index, IfSome, IfOk, MatchOption, map, option_map, string_bytes};
+ghost use Rattle.yv_job.specs.Asks.{IsDecimal, IsLimit, IsSupportFor, IsImportsFor};
+ghost use Rattle.yv_job.specs.Jobs.{entry_of};
+ghost use Rattle.yv_job.specs.Names.{Entry};
+
+use crate::names::{names_of, support_of};
+use std::alloc::{AllocError, Global};
+
+const MOST_NODES: u32 = 1_000_000;
+
+const USUAL_NODES: u32 = 100_000;
+
+fn has_plus(text: &str) -> bool
+    ensures { result ≡ (slice_index text.now 0 == 43) }
+{
+    match text.as_bytes().first() {
+        Some(byte) => *byte == b'+',
+        None => false,
+    }
+}
+
+// The number that decimal digits write. A plus, which `parse` takes, is none.
+fn number_of(text: &str) -> Option<u32>
+    ensures { MatchOption result ((n : ℕ) → n ≤ 1000000 → IsDecimal text.now n → ⊥)
+        (IsDecimal text.now) }
+{
+    if has_plus(text) {
+        return None;
+    }
+    text.parse::<u32>().ok()
+}
+
+/// The limit that the value of `--max-nodes` writes, or the usual one.
+pub fn limit_of(value: Option<&str>) -> Option<u32>
+    ensures bounds { IfSome result (λ n. (1 ≤ n) × (n ≤ 1000000)) }
+    ensures limit { let text = option_map (λ t. t.now) value.entry in
+        MatchOption result ((n : ℕ) → IsLimit text n → ⊥) (IsLimit text) }
+{
+    let Some(text) = value else {
+        return Some(USUAL_NODES);
+    };
+    match number_of(text) {
+        Some(n) if n >= 1 && n <= MOST_NODES => Some(n),
+        _ => None,
+    }
+}
+
+/// The entries of the value of `--support`.
+pub fn support_for(
+    alloc: Global,
+    value: Option<&str>,
+) -> Result<Option<Vec<(String, Vec<String>)>>, AllocError>
+    ensures { let text = option_map (λ t. t.now) value.entry in
+        IfOk result (λ o. MatchOption o ((es : List Entry) → IsSupportFor text es → ⊥)
+        (λ v. IsSupportFor text (map entry_of v.items))) }
+{
+    match value {
+        None => Ok(Some(Vec::new(alloc))),
+        Some(text) => support_of(alloc, text),
+    }
+}
+
+/// The modules of the value of `--import-only`.
+pub fn imports_for(alloc: Global, value: Option<&str>) -> Result<Option<Vec<String>>, AllocError>
+    ensures { let text = option_map (λ t. t.now) value.entry in
+        IfOk result (λ o. MatchOption o ((ns : List (List ℕ)) → IsImportsFor text ns → ⊥)
+        (λ v. IsImportsFor text (map string_bytes v.items))) }
+{
+    match value {
+        None => Ok(Some(Vec::new(alloc))),
+        Some(text) => names_of(alloc, text),
+    }
+}

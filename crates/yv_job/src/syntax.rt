@@ -1,0 +1,173 @@
+// The command line's syntax, for clap.
+ghost use Rattle.std.specs.Prelude.{◌≡◌, IfOk, false, codes};
+ghost use Rattle.clap.specs.Words.{app_of, rule_of, new_app, with_rule, with_subcommand};
+ghost use Rattle.clap.specs.declared.builder.command.Command.TheViews.{out-Command as fields_of};
+ghost use Rattle.yv_job.specs.CommandLine.{option_rule, required_rule, files_rule, with_shared, compile_app, tree_app, validate_app, top_app, yangcheck_app};
+
+use crate::help;
+use clap::{Arg, ArgAction, Command};
+use std::alloc::{AllocError, Global};
+
+// `--id VALUE`, at most once.
+fn option<'a>(alloc: Global, id: &'a str, value: &'a str, help: &'a str) -> Arg<'a>
+    ensures rule { rule_of result ≡ option_rule id.entry.now }
+    ensures local { result.global ≡ false }
+{
+    Arg::new(alloc, id)
+        .long(id)
+        .value_name(value)
+        .help(help)
+        .action(ArgAction::Set)
+}
+
+// `--id VALUE`, exactly once.
+fn required<'a>(alloc: Global, id: &'a str, value: &'a str, help: &'a str) -> Arg<'a>
+    ensures rule { rule_of result ≡ required_rule id.entry.now }
+    ensures local { result.global ≡ false }
+{
+    option(alloc, id, value, help).required(true)
+}
+
+// An option that this version doesn't take, and its help doesn't show.
+fn later<'a>(alloc: Global, id: &'a str, value: &'a str, help: &'a str) -> Arg<'a>
+    ensures rule { rule_of result ≡ option_rule id.entry.now }
+    ensures local { result.global ≡ false }
+{
+    option(alloc, id, value, help).hide(true)
+}
+
+fn files<'a>(alloc: Global) -> Arg<'a>
+    ensures rule { rule_of result ≡ files_rule }
+    ensures local { result.global ≡ false }
+{
+    Arg::new(alloc, "file")
+        .value_name("FILE")
+        .help(help::FILE)
+        .num_args(1..)
+        .required(true)
+}
+
+// A new command with the texts of its help.
+fn command<'a>(
+    alloc: Global,
+    name: &'a str,
+    about: &'a str,
+    details: &'a str,
+    closing: &'a str,
+) -> Command<'a>
+    ensures app { app_of result ≡ new_app name.entry.now }
+    ensures local { (fields_of result).has_globals ≡ false }
+{
+    Command::new(alloc, name)
+        .about(about)
+        .long_about(details)
+        .after_help(closing)
+}
+
+// The command with one more argument, neither of them global.
+fn with_arg<'a>(command: Command<'a>, arg: Arg<'a>) -> Result<Command<'a>, AllocError>
+    requires command { (fields_of command).has_globals ≡ false }
+    requires arg { arg.global ≡ false }
+    ensures app { IfOk result (λ c.
+        app_of c ≡ with_rule (app_of command.entry) (rule_of arg.entry)) }
+    ensures local { IfOk result (λ c. (fields_of c).has_globals ≡ false) }
+{
+    command.arg(arg)
+}
+
+// The command with a subcommand, neither of them with a global argument.
+fn with_command<'a>(command: Command<'a>, below: Command<'a>) -> Result<Command<'a>, AllocError>
+    requires command { (fields_of command).has_globals ≡ false }
+    requires below { (fields_of below).has_globals ≡ false }
+    ensures app { IfOk result (λ c.
+        app_of c ≡ with_subcommand (app_of command.entry) (app_of below.entry).top) }
+    ensures local { IfOk result (λ c. (fields_of c).has_globals ≡ false) }
+{
+    command.subcommand(below)
+}
+
+// The command with what all commands take.
+fn shared<'a>(alloc: Global, command: Command<'a>) -> Result<Command<'a>, AllocError>
+    requires { (fields_of command).has_globals ≡ false }
+    ensures app { IfOk result (λ c. app_of c ≡ with_shared (app_of command.entry)) }
+    ensures local { IfOk result (λ c. (fields_of c).has_globals ≡ false) }
+{
+    let nodes = later(alloc, "max-nodes", "N", help::MAX_NODES);
+    let support = later(alloc, "support", "S", help::SUPPORT);
+    let imports = later(alloc, "import-only", "L", help::IMPORT_ONLY);
+    let counted = with_arg(command, nodes)?;
+    let supported = with_arg(counted, support)?;
+    let chosen = with_arg(supported, imports)?;
+    with_arg(chosen, files(alloc))
+}
+
+fn compile<'a>(alloc: Global) -> Result<Command<'a>, AllocError>
+    ensures app { IfOk result (λ c. app_of c ≡ compile_app) }
+    ensures local { IfOk result (λ c. (fields_of c).has_globals ≡ false) }
+{
+    let command = command(
+        alloc,
+        "compile",
+        help::COMPILE_ABOUT,
+        help::COMPILE_DETAILS,
+        help::COMPILE_CLOSING,
+    );
+    shared(alloc, command.hide(true))
+}
+
+fn tree<'a>(alloc: Global) -> Result<Command<'a>, AllocError>
+    ensures app { IfOk result (λ c. app_of c ≡ tree_app) }
+    ensures local { IfOk result (λ c. (fields_of c).has_globals ≡ false) }
+{
+    let command = command(
+        alloc,
+        "tree",
+        help::TREE_ABOUT,
+        help::TREE_DETAILS,
+        help::TREE_CLOSING,
+    );
+    let module = required(alloc, "module", "M", help::MODULE);
+    let drawing = with_arg(command.hide(true), module)?;
+    shared(alloc, drawing)
+}
+
+fn validate<'a>(alloc: Global) -> Result<Command<'a>, AllocError>
+    ensures app { IfOk result (λ c. app_of c ≡ validate_app) }
+    ensures local { IfOk result (λ c. (fields_of c).has_globals ≡ false) }
+{
+    let command = command(
+        alloc,
+        "validate",
+        help::VALIDATE_ABOUT,
+        help::VALIDATE_DETAILS,
+        help::VALIDATE_CLOSING,
+    );
+    let data = required(alloc, "data", "F", help::DATA);
+    let checking = with_arg(command, data)?;
+    shared(alloc, checking)
+}
+
+// The program with none of its commands.
+fn top<'a>(alloc: Global) -> Command<'a>
+    ensures app { app_of result ≡ top_app (codes "yangcheck") }
+    ensures local { (fields_of result).has_globals ≡ false }
+{
+    command(
+        alloc,
+        "yangcheck",
+        help::ABOUT,
+        help::DETAILS,
+        help::CLOSING,
+    )
+    .version(help::VERSION)
+    .subcommand_required(true)
+}
+
+/// The program with its commands.
+pub fn command_line<'a>(alloc: Global) -> Result<Command<'a>, AllocError>
+    ensures { IfOk result (λ c. app_of c ≡ yangcheck_app) }
+{
+    let one = with_command(top(alloc), compile(alloc)?)?;
+    let two = with_command(one, tree(alloc)?)?;
+    with_command(two, validate(alloc)?)
+}

@@ -1,0 +1,65 @@
+// A job from the words of a command line.
+ghost use Rattle.std.specs.Prelude.{◌≡◌, ◌⊎◌, [], map, string_bytes, IfOk, OnOk, IfErr};
+ghost use Rattle.clap.specs.Words.{fault_of, subcommand_of, subcommand_rows_of, HasKind, kind_of};
+ghost use Rattle.yv_job.specs.Asks.{WordsAsk, AreUnderstood};
+ghost use Rattle.yv_job.specs.CommandLine.{yangcheck_app};
+ghost use Rattle.yv_job.specs.Faults.{IfUsage, OnHelp, AskForNothing, AskForHelp, AreRefused, own_usage};
+ghost use Rattle.yv_job.specs.Jobs.{task_of, HasFiles, HasLimit, ChecksOneFile};
+ghost use Rattle.yv_job.specs.Matched.{IsFaultFor};
+ghost use Rattle.yv_job.specs.Taken.{AreTaken};
+
+use crate::job::{Job, JobFault};
+use crate::matches::job_of;
+use crate::syntax::command_line;
+use clap::error::ErrorKind;
+use clap::{ArgMatches, Error};
+use std::alloc::Global;
+
+const OWN_USAGE: &str = "yangcheck: usage\n";
+
+fn matched<'a>(alloc: Global, words: &'a [String]) -> Result<ArgMatches<'a>, Error>
+    ensures ok { IfOk result (λ m. (fault_of yangcheck_app (map string_bytes words.now) ≡ [])
+        × (subcommand_rows_of m ≡ subcommand_of yangcheck_app (map string_bytes words.now))) }
+    ensures err { IfErr result (HasKind (fault_of yangcheck_app (map string_bytes words.now))) }
+{
+    let command = command_line(alloc)?;
+    command.try_get_matches_from(words)
+}
+
+// What clap's error comes to.
+fn refused(alloc: Global, error: &Error) -> JobFault
+    ensures { IsFaultFor (kind_of error.now) result }
+{
+    if error.kind() == ErrorKind::OutOfMemory {
+        return JobFault::NoMemory;
+    }
+    match error.to_string(alloc) {
+        Ok(text) if error.use_stderr() => JobFault::Usage(text),
+        Ok(text) => JobFault::Help(text),
+        Err(_) => JobFault::NoMemory,
+    }
+}
+
+/// The job that the words ask for, of which the first is the program's name.
+pub fn read_job(alloc: Global, words: &[String]) -> Result<Job, JobFault>
+    ensures job { IfOk result (λ j. WordsAsk (map string_bytes words.now) (task_of j)) }
+    ensures taken { OnOk result (AreTaken (map string_bytes words.now)) }
+    ensures files { IfOk result HasFiles }
+    ensures limit { IfOk result HasLimit }
+    ensures check { IfOk result ChecksOneFile }
+    ensures usage { IfErr result (λ f. IfUsage f (λ _.
+        AskForNothing (map string_bytes words.now))) }
+    ensures own_text { IfErr result (λ f. IfUsage f (λ text.
+        AreUnderstood (map string_bytes words.now) → text ≡ own_usage)) }
+    ensures not_help { IfErr result (λ f. IfUsage f (λ _.
+        AreUnderstood (map string_bytes words.now) ⊎ AreRefused (map string_bytes words.now))) }
+    ensures help { IfErr result (λ f. OnHelp f (AskForHelp (map string_bytes words.now))) }
+{
+    match matched(alloc, words) {
+        Ok(matches) => match job_of(alloc, &matches)? {
+            Some(job) => Ok(job),
+            None => Err(JobFault::Usage(String::from_str(alloc, OWN_USAGE)?)),
+        },
+        Err(error) => Err(refused(alloc, &error)),
+    }
+}

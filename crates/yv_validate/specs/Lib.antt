@@ -1,0 +1,7 @@
+pub mod Place
+pub mod Faults
+pub mod Size
+pub mod Line
+pub mod InnerTrail
+pub use Rattle.yv_schema.specs.Tree
+pub use Rattle.yv_schema.specs.Rows

@@ -1,0 +1,84 @@
+use crate::{FaultKind, line, size, validate};
+use serde_json::Value;
+use std::alloc::{AllocError, Global};
+use std::test::Fail;
+use yv_schema::{Schema, compile};
+use yv_statement::{Statement, Stop};
+
+fn statement(
+    alloc: Global,
+    keyword: &'static str,
+    argument: &str,
+) -> Result<Statement<'static>, AllocError> {
+    let mut statement = Statement::new(alloc, keyword, 1, 0);
+    statement.give(String::from_str(alloc, argument)?);
+    Ok(statement)
+}
+
+fn leaf(alloc: Global, name: &str, plain: &str) -> Result<Statement<'static>, AllocError> {
+    let mut leaf = statement(alloc, "leaf", name)?;
+    leaf.adopt(statement(alloc, "type", plain)?)?;
+    Ok(leaf)
+}
+
+// The module `ex` with a container `top` of three leaves.
+fn schema(alloc: Global) -> Result<Schema, Stop> {
+    let mut top = statement(alloc, "container", "top")?;
+    top.adopt(leaf(alloc, "a", "string")?)?;
+    top.adopt(leaf(alloc, "b", "int32")?)?;
+    top.adopt(leaf(alloc, "c", "boolean")?)?;
+    let mut module = statement(alloc, "module", "ex")?;
+    module.adopt(statement(alloc, "namespace", "urn:ex")?)?;
+    module.adopt(statement(alloc, "prefix", "ex")?)?;
+    module.adopt(top)?;
+    compile(alloc, &module)
+}
+
+// The lines of the faults of a document.
+fn lines(alloc: Global, schema: &Schema, text: &str) -> Result<String, AllocError> {
+    let mut lines = String::new(alloc);
+    let Ok(document) = Value::from_str(alloc, text) else {
+        return Ok(lines);
+    };
+    if size(&document) > 100 {
+        return Ok(lines);
+    }
+    let report = validate(alloc, schema, &document)?;
+    for fault in report.faults.iter() {
+        lines.push_str(line(alloc, fault)?.as_str())?;
+        lines.push(';')?;
+    }
+    Ok(lines)
+}
+
+#[test]
+fn documents_have_faults(rt: HostRuntime) -> Result<(), Fail> {
+    let alloc = rt.alloc();
+    let schema = schema(alloc)?;
+    let cases = [
+        ("{\"ex:top\":{\"a\":\"x\",\"b\":3}}", ""),
+        ("{}", ""),
+        ("{\"ex:top\":{\"b\":-2147483648,\"c\":false}}", ""),
+        ("{\"ex:top\":{\"b\":2147483648}}", "value /ex:top/b;"),
+        ("{\"ex:top\":{\"a\":\"\\u0001\",\"c\":1}}", "value /ex:top/a;value /ex:top/c;"),
+        ("{\"ex:top\":{\"b\":3.0}}", "value /ex:top/b;"),
+        ("{\"top\":{}}", "unknown /top;"),
+        ("{\"ex:top\":{\"ex:a\":\"x\"}}", "unknown /ex:top/ex:a;"),
+        ("{\"a b\":1}", "unknown /a%20b;"),
+        ("{\"ex:top\":{\"z\":1,\"b\":\"3\"}}", "unknown /ex:top/z;value /ex:top/b;"),
+        ("{\"ex:top\":3}", "shape /ex:top;"),
+        ("[]", "shape /;"),
+    ];
+    for (text, expected) in cases {
+        assert_eq!(rt; lines(alloc, &schema, text)?.as_str(), expected, "{text}");
+    }
+    Ok(())
+}
+
+#[test]
+fn members_and_items_are_counted(rt: HostRuntime) -> Result<(), Fail> {
+    let document = Value::from_str(rt.alloc(), "{\"a\":[1,{\"b\":null}],\"c\":{}}")?;
+    assert_eq!(rt; size(&document), 5);
+    assert!(rt; FaultKind::Shape != FaultKind::Value);
+    Ok(())
+}

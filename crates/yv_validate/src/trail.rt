@@ -1,0 +1,36 @@
+//! The way to a node, as the walk keeps it.
+ghost use Rattle.std.specs.Prelude.{◌≡◌, IfOk};
+ghost use Rattle.yv_validate.specs.InnerTrail.{places, IsWithin};
+
+use crate::fault::Step;
+use std::alloc::{AllocError, Global};
+use yv_schema::{NodeId, Schema};
+
+/// The way from the top to a node: a chain on the stack, written out only where a fault is told.
+#[derive(Clone, Copy)]
+pub(crate) enum Trail<'a> {
+    Root,
+    Below(&'a Trail<'a>, NodeId, Option<u64>),
+}
+
+/// The way as steps of its own.
+pub(crate) fn steps_of(
+    alloc: Global,
+    schema: &Schema,
+    trail: &Trail<'_>,
+) -> Result<Vec<Step>, AllocError>
+    requires { IsWithin schema.now trail.now }
+    ensures { IfOk result (λ v. v.items ≡ places schema.now trail.now) }
+{
+    match trail {
+        Trail::Root => Ok(Vec::new(alloc)),
+        Trail::Below(parent, id, item) => {
+            let mut steps = steps_of(alloc, schema, parent)?;
+            steps.push(Step {
+                member: String::from_str(alloc, schema.node(*id).member())?,
+                item: *item,
+            })?;
+            Ok(steps)
+        }
+    }
+}

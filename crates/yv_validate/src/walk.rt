@@ -1,0 +1,177 @@
+//! The walk over a document and its schema.
+ghost use Rattle.std.specs.Prelude.{◌≡◌, ◌∷◌, [], ◌++◌, ◌<◌, ◌≤◌, length, IfOk, OnOk, option_map};
+ghost use Rattle.serde_json.specs.Data.{depth as nesting};
+ghost use Rattle.serde_json.specs.View.{view, members_view};
+ghost use Rattle.serde_json.specs.Find.{get_member};
+ghost use Rattle.yv_schema.specs.Rows.{row_at, rank, below, whole};
+ghost use Rattle.yv_validate.specs.Size.{size};
+ghost use Rattle.yv_validate.specs.InnerTrail.{places, IsWithin, one_child};
+ghost use Rattle.yv_validate.specs.Faults.{flaw, unknowns, object_faults, written, under, faults as all_faults};
+
+use crate::fault::{Fault, FaultKind, Report, Step};
+use crate::trail::{Trail, steps_of};
+use crate::types::reads;
+use serde_json::{Map, Value};
+use std::alloc::{AllocError, Global};
+use yv_schema::{NodeId, NodeKind, Schema};
+
+#[derive(Clone, Copy)]
+struct Walk<'a> {
+    alloc: Global,
+    schema: &'a Schema,
+}
+
+/// The faults of a document, in order (RFC 7950, section 8; RFC 7951).
+pub fn validate(alloc: Global, schema: &Schema, document: &Value) -> Result<Report, AllocError>
+    requires size { size (view document.now) ≤ 16777216 }
+    requires nests { nesting (view document.now) ≤ 127 }
+    ensures faults { IfOk result (λ r. r.faults.items ≡ all_faults (whole schema.now) (view document.now)) }
+{
+    let mut faults = Vec::new(alloc);
+    let walk = Walk { alloc, schema };
+    match document {
+        Value::Object(members) => walk.object(Schema::ROOT, members, &Trail::Root, &mut faults)?,
+        _ => walk.tell(FaultKind::Shape, &Trail::Root, &mut faults)?,
+    }
+    Ok(Report { faults, steps: 0 })
+}
+
+fn member_of<'v>(members: &'v Map<String, Value>, name: &str) -> Option<&'v Value>
+    ensures { option_map (λ v. view v.now) result ≡ get_member name.now (members_view members.now.entries) }
+{
+    members.get(name)
+}
+
+impl Walk<'_> {
+    fn tell(
+        &self,
+        kind: FaultKind,
+        trail: &Trail<'_>,
+        faults: &mut Vec<Fault>,
+    ) -> Result<(), AllocError>
+        requires { IsWithin self.now.schema.now trail.now }
+        ensures { OnOk result (faults.new.items ≡ faults.old.items ++ flaw kind (places self.now.schema.now trail.now) ∷ []) }
+    {
+        faults.push(Fault {
+            kind,
+            path: steps_of(self.alloc, self.schema, trail)?,
+            number: 0,
+        })?;
+        Ok(())
+    }
+
+    fn tell_unknown(
+        &self,
+        key: &str,
+        trail: &Trail<'_>,
+        faults: &mut Vec<Fault>,
+    ) -> Result<(), AllocError>
+        requires { IsWithin self.now.schema.now trail.now }
+        ensures { OnOk result (faults.new.items ≡ faults.old.items
+            ++ flaw FaultKind.Unknown (under (places self.now.schema.now trail.now) key.now) ∷ []) }
+    {
+        let mut path = steps_of(self.alloc, self.schema, trail)?;
+        path.push(Step {
+            member: String::from_str(self.alloc, key)?,
+            item: None,
+        })?;
+        faults.push(Fault {
+            kind: FaultKind::Unknown,
+            path,
+            number: 0,
+        })?;
+        Ok(())
+    }
+
+    // The members that name no child.
+    fn unknowns(
+        &self,
+        parent: NodeId,
+        members: &Map<String, Value>,
+        trail: &Trail<'_>,
+        faults: &mut Vec<Fault>,
+    ) -> Result<(), AllocError>
+        requires node { rank parent ≤ length self.now.schema.now.nodes }
+        requires way { IsWithin self.now.schema.now trail.now }
+        ensures { OnOk result (faults.new.items ≡ faults.old.items
+            ++ unknowns (places self.now.schema.now trail.now) (below self.now.schema.now parent)
+                (members_view members.now.entries)) }
+    {
+        for (key, _) in members.iter() {
+            if self.schema.find(parent, key.as_str()).is_none() {
+                self.tell_unknown(key.as_str(), trail, faults)?;
+            }
+        }
+        Ok(())
+    }
+
+    #[cycle(walk)]
+    fn object(
+        &self,
+        parent: NodeId,
+        members: &Map<String, Value>,
+        trail: &Trail<'_>,
+        faults: &mut Vec<Fault>,
+    ) -> Result<(), AllocError>
+        requires node { rank parent ≤ length self.now.schema.now.nodes }
+        requires way { IsWithin self.now.schema.now trail.now }
+        ensures { OnOk result (faults.new.items ≡ faults.old.items
+            ++ object_faults (places self.now.schema.now trail.now) (below self.now.schema.now parent)
+                (members_view members.now.entries)) }
+    {
+        self.unknowns(parent, members, trail, faults)?;
+        for child in self.schema.children(parent) {
+            self.child(*child, members, trail, faults)?;
+        }
+        Ok(())
+    }
+
+    #[cycle(walk)]
+    fn child(
+        &self,
+        id: NodeId,
+        members: &Map<String, Value>,
+        trail: &Trail<'_>,
+        faults: &mut Vec<Fault>,
+    ) -> Result<(), AllocError>
+        requires node { id.0 < length self.now.schema.now.nodes }
+        requires way { IsWithin self.now.schema.now trail.now }
+        ensures { OnOk result (faults.new.items ≡ faults.old.items
+            ++ one_child self.now.schema.now (places self.now.schema.now trail.now) id (members_view members.now.entries)) }
+    {
+        let member = self.schema.node(id).member();
+        if let Some(value) = member_of(members, member) {
+            let here = Trail::Below(&*trail, id, None);
+            self.node(id, value, &here, faults)?;
+        }
+        Ok(())
+    }
+
+    #[cycle(walk)]
+    fn node(
+        &self,
+        id: NodeId,
+        value: &Value,
+        trail: &Trail<'_>,
+        faults: &mut Vec<Fault>,
+    ) -> Result<(), AllocError>
+        requires node { id.0 < length self.now.schema.now.nodes }
+        requires way { IsWithin self.now.schema.now trail.now }
+        ensures { OnOk result (faults.new.items ≡ faults.old.items
+            ++ written (row_at self.now.schema.now id).label (places self.now.schema.now trail.now) (view value.now)
+                (object_faults (places self.now.schema.now trail.now) (below self.now.schema.now id))) }
+    {
+        let node = self.schema.node(id);
+        match node.kind() {
+            NodeKind::Container => match value {
+                Value::Object(members) => self.object(id, members, trail, faults),
+                _ => self.tell(FaultKind::Shape, trail, faults),
+            },
+            NodeKind::Leaf => if reads(node.types(), value) {
+                Ok(())
+            } else {
+                self.tell(FaultKind::Value, trail, faults)
+            },
+        }
+    }
+}
