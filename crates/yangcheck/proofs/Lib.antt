@@ -1,0 +1,4 @@
+pub mod StreamLemmas
+pub mod DocumentLemmas
+pub mod Compiling
+pub mod RunLemmas

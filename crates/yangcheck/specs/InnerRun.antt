@@ -1,0 +1,25 @@
+-- Only private clauses cite this: what the parts of a run leave.
+use Rattle.std.specs.Prelude.{◌≡◌, ℕ, List, take}
+use Rattle.std.specs.declared.option.Option.{Option}
+use Rattle.std.specs.Io.KnownBytes.{Appends}
+use Rattle.yv_schema.specs.Tree.{Forest}
+use Rattle.yangcheck.specs.Output.{Gives, data_printed, printed_of}
+use Rattle.yangcheck.specs.Status.{status_of}
+use Rattle.yangcheck.specs.declared.print.Output.{Output}
+use Rattle.yangcheck.specs.declared.status.Status.{Status}
+
+-- the text was appended whole, and the status is that of what was found
+pub record AppendsAll (o : Output) (status : Status) (old new : Option (List ℕ)) : Type 0 where
+  pub appended : Appends old new (printed_of o).text
+  pub fits : status ≡ status_of o.verdict
+
+-- its first bytes were
+pub record AppendsFront (o : Output) (old new : Option (List ℕ)) : Type 0 where
+  pub count : ℕ
+  pub appended : Appends old new (take count (printed_of o).text)
+
+-- what is said of some bytes, which are those that the reader gives where they are known
+pub record SaysOf (known : Option (List ℕ)) (ts : Forest) (o : Output) : Type 0 where
+  pub given : List ℕ
+  pub gives : Gives known given
+  pub printed : printed_of o ≡ data_printed ts given

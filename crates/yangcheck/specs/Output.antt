@@ -1,0 +1,118 @@
+-- What a run writes, and how it ends.
+use Rattle.std.specs.Prelude.{◌≡◌, ℕ, List, [], ◌∷◌, ◌++◌, length, take, flat_map, codes, IfSome, string_bytes}
+use Rattle.std.specs.declared.option.Option.{Option}
+use Rattle.std.specs.Fmt.{decimal}
+use Rattle.std.specs.Io.KnownBytes.{Appends}
+use Rattle.yv_statement.specs.Codes.{name_of}
+use Rattle.yv_statement.specs.declared.refusal.Refusal.{Refusal}
+use Rattle.yv_schema.specs.Tree.{Forest}
+use Rattle.yv_validate.specs.Place.{Flaw}
+use Rattle.yv_validate.specs.Faults.{faults}
+use Rattle.yv_validate.specs.Line.{line_text}
+use Rattle.yangcheck.specs.Compiles.{Compiled, RefusedAt, Built, FilesCompile}
+use Rattle.yangcheck.specs.Document.{Reading, TooLarge, NotJson, Reads, reading, document_limit}
+use Rattle.yangcheck.specs.Files.{File}
+use Rattle.yangcheck.specs.Status.{status_of}
+use Rattle.yangcheck.specs.declared.print.Output.{Output}
+use Rattle.yangcheck.specs.declared.status.Status.{Status}
+use Rattle.yangcheck.specs.declared.status.Status.TheVariants as ended
+use Rattle.yangcheck.specs.declared.status.Verdict.{Verdict}
+use Rattle.yangcheck.specs.declared.status.Verdict.TheVariants.{Clean, Refused, BadInput}
+
+-- a text, and what was found
+pub record Printed : Type 0 where
+  pub text : List ℕ
+  pub verdict : Verdict
+
+-- a line ends by a line feed
+abbrev pub ended_line : List ℕ → List ℕ
+ended_line text = text ++ 10 ∷ []
+
+-- the name of the file, or of the first of several
+abbrev pub file_name : List File → List ℕ
+file_name [] = []
+file_name (f ∷ fs) = f.name
+
+-- FILE:LINE: NAME
+abbrev pub refusal_line : List File → Refusal → List ℕ
+refusal_line files r = ended_line (file_name files ++ (58 ∷ decimal r.line ++ codes ": " ++ name_of r.code))
+
+-- a line for each fault
+abbrev pub fault_lines : List Flaw → List ℕ
+fault_lines flaws = flat_map (λ f. ended_line (line_text f)) flaws
+
+-- `valid`, or the faults' lines and how many they are
+abbrev pub faults_printed : List Flaw → Printed
+faults_printed [] = record { text = ended_line (codes "valid"); verdict = Clean }
+faults_printed (f ∷ fs) = record {
+  text = fault_lines (f ∷ fs) ++ ended_line (codes "faults: " ++ decimal (length (f ∷ fs)));
+  verdict = Refused;
+}
+
+abbrev pub bad_input : List ℕ → Printed
+bad_input text = record { text = ended_line text; verdict = BadInput }
+
+-- what is said of a document, by what its bytes are
+abbrev pub reading_printed : Forest → Reading → Printed
+reading_printed ts TooLarge = bad_input (codes "data: too large")
+reading_printed ts NotJson = bad_input (codes "data: not JSON")
+reading_printed ts (Reads d) = faults_printed (faults ts d)
+
+abbrev pub data_printed : Forest → List ℕ → Printed
+data_printed ts given = reading_printed ts (reading given)
+
+-- a refusal's line, or what is said of the document
+abbrev pub compiled_printed : List File → Compiled → List ℕ → Printed
+compiled_printed files (RefusedAt r) given = record { text = refusal_line files r; verdict = Refused }
+compiled_printed files (Built ts) given = data_printed ts given
+
+-- what a run over these files prints, where the document's bytes are `given`
+abbrev pub IsOutput : List File → List ℕ → Printed → Type 0
+IsOutput files given p = (c : Compiled) × FilesCompile files c × (p ≡ compiled_printed files c given)
+
+-- the bytes that a reader gives, up to one more than a document may have, where they are known
+abbrev pub Gives : Option (List ℕ) → List ℕ → Type 0
+Gives known given = IfSome known (λ xs. given ≡ take 16777217 xs)
+
+-- it prints this for some bytes, which are those that the reader gives where they are known
+pub record PrintsFor (known : Option (List ℕ)) (files : List File) (p : Printed) : Type 0 where
+  pub given : List ℕ
+  pub gives : Gives known given
+  pub output : IsOutput files given p
+
+-- the whole output was appended to what the writer holds, and the status fits it
+pub record WritesAll (known : Option (List ℕ)) (files : List File) (status : Status) (old new : Option (List ℕ)) : Type 0 where
+  pub printed : Printed
+  pub prints : PrintsFor known files printed
+  pub appended : Appends old new printed.text
+  pub fits : status ≡ status_of printed.verdict
+
+-- the first bytes of the output were
+pub record WritesFront (known : Option (List ℕ)) (files : List File) (old new : Option (List ℕ)) : Type 0 where
+  pub printed : Printed
+  pub prints : PrintsFor known files printed
+  pub count : ℕ
+  pub appended : Appends old new (take count printed.text)
+
+-- nothing stopped the run
+abbrev pub IsFinished : Status → Type 0
+IsFinished ended.Clean = Unit {0}
+IsFinished ended.Refused = Unit {0}
+IsFinished ended.BadInput = Unit {0}
+IsFinished ended.NoMemory = ⊥
+IsFinished ended.PatternBuild = ⊥
+IsFinished ended.ReadFault = ⊥
+IsFinished ended.WriteFault = ⊥
+
+-- want of memory, a pattern's build or the reader stopped the run
+abbrev pub IsStopped : Status → Type 0
+IsStopped ended.Clean = ⊥
+IsStopped ended.Refused = ⊥
+IsStopped ended.BadInput = ⊥
+IsStopped ended.NoMemory = Unit {0}
+IsStopped ended.PatternBuild = Unit {0}
+IsStopped ended.ReadFault = Unit {0}
+IsStopped ended.WriteFault = ⊥
+
+abbrev pub printed_of : Output → Printed
+printed_of o = record { text = string_bytes o.text; verdict = o.verdict }

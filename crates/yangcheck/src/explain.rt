@@ -1,0 +1,35 @@
+// What helps a person to mend a file that is refused.
+ghost use Rattle.std.specs.Prelude.{◌≡◌, ◌∷◌, [], IfOk, IfSome, IfNone};
+ghost use Rattle.yangcheck.specs.Compiles.{Compiles, RefusedAt, GiveSchema};
+ghost use Rattle.yangcheck.specs.Files.{file_of};
+
+use crate::compiled::compiled;
+use crate::excerpt::excerpt;
+use crate::input::Input;
+use crate::meaning::meaning;
+use std::alloc::{AllocError, Global};
+use yv_statement::{Refusal, Stop};
+
+/// What a file is refused for first, where it is.
+pub fn refusal_of(alloc: Global, input: &Input) -> Result<Option<Refusal>, AllocError>
+    ensures refused { IfOk result (λ o. IfSome o (λ r. Compiles (file_of input.now).bytes (RefusedAt r))) }
+    ensures none { IfOk result (λ o. IfNone o (GiveSchema (file_of input.now ∷ []))) }
+{
+    match compiled(alloc, input.name.as_str(), input.bytes.as_slice()) {
+        Ok(_) => Ok(None),
+        Err(Stop::Fault(refusal)) => Ok(Some(refusal)),
+        Err(Stop::PatternBuild | Stop::NoMemory) => Err(AllocError),
+    }
+}
+
+/// The line of the file with a caret under the place of a refusal, and what the refusal means.
+pub fn explanation(alloc: Global, input: &Input, refusal: &Refusal) -> Result<String, AllocError> {
+    let bytes = input.bytes.as_slice();
+    let place = usize::try_from(refusal.offset).unwrap_or(0);
+    let mut text = excerpt(alloc, bytes, place.min(bytes.len()))?;
+    text.push_str(refusal.code.name())?;
+    text.push_str(": ")?;
+    text.push_str(meaning(refusal.code))?;
+    text.push('\n')?;
+    Ok(text)
+}

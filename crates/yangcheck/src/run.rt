@@ -1,0 +1,133 @@
+// A run over files that were read: what it writes, and how it ends.
+ghost use Rattle.std.specs.Prelude.{◌≡◌, ◌≢◌, ◌↔◌, ◌⊎◌, ◌∷◌, [], true, map, length, IfOk, IsErrOf};
+ghost use Rattle.yv_job.specs.Jobs.{HasFiles, HasLimit, ChecksOneFile};
+ghost use Rattle.yv_schema.specs.Rows.{whole};
+ghost use Rattle.yangcheck.specs.Stream.{stream_inner, has_failed, IsFresh};
+ghost use Rattle.yangcheck.specs.Files.{file_of};
+ghost use Rattle.yangcheck.specs.Compiles.{GiveSchema};
+ghost use Rattle.yangcheck.specs.InnerRun.{AppendsAll, AppendsFront, SaysOf};
+ghost use Rattle.yangcheck.specs.Output.{PrintsFor, WritesAll, WritesFront, IsFinished, IsStopped, printed_of};
+
+use crate::compiled::compiled;
+use crate::counted::Counted;
+use crate::input::Input;
+use crate::print::{Output, of_data, of_refusal};
+use crate::status::Status;
+use crate::stream::{InputFault, read_up_to, write_whole};
+use std::alloc::{AllocError, Global};
+use std::io::{Read, Write};
+use thiserror::Error;
+use yv_job::{Command, Job};
+use yv_schema::Schema;
+use yv_statement::Stop;
+
+/// Why there is nothing to write.
+#[derive(Debug, Drop, Error)]
+pub enum Halt {
+    #[error("out of memory")]
+    NoMemory,
+    #[error("pattern not built")]
+    PatternBuild,
+    #[error("cannot read")]
+    Read,
+}
+
+impl From<AllocError> for Halt {
+    ghost use Rattle.std.specs.Prelude.{◌≡◌};
+    ghost use Rattle.yangcheck.specs.declared.run.Halt.TheVariants.{NoMemory};
+
+    ghost from_gives = { λ _ h. h ≡ NoMemory };
+
+    fn from(_error: AllocError) -> Halt {
+        Halt::NoMemory
+    }
+}
+
+/// What is read of a document: one byte more than it may have, so that its being too large shows.
+const DATA_BYTES: usize = 16_777_217;
+
+/// Compiles the files of a job, reads the document where none is refused, and writes the outcome: the
+/// refusal's line, or what is wrong with the document, or that it is valid. After `WriteFault` the writer
+/// holds the front of that text; after `NoMemory` and `ReadFault` nothing was written.
+pub fn run<R: Read, W: Write>(
+    alloc: Global,
+    job: &Job,
+    inputs: &[Input],
+    reader: &mut Counted<R>,
+    writer: &mut Counted<W>,
+) -> Status
+    requires files { HasFiles job.now }
+    requires limit { HasLimit job.now }
+    requires each { length inputs.now ≡ length job.now.files.items }
+    requires taken { ChecksOneFile job.now }
+    requires reader { IsFresh reader.old }
+    requires writer { IsFresh writer.old }
+    ensures written { IsFinished result → WritesAll (R.remaining (stream_inner reader.old)) (map file_of inputs.now) result
+        (W.contents (stream_inner writer.old)) (W.contents (stream_inner writer.new)) }
+    ensures front { result ≡ Status.WriteFault → WritesFront (R.remaining (stream_inner reader.old)) (map file_of inputs.now)
+        (W.contents (stream_inner writer.old)) (W.contents (stream_inner writer.new)) }
+    ensures untouched { IsStopped result → writer.new ≡ writer.old }
+    ensures unread { GiveSchema (map file_of inputs.now) ⊎ (reader.new ≡ reader.old) }
+    ensures read_fault { result ≡ Status.ReadFault ↔ (has_failed reader.new ≡ true) }
+    ensures write_fault { result ≡ Status.WriteFault ↔ (has_failed writer.new ≡ true) }
+    ensures never_built { result ≢ Status.PatternBuild }
+{
+    let Command::Validate(_) = &job.command else {
+        unreachable!()
+    };
+    match outcome(alloc, &inputs[0], reader) {
+        Ok(output) => written(&output, writer),
+        Err(Halt::NoMemory) => Status::NoMemory,
+        Err(Halt::PatternBuild) => Status::PatternBuild,
+        Err(Halt::Read) => Status::ReadFault,
+    }
+}
+
+// Writes what was found.
+fn written<W: Write>(output: &Output, writer: &mut Counted<W>) -> Status
+    requires { IsFresh writer.old }
+    ensures all { IsFinished result → AppendsAll output.now result (W.contents (stream_inner writer.old)) (W.contents (stream_inner writer.new)) }
+    ensures front { AppendsFront output.now (W.contents (stream_inner writer.old)) (W.contents (stream_inner writer.new)) }
+    ensures fault { result ≡ Status.WriteFault ↔ (has_failed writer.new ≡ true) }
+    ensures not_stopped { IsStopped result → ⊥ }
+{
+    if write_whole(writer, output.text.as_bytes()) {
+        output.verdict.status()
+    } else {
+        Status::WriteFault
+    }
+}
+
+// What is to be written.
+fn outcome<R: Read>(alloc: Global, input: &Input, reader: &mut Counted<R>) -> Result<Output, Halt>
+    requires { IsFresh reader.old }
+    ensures printed { IfOk result (λ o. PrintsFor (R.remaining (stream_inner reader.old)) (file_of input.now ∷ []) (printed_of o)) }
+    ensures unread { GiveSchema (file_of input.now ∷ []) ⊎ (reader.new ≡ reader.old) }
+    ensures fault { IsErrOf result Halt.Read ↔ (has_failed reader.new ≡ true) }
+    ensures never_built { IsErrOf result Halt.PatternBuild → ⊥ }
+{
+    match compiled(alloc, input.name.as_str(), input.bytes.as_slice()) {
+        Ok(schema) => validated(alloc, &schema, reader),
+        Err(Stop::Fault(refusal)) => Ok(of_refusal(alloc, input, &refusal)?),
+        Err(Stop::PatternBuild) => Err(Halt::PatternBuild),
+        Err(Stop::NoMemory) => Err(Halt::NoMemory),
+    }
+}
+
+// What is said of the document.
+fn validated<R: Read>(
+    alloc: Global,
+    schema: &Schema,
+    reader: &mut Counted<R>,
+) -> Result<Output, Halt>
+    requires { IsFresh reader.old }
+    ensures printed { IfOk result (SaysOf (R.remaining (stream_inner reader.old)) (whole schema.now)) }
+    ensures fault { IsErrOf result Halt.Read ↔ (has_failed reader.new ≡ true) }
+    ensures never_built { IsErrOf result Halt.PatternBuild → ⊥ }
+{
+    match read_up_to(alloc, DATA_BYTES, reader) {
+        Ok(bytes) => Ok(of_data(alloc, schema, bytes.as_slice())?),
+        Err(InputFault::Read) => Err(Halt::Read),
+        Err(InputFault::NoMemory) => Err(Halt::NoMemory),
+    }
+}

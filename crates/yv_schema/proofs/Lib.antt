@@ -1,0 +1,11 @@
+pub mod Finding
+pub mod Blocks
+pub mod Growing
+pub mod Numbers
+pub mod Placed
+pub mod Tables
+pub mod Trees
+pub mod Undoubled
+pub mod Untaken
+pub mod Repeated
+pub mod Kept

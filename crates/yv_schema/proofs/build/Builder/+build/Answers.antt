@@ -1,0 +1,49 @@
+use Rattle.std.proofs.Common.{◌≡◌, ap, ◌∙◌, sym, arith, List, []}
+use Rattle.std.specs.Rc.{rc_str_bytes}
+use Rattle.yv_statement.specs.Tree.{count, forest}
+use Rattle.yv_conform.specs.Names.{keyword_of}
+use Rattle.yv_conform.specs.declared.keyword.Keyword.TheVariants as word
+use Rattle.yv_schema.specs.declared.node.NodeKind.TheVariants.{Container, Leaf}
+use Rattle.yv_schema.specs.declared.node.PlainType.{PlainType}
+use Rattle.yv_schema.specs.Module.{label_of, nodes_of, types_in}
+use Rattle.yv_schema.specs.Rows.{Row}
+use Rattle.yv_schema.specs.InnerBuild.{above_of, with_given}
+use Rattle.yv_schema.proofs.Blocks.{forest-trees}
+use Rattle.yv_schema.proofs.Growing.{count_within, adds_leaf, adds_container, gives_container, gives_leaf}
+use Rattle.yv_schema.proofs.build.Builder.+build.Goals as goal
+
+pub block-statement-requires : goal.block-statement-requires
+block-statement-requires t c =
+    (omega (arith, c.decreases, count_within c.args.statements.now c.loop-statement.statement-index c.statement-item.result c.loop-statement-test.true c.statement-item.is), tt)
+
+pub statement-block-requires : goal.statement-block-requires
+statement-block-requires t c =
+    (omega (arith, c.decreases, ap count (ap forest c.children.ensures ∙ forest-trees c.args.statement.now.children)), tt)
+
+pub statement-returns-in_ok-below-in-Container-clause-added : goal.statement-returns-in_ok-below-in-Container-clause-added
+statement-returns-in_ok-below-in-Container-clause-added t c =
+    let home = rc_str_bytes c.args.self.now.home.now in
+    let s = c.args.statement.now in
+    let is : keyword_of s.head.keyword ≡ word.Container = ap keyword_of (sym c.keyword.ensures) ∙ sym c.in-Container.ensures in
+    let made : c.in_ok-node-in-Container.node ≡ record { label = label_of Container home (above_of c.args.is_top home) s.head []; children = [] } =
+    c.in_ok-node-in-Container.ensures
+    ∙ ap (λ (ts : List PlainType). let row : Row = record { label = label_of Container home (above_of c.args.is_top home) s.head ts; children = [] } in row) c.new-types.ensures.items in
+    let inside = ap (λ ss. nodes_of home home (forest ss)) c.children.ensures ∙ ap (nodes_of home home) (forest-trees s.children) in
+    adds_container c.args.nodes.now c.args.children.now.items c.add.new.children.items c.in_ok-number-in-Container.number
+    (label_of Container home (above_of c.args.is_top home) s.head []) c.in_ok-number-in-Container.ensures.number c.in_ok-number-in-Container.ensures.children
+    (with_given home c.args.is_top s) (nodes_of home home s.children) c.in_ok-node-in-Container.node c.add.new.nodes c.block.new.nodes c.adopt.new.self c.in_ok-below-in-Container.below.items
+    (gives_container home c.args.is_top s is) made c.in_ok-number-in-Container.ensures.nodes
+    (rw inside at c.in_ok-below-in-Container.ensures.rows) (rw inside at c.in_ok-below-in-Container.ensures.numbers) c.adopt.ensures
+
+pub statement-returns-in_ok-add-in-Leaf-clause-added : goal.statement-returns-in_ok-add-in-Leaf-clause-added
+statement-returns-in_ok-add-in-Leaf-clause-added t c =
+    let home = rc_str_bytes c.args.self.now.home.now in
+    let s = c.args.statement.now in
+    let is : keyword_of s.head.keyword ≡ word.Leaf = ap keyword_of (sym c.keyword.ensures) ∙ sym c.in-Leaf.ensures in
+    let made : c.in_ok-node-in-Leaf.node ≡ record { label = label_of Leaf home (above_of c.args.is_top home) s.head (types_in s.children); children = [] } =
+    c.in_ok-node-in-Leaf.ensures
+    ∙ ap (λ (ts : List PlainType). let row : Row = record { label = label_of Leaf home (above_of c.args.is_top home) s.head ts; children = [] } in row) c.in_ok-types-in-Leaf.ensures in
+    adds_leaf c.args.nodes.now c.args.children.now.items c.add-in-Leaf.new.children.items c.in_ok-add-in-Leaf.field-0
+    (label_of Leaf home (above_of c.args.is_top home) s.head (types_in s.children)) c.in_ok-add-in-Leaf.ensures.number c.in_ok-add-in-Leaf.ensures.children
+    (with_given home c.args.is_top s) c.in_ok-node-in-Leaf.node c.add-in-Leaf.new.nodes
+    (gives_leaf home c.args.is_top s is) made c.in_ok-add-in-Leaf.ensures.nodes

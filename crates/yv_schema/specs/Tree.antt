@@ -1,0 +1,28 @@
+-- The schema as a tree (RFC 7950, section 7).
+use Rattle.std.specs.Prelude.{ℕ, List, Bool, false, ◌||◌}
+use Rattle.std.specs.Str.{bytes_eq}
+use Rattle.yv_schema.specs.declared.node.NodeKind.{NodeKind}
+use Rattle.yv_schema.specs.declared.node.PlainType.{PlainType}
+
+-- what a schema node is, without its place in the tree: `member` is what a JSON member that writes it is called
+-- (RFC 7951, section 4), and `types` are those that its values may have, in order
+pub record Label : Type 0 where
+  pub kind : NodeKind
+  pub module_name : List ℕ
+  pub name : List ℕ
+  pub member : List ℕ
+  pub types : List PlainType
+
+-- schema nodes of one parent, in order, each with those below it
+mutual
+  pub data Tree : Type 0 where
+    node : Label → Forest → Tree
+
+  pub data Forest : Type 0 where
+    no_trees : Forest
+    tree : Tree → Forest → Forest
+
+-- one of these trees is what a JSON member of this name writes
+abbrev pub is_known : Forest → List ℕ → Bool
+is_known no_trees member = false
+is_known (tree (node l kids) ts) member = bytes_eq l.member member || is_known ts member

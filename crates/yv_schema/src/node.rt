@@ -1,0 +1,128 @@
+//! A schema node, and its number.
+ghost use Rattle.std.specs.Prelude.{◌≡◌};
+
+use std::marker::Model;
+use std::rc::RcStr;
+
+/// The number of a schema node, or `Schema::ROOT`.
+#[derive(Clone, Copy, Debug, PartialEq, Eq, PartialOrd, Ord)]
+pub struct NodeId(pub(crate) u32);
+
+/// What a schema node is (RFC 7950, section 1).
+#[derive(Clone, Copy, Debug, PartialEq, Eq)]
+pub enum NodeKind {
+    /// An interior node without a value, an object in JSON (RFC 7950, section 7.5).
+    Container,
+    /// A node with one value (RFC 7950, section 7.6).
+    Leaf,
+}
+
+/// A type that a leaf's value may have (RFC 7950, section 9).
+#[derive(Clone, Copy, Debug, PartialEq, Eq)]
+pub enum PlainType {
+    /// `string`: legal characters (RFC 7950, section 9.4).
+    Text,
+    /// `int32`: a whole number of 32 bits with its sign (RFC 7950, section 9.2).
+    Int32,
+    /// `boolean`: true or false (RFC 7950, section 9.5).
+    Boolean,
+}
+
+impl PlainType {
+    ghost use Rattle.yv_schema.specs.Module.{plain_type};
+
+    /// The type of this name, where it is taken.
+    pub(crate) fn read(name: &str) -> Option<PlainType>
+        ensures { result ≡ plain_type name.now }
+    {
+        if name == "string" {
+            Some(PlainType::Text)
+        } else if name == "int32" {
+            Some(PlainType::Int32)
+        } else if name == "boolean" {
+            Some(PlainType::Boolean)
+        } else {
+            None
+        }
+    }
+}
+
+/// A schema node. Contracts see its label and the numbers of its children.
+#[derive(Drop)]
+pub struct Node {
+    pub(crate) kind: NodeKind,
+    pub(crate) module: RcStr,
+    pub(crate) name: String,
+    /// The name behind the module's and a colon, where a JSON member of the node is called so.
+    pub(crate) qualified: Option<String>,
+    pub(crate) types: Vec<PlainType>,
+    pub(crate) children: Vec<NodeId>,
+}
+
+impl Model for Node {
+    ghost use Rattle.std.specs.Prelude.{string_bytes};
+    ghost use Rattle.std.specs.Option.{option_map, unwrap_or};
+    ghost use Rattle.std.specs.Rc.{rc_str_bytes};
+    ghost use Rattle.yv_schema.specs.Rows.{Row};
+
+    ghost Value = { Row };
+
+    ghost view = { λ n. record {
+      label = record {
+        kind = n.kind;
+        module_name = rc_str_bytes n.module;
+        name = string_bytes n.name;
+        member = unwrap_or (option_map (λ t. string_bytes t) n.qualified) (string_bytes n.name);
+        types = n.types.items;
+      };
+      children = n.children.items;
+    } };
+}
+
+impl Node {
+    /// What the node is.
+    pub fn kind(&self) -> NodeKind
+        ensures { result ≡ self.now.label.kind }
+    {
+        self.kind
+    }
+
+    /// The name of the module whose namespace the node is in.
+    pub fn module(&self) -> &str
+        ensures { result.now ≡ self.now.label.module_name }
+    {
+        self.module.as_str()
+    }
+
+    /// The node's name, without its module.
+    pub fn name(&self) -> &str
+        ensures { result.now ≡ self.now.label.name }
+    {
+        self.name.as_str()
+    }
+
+    /// What a JSON member that writes the node is called: its name, behind the module's and a colon where
+    /// that isn't the module of the parent (RFC 7951, section 4).
+    pub fn member(&self) -> &str
+        ensures { result.now ≡ self.now.label.member }
+    {
+        match &self.qualified {
+            Some(text) => text.as_str(),
+            None => self.name.as_str(),
+        }
+    }
+
+    /// The types that its value may have, in order: none at a container.
+    pub fn types(&self) -> &[PlainType]
+        ensures { result.now ≡ self.now.label.types }
+    {
+        self.types.as_slice()
+    }
+
+    /// The numbers of the nodes below it, in the order of their statements.
+    pub fn children(&self) -> &[NodeId]
+        ensures { result.now ≡ self.now.children }
+    {
+        self.children.as_slice()
+    }
+}

@@ -1,0 +1,91 @@
+//! A schema, and how its nodes are found.
+ghost use Rattle.std.specs.Prelude.{◌≡◌, ◌<◌, ◌≤◌, ◌==◌, length, All, IfSome};
+
+use crate::node::{Node, NodeId};
+use crate::nodes::Nodes;
+use crate::table::Table;
+use std::marker::Model;
+
+/// The schema of a module: nodes with numbers from 0, each behind its parent. Contracts see its rows, and
+/// by them the tree that they stand for.
+#[derive(Drop)]
+pub struct Schema {
+    pub(crate) prefix: String,
+    pub(crate) nodes: Nodes,
+    pub(crate) top: Vec<NodeId>,
+    pub(crate) tables: Vec<Table>,
+}
+
+impl Model for Schema {
+    ghost use Rattle.std.specs.Prelude.{string_bytes};
+    ghost use Rattle.yv_schema.specs.Rows.{Rows};
+    ghost use Rattle.yv_schema.specs.InnerTables.{IsKept};
+
+    ghost Value = { Rows };
+
+    ghost view = { λ s. record { nodes = s.nodes; top = s.top.items } };
+
+    ghost invariant = { λ s. IsKept (string_bytes s.prefix) s.tables.items (record { nodes = s.nodes; top = s.top.items }) };
+}
+
+impl Schema {
+    ghost use Rattle.std.specs.Prelude.{is_some};
+    ghost use Rattle.yv_schema.specs.Tree.{is_known};
+    ghost use Rattle.yv_schema.specs.Rows.{AreTrees, IsSound, IsChild, below, row_at, children_of, named, rank};
+
+    /// The parent of the nodes at the top.
+    pub const ROOT: NodeId = NodeId(u32::MAX);
+
+    /// How many nodes there are.
+    pub fn len(&self) -> u32
+        ensures { result ≡ length self.now.nodes }
+    {
+        self.nodes.len()
+    }
+
+    /// Whether there is no node.
+    pub fn is_empty(&self) -> bool
+        ensures { result ≡ (length self.now.nodes == 0) }
+    {
+        self.len() == 0
+    }
+
+    /// The node of this number.
+    pub fn node(&self, id: NodeId) -> &Node
+        requires { id.0 < length self.now.nodes }
+        ensures value { result.now ≡ row_at self.now id }
+        ensures sound { IsSound self.now }
+    {
+        self.nodes.get(id)
+    }
+
+    /// The children of this node, or of the root, in the order of their statements.
+    pub fn children(&self, parent: NodeId) -> &[NodeId]
+        requires { rank parent ≤ length self.now.nodes }
+        ensures value { result.now ≡ children_of self.now parent }
+        ensures each { All (IsChild self.now parent) result.now }
+        ensures trees { AreTrees self.now result.now }
+        ensures sound { IsSound self.now }
+    {
+        if parent == Schema::ROOT {
+            self.top.as_slice()
+        } else {
+            self.node(parent).children()
+        }
+    }
+
+    /// The child of this node, or of the root, that a JSON member of this name writes.
+    pub fn find(&self, parent: NodeId, member: &str) -> Option<NodeId>
+        requires { rank parent ≤ length self.now.nodes }
+        ensures value { result ≡ named self.now (children_of self.now parent) member.now }
+        ensures child { IfSome result (IsChild self.now parent) }
+        ensures known { is_some result ≡ is_known (below self.now parent) member.now }
+    {
+        if parent == Schema::ROOT {
+            let name = member.strip_prefix(self.prefix.as_str())?;
+            self.tables[0].get(name).copied()
+        } else {
+            self.tables[parent.0 as usize + 1].get(member).copied()
+        }
+    }
+}

@@ -1,0 +1,9 @@
+-- What private clauses cite: the states and answers of the code, and no meaning of a text.
+pub mod Ending
+pub mod Machine
+pub mod Pairs
+pub mod Place
+pub mod Scan
+pub mod Steps
+pub mod Turn
+pub mod Writing

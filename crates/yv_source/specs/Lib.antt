@@ -1,0 +1,19 @@
+-- The meaning of files and texts, which public clauses cite: read first Legal, Pieces, Quoted, Grammar and Outcome.
+pub mod Answer
+pub mod Characters
+pub mod Escapes
+pub mod File
+pub mod Grammar
+pub mod Identifiers
+pub mod Legal
+pub mod Order
+pub mod Outcome
+pub mod Pieces
+pub mod Place
+pub mod Quoted
+-- what private clauses alone cite
+pub mod Inner
+-- statements as trees, how they are built, and the codes of refusals
+pub use Rattle.yv_statement.specs.Tree
+pub use Rattle.yv_statement.specs.Building
+pub use Rattle.yv_statement.specs.Codes

@@ -1,0 +1,63 @@
+// The backslash pairs that a file of YANG 1.1 may not have.
+
+ghost use Rattle.std.specs.Prelude.{◌≡◌, ◌≤◌, ◌<◌, ◌+◌, false, length, IfSome};
+ghost use Rattle.yv_statement.specs.Tree.{trees};
+ghost use Rattle.yv_source.specs.Escapes.{is_escape};
+ghost use Rattle.yv_source.specs.Inner.Turn.{length_of};
+ghost use Rattle.yv_source.specs.Inner.Pairs.{bad_found, bad_pair, is_newer, is_version};
+
+use crate::scan::Found;
+use yv_statement::Statement;
+
+/// Where the first bad backslash pair stands, of those so far and of the piece at a place.
+pub(crate) fn bad_found(bad: Option<usize>, bytes: &[u8], found: Found, at: usize) -> Option<usize>
+    requires found { at + length_of found ≤ length bytes.now }
+    requires so_far { IfSome bad (λ n. n ≤ length bytes.now) }
+    ensures place { result ≡ bad_found bad at found bytes.now }
+    ensures within { IfSome result (λ n. n ≤ length bytes.now) }
+{
+    match (bad, found) {
+        (None, Found::Double(len)) => {
+            let place = bad_pair(&bytes[at + 1..at + 1 + len])?;
+            Some(at + 1 + place)
+        }
+        _ => bad,
+    }
+}
+
+// Where the first bad backslash pair of a text stands.
+fn bad_pair(bytes: &[u8]) -> Option<usize>
+    ensures place { result ≡ bad_pair false 0 bytes.now }
+    ensures within { IfSome result (λ n. n < length bytes.now) }
+{
+    let mut escaped = false;
+    for (i, b) in bytes.iter().enumerate() {
+        if !escaped {
+            escaped = *b == b'\\';
+        } else if is_escape(*b) {
+            escaped = false;
+        } else {
+            return Some(i - 1);
+        }
+    }
+    if escaped { Some(bytes.len() - 1) } else { None }
+}
+
+fn is_escape(byte: u8) -> bool
+    ensures { result ≡ is_escape byte }
+{
+    matches!(byte, b'n' | b't' | b'"' | b'\\')
+}
+
+/// Whether a statement of the block says that the file is of YANG 1.1.
+pub(crate) fn is_newer(statement: &Statement) -> bool
+    ensures { result ≡ is_newer (trees statement.now.children) }
+{
+    statement.children().iter().any(|child| is_version(child))
+}
+
+fn is_version(statement: &Statement) -> bool
+    ensures { result ≡ is_version statement.now }
+{
+    statement.keyword() == "yang-version" && statement.argument() == Some("1.1")
+}

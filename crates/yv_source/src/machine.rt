@@ -1,0 +1,170 @@
+// Statements from tokens, one at a time.
+
+ghost use Rattle.std.specs.Prelude.{◌≡◌, ◌<◌, ◌^◌, IfOk, reverse, MatchResult};
+ghost use Rattle.yv_source.specs.Inner.Machine.{Next, step_at, between_at, start_at, named, argued, said, joined, give_word, give_quoted, close, finish};
+ghost use Rattle.yv_source.specs.Inner.Steps.{Gives, piece_of};
+ghost use Rattle.yv_source.specs.Outcome.{most_deep};
+
+use crate::identifier::is_keyword;
+use crate::place::Place;
+use crate::quoted::quoted;
+use std::alloc::{AllocError, AllocFailed, Global};
+use yv_statement::Statement;
+
+/// How deep a statement may stand, the outermost having depth 1.
+const MOST_DEEP: usize = 64;
+
+/// What was read of the innermost open statement.
+#[derive(Clone, Copy)]
+pub(crate) enum Phase {
+    /// Its block so far; or nothing, where no statement is open.
+    Between,
+    /// Its keyword.
+    Named,
+    /// Its keyword and its argument, which is an unquoted text.
+    Argued,
+    /// Its keyword and the quoted texts of its argument so far.
+    Said,
+    /// The same, and a sign that joins one more.
+    Joined,
+    /// All of the outermost.
+    Done,
+}
+
+/// A piece of the text that is no blank and no comment.
+#[derive(Clone, Copy)]
+pub(crate) enum Token<'a> {
+    Word(&'a str),
+    Single(&'a str),
+    Double(&'a str),
+    Semicolon,
+    Open,
+    Close,
+    Plus,
+}
+
+/// Why a token isn't taken.
+#[derive(Clone, Copy)]
+pub(crate) enum Halt {
+    /// No statement goes on with it.
+    Wrong,
+    /// It begins a statement that stands too deep.
+    Deep,
+    NoMemory,
+}
+
+impl From<AllocError> for Halt {
+    ghost use Rattle.std.specs.Prelude.{◌≡◌};
+    ghost use Rattle.yv_source.specs.declared.machine.Halt.TheVariants.{NoMemory};
+
+    ghost from_gives = { λ _ h. h ≡ NoMemory };
+
+    fn from(_error: AllocError) -> Halt {
+        Halt::NoMemory
+    }
+}
+
+impl<T: Drop> From<AllocFailed<T>> for Halt {
+    ghost use Rattle.std.specs.Prelude.{◌≡◌};
+    ghost use Rattle.yv_source.specs.declared.machine.Halt.TheVariants.{NoMemory};
+
+    ghost from_gives = { λ _ h. h ≡ NoMemory };
+
+    fn from(_error: AllocFailed<T>) -> Halt {
+        Halt::NoMemory
+    }
+}
+
+/// Takes a token: the open statements, the innermost last, become those behind it.
+pub(crate) fn step<'a>(
+    alloc: Global,
+    stack: &mut Vec<Statement<'a>>,
+    phase: Phase,
+    token: Token<'a>,
+    place: Place,
+) -> Result<Phase, Halt>
+    requires { place.column < 2 ^ 40 }
+    ensures { Gives result (reverse stack.new.items) (step_at most_deep (reverse stack.old.items) phase place (piece_of token.entry)) }
+{
+    match (phase, token) {
+        (Phase::Between, Token::Word(keyword)) => start(alloc, stack, keyword, place),
+        (Phase::Between, Token::Close) => close(stack),
+        (Phase::Named, Token::Word(text)) => give_word(alloc, stack, text),
+        (Phase::Named | Phase::Joined, Token::Single(text)) => give_quoted(alloc, stack, text),
+        (Phase::Named | Phase::Joined, Token::Double(text)) => give_quoted(
+            alloc,
+            stack,
+            quoted(alloc, text, place.column)?.as_str(),
+        ),
+        (Phase::Named | Phase::Argued | Phase::Said, Token::Semicolon) => close(stack),
+        (Phase::Named | Phase::Argued | Phase::Said, Token::Open) => Ok(Phase::Between),
+        (Phase::Said, Token::Plus) => Ok(Phase::Joined),
+        _ => Err(Halt::Wrong),
+    }
+}
+
+// Opens a statement.
+fn start<'a>(
+    alloc: Global,
+    stack: &mut Vec<Statement<'a>>,
+    keyword: &'a str,
+    place: Place,
+) -> Result<Phase, Halt>
+    ensures { Gives result (reverse stack.new.items) (start_at most_deep (reverse stack.old.items) place keyword.now) }
+{
+    if !is_keyword(keyword.as_bytes()) {
+        return Err(Halt::Wrong);
+    }
+    if stack.len() >= MOST_DEEP {
+        return Err(Halt::Deep);
+    }
+    stack.push(Statement::new(alloc, keyword, place.line as u64, place.at as u64))?;
+    Ok(Phase::Named)
+}
+
+// Gives the innermost statement its argument.
+fn give_word<'a>(alloc: Global, stack: &mut Vec<Statement<'a>>, text: &str) -> Result<Phase, Halt>
+    ensures { Gives result (reverse stack.new.items) (give_word text.now (reverse stack.old.items)) }
+{
+    let Some(mut statement) = stack.pop() else {
+        return Err(Halt::Wrong);
+    };
+    statement.give(String::from_str(alloc, text)?);
+    stack.push(statement)?;
+    Ok(Phase::Argued)
+}
+
+// Gives the innermost statement more of its argument.
+fn give_quoted<'a>(alloc: Global, stack: &mut Vec<Statement<'a>>, text: &str) -> Result<Phase, Halt>
+    ensures { Gives result (reverse stack.new.items) (give_quoted text.now (reverse stack.old.items)) }
+{
+    let Some(mut statement) = stack.pop() else {
+        return Err(Halt::Wrong);
+    };
+    statement.extend(alloc, text)?;
+    stack.push(statement)?;
+    Ok(Phase::Said)
+}
+
+// Ends the innermost statement.
+fn close<'a>(stack: &mut Vec<Statement<'a>>) -> Result<Phase, Halt>
+    ensures { Gives result (reverse stack.new.items) (close (reverse stack.old.items)) }
+{
+    let Some(statement) = stack.pop() else {
+        return Err(Halt::Wrong);
+    };
+    Ok(finish(stack, statement)?)
+}
+
+// Hands a statement to the one around it.
+fn finish<'a>(stack: &mut Vec<Statement<'a>>, done: Statement<'a>) -> Result<Phase, AllocError>
+    ensures { IfOk result (λ phase. finish done.entry (reverse stack.old.items) ≡ Next (reverse stack.new.items) phase) }
+{
+    let Some(mut parent) = stack.pop() else {
+        stack.push(done)?;
+        return Ok(Phase::Done);
+    };
+    parent.adopt(done)?;
+    stack.push(parent)?;
+    Ok(Phase::Between)
+}

@@ -1,0 +1,214 @@
+// What a double-quoted text says, written character by character in one pass: blanks that may stand before a line break
+// wait until it is known whether they do.
+
+ghost use Rattle.std.specs.Prelude.{◌≡◌, ◌≤◌, ◌<◌, ◌^◌, ◌+◌, ◌-◌, OnOk, IfOk, string_bytes, true, false, []};
+ghost use Rattle.std.specs.Str.{chars};
+ghost use Rattle.yv_source.specs.Escapes.{all_pairs_good};
+ghost use Rattle.yv_source.specs.Quoted.{quoted, stripped};
+ghost use Rattle.yv_source.specs.Inner.Writing.{put, flush, keep, keep_plain, keep_spaces, settle, take_in, trail, all_of, fresh, with_left};
+
+use std::alloc::{AllocError, Global};
+use std::marker::Model;
+
+/// What was written of a text so far.
+#[derive(Drop)]
+struct Writer {
+    out: String,
+    /// Spaces and tabs that may stand before a line break.
+    gap: String,
+    /// A CR that may belong to one.
+    cr: bool,
+    /// A backslash stands before.
+    escaped: bool,
+    /// How many columns of the line are still stripped.
+    left: usize,
+}
+
+impl Model for Writer {
+    ghost use Rattle.std.specs.Prelude.{string_bytes};
+    ghost use Rattle.yv_source.specs.Inner.Writing.{Written};
+
+    ghost Value = { Written };
+
+    ghost view = { λ w. record { out = string_bytes w.out; gap = string_bytes w.gap; cr = w.cr; escaped = w.escaped; left = w.left } };
+}
+
+/// What a double-quoted text says whose quote stands behind this many columns.
+pub(crate) fn quoted(alloc: Global, text: &str, column: usize) -> Result<String, AllocError>
+    requires { column < 2 ^ 40 }
+    ensures said { IfOk result (λ said. string_bytes said ≡ quoted column text.now) }
+    // What is stripped makes no backslash pair good or bad.
+    ensures pairs { all_pairs_good false (stripped column text.now) ≡ all_pairs_good false text.now }
+{
+    let mut writer = Writer::new(alloc);
+    let indent = column + 1;
+    for c in text.chars() {
+        writer.take_in(indent, c)?;
+    }
+    writer.trail()?;
+    writer.end()
+}
+
+impl Writer {
+    fn new(alloc: Global) -> Writer
+        ensures { result ≡ fresh }
+    {
+        Writer {
+            out: String::new(alloc),
+            gap: String::new(alloc),
+            cr: false,
+            escaped: false,
+            left: 0,
+        }
+    }
+
+    // Takes a character.
+    fn take_in(&mut self, indent: usize, c: char) -> Result<(), AllocError>
+        ensures { OnOk result (self.new ≡ take_in indent c self.old) }
+    {
+        match c {
+            '\n' => {
+                self.keep(c)?;
+                self.left = indent;
+                Ok(())
+            }
+            _ if self.left == 0 => self.keep(c),
+            ' ' => {
+                self.left -= 1;
+                Ok(())
+            }
+            '\t' => self.take_tab(),
+            _ => {
+                self.left = 0;
+                self.keep(c)
+            }
+        }
+    }
+
+    // Strips a tab, or a part of it.
+    fn take_tab(&mut self) -> Result<(), AllocError>
+        ensures { OnOk result (self.new ≡ keep_spaces (8 - self.old.left) (with_left (self.old.left - 8) self.old)) }
+    {
+        if self.left >= 8 {
+            self.left -= 8;
+            return Ok(());
+        }
+        let rest = 8 - self.left;
+        self.left = 0;
+        self.keep_spaces(rest)
+    }
+
+    fn keep_spaces(&mut self, count: usize) -> Result<(), AllocError>
+        ensures { OnOk result (self.new ≡ keep_spaces count self.old) }
+    {
+        for _ in 0..count {
+            self.keep(' ')?;
+        }
+        Ok(())
+    }
+
+    // Takes a character that isn't stripped at its line's start.
+    fn keep(&mut self, c: char) -> Result<(), AllocError>
+        ensures { OnOk result (self.new ≡ keep c self.old) }
+    {
+        if !self.cr {
+            return self.keep_plain(c);
+        }
+        if c == '\n' {
+            self.gap.clear();
+            self.cr = false;
+            self.put('\r')?;
+            return self.put('\n');
+        }
+        self.settle()?;
+        self.keep_plain(c)
+    }
+
+    // The same, where no CR stands before.
+    fn keep_plain(&mut self, c: char) -> Result<(), AllocError>
+        ensures { OnOk result (self.new ≡ keep_plain c self.old) }
+    {
+        match c {
+            ' ' | '\t' => self.gap.push(c),
+            '\r' => {
+                self.cr = true;
+                Ok(())
+            }
+            '\n' => {
+                self.gap.clear();
+                self.put('\n')
+            }
+            _ => {
+                self.flush()?;
+                self.put(c)
+            }
+        }
+    }
+
+    // Keeps a CR that belongs to no line break.
+    fn settle(&mut self) -> Result<(), AllocError>
+        ensures { OnOk result (self.new ≡ settle self.old) }
+    {
+        self.cr = false;
+        self.flush()?;
+        self.put('\r')
+    }
+
+    // Keeps the spaces and tabs.
+    fn flush(&mut self) -> Result<(), AllocError>
+        ensures { OnOk result (self.new ≡ flush self.old) }
+    {
+        if self.gap.is_empty() {
+            return Ok(());
+        }
+        if self.escaped {
+            self.out.push('\\')?;
+            self.escaped = false;
+        }
+        self.out.push_str(self.gap.as_str())?;
+        self.gap.clear();
+        Ok(())
+    }
+
+    // Writes a character, or reads an escape.
+    fn put(&mut self, c: char) -> Result<(), AllocError>
+        ensures { OnOk result (self.new ≡ put c self.old) }
+    {
+        if !self.escaped {
+            if c == '\\' {
+                self.escaped = true;
+                return Ok(());
+            }
+            return self.out.push(c);
+        }
+        self.escaped = false;
+        match c {
+            'n' => self.out.push('\n'),
+            't' => self.out.push('\t'),
+            '"' | '\\' => self.out.push(c),
+            _ => {
+                self.out.push('\\')?;
+                self.out.push(c)
+            }
+        }
+    }
+
+    // Keeps what may have stood before a line break.
+    fn trail(&mut self) -> Result<(), AllocError>
+        ensures { OnOk result (self.new ≡ trail self.old) }
+    {
+        if self.cr {
+            self.settle()?;
+        }
+        self.flush()
+    }
+
+    fn end(mut self) -> Result<String, AllocError>
+        ensures { IfOk result (λ said. string_bytes said ≡ all_of self) }
+    {
+        if self.escaped {
+            self.out.push('\\')?;
+        }
+        Ok(self.out)
+    }
+}

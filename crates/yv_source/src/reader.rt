@@ -1,0 +1,128 @@
+// The statement that a text spells.
+
+ghost use Rattle.std.specs.Prelude.{◌≡◌, ◌≤◌, ◌⊎◌, None, IfOk, IfSome, length, reverse};
+ghost use Rattle.yv_statement.specs.Tree.{Tree};
+ghost use Rattle.yv_statement.specs.declared.refusal.Refusal.{Refusal};
+ghost use Rattle.yv_source.specs.Answer.{IsSpelled, IsRefused};
+ghost use Rattle.yv_source.specs.Legal.{IsLegalText};
+ghost use Rattle.yv_source.specs.Order.{IsInOrder};
+ghost use Rattle.yv_source.specs.Place.{mark_len};
+ghost use Rattle.yv_source.specs.Inner.Ending.{Comes, ended_in, refused_by, IsChecked, IsEnd};
+
+use crate::escapes::{bad_found, is_newer};
+use crate::fault::refuse;
+use crate::machine::{Halt, Phase};
+use crate::place::{Place, mark_len_of};
+use crate::scan::{Ahead, Before, look_ahead};
+use crate::source::Source;
+use crate::turn::turn;
+use std::alloc::Global;
+use yv_statement::{Code, Statement, Stop};
+
+/// The one statement of a source, or what is refused first: BadToken where no token may stand, BadSyntax where a token
+/// or the text's end goes on with no statement, TooDeep at the first keyword of depth 65, and, where none of these
+/// stands, BadEscape at the first backslash pair that YANG 1.1 doesn't know, in a file of that version (RFC 7950,
+/// section 6).
+pub fn parse<'a>(alloc: Global, source: &'a Source) -> Result<Statement<'a>, Stop>
+    ensures spelled { IfOk result (IsSpelled source.now.text) }
+    ensures refused { (r : Refusal) → result ≡ Err (Stop.Fault r) → IsRefused source.now.text r }
+    ensures never_built { result ≡ Err Stop.PatternBuild → ⊥ }
+
+    // The text spells one statement at most, or is refused in one way: that is answered, unless memory runs out.
+    ensures only_spelled { (t : Tree) → IsSpelled source.now.text t → (result ≡ Ok t) ⊎ (result ≡ Err Stop.NoMemory) }
+    ensures only_refused { (r : Refusal) → IsRefused source.now.text r
+        → (result ≡ Err (Stop.Fault r)) ⊎ (result ≡ Err Stop.NoMemory) }
+
+    ensures order { IfOk result IsInOrder }
+    ensures legal { IsLegalText source.now.text }
+{
+    let text = source.text();
+    read(alloc, text, mark_len_of(text.as_bytes()))
+}
+
+// Reads the one statement of a text, from a place on.
+fn read<'a>(alloc: Global, text: &'a str, start: usize) -> Result<Statement<'a>, Stop>
+    requires start { start ≡ mark_len text.now }
+    requires size { length text.now ≤ 4194304 }
+    ensures { Comes text.now result }
+{
+    let bytes = text.as_bytes();
+    let mut stack = Vec::new(alloc);
+    let mut phase = Phase::Between;
+    let mut before = Before::Apart;
+    let mut bad = None;
+    let mut place = Place {
+        at: start,
+        line: 1,
+        column: 0,
+    };
+    loop {
+        let found = match look_ahead(before, bytes, place.at) {
+            Ahead::End => return at_end(stack, phase, place.at, bad, bytes),
+            Ahead::Nothing => return Err(refuse(Code::BadToken, bytes, place.at)),
+            Ahead::Piece(found) => found,
+        };
+        phase = match turn(alloc, &mut stack, phase, text, found, place) {
+            Ok(next) => next,
+            Err(halt) => return Err(refused_by(halt, bytes, place.at)),
+        };
+        bad = bad_found(bad, bytes, found, place.at);
+        before = before.past(found);
+        place = place.past(bytes, found);
+    }
+}
+
+// The answer at a text's end.
+fn at_end<'a>(
+    stack: Vec<Statement<'a>>,
+    phase: Phase,
+    at: usize,
+    bad: Option<usize>,
+    bytes: &[u8],
+) -> Result<Statement<'a>, Stop>
+    requires at { at ≤ length bytes.now }
+    requires bad { IfSome bad (λ n. n ≤ length bytes.now) }
+    ensures { IsEnd bytes.now bad at (ended_in phase (reverse stack.entry.items)) result }
+{
+    match ended(stack, phase) {
+        None => Err(refuse(Code::BadSyntax, bytes, at)),
+        Some(statement) => checked(statement, bad, bytes),
+    }
+}
+
+// The statement, where it stands whole.
+fn ended<'a>(mut stack: Vec<Statement<'a>>, phase: Phase) -> Option<Statement<'a>>
+    ensures { result ≡ ended_in phase (reverse stack.entry.items) }
+{
+    if !matches!(phase, Phase::Done) {
+        return None;
+    }
+    stack.pop()
+}
+
+// The statement, where it has no bad backslash pair that counts.
+fn checked<'a>(
+    statement: Statement<'a>,
+    bad: Option<usize>,
+    bytes: &[u8],
+) -> Result<Statement<'a>, Stop>
+    requires { IfSome bad (λ n. n ≤ length bytes.now) }
+    ensures { IsChecked bytes.now bad statement.entry result }
+{
+    match bad {
+        Some(at) if is_newer(&statement) => Err(refuse(Code::BadEscape, bytes, at)),
+        _ => Ok(statement),
+    }
+}
+
+// The refusal of a token at a place.
+fn refused_by(halt: Halt, bytes: &[u8], at: usize) -> Stop
+    requires { at ≤ length bytes.now }
+    ensures { result ≡ refused_by halt bytes.now at }
+{
+    match halt {
+        Halt::Wrong => refuse(Code::BadSyntax, bytes, at),
+        Halt::Deep => refuse(Code::TooDeep, bytes, at),
+        Halt::NoMemory => Stop::NoMemory,
+    }
+}

@@ -1,0 +1,242 @@
+// What a text begins with.
+
+ghost use Rattle.std.specs.Prelude.{◌≡◌, ◌<◌, ◌≤◌, ◌^◌, length, drop, false};
+ghost use Rattle.yv_source.specs.Characters.{single_quote, asterisk, slash};
+ghost use Rattle.yv_source.specs.Pieces.{begins, begins_two, until, ends_word, up_to_quote, past_gap};
+ghost use Rattle.yv_source.specs.Pieces as Piece;
+ghost use Rattle.yv_source.specs.Inner.Scan.{ahead_in, before_of, shown, is_unquoted, unless_unquoted, closed, closed_by_two, word_or_plus, from, from_quote};
+ghost use Rattle.yv_source.specs.Inner.Turn.{length_of, past_found};
+
+/// What stands in front of a place.
+#[derive(Clone, Copy)]
+pub(crate) enum Before {
+    /// Neither of the others.
+    Apart,
+    /// An unquoted text, right before it.
+    Unquoted,
+    /// A quoted text, but for blanks and comments.
+    Quoted,
+}
+
+/// A piece of a text, by the length in bytes of the text inside its marks.
+#[derive(Clone, Copy)]
+pub(crate) enum Found {
+    Blank,
+    LineComment(usize),
+    BlockComment(usize),
+    Word(usize),
+    Single(usize),
+    Double(usize),
+    Semicolon,
+    Open,
+    Close,
+    Plus,
+}
+
+/// What stands at a place.
+#[derive(Clone, Copy)]
+pub(crate) enum Ahead {
+    /// The text's end.
+    End,
+    /// Nothing that may stand there.
+    Nothing,
+    Piece(Found),
+}
+
+impl Found {
+    /// How many bytes the piece has.
+    pub(crate) fn length(self) -> usize
+        requires { length_of self < 2 ^ 64 }
+        ensures { result ≡ length_of self }
+    {
+        match self {
+            Found::Blank | Found::Semicolon | Found::Open | Found::Close | Found::Plus => 1,
+            Found::Word(len) => len,
+            Found::LineComment(len) | Found::Single(len) | Found::Double(len) => len + 2,
+            Found::BlockComment(len) => len + 4,
+        }
+    }
+}
+
+impl Before {
+    /// What stands in front of the place behind a piece.
+    pub(crate) fn past(self, found: Found) -> Before
+        ensures { before_of result ≡ past_found (before_of self) found }
+    {
+        match found {
+            Found::Blank | Found::LineComment(_) | Found::BlockComment(_) => self.past_gap(),
+            Found::Word(_) => Before::Unquoted,
+            Found::Single(_) | Found::Double(_) => Before::Quoted,
+            Found::Semicolon | Found::Open | Found::Close | Found::Plus => Before::Apart,
+        }
+    }
+
+    fn past_gap(self) -> Before
+        ensures { before_of result ≡ past_gap (before_of self) }
+    {
+        match self {
+            Before::Quoted => Before::Quoted,
+            Before::Apart | Before::Unquoted => Before::Apart,
+        }
+    }
+
+    fn is_unquoted(self) -> bool
+        ensures { result ≡ is_unquoted (before_of self) }
+    {
+        matches!(self, Before::Unquoted)
+    }
+}
+
+/// What stands at an offset of a text, behind what stands in front of it.
+pub(crate) fn look_ahead(before: Before, bytes: &[u8], at: usize) -> Ahead
+    requires { at ≤ length bytes.now }
+    ensures { result ≡ ahead_in (before_of before) (drop at bytes.now) }
+{
+    first_piece(before, &bytes[at..])
+}
+
+fn first_piece(before: Before, bytes: &[u8]) -> Ahead
+    ensures { result ≡ ahead_in (before_of before) bytes.now }
+{
+    match bytes {
+        [] => Ahead::End,
+        [b' ' | b'\t' | b'\r' | b'\n', ..] => Ahead::Piece(Found::Blank),
+        [b'"', rest @ ..] => double(before, rest),
+        [b'\'', rest @ ..] => single(before, rest),
+        [b';', ..] => Ahead::Piece(Found::Semicolon),
+        [b'{', ..] => Ahead::Piece(Found::Open),
+        [b'}', ..] => Ahead::Piece(Found::Close),
+        [b'/', b'/', rest @ ..] => Ahead::Piece(Found::LineComment(first_byte(b'\n', rest))),
+        [b'/', b'*', rest @ ..] => block_comment(rest),
+        [b'*', b'/', ..] => Ahead::Nothing,
+        _ => word(before, bytes),
+    }
+}
+
+// How many bytes stand before the first that equals this one.
+pub(crate) fn first_byte(byte: u8, bytes: &[u8]) -> usize
+    ensures { result ≡ length (until (begins byte) bytes.now) }
+{
+    for (i, b) in bytes.iter().enumerate() {
+        if *b == byte {
+            return i;
+        }
+    }
+    bytes.len()
+}
+
+// How many bytes stand before the first end of a comment.
+fn comment_len(bytes: &[u8]) -> usize
+    ensures { result ≡ length (until (begins_two asterisk slash) bytes.now) }
+{
+    for i in 0..bytes.len() {
+        if ends_comment(&bytes[i..]) {
+            return i;
+        }
+    }
+    bytes.len()
+}
+
+fn ends_comment(bytes: &[u8]) -> bool
+    ensures { result ≡ begins_two asterisk slash bytes.now }
+{
+    matches!(bytes, [b'*', b'/', ..])
+}
+
+// How many bytes an unquoted text has.
+fn word_len(bytes: &[u8]) -> usize
+    ensures { result ≡ length (until ends_word bytes.now) }
+{
+    for i in 0..bytes.len() {
+        if ends_word(&bytes[i..]) {
+            return i;
+        }
+    }
+    bytes.len()
+}
+
+fn ends_word(bytes: &[u8]) -> bool
+    ensures { result ≡ ends_word bytes.now }
+{
+    match bytes {
+        [] => true,
+        [
+            b' ' | b'\t' | b'\r' | b'\n' | b'"' | b'\'' | b';' | b'{' | b'}',
+            ..
+        ] => true,
+        [b'/', b'/' | b'*', ..] | [b'*', b'/', ..] => true,
+        _ => false,
+    }
+}
+
+// How many bytes stand before the double quote that ends a text.
+fn quote_len(bytes: &[u8]) -> usize
+    ensures { result ≡ length (up_to_quote false bytes.now) }
+{
+    let mut escaped = false;
+    for (i, b) in bytes.iter().enumerate() {
+        if escaped {
+            escaped = false;
+        } else if *b == b'"' {
+            return i;
+        } else {
+            escaped = *b == b'\\';
+        }
+    }
+    bytes.len()
+}
+
+// A double-quoted text, from behind its first quote.
+fn double(before: Before, rest: &[u8]) -> Ahead
+    ensures { let piece = Piece.Double (up_to_quote false rest.now) in
+        result ≡ shown (unless_unquoted (before_of before) (closed piece (from_quote false rest.now))) }
+{
+    if before.is_unquoted() {
+        return Ahead::Nothing;
+    }
+    let len = quote_len(rest);
+    if len == rest.len() {
+        Ahead::Nothing
+    } else {
+        Ahead::Piece(Found::Double(len))
+    }
+}
+
+// A single-quoted text, from behind its first quote.
+fn single(before: Before, rest: &[u8]) -> Ahead
+    ensures { let piece = Piece.Single (until (begins single_quote) rest.now) in
+        result ≡ shown (unless_unquoted (before_of before) (closed piece (from (begins single_quote) rest.now))) }
+{
+    if before.is_unquoted() {
+        return Ahead::Nothing;
+    }
+    let len = first_byte(b'\'', rest);
+    if len == rest.len() {
+        Ahead::Nothing
+    } else {
+        Ahead::Piece(Found::Single(len))
+    }
+}
+
+// A comment, from behind its first two bytes.
+fn block_comment(rest: &[u8]) -> Ahead
+    ensures { let piece = Piece.BlockComment (until (begins_two asterisk slash) rest.now) in
+        result ≡ shown (closed_by_two piece (from (begins_two asterisk slash) rest.now)) }
+{
+    let len = comment_len(rest);
+    if len == rest.len() {
+        Ahead::Nothing
+    } else {
+        Ahead::Piece(Found::BlockComment(len))
+    }
+}
+
+// An unquoted text, or the sign that joins quoted ones.
+fn word(before: Before, bytes: &[u8]) -> Ahead
+    ensures { result ≡ shown (word_or_plus (before_of before) bytes.now) }
+{
+    match (before, bytes) {
+        (Before::Quoted, [b'+', ..]) => Ahead::Piece(Found::Plus),
+        _ => Ahead::Piece(Found::Word(word_len(bytes))),
+    }
+}

@@ -1,0 +1,112 @@
+// A file's text.
+
+ghost use Rattle.std.specs.Prelude.{◌≡◌, ◌≤◌, length, IfSome, IfNone, IsTrue};
+ghost use Rattle.std.specs.List.{list_all};
+ghost use Rattle.std.specs.Str.{chars};
+ghost use Rattle.yv_source.specs.Legal.{is_legal, IsIllegalAt};
+
+use crate::fault::refuse;
+use std::alloc::Global;
+use std::marker::Model;
+use std::str;
+use yv_statement::{Code, Stop};
+
+/// How many bytes a file may have.
+pub const MOST_BYTES: usize = 4_194_304;
+
+/// A file's name and text. The text is UTF-8, has legal characters alone and at most `MOST_BYTES` bytes.
+#[derive(Drop)]
+pub struct Source {
+    name: String,
+    text: String,
+}
+
+impl Model for Source {
+    ghost use Rattle.std.specs.Prelude.{string_bytes};
+    ghost use Rattle.yv_source.specs.File.{File};
+
+    ghost Value = { File };
+
+    ghost view = { λ s. record { name = string_bytes s.name; text = string_bytes s.text } };
+
+    ghost use Rattle.yv_source.specs.Legal.{IsLegalText};
+
+    ghost invariant = { λ s. IsLegalText (string_bytes s.text) };
+}
+
+impl Source {
+    ghost use Rattle.std.specs.Prelude.{◌≡◌, ◌↔◌, ◌⊎◌, OnOk, IfOk};
+    ghost use Rattle.yv_statement.specs.declared.refusal.Refusal.{Refusal};
+    ghost use Rattle.yv_source.specs.Answer.{IsBadFile};
+    ghost use Rattle.yv_source.specs.Legal.{IsLegalFile, IsLegalText};
+
+    /// The text of a file, or what is refused: TooLarge at offset 0, else NotUtf8 at the first byte that isn't UTF-8,
+    /// else BadCharacter at the first character that isn't legal (RFC 7950, section 14, yang-char). The name is what
+    /// messages call the file by, and isn't looked at.
+    pub fn new(alloc: Global, name: &str, bytes: &[u8]) -> Result<Source, Stop>
+        ensures source { IfOk result (λ source. source ≡ record { name = name.now; text = bytes.now }) }
+        ensures legal { OnOk result (IsLegalFile bytes.now) }
+        ensures refused { (r : Refusal) → (result ≡ Err (Stop.Fault r)) ↔ IsBadFile bytes.now r }
+        ensures never_built { result ≡ Err Stop.PatternBuild → ⊥ }
+
+        // A legal file's text is given, unless memory runs out.
+        ensures only_legal { IsLegalFile bytes.now
+            → (result ≡ Ok (record { name = name.now; text = bytes.now })) ⊎ (result ≡ Err Stop.NoMemory) }
+    {
+        if bytes.len() > MOST_BYTES {
+            return Err(refuse(Code::TooLarge, bytes, 0));
+        }
+        let text = match str::from_utf8(bytes) {
+            Ok(text) => text,
+            Err(fault) => return Err(refuse(Code::NotUtf8, bytes, fault.valid_up_to())),
+        };
+        if let Some(at) = first_illegal(text) {
+            return Err(refuse(Code::BadCharacter, bytes, at));
+        }
+        let name = String::from_str(alloc, name)?;
+        let text = String::from_str(alloc, text)?;
+        Ok(Source { name, text })
+    }
+
+    /// The file's name.
+    pub fn name(&self) -> &str
+        ensures { result.now ≡ self.now.name }
+    {
+        self.name.as_str()
+    }
+
+    /// The file's text, with its byte order mark where it has one.
+    pub fn text(&self) -> &str
+        ensures value { result.now ≡ self.now.text }
+        ensures legal { IsLegalText self.now.text }
+    {
+        self.text.as_str()
+    }
+}
+
+// The offset of the first character that isn't legal.
+fn first_illegal(text: &str) -> Option<usize>
+    requires { length text.now ≤ 4194304 }
+    ensures found { IfSome result (IsIllegalAt text.now) }
+    ensures within { IfSome result (λ at. at ≤ length text.now) }
+    ensures none { IfNone result (IsTrue (list_all is_legal (chars text.now))) }
+{
+    let mut at = 0;
+    for c in text.chars() {
+        if !is_legal(c) {
+            return Some(at);
+        }
+        at += c.len_utf8();
+    }
+    None
+}
+
+// No control but tab, LF and CR, and no noncharacter.
+fn is_legal(c: char) -> bool
+    ensures { result ≡ is_legal c }
+{
+    let code = c as u32;
+    (c == '\t' || c == '\n' || c == '\r' || ' ' <= c)
+        && (code < 0xFDD0 || 0xFDEF < code)
+        && code % 0x1_0000 < 0xFFFE
+}
