@@ -2,6 +2,7 @@ pub mod Tree
 pub mod Module
 pub mod Refuses
 pub mod Rows
+pub mod InnerMember
 pub mod InnerTables
 pub mod InnerNames
 pub mod InnerNumbers

@@ -1,9 +1,8 @@
 //! From the statements of a module to its schema.
 ghost use Rattle.std.specs.Prelude.{◌≡◌, ◌++◌, ◌∷◌, [], length, IfOk, IfErr, OnOk, option_to_list, string_bytes, None};
-ghost use Rattle.std.specs.Option.{option_map, unwrap_or};
 ghost use Rattle.std.specs.Rc.{rc_str_bytes};
 ghost use Rattle.yv_statement.specs.declared.refusal.Stop.TheVariants.{NoMemory};
-ghost use Rattle.yv_schema.specs.Module.{label_of, member_name, schema_of, types_at, types_in};
+ghost use Rattle.yv_schema.specs.Module.{label_of, schema_of, types_at, types_in};
 ghost use Rattle.yv_schema.specs.Refuses.{Doubled};
 ghost use Rattle.yv_schema.specs.Rows.{whole};
 ghost use Rattle.yv_statement.specs.Order.{IsLeast};
@@ -133,24 +132,10 @@ impl Builder<'_> {
             kind,
             module: self.home.clone()?,
             name: String::from_str(self.alloc, name)?,
-            qualified: self.qualified(name, is_top)?,
+            is_qualified: is_top && !self.home.is_empty(),
             types,
             children: Vec::new(self.alloc),
         })
-    }
-
-    // What a JSON member of a node of this name is called, where that isn't its name.
-    fn qualified(&self, name: &str, is_top: bool) -> Result<Option<String>, AllocError>
-        ensures { let home = rc_str_bytes self.now.home.now in IfOk result (λ text.
-            unwrap_or (option_map (λ t. string_bytes t) text) name.now ≡ member_name (above_of is_top home) home name.now) }
-    {
-        if !is_top || self.home.is_empty() {
-            return Ok(None);
-        }
-        let mut text = String::from_str(self.alloc, self.home.as_str())?;
-        text.push(':')?;
-        text.push_str(name)?;
-        Ok(Some(text))
     }
 }
 

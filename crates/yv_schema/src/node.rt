@@ -1,12 +1,22 @@
 //! A schema node, and its number.
-ghost use Rattle.std.specs.Prelude.{◌≡◌};
+ghost use Rattle.std.specs.Prelude.{◌≡◌, IfOk, string_bytes};
 
+use std::alloc::{AllocError, Global};
 use std::marker::Model;
 use std::rc::RcStr;
 
 /// The number of a schema node, or `Schema::ROOT`.
 #[derive(Clone, Copy, Debug, PartialEq, Eq, PartialOrd, Ord)]
 pub struct NodeId(pub(crate) u32);
+
+impl NodeId {
+    /// The number itself.
+    pub fn number(self) -> u32
+        ensures { result ≡ self.0 }
+    {
+        self.0
+    }
+}
 
 /// What a schema node is (RFC 7950, section 1).
 #[derive(Clone, Copy, Debug, PartialEq, Eq)]
@@ -53,17 +63,17 @@ pub struct Node {
     pub(crate) kind: NodeKind,
     pub(crate) module: RcStr,
     pub(crate) name: String,
-    /// The name behind the module's and a colon, where a JSON member of the node is called so.
-    pub(crate) qualified: Option<String>,
+    /// Whether a JSON member of the node has the module's name in front.
+    pub(crate) is_qualified: bool,
     pub(crate) types: Vec<PlainType>,
     pub(crate) children: Vec<NodeId>,
 }
 
 impl Model for Node {
     ghost use Rattle.std.specs.Prelude.{string_bytes};
-    ghost use Rattle.std.specs.Option.{option_map, unwrap_or};
     ghost use Rattle.std.specs.Rc.{rc_str_bytes};
     ghost use Rattle.yv_schema.specs.Rows.{Row};
+    ghost use Rattle.yv_schema.specs.InnerMember.{member_of};
 
     ghost Value = { Row };
 
@@ -72,7 +82,7 @@ impl Model for Node {
         kind = n.kind;
         module_name = rc_str_bytes n.module;
         name = string_bytes n.name;
-        member = unwrap_or (option_map (λ t. string_bytes t) n.qualified) (string_bytes n.name);
+        member = member_of n.is_qualified (rc_str_bytes n.module) (string_bytes n.name);
         types = n.types.items;
       };
       children = n.children.items;
@@ -103,13 +113,17 @@ impl Node {
 
     /// What a JSON member that writes the node is called: its name, behind the module's and a colon where
     /// that isn't the module of the parent (RFC 7951, section 4).
-    pub fn member(&self) -> &str
-        ensures { result.now ≡ self.now.label.member }
+    /// The text is made anew, since a module's name may be as long as its file.
+    pub fn member(&self, alloc: Global) -> Result<String, AllocError>
+        ensures { IfOk result (λ text. string_bytes text ≡ self.now.label.member) }
     {
-        match &self.qualified {
-            Some(text) => text.as_str(),
-            None => self.name.as_str(),
+        let mut text = String::new(alloc);
+        if self.is_qualified {
+            text.push_str(self.module.as_str())?;
+            text.push(':')?;
         }
+        text.push_str(self.name.as_str())?;
+        Ok(text)
     }
 
     /// The types that its value may have, in order: none at a container.

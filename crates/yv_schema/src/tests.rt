@@ -93,11 +93,11 @@ fn a_node_has_its_member_and_types(rt: HostRuntime) -> Result<(), Fail> {
     assert!(rt; container.kind() == NodeKind::Container);
     assert!(rt; container.module() == "ex");
     assert!(rt; container.name() == "top");
-    assert!(rt; container.member() == "ex:top");
+    assert!(rt; container.member(alloc)?.as_str() == "ex:top");
     assert!(rt; container.types().is_empty());
     let leaf = schema.node(b);
     assert!(rt; leaf.kind() == NodeKind::Leaf);
-    assert!(rt; leaf.member() == "b");
+    assert!(rt; leaf.member(alloc)?.as_str() == "b");
     assert!(rt; leaf.types() == [PlainType::Int32].as_slice());
     Ok(())
 }

@@ -1,8 +1,8 @@
 -- The machine takes what the grammar spells.
-use Rattle.std.proofs.Common.{◌≡◌, ℕ, ◌+◌, ◌<◌, ◌≤◌, Bool, true, cond, List, [], ◌∷◌, ◌++◌, length, Option, Some, None, nat_lt, refl, sym, ◌∙◌, ap, inl, inr, ◌⊎◌, arith, append_assoc}
+use Rattle.std.proofs.Common.{◌≡◌, ℕ, ◌+◌, ◌<◌, ◌≤◌, Bool, true, cond, List, [], ◌∷◌, ◌++◌, length, Option, Some, None, nat_lt, refl, sym, ◌∙◌, ap, inl, inr, arith, append_assoc}
 use Rattle.yv_statement.specs.Tree.{Head, Forest, End, Then, Tree}
 use Rattle.yv_source.specs.Pieces.{Piece, Blank, LineComment, BlockComment, Word, Single, Double, Semicolon, Open, Close, Plus, Token}
-use Rattle.yv_source.specs.Grammar.{IsHead, Says, IsJoined, IsArgument, Spells, SpellsOne, depth}
+use Rattle.yv_source.specs.Grammar.{IsHead, Says, IsJoined, IsArgument, IsBody, Spells, SpellsOne, depth}
 use Rattle.yv_source.specs.Inner.Machine.{is_keyword, Step, Next, Wrong, Deep, finish, between, argued, said, joined, named, step, run}
 use Rattle.yv_statement.specs.Building.{join_forests, push_child, with_argument, with_more, extended}
 use Rattle.yv_source.specs.Place.{column_of}
@@ -159,13 +159,7 @@ GoesOver f =
     (limit : ℕ) (p : Tree) (below : List Tree) (ts more : List Token) → Spells f ts → depth f + (1 + length below) ≤ limit →
     run limit (Next (p ∷ below) Between) (ts ++ more) ≡ run limit (Next (with_children p f ∷ below) Between) more
 
--- a statement's block
-abbrev pub IsBody : Forest → List Token → Type 0
-IsBody c body =
-    ((t : Token) × (body ≡ t ∷ []) × (t.piece ≡ Semicolon) × (c ≡ End))
-    ⊎ ((t : Token) × (inner : List Token) × (u : Token) × (body ≡ t ∷ (inner ++ u ∷ [])) × (t.piece ≡ Open) × (u.piece ≡ Close) × Spells c inner)
-
-takes_body : (limit : ℕ) (h : Head) (c : Forest) (stack : List Tree) (phase : Phase) (body more : List Token) → IsReady phase → GoesOver c → IsBody c body → depth c + (1 + length stack) ≤ limit → run limit (Next (tree h End ∷ stack) phase) (body ++ more) ≡ run limit (finish (tree h c) stack) more
+takes_body : (limit : ℕ) (h : Head) (c : Forest) (stack : List Tree) (phase : Phase) (body more : List Token) → IsReady phase → GoesOver c → IsBody (Spells c) c body → depth c + (1 + length stack) ≤ limit → run limit (Next (tree h End ∷ stack) phase) (body ++ more) ≡ run limit (finish (tree h c) stack) more
 takes_body limit h c stack phase body more ready over (inl (t, is, mark, none)) d =
     ap (λ (l : List Token). run limit (Next (tree h End ∷ stack) phase) (l ++ more)) is
     ∙ takes_mark limit (tree h End) stack phase t more ready mark
@@ -177,7 +171,7 @@ takes_body limit h c stack phase body more ready over (inr (t, inner, u, is, ope
     ∙ over limit (tree h End) stack inner (u ∷ more) spells d
     ∙ ap (λ (p : Piece). run limit (between limit (tree h c ∷ stack) u.front p) more) closes
 
-takes_one : (limit : ℕ) (h : Head) (c : Forest) (stack : List Tree) (k : Token) (argument body more : List Token) → GoesOver c → IsHead k h → IsArgument argument h.argument → IsBody c body → depth c + (1 + length stack) ≤ limit → run limit (Next stack Between) (k ∷ (argument ++ (body ++ more))) ≡ run limit (finish (tree h c) stack) more
+takes_one : (limit : ℕ) (h : Head) (c : Forest) (stack : List Tree) (k : Token) (argument body more : List Token) → GoesOver c → IsHead k h → IsArgument argument h.argument → IsBody (Spells c) c body → depth c + (1 + length stack) ≤ limit → run limit (Next stack Between) (k ∷ (argument ++ (body ++ more))) ≡ run limit (finish (tree h c) stack) more
 takes_one limit h c stack k argument body more over head says is_body d =
     let a = takes_argument limit h stack argument h.argument (body ++ more) refl says in
     ap (λ (s : Step). run limit s (argument ++ (body ++ more))) (takes_head limit stack k h head (omega (arith, d)))

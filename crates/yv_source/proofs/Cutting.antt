@@ -189,9 +189,9 @@ complete before Close more h = refl
 complete before Plus more h = ap (λ b. first b (43 ∷ more)) h
 
 -- what is first may stand there
-abbrev pub MayBegin : Before → List ℕ → First → Type 0
-MayBegin before text None = Unit {0}
-MayBegin before text (Some x) = (text ≡ slice x.0 ++ x.1) × MayStand before x.0 x.1
+abbrev pub IsFirst : Before → List ℕ → First → Type 0
+IsFirst before text None = Unit {0}
+IsFirst before text (Some x) = (text ≡ slice x.0 ++ x.1) × MayStand before x.0 x.1
 
 cond_by : (P : First → Type 0) (c : Bool) (x y : First) → (c ≡ true → P x) → (c ≡ false → P y) → P (cond c x y)
 cond_by P true x y f g = f refl
@@ -217,14 +217,14 @@ from_quote_is false (b ∷ t) =
     ]
 
 -- a text closed by one byte
-closed_may : (before : Before) (opener closer : ℕ) (make : List ℕ → Piece) (rest inner after : List ℕ) → ((t : List ℕ) → slice (make t) ≡ opener ∷ (t ++ closer ∷ [])) → inner ++ after ≡ rest → (after ≡ []) ⊎ (after ≡ closer ∷ tail after) → (inner ++ closer ∷ tail after ≡ rest → MayStand before (make inner) (tail after)) → MayBegin before (opener ∷ rest) (closed (make inner) after)
+closed_may : (before : Before) (opener closer : ℕ) (make : List ℕ → Piece) (rest inner after : List ℕ) → ((t : List ℕ) → slice (make t) ≡ opener ∷ (t ++ closer ∷ [])) → inner ++ after ≡ rest → (after ≡ []) ⊎ (after ≡ closer ∷ tail after) → (inner ++ closer ∷ tail after ≡ rest → MayStand before (make inner) (tail after)) → IsFirst before (opener ∷ rest) (closed (make inner) after)
 closed_may before opener closer make rest inner [] is whole stop may = tt
 closed_may before opener closer make rest inner (b ∷ after) is whole (inl e) may = absurd (empty_cons b after (sym e))
 closed_may before opener closer make rest inner (b ∷ after) is whole (inr e) may =
     let w : inner ++ closer ∷ after ≡ rest = ap (λ l. inner ++ l) (sym e) ∙ whole in
     (ap (λ l. opener ∷ l) (sym w ∙ sym (append_assoc inner (closer ∷ []) after)) ∙ ap (λ l. l ++ after) (sym (is inner)), may w)
 
-unless_may : (before : Before) (text : List ℕ) (f : First) → (before ≢ Unquoted → MayBegin before text f) → MayBegin before text (unless_unquoted before f)
+unless_may : (before : Before) (text : List ℕ) (f : First) → (before ≢ Unquoted → IsFirst before text f) → IsFirst before text (unless_unquoted before f)
 unless_may Apart text f h = h (λ e. cc)
 unless_may Unquoted text f h = tt
 unless_may Quoted text f h = h (λ e. cc)
@@ -235,14 +235,14 @@ stop_one b t = elim (from_stops (begins b) t) [ inl e ↦ inl e | inr e ↦ inr 
 stop_two : (a b : ℕ) (t : List ℕ) → (from (begins_two a b) t ≡ []) ⊎ (from (begins_two a b) t ≡ a ∷ b ∷ tail (tail (from (begins_two a b) t)))
 stop_two a b t = elim (from_stops (begins_two a b) t) [ inl e ↦ inl e | inr e ↦ inr (begins_two_is a b (from (begins_two a b) t) e) ]
 
-block_may : (before : Before) (rest inner after : List ℕ) → inner ++ after ≡ rest → (after ≡ []) ⊎ (after ≡ 42 ∷ 47 ∷ tail (tail after)) → until (begins_two 42 47) rest ≡ inner → MayBegin before (47 ∷ 42 ∷ rest) (closed_by_two (BlockComment inner) after)
+block_may : (before : Before) (rest inner after : List ℕ) → inner ++ after ≡ rest → (after ≡ []) ⊎ (after ≡ 42 ∷ 47 ∷ tail (tail after)) → until (begins_two 42 47) rest ≡ inner → IsFirst before (47 ∷ 42 ∷ rest) (closed_by_two (BlockComment inner) after)
 block_may before rest inner [] whole stop u = tt
 block_may before rest inner (b ∷ after) whole (inl e) u = absurd (empty_cons b after (sym e))
 block_may before rest inner (b ∷ after) whole (inr e) u =
     let w : inner ++ 42 ∷ 47 ∷ tail after ≡ rest = ap (λ l. inner ++ l) (sym e) ∙ whole in
     (ap (λ l. 47 ∷ 42 ∷ l) (sym w ∙ sym (append_assoc inner (42 ∷ 47 ∷ []) (tail after))), ap (until (begins_two 42 47)) w ∙ u)
 
-word_may : (before : Before) (b : ℕ) (rest : List ℕ) → NoEnd b rest → (before ≡ Quoted → (b == 43) ≡ false) → MayBegin before (b ∷ rest) (word (b ∷ rest))
+word_may : (before : Before) (b : ℕ) (rest : List ℕ) → NoEnd b rest → (before ≡ Quoted → (b == 43) ≡ false) → IsFirst before (b ∷ rest) (word (b ∷ rest))
 word_may before b rest n join =
     let no = untests b rest n in
     let u : until ends_word (b ∷ rest) ≡ b ∷ until ends_word rest = cond_false (ends_word (b ∷ rest)) [] (b ∷ until ends_word rest) no in (
@@ -254,15 +254,15 @@ word_may before b rest n join =
       ),
     )
 
-last_may : (before : Before) (b : ℕ) (rest : List ℕ) → NoEnd b rest → MayBegin before (b ∷ rest) (word_or_plus before (b ∷ rest))
+last_may : (before : Before) (b : ℕ) (rest : List ℕ) → NoEnd b rest → IsFirst before (b ∷ rest) (word_or_plus before (b ∷ rest))
 last_may Apart b rest n = word_may Apart b rest n (λ e. cc)
 last_may Unquoted b rest n = word_may Unquoted b rest n (λ e. cc)
 last_may Quoted b rest n =
-    cond_by (MayBegin Quoted (b ∷ rest)) (b == 43) (Some (Plus, rest)) (word (b ∷ rest))
+    cond_by (IsFirst Quoted (b ∷ rest)) (b == 43) (Some (Plus, rest)) (word (b ∷ rest))
     (λ e. (ap (λ x. x ∷ rest) (eqb-true b 43 e), refl))
     (λ e. word_may Quoted b rest n (λ _. e))
 
-line_may : (before : Before) (b : ℕ) (rest : List ℕ) → (b == 47 && begins 47 rest) ≡ true → MayBegin before (b ∷ rest) (Some (LineComment (until (begins 10) (tail rest)), from (begins 10) (tail rest)))
+line_may : (before : Before) (b : ℕ) (rest : List ℕ) → (b == 47 && begins 47 rest) ≡ true → IsFirst before (b ∷ rest) (Some (LineComment (until (begins 10) (tail rest)), from (begins 10) (tail rest)))
 line_may before b rest h =
     let w = until_from (begins 10) (tail rest) in (
       ap (λ x. x ∷ rest) (eqb-true b 47 (and_first (b == 47) (begins 47 rest) h))
@@ -271,21 +271,21 @@ line_may before b rest h =
       ap (until (begins 10)) w,
     )
 
-comment_may : (before : Before) (b : ℕ) (rest : List ℕ) → (b == 47 && begins 42 rest) ≡ true → MayBegin before (b ∷ rest) (closed_by_two (BlockComment (until (begins_two 42 47) (tail rest))) (from (begins_two 42 47) (tail rest)))
+comment_may : (before : Before) (b : ℕ) (rest : List ℕ) → (b == 47 && begins 42 rest) ≡ true → IsFirst before (b ∷ rest) (closed_by_two (BlockComment (until (begins_two 42 47) (tail rest))) (from (begins_two 42 47) (tail rest)))
 comment_may before b rest h =
     let f : First = closed_by_two (BlockComment (until (begins_two 42 47) (tail rest))) (from (begins_two 42 47) (tail rest)) in
-    let Q : List ℕ → Type 0 = λ l. MayBegin before l f in
+    let Q : List ℕ → Type 0 = λ l. IsFirst before l f in
     let is : 47 ∷ 42 ∷ tail rest ≡ b ∷ rest =
     ap (λ l. 47 ∷ l) (sym (begins_is 42 rest (and_second (b == 47) (begins 42 rest) h)))
     ∙ ap (λ x. x ∷ rest) (sym (eqb-true b 47 (and_first (b == 47) (begins 42 rest) h))) in
     subst Q is (block_may before (tail rest) _ _ (until_from (begins_two 42 47) (tail rest)) (stop_two 42 47 (tail rest)) refl)
 
-pub may_begin : (before : Before) (text : List ℕ) → MayBegin before text (first before text)
+pub may_begin : (before : Before) (text : List ℕ) → IsFirst before text (first before text)
 may_begin before [] = tt
 may_begin before (b ∷ rest) =
-    let P : First → Type 0 = MayBegin before (b ∷ rest) in
-    let at : (c : ℕ) (f : First) → (b == c) ≡ true → MayBegin before (c ∷ rest) f → P f =
-    λ c f e h. let Q : ℕ → Type 0 = λ x. MayBegin before (x ∷ rest) f in subst Q (sym (eqb-true b c e)) h in
+    let P : First → Type 0 = IsFirst before (b ∷ rest) in
+    let at : (c : ℕ) (f : First) → (b == c) ≡ true → IsFirst before (c ∷ rest) f → P f =
+    λ c f e h. let Q : ℕ → Type 0 = λ x. IsFirst before (x ∷ rest) f in subst Q (sym (eqb-true b c e)) h in
     cond_by P (is_blank b) (Some (Blank b, rest)) _ (λ e. (refl, e)) (λ n0.
     cond_by P (b == 34) _ _
     (λ e. at 34 _ e (unless_may before (34 ∷ rest) _ (λ n. closed_may before 34 34 Double rest (up_to_quote false rest) (from_quote false rest) (λ t. refl) (quote_from false rest) (from_quote_is false rest) (λ w. (n, ap (up_to_quote false) w)))))

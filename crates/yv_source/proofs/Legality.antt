@@ -72,12 +72,12 @@ pub refuses_character : (bytes text : List ℕ) (at : ℕ) (stop : Stop) → len
 refuses_character bytes text at stop size same u illegal is r =
     let P : List ℕ → Type 0 = λ l. IsIllegalAt l at in
     let here = subst P same illegal in (
-      λ e. inr (inr (size, u, at, here, fault_same r (refusal_in bytes code.BadCharacter at) (sym e ∙ ap stopped is))),
+      λ e. inr (inr ((size, u), at, here, fault_same r (refusal_in bytes code.BadCharacter at) (sym e ∙ ap stopped is))),
       λ b. elim b [
-        | inl x ↦ absurd (omega (arith, size, x.0))
+        | inl x ↦ absurd (let more : most_bytes < length bytes = x.0 in omega (arith, size, more))
         | inr y ↦ elim y [
-          | inl x ↦ absurd (x.1 u)
-          | inr x ↦ ap stopped (is ∙ ap (λ n. Fault (refusal_in bytes code.BadCharacter n)) (one_illegal bytes at x.2 here x.3) ∙ ap (λ (q : Refusal). Fault q) (sym x.4))
+          | inl x ↦ absurd (x.0.1 u)
+          | inr x ↦ ap stopped (is ∙ ap (λ n. Fault (refusal_in bytes code.BadCharacter n)) (one_illegal bytes at x.1 here x.2) ∙ ap (λ (q : Refusal). Fault q) (sym x.3))
         ]
       ],
     )

@@ -11,7 +11,7 @@ use Rattle.yv_source.specs.declared.scan.Ahead.TheVariants as ahead
 use Rattle.yv_source.specs.declared.scan.Found.{Found}
 use Rattle.yv_source.specs.declared.scan.Found.TheVariants as found
 use Rattle.yv_source.proofs.Keyword.{false_true}
-use Rattle.yv_source.proofs.Cutting.{may_begin, MayBegin, complete, untests}
+use Rattle.yv_source.proofs.Cutting.{may_begin, IsFirst, complete, untests}
 use Rattle.yv_source.proofs.Until.{not_equal}
 use Rattle.yv_source.proofs.Accepts.{append_nil}
 
@@ -45,7 +45,7 @@ MeansAhead before text (ahead.Piece f) = Means before text f
 
 begins_by : (before : Before) (text : List ℕ) (p : Piece) (more : List ℕ) → first before text ≡ Some (p, more) → Begins before text p
 begins_by before text p more e =
-    let P : First → Type 0 = MayBegin before text in
+    let P : First → Type 0 = IsFirst before text in
     let m = subst P e (may_begin before text) in
     record { more = more; is = m.0; may = m.1 }
 
@@ -53,7 +53,7 @@ none_some : (x : Piece × List ℕ) → None ≡ Some x → ⊥
 none_some x e = cc
 
 uncut : (before : Before) (b : ℕ) (rest : List ℕ) → first before (b ∷ rest) ≡ None → IsUncut before (b ∷ rest)
-uncut before b rest e = (λ n. cons_empty b rest n, λ p more is may. none_some (p, more) (sym e ∙ ap (first before) is ∙ complete before p more may))
+uncut before b rest e = (λ n. cons_empty b rest n, λ p m. none_some (p, m.0) (sym e ∙ ap (first before) m.1 ∙ complete before p m.0 m.2))
 
 shows : (before : Before) (b : ℕ) (rest : List ℕ) (f : First) → first before (b ∷ rest) ≡ f → MeansAhead before (b ∷ rest) (shown f)
 shows before b rest None e = uncut before b rest e

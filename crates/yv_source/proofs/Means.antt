@@ -2,7 +2,7 @@
 use Rattle.std.proofs.Common.{◌≡◌, ℕ, Bool, true, false, cond, List, [], ◌∷◌, ◌++◌, length, Option, Some, None, nat_lt, refl, sym, ◌∙◌, ap, subst, inl, inr, append_assoc}
 use Rattle.yv_statement.specs.Tree.{Forest, End, Then, Tree}
 use Rattle.yv_source.specs.Pieces.{Piece, Blank, LineComment, BlockComment, Word, Single, Double, Semicolon, Open, Close, Plus, Token}
-use Rattle.yv_source.specs.Grammar.{IsHead, Says, IsJoined, IsArgument, Spells, SpellsOne}
+use Rattle.yv_source.specs.Grammar.{IsHead, Says, IsJoined, IsArgument, IsBody, Spells, SpellsOne}
 use Rattle.yv_source.specs.Inner.Machine.{is_keyword, Step, Next, Wrong, Deep, finish, close, between, give_word, give_quoted, argued, said, joined, named, step, run}
 use Rattle.yv_statement.specs.Building.{join_forests, extended}
 use Rattle.yv_source.specs.Place.{column_of}
@@ -10,7 +10,7 @@ use Rattle.yv_source.specs.Quoted.{quoted}
 use Rattle.yv_source.specs.declared.machine.Phase.{Phase}
 use Rattle.yv_source.specs.declared.machine.Phase.TheVariants.{Between, Named, Argued, Said, Joined, Done}
 use Rattle.yv_source.proofs.Keyword.{keyword_means}
-use Rattle.yv_source.proofs.Accepts.{IsBody, append_nil}
+use Rattle.yv_source.proofs.Accepts.{append_nil}
 
 -- the tokens from the first to those inside the innermost open block
 abbrev pub Inside : List Tree → List Token → Type 0
@@ -65,7 +65,7 @@ regroup_open front k a o inner more =
     append_assoc front (k ∷ (a ++ (o ∷ inner))) more ∙ ap (λ l. front ++ (k ∷ l)) (append_assoc a (o ∷ inner) more)
 
 -- a whole statement behind those before it
-finish_keeps : (t : Tree) (below : List Tree) (ts front : List Token) (k : Token) (argument body : List Token) → ts ≡ front ++ (k ∷ (argument ++ body)) → Inside below front → IsHead k t.head → IsArgument argument t.head.argument → IsBody t.children body → BehindStep (finish t below) ts
+finish_keeps : (t : Tree) (below : List Tree) (ts front : List Token) (k : Token) (argument body : List Token) → ts ≡ front ++ (k ∷ (argument ++ body)) → Inside below front → IsHead k t.head → IsArgument argument t.head.argument → IsBody (Spells t.children) t.children body → BehindStep (finish t below) ts
 finish_keeps t [] ts front k argument body is none head says is_body =
     (k, argument, body, [], is ∙ ap (λ l. l ++ (k ∷ (argument ++ body))) none ∙ ap (λ l. k ∷ (argument ++ l)) (sym (append_nil body)), head, says, is_body, refl)
 finish_keeps t (p ∷ below) ts front k argument body is (front', k', argument', o, inner, is', inside, head', says', opens, spells) head says is_body =

@@ -120,9 +120,7 @@ module _ (front body : List ℕ) (place : Place) (bad : Option ℕ) (left : Left
       comes (BadSyntax place.at)
       (inr (
         l.piece,
-        l.begins.more,
-        l.begins.is,
-        subst M (sym r.before) l.begins.may,
+        (l.begins.more, l.begins.is, subst M (sym r.before) l.begins.may),
         λ g. goes_no_further (tokens front r.pieces) stack phase (record { front = done; piece = l.piece }) r.stands (steps f l moves ∙ e) (subst G (next_token f l moves) g),
       ))
       stands_at
@@ -137,9 +135,7 @@ module _ (front body : List ℕ) (place : Place) (bad : Option ℕ) (left : Left
       let is = next_token f l moves in
       comes (TooDeep place.at) (
         l.piece,
-        l.begins.more,
-        l.begins.is,
-        subst M (sym r.before) l.begins.may,
+        (l.begins.more, l.begins.is, subst M (sym r.before) l.begins.may),
         subst G (sym is) (deep_goes (tokens front r.pieces) stack phase t r.stands (steps f l moves ∙ e)),
         λ g. goes_too_deep (tokens front r.pieces) stack phase t r.stands (steps f l moves ∙ e) (subst W is g),
       )

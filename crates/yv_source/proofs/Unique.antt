@@ -80,13 +80,13 @@ goes_front ts us (t, more, spells, d) = let P : List Token → Type 0 = λ l. Sp
 
 reason : (front : List ℕ) (ps : List Piece) (rest : List ℕ) (o : Outcome) → Why front ps (behind Apart ps) rest o → (q : Piece) (left : List ℕ) → rest ≡ slice q ++ left → MayStand (behind Apart ps) q left → GoesWithin 64 (tokens front (ps ++ q ∷ [])) → ⊥
 reason front ps rest (Spelled t) (none, spells, d, kept) q left is may go = no_rest (behind Apart ps) q left may (sym none ∙ is)
-reason front ps rest (BadToken at) (some, uncut) q left is may go = uncut q left is may
+reason front ps rest (BadToken at) (some, uncut) q left is may go = uncut q (left, is, may)
 reason front ps rest (BadSyntax at) (inl (none, spells)) q left is may go = no_rest (behind Apart ps) q left may (sym none ∙ is)
-reason front ps rest (BadSyntax at) (inr (p, more, is', may', not)) q left is may (t, others, spells, d) =
+reason front ps rest (BadSyntax at) (inr (p, (more, is', may'), not)) q left is may (t, others, spells, d) =
     let e = one_piece (behind Apart ps) rest p q more left is' may' is may in
     let G : Piece × List ℕ → Type 0 = λ x. Goes (tokens front (ps ++ x.0 ∷ [])) in
     not (subst G (sym e) (t, others, spells))
-reason front ps rest (TooDeep at) (p, more, is', may', goes, not) q left is may go =
+reason front ps rest (TooDeep at) (p, (more, is', may'), goes, not) q left is may go =
     let e = one_piece (behind Apart ps) rest p q more left is' may' is may in
     let G : Piece × List ℕ → Type 0 = λ x. GoesWithin 64 (tokens front (ps ++ x.0 ∷ [])) in
     not (subst G (sym e) go)
@@ -100,30 +100,30 @@ one_reason : (front : List ℕ) (ps : List Piece) (rest : List ℕ) (at : ℕ) (
 one_reason front ps rest at (Spelled t) (Spelled v) w a x b = ap Spelled (one_statement (tokens front ps) t v w.1 x.1)
 one_reason front ps rest at (Spelled t) (BadToken k) w a x b = absurd (x.0 w.0)
 one_reason front ps rest at (Spelled t) (BadSyntax k) w a (inl x) b = absurd (x.1 t w.1)
-one_reason front ps rest at (Spelled t) (BadSyntax k) w a (inr x) b = absurd (no_rest (behind Apart ps) x.0 x.1 x.3 (sym w.0 ∙ x.2))
-one_reason front ps rest at (Spelled t) (TooDeep k) w a x b = absurd (no_rest (behind Apart ps) x.0 x.1 x.3 (sym w.0 ∙ x.2))
+one_reason front ps rest at (Spelled t) (BadSyntax k) w a (inr x) b = absurd (no_rest (behind Apart ps) x.0 x.1.0 x.1.2 (sym w.0 ∙ x.1.1))
+one_reason front ps rest at (Spelled t) (TooDeep k) w a x b = absurd (no_rest (behind Apart ps) x.0 x.1.0 x.1.2 (sym w.0 ∙ x.1.1))
 one_reason front ps rest at (BadToken k) (Spelled t) w a x b = absurd (w.0 x.0)
 one_reason front ps rest at (BadToken k) (BadToken j) w a x b = ap BadToken (a ∙ sym b)
 one_reason front ps rest at (BadToken k) (BadSyntax j) w a (inl x) b = absurd (w.0 x.0)
-one_reason front ps rest at (BadToken k) (BadSyntax j) w a (inr x) b = absurd (w.1 x.0 x.1 x.2 x.3)
-one_reason front ps rest at (BadToken k) (TooDeep j) w a x b = absurd (w.1 x.0 x.1 x.2 x.3)
+one_reason front ps rest at (BadToken k) (BadSyntax j) w a (inr x) b = absurd (w.1 x.0 x.1)
+one_reason front ps rest at (BadToken k) (TooDeep j) w a x b = absurd (w.1 x.0 x.1)
 one_reason front ps rest at (BadSyntax k) (Spelled t) (inl w) a x b = absurd (w.1 t x.1)
-one_reason front ps rest at (BadSyntax k) (Spelled t) (inr w) a x b = absurd (no_rest (behind Apart ps) w.0 w.1 w.3 (sym x.0 ∙ w.2))
+one_reason front ps rest at (BadSyntax k) (Spelled t) (inr w) a x b = absurd (no_rest (behind Apart ps) w.0 w.1.0 w.1.2 (sym x.0 ∙ w.1.1))
 one_reason front ps rest at (BadSyntax k) (BadToken j) (inl w) a x b = absurd (x.0 w.0)
-one_reason front ps rest at (BadSyntax k) (BadToken j) (inr w) a x b = absurd (x.1 w.0 w.1 w.2 w.3)
+one_reason front ps rest at (BadSyntax k) (BadToken j) (inr w) a x b = absurd (x.1 w.0 w.1)
 one_reason front ps rest at (BadSyntax k) (BadSyntax j) w a x b = ap BadSyntax (a ∙ sym b)
-one_reason front ps rest at (BadSyntax k) (TooDeep j) (inl w) a x b = absurd (no_rest (behind Apart ps) x.0 x.1 x.3 (sym w.0 ∙ x.2))
+one_reason front ps rest at (BadSyntax k) (TooDeep j) (inl w) a x b = absurd (no_rest (behind Apart ps) x.0 x.1.0 x.1.2 (sym w.0 ∙ x.1.1))
 one_reason front ps rest at (BadSyntax k) (TooDeep j) (inr w) a x b =
-    let e = one_piece (behind Apart ps) rest w.0 x.0 w.1 x.1 w.2 w.3 x.2 x.3 in
+    let e = one_piece (behind Apart ps) rest w.0 x.0 w.1.0 x.1.0 w.1.1 w.1.2 x.1.1 x.1.2 in
     let G : Piece × List ℕ → Type 0 = λ y. Goes (tokens front (ps ++ y.0 ∷ [])) in
-    absurd (w.4 (subst G (sym e) x.4))
-one_reason front ps rest at (TooDeep k) (Spelled t) w a x b = absurd (no_rest (behind Apart ps) w.0 w.1 w.3 (sym x.0 ∙ w.2))
-one_reason front ps rest at (TooDeep k) (BadToken j) w a x b = absurd (x.1 w.0 w.1 w.2 w.3)
-one_reason front ps rest at (TooDeep k) (BadSyntax j) w a (inl x) b = absurd (no_rest (behind Apart ps) w.0 w.1 w.3 (sym x.0 ∙ w.2))
+    absurd (w.2 (subst G (sym e) x.2))
+one_reason front ps rest at (TooDeep k) (Spelled t) w a x b = absurd (no_rest (behind Apart ps) w.0 w.1.0 w.1.2 (sym x.0 ∙ w.1.1))
+one_reason front ps rest at (TooDeep k) (BadToken j) w a x b = absurd (x.1 w.0 w.1)
+one_reason front ps rest at (TooDeep k) (BadSyntax j) w a (inl x) b = absurd (no_rest (behind Apart ps) w.0 w.1.0 w.1.2 (sym x.0 ∙ w.1.1))
 one_reason front ps rest at (TooDeep k) (BadSyntax j) w a (inr x) b =
-    let e = one_piece (behind Apart ps) rest w.0 x.0 w.1 x.1 w.2 w.3 x.2 x.3 in
+    let e = one_piece (behind Apart ps) rest w.0 x.0 w.1.0 x.1.0 w.1.1 w.1.2 x.1.1 x.1.2 in
     let G : Piece × List ℕ → Type 0 = λ y. Goes (tokens front (ps ++ y.0 ∷ [])) in
-    absurd (x.4 (subst G e w.4))
+    absurd (x.2 (subst G e w.2))
 one_reason front ps rest at (TooDeep k) (TooDeep j) w a x b = ap TooDeep (a ∙ sym b)
 one_reason front ps rest at (Spelled t) (BadEscape k) w a x b =
     let N : Tree → Type 0 = λ v. IsNewer v.children in
@@ -134,11 +134,11 @@ one_reason front ps rest at (BadEscape k) (Spelled t) w a x b =
 one_reason front ps rest at (BadToken k) (BadEscape j) w a x b = absurd (w.0 x.0)
 one_reason front ps rest at (BadEscape k) (BadToken j) w a x b = absurd (x.0 w.0)
 one_reason front ps rest at (BadSyntax k) (BadEscape j) (inl w) a x b = absurd (w.1 x.1 x.2)
-one_reason front ps rest at (BadSyntax k) (BadEscape j) (inr w) a x b = absurd (no_rest (behind Apart ps) w.0 w.1 w.3 (sym x.0 ∙ w.2))
+one_reason front ps rest at (BadSyntax k) (BadEscape j) (inr w) a x b = absurd (no_rest (behind Apart ps) w.0 w.1.0 w.1.2 (sym x.0 ∙ w.1.1))
 one_reason front ps rest at (BadEscape k) (BadSyntax j) w a (inl x) b = absurd (x.1 w.1 w.2)
-one_reason front ps rest at (BadEscape k) (BadSyntax j) w a (inr x) b = absurd (no_rest (behind Apart ps) x.0 x.1 x.3 (sym w.0 ∙ x.2))
-one_reason front ps rest at (TooDeep k) (BadEscape j) w a x b = absurd (no_rest (behind Apart ps) w.0 w.1 w.3 (sym x.0 ∙ w.2))
-one_reason front ps rest at (BadEscape k) (TooDeep j) w a x b = absurd (no_rest (behind Apart ps) x.0 x.1 x.3 (sym w.0 ∙ x.2))
+one_reason front ps rest at (BadEscape k) (BadSyntax j) w a (inr x) b = absurd (no_rest (behind Apart ps) x.0 x.1.0 x.1.2 (sym w.0 ∙ x.1.1))
+one_reason front ps rest at (TooDeep k) (BadEscape j) w a x b = absurd (no_rest (behind Apart ps) w.0 w.1.0 w.1.2 (sym x.0 ∙ w.1.1))
+one_reason front ps rest at (BadEscape k) (TooDeep j) w a x b = absurd (no_rest (behind Apart ps) x.0 x.1.0 x.1.2 (sym w.0 ∙ x.1.1))
 one_reason front ps rest at (BadEscape k) (BadEscape j) w a x b = ap BadEscape (one_escape (tokens front ps) k j w.5 x.5)
 
 -- where there is a reason to stop, no cut goes on whose tokens go

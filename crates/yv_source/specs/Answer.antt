@@ -1,12 +1,12 @@
 -- What the calls of this crate answer and refuse. A call is about one file, whose number is 0.
-use Rattle.std.specs.Prelude.{◌≡◌, ℕ, ◌≤◌, ◌<◌, List, length, take, ◌⊎◌, IsUtf8}
+use Rattle.std.specs.Prelude.{◌≡◌, ℕ, List, take, ◌⊎◌}
 use Rattle.std.specs.Str.Lossy.{utf8_valid_len}
 use Rattle.yv_statement.specs.Tree.{Tree}
 use Rattle.yv_statement.specs.declared.refusal.Code.{Code}
 use Rattle.yv_statement.specs.declared.refusal.Code.TheVariants as code
 use Rattle.yv_statement.specs.declared.refusal.Refusal.{Refusal}
 use Rattle.yv_source.specs.Place.{line_of}
-use Rattle.yv_source.specs.Legal.{most_bytes, IsIllegalAt}
+use Rattle.yv_source.specs.Legal.{IsTooLarge, IsNoText, IsText, IsIllegalAt}
 use Rattle.yv_source.specs.Outcome as outcome
 use Rattle.yv_source.specs.Outcome.{Outcome, TextComesTo}
 
@@ -18,11 +18,9 @@ refusal_in text c offset = record { code = c; file = 0; offset = offset; line = 
 -- that is; or else at its first character that isn't legal
 abbrev pub IsBadFile : List ℕ → Refusal → Type 0
 IsBadFile bytes r =
-    ((most_bytes < length bytes) × (r ≡ refusal_in bytes code.TooLarge 0))
-    ⊎ ((length bytes ≤ most_bytes) × (IsUtf8 bytes → ⊥)
-    × (r ≡ refusal_in bytes code.NotUtf8 (utf8_valid_len bytes)))
-    ⊎ ((length bytes ≤ most_bytes) × IsUtf8 bytes
-    × (at : ℕ) × IsIllegalAt bytes at × (r ≡ refusal_in bytes code.BadCharacter at))
+    (IsTooLarge bytes × (r ≡ refusal_in bytes code.TooLarge 0))
+    ⊎ (IsNoText bytes × (r ≡ refusal_in bytes code.NotUtf8 (utf8_valid_len bytes)))
+    ⊎ (IsText bytes × (at : ℕ) × IsIllegalAt bytes at × (r ≡ refusal_in bytes code.BadCharacter at))
 
 -- the refusal of an outcome
 abbrev pub IsRefusalOf : List ℕ → Outcome → Refusal → Type 0

@@ -31,17 +31,19 @@ IsArgument [] (Some text) = ⊥
 IsArgument (t ∷ ts) None = ⊥
 IsArgument (t ∷ ts) (Some text) = ((t.piece ≡ Word text) × (ts ≡ [])) ⊎ IsJoined (t ∷ ts) text
 
--- The tokens of statements in order: each has its keyword and argument, then a semicolon, or braces round the tokens of
--- the statements of its block.
+-- the tokens behind a statement's argument: a semicolon, or braces round those inside its block
+abbrev pub IsBody : (List Token → Type 0) → Forest → List Token → Type 0
+IsBody IsInside c body =
+    ((t : Token) × (body ≡ t ∷ []) × (t.piece ≡ Semicolon) × (c ≡ End))
+    ⊎ ((t : Token) × (inner : List Token) × (u : Token) × (body ≡ t ∷ (inner ++ u ∷ [])) × (t.piece ≡ Open) × (u.piece ≡ Close) × IsInside inner)
+
+-- the tokens of statements in order, each with its keyword, its argument and its block
 abbrev pub Spells : Forest → List Token → Type 0
 Spells End ts = ts ≡ []
 Spells (Then h c o) ts =
     (k : Token) × (argument : List Token) × (body : List Token) × (others : List Token)
-    × (ts ≡ k ∷ (argument ++ (body ++ others))) × IsHead k h × IsArgument argument h.argument
-    × (((t : Token) × (body ≡ t ∷ []) × (t.piece ≡ Semicolon) × (c ≡ End))
-    ⊎ ((t : Token) × (inner : List Token) × (u : Token) × (body ≡ t ∷ (inner ++ u ∷ []))
-    × (t.piece ≡ Open) × (u.piece ≡ Close) × Spells c inner))
-    × Spells o others
+    × (ts ≡ k ∷ (argument ++ (body ++ others)))
+    × IsHead k h × IsArgument argument h.argument × IsBody (Spells c) c body × Spells o others
 
 -- the tokens of one statement
 abbrev pub SpellsOne : Tree → List Token → Type 0

@@ -1,5 +1,5 @@
 -- Which characters a text may have, and how many bytes.
-use Rattle.std.specs.Prelude.{◌≡◌, ℕ, ◌≤◌, ◌%◌, Bool, ◌==◌, ◌&&◌, ◌||◌, nat_le, nat_lt, IsTrue, IsFalse, List, ◌∷◌, ◌++◌, length, encode_utf8_all, IsUtf8}
+use Rattle.std.specs.Prelude.{◌≡◌, ℕ, ◌≤◌, ◌<◌, ◌%◌, Bool, ◌==◌, ◌&&◌, ◌||◌, nat_le, nat_lt, IsTrue, IsFalse, List, ◌∷◌, ◌++◌, length, encode_utf8_all, IsUtf8}
 use Rattle.std.specs.List.{list_all}
 use Rattle.std.specs.Str.{chars}
 use Rattle.yv_source.specs.Characters.{tab, line_feed, carriage_return}
@@ -14,6 +14,18 @@ is_legal c =
 -- 4 MiB, a limit of this compiler
 abbrev pub most_bytes : ℕ
 most_bytes = 4194304
+
+-- bytes past the limit
+abbrev pub IsTooLarge : List ℕ → Type 0
+IsTooLarge bytes = most_bytes < length bytes
+
+-- bytes within it that are no text
+abbrev pub IsNoText : List ℕ → Type 0
+IsNoText bytes = (length bytes ≤ most_bytes) × (IsUtf8 bytes → ⊥)
+
+-- bytes within it that are one
+abbrev pub IsText : List ℕ → Type 0
+IsText bytes = (length bytes ≤ most_bytes) × IsUtf8 bytes
 
 -- a text within the limit whose characters are all legal
 abbrev pub IsLegalText : List ℕ → Type 0

@@ -2,7 +2,7 @@
 use Rattle.std.specs.Prelude.{◌≡◌, ℕ, ◌+◌, ◌-◌, ◌≤◌, List, [], ◌∷◌, ◌++◌, length, take, drop, ◌⊎◌}
 use Rattle.yv_statement.specs.Tree.{Tree}
 use Rattle.yv_source.specs.Place.{mark_len}
-use Rattle.yv_source.specs.Pieces.{Piece, slice, Before, Apart, MayStand, Cuts, behind, IsUncut, tokens}
+use Rattle.yv_source.specs.Pieces.{Piece, Before, Apart, MayBegin, Cuts, behind, IsUncut, tokens}
 use Rattle.yv_source.specs.Grammar.{SpellsOne, depth, Goes, GoesWithin}
 use Rattle.yv_source.specs.Escapes.{IsNewer, HasNoBadPair, HasBadPair}
 
@@ -18,7 +18,7 @@ pub data Outcome : Type 0 where
 abbrev pub most_deep : ℕ
 most_deep = 64
 
--- Why a text comes to an outcome that was cut into these pieces and this rest.
+-- Why a text comes to an outcome, once it was cut into these pieces and this rest.
 -- Spelled: its tokens are those of the statement, and in a YANG 1.1 file no backslash pair of theirs is bad.
 -- BadToken: no piece may stand at the rest.
 -- BadSyntax: the text ends where no statement does, or a piece may stand at the rest with which its tokens begin none.
@@ -31,10 +31,9 @@ Why front ps before rest (Spelled t) =
 Why front ps before rest (BadToken offset) = IsUncut before rest
 Why front ps before rest (BadSyntax offset) =
     ((rest ≡ []) × ((t : Tree) → SpellsOne t (tokens front ps) → ⊥))
-    ⊎ ((p : Piece) × (more : List ℕ) × (rest ≡ slice p ++ more) × MayStand before p more
-    × (Goes (tokens front (ps ++ p ∷ [])) → ⊥))
+    ⊎ ((p : Piece) × MayBegin before rest p × (Goes (tokens front (ps ++ p ∷ [])) → ⊥))
 Why front ps before rest (TooDeep offset) =
-    (p : Piece) × (more : List ℕ) × (rest ≡ slice p ++ more) × MayStand before p more
+    (p : Piece) × MayBegin before rest p
     × Goes (tokens front (ps ++ p ∷ [])) × (GoesWithin most_deep (tokens front (ps ++ p ∷ [])) → ⊥)
 Why front ps before rest (BadEscape offset) =
     (rest ≡ []) × (t : Tree) × SpellsOne t (tokens front ps) × (depth t.children + 1 ≤ most_deep)

@@ -104,6 +104,10 @@ MayStand before Open rest = Unit {0}
 MayStand before Close rest = Unit {0}
 MayStand before Plus rest = before ≡ Quoted
 
+-- a piece may stand at a place, and what is left of the text begins with it
+abbrev pub MayBegin : Before → List ℕ → Piece → Type 0
+MayBegin before rest p = (more : List ℕ) × (rest ≡ slice p ++ more) × MayStand before p more
+
 -- a text is cut into these pieces and the rest
 abbrev pub Cuts : Before → List ℕ → List Piece → List ℕ → Type 0
 Cuts before text [] rest = text ≡ rest
@@ -117,8 +121,7 @@ behind before (p ∷ ps) = behind (past before p) ps
 
 -- something is left, and no piece may stand there
 abbrev pub IsUncut : Before → List ℕ → Type 0
-IsUncut before rest =
-    (rest ≢ []) × ((p : Piece) (more : List ℕ) → rest ≡ slice p ++ more → MayStand before p more → ⊥)
+IsUncut before rest = (rest ≢ []) × ((p : Piece) → MayBegin before rest p → ⊥)
 
 -- a piece that is no blank and no comment, with the text in front of it (a token of section 6.1.1)
 pub record Token : Type 0 where

@@ -2,6 +2,7 @@
 
 ghost use Rattle.std.specs.Prelude.{◌≡◌, ◌≤◌, ◌<◌, ◌*◌, ◌^◌, ◌+◌, ◌==◌, count_by, drop, length, take};
 ghost use Rattle.yv_source.specs.Characters.{line_feed};
+ghost use Rattle.yv_source.specs.Legal.{most_bytes};
 ghost use Rattle.yv_source.specs.Place.{mark_len, columns, column_past};
 ghost use Rattle.yv_source.specs.Inner.Place.{passed};
 ghost use Rattle.yv_source.specs.Inner.Turn.{length_of};
@@ -22,7 +23,7 @@ pub(crate) struct Place {
 impl Place {
     /// The place behind a piece that stands at this one.
     pub(crate) fn past(self, bytes: &[u8], found: Found) -> Place
-        requires size { length bytes.now ≤ 4194304 }
+        requires size { length bytes.now ≤ most_bytes }
         requires within { self.at + length_of found ≤ length bytes.now }
         requires line { self.line ≤ self.at + 1 }
         requires column { self.column ≤ 8 * self.at }

@@ -4,7 +4,7 @@ ghost use Rattle.std.specs.Prelude.{◌≡◌, ◌≤◌, ◌⊎◌, None, IfOk,
 ghost use Rattle.yv_statement.specs.Tree.{Tree};
 ghost use Rattle.yv_statement.specs.declared.refusal.Refusal.{Refusal};
 ghost use Rattle.yv_source.specs.Answer.{IsSpelled, IsRefused};
-ghost use Rattle.yv_source.specs.Legal.{IsLegalText};
+ghost use Rattle.yv_source.specs.Legal.{IsLegalFile, most_bytes};
 ghost use Rattle.yv_source.specs.Order.{IsInOrder};
 ghost use Rattle.yv_source.specs.Place.{mark_len};
 ghost use Rattle.yv_source.specs.Inner.Ending.{Comes, ended_in, refused_by, IsChecked, IsEnd};
@@ -19,10 +19,10 @@ use crate::turn::turn;
 use std::alloc::Global;
 use yv_statement::{Code, Statement, Stop};
 
-/// The one statement of a source, or what is refused first: BadToken where no token may stand, BadSyntax where a token
-/// or the text's end goes on with no statement, TooDeep at the first keyword of depth 65, and, where none of these
-/// stands, BadEscape at the first backslash pair that YANG 1.1 doesn't know, in a file of that version (RFC 7950,
-/// section 6).
+/// The one statement of a source (RFC 7950, section 6), or what is refused first: BadToken where no token may stand,
+/// BadSyntax at a token with which no statement goes on, or at the text's end where none is whole, TooDeep at a keyword
+/// of depth 65; and where none of these stands, BadEscape at the first backslash pair that YANG 1.1 doesn't know, in a
+/// file of that version. An offset counts bytes, a line is counted from 1.
 pub fn parse<'a>(alloc: Global, source: &'a Source) -> Result<Statement<'a>, Stop>
     ensures spelled { IfOk result (IsSpelled source.now.text) }
     ensures refused { (r : Refusal) → result ≡ Err (Stop.Fault r) → IsRefused source.now.text r }
@@ -34,7 +34,7 @@ pub fn parse<'a>(alloc: Global, source: &'a Source) -> Result<Statement<'a>, Sto
         → (result ≡ Err (Stop.Fault r)) ⊎ (result ≡ Err Stop.NoMemory) }
 
     ensures order { IfOk result IsInOrder }
-    ensures legal { IsLegalText source.now.text }
+    ensures legal { IsLegalFile source.now.text }
 {
     let text = source.text();
     read(alloc, text, mark_len_of(text.as_bytes()))
@@ -43,7 +43,7 @@ pub fn parse<'a>(alloc: Global, source: &'a Source) -> Result<Statement<'a>, Sto
 // Reads the one statement of a text, from a place on.
 fn read<'a>(alloc: Global, text: &'a str, start: usize) -> Result<Statement<'a>, Stop>
     requires start { start ≡ mark_len text.now }
-    requires size { length text.now ≤ 4194304 }
+    requires size { length text.now ≤ most_bytes }
     ensures { Comes text.now result }
 {
     let bytes = text.as_bytes();

@@ -3,7 +3,7 @@
 ghost use Rattle.std.specs.Prelude.{◌≡◌, ◌≤◌, length, IfSome, IfNone, IsTrue};
 ghost use Rattle.std.specs.List.{list_all};
 ghost use Rattle.std.specs.Str.{chars};
-ghost use Rattle.yv_source.specs.Legal.{is_legal, IsIllegalAt};
+ghost use Rattle.yv_source.specs.Legal.{most_bytes, is_legal, IsIllegalAt};
 
 use crate::fault::refuse;
 use std::alloc::Global;
@@ -38,7 +38,7 @@ impl Source {
     ghost use Rattle.std.specs.Prelude.{◌≡◌, ◌↔◌, ◌⊎◌, OnOk, IfOk};
     ghost use Rattle.yv_statement.specs.declared.refusal.Refusal.{Refusal};
     ghost use Rattle.yv_source.specs.Answer.{IsBadFile};
-    ghost use Rattle.yv_source.specs.Legal.{IsLegalFile, IsLegalText};
+    ghost use Rattle.yv_source.specs.Legal.{IsLegalFile};
 
     /// The text of a file, or what is refused: TooLarge at offset 0, else NotUtf8 at the first byte that isn't UTF-8,
     /// else BadCharacter at the first character that isn't legal (RFC 7950, section 14, yang-char). The name is what
@@ -78,7 +78,7 @@ impl Source {
     /// The file's text, with its byte order mark where it has one.
     pub fn text(&self) -> &str
         ensures value { result.now ≡ self.now.text }
-        ensures legal { IsLegalText self.now.text }
+        ensures legal { IsLegalFile self.now.text }
     {
         self.text.as_str()
     }
@@ -86,7 +86,7 @@ impl Source {
 
 // The offset of the first character that isn't legal.
 fn first_illegal(text: &str) -> Option<usize>
-    requires { length text.now ≤ 4194304 }
+    requires { length text.now ≤ most_bytes }
     ensures found { IfSome result (IsIllegalAt text.now) }
     ensures within { IfSome result (λ at. at ≤ length text.now) }
     ensures none { IfNone result (IsTrue (list_all is_legal (chars text.now))) }

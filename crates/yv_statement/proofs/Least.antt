@@ -43,9 +43,13 @@ none_next phase Stands before now s h l = elim (cases_lt (phase_of s.code) phase
 
 -- the least of a phase is the least of all, where nothing stands before
 pub least_of_phase : (phase : ℕ) (Stands : Refusal → Type 0) (r : Refusal) → NoneBefore phase Stands → IsLeast (λ r. (phase_of r.code ≡ phase) × Stands r) (Some r) → IsLeast Stands (Some r)
-least_of_phase phase Stands r before h = (h.0.1, λ s q. elim (cases_lt phase (phase_of s.code)) [
-    inl l ↦ inl (let e = h.0.0 in omega arith)
-  | inr e ↦ elim (cases_lt (phase_of s.code) phase) [ inl b ↦ absurd (before s q b) | inr f ↦ h.1 s (omega arith, q) ] ])
+least_of_phase phase Stands r before h = (
+  h.0.1,
+  λ s q. elim (cases_lt phase (phase_of s.code)) [
+    | inl l ↦ inl (let e = h.0.0 in omega arith)
+    | inr e ↦ elim (cases_lt (phase_of s.code) phase) [ inl b ↦ absurd (before s q b) | inr f ↦ h.1 s (omega arith, q) ]
+  ],
+)
 
 pub least_none : (phase : ℕ) (Stands : Refusal → Type 0) → ((s : Refusal) → Stands s → phase_of s.code < phase) → NoneBefore phase Stands → IsLeast Stands None
 least_none phase Stands last none = λ s h. none s h (last s h)
@@ -69,8 +73,9 @@ module _ {X : Type 0} where
   least_more xs P i x a b c at l p q = least_same (λ r. Among xs P i r ⊎ P i x r) (Among xs P (i + 1)) c
       (λ r. ⊎_elim (λ h. (h.0, omega (arith, h.1), h.2, h.3, h.4)) (λ h. (i, omega arith, x, at, h)))
       (λ r h. elim (cases_eq h.0 i) [
-          inl e ↦ inr (let same : h.2 ≡ x = same_Some h.2 x (sym h.3 ∙ ap (slice_get xs) e ∙ at) in subst (λ (n : ℕ). P n x r) e (subst (λ (y : X). P h.0 y r) same h.4))
-        | inr ne ↦ inl (h.0, omega (arith, h.1), h.2, h.3, h.4) ])
+        | inl e ↦ inr (let same : h.2 ≡ x = same_Some h.2 x (sym h.3 ∙ ap (slice_get xs) e ∙ at) in subst (λ (n : ℕ). P n x r) e (subst (λ (y : X). P h.0 y r) same h.4))
+        | inr ne ↦ inl (h.0, omega (arith, h.1), h.2, h.3, h.4)
+      ])
       (least_lesser (Among xs P i) (P i x) a b c l p q)
 
 up_to_by_or : (xs ys : List ℕ) → length xs ≡ length ys → (IsUpToBy xs ys → ⊥) → IsUpToBy ys xs
@@ -78,10 +83,12 @@ up_to_by_or [] [] h f = tt
 up_to_by_or [] (y ∷ ys) h f = absurd (omega (arith, h))
 up_to_by_or (x ∷ xs) [] h f = absurd (omega (arith, h))
 up_to_by_or (x ∷ xs) (y ∷ ys) h f = elim (cases_lt x y) [
-    inl l ↦ absurd (f (inl l))
+  | inl l ↦ absurd (f (inl l))
   | inr l ↦ elim (cases_eq x y) [
-      inl e ↦ inr (sym e, up_to_by_or xs ys (omega (arith, h)) (λ g. f (inr (e, g))))
-    | inr ne ↦ inl (omega arith) ] ]
+    | inl e ↦ inr (sym e, up_to_by_or xs ys (omega (arith, h)) (λ g. f (inr (e, g))))
+    | inr ne ↦ inl (omega arith)
+  ]
+]
 
 pub lesser_first : (a b : Option Refusal) (r s : Refusal) → a ≡ Some r → b ≡ Some s → IsUpTo r s → IsLesser a b (Some r)
 lesser_first a b r s e f h = rw (e, f) (inl (refl, h))

@@ -7,5 +7,5 @@ use Rattle.yv_statement.specs.declared.statement.Statement.TheInside.{Inside}
 abbrev pub seen : Inside → Tree
 seen a = record {
   head = record { keyword = a.keyword.now; argument = option_map (λ s. string_bytes s) a.argument; line = a.line; offset = a.offset };
-  children = forest a.children.items
+  children = forest a.children.items;
 }

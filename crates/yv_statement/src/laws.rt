@@ -7,5 +7,4 @@ ghost use Rattle.yv_statement.specs.Order.{IsUpTo};
 /// refusal.
 pub fn order_tells_refusals_apart()
     ensures { (r s : Refusal) → IsUpTo r s → IsUpTo s r → r ≡ s }
-{
-}
+{}

@@ -158,16 +158,47 @@ impl Code {
         ensures { result ≡ phase_of self }
     {
         match self {
-            Code::NotUtf8 | Code::BadCharacter | Code::BadToken | Code::BadEscape | Code::BadSyntax | Code::TooDeep | Code::TooLarge => 1,
+            Code::NotUtf8
+            | Code::BadCharacter
+            | Code::BadToken
+            | Code::BadEscape
+            | Code::BadSyntax
+            | Code::TooDeep
+            | Code::TooLarge => 1,
             Code::Unsupported | Code::UnknownStatement | Code::Cardinality | Code::BadArgument => 2,
-            Code::DuplicateModule | Code::MissingModule | Code::Revision | Code::ImportCycle | Code::UnknownPrefix | Code::Submodule => 3,
+            Code::DuplicateModule
+            | Code::MissingModule
+            | Code::Revision
+            | Code::ImportCycle
+            | Code::UnknownPrefix
+            | Code::Submodule => 3,
             Code::UnknownFeature | Code::FeatureCycle => 4,
             Code::UnknownIdentity | Code::IdentityCycle => 5,
-            Code::DuplicateName | Code::UnknownType | Code::TypeCycle | Code::UnknownGrouping | Code::GroupingCycle => 6,
+            Code::DuplicateName
+            | Code::UnknownType
+            | Code::TypeCycle
+            | Code::UnknownGrouping
+            | Code::GroupingCycle => 6,
             Code::TooManyNodes => 7,
-            Code::RefineTarget | Code::BadRefine | Code::AugmentTarget | Code::BadAugment | Code::TreeTooDeep => 8,
-            Code::BadRestriction | Code::BadPattern | Code::BadNumbering | Code::BadType | Code::TooManyMembers => 9,
-            Code::DuplicateNode | Code::BadKey | Code::BadUnique | Code::BadConfig | Code::BadDefault | Code::BadMandatory | Code::BadPath | Code::PathCycle | Code::BadOperation => 10,
+            Code::RefineTarget
+            | Code::BadRefine
+            | Code::AugmentTarget
+            | Code::BadAugment
+            | Code::TreeTooDeep => 8,
+            Code::BadRestriction
+            | Code::BadPattern
+            | Code::BadNumbering
+            | Code::BadType
+            | Code::TooManyMembers => 9,
+            Code::DuplicateNode
+            | Code::BadKey
+            | Code::BadUnique
+            | Code::BadConfig
+            | Code::BadDefault
+            | Code::BadMandatory
+            | Code::BadPath
+            | Code::PathCycle
+            | Code::BadOperation => 10,
         }
     }
 
@@ -209,13 +240,7 @@ pub fn lesser(first: Option<Refusal>, second: Option<Refusal>) -> Option<Refusal
     ensures { IsLesser first second result }
 {
     match (first, second) {
-        (Some(r), Some(s)) => {
-            if r.is_up_to(&s) {
-                Some(r)
-            } else {
-                Some(s)
-            }
-        }
+        (Some(r), Some(s)) => { if r.is_up_to(&s) { Some(r) } else { Some(s) } }
         (Some(r), None) => Some(r),
         (None, other) => other,
     }

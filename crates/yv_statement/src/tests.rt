@@ -52,7 +52,14 @@ fn the_lesser_comes_by_phase_file_offset_and_code(rt: HostRuntime) {
 #[test]
 fn controls_and_noncharacters_are_not_legal(rt: HostRuntime) {
     assert!(rt; is_legal_text("a\t\r\n\u{e9}\u{fdf0}\u{10fffd}"));
-    for text in ["a\u{0}", "\u{1f}", "\u{fdd0}", "\u{fdef}", "\u{fffe}", "\u{10ffff}"] {
+    for text in [
+        "a\u{0}",
+        "\u{1f}",
+        "\u{fdd0}",
+        "\u{fdef}",
+        "\u{fffe}",
+        "\u{10ffff}",
+    ] {
         assert!(rt; !is_legal_text(text));
     }
 }

@@ -63,8 +63,8 @@ if_written (Some d) faults = faults d
 abbrev mutual
   pub tree_faults : List Place → Tree → Members → List Flaw
   tree_faults path (node l kids) ms =
-    let here = under path l.member in
-    if_written (get_member l.member ms) (λ d. written l here d (λ inner. unknowns here kids inner ++ forest_faults here kids inner))
+      let here = under path l.member in
+      if_written (get_member l.member ms) (λ d. written l here d (λ inner. unknowns here kids inner ++ forest_faults here kids inner))
 
   pub forest_faults : List Place → Forest → Members → List Flaw
   forest_faults path no_trees ms = []

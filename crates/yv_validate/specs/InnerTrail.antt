@@ -1,7 +1,6 @@
 -- Only private clauses cite this: the way to a node, as the walk keeps it, and the faults of one child.
-use Rattle.std.specs.Prelude.{◌<◌, List, [], ◌∷◌, ◌++◌, length}
-use Rattle.serde_json.specs.Data.{Members}
-use Rattle.serde_json.specs.Find.{get_member}
+use Rattle.std.specs.Prelude.{◌<◌, List, [], ◌∷◌, ◌++◌, length, Option}
+use Rattle.serde_json.specs.Data.{Data}
 use Rattle.yv_schema.specs.declared.node.NodeId.{NodeId}
 use Rattle.yv_schema.specs.Rows.{Rows, row_at, below}
 use Rattle.yv_validate.specs.Place.{Place, Flaw}
@@ -18,8 +17,8 @@ abbrev pub IsWithin : Rows → Trail → Type 0
 IsWithin s Root = Unit {0}
 IsWithin s (Below' p trail id item) = IsWithin s trail × (id.0 < length s.nodes)
 
--- the faults of one child, written or not
-abbrev pub one_child : Rows → List Place → NodeId → Members → List Flaw
-one_child s path c ms =
+-- the faults of one child, written so or not
+abbrev pub child_faults : Rows → List Place → NodeId → Option Data → List Flaw
+child_faults s path c found =
     let l = (row_at s c).label in
-    if_written (get_member l.member ms) (λ d. written l (under path l.member) d (object_faults (under path l.member) (below s c)))
+    if_written found (λ d. written l (under path l.member) d (object_faults (under path l.member) (below s c)))

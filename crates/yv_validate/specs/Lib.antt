@@ -3,5 +3,6 @@ pub mod Faults
 pub mod Size
 pub mod Line
 pub mod InnerTrail
+pub mod InnerWritten
 pub use Rattle.yv_schema.specs.Tree
 pub use Rattle.yv_schema.specs.Rows

@@ -3,12 +3,13 @@
 
 mod count;
 mod fault;
+#[cfg(test)]
+mod tests;
 mod text;
 mod trail;
 mod types;
 mod walk;
-#[cfg(test)]
-mod tests;
+mod written;
 
 pub use count::size;
 pub use fault::{Fault, FaultKind, Report, Step};

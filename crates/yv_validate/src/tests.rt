@@ -60,12 +60,18 @@ fn documents_have_faults(rt: HostRuntime) -> Result<(), Fail> {
         ("{}", ""),
         ("{\"ex:top\":{\"b\":-2147483648,\"c\":false}}", ""),
         ("{\"ex:top\":{\"b\":2147483648}}", "value /ex:top/b;"),
-        ("{\"ex:top\":{\"a\":\"\\u0001\",\"c\":1}}", "value /ex:top/a;value /ex:top/c;"),
+        (
+            "{\"ex:top\":{\"a\":\"\\u0001\",\"c\":1}}",
+            "value /ex:top/a;value /ex:top/c;",
+        ),
         ("{\"ex:top\":{\"b\":3.0}}", "value /ex:top/b;"),
         ("{\"top\":{}}", "unknown /top;"),
         ("{\"ex:top\":{\"ex:a\":\"x\"}}", "unknown /ex:top/ex:a;"),
         ("{\"a b\":1}", "unknown /a%20b;"),
-        ("{\"ex:top\":{\"z\":1,\"b\":\"3\"}}", "unknown /ex:top/z;value /ex:top/b;"),
+        (
+            "{\"ex:top\":{\"z\":1,\"b\":\"3\"}}",
+            "unknown /ex:top/z;value /ex:top/b;",
+        ),
         ("{\"ex:top\":3}", "shape /ex:top;"),
         ("[]", "shape /;"),
     ];

@@ -27,7 +27,7 @@ pub(crate) fn steps_of(
         Trail::Below(parent, id, item) => {
             let mut steps = steps_of(alloc, schema, parent)?;
             steps.push(Step {
-                member: String::from_str(alloc, schema.node(*id).member())?,
+                member: schema.node(*id).member(alloc)?,
                 item: *item,
             })?;
             Ok(steps)

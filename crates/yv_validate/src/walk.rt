@@ -1,16 +1,17 @@
 //! The walk over a document and its schema.
-ghost use Rattle.std.specs.Prelude.{◌≡◌, ◌∷◌, [], ◌++◌, ◌<◌, ◌≤◌, length, IfOk, OnOk, option_map};
-ghost use Rattle.serde_json.specs.Data.{depth as nesting};
+ghost use Rattle.std.specs.Prelude.{◌≡◌, ◌∷◌, [], ◌++◌, ◌<◌, ◌≤◌, length, IfOk, OnOk};
+ghost use Rattle.serde_json.specs.Data.{depth as nesting, no_members};
 ghost use Rattle.serde_json.specs.View.{view, members_view};
-ghost use Rattle.serde_json.specs.Find.{get_member};
 ghost use Rattle.yv_schema.specs.Rows.{row_at, rank, below, whole};
 ghost use Rattle.yv_validate.specs.Size.{size};
-ghost use Rattle.yv_validate.specs.InnerTrail.{places, IsWithin, one_child};
+ghost use Rattle.yv_validate.specs.InnerTrail.{places, IsWithin, child_faults};
+ghost use Rattle.yv_validate.specs.InnerWritten.{value_at, AreWritten};
 ghost use Rattle.yv_validate.specs.Faults.{flaw, unknowns, object_faults, written, under, faults as all_faults};
 
 use crate::fault::{Fault, FaultKind, Report, Step};
 use crate::trail::{Trail, steps_of};
 use crate::types::reads;
+use crate::written::Written;
 use serde_json::{Map, Value};
 use std::alloc::{AllocError, Global};
 use yv_schema::{NodeId, NodeKind, Schema};
@@ -34,12 +35,6 @@ pub fn validate(alloc: Global, schema: &Schema, document: &Value) -> Result<Repo
         _ => walk.tell(FaultKind::Shape, &Trail::Root, &mut faults)?,
     }
     Ok(Report { faults, steps: 0 })
-}
-
-fn member_of<'v>(members: &'v Map<String, Value>, name: &str) -> Option<&'v Value>
-    ensures { option_map (λ v. view v.now) result ≡ get_member name.now (members_view members.now.entries) }
-{
-    members.get(name)
 }
 
 impl Walk<'_> {
@@ -83,26 +78,29 @@ impl Walk<'_> {
         Ok(())
     }
 
-    // The members that name no child.
-    fn unknowns(
+    // Looks up each member: the values of those that name a child, and faults of those that name none.
+    fn look_up<'v>(
         &self,
         parent: NodeId,
-        members: &Map<String, Value>,
+        members: &'v Map<String, Value>,
         trail: &Trail<'_>,
         faults: &mut Vec<Fault>,
-    ) -> Result<(), AllocError>
+    ) -> Result<Written<'v>, AllocError>
         requires node { rank parent ≤ length self.now.schema.now.nodes }
         requires way { IsWithin self.now.schema.now trail.now }
-        ensures { OnOk result (faults.new.items ≡ faults.old.items
+        ensures faults { OnOk result (faults.new.items ≡ faults.old.items
             ++ unknowns (places self.now.schema.now trail.now) (below self.now.schema.now parent)
-                (members_view members.now.entries)) }
+            (members_view members.now.entries)) }
+        ensures written { IfOk result (λ w. AreWritten self.now.schema.now parent w no_members (members_view members.now.entries)) }
     {
-        for (key, _) in members.iter() {
-            if self.schema.find(parent, key.as_str()).is_none() {
-                self.tell_unknown(key.as_str(), trail, faults)?;
+        let mut written = Written::new(self.alloc);
+        for (key, value) in members.iter() {
+            match self.schema.find(parent, key.as_str()) {
+                Some(id) => written.keep(id.number(), value)?,
+                None => self.tell_unknown(key.as_str(), trail, faults)?,
             }
         }
-        Ok(())
+        Ok(written)
     }
 
     #[cycle(walk)]
@@ -117,11 +115,11 @@ impl Walk<'_> {
         requires way { IsWithin self.now.schema.now trail.now }
         ensures { OnOk result (faults.new.items ≡ faults.old.items
             ++ object_faults (places self.now.schema.now trail.now) (below self.now.schema.now parent)
-                (members_view members.now.entries)) }
+            (members_view members.now.entries)) }
     {
-        self.unknowns(parent, members, trail, faults)?;
+        let written = self.look_up(parent, members, trail, faults)?;
         for child in self.schema.children(parent) {
-            self.child(*child, members, trail, faults)?;
+            self.child(*child, &written, trail, faults)?;
         }
         Ok(())
     }
@@ -130,17 +128,16 @@ impl Walk<'_> {
     fn child(
         &self,
         id: NodeId,
-        members: &Map<String, Value>,
+        written: &Written<'_>,
         trail: &Trail<'_>,
         faults: &mut Vec<Fault>,
     ) -> Result<(), AllocError>
         requires node { id.0 < length self.now.schema.now.nodes }
         requires way { IsWithin self.now.schema.now trail.now }
         ensures { OnOk result (faults.new.items ≡ faults.old.items
-            ++ one_child self.now.schema.now (places self.now.schema.now trail.now) id (members_view members.now.entries)) }
+            ++ child_faults self.now.schema.now (places self.now.schema.now trail.now) id (value_at written.now id.0)) }
     {
-        let member = self.schema.node(id).member();
-        if let Some(value) = member_of(members, member) {
+        if let Some(value) = written.get(id.number()) {
             let here = Trail::Below(&*trail, id, None);
             self.node(id, value, &here, faults)?;
         }
@@ -159,7 +156,7 @@ impl Walk<'_> {
         requires way { IsWithin self.now.schema.now trail.now }
         ensures { OnOk result (faults.new.items ≡ faults.old.items
             ++ written (row_at self.now.schema.now id).label (places self.now.schema.now trail.now) (view value.now)
-                (object_faults (places self.now.schema.now trail.now) (below self.now.schema.now id))) }
+            (object_faults (places self.now.schema.now trail.now) (below self.now.schema.now id))) }
     {
         let node = self.schema.node(id);
         match node.kind() {

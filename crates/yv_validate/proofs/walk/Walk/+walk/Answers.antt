@@ -1,23 +1,14 @@
-use Rattle.std.proofs.Common.{◌≡◌, ◌++◌, ◌+◌, drop, slice_index_or, rules, ap, sym, ◌∙◌}
+use Rattle.std.proofs.Common.{All, ◌≡◌, ◌++◌, ◌+◌, drop, slice_index_or, rules, ap, sym, ◌∙◌, subst}
 use Rattle.serde_json.specs.View.{members_view}
 use Rattle.yv_schema.specs.declared.node.NodeId.{NodeId}
-use Rattle.yv_schema.specs.Rows.{forest}
-use Rattle.yv_validate.specs.InnerTrail.{places, one_child}
+use Rattle.yv_schema.specs.Rows.{forest, IsFound}
+use Rattle.yv_validate.specs.InnerTrail.{places, child_faults}
+use Rattle.yv_validate.specs.InnerWritten.{value_at}
+use Rattle.yv_validate.proofs.Kept.{held_at}
+use Rattle.std.proofs.lemmas.List.Elements.{All-get_or}
 use Rattle.yv_validate.specs.Faults.{forest_faults}
-use Rattle.yv_validate.proofs.Written.{faults_drop, written_object, joins}
+use Rattle.yv_validate.proofs.Inside.{faults_drop, written_object, joins}
 use Rattle.yv_validate.proofs.walk.Walk.+walk.Goals as goal
-
-pub child-returns-in_ok-node : goal.child-returns-in_ok-node
-child-returns-in_ok-node t c =
-    let named = c.member-member.ensures ∙ ap (λ r. r.label.member) c.node.ensures.value in
-    let found = rw named at c.in-Some.ensures in
-    rw (← found) c.in_ok-node.ensures
-
-pub child-returns-in_default : goal.child-returns-in_default
-child-returns-in_default t c =
-    let named = c.member-member.ensures ∙ ap (λ r. r.label.member) c.node.ensures.value in
-    let found = rw named at c.in_default.ensures in
-    rw (← found) (search rules)
 
 pub node-returns-in-Object : goal.node-returns-in-Object
 node-returns-in-Object t c =
@@ -29,8 +20,14 @@ pub object-loop-child-preserved : goal.object-loop-child-preserved
 object-loop-child-preserved t c =
     let s = c.args.self.now.schema.now in
     let d : NodeId = record { 0 = 0 } in
-    let step = faults_drop s c.children-child-items.result.now c.loop-child.child-index d (places s c.args.trail.now) (members_view c.args.members.now.entries) c.children-child-items.ensures.trees c.loop-child-test.true in
     let path = places s c.args.trail.now in
     let ms = members_view c.args.members.now.entries in
-    let id = slice_index_or c.children-child-items.result.now c.loop-child.child-index d in
-    joins c.loop-child.faults.items (one_child s path id ms) (forest_faults path (forest s (drop (c.loop-child.child-index + 1) c.children-child-items.result.now)) ms) c.in_ok-child.ensures step c.loop-child.invariant
+    let kids = c.children-child-items in
+    let cs = kids.result.now in
+    let i = c.loop-child.child-index in
+    let id = slice_index_or cs i d in
+    let within : All (IsFound s c.args.parent) cs = subst (λ xs. All (IsFound s c.args.parent) xs) (sym kids.ensures.value) (kids.ensures.sound.found c.args.parent c.requires.node) in
+    let found : IsFound s c.args.parent id = All-get_or (IsFound s c.args.parent) cs i d c.loop-child-test.true within in
+    let is = held_at s c.args.parent (value_at c.in_ok-written.written) ms id c.in_ok-written.ensures.written found in
+    let step = faults_drop s cs i d path ms (value_at c.in_ok-written.written id.0) kids.ensures.trees c.loop-child-test.true is in
+    joins c.loop-child.faults.items (child_faults s path id (value_at c.in_ok-written.written id.0)) (forest_faults path (forest s (drop (i + 1) cs)) ms) c.in_ok-child.ensures step c.loop-child.invariant

@@ -1,0 +1,135 @@
+-- The values of an object's members, one more member at a time.
+use Rattle.std.proofs.Common.{◌≡◌, ℕ, ◌==◌, Bool, true, false, cond, List, [], ◌∷◌, Option, None, Some, ◌⊎◌, inl, inr, refl, sym, ◌∙◌, ap, eqb-true, eq-eqb}
+use Rattle.std.specs.Option.{option_map}
+use Rattle.std.specs.Ordering.{match_ordering}
+use Rattle.std.specs.declared.cmp.Ordering.{Ordering}
+use Rattle.std.specs.Cmp.Lexicographic.{slice_cmp}
+use Rattle.std.specs.Str.{bytes_eq}
+use Rattle.std.proofs.lemmas.Bool.{false≢true}
+use Rattle.std.proofs.lemmas.Map.Text.{is_eq-slice_cmp}
+use Rattle.std.proofs.lemmas.Option.{same_Some}
+use Rattle.std.proofs.lemmas.Slice.Eq.{bytes_eq-Decides}
+use Rattle.serde_json.specs.Data.{Members, no_members, member}
+use Rattle.serde_json.specs.Find.{get_member}
+use Rattle.yv_schema.specs.declared.node.NodeId.{NodeId}
+use Rattle.yv_schema.specs.Rows.{Rows, row_at, named, children_of, IsFound}
+use Rattle.std.specs.Bool.{one_answer}
+use Rattle.std.specs.Ordering.{nat_cmp, is_eq}
+use Rattle.std.specs.declared.cmp.Ordering.TheVariants.{Less, Equal, Greater}
+use Rattle.std.specs.Cmp.{Equal-is, nat_cmp_is}
+use Rattle.std.specs.BTreeMap.{BTreeMap, UpdatesBy, get_by}
+use Rattle.std.proofs.lemmas.Map.Lookups.{exact_unsigned}
+use Rattle.serde_json.specs.Data.{Data}
+use Rattle.serde_json.specs.View.{view}
+use Rattle.serde_json.specs.declared.value.Value.{Value}
+use denote.Ref.{Bor}
+use Rattle.yv_validate.specs.InnerWritten.{first_of, kept, AreHeld}
+
+abbrev pub seen_at : BTreeMap ℕ (Bor Value) → ℕ → Option Data
+seen_at m n = option_map (λ v. view v.now) (get_by (nat_cmp n) m)
+
+is_eq_nat : (a b : ℕ) → is_eq (nat_cmp a b) ≡ (a == b)
+is_eq_nat a b = one_answer (is_eq (nat_cmp a b)) (a == b)
+    (λ h. exact_unsigned a b ((Equal-is (nat_cmp a b)).0 h), λ e. (Equal-is (nat_cmp a b)).1 (sym (nat_cmp_is a b Equal e)))
+    (λ h. eqb-true a b h, λ e. eq-eqb a b e)
+
+chosen : (b : Bool) (v : Bor Value) (x : Option (Bor Value)) → (b ≡ true → option_map (λ (y : Bor Value). view y.now) x ≡ None)
+    → option_map (λ (y : Bor Value). view y.now) (cond b (Some v) x) ≡ first_of (option_map (λ (y : Bor Value). view y.now) x) (cond b (Some (view v.now)) None)
+chosen true v x h = ap (λ o. first_of o (Some (view v.now))) (sym (h refl))
+chosen false v None h = refl
+chosen false v (Some y) h = refl
+
+-- a value at a number that had none
+pub kept_new : (old new : BTreeMap ℕ (Bor Value)) (number : ℕ) (v : Bor Value) → seen_at old number ≡ None
+    → UpdatesBy nat_cmp (λ k. nat_cmp number k) old new (Some v) → (n : ℕ) → seen_at new n ≡ kept (seen_at old) number (view v.now) n
+kept_new old new number v none u n =
+    ap (option_map (λ (y : Bor Value). view y.now)) (u.0 n ∙ ap (λ b. cond b (Some v) (get_by (nat_cmp n) old)) (is_eq_nat number n))
+    ∙ chosen (number == n) v (get_by (nat_cmp n) old) (λ e. ap (seen_at old) (sym (eqb-true number n e)) ∙ none)
+
+stays : (b : Bool) (d : Data) (x : Option Data) → (b ≡ true → (y : Data) × (x ≡ Some y)) → x ≡ first_of x (cond b (Some d) None)
+stays true d None h = absurd (let e = (h refl).1 in cc)
+stays true d (Some y) h = refl
+stays false d None h = refl
+stays false d (Some y) h = refl
+
+-- a number that has a value keeps it
+pub kept_old : (values : ℕ → Option Data) (number : ℕ) (d y : Data) → values number ≡ Some y → (n : ℕ) → values n ≡ kept values number d n
+kept_old values number d y some n = stays (number == n) d (values n) (λ e. (y, ap values (sym (eqb-true number n e)) ∙ some))
+
+by_test : (o : Ordering) (b : Bool) (x y : Option Data) → is_eq o ≡ b → match_ordering o x y x ≡ cond b y x
+by_test Less true x y e = cc
+by_test Less false x y e = refl
+by_test Equal true x y e = refl
+by_test Equal false x y e = cc
+by_test Greater true x y e = cc
+by_test Greater false x y e = refl
+
+-- the first member of a name
+get_first : (name key : List ℕ) (d : Data) (ms : Members) → get_member name (member key d ms) ≡ cond (bytes_eq name key) (Some d) (get_member name ms)
+get_first name key d ms = by_test (slice_cmp nat_cmp name key) (bytes_eq name key) (get_member name ms) (Some d) (is_eq-slice_cmp name key)
+
+named_first : (b : Bool) (c id : NodeId) (rest : Option NodeId) → cond b (Some c) rest ≡ Some id → ((b ≡ true) × (c ≡ id)) ⊎ (rest ≡ Some id)
+named_first true c id rest e = inl (refl, same_Some c id e)
+named_first false c id rest e = inr e
+
+-- a node that is found by a name is called so
+named_member : (s : Rows) (cs : List NodeId) (key : List ℕ) (id : NodeId) → named s cs key ≡ Some id → (row_at s id).label.member ≡ key
+named_member s [] key id e = absurd (let f : None ≡ Some id = e in cc)
+named_member s (c ∷ cs) key id e =
+    elim (named_first (bytes_eq (row_at s c).label.member key) c id (named s cs key) e) [
+      | inl h ↦ ap (λ n. (row_at s n).label.member) (sym h.1) ∙ (bytes_eq-Decides (row_at s c).label.member key).0 h.0
+      | inr h ↦ named_member s cs key id h
+    ]
+
+first_none : (a : Option Data) → first_of a None ≡ a
+first_none None = refl
+first_none (Some x) = refl
+
+first_first : (a b : Option Data) (d : Data) → first_of (first_of a (Some d)) b ≡ first_of a (Some d)
+first_first None b d = refl
+first_first (Some x) b d = refl
+
+one_number : (c d : NodeId) → c.0 ≡ d.0 → c ≡ d
+one_number c d e = λ i. record { 0 = e i }
+
+step_found : (values : Option Data) (d : Data) (rest all : Option Data) (here same : Bool)
+    → (here ≡ true → same ≡ true) → (same ≡ true → here ≡ true) → first_of values (cond here (Some d) rest) ≡ all
+    → first_of (first_of values (cond same (Some d) None)) rest ≡ all
+step_found values d rest all true true f g h = first_first values rest d ∙ h
+step_found values d rest all true false f g h = absurd (false≢true (f refl))
+step_found values d rest all false true f g h = absurd (false≢true (g refl))
+step_found values d rest all false false f g h = ap (λ a. first_of a rest) (first_none values) ∙ h
+
+-- one more member, which names a child
+pub holds_found : (s : Rows) (p : NodeId) (old new : ℕ → Option Data) (key : List ℕ) (d : Data) (rest all : Members) (id : NodeId)
+    → named s (children_of s p) key ≡ Some id → ((n : ℕ) → new n ≡ kept old id.0 d n)
+    → AreHeld s p old (member key d rest) all → AreHeld s p new rest all
+holds_found s p old new key d rest all id is keeps held c found =
+    let m = (row_at s c).label.member in
+    ap (λ a. first_of a (get_member m rest)) (keeps c.0)
+    ∙ step_found (old c.0) d (get_member m rest) (get_member m all) (bytes_eq m key) (id.0 == c.0)
+    (λ e. let one : Some id ≡ Some c = sym is ∙ ap (named s (children_of s p)) (sym ((bytes_eq-Decides m key).0 e)) ∙ found in
+    eq-eqb id.0 c.0 (ap (λ (n : NodeId). n.0) (same_Some id c one)))
+    (λ e. (bytes_eq-Decides m key).1 (ap (λ (n : NodeId). (row_at s n).label.member) (sym (one_number id c (eqb-true id.0 c.0 e))) ∙ named_member s (children_of s p) key id is))
+    (ap (first_of (old c.0)) (sym (get_first m key d rest)) ∙ held c found)
+
+-- one more member, which names none
+pub holds_unknown : (s : Rows) (p : NodeId) (values : ℕ → Option Data) (key : List ℕ) (d : Data) (rest all : Members)
+    → named s (children_of s p) key ≡ None → AreHeld s p values (member key d rest) all → AreHeld s p values rest all
+holds_unknown s p values key d rest all is held c found =
+    let m = (row_at s c).label.member in
+    let other : (b : Bool) → bytes_eq m key ≡ b → first_of (values c.0) (cond b (Some d) (get_member m rest)) ≡ get_member m all → first_of (values c.0) (get_member m rest) ≡ get_member m all
+    = λ b. elim b as (λ b. bytes_eq m key ≡ b → first_of (values c.0) (cond b (Some d) (get_member m rest)) ≡ get_member m all → first_of (values c.0) (get_member m rest) ≡ get_member m all) [
+      | true ↦ λ e h. absurd (let one : None ≡ Some c = sym is ∙ ap (named s (children_of s p)) (sym ((bytes_eq-Decides m key).0 e)) ∙ found in cc)
+      | false ↦ λ e h. h
+    ] in
+    other (bytes_eq m key) refl (ap (first_of (values c.0)) (sym (get_first m key d rest)) ∙ held c found)
+
+-- no values at first
+pub holds_none : (s : Rows) (p : NodeId) (values : ℕ → Option Data) (all : Members) → ((n : ℕ) → values n ≡ None) → AreHeld s p values all all
+holds_none s p values all none c found = ap (λ a. first_of a (get_member (row_at s c).label.member all)) (none c.0)
+
+-- at the end each child has the value of its member
+pub held_at : (s : Rows) (p : NodeId) (values : ℕ → Option Data) (all : Members) (c : NodeId) → AreHeld s p values no_members all → IsFound s p c
+    → values c.0 ≡ get_member (row_at s c).label.member all
+held_at s p values all c held found = sym (first_none (values c.0)) ∙ held c found
