@@ -10,7 +10,7 @@ use Rattle.yv_validate.specs.Place.{Flaw}
 use Rattle.yv_validate.specs.Faults.{faults}
 use Rattle.yv_validate.specs.Line.{line_text}
 use Rattle.yangcheck.specs.Compiles.{Compiled, RefusedAt, Built, FilesCompile}
-use Rattle.yangcheck.specs.Document.{Reading, TooLarge, NotJson, Reads, reading, document_limit}
+use Rattle.yangcheck.specs.Document.{Reading, TooLarge, NotJson, Reads, reading}
 use Rattle.yangcheck.specs.Files.{File}
 use Rattle.yangcheck.specs.Status.{status_of}
 use Rattle.yangcheck.specs.declared.print.Output.{Output}

@@ -7,6 +7,7 @@ mod document;
 mod excerpt;
 mod explain;
 mod input;
+mod laws;
 mod meaning;
 mod print;
 mod program;

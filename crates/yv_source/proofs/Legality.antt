@@ -56,7 +56,7 @@ first_same (x ∷ f) (y ∷ g) r s c d e h k i j =
     let t = first_same f g r s c d q (and_second (is_legal x) (list_all is_legal f) h) (and_second (is_legal y) (list_all is_legal g) k) i j in
     λ n. p n ∷ t n
 
-one_illegal : (text : List ℕ) (a b : ℕ) → IsIllegalAt text a → IsIllegalAt text b → a ≡ b
+pub one_illegal : (text : List ℕ) (a b : ℕ) → IsIllegalAt text a → IsIllegalAt text b → a ≡ b
 one_illegal text a b (f, c, r, e, h, i, p) (g, d, s, e', k, j, q) =
     p ∙ ap (λ l. length (encode_utf8_all l)) (first_same f g r s c d (sym e ∙ e') h k i j) ∙ sym q
 

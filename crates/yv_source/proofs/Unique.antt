@@ -167,11 +167,11 @@ one_outcome front text o u c d =
           ]
     ]
 
-spelled_same : (s t : Tree) → Spelled s ≡ Spelled t → s ≡ t
+pub spelled_same : (s t : Tree) → Spelled s ≡ Spelled t → s ≡ t
 spelled_same s t e = cc
 
 -- an outcome has one refusal at most
-one_refusal : (text : List ℕ) (o : Outcome) (q r : Refusal) → IsRefusalOf text o q → IsRefusalOf text o r → q ≡ r
+pub one_refusal : (text : List ℕ) (o : Outcome) (q r : Refusal) → IsRefusalOf text o q → IsRefusalOf text o r → q ≡ r
 one_refusal text (Spelled t) q r e f = absurd e
 one_refusal text (BadToken at) q r e f = e ∙ sym f
 one_refusal text (BadSyntax at) q r e f = e ∙ sym f

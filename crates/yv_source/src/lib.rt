@@ -5,6 +5,7 @@
 mod escapes;
 mod fault;
 mod identifier;
+pub mod laws;
 mod machine;
 mod place;
 mod quoted;

@@ -1,0 +1,17 @@
+//! Patterns of YANG types (RFC 7950, section 9.4.5): the dialect that is read, and its translation for the crate
+//! `regex`, which decides what matches.
+#![tactic(auto)]
+
+mod category;
+mod character;
+mod class;
+mod count;
+mod mark;
+mod part;
+mod pattern;
+mod place;
+mod reader;
+#[cfg(test)]
+mod tests;
+
+pub use pattern::Pattern;

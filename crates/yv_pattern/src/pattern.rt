@@ -1,0 +1,102 @@
+//! A pattern that texts are held against.
+ghost use Rattle.std.specs.Prelude.{◌≡◌, ◌≢◌, ℕ, List, IfOk, IfErr, MatchOption, string_bytes};
+ghost use Rattle.std.specs.Str.{chars};
+ghost use Rattle.yv_statement.specs.declared.refusal.Stop.TheVariants.{NoMemory};
+ghost use Rattle.yv_pattern.specs.Meaning.{verdict};
+ghost use Rattle.yv_pattern.specs.Spells.{Translates, IsRefusedAs, anchored, bad_pattern};
+
+use crate::reader::translate;
+use regex::{Error, Regex};
+use std::alloc::{AllocError, Global};
+use std::marker::Model;
+use yv_statement::{Code, Refusal, Stop};
+
+/// A pattern that texts are held against. Contracts see it as the bytes of its translation, which is what `regex`
+/// was given.
+#[derive(Drop)]
+pub struct Pattern {
+    regex: Regex,
+}
+
+impl Model for Pattern {
+    ghost use Rattle.std.specs.Prelude.{◌≡◌, ℕ, List};
+    ghost use Rattle.regex.specs.Patterns.{default_config};
+    ghost use Rattle.regex.specs.Strings.{regex_source, regex_config, IsReadFromSource};
+
+    ghost Value = { List ℕ };
+
+    ghost view = { λ p. regex_source p.regex };
+
+    ghost invariant = { λ p. (regex_config p.regex ≡ default_config) × IsReadFromSource p.regex };
+}
+
+impl Pattern {
+    /// Reads the argument of a `pattern` statement. A text outside the dialect is `BadPattern`, with file and
+    /// offset 0 and line 1, since the text's place isn't known here. `PatternBuild` says that `regex` doesn't build
+    /// the translation of a text of the dialect, as where it would take too much room.
+    pub fn read(alloc: Global, text: &str) -> Result<Pattern, Stop>
+        ensures read { IfOk result (Translates text.now) }
+        ensures refused { IfErr result (IsRefusedAs text.now) }
+    {
+        match source_of(alloc, text)? {
+            Some(source) => Pattern::build(alloc, source.as_str()),
+            None => Err(Stop::Fault(bad_pattern())),
+        }
+    }
+
+    /// Whether the whole text matches (RFC 7950, section 9.4.5).
+    pub fn is_match(&self, alloc: Global, text: &str) -> Result<bool, AllocError>
+        ensures { IfOk result (λ found. found ≡ verdict self.now text.now) }
+    {
+        let mut matcher = self.regex.matcher(alloc)?;
+        Ok(matcher.is_match(text))
+    }
+
+    fn build(alloc: Global, source: &str) -> Result<Pattern, Stop>
+        ensures source { IfOk result (λ p. p ≡ source.now) }
+        ensures kind { IfErr result (λ stop. (refusal : Refusal) → stop ≢ Stop.Fault refusal) }
+    {
+        match Regex::new(alloc, source) {
+            Ok(regex) => Ok(Pattern { regex }),
+            Err(Error::OutOfMemory) => Err(Stop::NoMemory),
+            Err(_) => Err(Stop::PatternBuild),
+        }
+    }
+}
+
+fn bad_pattern() -> Refusal
+    ensures { result ≡ bad_pattern }
+{
+    Refusal {
+        code: Code::BadPattern,
+        file: 0,
+        offset: 0,
+        line: 1,
+    }
+}
+
+fn characters_of(alloc: Global, text: &str) -> Result<Vec<char>, AllocError>
+    ensures { IfOk result (λ v. v.items ≡ chars text.now) }
+{
+    text.chars().collect(alloc)
+}
+
+// What `regex` is to match for a text, where it is a pattern.
+fn source_of(alloc: Global, text: &str) -> Result<Option<String>, AllocError>
+    ensures { IfOk result (λ found. MatchOption found ((source : List ℕ) → Translates text.now source → ⊥) (λ s. Translates text.now (string_bytes s))) }
+{
+    let characters = characters_of(alloc, text)?;
+    match translate(alloc, characters.as_slice())? {
+        Some(written) => Ok(Some(anchored(alloc, written.as_str())?)),
+        None => Ok(None),
+    }
+}
+
+fn anchored(alloc: Global, written: &str) -> Result<String, AllocError>
+    ensures { IfOk result (λ s. string_bytes s ≡ anchored written.now) }
+{
+    let mut source = String::from_str(alloc, "\\A(?:")?;
+    source.push_str(written)?;
+    source.push_str(")\\z")?;
+    Ok(source)
+}
