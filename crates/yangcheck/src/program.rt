@@ -10,6 +10,7 @@ use crate::run::run;
 use crate::status::Status;
 use crate::stream::InputFault;
 use std::fs::File;
+use std::io::ErrorKind;
 use std::rt::{Env, Files};
 use std::{env, io};
 use yv_job::{Command, Job, JobFault, read_job};
@@ -21,7 +22,7 @@ pub fn program<R: Env + Files + io::Input + Print + Eprint + AllocGlobal>(rt: &R
             Ok(words) => words,
             Err(_) => return told(rt, Status::NoMemory),
         },
-        Err(_) => return refused(rt, "yangcheck: usage\n"),
+        Err(error) => return without_words(rt, error.kind()),
     };
     match read_job(rt.alloc(), words.as_slice()) {
         Ok(job) => told(rt, done(rt, &job)),
@@ -31,6 +32,15 @@ pub fn program<R: Env + Files + io::Input + Print + Eprint + AllocGlobal>(rt: &R
         }
         Err(JobFault::Usage(text)) => refused(rt, text.as_str()),
         Err(JobFault::NoMemory) => told(rt, Status::NoMemory),
+    }
+}
+
+// Says why the words can't be read: there was no memory, or one isn't UTF-8.
+fn without_words<R: Eprint>(rt: &R, kind: ErrorKind) -> u8 {
+    if kind == ErrorKind::OutOfMemory {
+        told(rt, Status::NoMemory)
+    } else {
+        refused(rt, "yangcheck: usage\n")
     }
 }
 

@@ -1,0 +1,4 @@
+pub mod Grown
+pub mod Kept
+pub mod Mapped
+pub mod Same

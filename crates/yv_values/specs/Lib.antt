@@ -1,0 +1,9 @@
+pub mod Count
+pub mod Numbers
+pub mod Pairs
+pub mod Reads
+pub mod Scopes
+pub mod Sorted
+pub mod Texts
+pub mod Types
+pub mod Values

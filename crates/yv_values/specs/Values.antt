@@ -1,0 +1,41 @@
+-- What a value is (RFC 7950, section 9): its kind and content. Two values are the same where they are one of these.
+use Rattle.std.specs.Prelude.{ℕ, ℤ, pos, negsuc, List, Bool, String, string_bytes, map}
+use Rattle.std.specs.declared.alloc.Global.{Global}
+use Rattle.yv_values.specs.declared.plain.Integer.{Integer}
+use Rattle.yv_values.specs.declared.plain.Integer.TheVariants.{Natural, Below}
+use Rattle.yv_values.specs.declared.value.Atom.{Atom}
+use Rattle.yv_values.specs.declared.value.Atom.TheVariants as atom
+
+-- A decimal is its number of digits behind the point and the number scaled by them. A set of bits is its names, in
+-- ascending order by bytes. An identity is its module and its name.
+pub data Val : Type 0 where
+  whole : ℤ → Val
+  decimal : ℕ → ℤ → Val
+  text : List ℕ → Val
+  boolean : Bool → Val
+  name : List ℕ → Val
+  bits : List (List ℕ) → Val
+  binary : List ℕ → Val
+  identity : List ℕ → List ℕ → Val
+  empty : Val
+
+-- the number that the program writes as a natural one, or as one below zero
+abbrev pub integer : Integer → ℤ
+integer (Natural n) = pos n
+integer (Below n) = negsuc n
+
+-- the bytes of each text
+abbrev pub texts : List (String Global) → List (List ℕ)
+texts ss = map (λ s. string_bytes s) ss
+
+-- the value that the program keeps
+abbrev pub value_of : Atom → Val
+value_of (atom.Whole n) = whole (integer n)
+value_of (atom.Decimal d n) = decimal d (integer n)
+value_of (atom.Text s) = text (string_bytes s)
+value_of (atom.Boolean b) = boolean b
+value_of (atom.Name s) = name (string_bytes s)
+value_of (atom.Bits ss) = bits (texts ss.items)
+value_of (atom.Binary v) = binary v.items
+value_of (atom.Identity m s) = identity (string_bytes m) (string_bytes s)
+value_of atom.Empty = empty

@@ -1,0 +1,70 @@
+//! Values of defaults' texts.
+ghost use Rattle.std.specs.Prelude.{◌≡◌, ◌==◌, IfOk, map, position};
+ghost use Rattle.yv_values.specs.Scopes.{text_value, place_of, truth_of, identity_by};
+ghost use Rattle.yv_values.specs.Types.{plain_of, id_of};
+
+use crate::binary::binary_in;
+use crate::bits::bits_in;
+use crate::decimal::decimal_in;
+use crate::identity::{colon, identity_in};
+use crate::name::name_in;
+use crate::number::based_integer_of;
+use crate::plain::{Member, PlainType};
+use crate::scope::{Scope, module_of};
+use crate::text::text_in;
+use crate::value::Value;
+use crate::whole::whole_among;
+use std::alloc::{AllocError, Global};
+
+/// The value of a `default` statement's text, where the type has one. The scope is that of the file in which it is
+/// written. Whole numbers may be hexadecimal or octal (RFC 7950, section 9.2.1).
+pub fn read_text(
+    alloc: Global,
+    plain: &PlainType,
+    text: &str,
+    scope: &Scope,
+) -> Result<Option<Value>, AllocError>
+    ensures { IfOk result (λ found. found ≡ text_value (plain_of plain.now) text.now (place_of scope.now)) }
+{
+    match plain {
+        PlainType::Whole(whole) => Ok(whole_among(whole, based_integer_of(text.as_bytes()))),
+        PlainType::Decimal(decimal) => Ok(decimal_in(decimal, text.as_bytes())),
+        PlainType::Text(plain) => text_in(alloc, plain, text),
+        PlainType::Boolean => Ok(truth_of(text)),
+        PlainType::Enumeration(names) => name_in(alloc, names, text),
+        PlainType::Bits(names) => bits_in(alloc, names.as_slice(), text),
+        PlainType::Binary(lengths) => binary_in(alloc, lengths, text),
+        PlainType::Identity(members) => identity_by(alloc, members, scope, text.as_bytes()),
+        PlainType::Empty => Ok(None),
+    }
+}
+
+fn truth_of(text: &str) -> Option<Value>
+    ensures { result ≡ truth_of text.now }
+{
+    if text == "true" {
+        Some(Value::boolean(true))
+    } else if text == "false" {
+        Some(Value::boolean(false))
+    } else {
+        None
+    }
+}
+
+fn identity_by(
+    alloc: Global,
+    members: &[Member],
+    scope: &Scope,
+    text: &[u8],
+) -> Result<Option<Value>, AllocError>
+    ensures { IfOk result (λ found. found ≡ identity_by (map id_of members.now)
+        (place_of scope.now) text.now (position (λ b. b == 58) text.now)) }
+{
+    match colon(text) {
+        Some(at) => match module_of(&scope.prefixes, &text[..at]) {
+            Some(module) => identity_in(alloc, members, module, &text[at + 1..]),
+            None => Ok(None),
+        },
+        None => identity_in(alloc, members, scope.module.as_bytes(), text),
+    }
+}

@@ -1,0 +1,70 @@
+//! Values of identityref types.
+ghost use Rattle.std.specs.Prelude.{◌≡◌, ◌==◌, ◌<◌, IfOk, IfSome, length, map, position, string_bytes, true};
+ghost use Rattle.yv_values.specs.Texts.{is_identity, identity_in, identity_at};
+ghost use Rattle.yv_values.specs.Types.{id_of};
+
+use crate::name::is_same;
+use crate::plain::Member;
+use crate::value::{Value, copied};
+use std::alloc::{AllocError, Global};
+
+/// The identity that the text names, where it is one of these: `module:name`, or the plain name of one of the
+/// module.
+pub fn identity_at(
+    alloc: Global,
+    members: &[Member],
+    module: &[u8],
+    text: &[u8],
+) -> Result<Option<Value>, AllocError>
+    ensures { IfOk result (λ found. found ≡ identity_at (map id_of members.now)
+        module.now text.now (position (λ b. b == 58) text.now)) }
+{
+    match colon(text) {
+        Some(at) => identity_in(alloc, members, &text[..at], &text[at + 1..]),
+        None => identity_in(alloc, members, module, text),
+    }
+}
+
+/// The place of the first colon.
+pub fn colon(text: &[u8]) -> Option<usize>
+    ensures place { result ≡ position (λ b. b == 58) text.now }
+    ensures within { IfSome result (λ i. i < length text.now) }
+{
+    text.iter().position(|byte| *byte == b':')
+}
+
+/// The identity of this module and name, where it is one of these.
+pub fn identity_in(
+    alloc: Global,
+    members: &[Member],
+    module: &[u8],
+    name: &[u8],
+) -> Result<Option<Value>, AllocError>
+    ensures { IfOk result (λ found. found ≡ identity_in (map id_of members.now) module.now name.now) }
+{
+    for member in members {
+        if is_identity(member, module, name) {
+            return Ok(Some(value_of(alloc, member)?));
+        }
+    }
+    Ok(None)
+}
+
+fn is_identity(member: &Member, module: &[u8], name: &[u8]) -> bool
+    ensures value { result ≡ is_identity module.now name.now (id_of member.now) }
+    ensures same { result ≡ true →
+        (string_bytes member.now.module ≡ module.now) × (string_bytes member.now.name ≡ name.now) }
+{
+    is_same(member.module.as_bytes(), module) && is_same(member.name.as_bytes(), name)
+}
+
+ghost use Rattle.yv_values.specs.Values.{identity};
+
+fn value_of(alloc: Global, member: &Member) -> Result<Value, AllocError>
+    ensures { IfOk result (λ value.
+        value ≡ identity (string_bytes member.now.module) (string_bytes member.now.name)) }
+{
+    let module = copied(alloc, &member.module)?;
+    let name = copied(alloc, &member.name)?;
+    Ok(Value::identity(module, name))
+}

@@ -1,0 +1,48 @@
+//! The count of steps.
+ghost use Rattle.std.specs.Prelude.{◌≡◌, ◌+◌};
+ghost use Rattle.yv_values.specs.Count.{counted};
+
+use std::marker::Model;
+
+/// The count of a validation's steps. It stops at 2 to the 64 less 1.
+#[derive(Drop)]
+pub struct Meter {
+    steps: u64,
+}
+
+impl Model for Meter {
+    ghost use Rattle.std.specs.Prelude.{ℕ};
+
+    ghost Value = { ℕ };
+
+    ghost view = { λ m. m.steps };
+}
+
+impl Meter {
+    /// A count of no steps.
+    pub fn new() -> Meter
+        ensures { result ≡ 0 }
+    {
+        Meter { steps: 0 }
+    }
+
+    /// The steps so far.
+    pub fn steps(&self) -> u64
+        ensures { result ≡ self.now }
+    {
+        self.steps
+    }
+
+    /// Counts one step: the visit of a schema node at a data node.
+    pub fn visit(&mut self)
+        ensures { self.new ≡ counted (self.old + 1) }
+    {
+        self.add(1);
+    }
+
+    pub(crate) fn add(&mut self, count: u64)
+        ensures { self.new ≡ counted (self.old + count) }
+    {
+        self.steps = self.steps.saturating_add(count);
+    }
+}

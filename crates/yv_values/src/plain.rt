@@ -1,0 +1,120 @@
+//! Plain types.
+ghost use Rattle.std.specs.Prelude.{◌≡◌, IfOk};
+ghost use Rattle.yv_values.specs.Types.{plain_of};
+
+use crate::bit_names::BitNames;
+use std::alloc::AllocError;
+use std::rc::{Rc, RcSlice};
+use yv_pattern::Pattern;
+
+/// A whole number of at most 64 bits besides its sign: `Natural(n)` is n, and `Below(n)` is -1 - n.
+#[derive(Clone, Copy, PartialEq, Eq, PartialOrd, Ord, Drop)]
+pub enum Integer {
+    Natural(u64),
+    Below(u64),
+}
+
+/// The numbers from the low one to the high one, both included.
+#[derive(Clone, Copy, Drop)]
+pub struct Span {
+    pub low: Integer,
+    pub high: Integer,
+}
+
+/// A type of whole numbers: whether JSON writes them as texts, as it does those of 64 bits (RFC 7951, section
+/// 6.1), and the intervals of its range.
+#[derive(Drop)]
+pub struct WholeType {
+    pub is_text: bool,
+    pub spans: RcSlice<Span>,
+}
+
+/// A decimal64: the digits behind the point, and the intervals of the number scaled by them.
+#[derive(Drop)]
+pub struct DecimalType {
+    pub digits: u32,
+    pub spans: RcSlice<Span>,
+}
+
+/// The lengths from the low one to the high one, both included: characters of a string, octets of a binary.
+#[derive(Clone, Copy, Drop)]
+pub struct Lengths {
+    pub low: u64,
+    pub high: u64,
+}
+
+/// A pattern that a string is to match, or not to match where it is inverted (`invert-match`).
+#[derive(Drop)]
+pub struct PatternTest {
+    pub pattern: Rc<Pattern>,
+    pub is_inverted: bool,
+}
+
+/// A string type: its lengths, and its patterns, all of which must pass.
+#[derive(Drop)]
+pub struct TextType {
+    pub lengths: RcSlice<Lengths>,
+    pub patterns: RcSlice<PatternTest>,
+}
+
+/// An identity: the module that defines it, and its name.
+#[derive(Drop)]
+pub struct Member {
+    pub module: String,
+    pub name: String,
+}
+
+/// A type with typedefs, unions and leafrefs followed, so that its values are told by one test. Its lists are shared
+/// by its copies.
+#[derive(Drop)]
+pub enum PlainType {
+    Whole(WholeType),
+    Decimal(DecimalType),
+    Text(TextType),
+    Boolean,
+    /// The names that are values; one whose `if-feature` is false is not among them.
+    Enumeration(RcSlice<String>),
+    Bits(BitNames),
+    Binary(RcSlice<Lengths>),
+    /// The identities that are values.
+    Identity(RcSlice<Member>),
+    Empty,
+}
+
+impl PlainType {
+    /// The same type once more, over the same lists.
+    pub fn copy(&self) -> Result<PlainType, AllocError>
+        ensures { IfOk result (λ copy. plain_of copy ≡ plain_of self.now) }
+    {
+        match self {
+            PlainType::Whole(whole) => Ok(PlainType::Whole(WholeType {
+                is_text: whole.is_text,
+                spans: whole.spans.clone()?,
+            })),
+            PlainType::Decimal(decimal) => Ok(PlainType::Decimal(DecimalType {
+                digits: decimal.digits,
+                spans: decimal.spans.clone()?,
+            })),
+            PlainType::Text(text) => Ok(PlainType::Text(text.copy()?)),
+            PlainType::Boolean => Ok(PlainType::Boolean),
+            PlainType::Enumeration(names) => Ok(PlainType::Enumeration(names.clone()?)),
+            PlainType::Bits(names) => Ok(PlainType::Bits(names.copy()?)),
+            PlainType::Binary(lengths) => Ok(PlainType::Binary(lengths.clone()?)),
+            PlainType::Identity(members) => Ok(PlainType::Identity(members.clone()?)),
+            PlainType::Empty => Ok(PlainType::Empty),
+        }
+    }
+}
+
+ghost use Rattle.std.specs.Rc.{rc_slice_items};
+
+impl TextType {
+    fn copy(&self) -> Result<TextType, AllocError>
+        ensures lengths { IfOk result (λ copy. rc_slice_items copy.lengths ≡ rc_slice_items self.now.lengths) }
+        ensures patterns { IfOk result (λ copy. rc_slice_items copy.patterns ≡ rc_slice_items self.now.patterns) }
+    {
+        let lengths = self.lengths.clone()?;
+        let patterns = self.patterns.clone()?;
+        Ok(TextType { lengths, patterns })
+    }
+}

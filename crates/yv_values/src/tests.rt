@@ -1,0 +1,477 @@
+//! Outside values, and each public call once.
+use crate::*;
+use serde_json::Value as Json;
+use std::alloc::{AllocError, Global};
+use std::rc::{Rc, RcSlice};
+use std::test::Fail;
+use yv_pattern::Pattern;
+
+const MODULE: &str = "ex";
+
+// The value that the types read from a JSON text.
+fn value(alloc: Global, types: &[PlainType], json: &str) -> Result<Option<Value>, Fail> {
+    let json = Json::from_str(alloc, json)?;
+    Ok(check(alloc, &mut Meter::new(), types, MODULE, &json)?)
+}
+
+fn reads(alloc: Global, types: &[PlainType], json: &str) -> Result<bool, Fail> {
+    Ok(value(alloc, types, json)?.is_some())
+}
+
+fn key(alloc: Global, value: Value) -> Result<Tuple, AllocError> {
+    let mut key = Tuple::new(alloc);
+    key.push(value)?;
+    Ok(key)
+}
+
+// Whether an index takes both for one key.
+fn are_same(alloc: Global, one: Option<Value>, other: Option<Value>) -> Result<bool, AllocError> {
+    match (one, other) {
+        (Some(one), Some(other)) => {
+            let mut index = Index::new(alloc);
+            index.keep(key(alloc, one)?, 1)?;
+            Ok(index.within(&mut Meter::new(), &key(alloc, other)?, 1, 1))
+        }
+        _ => Ok(false),
+    }
+}
+
+fn names(alloc: Global, words: &[&str]) -> Result<RcSlice<String>, AllocError> {
+    RcSlice::from_vec(texts(alloc, words)?)
+}
+
+fn bits(alloc: Global, words: &[&str]) -> Result<BitNames, AllocError> {
+    BitNames::new(texts(alloc, words)?)
+}
+
+fn spans(alloc: Global, low: Integer, high: Integer) -> Result<RcSlice<Span>, AllocError> {
+    RcSlice::from_vec(vec![in alloc; Span { low, high }]?)
+}
+
+fn lengths(alloc: Global, low: u64, high: u64) -> Result<RcSlice<Lengths>, AllocError> {
+    RcSlice::from_vec(vec![in alloc; Lengths { low, high }]?)
+}
+
+fn string(
+    alloc: Global,
+    low: u64,
+    high: u64,
+    patterns: Vec<PatternTest>,
+) -> Result<PlainType, AllocError> {
+    let patterns = RcSlice::from_vec(patterns)?;
+    Ok(PlainType::Text(TextType {
+        lengths: lengths(alloc, low, high)?,
+        patterns,
+    }))
+}
+
+fn whole(
+    alloc: Global,
+    is_text: bool,
+    low: Integer,
+    high: Integer,
+) -> Result<Vec<PlainType>, AllocError> {
+    let spans = spans(alloc, low, high)?;
+    Ok(vec![in alloc; PlainType::Whole(WholeType { is_text, spans })]?)
+}
+
+fn decimal(alloc: Global, digits: u32) -> Result<Vec<PlainType>, AllocError> {
+    let most = 9223372036854775807;
+    let spans = spans(alloc, Integer::Below(most), Integer::Natural(most))?;
+    Ok(vec![in alloc; PlainType::Decimal(DecimalType { digits, spans })]?)
+}
+
+fn texts(alloc: Global, words: &[&str]) -> Result<Vec<String>, AllocError> {
+    let mut list = Vec::new(alloc);
+    for word in words {
+        list.push(String::from_str(alloc, word)?)?;
+    }
+    Ok(list)
+}
+
+fn test(alloc: Global, pattern: &str, is_inverted: bool) -> Result<PatternTest, Fail> {
+    let pattern = Rc::new(alloc, Pattern::read(alloc, pattern)?)?;
+    Ok(PatternTest {
+        pattern,
+        is_inverted,
+    })
+}
+
+#[test]
+fn whole_numbers(rt: HostRuntime) -> Result<(), Fail> {
+    let alloc = rt.alloc();
+    let int8 = whole(alloc, false, Integer::Below(127), Integer::Natural(127))?;
+    for (json, is_read) in [
+        ("127", true),
+        ("128", false),
+        ("-128", true),
+        ("-129", false),
+        ("1.0", false),
+        ("\"1\"", false),
+    ] {
+        assert_eq!(rt; reads(alloc, &int8, json)?, is_read, "{json}");
+    }
+    let uint64 = whole(
+        alloc,
+        true,
+        Integer::Natural(0),
+        Integer::Natural(18446744073709551615),
+    )?;
+    let int64 = whole(
+        alloc,
+        true,
+        Integer::Below(9223372036854775807),
+        Integer::Natural(9223372036854775807),
+    )?;
+    let rows = [
+        ("\"18446744073709551615\"", true, false),
+        ("\"18446744073709551616\"", false, false),
+        ("\"9223372036854775807\"", true, true),
+        ("\"9223372036854775808\"", true, false),
+        ("\"-9223372036854775808\"", false, true),
+        ("\"-9223372036854775809\"", false, false),
+        ("\"-0\"", true, true),
+        ("\"+5\"", true, true),
+        ("\"0x1\"", false, false),
+        ("\"\"", false, false),
+        ("\"-\"", false, false),
+        ("1", false, false),
+    ];
+    for (json, is_unsigned, is_signed) in rows {
+        assert_eq!(rt; reads(alloc, &uint64, json)?, is_unsigned, "{json}");
+        assert_eq!(rt; reads(alloc, &int64, json)?, is_signed, "{json}");
+    }
+    assert!(rt;
+        are_same(
+            alloc,
+            value(alloc, &int64, "\"010\"")?,
+            value(alloc, &int64, "\"10\"")?
+        )?
+    );
+    Ok(())
+}
+
+#[test]
+fn decimals(rt: HostRuntime) -> Result<(), Fail> {
+    let alloc = rt.alloc();
+    let longest = decimal(alloc, 18)?;
+    assert!(rt; reads(alloc, &longest, "\"9.223372036854775807\"")?);
+    assert!(rt; !reads(alloc, &longest, "\"9.223372036854775808\"")?);
+    assert!(rt; reads(alloc, &longest, "\"-9.223372036854775808\"")?);
+    let cents = decimal(alloc, 2)?;
+    for (json, is_read) in [
+        ("\"3.14\"", true),
+        ("\"1.000\"", true),
+        ("\"1.001\"", false),
+        ("\"1.\"", false),
+        ("\".5\"", false),
+        ("3.14", false),
+    ] {
+        assert_eq!(rt; reads(alloc, &cents, json)?, is_read, "{json}");
+    }
+    assert!(rt;
+        are_same(
+            alloc,
+            value(alloc, &cents, "\"1.0\"")?,
+            value(alloc, &cents, "\"1.00\"")?
+        )?
+    );
+    assert!(rt;
+        !are_same(
+            alloc,
+            value(alloc, &cents, "\"1\"")?,
+            value(alloc, &decimal(alloc, 1)?, "\"1\"")?
+        )?
+    );
+    Ok(())
+}
+
+// The examples of RFC 7950, section 9.4.7.
+#[test]
+fn strings(rt: HostRuntime) -> Result<(), Fail> {
+    let alloc = rt.alloc();
+    let patterns = vec![in alloc; test(alloc, "[0-9a-fA-F]*", false)?]?;
+    let types = vec![in alloc; string(alloc, 0, 4, patterns)?]?;
+    for (json, is_read) in [
+        ("\"AB\"", true),
+        ("\"9A00\"", true),
+        ("\"00ABAB\"", false),
+        ("\"xx00\"", false),
+        ("5", false),
+    ] {
+        assert_eq!(rt; reads(alloc, &types, json)?, is_read, "{json}");
+    }
+    let patterns = vec![in alloc;
+        test(alloc, "[a-zA-Z_][a-zA-Z0-9\\-_.]*", false)?,
+        test(alloc, "[xX][mM][lL].*", true)?,
+    ]?;
+    let types = vec![in alloc; string(alloc, 1, 64, patterns)?]?;
+    for (json, is_read) in [
+        ("\"enabled\"", true),
+        ("\"10-mbit\"", false),
+        ("\"xml-element\"", false),
+    ] {
+        assert_eq!(rt; reads(alloc, &types, json)?, is_read, "{json}");
+    }
+    let types = vec![in alloc; string(alloc, 1, 1, Vec::new(alloc))?]?;
+    for (json, is_read) in [
+        ("\"\u{e9}\"", true),
+        ("\"\\t\"", true),
+        ("\"\\u0001\"", false),
+        ("\"\\uffff\"", false),
+    ] {
+        assert_eq!(rt; reads(alloc, &types, json)?, is_read, "{json}");
+    }
+    Ok(())
+}
+
+// The bits of RFC 7950, section 9.7.5.
+#[test]
+fn names_and_bits(rt: HostRuntime) -> Result<(), Fail> {
+    let alloc = rt.alloc();
+    let types = vec![in alloc; PlainType::Enumeration(names(alloc, &["zero", "one", "seven"])?)]?;
+    for (json, is_read) in [("\"seven\"", true), ("\"two\"", false), ("1", false)] {
+        assert_eq!(rt; reads(alloc, &types, json)?, is_read, "{json}");
+    }
+    let types = vec![in alloc;
+        PlainType::Bits(bits(alloc, &["disable-nagle", "auto-sense-speed", "ten-Mb-only"])?),
+    ]?;
+    let rows = [
+        ("\"disable-nagle ten-Mb-only\"", true),
+        ("\"ten-Mb-only   disable-nagle\"", true),
+        ("\"\"", true),
+        ("\" ten-Mb-only\"", false),
+        ("\"ten-Mb-only \"", false),
+        ("\" \"", false),
+        ("\"ten-Mb-only ten-Mb-only\"", false),
+        ("\"ten-Mb-only\\tdisable-nagle\"", false),
+        ("\"ten\"", false),
+    ];
+    for (json, is_read) in rows {
+        assert_eq!(rt; reads(alloc, &types, json)?, is_read, "{json}");
+    }
+    let one = value(alloc, &types, "\"disable-nagle ten-Mb-only\"")?;
+    assert!(rt;
+        are_same(
+            alloc,
+            one,
+            value(alloc, &types, "\"ten-Mb-only disable-nagle\"")?
+        )?
+    );
+    Ok(())
+}
+
+#[test]
+fn binaries_booleans_and_empty(rt: HostRuntime) -> Result<(), Fail> {
+    let alloc = rt.alloc();
+    let types = vec![in alloc; PlainType::Binary(lengths(alloc, 3, 3)?)]?;
+    for (json, is_read) in [
+        ("\"YWJj\"", true),
+        ("\"YWI=\"", false),
+        ("\"YWI\"", false),
+        ("\"YW Jj\"", false),
+    ] {
+        assert_eq!(rt; reads(alloc, &types, json)?, is_read, "{json}");
+    }
+    let types = vec![in alloc; PlainType::Boolean]?;
+    for (json, is_read) in [
+        ("true", true),
+        ("false", true),
+        ("\"true\"", false),
+        ("1", false),
+    ] {
+        assert_eq!(rt; reads(alloc, &types, json)?, is_read, "{json}");
+    }
+    let types = vec![in alloc; PlainType::Empty]?;
+    for (json, is_read) in [
+        ("[null]", true),
+        ("[]", false),
+        ("null", false),
+        ("[null,null]", false),
+        ("\"\"", false),
+    ] {
+        assert_eq!(rt; reads(alloc, &types, json)?, is_read, "{json}");
+    }
+    Ok(())
+}
+
+fn member(alloc: Global, module: &str, name: &str) -> Result<Member, AllocError> {
+    Ok(Member {
+        module: String::from_str(alloc, module)?,
+        name: String::from_str(alloc, name)?,
+    })
+}
+
+fn identities(alloc: Global) -> Result<Vec<PlainType>, AllocError> {
+    let members = RcSlice::from_vec(vec![in alloc;
+        member(alloc, "iana-if-type", "ethernetCsmacd")?,
+        member(alloc, MODULE, "loop")?,
+    ]?)?;
+    Ok(vec![in alloc; PlainType::Identity(members)]?)
+}
+
+// The names are those of RFC 7951, section 6.8.
+#[test]
+fn identities_by_module(rt: HostRuntime) -> Result<(), Fail> {
+    let alloc = rt.alloc();
+    let types = identities(alloc)?;
+    let rows = [
+        ("\"iana-if-type:ethernetCsmacd\"", true),
+        ("\"ethernetCsmacd\"", false),
+        ("\"ex:ethernetCsmacd\"", false),
+        ("\"iana-if-type:interface-type\"", false),
+        ("\"loop\"", true),
+        ("\"ex:loop\"", true),
+        ("\":loop\"", false),
+    ];
+    for (json, is_read) in rows {
+        assert_eq!(rt; reads(alloc, &types, json)?, is_read, "{json}");
+    }
+    assert!(rt;
+        are_same(
+            alloc,
+            value(alloc, &types, "\"loop\"")?,
+            value(alloc, &types, "\"ex:loop\"")?
+        )?
+    );
+    let Some(plain) = types.first() else {
+        return Ok(());
+    };
+    let copies = vec![in alloc; plain.copy()?]?;
+    assert!(rt; reads(alloc, &copies, "\"loop\"")?);
+    Ok(())
+}
+
+// The union of RFC 7951, section 6.10: an integer, then a text.
+#[test]
+fn the_first_member_that_reads(rt: HostRuntime) -> Result<(), Fail> {
+    let alloc = rt.alloc();
+    let mut types = whole(alloc, false, Integer::Natural(0), Integer::Natural(65535))?;
+    types.push(string(alloc, 0, 18446744073709551615, Vec::new(alloc))?)?;
+    let mut meter = Meter::new();
+    for (json, is_read, steps) in [("13", true, 1), ("\"13.5\"", true, 3), ("13.5", false, 5)] {
+        let json = Json::from_str(alloc, json)?;
+        let found = check(alloc, &mut meter, &types, MODULE, &json)?;
+        assert_eq!(rt; found.is_some(), is_read);
+        assert_eq!(rt; meter.steps(), steps);
+    }
+    Ok(())
+}
+
+fn scope(alloc: Global) -> Result<Scope, AllocError> {
+    let prefix = (
+        String::from_str(alloc, "ianaift")?,
+        String::from_str(alloc, "iana-if-type")?,
+    );
+    Ok(Scope {
+        module: String::from_str(alloc, MODULE)?,
+        prefixes: vec![in alloc; prefix]?,
+    })
+}
+
+fn default_value(
+    alloc: Global,
+    types: &[PlainType],
+    text: &str,
+) -> Result<Option<Value>, AllocError> {
+    match types.first() {
+        Some(plain) => read_text(alloc, plain, text, &scope(alloc)?),
+        None => Ok(None),
+    }
+}
+
+#[test]
+fn whole_numbers_of_defaults(rt: HostRuntime) -> Result<(), Fail> {
+    let alloc = rt.alloc();
+    let types = whole(alloc, true, Integer::Below(127), Integer::Natural(255))?;
+    let rows = [
+        ("0xfF", "255"),
+        ("017", "15"),
+        ("-0x10", "-16"),
+        ("+07", "7"),
+        ("-010", "-8"),
+        ("0", "0"),
+        ("00", "0"),
+        ("9", "9"),
+    ];
+    for (text, number) in rows {
+        let number = format!(in alloc; "\"{number}\"")?;
+        let read = default_value(alloc, &types, text)?;
+        assert!(rt;
+            are_same(alloc, read, value(alloc, &types, number.as_str())?)?,
+            "{text}"
+        );
+    }
+    for text in ["08", "0x", "0X1", "x1", "", "-", "256", "1.0", "0xg"] {
+        assert!(rt; default_value(alloc, &types, text)?.is_none(), "{text}");
+    }
+    Ok(())
+}
+
+#[test]
+fn other_defaults(rt: HostRuntime) -> Result<(), Fail> {
+    let alloc = rt.alloc();
+    let rows = [
+        (vec![in alloc; PlainType::Boolean]?, "true", "True"),
+        (
+            vec![in alloc; PlainType::Bits(bits(alloc, &["a", "b"])?)]?,
+            "b a",
+            "c",
+        ),
+        (
+            vec![in alloc; PlainType::Enumeration(names(alloc, &["a"])?)]?,
+            "a",
+            "b",
+        ),
+        (
+            vec![in alloc; PlainType::Binary(lengths(alloc, 0, 2)?)]?,
+            "YWI=",
+            "YWJj",
+        ),
+        (decimal(alloc, 1)?, "-1.5", "1.55"),
+        (
+            identities(alloc)?,
+            "ianaift:ethernetCsmacd",
+            "iana-if-type:ethernetCsmacd",
+        ),
+        (identities(alloc)?, "loop", "ethernetCsmacd"),
+    ];
+    for (types, text, other) in rows {
+        assert!(rt; default_value(alloc, &types, text)?.is_some(), "{text}");
+        assert!(rt; default_value(alloc, &types, other)?.is_none(), "{other}");
+    }
+    assert!(rt; default_value(alloc, &vec![in alloc; PlainType::Empty]?, "")?.is_none());
+    Ok(())
+}
+
+#[test]
+fn an_index_keeps_places(rt: HostRuntime) -> Result<(), Fail> {
+    let alloc = rt.alloc();
+    let types = decimal(alloc, 2)?;
+    let Some(one) = value(alloc, &types, "\"1.5\"")? else {
+        return Ok(());
+    };
+    let mut meter = Meter::new();
+    let mut index = Index::new(alloc);
+    assert_eq!(rt;
+        index.keep_first(&mut meter, key(alloc, one.copy(alloc)?)?, 7)?,
+        None
+    );
+    assert_eq!(rt;
+        index.keep_first(&mut meter, key(alloc, one.copy(alloc)?)?, 9)?,
+        Some(7)
+    );
+    index.keep(key(alloc, one.copy(alloc)?)?, 4)?;
+    assert_eq!(rt;
+        index.keep_first(&mut meter, key(alloc, one.copy(alloc)?)?, 9)?,
+        Some(4)
+    );
+    let sought = key(alloc, one)?;
+    assert!(rt; index.within(&mut meter, &sought, 4, 4));
+    assert!(rt; index.within(&mut meter, &sought, 5, 7));
+    assert!(rt; !index.within(&mut meter, &sought, 5, 6));
+    assert!(rt; !index.within(&mut meter, &Tuple::new(alloc), 0, 9));
+    meter.visit();
+    assert_eq!(rt; meter.steps(), 8);
+    Ok(())
+}
