@@ -1,11 +1,14 @@
 -- What the files of a run come to, in the words of the layers below.
-use Rattle.std.specs.Prelude.{ℕ, List, [], ◌∷◌, Some, None}
+use Rattle.std.specs.Prelude.{◌≡◌, ℕ, List, take, Some, None, slice_get, ◌⊎◌}
+use Rattle.std.specs.List.{AllZip}
 use Rattle.yv_statement.specs.Tree.{Tree}
 use Rattle.yv_statement.specs.Order.{IsLeast}
 use Rattle.yv_statement.specs.declared.refusal.Refusal.{Refusal}
 use Rattle.yv_source.specs.Answer.{IsBadFile, IsSpelled, IsRefused}
 use Rattle.yv_source.specs.Legal.{IsLegalFile}
+use Rattle.yv_selection.specs.Choice.{Choice}
 use Rattle.yv_schema.specs.Tree.{Forest}
+use Rattle.yv_schema.specs.Truth.{IsTruth, Truth}
 use Rattle.yv_schema.specs.Module.{schema_of}
 use Rattle.yv_schema.specs.Refuses.{Refuses}
 use Rattle.yangcheck.specs.Files.{File}
@@ -15,20 +18,25 @@ pub data Compiled : Type 0 where
   RefusedAt : Refusal → Compiled
   Built : Forest → Compiled
 
--- what a file of these bytes comes to: it is no text, or its text spells no statement, or the statement is refused,
--- or it gives its schema tree
-pub data Compiles (bytes : List ℕ) : Compiled → Type 0 where
-  no_text : {r : Refusal} → IsBadFile bytes r → Compiles bytes (RefusedAt r)
-  no_statement : {r : Refusal} → IsLegalFile bytes → IsRefused bytes r → Compiles bytes (RefusedAt r)
-  no_schema : {r : Refusal} (t : Tree) → IsLegalFile bytes → IsSpelled bytes t → IsLeast (Refuses t) (Some r) → Compiles bytes (RefusedAt r)
-  schema : (t : Tree) → IsLegalFile bytes → IsSpelled bytes t → IsLeast (Refuses t) None → Compiles bytes (Built (schema_of t))
+-- a file's bytes are a legal text that spells this statement
+abbrev pub IsRead : File → Tree → Type 0
+IsRead f t = IsLegalFile f.bytes × IsSpelled f.bytes t
 
--- what the files come to: this version takes one
-abbrev pub FilesCompile : List File → Compiled → Type 0
-FilesCompile [] c = ⊥
-FilesCompile (f ∷ []) c = Compiles f.bytes c
-FilesCompile (f ∷ g ∷ fs) c = ⊥
+-- a file's bytes are no legal text, or one that spells no statement
+abbrev pub IsUnread : File → Refusal → Type 0
+IsUnread f r = IsBadFile f.bytes r ⊎ (IsLegalFile f.bytes × IsRefused f.bytes r)
+
+-- a refusal of one file, told of the file of this number
+abbrev pub in_file : ℕ → Refusal → Refusal
+in_file n r = record { code = r.code; file = n; offset = r.offset; line = r.line }
+
+-- What files come to under a choice: one of them can't be read, though those before it can; or their statements are
+-- refused; or they give their schema tree, by the truth of their conditions.
+pub data FilesCompile (choice : Choice) (files : List File) : Compiled → Type 0 where
+  unread : {r : Refusal} (n : ℕ) (f : File) (ts : List Tree) → AllZip IsRead (take n files) ts → slice_get files n ≡ Some f → IsUnread f r → FilesCompile choice files (RefusedAt (in_file n r))
+  refused : {r : Refusal} (ts : List Tree) → AllZip IsRead files ts → IsLeast (Refuses choice ts) (Some r) → FilesCompile choice files (RefusedAt r)
+  built : (ts : List Tree) (truth : Truth) → AllZip IsRead files ts → IsLeast (Refuses choice ts) None → IsTruth ts choice truth → FilesCompile choice files (Built (schema_of truth choice ts))
 
 -- the files come to some schema tree
-abbrev pub GiveSchema : List File → Type 0
-GiveSchema files = (ts : Forest) × FilesCompile files (Built ts)
+abbrev pub GiveSchema : Choice → List File → Type 0
+GiveSchema choice files = (ts : Forest) × FilesCompile choice files (Built ts)

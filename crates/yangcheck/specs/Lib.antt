@@ -5,4 +5,5 @@ pub mod Excerpt
 pub mod Status
 pub mod Compiles
 pub mod Output
+pub mod InnerParsed
 pub mod InnerRun

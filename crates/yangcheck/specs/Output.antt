@@ -1,10 +1,12 @@
 -- What a run writes, and how it ends.
-use Rattle.std.specs.Prelude.{◌≡◌, ℕ, List, [], ◌∷◌, ◌++◌, length, take, flat_map, codes, IfSome, string_bytes}
+use Rattle.std.specs.Prelude.{◌≡◌, ℕ, List, [], ◌∷◌, ◌++◌, length, take, flat_map, codes, IfSome, string_bytes, slice_get}
 use Rattle.std.specs.declared.option.Option.{Option}
+use Rattle.std.specs.declared.option.Option.TheVariants.{Some, None}
 use Rattle.std.specs.Fmt.{decimal}
 use Rattle.std.specs.Io.KnownBytes.{Appends}
 use Rattle.yv_statement.specs.Codes.{name_of}
 use Rattle.yv_statement.specs.declared.refusal.Refusal.{Refusal}
+use Rattle.yv_selection.specs.Choice.{Choice}
 use Rattle.yv_schema.specs.Tree.{Forest}
 use Rattle.yv_validate.specs.Place.{Flaw}
 use Rattle.yv_validate.specs.Faults.{faults}
@@ -28,14 +30,14 @@ pub record Printed : Type 0 where
 abbrev pub ended_line : List ℕ → List ℕ
 ended_line text = text ++ 10 ∷ []
 
--- the name of the file, or of the first of several
-abbrev pub file_name : List File → List ℕ
-file_name [] = []
-file_name (f ∷ fs) = f.name
+-- the name of a file, where there is one
+abbrev pub name_of_file : Option File → List ℕ
+name_of_file None = []
+name_of_file (Some f) = f.name
 
 -- FILE:LINE: NAME
 abbrev pub refusal_line : List File → Refusal → List ℕ
-refusal_line files r = ended_line (file_name files ++ (58 ∷ decimal r.line ++ codes ": " ++ name_of r.code))
+refusal_line files r = ended_line (name_of_file (slice_get files r.file) ++ (58 ∷ decimal r.line ++ codes ": " ++ name_of r.code))
 
 -- a line for each fault
 abbrev pub fault_lines : List Flaw → List ℕ
@@ -66,31 +68,31 @@ abbrev pub compiled_printed : List File → Compiled → List ℕ → Printed
 compiled_printed files (RefusedAt r) given = record { text = refusal_line files r; verdict = Refused }
 compiled_printed files (Built ts) given = data_printed ts given
 
--- what a run over these files prints, where the document's bytes are `given`
-abbrev pub IsOutput : List File → List ℕ → Printed → Type 0
-IsOutput files given p = (c : Compiled) × FilesCompile files c × (p ≡ compiled_printed files c given)
+-- what a run over these files prints under a choice, where the document's bytes are `given`
+abbrev pub IsOutput : Choice → List File → List ℕ → Printed → Type 0
+IsOutput choice files given p = (c : Compiled) × FilesCompile choice files c × (p ≡ compiled_printed files c given)
 
 -- the bytes that a reader gives, up to one more than a document may have, where they are known
 abbrev pub Gives : Option (List ℕ) → List ℕ → Type 0
 Gives known given = IfSome known (λ xs. given ≡ take 16777217 xs)
 
 -- it prints this for some bytes, which are those that the reader gives where they are known
-pub record PrintsFor (known : Option (List ℕ)) (files : List File) (p : Printed) : Type 0 where
+pub record PrintsFor (known : Option (List ℕ)) (choice : Choice) (files : List File) (p : Printed) : Type 0 where
   pub given : List ℕ
   pub gives : Gives known given
-  pub output : IsOutput files given p
+  pub output : IsOutput choice files given p
 
 -- the whole output was appended to what the writer holds, and the status fits it
-pub record WritesAll (known : Option (List ℕ)) (files : List File) (status : Status) (old new : Option (List ℕ)) : Type 0 where
+pub record WritesAll (known : Option (List ℕ)) (choice : Choice) (files : List File) (status : Status) (old new : Option (List ℕ)) : Type 0 where
   pub printed : Printed
-  pub prints : PrintsFor known files printed
+  pub prints : PrintsFor known choice files printed
   pub appended : Appends old new printed.text
   pub fits : status ≡ status_of printed.verdict
 
 -- the first bytes of the output were
-pub record WritesFront (known : Option (List ℕ)) (files : List File) (old new : Option (List ℕ)) : Type 0 where
+pub record WritesFront (known : Option (List ℕ)) (choice : Choice) (files : List File) (old new : Option (List ℕ)) : Type 0 where
   pub printed : Printed
-  pub prints : PrintsFor known files printed
+  pub prints : PrintsFor known choice files printed
   pub count : ℕ
   pub appended : Appends old new (take count printed.text)
 

@@ -1,37 +1,49 @@
-// The schema of a file, through the layers below.
-ghost use Rattle.std.specs.Prelude.{◌≡◌, ◌≢◌, IfOk, Err};
+//! The schema of files, through the layers below.
+ghost use Rattle.std.specs.Prelude.{◌≡◌, ◌≢◌, ◌≤◌, length, map, IfOk, Err};
 ghost use Rattle.yv_statement.specs.declared.refusal.Refusal.{Refusal};
 ghost use Rattle.yv_statement.specs.declared.refusal.Stop.TheVariants.{Fault, PatternBuild};
-ghost use Rattle.yv_source.specs.Legal.{IsLegalFile};
+ghost use Rattle.yv_selection.specs.Choice.{choice_of};
 ghost use Rattle.yv_schema.specs.Rows.{whole};
-ghost use Rattle.yangcheck.specs.Compiles.{Compiles, RefusedAt, Built};
+ghost use Rattle.yangcheck.specs.Compiles.{FilesCompile, RefusedAt, Built};
+ghost use Rattle.yangcheck.specs.Files.{file_of};
+ghost use Rattle.yangcheck.specs.InnerParsed.{AreTexts};
 
+use crate::input::Input;
+use crate::parsed::{Texts, parse_all, read_texts};
 use std::alloc::Global;
 use yv_schema::{Schema, compile};
-use yv_source::{Source, parse};
+use yv_selection::Selection;
 use yv_statement::Stop;
 
-/// The schema of a file of this name and these bytes, or what is refused first.
-pub fn compiled(alloc: Global, name: &str, bytes: &[u8]) -> Result<Schema, Stop>
-    ensures schema { IfOk result (λ s. Compiles bytes.now (Built (whole s))) }
-    ensures refused { (r : Refusal) → result ≡ Err (Fault r) → Compiles bytes.now (RefusedAt r) }
+/// The schema of these files, or what is refused first.
+pub fn compiled(alloc: Global, inputs: &[Input], selection: &Selection) -> Result<Schema, Stop>
+    requires { length inputs.now ≤ 256 }
+    ensures schema { IfOk result (λ s. FilesCompile (choice_of selection.now) (map file_of inputs.now) (Built (whole s))) }
+    ensures refused { (r : Refusal) → result ≡ Err (Fault r) → FilesCompile (choice_of selection.now) (map file_of inputs.now) (RefusedAt r) }
     ensures never_built { result ≢ Err PatternBuild }
 {
-    match Source::new(alloc, name, bytes) {
-        Ok(source) => of_source(alloc, &source),
-        Err(stop) => Err(stop),
-    }
+    let texts = read_texts(alloc, inputs)?;
+    of_texts(alloc, inputs, &texts, selection)
 }
 
-// The schema of a file's text.
-fn of_source(alloc: Global, source: &Source) -> Result<Schema, Stop>
-    requires { IsLegalFile source.now.text }
-    ensures schema { IfOk result (λ s. Compiles source.now.text (Built (whole s))) }
-    ensures refused { (r : Refusal) → result ≡ Err (Fault r) → Compiles source.now.text (RefusedAt r) }
+// The schema of the texts of files.
+fn of_texts(
+    alloc: Global,
+    inputs: &[Input],
+    texts: &Texts,
+    selection: &Selection,
+) -> Result<Schema, Stop>
+    requires few { length inputs.now ≤ 256 }
+    requires texts { AreTexts (map file_of inputs.now) texts.now }
+    ensures schema { IfOk result (λ s. FilesCompile (choice_of selection.now) (map file_of inputs.now) (Built (whole s))) }
+    ensures refused { (r : Refusal) → result ≡ Err (Fault r) → FilesCompile (choice_of selection.now) (map file_of inputs.now) (RefusedAt r) }
     ensures never_built { result ≢ Err PatternBuild }
 {
-    match parse(alloc, source) {
-        Ok(statement) => compile(alloc, &statement),
+    match parse_all(alloc, &texts.sources) {
+        Ok(statements) => match texts.bad {
+            Some(refusal) => Err(Stop::Fault(refusal)),
+            None => compile(alloc, &statements, selection),
+        },
         Err(stop) => Err(stop),
     }
 }

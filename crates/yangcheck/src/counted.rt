@@ -1,4 +1,4 @@
-// A reader or a writer that counts what goes wrong in its calls.
+//! A reader or a writer that counts what goes wrong in its calls.
 ghost use Rattle.std.specs.Prelude.{◌≡◌, ◌≢◌, ◌<◌, length, OnOk, IfOk, IfErr};
 ghost use Rattle.std.specs.IoError.{error_kind};
 ghost use Rattle.std.specs.Io.{ReadsAtMost, WritesAtMost};

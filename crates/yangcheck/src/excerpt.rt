@@ -1,4 +1,4 @@
-// The line of a file at a place, for a reader of standard error.
+//! The line of a file at a place, for a reader of standard error.
 ghost use Rattle.std.specs.Prelude.{◌≡◌, ◌≢◌, ◌≤◌, ◌<◌, ◌+◌, ◌-◌, ◌++◌, ℕ, length, replicate, slice_index, IfOk, OnOk, string_bytes};
 ghost use Rattle.yangcheck.specs.Excerpt.{begins_character, shown_byte, shown as shown_bytes, ShowsPlace};
 

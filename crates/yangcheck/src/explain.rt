@@ -1,6 +1,7 @@
-// What helps a person to mend a file that is refused.
-ghost use Rattle.std.specs.Prelude.{◌≡◌, ◌∷◌, [], IfOk, IfSome, IfNone};
-ghost use Rattle.yangcheck.specs.Compiles.{Compiles, RefusedAt, GiveSchema};
+//! What helps a person to mend a file that is refused.
+ghost use Rattle.std.specs.Prelude.{◌≤◌, length, map, IfOk, IfSome, IfNone};
+ghost use Rattle.yv_selection.specs.Choice.{choice_of};
+ghost use Rattle.yangcheck.specs.Compiles.{FilesCompile, RefusedAt, GiveSchema};
 ghost use Rattle.yangcheck.specs.Files.{file_of};
 
 use crate::compiled::compiled;
@@ -8,14 +9,20 @@ use crate::excerpt::excerpt;
 use crate::input::Input;
 use crate::meaning::meaning;
 use std::alloc::{AllocError, Global};
+use yv_selection::Selection;
 use yv_statement::{Refusal, Stop};
 
-/// What a file is refused for first, where it is.
-pub fn refusal_of(alloc: Global, input: &Input) -> Result<Option<Refusal>, AllocError>
-    ensures refused { IfOk result (λ o. IfSome o (λ r. Compiles (file_of input.now).bytes (RefusedAt r))) }
-    ensures none { IfOk result (λ o. IfNone o (GiveSchema (file_of input.now ∷ []))) }
+/// What the files are refused for first, where they are.
+pub fn refusal_of(
+    alloc: Global,
+    inputs: &[Input],
+    selection: &Selection,
+) -> Result<Option<Refusal>, AllocError>
+    requires { length inputs.now ≤ 256 }
+    ensures refused { IfOk result (λ o. IfSome o (λ r. FilesCompile (choice_of selection.now) (map file_of inputs.now) (RefusedAt r))) }
+    ensures none { IfOk result (λ o. IfNone o (GiveSchema (choice_of selection.now) (map file_of inputs.now))) }
 {
-    match compiled(alloc, input.name.as_str(), input.bytes.as_slice()) {
+    match compiled(alloc, inputs, selection) {
         Ok(_) => Ok(None),
         Err(Stop::Fault(refusal)) => Ok(Some(refusal)),
         Err(Stop::PatternBuild | Stop::NoMemory) => Err(AllocError),

@@ -1,4 +1,4 @@
-// A file that is read before a run.
+//! A file that is read before a run.
 ghost use Rattle.std.specs.Prelude.{◌≡◌, ◌≤◌, ◌+◌, ◌↔◌, true, length, take, IfOk, IfSome, IsErrOf};
 ghost use Rattle.std.specs.Io.KnownBytes.{Consumes};
 ghost use Rattle.yangcheck.specs.Files.{file_of, file_limit};

@@ -9,6 +9,7 @@ mod explain;
 mod input;
 mod laws;
 mod meaning;
+mod parsed;
 mod print;
 mod program;
 mod run;

@@ -1,4 +1,4 @@
-// What each refusal means, in one sentence: the first line below its name in docs/REFUSALS.md.
+//! What each refusal means, in one sentence: the first line below its name in docs/REFUSALS.md.
 use yv_statement::Code;
 
 /// What a refusal of this code means in this profile, as one sentence.

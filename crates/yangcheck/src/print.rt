@@ -1,12 +1,12 @@
-// The text of an outcome.
-ghost use Rattle.std.specs.Prelude.{◌≡◌, ◌≤◌, ◌∷◌, [], IfOk, string_bytes};
+//! The text of an outcome.
+ghost use Rattle.std.specs.Prelude.{◌≡◌, ◌≤◌, map, slice_get, IfOk, string_bytes};
 ghost use Rattle.serde_json.specs.Data.{depth};
 ghost use Rattle.serde_json.specs.View.{view};
 ghost use Rattle.yv_schema.specs.Rows.{whole};
 ghost use Rattle.yv_validate.specs.Size.{size};
 ghost use Rattle.yv_validate.specs.Faults.{faults as faults_in};
 ghost use Rattle.yangcheck.specs.Files.{file_of};
-ghost use Rattle.yangcheck.specs.Output.{refusal_line, fault_lines, faults_printed, data_printed, bad_input as bad_input_printed, printed_of};
+ghost use Rattle.yangcheck.specs.Output.{name_of_file, refusal_line, fault_lines, faults_printed, data_printed, bad_input as bad_input_printed, printed_of};
 
 use crate::document::{Document, read_document};
 use crate::input::Input;
@@ -24,14 +24,14 @@ pub struct Output {
     pub verdict: Verdict,
 }
 
-/// The line of a refusal.
-pub fn of_refusal(alloc: Global, input: &Input, refusal: &Refusal) -> Result<Output, AllocError>
+/// The line of a refusal, with the name of its file.
+pub fn of_refusal(alloc: Global, inputs: &[Input], refusal: &Refusal) -> Result<Output, AllocError>
     ensures { IfOk result (λ o. printed_of o ≡ record {
-      text = refusal_line (file_of input.now ∷ []) refusal.now;
+      text = refusal_line (map file_of inputs.now) refusal.now;
       verdict = Verdict.Refused;
     }) }
 {
-    let name = input.name.as_str();
+    let name = name_at(inputs, refusal.file);
     let line = refusal.line;
     let code = refusal.code.name();
     let text = format!(in alloc; "{name}:{line}: {code}\n")?;
@@ -39,6 +39,16 @@ pub fn of_refusal(alloc: Global, input: &Input, refusal: &Refusal) -> Result<Out
         text,
         verdict: Verdict::Refused,
     })
+}
+
+// The name of the file of this number, where there is one.
+fn name_at(inputs: &[Input], file: u32) -> &str
+    ensures { result.now ≡ name_of_file (slice_get (map file_of inputs.now) file) }
+{
+    match inputs.get(file as usize) {
+        Some(input) => input.name.as_str(),
+        None => "",
+    }
 }
 
 /// What is said of a document of these bytes.

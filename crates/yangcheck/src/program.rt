@@ -1,7 +1,7 @@
-// The program over a runtime: its words, its files, its standard streams and its exit status.
-ghost use Rattle.std.specs.Prelude.{◌≡◌, length, IfOk};
+//! The program over a runtime: its words, its files, its standard streams and its exit status.
+ghost use Rattle.std.specs.Prelude.{◌≡◌, ◌≤◌, length, IfOk};
 ghost use Rattle.yangcheck.specs.Status.{exit_of};
-ghost use Rattle.yv_job.specs.Jobs.{HasFiles, HasLimit, ChecksOneFile};
+ghost use Rattle.yv_job.specs.Jobs.{HasFiles, HasLimit, ChecksADocument};
 
 use crate::counted::Counted;
 use crate::explain::{explanation, refusal_of};
@@ -14,6 +14,7 @@ use std::io::ErrorKind;
 use std::rt::{Env, Files};
 use std::{env, io};
 use yv_job::{Command, Job, JobFault, read_job};
+use yv_selection::Selection;
 
 /// Does what the process's arguments ask for, and answers its exit status.
 pub fn program<R: Env + Files + io::Input + Print + Eprint + AllocGlobal>(rt: &R) -> u8 {
@@ -66,7 +67,7 @@ fn told<R: Eprint>(rt: &R, status: Status) -> u8
 fn done<R: Files + io::Input + Print + Eprint + AllocGlobal>(rt: &R, job: &Job) -> Status
     requires files { HasFiles job.now }
     requires limit { HasLimit job.now }
-    requires check { ChecksOneFile job.now }
+    requires check { ChecksADocument job.now }
 {
     let inputs = match inputs(rt, job) {
         Ok(inputs) => inputs,
@@ -75,7 +76,7 @@ fn done<R: Files + io::Input + Print + Eprint + AllocGlobal>(rt: &R, job: &Job) 
     };
     let status = checked(rt, job, inputs.as_slice());
     if status == Status::Refused {
-        explain(rt, inputs.as_slice());
+        explain(rt, inputs.as_slice(), &job.selection);
     }
     status
 }
@@ -89,7 +90,7 @@ fn checked<R: Files + io::Input + Print + AllocGlobal>(
     requires files { HasFiles job.now }
     requires limit { HasLimit job.now }
     requires each { length inputs.now ≡ length job.now.files.items }
-    requires check { ChecksOneFile job.now }
+    requires check { ChecksADocument job.now }
 {
     let Command::Validate(file) = &job.command else {
         unreachable!()
@@ -109,13 +110,14 @@ fn checked<R: Files + io::Input + Print + AllocGlobal>(
 }
 
 // Says on standard error what a refusal means. Where even that fails, nothing is said.
-fn explain<R: Eprint + AllocGlobal>(rt: &R, inputs: &[Input]) {
-    for input in inputs {
-        if let Ok(Some(refusal)) = refusal_of(rt.alloc(), input) {
+fn explain<R: Eprint + AllocGlobal>(rt: &R, inputs: &[Input], selection: &Selection)
+    requires { length inputs.now ≤ 256 }
+{
+    if let Ok(Some(refusal)) = refusal_of(rt.alloc(), inputs, selection) {
+        if let Some(input) = inputs.get(refusal.file as usize) {
             if let Ok(text) = explanation(rt.alloc(), input, &refusal) {
                 let _ = rt.eprint(text.as_str());
             }
-            return;
         }
     }
 }

@@ -1,6 +1,7 @@
-// A run over files that were read: what it writes, and how it ends.
-ghost use Rattle.std.specs.Prelude.{◌≡◌, ◌≢◌, ◌↔◌, ◌⊎◌, ◌∷◌, [], true, map, length, IfOk, IsErrOf};
-ghost use Rattle.yv_job.specs.Jobs.{HasFiles, HasLimit, ChecksOneFile};
+//! A run over files that were read: what it writes, and how it ends.
+ghost use Rattle.std.specs.Prelude.{◌≡◌, ◌≢◌, ◌≤◌, ◌↔◌, ◌⊎◌, true, map, length, IfOk, IsErrOf};
+ghost use Rattle.yv_job.specs.Jobs.{HasFiles, HasLimit, ChecksADocument};
+ghost use Rattle.yv_selection.specs.Choice.{choice_of};
 ghost use Rattle.yv_schema.specs.Rows.{whole};
 ghost use Rattle.yangcheck.specs.Stream.{stream_inner, has_failed, IsFresh};
 ghost use Rattle.yangcheck.specs.Files.{file_of};
@@ -19,6 +20,7 @@ use std::io::{Read, Write};
 use thiserror::Error;
 use yv_job::{Command, Job};
 use yv_schema::Schema;
+use yv_selection::Selection;
 use yv_statement::Stop;
 
 /// Why there is nothing to write.
@@ -59,15 +61,15 @@ pub fn run<R: Read, W: Write>(
     requires files { HasFiles job.now }
     requires limit { HasLimit job.now }
     requires each { length inputs.now ≡ length job.now.files.items }
-    requires taken { ChecksOneFile job.now }
+    requires taken { ChecksADocument job.now }
     requires reader { IsFresh reader.old }
     requires writer { IsFresh writer.old }
-    ensures written { IsFinished result → WritesAll (R.remaining (stream_inner reader.old)) (map file_of inputs.now) result
+    ensures written { IsFinished result → WritesAll (R.remaining (stream_inner reader.old)) (choice_of job.now.selection) (map file_of inputs.now) result
         (W.contents (stream_inner writer.old)) (W.contents (stream_inner writer.new)) }
-    ensures front { result ≡ Status.WriteFault → WritesFront (R.remaining (stream_inner reader.old)) (map file_of inputs.now)
+    ensures front { result ≡ Status.WriteFault → WritesFront (R.remaining (stream_inner reader.old)) (choice_of job.now.selection) (map file_of inputs.now)
         (W.contents (stream_inner writer.old)) (W.contents (stream_inner writer.new)) }
     ensures untouched { IsStopped result → writer.new ≡ writer.old }
-    ensures unread { GiveSchema (map file_of inputs.now) ⊎ (reader.new ≡ reader.old) }
+    ensures unread { GiveSchema (choice_of job.now.selection) (map file_of inputs.now) ⊎ (reader.new ≡ reader.old) }
     ensures read_fault { result ≡ Status.ReadFault ↔ (has_failed reader.new ≡ true) }
     ensures write_fault { result ≡ Status.WriteFault ↔ (has_failed writer.new ≡ true) }
     ensures never_built { result ≢ Status.PatternBuild }
@@ -75,7 +77,7 @@ pub fn run<R: Read, W: Write>(
     let Command::Validate(_) = &job.command else {
         unreachable!()
     };
-    match outcome(alloc, &inputs[0], reader) {
+    match outcome(alloc, inputs, &job.selection, reader) {
         Ok(output) => written(&output, writer),
         Err(Halt::NoMemory) => Status::NoMemory,
         Err(Halt::PatternBuild) => Status::PatternBuild,
@@ -99,16 +101,22 @@ fn written<W: Write>(output: &Output, writer: &mut Counted<W>) -> Status
 }
 
 // What is to be written.
-fn outcome<R: Read>(alloc: Global, input: &Input, reader: &mut Counted<R>) -> Result<Output, Halt>
-    requires { IsFresh reader.old }
-    ensures printed { IfOk result (λ o. PrintsFor (R.remaining (stream_inner reader.old)) (file_of input.now ∷ []) (printed_of o)) }
-    ensures unread { GiveSchema (file_of input.now ∷ []) ⊎ (reader.new ≡ reader.old) }
+fn outcome<R: Read>(
+    alloc: Global,
+    inputs: &[Input],
+    selection: &Selection,
+    reader: &mut Counted<R>,
+) -> Result<Output, Halt>
+    requires few { length inputs.now ≤ 256 }
+    requires reader { IsFresh reader.old }
+    ensures printed { IfOk result (λ o. PrintsFor (R.remaining (stream_inner reader.old)) (choice_of selection.now) (map file_of inputs.now) (printed_of o)) }
+    ensures unread { GiveSchema (choice_of selection.now) (map file_of inputs.now) ⊎ (reader.new ≡ reader.old) }
     ensures fault { IsErrOf result Halt.Read ↔ (has_failed reader.new ≡ true) }
     ensures never_built { IsErrOf result Halt.PatternBuild → ⊥ }
 {
-    match compiled(alloc, input.name.as_str(), input.bytes.as_slice()) {
+    match compiled(alloc, inputs, selection) {
         Ok(schema) => validated(alloc, &schema, reader),
-        Err(Stop::Fault(refusal)) => Ok(of_refusal(alloc, input, &refusal)?),
+        Err(Stop::Fault(refusal)) => Ok(of_refusal(alloc, inputs, &refusal)?),
         Err(Stop::PatternBuild) => Err(Halt::PatternBuild),
         Err(Stop::NoMemory) => Err(Halt::NoMemory),
     }

@@ -1,4 +1,4 @@
-// How a run ended.
+//! How a run ended.
 ghost use Rattle.std.specs.Prelude.{◌≡◌, option_map};
 ghost use Rattle.yangcheck.specs.Status.{status_of, exit_of, complaint_of};
 

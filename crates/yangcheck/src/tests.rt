@@ -1,5 +1,5 @@
-ghost use Rattle.std.specs.Prelude.{IfOk};
-ghost use Rattle.yv_job.specs.Jobs.{HasFiles, HasLimit, ChecksOneFile};
+ghost use Rattle.std.specs.Prelude.{◌≡◌, length, IfOk};
+ghost use Rattle.yv_job.specs.Jobs.{HasFiles, HasLimit, ChecksADocument};
 
 use crate::counted::Counted;
 use crate::document::{Document, read_document};
@@ -13,7 +13,8 @@ use std::alloc::{AllocError, Global};
 use std::io;
 use std::io::{ErrorKind, Read, Write};
 use std::test::Fail;
-use yv_job::{Command, Job, Selection};
+use yv_job::{Command, Job};
+use yv_selection::Selection;
 
 /// Answers so many interruptions, then the data by at most `piece` bytes, then an error where
 /// `breaks`, else the end.
@@ -238,8 +239,9 @@ fn statuses(rt: HostRuntime) {
 // Checks standard input against one file.
 fn job(alloc: Global) -> Result<Job, AllocError>
     ensures files { IfOk result HasFiles }
+    ensures one { IfOk result (λ job. length job.files.items ≡ 1) }
     ensures limit { IfOk result HasLimit }
-    ensures check { IfOk result ChecksOneFile }
+    ensures check { IfOk result ChecksADocument }
 {
     let mut files = Vec::new(alloc);
     files.push(String::from_str(alloc, "ex.yang")?)?;
@@ -247,10 +249,7 @@ fn job(alloc: Global) -> Result<Job, AllocError>
         command: Command::Validate(String::from_str(alloc, "-")?),
         files,
         limit: 100_000,
-        selection: Selection {
-            support: Vec::new(alloc),
-            import_only: Vec::new(alloc),
-        },
+        selection: Selection::everything(alloc),
     })
 }
 
@@ -358,9 +357,10 @@ fn a_refusal_leaves_the_reader(rt: HostRuntime) -> Result<(), Fail> {
     let (status, taken) = ended(alloc, text, reader, writer_of(alloc, 100, 0, false))?;
     assert_eq!(rt; status, Status::Refused);
     assert_eq!(rt; taken.as_slice(), b"ex.yang:1: Cardinality\n".as_slice());
-    let input = input(alloc, text)?;
-    let refusal = refusal_of(alloc, &input)?.ok_or("no refusal")?;
-    let shown = explanation(alloc, &input, &refusal)?;
+    let inputs = [input(alloc, text)?];
+    let selection = Selection::everything(alloc);
+    let refusal = refusal_of(alloc, &inputs, &selection)?.ok_or("no refusal")?;
+    let shown = explanation(alloc, &inputs[0], &refusal)?;
     assert!(rt; shown.as_str().starts_with("module ex{\n^\nCardinality: "));
     Ok(())
 }

@@ -1,19 +1,11 @@
 -- A statement fits exactly where nothing is wrong with it.
-use Rattle.std.proofs.Common.{◌≡◌, ◌≢◌, ℕ, ◌<◌, inl, inr, ⊎_elim, ◌+◌, true, not, ◌&&◌, IfNone, List, Option, Some, None, length, map, take, sym, ◌∙◌, subst, refl, arith}
+use Rattle.std.proofs.Common.{◌≡◌, ◌≢◌, ℕ, ◌<◌, inl, inr, ⊎_elim, ◌+◌, Bool, true, false, cond, not, ◌&&◌, IfNone, List, Option, Some, None, length, take, sym, ◌∙◌, subst, refl, arith}
 use Rattle.std.specs.List.{slice_get}
-use Rattle.std.specs.Prelude.{codes}
-use Rattle.std.proofs.lemmas.Bool.{and_from, and_parts, cases_lt, false_from_ne_true, false≢true, not-true, not_from_false, true_from_ne_false}
+use Rattle.std.proofs.lemmas.Bool.{and_from, and_parts, cases_lt, false_from_ne_true, false≢true, not-true, not_from_false}
 use Rattle.std.proofs.lemmas.Option.{slice_get_within}
 use Rattle.yv_conform.specs.Names.{same}
 use Rattle.yv_statement.specs.Order.{IsLeast, IsLesser, refusal_at}
 use Rattle.yv_conform.specs.Table.{occurs_in, rows_of}
-use Rattle.yv_conform.specs.Argument.{ConditionFits}
-use Rattle.yv_conform.specs.Forms.{form_of}
-use Rattle.yv_conform.specs.Condition.{token_of}
-use Rattle.yv_conform.specs.Words.{words}
-use Rattle.yv_conform.specs.declared.form.Form.{Form}
-use Rattle.yv_conform.specs.declared.form.Form.TheVariants as form
-use Rattle.yv_conform.proofs.Conditions.{takes, taken}
 use Rattle.yv_conform.specs.Faults.{Faulty, own, number, below, Miscounted, OwnFault, IsMisplaced, has, keyword_at, is_excess}
 use Rattle.yv_conform.specs.Fits.{FitsIn, extended, plain, OwnFits, IsCounted, IsAllowed, occurrences}
 use Rattle.yv_conform.specs.declared.keyword.Keyword.{Keyword}
@@ -48,23 +40,6 @@ no_fault {parent} {s} {f} (plain o c each) (own ordinary h) = own_clash parent s
 no_fault {parent} {s} {f} (plain o c each) (number ordinary h) = counted_clash s f c h
 no_fault (plain o c each) (below k d ordinary at_k h) = no_fault (each k d at_k) h
 
--- a condition that isn't out of its grammar is in it
-settled : (f : Form) (argument : Option (List ℕ)) → ((ConditionFits f argument → ⊥) → ⊥) → ConditionFits f argument
-settled form.Condition (Some text) h = taken (map token_of (words (codes "()") text)) (true_from_ne_false _ (λ e. h (λ c. false≢true (sym e ∙ takes (map token_of (words (codes "()") text)) c))))
-settled form.Condition None h = tt
-settled _ argument h = tt
-
--- where nothing is wrong with the statement itself, it is right
-pub own_fits : (parent : Keyword) (s : Tree) → ((f : Refusal) → OwnFault parent s f → ⊥) → OwnFits parent s
-own_fits parent s clear = record {
-  supported = false_from_ne_true _ (λ e. clear (refusal_at code.Unsupported 0 s.head) (inl (e, refl)));
-  known = λ e. clear (refusal_at code.UnknownStatement 0 s.head) (inr (inl (e, refl)));
-  argument = (
-    true_from_ne_false _ (λ e. clear (refusal_at code.BadArgument 0 s.head) (inr (inr (λ h. false≢true (sym e ∙ h.0), refl)))),
-    settled (form_of parent (keyword_at s)) s.head.argument (λ wrong. clear (refusal_at code.BadArgument 0 s.head) (inr (inr (λ h. wrong h.1, refl)))),
-  );
-}
-
 pub is_counted : (s : Tree) → ((f : Refusal) → Miscounted s f → ⊥) → IsCounted s
 is_counted s clear = λ k ordinary.
     allowed k (occurs_in (rows_of (keyword_at s)) k) (trees s.children)
@@ -74,6 +49,20 @@ is_counted s clear = λ k ordinary.
     let misplaced : IsMisplaced s n c = subst P (sym kind) (and_from _ _ (not_from_false _ (false_from_ne_true _ (λ h. ordinary (one _ _ h)))) e) in
     clear (refusal_at code.Cardinality 0 c.head) (inl (n, slice_get_within (trees s.children) n c at_n, c, at_n, (misplaced, refl)))))
     (λ e. present (trees s.children) (rows_of (keyword_at s)) k (false_from_ne_true _ (λ h. clear (refusal_at code.Cardinality 0 s.head) (inr (h, refl)))) e)
+
+-- what holds where nothing was found, told by what was found
+held : (o : Option Refusal) (P : Type 0) → o ≡ None → IfNone o P → P
+held None P e h = h
+held (Some x) P e h = cc
+
+pub told : {P : Type 0} (o : Option Refusal) → (o ≡ None → P) → IfNone o P
+told None h = h refl
+told (Some x) h = tt
+
+-- a refusal that isn't made
+pub spared : (b : Bool) (r : Refusal) → cond b (Some r) None ≡ None → b ≡ false
+spared true r h = cc
+spared false r h = refl
 
 -- a refusal is none where both of two are
 pub neither : (a b c : Option Refusal) → IsLesser a b c → c ≡ None → (a ≡ None) × (b ≡ None)
@@ -96,25 +85,17 @@ fit_more s n c best here next at_n joined before fits none k d within at_k =
     subst (FitsIn (keyword_at s)) same_one (held here _ both_none.1 fits))
     (cases_lt k n)
   where
-    held : (o : Option Refusal) (P : Type 0) → o ≡ None → IfNone o P → P
-    held None P e h = h
-    held (Some x) P e h = cc
-
     found : (cs : List Tree) (n k : ℕ) (c d : Tree) → k ≡ n → slice_get cs n ≡ Some c → slice_get cs k ≡ Some d → c ≡ d
     found cs n k c d e at_n at_k = cc
 
-pub all_fit : (parent : Keyword) (s : Tree) (a b o d r : Option Refusal) → IsLesser a b o → IsLesser o d r → IsLeast (OwnFault parent s) a → IsLeast (Miscounted s) b → FitBelow s (length (trees s.children)) d → IfNone r (FitsIn parent s)
+pub all_fit : (parent : Keyword) (s : Tree) (a b o d r : Option Refusal) → IsLesser a b o → IsLesser o d r → IfNone a (OwnFits parent s) → IsLeast (Miscounted s) b → FitBelow s (length (trees s.children)) d → IfNone r (FitsIn parent s)
 all_fit parent s a b o d r l m first second third =
     told r (λ none.
     let outer = neither o d r m none in
     let inner = neither a b o l outer.0 in
-    plain (own_fits parent s (clear (OwnFault parent s) a inner.0 first)) (is_counted s (clear (Miscounted s) b inner.1 second))
+    plain (held a (OwnFits parent s) inner.0 first) (is_counted s (clear (Miscounted s) b inner.1 second))
     (λ k c at_k. third outer.1 k c (slice_get_within (trees s.children) k c at_k) at_k))
   where
-    told : {P : Type 0} (o : Option Refusal) → (o ≡ None → P) → IfNone o P
-    told None h = h refl
-    told (Some x) h = tt
-
     clear : (P : Refusal → Type 0) (o : Option Refusal) → o ≡ None → IsLeast P o → (f : Refusal) → P f → ⊥
     clear P None e h = h
     clear P (Some r) e h = cc

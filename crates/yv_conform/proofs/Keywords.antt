@@ -1,5 +1,5 @@
 -- Tests on keywords.
-use Rattle.std.proofs.Common.{◌≡◌, Bool, true, false, not, MatchBool, refl}
+use Rattle.std.proofs.Common.{◌≡◌, Bool, true, false, not, MatchBool, sym, refl}
 use Rattle.std.proofs.lemmas.Bool.{false≢true}
 use denote.Enum.Bare.{same_true, true_same, same_false}
 use Rattle.yv_conform.specs.Names.{same}
@@ -23,3 +23,7 @@ failed F false h e = h
 pub fails : (F : Type 0) (b : Bool) → MatchBool b F (F → ⊥) → (F → ⊥) → not b ≡ true
 fails F true h wrong = absurd (wrong h)
 fails F false h wrong = refl
+
+pub passed : (F : Type 0) (b : Bool) → MatchBool b F (F → ⊥) → not b ≡ false → F
+passed F true h e = h
+passed F false h e = absurd (false≢true (sym e))

@@ -1,5 +1,4 @@
 pub mod Ascending
-pub mod Conditions
 pub mod Counting
 pub mod Counts
 pub mod Fitting

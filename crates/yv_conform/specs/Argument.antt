@@ -1,7 +1,7 @@
 -- Which arguments fit (RFC 7950, sections 7 and 9, and the grammar of section 14).
 use Rattle.std.specs.Prelude.{◌≡◌, ℕ, Bool, true, false, List, [], ◌∷◌, Option, None, Some, codes}
 use Rattle.yv_conform.specs.Forms.{form_of}
-use Rattle.yv_conform.specs.Condition.{IsCondition}
+use Rattle.yv_condition.specs.Condition.{Condition, Spells}
 use Rattle.yv_conform.specs.Texts.{is_absolute_path, is_date, is_descendant_path, is_enum_name, is_enum_value, is_fraction_digits, is_identifier, is_key, is_leafref_path, is_max_elements, is_name, is_number, is_one_of, is_unique}
 use Rattle.yv_conform.specs.declared.keyword.Keyword.{Keyword}
 use Rattle.yv_conform.specs.declared.form.Form.{Form}
@@ -40,9 +40,9 @@ abbrev pub argument_has : Form → Option (List ℕ) → Bool
 argument_has f None = may_lack f
 argument_has f (Some text) = has_form f text
 
--- the condition of an `if-feature` is in its grammar
+-- the text of an `if-feature` spells a condition (section 7.20.2)
 abbrev pub ConditionFits : Form → Option (List ℕ) → Type 0
-ConditionFits form.Condition (Some text) = IsCondition text
+ConditionFits form.Condition (Some text) = (c : Condition) × Spells text c
 ConditionFits f argument = Unit {0}
 
 -- the argument of a statement with this keyword, in the block of a parent, has its form

@@ -1,15 +1,15 @@
 -- Inner definitions, which only clauses of private functions cite: how the words of a text are read one by one.
 use Rattle.std.proofs.Common.{suc}
-use Rattle.std.specs.Prelude.{ℕ, ◌||◌, List, [], ◌∷◌, if◌then◌else◌}
+use Rattle.std.specs.Prelude.{ℕ, List, [], ◌∷◌, if◌then◌else◌}
 use Rattle.yv_conform.specs.Bytes.{is_blank}
-use Rattle.yv_conform.specs.Words.{is_mark, words}
+use Rattle.yv_conform.specs.Words.{words}
 use Rattle.yv_conform.specs.declared.words.Words.{Words}
 
--- how many bytes stand before the first blank or mark
-abbrev pub word_len : List ℕ → List ℕ → ℕ
-word_len marks [] = 0
-word_len marks (b ∷ bs) = if is_blank b || is_mark marks b then 0 else suc (word_len marks bs)
+-- how many bytes stand before the first blank
+abbrev pub word_len : List ℕ → ℕ
+word_len [] = 0
+word_len (b ∷ bs) = if is_blank b then 0 else suc (word_len bs)
 
 -- the words that are still to come
 abbrev pub words_left : Words → List (List ℕ)
-words_left it = words it.marks.now it.rest.now
+words_left it = words it.rest.now

@@ -3,13 +3,11 @@ pub mod Names
 pub mod Table
 pub mod Words
 pub mod Texts
-pub mod Condition
 pub mod Forms
 pub mod Argument
 pub mod Fits
 pub mod Faults
 pub mod InnerDistinct
 pub mod InnerEntries
-pub mod InnerPass
 pub mod InnerSeen
 pub mod InnerWords

@@ -46,7 +46,7 @@ is_trimmed text = not (is_empty text) && (not (is_blank (slice_index text 0)) &&
 
 -- words that pass a test, with blanks between alone
 abbrev pub are_words : (List ℕ → Bool) → List ℕ → Bool
-are_words test text = is_trimmed text && list_all test (words [] text)
+are_words test text = is_trimmed text && list_all test (words text)
 
 -- no word stands twice: none is among those behind it
 abbrev pub none_twice : List (List ℕ) → Bool
@@ -55,7 +55,7 @@ none_twice (w ∷ ws) = not (list_any (bytes_eq w) ws) && none_twice ws
 
 -- a key is names with blanks between, none twice (section 7.8.2)
 abbrev pub is_key : List ℕ → Bool
-is_key text = are_words is_name text && none_twice (words [] text)
+is_key text = are_words is_name text && none_twice (words text)
 
 -- a unique argument is descendant paths with blanks between (section 7.8.3)
 abbrev pub is_unique : List ℕ → Bool

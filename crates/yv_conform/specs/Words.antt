@@ -1,21 +1,15 @@
 -- The words of an argument (RFC 7950, sections 6.1 and 14).
-use Rattle.std.specs.Prelude.{ℕ, Bool, not, ◌==◌, List, [], ◌∷◌, filter, length, nat_eq, if◌then◌else◌}
-use Rattle.std.specs.List.{list_any, onto_first}
+use Rattle.std.specs.Prelude.{ℕ, Bool, not, List, filter, length, nat_eq}
+use Rattle.std.specs.List.{slice_split}
 use Rattle.yv_conform.specs.Bytes.{is_blank}
 
 abbrev pub is_empty : List ℕ → Bool
 is_empty text = nat_eq (length text) 0
 
--- a byte is one of these marks
-abbrev pub is_mark : List ℕ → ℕ → Bool
-is_mark marks b = list_any (λ mark. mark == b) marks
-
--- a text cut at each blank, and round each mark, which is a piece itself; some pieces are empty
-abbrev pub pieces : List ℕ → List ℕ → List (List ℕ)
-pieces marks [] = [] ∷ []
-pieces marks (b ∷ bs) =
-    if is_blank b then [] ∷ pieces marks bs else (if is_mark marks b then [] ∷ (b ∷ []) ∷ pieces marks bs else onto_first b (pieces marks bs))
+-- a text cut at each blank; some pieces are empty
+abbrev pub pieces : List ℕ → List (List ℕ)
+pieces text = slice_split is_blank text
 
 -- the words of a text are its pieces that aren't empty
-unfoldable pub words : List ℕ → List ℕ → List (List ℕ)
-words marks text = filter (λ word. not (is_empty word)) (pieces marks text)
+unfoldable pub words : List ℕ → List (List ℕ)
+words text = filter (λ word. not (is_empty word)) (pieces text)

@@ -3,10 +3,10 @@ ghost use Rattle.std.specs.Prelude.{◌≡◌, ◌↔◌, IsTrue, MatchBool};
 ghost use Rattle.std.specs.Option.{option_copied};
 ghost use Rattle.yv_conform.specs.Argument.{ArgumentFits, ConditionFits, argument_has, has_form};
 
-use crate::condition::is_condition;
 use crate::form::{Form, find_form};
 use crate::keyword::Keyword;
 use crate::{lists, text};
+use yv_condition::is_condition;
 
 /// Whether the argument of a statement, in the block of a parent, is as its keyword wants it (RFC 7950, section 14).
 pub fn fits(parent: Keyword, keyword: Keyword, argument: Option<&str>) -> bool
@@ -24,7 +24,7 @@ fn condition_fits(form: Form, argument: Option<&str>) -> bool
     ensures { IsTrue result ↔ ConditionFits form (option_copied argument.entry) }
 {
     match (form, argument) {
-        (Form::Condition, Some(text)) => is_condition(text.as_bytes()),
+        (Form::Condition, Some(text)) => is_condition(text),
         _ => true,
     }
 }

@@ -21,7 +21,7 @@ const MANY: usize = 16_384;
 
 /// Whether no word of a text stands twice.
 pub fn none_twice(text: &[u8]) -> bool
-    ensures { result ≡ none_twice (words [] text.now) }
+    ensures { result ≡ none_twice (words text.now) }
 {
     if text.len() <= 2 * FEW {
         none_twice_short(text)
@@ -31,14 +31,14 @@ pub fn none_twice(text: &[u8]) -> bool
 }
 
 fn none_twice_short(text: &[u8]) -> bool
-    ensures { result ≡ none_twice (words [] text.now) }
+    ensures { result ≡ none_twice (words text.now) }
 {
     let mut table: [&[u8]; FEW] = [b""; FEW];
     none_twice_by(&mut table, text)
 }
 
 fn none_twice_long(text: &[u8]) -> bool
-    ensures { result ≡ none_twice (words [] text.now) }
+    ensures { result ≡ none_twice (words text.now) }
 {
     let mut table: [&[u8]; MANY] = [b""; MANY];
     none_twice_by(&mut table, text)
@@ -47,9 +47,9 @@ fn none_twice_long(text: &[u8]) -> bool
 // The same, by a table: words that fill it are sorted, those behind them are sought among them, and so on.
 fn none_twice_by<'a>(table: &mut [&'a [u8]], text: &'a [u8]) -> bool
     requires { 0 < length table.old }
-    ensures { result ≡ none_twice (words [] text.now) }
+    ensures { result ≡ none_twice (words text.now) }
 {
-    let mut words = Words::new(text, b"");
+    let mut words = Words::new(text);
     loop {
         let count = fill(table, &mut words);
         if count == 0 {

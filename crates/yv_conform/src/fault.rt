@@ -7,7 +7,7 @@ ghost use Rattle.yv_statement.specs.Order.{IsLeast};
 ghost use Rattle.yv_conform.specs.InnerEntries.{row};
 ghost use Rattle.yv_conform.specs.InnerSeen.{is_marked};
 ghost use Rattle.yv_conform.specs.Faults.{Bad, Faulty, Miscounted, OwnFault, has_call_or_filter, is_excess, is_misplaced, is_module, is_unsupported, keyword_at};
-ghost use Rattle.yv_conform.specs.Fits.{Fits, FitsIn};
+ghost use Rattle.yv_conform.specs.Fits.{Fits, FitsIn, OwnFits};
 ghost use Rattle.yv_conform.specs.Table.{is_one, occurs_in};
 
 use crate::argument;
@@ -75,7 +75,8 @@ fn first_fault(parent: Keyword, statement: &Statement) -> Option<Refusal>
 // The least refusal of the statement itself.
 fn own_fault(parent: Keyword, keyword: Keyword, statement: &Statement) -> Option<Refusal>
     requires { keyword ≡ keyword_at statement.now }
-    ensures { IsLeast (OwnFault parent statement.now) result }
+    ensures fits { IfNone result (OwnFits parent statement.now) }
+    ensures least { IsLeast (OwnFault parent statement.now) result }
 {
     let argument = statement.argument();
     let unsupported = is_unsupported(parent, keyword, argument);

@@ -2,7 +2,6 @@
 #![tactic(auto)]
 
 mod argument;
-mod condition;
 mod distinct;
 mod fault;
 mod form;

@@ -1,5 +1,5 @@
 //! The arguments that are lists of words: those of `key` and `unique`.
-ghost use Rattle.std.specs.Prelude.{◌≡◌, []};
+ghost use Rattle.std.specs.Prelude.{◌≡◌};
 ghost use Rattle.std.specs.List.{list_all};
 ghost use Rattle.yv_conform.specs.Texts.{is_descendant_path, is_key, is_name, is_unique};
 ghost use Rattle.yv_conform.specs.Words.{words};
@@ -23,13 +23,13 @@ pub fn is_unique(text: &[u8]) -> bool
 }
 
 fn are_names(text: &[u8]) -> bool
-    ensures { result ≡ list_all is_name (words [] text.now) }
+    ensures { result ≡ list_all is_name (words text.now) }
 {
-    Words::new(text, b"").all(|word| is_name(word))
+    Words::new(text).all(|word| is_name(word))
 }
 
 fn are_descendant_paths(text: &[u8]) -> bool
-    ensures { result ≡ list_all is_descendant_path (words [] text.now) }
+    ensures { result ≡ list_all is_descendant_path (words text.now) }
 {
-    Words::new(text, b"").all(|word| is_descendant_path(word))
+    Words::new(text).all(|word| is_descendant_path(word))
 }

@@ -8,8 +8,9 @@ use Rattle.std.proofs.Math.Dec.{eqb}
 use Rattle.clap.specs.Words.{Text, Row, subcommand_of}
 use Rattle.yv_job.specs.Asks.{IsAsked, IsLimit, IsSupportFor, IsImportsFor, IsChoice, IsFiles, Asks, AsksIn, WordsAsk}
 use Rattle.yv_job.specs.CommandLine.{yangcheck_app}
-use Rattle.yv_job.specs.Jobs.{Task, Choice, Asked, Compiles, Draws, Checks}
-use Rattle.yv_job.specs.Names.{Entry, JoinsNames, IsNames, IsIdentifier, HasIdentifiers, entry_text}
+use Rattle.yv_job.specs.Jobs.{Task, Asked, Compiles, Draws, Checks}
+use Rattle.yv_selection.specs.Choice.{Choice, Entry}
+use Rattle.yv_job.specs.Names.{JoinsNames, IsNames, IsIdentifier, HasIdentifiers, entry_text}
 use Rattle.yv_job.proofs.NameLemmas.{free_name, split_names, split_entries}
 
 same_asked : (name : Text) (rows : List Row) (a b : Asked) → IsAsked name rows a → IsAsked name rows b → a ≡ b

@@ -8,7 +8,8 @@ use Rattle.std.proofs.lemmas.List.Splits.{slice_split_none, slice_split_at, join
 use Rattle.std.proofs.lemmas.List.Folds.{list_all-map}
 use Rattle.std.proofs.Math.Dec.{eqb}
 use Rattle.std.proofs.lemmas.Bool.{eqb-true, eq-eqb}
-use Rattle.yv_job.specs.Names.{is_first_byte, is_later_byte, is_identifier, IsIdentifier, IsNames, Entry, entry_text, HasIdentifiers, IsEntry, IsSupport}
+use Rattle.yv_job.specs.Names.{is_first_byte, is_later_byte, is_identifier, IsIdentifier, IsNames, entry_text, HasIdentifiers, IsEntry, IsSupport}
+use Rattle.yv_selection.specs.Choice.{Entry}
 
 both : (a b : Bool) → (a && b) ≡ true → (a ≡ true) × (b ≡ true)
 both true true h = (refl, refl)

@@ -2,9 +2,10 @@
 use Rattle.std.specs.Prelude.{◌≡◌, ◌≤◌, ℕ, List, [], Option, Some, None, codes, length}
 use Rattle.std.specs.Str.Parse.{IsNumeral, digits_value}
 use Rattle.clap.specs.Words.{Text, Row, all_of, first_of, fault_of, subcommand_of}
-use Rattle.yv_job.specs.Jobs.{Task, Choice, Asked, Compiles, Draws, Checks}
+use Rattle.yv_job.specs.Jobs.{Task, Asked, Compiles, Draws, Checks}
+use Rattle.yv_selection.specs.Choice.{Choice, Entry}
 use Rattle.yv_job.specs.CommandLine.{yangcheck_app}
-use Rattle.yv_job.specs.Names.{Entry, IsNames, IsSupport}
+use Rattle.yv_job.specs.Names.{IsNames, IsSupport}
 
 -- the command of this name, with the values of its arguments, compiles, draws or checks
 abbrev pub IsAsked : Text → List Row → Asked → Type 0

@@ -1,24 +1,15 @@
 -- What a clause reads of a job.
-use Rattle.std.specs.Prelude.{◌≡◌, ◌≤◌, length, ℕ, List, map, string_bytes}
-use Rattle.std.specs.declared.string.String.{String}
-use Rattle.std.specs.declared.vec.Vec.{Vec}
-use Rattle.std.specs.declared.alloc.Global.{Global}
-use Rattle.yv_job.specs.Names.{Entry}
+use Rattle.std.specs.Prelude.{◌≤◌, length, ℕ, List, map, string_bytes}
 use Rattle.yv_job.specs.declared.job.Job.{Job}
 use Rattle.yv_job.specs.declared.job.Command.{Command}
 use Rattle.yv_job.specs.declared.job.Command.TheVariants.{Compile, Tree, Validate}
-use Rattle.yv_job.specs.declared.job.Selection.{Selection}
+use Rattle.yv_selection.specs.Choice.{Choice, choice_of}
 
 -- a command: it compiles, or it draws the tree of a module, or it checks the document of a file
 pub data Asked : Type 0 where
   Compiles : Asked
   Draws : List ℕ → Asked
   Checks : List ℕ → Asked
-
--- modules with the features of them that are supported, and the modules that are not implemented
-pub record Choice : Type 0 where
-  pub support : List Entry
-  pub imports : List (List ℕ)
 
 -- a job, as clauses see it
 pub record Task : Type 0 where
@@ -31,15 +22,6 @@ abbrev pub asked_of : Command → Asked
 asked_of Compile = Compiles
 asked_of (Tree m) = Draws (string_bytes m)
 asked_of (Validate f) = Checks (string_bytes f)
-
-abbrev pub entry_of : String Global × Vec (String Global) Global → Entry
-entry_of p = record { «module» = string_bytes p.0; features = map string_bytes p.1.items }
-
-abbrev pub choice_of : Selection → Choice
-choice_of s = record {
-  support = map entry_of s.support.items;
-  imports = map string_bytes s.import_only.items;
-}
 
 abbrev pub task_of : Job → Task
 task_of j = record {
@@ -63,7 +45,6 @@ IsCheck Compiles = ⊥
 IsCheck (Draws m) = ⊥
 IsCheck (Checks f) = Unit {0}
 
--- the job is of the kind that this version takes: it checks a document against one file
-pub record ChecksOneFile (j : Job) : Type 0 where
-  pub asked : IsCheck (asked_of j.command)
-  pub file : length j.files.items ≡ 1
+-- the job checks a document
+abbrev pub ChecksADocument : Job → Type 0
+ChecksADocument j = IsCheck (asked_of j.command)

@@ -1,6 +1,7 @@
 -- Names and lists of them, as a command line spells them.
 use Rattle.std.specs.Prelude.{◌≡◌, ◌<◌, ◌&&◌, ◌||◌, ◌==◌, ℕ, Bool, true, false, nat_le, List, [], ◌∷◌, ◌++◌, length, map}
 use Rattle.std.specs.List.{All, list_all, join_with_byte}
+use Rattle.yv_selection.specs.Choice.{Entry}
 
 -- an ASCII letter or `_`
 abbrev pub is_first_byte : ℕ → Bool
@@ -28,11 +29,6 @@ pub record JoinsNames (text : List ℕ) (names : List (List ℕ)) : Type 0 where
 pub record IsNames (text : List ℕ) (names : List (List ℕ)) : Type 0 where
   pub joined : JoinsNames text names
   pub some : 0 < length names
-
--- a module with some of its features
-pub record Entry : Type 0 where
-  pub «module» : List ℕ
-  pub features : List (List ℕ)
 
 -- the module, `:`, and its features joined by commas, or none
 abbrev pub entry_text : Entry → List ℕ

@@ -1,12 +1,7 @@
--- Which command lines this version takes: `validate` with one file, and with none of the options
--- that all commands share.
-use Rattle.std.specs.Prelude.{◌≡◌, List, Option, Some, None, codes, length, IsSomeAnd}
-use Rattle.clap.specs.Words.{Text, Row, all_of, first_of, subcommand_of}
+-- Which command lines this version takes: `validate`, without a limit of nodes.
+use Rattle.std.specs.Prelude.{◌≡◌, List, Option, Some, None, codes}
+use Rattle.clap.specs.Words.{Text, Row, first_of, subcommand_of}
 use Rattle.yv_job.specs.CommandLine.{yangcheck_app}
-
--- one file was given
-abbrev pub HasOneFile : List Row → Type 0
-HasOneFile rows = IsSomeAnd (all_of (codes "file") rows) (λ files. length files ≡ 1)
 
 -- no value was given to the argument
 abbrev pub Lacks : Text → List Row → Type 0
@@ -15,10 +10,7 @@ Lacks id rows = first_of id rows ≡ None
 -- the command of this name, with the values of its arguments, is taken
 pub record IsTaken (name : Text) (rows : List Row) : Type 0 where
   pub command : name ≡ codes "validate"
-  pub file : HasOneFile rows
   pub limit : Lacks (codes "max-nodes") rows
-  pub support : Lacks (codes "support") rows
-  pub imports : Lacks (codes "import-only") rows
 
 -- the same of a command that may not be there
 abbrev pub IsTakenIn : Option (Text × List Row) → Type 0

@@ -1,4 +1,4 @@
-// The texts of `--help`.
+//! The texts of `--help`.
 
 pub const VERSION: &str = "0.1.0";
 
@@ -53,34 +53,35 @@ Exit status:
   2  usage
   3  out of memory, pattern not built, cannot read or cannot write";
 
-pub const VALIDATE_ABOUT: &str = "Validate a JSON document against a module";
+pub const VALIDATE_ABOUT: &str = "Validate a JSON document against modules";
 
 pub const VALIDATE_DETAILS: &str = "\
-Validates a JSON document (RFC 7951) against a YANG 1.1 module (RFC 7950).
+Validates a JSON document (RFC 7951) against YANG 1.1 modules (RFC 7950).
 
-The module is compiled first. If it is refused, one line FILE:LINE: NAME says
-what is wrong first, and the document is not read. Otherwise each fault of the
-document gets a line, KIND PATH, and the last line is `valid` or `faults: N`.";
+The modules are compiled first. If they are refused, one line FILE:LINE: NAME
+says what is wrong first, and the document is not read. Otherwise each fault of
+the document gets a line, KIND PATH, and the last line is `valid` or
+`faults: N`. What a module imports or includes has to be among the files.";
 
 pub const VALIDATE_CLOSING: &str = "\
 Example:
-  yangcheck validate --data config.json example.yang
+  yangcheck validate --data config.json example.yang types.yang
 
 Exit status:
   0  valid
-  1  the module was refused, or faults were found
+  1  modules were refused, or faults were found
   2  usage, or the document is too large or no JSON
   3  out of memory, pattern not built, cannot read or cannot write";
 
 pub const DATA: &str = "The JSON document, or - for standard input";
 
-pub const FILE: &str = "The files of the YANG modules; this version takes one";
+pub const FILE: &str = "The files of the YANG modules and submodules, at most 256";
 
 pub const MODULE: &str = "The module to draw";
 
 pub const MAX_NODES: &str = "The most nodes of the schema, from 1 to 1000000 [default: 100000]";
 
 pub const SUPPORT: &str = "\
-Of the modules named here only these features: MODULE:FEATURE,FEATURE/MODULE:FEATURE";
+Of the modules named here only these features are supported: MODULE:FEATURE,FEATURE/MODULE:";
 
 pub const IMPORT_ONLY: &str = "Modules that are there for their definitions alone: MODULE,MODULE";

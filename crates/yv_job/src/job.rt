@@ -1,7 +1,8 @@
-// A job, and why there is none.
+//! A job, and why there is none.
 
 use std::alloc::AllocError;
 use thiserror::Error;
+use yv_selection::Selection;
 
 /// What is to be done with the modules.
 #[derive(Debug, Drop)]
@@ -12,16 +13,6 @@ pub enum Command {
     Tree(String),
     /// Check the document of this file's name, which is `-` for standard input (RFC 7951).
     Validate(String),
-}
-
-/// Which features are supported, and which modules are not implemented (RFC 7950, 5.6).
-#[derive(Debug, Drop)]
-pub struct Selection {
-    /// Modules, each with the features of it that are supported. Of a module that isn't named, all
-    /// features are. Entries of one module are joined.
-    pub support: Vec<(String, Vec<String>)>,
-    /// The modules that are there for their definitions alone.
-    pub import_only: Vec<String>,
 }
 
 /// What a command line asks for.

@@ -1,4 +1,4 @@
-// Laws of the definitions.
+//! Laws of the definitions.
 ghost use Rattle.yv_job.specs.Asks.{WordsAskOnce};
 
 /// No words ask for two tasks, so `read_job` answers the one that they ask for. The function does

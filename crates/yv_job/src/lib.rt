@@ -12,6 +12,6 @@ mod syntax;
 mod tests;
 mod words;
 
-pub use job::{Command, Job, JobFault, Selection};
+pub use job::{Command, Job, JobFault};
 pub use laws::words_ask_once;
 pub use words::read_job;

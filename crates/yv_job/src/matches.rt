@@ -1,16 +1,18 @@
-// A job from what clap matched.
+//! A job from what clap matched.
 ghost use Rattle.std.specs.Prelude.{◌≡◌, ◌≤◌, ◌↔◌, ℕ, List, length, IsTrue, IfSome, OnSome, IfOk, MatchOption, map, option_map, string_bytes};
 ghost use Rattle.clap.specs.Words.{subcommand_rows_of, found_of, rows_of, all_of, first_of};
 ghost use Rattle.yv_job.specs.Asks.{AsksIn, Asks, IsChoice, IsAsked, IsFiles};
-ghost use Rattle.yv_job.specs.Jobs.{Asked, Choice, task_of, asked_of, choice_of, HasFiles, HasLimit, ChecksOneFile};
+ghost use Rattle.yv_job.specs.Jobs.{Asked, task_of, asked_of, HasFiles, HasLimit, ChecksADocument};
+ghost use Rattle.yv_selection.specs.Choice.{Choice, choice_of};
 ghost use Rattle.yv_job.specs.Matched.{AsksForNothing};
-ghost use Rattle.yv_job.specs.Taken.{HasOneFile, Lacks, IsTaken, IsTakenIn};
+ghost use Rattle.yv_job.specs.Taken.{Lacks, IsTaken, IsTakenIn};
 
-use crate::job::{Command, Job, Selection};
+use crate::job::{Command, Job};
 use crate::names::copied;
 use crate::options::{imports_for, limit_of, support_for};
 use clap::ArgMatches;
 use std::alloc::{AllocError, Global};
+use yv_selection::Selection;
 
 const MOST_FILES: usize = 256;
 
@@ -29,15 +31,6 @@ fn all<'m, 'a>(matches: &'m ArgMatches<'a>, id: &str) -> Option<&'m [&'a str]>
     matches.get_strs(id)
 }
 
-fn has_one_file(below: &ArgMatches<'_>) -> bool
-    ensures { IsTrue result ↔ HasOneFile (rows_of (found_of below.now)) }
-{
-    match all(below, "file") {
-        Some(files) => files.len() == 1,
-        None => false,
-    }
-}
-
 fn lacks(below: &ArgMatches<'_>, id: &str) -> bool
     ensures { IsTrue result ↔ Lacks id.now (rows_of (found_of below.now)) }
 {
@@ -48,11 +41,7 @@ fn lacks(below: &ArgMatches<'_>, id: &str) -> bool
 fn is_taken(name: &str, below: &ArgMatches<'_>) -> bool
     ensures { IsTrue result ↔ IsTaken name.now (rows_of (found_of below.now)) }
 {
-    name == "validate"
-        && has_one_file(below)
-        && lacks(below, "max-nodes")
-        && lacks(below, "support")
-        && lacks(below, "import-only")
+    name == "validate" && lacks(below, "max-nodes")
 }
 
 fn command_of(
@@ -122,7 +111,7 @@ fn job_for(alloc: Global, name: &str, below: &ArgMatches<'_>) -> Result<Option<J
     ensures taken { IfOk result (λ o. OnSome o (IsTaken name.now (rows_of (found_of below.now)))) }
     ensures files { IfOk result (λ o. IfSome o HasFiles) }
     ensures limit { IfOk result (λ o. IfSome o HasLimit) }
-    ensures check { IfOk result (λ o. IfSome o ChecksOneFile) }
+    ensures check { IfOk result (λ o. IfSome o ChecksADocument) }
 {
     if !is_taken(name, below) {
         return Ok(None);
@@ -154,7 +143,7 @@ pub fn job_of(alloc: Global, matches: &ArgMatches<'_>) -> Result<Option<Job>, Al
     ensures taken { IfOk result (λ o. OnSome o (IsTakenIn (subcommand_rows_of matches.now))) }
     ensures files { IfOk result (λ o. IfSome o HasFiles) }
     ensures limit { IfOk result (λ o. IfSome o HasLimit) }
-    ensures check { IfOk result (λ o. IfSome o ChecksOneFile) }
+    ensures check { IfOk result (λ o. IfSome o ChecksADocument) }
 {
     match matches.subcommand() {
         Some((name, below)) => job_for(alloc, name, below),

@@ -1,8 +1,8 @@
-// Names and lists of them in a text of the command line.
+//! Names and lists of them in a text of the command line.
 ghost use Rattle.std.specs.Prelude.{◌≡◌, ◌<◌, ◌==◌, ◌++◌, ◌∷◌, ℕ, List, map, length, IfOk, IfSome, MatchOption, string_bytes};
 ghost use Rattle.std.specs.List.{All, AllZip, list_all, slice_split};
-ghost use Rattle.yv_job.specs.Names.{is_first_byte, is_later_byte, is_identifier, IsIdentifier, IsNames, JoinsNames, Entry, IsEntry, IsSupport};
-ghost use Rattle.yv_job.specs.Jobs.{entry_of};
+ghost use Rattle.yv_job.specs.Names.{is_first_byte, is_later_byte, is_identifier, IsIdentifier, IsNames, JoinsNames, IsEntry, IsSupport};
+ghost use Rattle.yv_selection.specs.Choice.{Entry, entry_of};
 
 use std::alloc::{AllocError, Global};
 

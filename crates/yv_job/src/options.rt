@@ -1,8 +1,7 @@
-// The values of the options that all commands share.
+//! The values of the options that all commands share.
 ghost use Rattle.std.specs.Prelude.{◌≡◌, ◌≤◌, ◌==◌, ℕ, List, slice_index, IfSome, IfOk, MatchOption, map, option_map, string_bytes};
 ghost use Rattle.yv_job.specs.Asks.{IsDecimal, IsLimit, IsSupportFor, IsImportsFor};
-ghost use Rattle.yv_job.specs.Jobs.{entry_of};
-ghost use Rattle.yv_job.specs.Names.{Entry};
+ghost use Rattle.yv_selection.specs.Choice.{Entry, entry_of};
 
 use crate::names::{names_of, support_of};
 use std::alloc::{AllocError, Global};

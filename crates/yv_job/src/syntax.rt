@@ -1,4 +1,4 @@
-// The command line's syntax, for clap.
+//! The command line's syntax, for clap.
 ghost use Rattle.std.specs.Prelude.{◌≡◌, IfOk, false, codes};
 ghost use Rattle.clap.specs.Words.{app_of, rule_of, new_app, with_rule, with_subcommand};
 ghost use Rattle.clap.specs.declared.builder.command.Command.TheViews.{out-Command as fields_of};
@@ -93,8 +93,8 @@ fn shared<'a>(alloc: Global, command: Command<'a>) -> Result<Command<'a>, AllocE
     ensures local { IfOk result (λ c. (fields_of c).has_globals ≡ false) }
 {
     let nodes = later(alloc, "max-nodes", "N", help::MAX_NODES);
-    let support = later(alloc, "support", "S", help::SUPPORT);
-    let imports = later(alloc, "import-only", "L", help::IMPORT_ONLY);
+    let support = option(alloc, "support", "S", help::SUPPORT);
+    let imports = option(alloc, "import-only", "L", help::IMPORT_ONLY);
     let counted = with_arg(command, nodes)?;
     let supported = with_arg(counted, support)?;
     let chosen = with_arg(supported, imports)?;

@@ -53,14 +53,26 @@ fn words_that_are_taken(rt: HostRuntime) -> Result<(), Fail> {
 }
 
 #[test]
-fn words_that_later_versions_take(rt: HostRuntime) -> Result<(), Fail> {
+fn several_files_and_a_selection(rt: HostRuntime) -> Result<(), Fail> {
+    let line = "yangcheck validate --data d --support ex:f,g/i: --import-only i,j b.yang a.yang";
+    let job = read(rt.alloc(), line)?;
+    assert_eq!(rt; job.files.len(), 2);
+    assert!(rt; job.files[0].as_str() == "b.yang");
+    assert!(rt; job.files[1].as_str() == "a.yang");
+    assert!(rt; job.selection.is_supported("ex", "g"));
+    assert!(rt; !job.selection.is_supported("i", "g"));
+    assert!(rt; !job.selection.is_implemented("j"));
+    Ok(())
+}
+
+#[test]
+fn words_without_a_job(rt: HostRuntime) -> Result<(), Fail> {
     let cases = [
         "yangcheck compile ex.yang",
         "yangcheck tree --module ex ex.yang",
-        "yangcheck validate --data d.json ex.yang other.yang",
         "yangcheck validate --data d.json --max-nodes 100000 ex.yang",
-        "yangcheck validate --data d.json --support ex: ex.yang",
-        "yangcheck validate --data d.json --import-only ex ex.yang",
+        "yangcheck validate --data d.json --support ex ex.yang",
+        "yangcheck validate --data d.json --import-only ,ex ex.yang",
     ];
     for line in cases {
         let text = usage_of(rt.alloc(), line).ok_or(line)?;

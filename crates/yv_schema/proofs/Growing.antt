@@ -1,12 +1,13 @@
 -- How the rows of a block grow.
-use Rattle.std.proofs.Common.{◌≡◌, ℕ, zero, suc, ◌+◌, ◌<◌, ◌≤◌, List, [], ◌∷◌, ◌++◌, length, get_or, set, refl, sym, ap, ◌∙◌, arith, append_assoc, length-append, Bool}
+use Rattle.std.proofs.Common.{◌≡◌, ℕ, zero, suc, ◌+◌, ◌<◌, ◌≤◌, List, [], ◌∷◌, ◌++◌, length, get_or, set, refl, sym, ap, ◌∙◌, arith, append_assoc, append-nil, length-append, Bool, true, false}
 use Rattle.std.proofs.Math.Seq.{get_or-append_seam, set-append_seam}
 use Rattle.yv_statement.specs.Tree as statement
 use Rattle.yv_schema.specs.declared.node.NodeId.{NodeId}
 use Rattle.yv_schema.specs.Tree.{Forest, Label, node, no_trees, tree}
 use Rattle.yv_schema.specs.Rows.{Row, blank_row}
 use Rattle.yv_schema.specs.InnerNumbers.{count, numbers_from, rows_from}
-use Rattle.yv_schema.specs.InnerBuild.{Adds, above_of, with_given}
+use Rattle.yv_schema.specs.Truth.{Truth, is_on}
+use Rattle.yv_schema.specs.InnerBuild.{Adds, above_of, statement_trees}
 use Rattle.yv_schema.specs.Module.{label_of, nodes_of, types_in}
 use Rattle.yv_schema.specs.declared.node.NodeKind.TheVariants.{Container, Leaf}
 use Rattle.yv_conform.specs.Names.{keyword_of}
@@ -14,15 +15,45 @@ use Rattle.yv_conform.specs.declared.keyword.Keyword.TheVariants as word
 use Rattle.yv_schema.proofs.Numbers.{length_rows}
 
 -- with these trees behind, the rows and numbers so far are those of all trees
-pub record Rest (behind all : Forest) (old now : List Row) (numbers : List NodeId) : Type 0 where
-  pub rows : now ++ rows_from (length now) behind ≡ old ++ rows_from (length old) all
-  pub are : numbers ++ numbers_from (length now) behind ≡ numbers_from (length old) all
+pub record Rest (behind all : Forest → Forest) (old now : List Row) (before after : List NodeId) : Type 0 where
+  pub rows : (others : Forest) → now ++ rows_from (length now) (behind others) ≡ old ++ rows_from (length old) (all others)
+  pub are : (others : Forest) → after ++ numbers_from (length now) (behind others) ≡ before ++ numbers_from (length old) (all others)
+
+-- the first of the trees behind are added
+pub rest_more : (first behind all : Forest → Forest) (old now next : List Row) (before mid after : List NodeId)
+    → Rest (λ others. first (behind others)) all old now before mid → Adds first now next mid after → Rest behind all old next before after
+rest_more first behind all old now next before mid after rest adds = record {
+  rows = λ others. adds.rows (behind others) ∙ rest.rows others;
+  are = λ others. adds.numbers (behind others) ∙ rest.are others;
+}
+
+-- all are added
+pub rest_end : (all : Forest → Forest) (old now : List Row) (before after : List NodeId) → Rest (λ others. others) all old now before after → Adds all old now before after
+rest_end all old now before after rest = record { rows = rest.rows; numbers = rest.are }
+
+pub rest_start : (all : Forest → Forest) (old : List Row) (before : List NodeId) → Rest all all old old before before
+rest_start all old before = record { rows = λ others. refl; are = λ others. refl }
+
+-- none are added
+pub adds_none : (old : List Row) (before : List NodeId) → Adds (λ others. others) old old before before
+adds_none old before = record { rows = λ others. refl; numbers = λ others. refl }
+
+-- what was added, where nothing follows
+pub added_rows : (trees : Forest → Forest) (old new : List Row) (before after : List NodeId) → Adds trees old new before after → new ≡ old ++ rows_from (length old) (trees no_trees)
+added_rows trees old new before after adds = sym (append-nil new) ∙ adds.rows no_trees
+
+pub added_numbers : (trees : Forest → Forest) (old new : List Row) (before after : List NodeId) → Adds trees old new before after → after ≡ before ++ numbers_from (length old) (trees no_trees)
+added_numbers trees old new before after adds = sym (append-nil after) ∙ adds.numbers no_trees
 
 -- a statement of a block has fewer statements below it than the block has
 pub count_within : (ss : List statement.Tree) (i : ℕ) (s : statement.Tree) → i < length ss → s ≡ get_or ss i s → 1 + statement.count s.children ≤ statement.count (statement.forest ss)
 count_within [] i s lt is = absurd (omega arith)
 count_within (t ∷ ss) zero s lt is = let same : statement.count s.children ≡ statement.count t.children = ap (λ (x : statement.Tree). statement.count x.children) is in omega (arith, same)
 count_within (t ∷ ss) (suc i) s lt is = let later : 1 + statement.count s.children ≤ statement.count (statement.forest ss) = count_within ss i s (omega arith) is in omega (arith, later)
+
+pub grown : (trees : Forest → Forest) (old new : List Row) (before after : List NodeId) → Adds trees old new before after → length old ≤ length new
+grown trees old new before after adds =
+    omega (arith, ap length (added_rows trees old new before after adds), length-append old (rows_from (length old) (trees no_trees)))
 
 module _ (old : List Row) (before after : List NodeId) (n : NodeId) (l : Label) (number : n.0 ≡ length old) (adds : after ≡ before ++ n ∷ []) where
   -- the numbers, where the node's tree has this many nodes below it
@@ -85,11 +116,22 @@ module _ (old : List Row) (before after : List NodeId) (n : NodeId) (l : Label) 
       ∙ set-append_seam old bare rows own in
       adds_node trees kids new gives set_row
 
--- what a container's and a leaf's statement give
-pub gives_container : (home : List ℕ) (is_top : Bool) (s : statement.Tree) → keyword_of s.head.keyword ≡ word.Container
-    → (others : Forest) → with_given home is_top s others ≡ tree (node (label_of Container home (above_of is_top home) s.head []) (nodes_of home home s.children)) others
-gives_container home is_top s e others = rw e refl
+-- what a container's and a leaf's statement give, and one that isn't there or gives none
+pub gives_container : (truth : Truth) (file : ℕ) (home : List ℕ) (is_top : Bool) (s : statement.Tree) → is_on truth file s.children ≡ true → keyword_of s.head.keyword ≡ word.Container
+    → (others : Forest) → statement_trees truth file home is_top s others
+    ≡ tree (node (label_of Container file home (above_of is_top home) s.head []) (nodes_of truth file home home s.children no_trees)) others
+gives_container truth file home is_top s on e others = rw (on, e) refl
 
-pub gives_leaf : (home : List ℕ) (is_top : Bool) (s : statement.Tree) → keyword_of s.head.keyword ≡ word.Leaf
-    → (others : Forest) → with_given home is_top s others ≡ tree (node (label_of Leaf home (above_of is_top home) s.head (types_in s.children)) no_trees) others
-gives_leaf home is_top s e others = rw e refl
+pub gives_leaf : (truth : Truth) (file : ℕ) (home : List ℕ) (is_top : Bool) (s : statement.Tree) → is_on truth file s.children ≡ true → keyword_of s.head.keyword ≡ word.Leaf
+    → (others : Forest) → statement_trees truth file home is_top s others ≡ tree (node (label_of Leaf file home (above_of is_top home) s.head (types_in s.children)) no_trees) others
+gives_leaf truth file home is_top s on e others = rw (on, e) refl
+
+pub adds_off : (truth : Truth) (file : ℕ) (home : List ℕ) (is_top : Bool) (s : statement.Tree) (old : List Row) (before : List NodeId) → is_on truth file s.children ≡ false
+    → Adds (statement_trees truth file home is_top s) old old before before
+adds_off truth file home is_top s old before off = record {
+  rows = λ others. ap (λ (ts : Forest). old ++ rows_from (length old) ts) (sym (none others));
+  numbers = λ others. ap (λ (ts : Forest). before ++ numbers_from (length old) ts) (sym (none others));
+}
+  where
+    none : (others : Forest) → statement_trees truth file home is_top s others ≡ others
+    none others = rw off refl

@@ -10,7 +10,7 @@ use Rattle.yv_schema.specs.declared.node.NodeId.{NodeId}
 use Rattle.yv_schema.specs.Tree.{Label, node, Forest, no_trees, tree, is_known}
 use Rattle.yv_schema.specs.Rows.{Row, Rows, blank_row, row_at, children_of, rank, is_root, named, IsChild, IsSound}
 use Rattle.yv_schema.specs.InnerNumbers.{count, numbers_from, rows_from, rows_of}
-use Rattle.yv_schema.specs.InnerTables.{HasFront, front_of}
+use Rattle.yv_schema.proofs.Finding.{HasFront}
 use Rattle.yv_schema.proofs.Numbers.{length_rows}
 
 -- no two of these trees have one member
@@ -162,50 +162,48 @@ found_each s at (tree (node l kids) ts) h apart =
     (rw same refl, found_more s n cs cs differs (found_each s (at + 1 + count kids) ts sit apart.1))
 
 -- the member of each is its name behind this text
-fronted_each : (s : Rows) (front : List ℕ) (at : ℕ) (ts : Forest) → Sits s.nodes at ts → AreFronted front ts → AllByRecursion (HasFront s front) (numbers_from at ts)
+pub fronted_each : (s : Rows) (front : List ℕ) (at : ℕ) (ts : Forest) → Sits s.nodes at ts → AreFronted front ts → AllByRecursion (HasFront s front) (numbers_from at ts)
 fronted_each s front at no_trees h fronted = tt
 fronted_each s front at (tree (node l kids) ts) h fronted =
     let here : (row_at s (record { 0 = at })).label ≡ l = ap (λ (r : Row). r.label) (row_first s.nodes at l kids ts h) in
     (record { joined = rw here fronted.0 }, fronted_each s front (at + 1 + count kids) ts (others_sit s.nodes at l kids ts h) fronted.1)
 
--- what is known of a parent: where its children sit, and how they are named
-pub record IsParent (prefix : List ℕ) (s : Rows) (p : NodeId) : Type 0 where
+-- what is known of a parent: where its children sit, and that no two have one member
+pub record IsParent (s : Rows) (p : NodeId) : Type 0 where
   pub kids : Forest
   pub are : children_of s p ≡ numbers_from (rank p) kids
   pub sit : Sits s.nodes (rank p) kids
-  pub kids_named : AreNamed (front_of prefix p) kids
+  pub apart : AreApart kids
 
 -- all rows of the trees
-all_sit : (ts : Forest) → Sits (rows_from 0 ts) 0 ts
+pub all_sit : (ts : Forest) → Sits (rows_from 0 ts) 0 ts
 all_sit ts = record { front = []; back = []; split = sym (append-nil (rows_from 0 ts)); before = refl }
 
-module _ (prefix : List ℕ) (ts : Forest) (top : AreNamed prefix ts) (below : AreNamedBelow ts) where
-  parent_at_root : (p : NodeId) → is_root p ≡ true → IsParent prefix (rows_of ts) p
+module _ (ts : Forest) (top : AreApart ts) (below : AreNamedBelow ts) where
+  parent_at_root : (p : NodeId) → is_root p ≡ true → IsParent (rows_of ts) p
   parent_at_root p root =
       let first : rank p ≡ 0 = rw root refl in
       let at_top : children_of (rows_of ts) p ≡ numbers_from 0 ts = rw root refl in
-      let front : front_of prefix p ≡ prefix = rw root refl in
       record {
         kids = ts;
         are = at_top ∙ ap (λ (n : ℕ). numbers_from n ts) (sym first);
         sit = subst (λ (n : ℕ). Sits (rows_from 0 ts) n ts) (sym first) (all_sit ts);
-        kids_named = subst (λ (text : List ℕ). AreNamed text ts) (sym front) top;
+        apart = top;
       }
 
-  parent_below : (p : NodeId) → rank p ≤ count ts → is_root p ≡ false → IsParent prefix (rows_of ts) p
+  parent_below : (p : NodeId) → rank p ≤ count ts → is_root p ≡ false → IsParent (rows_of ts) p
   parent_below p within other =
       let next : rank p ≡ p.0 + 1 = rw other refl in
       let own_children : children_of (rows_of ts) p ≡ (get_or (rows_from 0 ts) p.0 blank_row).children = rw other refl in
-      let front : front_of prefix p ≡ [] = rw other refl in
       let row : IsRow (rows_from 0 ts) p.0 = row_in (rows_from 0 ts) 0 p.0 p.0 ts (omega (arith, next)) (omega arith) (all_sit ts) below in
       record {
         kids = row.kids;
         are = own_children ∙ ap (λ (r : Row). r.children) row.is ∙ ap (λ (n : ℕ). numbers_from n row.kids) (sym next);
         sit = subst (λ (n : ℕ). Sits (rows_from 0 ts) n row.kids) (sym next) row.sit;
-        kids_named = subst (λ (text : List ℕ). AreNamed text row.kids) (sym front) row.kids_named;
+        apart = row.kids_named.apart;
       }
 
-  parent_in : (p : NodeId) → rank p ≤ length (rows_from 0 ts) → IsParent prefix (rows_of ts) p
+  parent_in : (p : NodeId) → rank p ≤ length (rows_from 0 ts) → IsParent (rows_of ts) p
   parent_in p within =
       elim (cases_Bool (is_root p)) [ inl root ↦ parent_at_root p root | inr other ↦ parent_below p (omega (arith, length_rows 0 ts)) other ]
 
@@ -214,7 +212,7 @@ module _ (prefix : List ℕ) (ts : Forest) (top : AreNamed prefix ts) (below : A
   child_each p at n (c ∷ cs) le room h = (record { behind = omega (arith, h.0); within = omega (arith, h.0) }, child_each p at n cs le room h.1)
 
   -- a fact of each number where the children sit is one of each child
-  of_children : (p : NodeId) (parent : IsParent prefix (rows_of ts) p) (P : List NodeId → NodeId → Type 0) → AllByRecursion (P (numbers_from (rank p) parent.kids)) (numbers_from (rank p) parent.kids) → All (P (children_of (rows_of ts) p)) (children_of (rows_of ts) p)
+  of_children : (p : NodeId) (parent : IsParent (rows_of ts) p) (P : List NodeId → NodeId → Type 0) → AllByRecursion (P (numbers_from (rank p) parent.kids)) (numbers_from (rank p) parent.kids) → All (P (children_of (rows_of ts) p)) (children_of (rows_of ts) p)
   of_children p parent P h =
       subst (λ (cs : List NodeId). All (P cs) cs) (sym parent.are) (All-from_recursion (P (numbers_from (rank p) parent.kids)) (numbers_from (rank p) parent.kids) h)
 
@@ -222,17 +220,17 @@ module _ (prefix : List ℕ) (ts : Forest) (top : AreNamed prefix ts) (below : A
   sound_rows small = record {
     small = omega (arith, length_rows 0 ts);
     children = λ p within.
-        let parent : IsParent prefix (rows_of ts) p = parent_in p within in
+        let parent : IsParent (rows_of ts) p = parent_in p within in
         of_children p parent (λ cs. IsChild (rows_of ts) p)
         (child_each p (rank p) (rank p + count parent.kids) (numbers_from (rank p) parent.kids) (omega arith) (room_of (rows_from 0 ts) (rank p) parent.kids parent.sit) (numbers_within (rank p) parent.kids));
     found = λ p within.
-        let parent : IsParent prefix (rows_of ts) p = parent_in p within in
+        let parent : IsParent (rows_of ts) p = parent_in p within in
         of_children p parent (λ cs c. named (rows_of ts) cs (member_at (rows_of ts) c) ≡ Some c)
-        (found_each (rows_of ts) (rank p) parent.kids parent.sit parent.kids_named.apart);
+        (found_each (rows_of ts) (rank p) parent.kids parent.sit parent.apart);
   }
 
-  pub fronted_rows : (p : NodeId) → rank p ≤ length (rows_from 0 ts) → All (HasFront (rows_of ts) (front_of prefix p)) (children_of (rows_of ts) p)
-  fronted_rows p within =
-      let parent : IsParent prefix (rows_of ts) p = parent_in p within in
-      of_children p parent (λ cs. HasFront (rows_of ts) (front_of prefix p))
-      (fronted_each (rows_of ts) (front_of prefix p) (rank p) parent.kids parent.sit parent.kids_named.fronted)
+  -- below a node the member of each child is its name
+  pub fronted_rows : (i : ℕ) → i < length (rows_from 0 ts) → AllByRecursion (HasFront (rows_of ts) []) (get_or (rows_from 0 ts) i blank_row).children
+  fronted_rows i lt =
+      let row : IsRow (rows_from 0 ts) i = row_in (rows_from 0 ts) 0 i i ts (omega (arith, lt, length_rows 0 ts)) (omega arith) (all_sit ts) below in
+      subst (λ (r : Row). AllByRecursion (HasFront (rows_of ts) []) r.children) (sym row.is) (fronted_each (rows_of ts) [] (i + 1) row.kids row.sit row.kids_named.fronted)

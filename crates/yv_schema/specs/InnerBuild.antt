@@ -1,32 +1,85 @@
 -- Only private clauses cite this: how the rows grow while statements are gone over.
-use Rattle.std.specs.Prelude.{◌≡◌, ℕ, List, [], ◌∷◌, ◌++◌, length, Bool, if◌then◌else◌}
-use Rattle.std.specs.Str.{bytes_eq}
+use Rattle.std.specs.Prelude.{◌≡◌, ◌≢◌, ◌<◌, ℕ, ◌+◌, ◌==◌, List, [], ◌∷◌, ◌++◌, map, length, Bool, true, false, if◌then◌else◌, slice_get, Some}
+use Rattle.std.specs.List.{list_any}
 use Rattle.yv_statement.specs.Tree as statement
 use Rattle.yv_conform.specs.Names.{keyword_of}
+use Rattle.yv_selection.specs.Choice.{Choice}
+use Rattle.yv_rows.specs.Files.{Files, brief_of, home_at, tree_name}
 use Rattle.yv_schema.specs.declared.node.NodeId.{NodeId}
-use Rattle.yv_schema.specs.Tree.{Forest}
-use Rattle.yv_schema.specs.Module.{given, nodes_of, types_in}
+use Rattle.yv_schema.specs.Truth.{Truth, is_on}
+use Rattle.yv_schema.specs.Tree.{Forest, no_trees, tree}
+use Rattle.yv_schema.specs.Module.{given, is_given, module_nodes, nodes_of, types_in}
 use Rattle.yv_schema.specs.Rows.{Row}
-use Rattle.yv_schema.specs.InnerNumbers.{numbers_from, rows_from}
+use Rattle.yv_schema.specs.InnerNumbers.{count, numbers_from, rows_from}
 
 -- the module above: none at the top, else that of the nodes themselves
 abbrev pub above_of : Bool → List ℕ → List ℕ
 above_of is_top home = if is_top then [] else home
 
--- the trees that a block's statements give
-abbrev pub block_trees : List ℕ → Bool → List statement.Tree → Forest
-block_trees home is_top ss = nodes_of home (above_of is_top home) (statement.forest ss)
+-- the trees that a block's statements give, before others
+abbrev pub block_trees : Truth → ℕ → List ℕ → Bool → List statement.Tree → Forest → Forest
+block_trees truth file home is_top ss others = nodes_of truth file home (above_of is_top home) (statement.forest ss) others
 
 -- the trees that a statement gives, before others
-abbrev pub with_given : List ℕ → Bool → statement.Tree → Forest → Forest
-with_given home is_top s others =
-    given (keyword_of s.head.keyword) home (above_of is_top home) s.head (types_in s.children) (nodes_of home home s.children) others
+abbrev pub statement_trees : Truth → ℕ → List ℕ → Bool → statement.Tree → Forest → Forest
+statement_trees truth file home is_top s others =
+    let inside : Forest = nodes_of truth file home home s.children no_trees in
+    let own : Forest = given (keyword_of s.head.keyword) file home (above_of is_top home) s.head (types_in s.children) inside others in
+    if is_on truth file s.children then own else others
 
 -- rows and numbers were added for these trees: whichever others follow, the rows and numbers are those of both
 pub record Adds (trees : Forest → Forest) (old new : List Row) (before after : List NodeId) : Type 0 where
   pub rows : (others : Forest) → new ++ rows_from (length new) others ≡ old ++ rows_from (length old) (trees others)
   pub numbers : (others : Forest) → after ++ numbers_from (length new) others ≡ before ++ numbers_from (length old) (trees others)
 
--- what stands before a name in its member's, below a node of the module `above`
-abbrev pub front_for : List ℕ → List ℕ → List ℕ
-front_for above home = if bytes_eq above home then [] else home ++ 58 ∷ []
+-- the nodes of a module, by its name
+pub record Group : Type 0 where
+  pub name : List ℕ
+  pub nodes : Forest
+
+-- of the files from number m on, the modules that are implemented, each with its nodes
+abbrev pub groups_from : Truth → Choice → Files → ℕ → Files → List Group
+groups_from truth choice files m [] = []
+groups_from truth choice files m (t ∷ ts) =
+    let behind : List Group = groups_from truth choice files (m + 1) ts in
+    if is_given choice t then record { name = tree_name t; nodes = module_nodes truth files m t no_trees } ∷ behind else behind
+
+-- one list of trees behind the other
+abbrev pub joined : Forest → Forest → Forest
+joined no_trees us = us
+joined (tree t ts) us = tree t (joined ts us)
+
+-- all nodes of modules
+abbrev pub all_nodes : List Group → Forest
+all_nodes [] = no_trees
+all_nodes (g ∷ gs) = joined g.nodes (all_nodes gs)
+
+-- the numbers of a module's nodes at the top, by its name
+pub record Top : Type 0 where
+  pub name : List ℕ
+  pub numbers : List NodeId
+
+-- those of modules, where the first node has the number `first`
+abbrev pub tops_from : ℕ → List Group → List Top
+tops_from first [] = []
+tops_from first (g ∷ gs) = record { name = g.name; numbers = numbers_from first g.nodes } ∷ tops_from (first + count g.nodes) gs
+
+-- the numbers of all of them
+abbrev pub all_numbers : List Top → List NodeId
+all_numbers [] = []
+all_numbers (t ∷ ts) = t.numbers ++ all_numbers ts
+
+-- the number of each file's module
+abbrev pub AreHomes : Files → List ℕ → Type 0
+AreHomes files homes = (n : ℕ) → n < length files → slice_get homes n ≡ Some (home_at (map brief_of files) n)
+
+-- no byte of the text is a colon
+abbrev pub HasNoColon : List ℕ → Type 0
+HasNoColon text = list_any (λ byte. byte == 58) text ≡ false
+
+-- the modules of files: their names have no colon, aren't empty and differ
+pub record AreNames (choice : Choice) (files : Files) : Type 0 where
+  pub plain : (n : ℕ) (t : statement.Tree) → slice_get files n ≡ Some t → is_given choice t ≡ true → HasNoColon (tree_name t)
+  pub filled : (n : ℕ) (t : statement.Tree) → slice_get files n ≡ Some t → is_given choice t ≡ true → tree_name t ≢ []
+  pub differ : (m n : ℕ) (t u : statement.Tree) → m < n → slice_get files m ≡ Some t → slice_get files n ≡ Some u
+      → is_given choice t ≡ true → is_given choice u ≡ true → tree_name t ≢ tree_name u

@@ -1,9 +1,12 @@
+pub mod Truth
 pub mod Tree
 pub mod Module
 pub mod Refuses
 pub mod Rows
 pub mod InnerMember
-pub mod InnerTables
-pub mod InnerNames
+pub mod InnerConditions
 pub mod InnerNumbers
 pub mod InnerBuild
+pub mod InnerTables
+pub mod InnerTops
+pub mod InnerParts

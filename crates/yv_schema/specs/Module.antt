@@ -1,5 +1,5 @@
--- The schema tree that a module's statements give (RFC 7950, sections 7.5, 7.6 and 9).
-use Rattle.std.specs.Prelude.{ℕ, List, [], ◌∷◌, ◌++◌, Option, Some, None, option_to_list, codes, if◌then◌else◌}
+-- The schema tree that the statements of files give (RFC 7950, sections 7.5, 7.6 and 9).
+use Rattle.std.specs.Prelude.{ℕ, ◌+◌, ◌==◌, Bool, ◌&&◌, not, List, [], ◌∷◌, ◌++◌, map, Option, Some, None, option_to_list, codes, if◌then◌else◌}
 use Rattle.std.specs.Str.{bytes_eq}
 use Rattle.yv_statement.specs.Tree.{Head, name_of}
 use Rattle.yv_statement.specs.Tree as statement
@@ -10,6 +10,9 @@ use Rattle.yv_schema.specs.declared.node.NodeKind.{NodeKind}
 use Rattle.yv_schema.specs.declared.node.NodeKind.TheVariants.{Container, Leaf}
 use Rattle.yv_schema.specs.declared.node.PlainType.{PlainType}
 use Rattle.yv_schema.specs.declared.node.PlainType.TheVariants.{Text, Int32, Boolean}
+use Rattle.yv_selection.specs.Choice.{Choice, is_implemented}
+use Rattle.yv_rows.specs.Files.{Briefs, Files, brief_of, home_at, is_module, tree_name}
+use Rattle.yv_schema.specs.Truth.{Truth, is_on}
 use Rattle.yv_schema.specs.Tree.{Label, node, Forest, no_trees, tree}
 
 -- the type of this name, where it is taken
@@ -35,23 +38,63 @@ types_in (statement.Then h c o) = types_at (keyword_of h.keyword) h ++ types_in 
 abbrev pub member_name : List ℕ → List ℕ → List ℕ → List ℕ
 member_name above home name = if bytes_eq above home then name else home ++ 58 ∷ name
 
--- what the node of a statement is
-abbrev pub label_of : NodeKind → List ℕ → List ℕ → Head → List PlainType → Label
-label_of kind home above h types =
-    record { kind = kind; module_name = home; name = name_of h; member = member_name above home (name_of h); types = types }
+-- what the node of a statement of a file is
+abbrev pub label_of : NodeKind → ℕ → List ℕ → List ℕ → Head → List PlainType → Label
+label_of kind file home above h types = record {
+  file = file;
+  offset = h.offset;
+  line = h.line;
+  kind = kind;
+  module_name = home;
+  name = name_of h;
+  member = member_name above home (name_of h);
+  types = types;
+}
 
--- the node that a statement gives, by its keyword, before the nodes that the statements behind it give
-abbrev pub given : Keyword → List ℕ → List ℕ → Head → List PlainType → Forest → Forest → Forest
-given word.Container home above h types inside others = tree (node (label_of Container home above h []) inside) others
-given word.Leaf home above h types inside others = tree (node (label_of Leaf home above h types) no_trees) others
-given _ home above h types inside others = others
+-- the node that a statement of a file gives, by its keyword, before the nodes that the statements behind it give
+abbrev pub given : Keyword → ℕ → List ℕ → List ℕ → Head → List PlainType → Forest → Forest → Forest
+given word.Container file home above h types inside others = tree (node (label_of Container file home above h []) inside) others
+given word.Leaf file home above h types inside others = tree (node (label_of Leaf file home above h types) no_trees) others
+given _ file home above h types inside others = others
 
--- the nodes that statements of the module `home` give, in order, below a node of the module `above`
-abbrev pub nodes_of : List ℕ → List ℕ → statement.Forest → Forest
-nodes_of home above statement.End = no_trees
-nodes_of home above (statement.Then h c o) =
-    given (keyword_of h.keyword) home above h (types_in c) (nodes_of home home c) (nodes_of home above o)
+-- the nodes that statements of a file of the module `home` give, in order, below a node of the module `above`, and then
+-- others: a statement gives none where one of its conditions doesn't hold
+abbrev pub nodes_of : Truth → ℕ → List ℕ → List ℕ → statement.Forest → Forest → Forest
+nodes_of truth file home above statement.End others = others
+nodes_of truth file home above (statement.Then h c o) others =
+    let behind : Forest = nodes_of truth file home above o others in
+    let inside : Forest = nodes_of truth file home home c no_trees in
+    if is_on truth file c then given (keyword_of h.keyword) file home above h (types_in c) inside behind else behind
 
--- the schema tree of a module: at the top no module is above
-abbrev pub schema_of : statement.Tree → Forest
-schema_of s = nodes_of (name_of s.head) [] s.children
+-- the file n is another of the files of the module whose own file is m
+abbrev pub is_part : Briefs → ℕ → ℕ → Bool
+is_part files m n = not (n == m) && (home_at files n == m)
+
+-- of the files from number n on, the nodes of those that are other files of the module of file m, and then others: at the
+-- top no module is above
+abbrev pub parts_from : Truth → Briefs → ℕ → List ℕ → ℕ → Files → Forest → Forest
+parts_from truth files m home n [] others = others
+parts_from truth files m home n (t ∷ ts) others =
+    let behind : Forest = parts_from truth files m home (n + 1) ts others in
+    if is_part files m n then nodes_of truth n home [] t.children behind else behind
+
+-- the nodes of a module: those of its own file, and then those of its submodules by file (RFC 7950, section 5.1)
+abbrev pub module_nodes : Truth → Files → ℕ → statement.Tree → Forest → Forest
+module_nodes truth files m root others =
+    let home : List ℕ = tree_name root in
+    nodes_of truth m home [] root.children (parts_from truth (map brief_of files) m home 0 files others)
+
+-- a file is that of a module that is implemented
+abbrev pub is_given : Choice → statement.Tree → Bool
+is_given choice t = is_module t && is_implemented choice (tree_name t)
+
+-- of the files from number m on, the nodes of each module that is implemented
+abbrev pub modules_from : Truth → Choice → Files → ℕ → Files → Forest
+modules_from truth choice files m [] = no_trees
+modules_from truth choice files m (t ∷ ts) =
+    let behind : Forest = modules_from truth choice files (m + 1) ts in
+    if is_given choice t then module_nodes truth files m t behind else behind
+
+-- the schema tree of files: the nodes of the implemented modules by file (RFC 7950, section 5.6.5)
+abbrev pub schema_of : Truth → Choice → Files → Forest
+schema_of truth choice files = modules_from truth choice files 0 files

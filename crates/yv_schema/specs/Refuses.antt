@@ -1,25 +1,49 @@
--- What the compilation of a module refuses.
-use Rattle.std.specs.Prelude.{◌≡◌, ◌≢◌, ◌<◌, ◌⊎◌, ℕ, Bool, true, false, is_some, List, Option, Some, None, slice_get}
-use Rattle.yv_statement.specs.Tree.{Tree, trees, name_of}
+-- What the compilation of files refuses.
+use Rattle.std.specs.Prelude.{◌≡◌, ◌≢◌, ◌<◌, ◌⊎◌, ℕ, Bool, true, false, is_some, List, length, Option, Some, None, slice_get}
+use Rattle.yv_statement.specs.Tree.{Tree, trees}
 use Rattle.yv_statement.specs.declared.refusal.Refusal.{Refusal}
 use Rattle.yv_statement.specs.declared.refusal.Code.TheVariants as code
-use Rattle.yv_statement.specs.Order.{refusal_at}
+use Rattle.yv_statement.specs.Order.{Among, Stands, refusal_at}
 use Rattle.yv_conform.specs.declared.keyword.Keyword.{Keyword}
 use Rattle.yv_conform.specs.declared.keyword.Keyword.TheVariants as word
 use Rattle.yv_conform.specs.Names.{keyword_of}
 use Rattle.yv_conform.specs.Faults.{Bad}
-use Rattle.yv_schema.specs.Module.{plain_type}
+use Rattle.yv_selection.specs.Choice.{Choice}
+use Rattle.yv_rows.specs.Files.{Files}
+use Rattle.yv_link.specs.Links.{BadLinks}
+use Rattle.yv_schema.specs.Truth.{IsTruth, Truth}
+use Rattle.yv_schema.specs.Tree.{Forest, Label, families, labels}
+use Rattle.yv_schema.specs.Module.{plain_type, schema_of}
 
 -- the statements that are taken so far; one of no keyword of the language is refused as such, and not here
 abbrev pub is_taken : Keyword → Option (List ℕ) → Bool
 is_taken word.Module argument = true
+is_taken word.Submodule argument = true
+is_taken word.BelongsTo argument = true
 is_taken word.YangVersion argument = true
 is_taken word.Namespace argument = true
 is_taken word.Prefix argument = true
+is_taken word.Import argument = true
+is_taken word.Include argument = true
+is_taken word.Revision argument = true
+is_taken word.RevisionDate argument = true
+is_taken word.Organization argument = true
+is_taken word.Contact argument = true
+is_taken word.Description argument = true
+is_taken word.Reference argument = true
+is_taken word.Status argument = true
+is_taken word.Feature argument = true
+is_taken word.IfFeature argument = true
+is_taken word.Identity argument = true
+is_taken word.Base argument = true
+is_taken word.Extension argument = true
+is_taken word.Argument argument = true
+is_taken word.YinElement argument = true
 is_taken word.Container argument = true
 is_taken word.Leaf argument = true
 is_taken word.Type None = false
 is_taken word.Type (Some name) = is_some (plain_type name)
+is_taken word.Extended argument = true
 is_taken word.Unknown argument = true
 is_taken _ argument = false
 
@@ -29,22 +53,45 @@ pub data Early : Tree → Refusal → Type 0 where
   untaken_below : {s : Tree} {f : Refusal} (k : ℕ) (c : Tree) → keyword_of s.head.keyword ≢ word.Extended
       → slice_get (trees s.children) k ≡ Some c → Early c f → Early s f
 
--- the statement defines a data node
-abbrev pub is_node : Keyword → Bool
-is_node word.Container = true
-is_node word.Leaf = true
-is_node _ = false
+-- a refusal that names the file as 0, told of the file of this number
+abbrev pub in_file : ℕ → Refusal → Refusal
+in_file n r = record { code = r.code; file = n; offset = r.offset; line = r.line }
 
--- a statement that does
-abbrev pub IsNode : Tree → Type 0
-IsNode s = is_node (keyword_of s.head.keyword) ≡ true
+-- f stands in the file of this number: it isn't as the tables of the language say, or has what isn't taken
+pub record BadFile (n : ℕ) (t : Tree) (f : Refusal) : Type 0 where
+  pub own : Refusal
+  pub stands : Bad t own ⊎ Early t own
+  pub is : f ≡ in_file n own
 
--- two data nodes of one parent have one name (RFC 7950, section 6.2.1): the later is refused
-pub data Doubled : Tree → Refusal → Type 0 where
-  doubled : {s : Tree} (i k : ℕ) (a b : Tree) → i < k → slice_get (trees s.children) i ≡ Some a → slice_get (trees s.children) k ≡ Some b
-      → IsNode a → IsNode b → name_of a.head ≡ name_of b.head → Doubled s (refusal_at code.DuplicateNode 0 b.head)
-  doubled_below : {s : Tree} {f : Refusal} (k : ℕ) (c : Tree) → slice_get (trees s.children) k ≡ Some c → IsNode c → Doubled c f → Doubled s f
+-- a refusal at the statement that defines a node
+abbrev pub refusal_of : Label → Refusal
+refusal_of l = record { code = code.DuplicateNode; file = l.file; offset = l.offset; line = l.line }
 
--- the refusals of a module; the least of them, by phase, offset and code, is answered
-abbrev pub Refuses : Tree → Refusal → Type 0
-Refuses s f = Bad s f ⊎ (Early s f ⊎ Doubled s f)
+-- a node before number k has the module and the name of this one
+pub record IsRepeated (ls : List Label) (k : ℕ) (l : Label) : Type 0 where
+  pub place : ℕ
+  pub first : Label
+  pub before : place < k
+  pub at : slice_get ls place ≡ Some first
+  pub same_module : first.module_name ≡ l.module_name
+  pub same_name : first.name ≡ l.name
+
+-- two of these nodes have one module and one name: the later is refused
+abbrev pub Repeated : List Label → Refusal → Type 0
+Repeated ls f = Among ls (λ k l. Stands (IsRepeated ls k l) (refusal_of l)) (length ls) f
+
+-- two nodes of one parent have one module and one name (RFC 7950, section 6.2.1): at the top, or below a node
+abbrev pub Doubled : Forest → Refusal → Type 0
+Doubled ts f = Repeated (labels ts) f ⊎ Among (families ts) (λ k. Repeated) (length (families ts)) f
+
+-- f stands in the schema tree of the files
+pub record BadSchema (choice : Choice) (files : Files) (f : Refusal) : Type 0 where
+  pub truth : Truth
+  pub is_truth : IsTruth files choice truth
+  pub doubled : Doubled (schema_of truth choice files) f
+
+-- the refusals of files; the least of them, by phase, file, offset and code, is answered. Every file is looked at as such
+-- and by its links to others, its features and its identities, and of the implemented modules the nodes as well
+abbrev pub Refuses : Choice → Files → Refusal → Type 0
+Refuses choice files f =
+    Among files BadFile (length files) f ⊎ (BadLinks files f ⊎ BadSchema choice files f)

@@ -18,7 +18,7 @@ pub record Rows : Type 0 where
 
 -- what stands where there is no row
 abbrev pub blank_row : Row
-blank_row = record { label = record { kind = Leaf; module_name = []; name = []; member = []; types = [] }; children = [] }
+blank_row = record { label = record { file = 0; offset = 0; line = 0; kind = Leaf; module_name = []; name = []; member = []; types = [] }; children = [] }
 
 -- the row of a node
 abbrev pub row_at : Rows → NodeId → Row

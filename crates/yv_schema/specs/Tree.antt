@@ -1,12 +1,16 @@
 -- The schema as a tree (RFC 7950, section 7).
-use Rattle.std.specs.Prelude.{ℕ, List, Bool, false, ◌||◌}
+use Rattle.std.specs.Prelude.{ℕ, List, [], ◌∷◌, ◌++◌, Bool, false, ◌||◌}
 use Rattle.std.specs.Str.{bytes_eq}
 use Rattle.yv_schema.specs.declared.node.NodeKind.{NodeKind}
 use Rattle.yv_schema.specs.declared.node.PlainType.{PlainType}
 
 -- what a schema node is, without its place in the tree: `member` is what a JSON member that writes it is called
--- (RFC 7951, section 4), and `types` are those that its values may have, in order
+-- (RFC 7951, section 4), `types` are those that its values may have, in order, and `file`, `offset` and `line` say where
+-- the statement that defines it stands
 pub record Label : Type 0 where
+  pub file : ℕ
+  pub offset : ℕ
+  pub line : ℕ
   pub kind : NodeKind
   pub module_name : List ℕ
   pub name : List ℕ
@@ -21,6 +25,16 @@ mutual
   pub data Forest : Type 0 where
     no_trees : Forest
     tree : Tree → Forest → Forest
+
+-- these nodes without those below them
+abbrev pub labels : Forest → List Label
+labels no_trees = []
+labels (tree (node l kids) ts) = l ∷ labels ts
+
+-- the children of each node, at any depth
+abbrev pub families : Forest → List (List Label)
+families no_trees = []
+families (tree (node l kids) ts) = labels kids ∷ families kids ++ families ts
 
 -- one of these trees is what a JSON member of this name writes
 abbrev pub is_known : Forest → List ℕ → Bool

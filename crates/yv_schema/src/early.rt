@@ -33,11 +33,30 @@ fn is_taken(keyword: Keyword, argument: Option<&str>) -> bool
     match (keyword, argument) {
         (
             Keyword::Module
+            | Keyword::Submodule
+            | Keyword::BelongsTo
             | Keyword::YangVersion
             | Keyword::Namespace
             | Keyword::Prefix
+            | Keyword::Import
+            | Keyword::Include
+            | Keyword::Revision
+            | Keyword::RevisionDate
+            | Keyword::Organization
+            | Keyword::Contact
+            | Keyword::Description
+            | Keyword::Reference
+            | Keyword::Status
+            | Keyword::Feature
+            | Keyword::IfFeature
+            | Keyword::Identity
+            | Keyword::Base
+            | Keyword::Extension
+            | Keyword::Argument
+            | Keyword::YinElement
             | Keyword::Container
             | Keyword::Leaf
+            | Keyword::Extended
             | Keyword::Unknown,
             _,
         ) => true,

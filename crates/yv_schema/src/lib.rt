@@ -1,17 +1,23 @@
-//! The schema of a YANG module: from its statements to numbered nodes with their member names and types.
+//! The schema of YANG modules: from their statements to numbered nodes with their member names and types.
 #![tactic(auto)]
 
+mod block;
 mod build;
 mod compilation;
-mod doubled;
+mod conditions;
+mod conformance;
 mod early;
+pub mod laws;
+mod modules;
 mod name;
 mod node;
 mod nodes;
 mod schema;
 mod table;
+mod tables;
 #[cfg(test)]
 mod tests;
+mod tops;
 
 pub use compilation::compile;
 pub use node::{Node, NodeId, NodeKind, PlainType};

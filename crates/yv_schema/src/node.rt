@@ -1,9 +1,10 @@
 //! A schema node, and its number.
-ghost use Rattle.std.specs.Prelude.{◌≡◌, IfOk, string_bytes};
+ghost use Rattle.std.specs.Prelude.{◌≡◌, Some, None, IfOk, string_bytes, if◌then◌else◌};
 
 use std::alloc::{AllocError, Global};
 use std::marker::Model;
 use std::rc::RcStr;
+use yv_statement::{Code, Refusal};
 
 /// The number of a schema node, or `Schema::ROOT`.
 #[derive(Clone, Copy, Debug, PartialEq, Eq, PartialOrd, Ord)]
@@ -57,9 +58,18 @@ impl PlainType {
     }
 }
 
+// Where the statement that defines a node stands.
+#[derive(Clone, Copy)]
+pub(crate) struct Place {
+    pub(crate) file: u32,
+    pub(crate) offset: u64,
+    pub(crate) line: u64,
+}
+
 /// A schema node. Contracts see its label and the numbers of its children.
 #[derive(Drop)]
 pub struct Node {
+    pub(crate) place: Place,
     pub(crate) kind: NodeKind,
     pub(crate) module: RcStr,
     pub(crate) name: String,
@@ -79,6 +89,9 @@ impl Model for Node {
 
     ghost view = { λ n. record {
       label = record {
+        file = n.place.file;
+        offset = n.place.offset;
+        line = n.place.line;
         kind = n.kind;
         module_name = rc_str_bytes n.module;
         name = string_bytes n.name;
@@ -90,6 +103,45 @@ impl Model for Node {
 }
 
 impl Node {
+    ghost use Rattle.yv_schema.specs.Refuses.{refusal_of};
+
+    /// The number of the file in which the node is defined.
+    pub fn file(&self) -> u32
+        ensures { result ≡ self.now.label.file }
+    {
+        self.place.file
+    }
+
+    /// The offset in bytes of the keyword of the statement that defines it.
+    pub fn offset(&self) -> u64
+        ensures { result ≡ self.now.label.offset }
+    {
+        self.place.offset
+    }
+
+    /// The line of that keyword, from 1.
+    pub fn line(&self) -> u64
+        ensures { result ≡ self.now.label.line }
+    {
+        self.place.line
+    }
+
+    /// The refusal of the node, where its parent has an earlier one of its module and name.
+    pub(crate) fn refused(&self, repeated: bool) -> Option<Refusal>
+        ensures { result ≡ (if repeated then Some (refusal_of self.now.label) else None) }
+    {
+        if repeated {
+            Some(Refusal {
+                code: Code::DuplicateNode,
+                file: self.place.file,
+                offset: self.place.offset,
+                line: self.place.line,
+            })
+        } else {
+            None
+        }
+    }
+
     /// What the node is.
     pub fn kind(&self) -> NodeKind
         ensures { result ≡ self.now.label.kind }

@@ -4,20 +4,22 @@ ghost use Rattle.std.specs.Prelude.{◌≡◌, ◌<◌, ◌≤◌, ◌==◌, len
 use crate::node::{Node, NodeId};
 use crate::nodes::Nodes;
 use crate::table::Table;
+use std::collections::BTreeMap;
 use std::marker::Model;
 
-/// The schema of a module: nodes with numbers from 0, each behind its parent. Contracts see its rows, and
+/// The schema of modules: nodes with numbers from 0, each behind its parent. Contracts see its rows, and
 /// by them the tree that they stand for.
 #[derive(Drop)]
 pub struct Schema {
-    pub(crate) prefix: String,
     pub(crate) nodes: Nodes,
     pub(crate) top: Vec<NodeId>,
+    /// The nodes at the top by name, for each module's name.
+    pub(crate) modules: BTreeMap<String, Table>,
+    /// The children of each node by name.
     pub(crate) tables: Vec<Table>,
 }
 
 impl Model for Schema {
-    ghost use Rattle.std.specs.Prelude.{string_bytes};
     ghost use Rattle.yv_schema.specs.Rows.{Rows};
     ghost use Rattle.yv_schema.specs.InnerTables.{IsKept};
 
@@ -25,7 +27,7 @@ impl Model for Schema {
 
     ghost view = { λ s. record { nodes = s.nodes; top = s.top.items } };
 
-    ghost invariant = { λ s. IsKept (string_bytes s.prefix) s.tables.items (record { nodes = s.nodes; top = s.top.items }) };
+    ghost invariant = { λ s. IsKept s.modules s.tables.items (record { nodes = s.nodes; top = s.top.items }) };
 }
 
 impl Schema {
@@ -82,10 +84,19 @@ impl Schema {
         ensures known { is_some result ≡ is_known (below self.now parent) member.now }
     {
         if parent == Schema::ROOT {
-            let name = member.strip_prefix(self.prefix.as_str())?;
-            self.tables[0].get(name).copied()
+            self.find_at_top(member)
         } else {
-            self.tables[parent.0 as usize + 1].get(member).copied()
+            self.tables[parent.0 as usize].get(member).copied()
         }
+    }
+
+    // The node at the top that a JSON member of this name writes.
+    fn find_at_top(&self, member: &str) -> Option<NodeId>
+        ensures { result ≡ named self.now self.now.top member.now }
+    {
+        let modules = &self.modules;
+        let (module, name) = member.split_once(':')?;
+        let table = modules.get(module)?;
+        table.get(name).copied()
     }
 }

@@ -1,49 +1,62 @@
-//! The tables by which children are found.
-ghost use Rattle.std.specs.Prelude.{◌≡◌, ◌<◌, ℕ, List, All, length, IfOk, OnOk};
+//! The table by which the children of a node are found.
+ghost use Rattle.std.specs.Prelude.{◌≡◌, ◌<◌, ℕ, List, All, length, is_some, IfOk, OnOk};
 ghost use Rattle.std.specs.BTreeMap.{get_by_text};
-ghost use Rattle.yv_schema.specs.InnerTables.{AreTables, IsTable, kept_first};
+ghost use Rattle.yv_statement.specs.Order.{IsLeast};
+ghost use Rattle.yv_schema.specs.InnerTables.{IsTable, Namesakes, kept_first, labels_at};
 
 use crate::node::NodeId;
 use crate::nodes::Nodes;
 use std::alloc::{AllocError, Global};
 use std::collections::BTreeMap;
+use yv_statement::{Refusal, lesser};
 
-/// The children of a node by name: of several with one name the first.
+/// Children by name: of several with one name the first.
 pub(crate) type Table = BTreeMap<String, NodeId>;
 
-/// A table for the root, and one for each node.
-pub(crate) fn tables(alloc: Global, nodes: &Nodes, top: &[NodeId]) -> Result<Vec<Table>, AllocError>
-    requires top { All (λ c. c.0 < length nodes.now) top.now }
-    requires below { All (λ row. All (λ c. c.0 < length nodes.now) row.children) nodes.now }
-    ensures { IfOk result (λ tables. AreTables nodes.now top.now tables.items) }
-{
-    let mut tables = Vec::new(alloc);
-    tables.push(table(alloc, nodes, top)?)?;
-    for node in nodes.all() {
-        tables.push(table(alloc, nodes, node.children())?)?;
-    }
-    Ok(tables)
+/// Children by name, and the least refusal of one whose name an earlier one has.
+#[derive(Drop)]
+pub(crate) struct Family {
+    pub(crate) table: Table,
+    pub(crate) doubled: Option<Refusal>,
 }
 
-// The table of these children.
-fn table(alloc: Global, nodes: &Nodes, children: &[NodeId]) -> Result<Table, AllocError>
-    requires { All (λ c. c.0 < length nodes.now) children.now }
-    ensures { IfOk result (IsTable nodes.now children.now) }
-{
-    let mut table = BTreeMap::new(alloc);
-    for child in children {
-        keep_first(alloc, &mut table, nodes.get(*child).name(), *child)?;
+impl Family {
+    /// The family of these children.
+    pub(crate) fn of(
+        alloc: Global,
+        nodes: &Nodes,
+        children: &[NodeId],
+    ) -> Result<Family, AllocError>
+        requires { All (λ c. c.0 < length nodes.now) children.now }
+        ensures table { IfOk result (λ family. IsTable nodes.now children.now family.table) }
+        ensures doubled { IfOk result (λ family. IsLeast (Namesakes (labels_at nodes.now children.now)) family.doubled) }
+    {
+        let mut table = BTreeMap::new(alloc);
+        let mut doubled = None;
+        for child in children {
+            let node = nodes.get(*child);
+            let repeated = keep_first(alloc, &mut table, node.name(), *child)?;
+            let here = node.refused(repeated);
+            doubled = lesser(doubled, here);
+        }
+        Ok(Family { table, doubled })
     }
-    Ok(table)
 }
 
-// Adds a child at its name, where none has it.
-fn keep_first(alloc: Global, table: &mut Table, name: &str, child: NodeId) -> Result<(), AllocError>
-    ensures { OnOk result ((text : List ℕ) → get_by_text table.new text
+// Adds a child at its name, where none has it, and gives whether one has.
+fn keep_first(
+    alloc: Global,
+    table: &mut Table,
+    name: &str,
+    child: NodeId,
+) -> Result<bool, AllocError>
+    ensures repeated { IfOk result (λ repeated. repeated ≡ is_some (get_by_text table.old name.now)) }
+    ensures kept { OnOk result ((text : List ℕ) → get_by_text table.new text
         ≡ kept_first name.now child (get_by_text table.old text) text) }
 {
-    if !table.contains_key(name) {
-        table.insert(String::from_str(alloc, name)?, child)?;
+    if table.contains_key(name) {
+        return Ok(true);
     }
-    Ok(())
+    table.insert(String::from_str(alloc, name)?, child)?;
+    Ok(false)
 }

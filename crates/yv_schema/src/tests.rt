@@ -1,6 +1,7 @@
 use crate::{NodeKind, PlainType, Schema, compile};
 use std::alloc::{AllocError, Global};
 use std::test::Fail;
+use yv_selection::Selection;
 use yv_statement::{Code, Refusal, Statement, Stop};
 
 // A statement with an argument, on line 1.
@@ -27,30 +28,74 @@ fn leaf(
     Ok(leaf)
 }
 
-// The module `ex` with these statements.
-fn module(alloc: Global, body: Vec<Statement<'static>>) -> Result<Statement<'static>, AllocError> {
-    let mut module = statement(alloc, "module", "ex", 0)?;
+// A module with its prefix, and these statements.
+fn module_of(
+    alloc: Global,
+    name: &str,
+    body: Vec<Statement<'static>>,
+) -> Result<Statement<'static>, AllocError> {
+    let mut module = statement(alloc, "module", name, 0)?;
     module.adopt(statement(alloc, "yang-version", "1.1", 1)?)?;
     module.adopt(statement(alloc, "namespace", "urn:ex", 2)?)?;
-    module.adopt(statement(alloc, "prefix", "ex", 3)?)?;
+    module.adopt(statement(alloc, "prefix", name, 3)?)?;
     for statement in body {
         module.adopt(statement)?;
     }
     Ok(module)
 }
 
-// Why the module with these statements is refused.
-fn refusal(alloc: Global, body: Vec<Statement<'static>>) -> Result<Option<Refusal>, AllocError> {
-    match compile(alloc, &module(alloc, body)?) {
-        Err(Stop::Fault(refusal)) => Ok(Some(refusal)),
-        _ => Ok(None),
+// The files of the module `ex` alone, with these statements.
+fn module(
+    alloc: Global,
+    body: Vec<Statement<'static>>,
+) -> Result<Vec<Statement<'static>>, AllocError> {
+    let mut files = Vec::new(alloc);
+    files.push(module_of(alloc, "ex", body)?)?;
+    Ok(files)
+}
+
+// The submodule `s` of `ex` with these statements.
+fn submodule(
+    alloc: Global,
+    body: Vec<Statement<'static>>,
+) -> Result<Statement<'static>, AllocError> {
+    let mut home = statement(alloc, "belongs-to", "ex", 2)?;
+    home.adopt(statement(alloc, "prefix", "ex", 3)?)?;
+    let mut submodule = statement(alloc, "submodule", "s", 0)?;
+    submodule.adopt(statement(alloc, "yang-version", "1.1", 1)?)?;
+    submodule.adopt(home)?;
+    for statement in body {
+        submodule.adopt(statement)?;
+    }
+    Ok(submodule)
+}
+
+// The schema of files where each module is implemented, or why there is none.
+fn compiled(alloc: Global, files: &[Statement<'static>]) -> Result<Schema, Stop> {
+    compile(alloc, files, &Selection::everything(alloc))
+}
+
+// Why these files are refused.
+fn refusal_of(alloc: Global, files: &[Statement<'static>]) -> Option<Refusal> {
+    match compiled(alloc, files) {
+        Err(Stop::Fault(refusal)) => Some(refusal),
+        _ => None,
     }
 }
 
+// Why the module `ex` with these statements is refused.
+fn refusal(alloc: Global, body: Vec<Statement<'static>>) -> Result<Option<Refusal>, AllocError> {
+    Ok(refusal_of(alloc, &module(alloc, body)?))
+}
+
 fn at(code: Code, offset: u64) -> Option<Refusal> {
+    in_file(0, code, offset)
+}
+
+fn in_file(file: u32, code: Code, offset: u64) -> Option<Refusal> {
     Some(Refusal {
         code,
-        file: 0,
+        file,
         offset,
         line: 1,
     })
@@ -64,7 +109,7 @@ fn nodes_stand_in_the_order_of_their_statements(rt: HostRuntime) -> Result<(), F
     top.adopt(leaf(alloc, "b", "int32", 13)?)?;
     let last = leaf(alloc, "c", "boolean", 20)?;
     let root = module(alloc, vec![in alloc; top, last]?)?;
-    let schema = compile(alloc, &root).ok().ok_or("refused")?;
+    let schema = compiled(alloc, &root).ok().ok_or("refused")?;
     assert_eq!(rt; schema.len(), 4);
     assert!(rt; !schema.is_empty());
     let top = schema.find(Schema::ROOT, "ex:top").ok_or("top")?;
@@ -86,7 +131,7 @@ fn a_node_has_its_member_and_types(rt: HostRuntime) -> Result<(), Fail> {
     let mut top = statement(alloc, "container", "top", 10)?;
     top.adopt(leaf(alloc, "b", "int32", 13)?)?;
     let root = module(alloc, vec![in alloc; top]?)?;
-    let schema = compile(alloc, &root).ok().ok_or("refused")?;
+    let schema = compiled(alloc, &root).ok().ok_or("refused")?;
     let top = schema.find(Schema::ROOT, "ex:top").ok_or("top")?;
     let b = schema.find(top, "b").ok_or("b")?;
     let container = schema.node(top);
@@ -120,20 +165,121 @@ fn the_least_refusal_is_answered(rt: HostRuntime) -> Result<(), Fail> {
     assert!(rt; refusal(alloc, twice)? == at(Code::DuplicateNode, 20));
     let first = leaf(alloc, "a", "string", 10)?;
     let second = leaf(alloc, "a", "string", 20)?;
-    let status = statement(alloc, "status", "current", 30)?;
-    let twice = vec![in alloc; first, second, status]?;
+    let rpc = statement(alloc, "rpc", "r", 30)?;
+    let twice = vec![in alloc; first, second, rpc]?;
     assert!(rt; refusal(alloc, twice)? == at(Code::Unsupported, 30));
     Ok(())
 }
 
 #[test]
-fn extensions_are_not_taken(rt: HostRuntime) -> Result<(), Fail> {
+fn nothing_in_an_extension_is_looked_at(rt: HostRuntime) -> Result<(), Fail> {
     let alloc = rt.alloc();
     let mut extended = statement(alloc, "ex:note", "n", 12)?;
     extended.adopt(statement(alloc, "list", "l", 8)?)?;
     let mut top = statement(alloc, "container", "top", 10)?;
     top.adopt(extended)?;
-    assert!(rt; refusal(alloc, vec![in alloc; top]?)? == at(Code::Unsupported, 12));
+    let root = module(alloc, vec![in alloc; top]?)?;
+    let schema = compiled(alloc, &root).ok().ok_or("refused")?;
+    assert_eq!(rt; schema.len(), 1);
+    Ok(())
+}
+
+#[test]
+fn no_file_has_no_node(rt: HostRuntime) -> Result<(), Fail> {
+    let alloc = rt.alloc();
+    let files = Vec::new(alloc);
+    let schema = compiled(alloc, &files).ok().ok_or("refused")?;
+    assert!(rt; schema.is_empty());
+    assert!(rt; schema.find(Schema::ROOT, "ex:a") == None);
+    assert!(rt; schema.find(Schema::ROOT, "a") == None);
+    Ok(())
+}
+
+#[test]
+fn two_modules_have_a_leaf_of_one_name(rt: HostRuntime) -> Result<(), Fail> {
+    let alloc = rt.alloc();
+    let first = leaf(alloc, "x", "string", 10)?;
+    let second = leaf(alloc, "x", "int32", 20)?;
+    let b = module_of(alloc, "b", vec![in alloc; first]?)?;
+    let a = module_of(alloc, "a", vec![in alloc; second]?)?;
+    let files = vec![in alloc; b, a]?;
+    let schema = compiled(alloc, &files).ok().ok_or("refused")?;
+    let first = schema.find(Schema::ROOT, "b:x").ok_or("b:x")?;
+    let second = schema.find(Schema::ROOT, "a:x").ok_or("a:x")?;
+    assert!(rt; schema.children(Schema::ROOT) == [first, second].as_slice());
+    assert!(rt; schema.find(Schema::ROOT, "c:x") == None);
+    assert!(rt; schema.find(Schema::ROOT, "a:b:x") == None);
+    let node = schema.node(second);
+    assert!(rt; node.module() == "a");
+    assert!(rt; node.member(alloc)?.as_str() == "a:x");
+    assert_eq!(rt; node.file(), 1);
+    assert_eq!(rt; node.offset(), 20);
+    assert_eq!(rt; node.line(), 1);
+    Ok(())
+}
+
+#[test]
+fn nodes_of_a_submodule_follow_those_of_its_module(rt: HostRuntime) -> Result<(), Fail> {
+    let alloc = rt.alloc();
+    let part = submodule(alloc, vec![in alloc; leaf(alloc, "z", "string", 10)?]?)?;
+    let include = statement(alloc, "include", "s", 10)?;
+    let own = leaf(alloc, "a", "string", 20)?;
+    let home = module_of(alloc, "ex", vec![in alloc; include, own]?)?;
+    let files = vec![in alloc; part, home]?;
+    let schema = compiled(alloc, &files).ok().ok_or("refused")?;
+    let a = schema.find(Schema::ROOT, "ex:a").ok_or("ex:a")?;
+    let z = schema.find(Schema::ROOT, "ex:z").ok_or("ex:z")?;
+    assert!(rt; schema.children(Schema::ROOT) == [a, z].as_slice());
+    assert!(rt; schema.find(Schema::ROOT, "s:z") == None);
+    assert!(rt; schema.node(z).module() == "ex");
+    assert_eq!(rt; schema.node(z).file(), 0);
+    Ok(())
+}
+
+#[test]
+fn a_node_of_a_submodule_is_refused_behind_its_module(rt: HostRuntime) -> Result<(), Fail> {
+    let alloc = rt.alloc();
+    let part = submodule(alloc, vec![in alloc; leaf(alloc, "a", "string", 10)?]?)?;
+    let include = statement(alloc, "include", "s", 10)?;
+    let own = leaf(alloc, "a", "string", 20)?;
+    let home = module_of(alloc, "ex", vec![in alloc; include, own]?)?;
+    let files = vec![in alloc; part, home]?;
+    assert!(rt; refusal_of(alloc, &files) == in_file(0, Code::DuplicateNode, 10));
+    Ok(())
+}
+
+#[test]
+fn a_module_that_is_not_implemented_gives_no_nodes(rt: HostRuntime) -> Result<(), Fail> {
+    let alloc = rt.alloc();
+    let first = leaf(alloc, "x", "string", 10)?;
+    let second = leaf(alloc, "y", "string", 20)?;
+    let third = leaf(alloc, "y", "string", 30)?;
+    let ex = module_of(alloc, "ex", vec![in alloc; first]?)?;
+    let other = module_of(alloc, "i", vec![in alloc; second, third]?)?;
+    let files = vec![in alloc; ex, other]?;
+    assert!(rt; refusal_of(alloc, &files) == in_file(1, Code::DuplicateNode, 30));
+    let mut chosen = Selection::everything(alloc);
+    chosen.import_only.push(String::from_str(alloc, "i")?)?;
+    let schema = compile(alloc, &files, &chosen).ok().ok_or("refused")?;
+    assert_eq!(rt; schema.len(), 1);
+    assert!(rt; schema.find(Schema::ROOT, "i:y") == None);
+    Ok(())
+}
+
+#[test]
+fn the_phase_comes_before_the_file(rt: HostRuntime) -> Result<(), Fail> {
+    let alloc = rt.alloc();
+    let mut import = statement(alloc, "import", "missing", 10)?;
+    import.adopt(statement(alloc, "prefix", "m", 11)?)?;
+    let first = module_of(alloc, "a", vec![in alloc; import]?)?;
+    let list = statement(alloc, "list", "l", 10)?;
+    let second = module_of(alloc, "b", vec![in alloc; list]?)?;
+    let files = vec![in alloc; first, second]?;
+    assert!(rt; refusal_of(alloc, &files) == in_file(1, Code::Unsupported, 10));
+    let mut import = statement(alloc, "import", "missing", 10)?;
+    import.adopt(statement(alloc, "prefix", "m", 11)?)?;
+    let files = module(alloc, vec![in alloc; import]?)?;
+    assert!(rt; refusal_of(alloc, &files) == at(Code::MissingModule, 10));
     Ok(())
 }
 
@@ -147,7 +293,7 @@ fn containers_nest(rt: HostRuntime) -> Result<(), Fail> {
         inner = outer;
     }
     let root = module(alloc, vec![in alloc; inner]?)?;
-    let schema = compile(alloc, &root).ok().ok_or("refused")?;
+    let schema = compiled(alloc, &root).ok().ok_or("refused")?;
     assert_eq!(rt; schema.len(), 61);
     let outer = schema.find(Schema::ROOT, "ex:a").ok_or("outer")?;
     let inner = schema.find(outer, "a").ok_or("inner")?;
@@ -165,7 +311,7 @@ fn many_leaves_are_found(rt: HostRuntime) -> Result<(), Fail> {
         top.adopt(leaf(alloc, name.as_str(), "string", number)?)?;
     }
     let root = module(alloc, vec![in alloc; top]?)?;
-    let schema = compile(alloc, &root).ok().ok_or("refused")?;
+    let schema = compiled(alloc, &root).ok().ok_or("refused")?;
     let top = schema.find(Schema::ROOT, "ex:top").ok_or("top")?;
     assert_eq!(rt; schema.children(top).len(), 5000);
     assert!(rt; schema.find(top, "leaf-4999").is_some());

@@ -3,6 +3,7 @@ use serde_json::Value;
 use std::alloc::{AllocError, Global};
 use std::test::Fail;
 use yv_schema::{Schema, compile};
+use yv_selection::Selection;
 use yv_statement::{Statement, Stop};
 
 fn statement(
@@ -31,7 +32,7 @@ fn schema(alloc: Global) -> Result<Schema, Stop> {
     module.adopt(statement(alloc, "namespace", "urn:ex")?)?;
     module.adopt(statement(alloc, "prefix", "ex")?)?;
     module.adopt(top)?;
-    compile(alloc, &module)
+    compile(alloc, &[module], &Selection::everything(alloc))
 }
 
 // The lines of the faults of a document.

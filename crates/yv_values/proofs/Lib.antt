@@ -1,4 +1,9 @@
+pub mod Ascending
+pub mod Chosen
+pub mod Found
 pub mod Grown
-pub mod Kept
+pub mod Halves
+pub mod Keys
 pub mod Mapped
+pub mod Order
 pub mod Same

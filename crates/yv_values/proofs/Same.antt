@@ -1,8 +1,10 @@
 -- The comparison of atoms tells whether they are the same value.
-use Rattle.std.proofs.Common.{◌≡◌, Bool, true, false, ◌&&◌, List, [], ◌∷◌, refl, ap, string_bytes, map, pos, negsuc, String, eqb}
+use Rattle.std.proofs.Common.{◌≡◌, Bool, true, false, ◌&&◌, List, [], ◌∷◌, refl, ap, string_bytes, map, pos, negsuc, String, Ordering, subst, eqb}
 use Rattle.std.specs.Bool.{Decides}
 use mathlib.Core.Bool.{beq}
-use Rattle.std.specs.Cmp.Lexicographic.{pointwise}
+use Rattle.std.specs.Cmp.Lexicographic.{pointwise, slice_cmp}
+use Rattle.std.specs.Ordering.{is_eq, ordering_then}
+use Rattle.std.specs.declared.cmp.Ordering.TheVariants.{Less, Equal, Greater}
 use Rattle.std.specs.declared.alloc.Global.{Global}
 use Rattle.std.proofs.lemmas.Slice.Eq.{bytes_eq-Decides}
 use Rattle.std.proofs.lemmas.Bool.Decides.{Decides-eqb}
@@ -13,6 +15,8 @@ use Rattle.yv_values.specs.declared.value.Atom.{Atom}
 use Rattle.yv_values.specs.declared.value.Atom.TheVariants as atom
 use Rattle.yv_values.specs.contracts.plain.IntegerPartialEq.TheImpl.{eq-value as integer_eq}
 use Rattle.yv_values.specs.contracts.value.AtomPartialEq.TheImpl.{eq-value}
+use Rattle.yv_values.specs.contracts.value.AtomOrd.TheImpl.{cmp-value}
+use Rattle.yv_values.specs.contracts.value.AtomOrd.TheImpl.Laws.{matches_eq-law}
 
 along : {P Q : Type 0} (b : Bool) → Decides b P → (P → Q) → (Q → P) → Decides b Q
 along b d f g = (λ t. f (d.0 t), λ q. d.1 (g q))
@@ -54,8 +58,18 @@ same_atoms (atom.Identity m x) (atom.Identity n y) =
 same_atoms atom.Empty atom.Empty = (λ _. refl, λ _. refl)
 same_atoms _ _ = (λ t. cc, λ t. cc)
 
-pub same_tuples : (xs ys : List Atom) → Decides (pointwise eq-value.it xs ys) (map value_of xs ≡ map value_of ys)
-same_tuples [] [] = (λ _. refl, λ _. refl)
-same_tuples [] (y ∷ ys) = (λ t. cc, λ t. cc)
-same_tuples (x ∷ xs) [] = (λ t. cc, λ t. cc)
-same_tuples (x ∷ xs) (y ∷ ys) = along _ (both _ _ (same_atoms x y) (same_tuples xs ys)) (λ p. let f = p.0 in let g = p.1 in cc) (λ p. (cc, cc))
+pub then_equal : (o r : Ordering) → is_eq (ordering_then o r) ≡ (is_eq o && is_eq r)
+then_equal Less r = refl
+then_equal Equal r = refl
+then_equal Greater r = refl
+
+-- the same by the order of atoms
+ordered_atoms : (a b : Atom) → Decides (is_eq (cmp-value.it a b)) (value_of a ≡ value_of b)
+ordered_atoms a b = subst (λ t. Decides t (value_of a ≡ value_of b)) (matches_eq-law a b) (same_atoms a b)
+
+pub same_keys : (xs ys : List Atom) → Decides (is_eq (slice_cmp cmp-value.it xs ys)) (map value_of xs ≡ map value_of ys)
+same_keys [] [] = (λ _. refl, λ _. refl)
+same_keys [] (y ∷ ys) = (λ t. cc, λ t. cc)
+same_keys (x ∷ xs) [] = (λ t. cc, λ t. cc)
+same_keys (x ∷ xs) (y ∷ ys) =
+    rw then_equal (along _ (both _ _ (ordered_atoms x y) (same_keys xs ys)) (λ p. let f = p.0 in let g = p.1 in cc) (λ p. (cc, cc)))

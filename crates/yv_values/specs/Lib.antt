@@ -1,4 +1,9 @@
 pub mod Count
+pub mod Identities
+pub mod InnerBits
+pub mod InnerNames
+pub mod InnerPlaces
+pub mod InnerSpans
 pub mod Numbers
 pub mod Pairs
 pub mod Reads

@@ -1,13 +1,15 @@
 -- The values of texts: strings, names, sets of bits, octets and identities.
 use Rattle.std.specs.Prelude.{◌≡◌, ℕ, ◌+◌, ◌-◌, nat_lt, nat_le, List, [], ◌∷◌, take, drop, length, slice_index, Bool, true, not, ◌&&◌, ◌==◌, Option, Some, None, Result, Ok, Err, if◌then◌else◌}
 use Rattle.std.specs.List.{list_any, list_all, filter, slice_split}
-use Rattle.std.specs.Str.{bytes_eq, chars}
+use Rattle.std.specs.Str.{chars}
 use Rattle.base64.specs.declared.decode.DecodeError.{DecodeError}
 use Rattle.yv_statement.specs.Legal.{all_legal}
 use Rattle.yv_pattern.specs.Meaning.{verdict}
 use Rattle.yv_values.specs.declared.plain.Lengths.{Lengths}
+pub use Rattle.yv_values.specs.Identities.{is_identity, identity_in}
+pub use Rattle.yv_values.specs.Sorted.{is_named}
 use Rattle.yv_values.specs.Types.{Test, Id}
-use Rattle.yv_values.specs.Values.{Val, text, name, bits, binary, identity}
+use Rattle.yv_values.specs.Values.{Val, text, name, bits, binary}
 
 -- the length lies in one of the intervals, ends included
 abbrev pub is_length : List Lengths → ℕ → Bool
@@ -22,10 +24,6 @@ abbrev pub text_in : List Lengths → List Test → List ℕ → Option Val
 text_in lengths tests s =
     if is_length lengths (length (chars s)) && (all_legal (chars s) && list_all (passes s) tests)
     then Some (text s) else None
-
--- the text is one of these
-abbrev pub is_named : List (List ℕ) → List ℕ → Bool
-is_named names s = list_any (λ n. bytes_eq n s) names
 
 -- a name of an enumeration (section 9.6)
 abbrev pub name_in : List (List ℕ) → List ℕ → Option Val
@@ -69,13 +67,6 @@ bits_in names s =
 -- the texts have the same words, in whatever order
 abbrev pub HaveSameWords : List ℕ → List ℕ → Type 0
 HaveSameWords s t = (w : List ℕ) → is_named (words s) w ≡ is_named (words t) w
-
-abbrev pub is_identity : List ℕ → List ℕ → Id → Bool
-is_identity home called i = bytes_eq i.home home && bytes_eq i.name called
-
--- the identity of this module and name, where it is one of the type's (section 9.10)
-abbrev pub identity_in : List Id → List ℕ → List ℕ → Option Val
-identity_in ids home called = if list_any (is_identity home called) ids then Some (identity home called) else None
 
 -- a plain name is of the given module; else the module's name stands before a colon
 abbrev pub identity_at : List Id → List ℕ → List ℕ → Option ℕ → Option Val

@@ -1,23 +1,17 @@
 -- Plain types as data: what is left of a type when typedefs, unions and leafrefs are followed.
-use Rattle.std.specs.Prelude.{ℕ, List, Bool, string_bytes, map}
+use Rattle.std.specs.Prelude.{ℕ, List, Bool, map}
 use Rattle.std.specs.Rc.{rc_slice_items}
 use Rattle.yv_values.specs.declared.plain.Span.{Span}
 use Rattle.yv_values.specs.declared.plain.Lengths.{Lengths}
 use Rattle.yv_values.specs.declared.plain.PatternTest.{PatternTest}
-use Rattle.yv_values.specs.declared.plain.Member.{Member}
 use Rattle.yv_values.specs.declared.plain.PlainType.{PlainType}
 use Rattle.yv_values.specs.declared.plain.PlainType.TheVariants.{Whole, Decimal, Text, Boolean, Enumeration, Bits, Binary, Identity, Empty}
-use Rattle.yv_values.specs.Values.{texts}
+pub use Rattle.yv_values.specs.Identities.{Id, id_of}
 
 -- a pattern, as the source of its translation, and whether it is to match or not to
 pub record Test : Type 0 where
   pub source : List ℕ
   pub inverted : Bool
-
--- an identity: its module and its name
-pub record Id : Type 0 where
-  pub home : List ℕ
-  pub name : List ℕ
 
 -- The whole numbers of intervals, and whether JSON writes them as texts; decimals by digits and intervals of the
 -- scaled number; texts by lengths and patterns; the truth values; the names of an enumeration; the bits' names;
@@ -36,17 +30,14 @@ pub data Plain : Type 0 where
 abbrev pub test_of : PatternTest → Test
 test_of t = record { source = t.pattern.value; inverted = t.is_inverted }
 
-abbrev pub id_of : Member → Id
-id_of m = record { home = string_bytes m.module; name = string_bytes m.name }
-
 -- the type that the program keeps
 abbrev pub plain_of : PlainType → Plain
-plain_of (Whole t) = wholes t.is_text (rc_slice_items t.spans)
-plain_of (Decimal t) = decimals t.digits (rc_slice_items t.spans)
-plain_of (Text t) = strings (rc_slice_items t.lengths) (map test_of (rc_slice_items t.patterns))
+plain_of (Whole t) = wholes t.is_text t.spans
+plain_of (Decimal t) = decimals t.digits t.spans
+plain_of (Text t) = strings t.lengths (map test_of (rc_slice_items t.patterns))
 plain_of Boolean = booleans
-plain_of (Enumeration ns) = names (texts (rc_slice_items ns))
+plain_of (Enumeration ns) = names ns
 plain_of (Bits ns) = flags ns
-plain_of (Binary ls) = octets (rc_slice_items ls)
-plain_of (Identity ms) = identities (map id_of (rc_slice_items ms))
+plain_of (Binary ls) = octets ls
+plain_of (Identity ms) = identities ms
 plain_of Empty = empties

@@ -4,8 +4,7 @@ ghost use Rattle.base64.specs.Engines.{standard};
 ghost use Rattle.base64.specs.GeneralPurpose.{decode_of};
 ghost use Rattle.yv_values.specs.Texts.{binary_in};
 
-use crate::plain::Lengths;
-use crate::text::is_length;
+use crate::lengths::LengthList;
 use crate::value::Value;
 use base64::DecodeAllocError;
 use base64::engine::general_purpose::STANDARD;
@@ -14,13 +13,13 @@ use std::alloc::{AllocError, Global};
 /// The octets that the text writes in padded standard base64, where there are so many.
 pub fn binary_in(
     alloc: Global,
-    lengths: &[Lengths],
+    lengths: &LengthList,
     text: &str,
 ) -> Result<Option<Value>, AllocError>
     ensures { IfOk result (λ found. found ≡ binary_in lengths.now (decode_of standard text.now)) }
 {
     match STANDARD.decode(alloc, text.as_bytes()) {
-        Ok(octets) if is_length(lengths, octets.len() as u64) => Ok(Some(Value::binary(octets))),
+        Ok(octets) if lengths.has(octets.len() as u64) => Ok(Some(Value::binary(octets))),
         Ok(_) => Ok(None),
         Err(DecodeAllocError::OutOfMemory) => Err(AllocError),
         Err(_) => Ok(None),

@@ -1,21 +1,36 @@
 //! Values of bits types.
-ghost use Rattle.std.specs.Prelude.{◌≡◌, ◌-◌, ◌==◌, ◌++◌, ◌∷◌, [], IfOk, OnOk, map, length, slice_index, if◌then◌else◌};
-ghost use Rattle.std.specs.List.{list_all, list_any};
-ghost use Rattle.std.specs.Str.{bytes_eq};
+ghost use Rattle.std.specs.Prelude.{◌≡◌, ◌-◌, ◌==◌, ◌++◌, ◌∷◌, [], IfOk, OnOk, map, length, slice_index, true, if◌then◌else◌};
+ghost use Rattle.std.specs.List.{list_all};
+ghost use Rattle.yv_values.specs.InnerBits.{bits_of};
+ghost use Rattle.yv_values.specs.InnerNames.{NoneBelow, Ascends, Arranges};
 ghost use Rattle.yv_values.specs.Texts.{is_named, pieces, is_word, words, is_trimmed, are_distinct, chosen, bits_in};
 ghost use Rattle.yv_values.specs.Values.{texts};
 
-use crate::name::{is_named, is_same};
+use crate::name::is_same;
+use crate::names::Names;
 use crate::value::{Value, copied};
 use std::alloc::{AllocError, Global};
 
 /// The set of bits that the text names, where it is a value of the type.
-pub fn bits_in(alloc: Global, names: &[String], text: &str) -> Result<Option<Value>, AllocError>
-    ensures { IfOk result (λ found. found ≡ bits_in (texts names.now) text.now) }
+pub fn bits_in(alloc: Global, names: &Names, text: &str) -> Result<Option<Value>, AllocError>
+    ensures { IfOk result (λ found. found ≡ bits_in names.now text.now) }
 {
-    let words = words(alloc, text)?;
-    if is_trimmed(text.as_bytes()) && are_named(names, &words) && are_distinct(&words) {
-        Ok(Some(Value::bits(chosen(alloc, names, &words)?)))
+    let words = sorted_words(alloc, text)?;
+    bits_of(alloc, names, text, &words)
+}
+
+// The same, of the text's words in their order.
+fn bits_of(
+    alloc: Global,
+    names: &Names,
+    text: &str,
+    words: &[&str],
+) -> Result<Option<Value>, AllocError>
+    requires { Ascends (map (λ w. w.now) words.now) }
+    ensures { IfOk result (λ found. found ≡ bits_of names.now text.now (map (λ w. w.now) words.now)) }
+{
+    if is_trimmed(text.as_bytes()) && are_named(names, words) && are_distinct(words) {
+        Ok(Some(Value::bits(chosen(alloc, names, words)?)))
     } else {
         Ok(None)
     }
@@ -44,6 +59,15 @@ fn ends_blank(text: &[u8]) -> bool
         Some(byte) => *byte == b' ',
         None => false,
     }
+}
+
+// The words of a text in the order of their bytes.
+fn sorted_words<'a>(alloc: Global, text: &'a str) -> Result<Vec<&'a str>, AllocError>
+    ensures { IfOk result (λ v. Arranges (words text.now) (map (λ w. w.now) v.items)) }
+{
+    let mut words = words(alloc, text)?;
+    words.sort()?;
+    Ok(words)
 }
 
 // What the text is cut into at each blank.
@@ -76,50 +100,61 @@ fn keep<'a>(words: &mut Vec<&'a str>, word: &'a str) -> Result<(), AllocError>
     Ok(())
 }
 
-fn are_named(names: &[String], words: &[&str]) -> bool
-    ensures { result ≡ list_all (is_named (texts names.now)) (map (λ w. w.now) words.now) }
+fn are_named(names: &Names, words: &[&str]) -> bool
+    ensures { result ≡ list_all (is_named names.now) (map (λ w. w.now) words.now) }
 {
     all_named(names, words)
 }
 
-fn all_named(names: &[String], words: &[&str]) -> bool
-    ensures { result ≡ list_all (λ w. is_named (texts names.now) w.now) words.now }
+fn all_named(names: &Names, words: &[&str]) -> bool
+    ensures { result ≡ list_all (λ w. is_named names.now w.now) words.now }
 {
-    words.iter().all(|word| is_named(names, word.as_bytes()))
+    words.iter().all(|word| names.has(word.as_bytes()))
 }
 
+// Words that are the same stand side by side, since they are in their order.
 fn are_distinct(words: &[&str]) -> bool
+    requires { Ascends (map (λ w. w.now) words.now) }
     ensures { result ≡ are_distinct (map (λ w. w.now) words.now) }
 {
     for at in 0..words.len() {
-        if is_among(&words[at + 1..], words[at].as_bytes()) {
+        let (_, rest) = words.split_at(at + 1);
+        if is_first(rest, words[at].as_bytes()) {
             return false;
         }
     }
     true
 }
 
-fn is_among(words: &[&str], text: &[u8]) -> bool
+fn is_first(words: &[&str], text: &[u8]) -> bool
+    requires order { Ascends (map (λ w. w.now) words.now) }
+    requires above { NoneBelow text.now (map (λ w. w.now) words.now) }
     ensures { result ≡ is_named (map (λ w. w.now) words.now) text.now }
 {
-    is_one(words, text)
-}
-
-fn is_one(words: &[&str], text: &[u8]) -> bool
-    ensures { result ≡ list_any (λ w. bytes_eq w.now text.now) words.now }
-{
-    words.iter().any(|word| is_same(word.as_bytes(), text))
+    match words.first() {
+        Some(word) => is_same(word.as_bytes(), text),
+        None => false,
+    }
 }
 
 // The names that are words, in their order.
-fn chosen(alloc: Global, names: &[String], words: &[&str]) -> Result<Vec<String>, AllocError>
-    ensures { IfOk result (λ v. texts v.items ≡ chosen (texts names.now) (map (λ w. w.now) words.now)) }
+fn chosen(alloc: Global, names: &Names, words: &[&str]) -> Result<Vec<String>, AllocError>
+    requires order { Ascends (map (λ w. w.now) words.now) }
+    requires distinct { are_distinct (map (λ w. w.now) words.now) ≡ true }
+    ensures { IfOk result (λ v. texts v.items ≡ chosen names.now (map (λ w. w.now) words.now)) }
 {
     let mut found = Vec::new(alloc);
-    for name in names {
-        if is_among(words, name.as_bytes()) {
-            found.push(copied(alloc, name)?)?;
-        }
+    for word in words {
+        add_copies(alloc, &mut found, names.equal_to(word.as_bytes()))?;
     }
     Ok(found)
+}
+
+fn add_copies(alloc: Global, found: &mut Vec<String>, names: &[String]) -> Result<(), AllocError>
+    ensures { OnOk result (texts found.new.items ≡ texts found.old.items ++ texts names.now) }
+{
+    for name in names {
+        found.push(copied(alloc, name)?)?;
+    }
+    Ok(())
 }

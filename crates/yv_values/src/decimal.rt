@@ -1,19 +1,18 @@
 //! Values of decimal64 types.
 ghost use Rattle.std.specs.Prelude.{◌≡◌, ◌≤◌, ◌*◌, ◌^◌, ◌==◌, ◌++◌, true, option_map, option_and_then, position};
 ghost use Rattle.std.specs.List.{list_all};
-ghost use Rattle.std.specs.Rc.{rc_slice_items};
 ghost use Rattle.yv_values.specs.Values.{integer};
 ghost use Rattle.yv_values.specs.Numbers.{value_after, limited, is_digit, scaled, around_point, magnitude_of, scaled_of};
 ghost use Rattle.yv_values.specs.Reads.{decimal_in};
 
-use crate::number::{are_among, are_digits, digits, is_negative, is_numeral, signed, without_sign};
+use crate::number::{are_digits, digits, is_negative, is_numeral, signed, without_sign};
 use crate::plain::{DecimalType, Integer};
 use crate::value::Value;
 
 /// The decimal that the text writes, where the type has it.
 pub fn decimal_in(plain: &DecimalType, text: &[u8]) -> Option<Value>
     ensures { result ≡ option_and_then
-        (decimal_in plain.now.digits (rc_slice_items plain.now.spans))
+        (decimal_in plain.now.digits plain.now.spans)
         (scaled_of plain.now.digits text.now) }
 {
     decimal_among(plain, scaled_of(plain.digits, text))
@@ -21,13 +20,11 @@ pub fn decimal_in(plain: &DecimalType, text: &[u8]) -> Option<Value>
 
 fn decimal_among(plain: &DecimalType, number: Option<Integer>) -> Option<Value>
     ensures { result ≡ option_and_then
-        (decimal_in plain.now.digits (rc_slice_items plain.now.spans))
+        (decimal_in plain.now.digits plain.now.spans)
         (option_map integer number) }
 {
     match number {
-        Some(number) if are_among(&plain.spans, number) => {
-            Some(Value::decimal(plain.digits, number))
-        }
+        Some(number) if plain.spans.has(number) => { Some(Value::decimal(plain.digits, number)) }
         _ => None,
     }
 }

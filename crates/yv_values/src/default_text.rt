@@ -1,15 +1,16 @@
 //! Values of defaults' texts.
-ghost use Rattle.std.specs.Prelude.{◌≡◌, ◌==◌, IfOk, map, position};
+ghost use Rattle.std.specs.Prelude.{◌≡◌, ◌==◌, IfOk, position};
 ghost use Rattle.yv_values.specs.Scopes.{text_value, place_of, truth_of, identity_by};
-ghost use Rattle.yv_values.specs.Types.{plain_of, id_of};
+ghost use Rattle.yv_values.specs.Types.{plain_of};
 
 use crate::binary::binary_in;
 use crate::bits::bits_in;
 use crate::decimal::decimal_in;
 use crate::identity::{colon, identity_in};
+use crate::members::Members;
 use crate::name::name_in;
 use crate::number::based_integer_of;
-use crate::plain::{Member, PlainType};
+use crate::plain::PlainType;
 use crate::scope::{Scope, module_of};
 use crate::text::text_in;
 use crate::value::Value;
@@ -32,7 +33,7 @@ pub fn read_text(
         PlainType::Text(plain) => text_in(alloc, plain, text),
         PlainType::Boolean => Ok(truth_of(text)),
         PlainType::Enumeration(names) => name_in(alloc, names, text),
-        PlainType::Bits(names) => bits_in(alloc, names.as_slice(), text),
+        PlainType::Bits(names) => bits_in(alloc, names, text),
         PlainType::Binary(lengths) => binary_in(alloc, lengths, text),
         PlainType::Identity(members) => identity_by(alloc, members, scope, text.as_bytes()),
         PlainType::Empty => Ok(None),
@@ -53,12 +54,11 @@ fn truth_of(text: &str) -> Option<Value>
 
 fn identity_by(
     alloc: Global,
-    members: &[Member],
+    members: &Members,
     scope: &Scope,
     text: &[u8],
 ) -> Result<Option<Value>, AllocError>
-    ensures { IfOk result (λ found. found ≡ identity_by (map id_of members.now)
-        (place_of scope.now) text.now (position (λ b. b == 58) text.now)) }
+    ensures { IfOk result (λ found. found ≡ identity_by members.now (place_of scope.now) text.now (position (λ b. b == 58) text.now)) }
 {
     match colon(text) {
         Some(at) => match module_of(&scope.prefixes, &text[..at]) {

@@ -1,10 +1,8 @@
 //! Values of identityref types.
-ghost use Rattle.std.specs.Prelude.{◌≡◌, ◌==◌, ◌<◌, IfOk, IfSome, length, map, position, string_bytes, true};
-ghost use Rattle.yv_values.specs.Texts.{is_identity, identity_in, identity_at};
-ghost use Rattle.yv_values.specs.Types.{id_of};
+ghost use Rattle.std.specs.Prelude.{◌≡◌, ◌==◌, ◌<◌, IfOk, IfSome, length, position, string_bytes};
+ghost use Rattle.yv_values.specs.Texts.{identity_in, identity_at};
 
-use crate::name::is_same;
-use crate::plain::Member;
+use crate::members::{Member, Members};
 use crate::value::{Value, copied};
 use std::alloc::{AllocError, Global};
 
@@ -12,12 +10,12 @@ use std::alloc::{AllocError, Global};
 /// module.
 pub fn identity_at(
     alloc: Global,
-    members: &[Member],
+    members: &Members,
     module: &[u8],
     text: &[u8],
 ) -> Result<Option<Value>, AllocError>
-    ensures { IfOk result (λ found. found ≡ identity_at (map id_of members.now)
-        module.now text.now (position (λ b. b == 58) text.now)) }
+    ensures { IfOk result (λ found. found ≡ identity_at members.now module.now
+        text.now (position (λ b. b == 58) text.now)) }
 {
     match colon(text) {
         Some(at) => identity_in(alloc, members, &text[..at], &text[at + 1..]),
@@ -36,26 +34,16 @@ pub fn colon(text: &[u8]) -> Option<usize>
 /// The identity of this module and name, where it is one of these.
 pub fn identity_in(
     alloc: Global,
-    members: &[Member],
+    members: &Members,
     module: &[u8],
     name: &[u8],
 ) -> Result<Option<Value>, AllocError>
-    ensures { IfOk result (λ found. found ≡ identity_in (map id_of members.now) module.now name.now) }
+    ensures { IfOk result (λ found. found ≡ identity_in members.now module.now name.now) }
 {
-    for member in members {
-        if is_identity(member, module, name) {
-            return Ok(Some(value_of(alloc, member)?));
-        }
+    match members.find(module, name) {
+        Some(member) => Ok(Some(value_of(alloc, member)?)),
+        None => Ok(None),
     }
-    Ok(None)
-}
-
-fn is_identity(member: &Member, module: &[u8], name: &[u8]) -> bool
-    ensures value { result ≡ is_identity module.now name.now (id_of member.now) }
-    ensures same { result ≡ true →
-        (string_bytes member.now.module ≡ module.now) × (string_bytes member.now.name ≡ name.now) }
-{
-    is_same(member.module.as_bytes(), module) && is_same(member.name.as_bytes(), name)
 }
 
 ghost use Rattle.yv_values.specs.Values.{identity};

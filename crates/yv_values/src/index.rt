@@ -1,63 +1,33 @@
 //! Indexes: which keys were kept, and where.
-ghost use Rattle.std.specs.Prelude.{◌≡◌, ◌+◌, ◌≤◌, [], is_ok, IfOk, OnOk, OnErr, IsTrue, ◌↔◌, if◌then◌else◌};
+ghost use Rattle.std.specs.Prelude.{◌≡◌, ℕ, ◌+◌, ◌≤◌, [], is_ok, IfOk, OnOk, OnErr, IsTrue, ◌↔◌, if◌then◌else◌};
 ghost use Rattle.yv_values.specs.Count.{counted};
-ghost use Rattle.yv_values.specs.Pairs.{Keeps, IsLeast, Adds, AddsIfNone, IsWithin, lesser};
+ghost use Rattle.yv_values.specs.Pairs.{Keeps, IsLeast, Adds, AddsIfNone, IsWithin};
 
 use crate::meter::Meter;
-use crate::value::{Tuple, is_same};
+use crate::places::Places;
+use crate::value::{Atom, Tuple};
 use std::alloc::{AllocError, Global};
+use std::collections::BTreeMap;
 use std::marker::Model;
 
-#[derive(Drop)]
-struct Entry {
-    key: Tuple,
-    place: u64,
-}
-
-impl Model for Entry {
-    ghost use Rattle.yv_values.specs.Pairs.{Pair};
-
-    ghost Value = { Pair };
-
-    ghost view = { λ e. record { key = e.key; place = e.place } };
-}
-
-impl Entry {
-    ghost use Rattle.yv_values.specs.Pairs.{IsBetween};
-
-    fn key(&self) -> &Tuple
-        ensures { result.now ≡ self.now.key }
-    {
-        &self.key
-    }
-
-    fn place(&self) -> u64
-        ensures { result ≡ self.now.place }
-    {
-        self.place
-    }
-
-    fn is_within(&self, key: &Tuple, first: u64, last: u64) -> bool
-        ensures { IsTrue result ↔ IsBetween self.now key.now first last }
-    {
-        first <= self.place && self.place <= last && is_same(&self.key, key)
-    }
-}
-
 /// Which keys were kept, and where. A key is a tuple of values; the least place and the membership of a key are what
-/// can be asked.
+/// can be asked. Keys are found by their order, and the places of a key by theirs.
 #[derive(Drop)]
 pub struct Index {
-    entries: Vec<Entry>,
+    alloc: Global,
+    places: BTreeMap<Vec<Atom>, Places>,
 }
 
 impl Model for Index {
     ghost use Rattle.std.specs.Prelude.{List};
     ghost use Rattle.yv_values.specs.Pairs.{Pair};
+    ghost use Rattle.yv_values.specs.InnerPlaces.{pairs_of, AreApart};
 
     ghost Value = { List Pair };
 
-    ghost view = { λ i. i.entries.items };
+    ghost view = { λ i. pairs_of i.places.entries };
+
+    ghost invariant = { λ i. AreApart i.places.entries };
 }
 
 impl Index {
@@ -66,17 +36,21 @@ impl Index {
         ensures { result ≡ [] }
     {
         Index {
-            entries: Vec::new(alloc),
+            alloc,
+            places: BTreeMap::new(alloc),
         }
     }
 
-    /// Keeps a key and its place. It counts no step: it is part of the visit or check that calls it.
+    /// Keeps a key and its place. It counts no step: it is part of the visit or check that calls it. It costs least
+    /// where the places of a key come in ascending order.
     pub fn keep(&mut self, key: Tuple, place: u64) -> Result<(), AllocError>
         ensures kept { OnOk result (Adds self.old self.new key place) }
         ensures same { OnErr result (self.new ≡ self.old) }
     {
-        self.entries.push(Entry { key, place })?;
-        Ok(())
+        match self.places.get_mut(key.atoms()) {
+            Some(places) => places.add(place),
+            None => self.keep_new(key, place),
+        }
     }
 
     /// The least place that was kept with the same key; where there is none the pair is kept. It is one step.
@@ -92,7 +66,7 @@ impl Index {
     {
         let found = self.least(&key);
         if found.is_none() {
-            self.keep(key, place)?;
+            self.keep_new(key, place)?;
         }
         meter.visit();
         Ok(found)
@@ -104,32 +78,29 @@ impl Index {
         ensures steps { meter.new ≡ counted (meter.old + 1) }
     {
         meter.visit();
-        for entry in &self.entries {
-            if entry.is_within(key, first, last) {
-                return true;
-            }
+        match self.places.get(key.atoms()) {
+            Some(places) => places.is_within(first, last),
+            None => false,
         }
-        false
     }
 
     fn least(&self, key: &Tuple) -> Option<u64>
         ensures { IsLeast self.now key.now result }
     {
-        let mut least = None;
-        for entry in &self.entries {
-            if is_same(entry.key(), key) {
-                least = lesser(least, entry.place());
-            }
+        match self.places.get(key.atoms()) {
+            Some(places) => Some(places.least()),
+            None => None,
         }
-        least
     }
-}
 
-fn lesser(least: Option<u64>, place: u64) -> Option<u64>
-    ensures { result ≡ lesser least place }
-{
-    match least {
-        None => Some(place),
-        Some(other) => Some(other.min(place)),
+    // Keeps a key that wasn't kept before.
+    fn keep_new(&mut self, key: Tuple, place: u64) -> Result<(), AllocError>
+        requires { (p : ℕ) → Keeps self.old key p → ⊥ }
+        ensures kept { OnOk result (Adds self.old self.new key place) }
+        ensures same { OnErr result (self.new ≡ self.old) }
+    {
+        let places = Places::new(self.alloc, place)?;
+        self.places.insert(key.into_atoms(), places)?;
+        Ok(())
     }
 }

@@ -3,32 +3,37 @@
 #![tactic(auto)]
 
 mod binary;
-mod bit_names;
 mod bits;
 mod decimal;
 mod default_text;
 mod identity;
 mod index;
 pub mod laws;
+mod lengths;
+mod members;
 mod meter;
 mod name;
+mod names;
 mod number;
+mod places;
 mod plain;
 mod reading;
 mod scope;
+mod spans;
 #[cfg(test)]
 mod tests;
 mod text;
 mod value;
 mod whole;
 
-pub use bit_names::BitNames;
 pub use default_text::read_text;
 pub use index::Index;
+pub use lengths::LengthList;
+pub use members::{Member, Members};
 pub use meter::Meter;
-pub use plain::{
-    DecimalType, Integer, Lengths, Member, PatternTest, PlainType, Span, TextType, WholeType,
-};
+pub use names::Names;
+pub use plain::{DecimalType, Integer, Lengths, PatternTest, PlainType, Span, TextType, WholeType};
 pub use reading::check;
 pub use scope::Scope;
+pub use spans::SpanList;
 pub use value::{Tuple, Value};

@@ -140,7 +140,8 @@ pub fn signed(is_negative: bool, number: u64) -> Integer
     }
 }
 
-fn is_at_most(low: Integer, high: Integer) -> bool
+/// Whether the one number is at most the other.
+pub fn is_at_most(low: Integer, high: Integer) -> bool
     ensures { result ≡ int_le (integer low) (integer high) }
 {
     match (low, high) {

@@ -2,7 +2,10 @@
 ghost use Rattle.std.specs.Prelude.{◌≡◌, IfOk};
 ghost use Rattle.yv_values.specs.Types.{plain_of};
 
-use crate::bit_names::BitNames;
+use crate::lengths::LengthList;
+use crate::members::Members;
+use crate::names::Names;
+use crate::spans::SpanList;
 use std::alloc::AllocError;
 use std::rc::{Rc, RcSlice};
 use yv_pattern::Pattern;
@@ -26,14 +29,14 @@ pub struct Span {
 #[derive(Drop)]
 pub struct WholeType {
     pub is_text: bool,
-    pub spans: RcSlice<Span>,
+    pub spans: SpanList,
 }
 
 /// A decimal64: the digits behind the point, and the intervals of the number scaled by them.
 #[derive(Drop)]
 pub struct DecimalType {
     pub digits: u32,
-    pub spans: RcSlice<Span>,
+    pub spans: SpanList,
 }
 
 /// The lengths from the low one to the high one, both included: characters of a string, octets of a binary.
@@ -53,15 +56,8 @@ pub struct PatternTest {
 /// A string type: its lengths, and its patterns, all of which must pass.
 #[derive(Drop)]
 pub struct TextType {
-    pub lengths: RcSlice<Lengths>,
+    pub lengths: LengthList,
     pub patterns: RcSlice<PatternTest>,
-}
-
-/// An identity: the module that defines it, and its name.
-#[derive(Drop)]
-pub struct Member {
-    pub module: String,
-    pub name: String,
 }
 
 /// A type with typedefs, unions and leafrefs followed, so that its values are told by one test. Its lists are shared
@@ -73,11 +69,11 @@ pub enum PlainType {
     Text(TextType),
     Boolean,
     /// The names that are values; one whose `if-feature` is false is not among them.
-    Enumeration(RcSlice<String>),
-    Bits(BitNames),
-    Binary(RcSlice<Lengths>),
+    Enumeration(Names),
+    Bits(Names),
+    Binary(LengthList),
     /// The identities that are values.
-    Identity(RcSlice<Member>),
+    Identity(Members),
     Empty,
 }
 
@@ -89,18 +85,18 @@ impl PlainType {
         match self {
             PlainType::Whole(whole) => Ok(PlainType::Whole(WholeType {
                 is_text: whole.is_text,
-                spans: whole.spans.clone()?,
+                spans: whole.spans.copy()?,
             })),
             PlainType::Decimal(decimal) => Ok(PlainType::Decimal(DecimalType {
                 digits: decimal.digits,
-                spans: decimal.spans.clone()?,
+                spans: decimal.spans.copy()?,
             })),
             PlainType::Text(text) => Ok(PlainType::Text(text.copy()?)),
             PlainType::Boolean => Ok(PlainType::Boolean),
-            PlainType::Enumeration(names) => Ok(PlainType::Enumeration(names.clone()?)),
+            PlainType::Enumeration(names) => Ok(PlainType::Enumeration(names.copy()?)),
             PlainType::Bits(names) => Ok(PlainType::Bits(names.copy()?)),
-            PlainType::Binary(lengths) => Ok(PlainType::Binary(lengths.clone()?)),
-            PlainType::Identity(members) => Ok(PlainType::Identity(members.clone()?)),
+            PlainType::Binary(lengths) => Ok(PlainType::Binary(lengths.copy()?)),
+            PlainType::Identity(members) => Ok(PlainType::Identity(members.copy()?)),
             PlainType::Empty => Ok(PlainType::Empty),
         }
     }
@@ -110,10 +106,10 @@ ghost use Rattle.std.specs.Rc.{rc_slice_items};
 
 impl TextType {
     fn copy(&self) -> Result<TextType, AllocError>
-        ensures lengths { IfOk result (λ copy. rc_slice_items copy.lengths ≡ rc_slice_items self.now.lengths) }
+        ensures lengths { IfOk result (λ copy. copy.lengths ≡ self.now.lengths) }
         ensures patterns { IfOk result (λ copy. rc_slice_items copy.patterns ≡ rc_slice_items self.now.patterns) }
     {
-        let lengths = self.lengths.clone()?;
+        let lengths = self.lengths.copy()?;
         let patterns = self.patterns.clone()?;
         Ok(TextType { lengths, patterns })
     }

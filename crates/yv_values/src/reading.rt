@@ -104,7 +104,7 @@ fn string_in(
         PlainType::Decimal(decimal) => Ok(decimal_in(decimal, text.as_bytes())),
         PlainType::Text(plain) => text_in(alloc, plain, text),
         PlainType::Enumeration(names) => name_in(alloc, names, text),
-        PlainType::Bits(names) => bits_in(alloc, names.as_slice(), text),
+        PlainType::Bits(names) => bits_in(alloc, names, text),
         PlainType::Binary(lengths) => binary_in(alloc, lengths, text),
         PlainType::Identity(members) => {
             identity_at(alloc, members, module.as_bytes(), text.as_bytes())

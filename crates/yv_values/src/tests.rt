@@ -36,20 +36,20 @@ fn are_same(alloc: Global, one: Option<Value>, other: Option<Value>) -> Result<b
     }
 }
 
-fn names(alloc: Global, words: &[&str]) -> Result<RcSlice<String>, AllocError> {
-    RcSlice::from_vec(texts(alloc, words)?)
+fn names(alloc: Global, words: &[&str]) -> Result<Names, AllocError> {
+    Names::new(texts(alloc, words)?)
 }
 
-fn bits(alloc: Global, words: &[&str]) -> Result<BitNames, AllocError> {
-    BitNames::new(texts(alloc, words)?)
+fn span(low: Integer, high: Integer) -> Span {
+    Span { low, high }
 }
 
-fn spans(alloc: Global, low: Integer, high: Integer) -> Result<RcSlice<Span>, AllocError> {
-    RcSlice::from_vec(vec![in alloc; Span { low, high }]?)
+fn spans(alloc: Global, low: Integer, high: Integer) -> Result<SpanList, AllocError> {
+    SpanList::new(vec![in alloc; Span { low, high }]?)
 }
 
-fn lengths(alloc: Global, low: u64, high: u64) -> Result<RcSlice<Lengths>, AllocError> {
-    RcSlice::from_vec(vec![in alloc; Lengths { low, high }]?)
+fn lengths(alloc: Global, low: u64, high: u64) -> Result<LengthList, AllocError> {
+    LengthList::new(vec![in alloc; Lengths { low, high }]?)
 }
 
 fn string(
@@ -151,6 +151,107 @@ fn whole_numbers(rt: HostRuntime) -> Result<(), Fail> {
     Ok(())
 }
 
+// The ranges of RFC 7950, sections 9.2.5 and 9.3.5.
+#[test]
+fn several_intervals(rt: HostRuntime) -> Result<(), Fail> {
+    let alloc = rt.alloc();
+    let low = span(Integer::Natural(1), Integer::Natural(4));
+    let high = span(Integer::Natural(10), Integer::Natural(20));
+    for spans in [vec![in alloc; low, high]?, vec![in alloc; high, low]?] {
+        let spans = SpanList::new(spans)?;
+        let types = vec![in alloc;
+            PlainType::Whole(WholeType {
+                is_text: false,
+                spans
+            }),
+        ]?;
+        for (json, is_read) in [
+            ("-1", false),
+            ("0", false),
+            ("1", true),
+            ("4", true),
+            ("5", false),
+            ("9", false),
+            ("10", true),
+            ("20", true),
+            ("21", false),
+        ] {
+            assert_eq!(rt; reads(alloc, &types, json)?, is_read, "{json}");
+        }
+    }
+    let spans = SpanList::new(vec![in alloc;
+        span(Integer::Natural(100), Integer::Natural(314)),
+        span(Integer::Natural(1000), Integer::Natural(1000)),
+        span(
+            Integer::Natural(2000),
+            Integer::Natural(9223372036854775807)
+        ),
+    ]?)?;
+    let types = vec![in alloc; PlainType::Decimal(DecimalType { digits: 2, spans })]?;
+    for (json, is_read) in [
+        ("\"0.99\"", false),
+        ("\"1\"", true),
+        ("\"3.14\"", true),
+        ("\"3.15\"", false),
+        ("\"10.00\"", true),
+        ("\"10.01\"", false),
+        ("\"19.99\"", false),
+        ("\"20\"", true),
+        ("\"92233720368547758.07\"", true),
+        ("\"92233720368547758.08\"", false),
+    ] {
+        assert_eq!(rt; reads(alloc, &types, json)?, is_read, "{json}");
+    }
+    Ok(())
+}
+
+// The table of RFC 7950, section 9.3.4.
+#[test]
+fn decimals_of_each_size(rt: HostRuntime) -> Result<(), Fail> {
+    let alloc = rt.alloc();
+    let rows = [
+        (1, "922337203685477580.", "8"),
+        (2, "92233720368547758.", "08"),
+        (3, "9223372036854775.", "808"),
+        (4, "922337203685477.", "5808"),
+        (5, "92233720368547.", "75808"),
+        (6, "9223372036854.", "775808"),
+        (7, "922337203685.", "4775808"),
+        (8, "92233720368.", "54775808"),
+        (9, "9223372036.", "854775808"),
+        (10, "922337203.", "6854775808"),
+        (11, "92233720.", "36854775808"),
+        (12, "9223372.", "036854775808"),
+        (13, "922337.", "2036854775808"),
+        (14, "92233.", "72036854775808"),
+        (15, "9223.", "372036854775808"),
+        (16, "922.", "3372036854775808"),
+        (17, "92.", "23372036854775808"),
+        (18, "9.", "223372036854775808"),
+    ];
+    for (digits, whole, fraction) in rows {
+        let types = decimal(alloc, digits)?;
+        let lowest = format!(in alloc; "\"-{whole}{fraction}\"")?;
+        assert!(rt; reads(alloc, &types, lowest.as_str())?, "{lowest}");
+        let above = format!(in alloc; "\"{whole}{fraction}\"")?;
+        assert!(rt; !reads(alloc, &types, above.as_str())?, "{above}");
+        let longer = format!(in alloc; "\"{whole}{fraction}1\"")?;
+        assert!(rt; !reads(alloc, &types, longer.as_str())?, "{longer}");
+    }
+    for (digits, highest) in [
+        (1, "\"922337203685477580.7\""),
+        (2, "\"92233720368547758.07\""),
+        (9, "\"9223372036.854775807\""),
+        (18, "\"9.223372036854775807\""),
+    ] {
+        assert!(rt;
+            reads(alloc, &decimal(alloc, digits)?, highest)?,
+            "{highest}"
+        );
+    }
+    Ok(())
+}
+
 #[test]
 fn decimals(rt: HostRuntime) -> Result<(), Fail> {
     let alloc = rt.alloc();
@@ -225,6 +326,45 @@ fn strings(rt: HostRuntime) -> Result<(), Fail> {
     Ok(())
 }
 
+// A text of so many characters, as JSON writes it.
+fn row_of(alloc: Global, count: u32) -> Result<String, AllocError> {
+    let mut text = String::from_str(alloc, "\"")?;
+    for _ in 0..count {
+        text.push_str("\u{e9}")?;
+    }
+    text.push_str("\"")?;
+    Ok(text)
+}
+
+// The lengths of RFC 7950, section 9.4.7: `11 | 42..max`, of a text of 1 to 255 characters.
+#[test]
+fn several_lengths(rt: HostRuntime) -> Result<(), Fail> {
+    let alloc = rt.alloc();
+    let short = Lengths { low: 11, high: 11 };
+    let long = Lengths { low: 42, high: 255 };
+    for list in [vec![in alloc; short, long]?, vec![in alloc; long, short]?] {
+        let text = TextType {
+            lengths: LengthList::new(list)?,
+            patterns: RcSlice::from_vec(Vec::new(alloc))?,
+        };
+        let types = vec![in alloc; PlainType::Text(text)]?;
+        for (count, is_read) in [
+            (0, false),
+            (10, false),
+            (11, true),
+            (12, false),
+            (41, false),
+            (42, true),
+            (255, true),
+            (256, false),
+        ] {
+            let json = row_of(alloc, count)?;
+            assert_eq!(rt; reads(alloc, &types, json.as_str())?, is_read, "{count}");
+        }
+    }
+    Ok(())
+}
+
 // The bits of RFC 7950, section 9.7.5.
 #[test]
 fn names_and_bits(rt: HostRuntime) -> Result<(), Fail> {
@@ -234,7 +374,7 @@ fn names_and_bits(rt: HostRuntime) -> Result<(), Fail> {
         assert_eq!(rt; reads(alloc, &types, json)?, is_read, "{json}");
     }
     let types = vec![in alloc;
-        PlainType::Bits(bits(alloc, &["disable-nagle", "auto-sense-speed", "ten-Mb-only"])?),
+        PlainType::Bits(names(alloc, &["disable-nagle", "auto-sense-speed", "ten-Mb-only"])?),
     ]?;
     let rows = [
         ("\"disable-nagle ten-Mb-only\"", true),
@@ -273,6 +413,21 @@ fn binaries_booleans_and_empty(rt: HostRuntime) -> Result<(), Fail> {
     ] {
         assert_eq!(rt; reads(alloc, &types, json)?, is_read, "{json}");
     }
+    // The octets of `foobar` (RFC 4648, section 10).
+    for (json, count) in [
+        ("\"\"", 0),
+        ("\"Zg==\"", 1),
+        ("\"Zm8=\"", 2),
+        ("\"Zm9v\"", 3),
+        ("\"Zm9vYg==\"", 4),
+        ("\"Zm9vYmE=\"", 5),
+        ("\"Zm9vYmFy\"", 6),
+    ] {
+        let types = vec![in alloc; PlainType::Binary(lengths(alloc, count, count)?)]?;
+        assert!(rt; reads(alloc, &types, json)?, "{json}");
+        let types = vec![in alloc; PlainType::Binary(lengths(alloc, count + 1, 9)?)]?;
+        assert!(rt; !reads(alloc, &types, json)?, "{json}");
+    }
     let types = vec![in alloc; PlainType::Boolean]?;
     for (json, is_read) in [
         ("true", true),
@@ -303,7 +458,7 @@ fn member(alloc: Global, module: &str, name: &str) -> Result<Member, AllocError>
 }
 
 fn identities(alloc: Global) -> Result<Vec<PlainType>, AllocError> {
-    let members = RcSlice::from_vec(vec![in alloc;
+    let members = Members::new(vec![in alloc;
         member(alloc, "iana-if-type", "ethernetCsmacd")?,
         member(alloc, MODULE, "loop")?,
     ]?)?;
@@ -339,6 +494,55 @@ fn identities_by_module(rt: HostRuntime) -> Result<(), Fail> {
     };
     let copies = vec![in alloc; plain.copy()?]?;
     assert!(rt; reads(alloc, &copies, "\"loop\"")?);
+    Ok(())
+}
+
+// The identities of RFC 7950, sections 7.18.3 and 9.10.5; the base that they are derived from is no value, and a prefix no module.
+#[test]
+fn a_base_is_no_value(rt: HostRuntime) -> Result<(), Fail> {
+    let alloc = rt.alloc();
+    let members = Members::new(vec![in alloc;
+        member(alloc, "example-my-crypto", "aes")?,
+        member(alloc, "example-des", "des")?,
+        member(alloc, "example-des", "des3")?,
+    ]?)?;
+    let types = vec![in alloc; PlainType::Identity(members)]?;
+    for (json, is_read) in [
+        ("\"example-des:des3\"", true),
+        ("\"example-des:des\"", true),
+        ("\"example-my-crypto:aes\"", true),
+        ("\"example-crypto-base:crypto-alg\"", false),
+        ("\"example-my-crypto:des\"", false),
+        ("\"mc:aes\"", false),
+        ("\"aes\"", false),
+    ] {
+        assert_eq!(rt; reads(alloc, &types, json)?, is_read, "{json}");
+    }
+    Ok(())
+}
+
+// The union of RFC 7950, section 9.12.4: a number, or `unbounded`.
+#[test]
+fn a_number_or_a_name(rt: HostRuntime) -> Result<(), Fail> {
+    let alloc = rt.alloc();
+    let mut types = whole(
+        alloc,
+        false,
+        Integer::Below(2147483647),
+        Integer::Natural(2147483647),
+    )?;
+    types.push(PlainType::Enumeration(names(alloc, &["unbounded"])?))?;
+    let mut meter = Meter::new();
+    for (json, is_read, steps) in [
+        ("42", true, 1),
+        ("\"unbounded\"", true, 3),
+        ("\"42\"", false, 5),
+    ] {
+        let json = Json::from_str(alloc, json)?;
+        let found = check(alloc, &mut meter, &types, MODULE, &json)?;
+        assert_eq!(rt; found.is_some(), is_read);
+        assert_eq!(rt; meter.steps(), steps);
+    }
     Ok(())
 }
 
@@ -414,9 +618,19 @@ fn other_defaults(rt: HostRuntime) -> Result<(), Fail> {
     let rows = [
         (vec![in alloc; PlainType::Boolean]?, "true", "True"),
         (
-            vec![in alloc; PlainType::Bits(bits(alloc, &["a", "b"])?)]?,
+            vec![in alloc; PlainType::Bits(names(alloc, &["a", "b"])?)]?,
             "b a",
             "c",
+        ),
+        (
+            vec![in alloc;
+                PlainType::Bits(names(
+                    alloc,
+                    &["disable-nagle", "auto-sense-speed", "ten-Mb-only"]
+                )?),
+            ]?,
+            "auto-sense-speed",
+            "Auto-Sense-Speed",
         ),
         (
             vec![in alloc; PlainType::Enumeration(names(alloc, &["a"])?)]?,

@@ -4,20 +4,20 @@ ghost use Rattle.std.specs.List.{list_all};
 ghost use Rattle.std.specs.Rc.{rc_slice_items};
 ghost use Rattle.std.specs.Str.{chars};
 ghost use Rattle.yv_statement.specs.Legal.{all_legal};
-ghost use Rattle.yv_values.specs.Texts.{is_length, passes, text_in};
+ghost use Rattle.yv_values.specs.Texts.{passes, text_in};
 ghost use Rattle.yv_values.specs.Types.{test_of};
 
-use crate::plain::{Lengths, PatternTest, TextType};
+use crate::plain::{PatternTest, TextType};
 use crate::value::Value;
 use std::alloc::{AllocError, Global};
 use yv_statement::is_legal_text;
 
 /// The text, where it is a value of the type.
 pub fn text_in(alloc: Global, plain: &TextType, text: &str) -> Result<Option<Value>, AllocError>
-    ensures { IfOk result (λ found. found ≡ text_in (rc_slice_items plain.now.lengths)
+    ensures { IfOk result (λ found. found ≡ text_in plain.now.lengths
         (map test_of (rc_slice_items plain.now.patterns)) text.now) }
 {
-    if is_length(&plain.lengths, character_count(text))
+    if plain.lengths.has(character_count(text))
         && is_legal_text(text)
         && passes_all(alloc, &plain.patterns, text)?
     {
@@ -25,15 +25,6 @@ pub fn text_in(alloc: Global, plain: &TextType, text: &str) -> Result<Option<Val
     } else {
         Ok(None)
     }
-}
-
-/// Whether the length lies in one of the intervals.
-pub fn is_length(lengths: &[Lengths], length: u64) -> bool
-    ensures { result ≡ is_length lengths.now length }
-{
-    lengths
-        .iter()
-        .any(|span| span.low <= length && length <= span.high)
 }
 
 fn character_count(text: &str) -> u64

@@ -5,8 +5,9 @@ use crate::plain::Integer;
 use std::alloc::{AllocError, Global};
 use std::marker::Model;
 
+/// What a value holds. Its order serves to find keys again, and means nothing besides.
 #[derive(PartialEq, Eq, PartialOrd, Ord, Drop)]
-enum Atom {
+pub(crate) enum Atom {
     Whole(Integer),
     Decimal(u32, Integer),
     Text(String),
@@ -177,6 +178,9 @@ impl Model for Tuple {
 }
 
 impl Tuple {
+    ghost use Rattle.std.specs.Prelude.{map};
+    ghost use Rattle.yv_values.specs.Values.{value_of};
+
     /// A tuple of no values.
     pub fn new(alloc: Global) -> Tuple
         ensures { result ≡ [] }
@@ -193,11 +197,16 @@ impl Tuple {
         self.atoms.push(value.atom)?;
         Ok(())
     }
-}
 
-// Whether the tuples are the same, part by part.
-pub(crate) fn is_same(one: &Tuple, other: &Tuple) -> bool
-    ensures { IsTrue result ↔ one.now ≡ other.now }
-{
-    one.atoms == other.atoms
+    pub(crate) fn atoms(&self) -> &[Atom]
+        ensures { map value_of result.now ≡ self.now }
+    {
+        self.atoms.as_slice()
+    }
+
+    pub(crate) fn into_atoms(self) -> Vec<Atom>
+        ensures { map value_of result.items ≡ self }
+    {
+        self.atoms
+    }
 }

@@ -2,18 +2,17 @@
 ghost use Rattle.std.specs.Prelude.{◌≡◌, option_map, option_and_then};
 ghost use Rattle.serde_json.specs.View.{view, number_view};
 ghost use Rattle.serde_json.specs.Find.{as_integer};
-ghost use Rattle.std.specs.Rc.{rc_slice_items};
 ghost use Rattle.yv_values.specs.Values.{integer};
 ghost use Rattle.yv_values.specs.Reads.{whole_in, whole_from};
 
-use crate::number::{are_among, integer_of};
+use crate::number::integer_of;
 use crate::plain::{Integer, WholeType};
 use crate::value::Value;
 use serde_json::{Number, Value as Json};
 
 /// The whole number of a JSON number, or of a text where the type is of 64 bits.
 pub fn whole_of(plain: &WholeType, json: &Json) -> Option<Value>
-    ensures { result ≡ whole_from plain.now.is_text (rc_slice_items plain.now.spans) (view json.now) }
+    ensures { result ≡ whole_from plain.now.is_text plain.now.spans (view json.now) }
 {
     if plain.is_text {
         match json {
@@ -30,10 +29,10 @@ pub fn whole_of(plain: &WholeType, json: &Json) -> Option<Value>
 
 /// The value of the number, where the type has it.
 pub fn whole_among(plain: &WholeType, number: Option<Integer>) -> Option<Value>
-    ensures { result ≡ option_and_then (whole_in (rc_slice_items plain.now.spans)) (option_map integer number) }
+    ensures { result ≡ option_and_then (whole_in plain.now.spans) (option_map integer number) }
 {
     match number {
-        Some(number) if are_among(&plain.spans, number) => Some(Value::whole(number)),
+        Some(number) if plain.spans.has(number) => Some(Value::whole(number)),
         _ => None,
     }
 }

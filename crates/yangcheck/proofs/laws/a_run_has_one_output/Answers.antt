@@ -8,5 +8,6 @@ returns c = one_output (record {
   spelled = c.a_text_is_spelled_or_refused_once.ensures.spelled;
   refused = c.a_text_is_spelled_or_refused_once.ensures.refused;
   apart = c.a_text_is_spelled_or_refused_once.ensures.not_both;
+  schema = c.files_have_one_schema.ensures;
   order = c.order_tells_refusals_apart.ensures;
 })

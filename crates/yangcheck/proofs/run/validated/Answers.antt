@@ -1,4 +1,3 @@
-use Rattle.std.proofs.Common.{arith}
 use Rattle.yangcheck.proofs.StreamLemmas.{gave_up_to}
 use Rattle.yangcheck.proofs.run.validated.Goals as goal
 

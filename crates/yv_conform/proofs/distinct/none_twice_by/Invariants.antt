@@ -1,11 +1,11 @@
-use Rattle.std.proofs.Common.{◌≡◌, length, []}
+use Rattle.std.proofs.Common.{◌≡◌, length}
 use Rattle.yv_conform.specs.InnerWords.{words_left}
 use Rattle.yv_conform.specs.Texts.{none_twice}
 use Rattle.yv_conform.specs.Words.{words}
 use Rattle.yv_conform.proofs.distinct.none_twice_by.Given as goal
 
 abbrev pub invariant-loop-words : goal.invariant-loop-words
-invariant-loop-words l = none_twice (words_left l.words) ≡ none_twice (words [] l.text)
+invariant-loop-words l = none_twice (words_left l.words) ≡ none_twice (words l.text)
 
 abbrev pub decreases-loop-words : goal.decreases-loop-words
 decreases-loop-words l = length (words_left l.words)

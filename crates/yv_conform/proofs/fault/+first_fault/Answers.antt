@@ -46,8 +46,8 @@ returns t c =
     let inner : IsLeast (Inner s) c.loop-child.best = rw (← all) c.loop-child.invariant.least in
     let fit : FitBelow s (length (trees s.children)) c.loop-child.best = rw (← all) c.loop-child.invariant.fit in
     record {
-      least = least_inside c.args.parent s _ _ _ _ _ c.lesser-outer.ensures c.lesser.ensures plain c.own_fault-own.ensures c.count_fault-number.ensures inner;
-      fits = all_fit c.args.parent s _ _ _ _ _ c.lesser-outer.ensures c.lesser.ensures c.own_fault-own.ensures c.count_fault-number.ensures fit;
+      least = least_inside c.args.parent s _ _ _ _ _ c.lesser-outer.ensures c.lesser.ensures plain c.own_fault-own.ensures.least c.count_fault-number.ensures inner;
+      fits = all_fit c.args.parent s _ _ _ _ _ c.lesser-outer.ensures c.lesser.ensures c.own_fault-own.ensures.fits c.count_fault-number.ensures fit;
     }
 
 pub returns-then-eq-clause-fits : goal.returns-then-eq-clause-fits

@@ -4,7 +4,8 @@ use Rattle.yv_conform.specs.Argument.{ArgumentFits}
 use Rattle.yv_conform.specs.Faults.{is_unsupported, keyword_at}
 use Rattle.yv_conform.specs.declared.keyword.Keyword.TheVariants as word
 use Rattle.yv_statement.specs.declared.refusal.Code.TheVariants as code
-use Rattle.yv_conform.proofs.Keywords.{one, is_same, failed, fails}
+use Rattle.yv_conform.proofs.Fitting.{neither, spared, told}
+use Rattle.yv_conform.proofs.Keywords.{one, other, is_same, failed, fails, passed}
 use Rattle.yv_statement.proofs.Least.{least_refused, least_lesser}
 use Rattle.yv_conform.proofs.fault.own_fault.Goals as goal
 
@@ -24,4 +25,14 @@ returns c =
     let fitting : MatchBool c.fits-fits.result F (F → ⊥) = rw (← c.requires, ← c.argument-argument.ensures) c.fits-fits.ensures in
     let third : IsLeast (Stands (F → ⊥) (refusal_at code.BadArgument 0 s.head)) c.refused-third.result =
     rw c.refused-third.ensures (least_refused (F → ⊥) _ _ (failed F _ fitting) (fails F _ fitting)) in
-    least_lesser _ _ _ _ _ c.lesser-2.ensures first (least_lesser _ _ _ _ _ c.lesser.ensures second third)
+    record {
+      fits = told _ (λ none.
+          let outer = neither _ _ _ c.lesser-2.ensures none in
+          let inner = neither _ _ _ c.lesser.ensures outer.1 in
+          record {
+            supported = sym unsupported ∙ spared _ _ (sym c.refused-first.ensures ∙ outer.0);
+            known = λ e. other _ _ (sym c.eq-unknown.ensures ∙ spared _ _ (sym c.refused-second.ensures ∙ inner.0)) (at_keyword ∙ e);
+            argument = passed F _ fitting (spared _ _ (sym c.refused-third.ensures ∙ inner.1));
+          });
+      least = least_lesser _ _ _ _ _ c.lesser-2.ensures first (least_lesser _ _ _ _ _ c.lesser.ensures second third);
+    }

@@ -10,4 +10,4 @@ loop-rest-preserved c =
     let long : 0 < length rest = omega (arith, eqb-false (length rest) 0 (sym c.is_empty.ensures ∙ c.loop-rest-test.true)) in
     let blank : is_blank (get_or rest 0 0) ≡ true = sym c.is_blank.ensures ∙ c.if-is_blank.true in
     let shorter : length (take (length rest - 1) (drop 1 rest)) ≤ length c.args.text.now = let before = c.loop-rest.invariant.shorter in simp (length-take, length-drop) (omega arith) in
-    record { same = λ marks. skip_rest marks rest long blank ∙ c.loop-rest.invariant.same marks; shorter = shorter }
+    record { same = skip_rest rest long blank ∙ c.loop-rest.invariant.same; shorter = shorter }

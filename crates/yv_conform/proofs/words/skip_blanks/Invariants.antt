@@ -1,10 +1,10 @@
-use Rattle.std.proofs.Common.{◌≡◌, ◌≤◌, length, List, ℕ}
+use Rattle.std.proofs.Common.{◌≡◌, ◌≤◌, length}
 use Rattle.yv_conform.specs.Words.{words}
 use Rattle.yv_conform.proofs.words.skip_blanks.Given as goal
 
 abbrev pub invariant-loop-rest : goal.invariant-loop-rest
 invariant-loop-rest l = record {
-  same : (marks : List ℕ) → words marks l.rest ≡ words marks l.text;
+  same : words l.rest ≡ words l.text;
   shorter : length l.rest ≤ length l.text;
 }
 

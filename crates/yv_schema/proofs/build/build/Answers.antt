@@ -1,43 +1,99 @@
-use Rattle.std.proofs.Common.{◌≡◌, true, ap, ◌∙◌, List, []}
-use Rattle.std.specs.Rc.{rc_str_bytes}
-use Rattle.yv_statement.specs.Tree.{forest, name_of}
-use Rattle.yv_schema.specs.Module.{nodes_of, schema_of}
-use Rattle.yv_schema.specs.InnerBuild.{block_trees, front_for}
-use Rattle.yv_schema.proofs.Blocks.{forest-trees}
-use Rattle.yv_schema.proofs.Kept.{IsBuilt, kept_made, kids_within, top_within, whole_made}
+use Rattle.std.proofs.Common.{◌≡◌, List, map, sym, ◌∙◌, length, Option, Some, None, subst}
+use Rattle.std.proofs.lemmas.List.{length-map}
+use Rattle.yv_selection.specs.Choice.{choice_of}
+use Rattle.yv_statement.specs.declared.refusal.Refusal.{Refusal}
+use Rattle.yv_statement.specs.Order.{Among, IsLeast, IsLesser}
+use Rattle.yv_rows.specs.Lent.{lent_in}
+use Rattle.yv_schema.specs.Tree.{Forest}
+use Rattle.yv_schema.specs.Module.{schema_of}
+use Rattle.yv_schema.specs.Refuses.{Doubled}
+use Rattle.yv_schema.specs.InnerConditions.{truth_of}
+use Rattle.yv_schema.specs.InnerBuild.{Group, Top, all_nodes, groups_from}
+use Rattle.yv_schema.specs.InnerTables.{Namesakes, labels_at}
+use Rattle.yv_schema.specs.InnerTops.{top_of}
+use Rattle.yv_schema.specs.Rows.{Row}
+use Rattle.yv_schema.proofs.Formed.{all_modules, groups_different, groups_formed, tops_differ}
+use Rattle.yv_schema.proofs.Kept.{IsBuilt, built_doubled, built_rows, built_tops, kept_made, whole_made}
 use Rattle.yv_schema.proofs.build.build.Goals as goal
-use Rattle.yv_schema.proofs.build.build.Goals.{After-as_slice}
+use Rattle.yv_schema.proofs.build.build.Goals.{After-deref-2}
 
-home_is : (c : After-as_slice) → rc_str_bytes c.in_ok-home.home ≡ name_of c.args.root.now.head
-home_is c = c.in_ok-home.ensures.ok ∙ c.name_of.ensures
+abbrev groups : After-deref-2 → List Group
+groups c = groups_from (truth_of c.args.conditions.now) (choice_of c.args.selection.now) (lent_in c.args.rows.now) 0 (lent_in c.args.rows.now)
 
-built : (c : After-as_slice) → IsBuilt c.args.root.now c.block.new.nodes c.in_ok-top.top.items
+abbrev tops : After-deref-2 → List Top
+tops c = map top_of c.in_ok-tops.tops.items
+
+built : (c : After-deref-2) → IsBuilt (groups c) c.add_modules.new.nodes (tops c)
 built c =
-    let home = home_is c in
-    let block : block_trees (rc_str_bytes c.in_ok-home.home) true c.children.result.now ≡ schema_of c.args.root.now =
-    ap (λ (text : List Prim.Native.Nat.ℕ). nodes_of text [] (forest c.children.result.now)) home
-    ∙ ap (nodes_of (name_of c.args.root.now.head) []) (ap forest c.children.ensures ∙ forest-trees c.args.root.now.children) in
-    let none : c.new-nodes.result ≡ [] = c.new-nodes.ensures in
+    let files = lent_in c.args.rows.now in
+    let names = c.requires.names in
     record {
-      clear = c.requires;
-      rows = rw (none, block) at c.in_ok-top.ensures.rows;
-      numbers = rw (none, block) at c.in_ok-top.ensures.numbers;
+      formed = groups_formed (truth_of c.args.conditions.now) (choice_of c.args.selection.now) files 0 files (record { plain = names.plain; filled = names.filled });
+      differ = groups_different (truth_of c.args.conditions.now) (choice_of c.args.selection.now) files 0 files names.differ;
+      rows = rw (c.in_ok-parts.ensures, c.new-nodes.ensures) at c.in_ok-tops.ensures.rows;
+      are = rw (c.in_ok-parts.ensures, c.new-nodes.ensures) at c.in_ok-tops.ensures.tops;
       small = rw c.nodes.view_is at c.nodes.invariant;
     }
 
-pub tables-requires-clause-top : goal.tables-requires-clause-top
-tables-requires-clause-top c =
-    rw c.as_slice.ensures.value (top_within c.args.root.now c.block.new.nodes c.in_ok-top.top.items (built c))
+pub module_tables-requires-clause-within : goal.module_tables-requires-clause-within
+module_tables-requires-clause-within c =
+    rw c.deref-2.ensures.value (built_tops (groups c) c.add_modules.new.nodes (tops c) (built c))
 
-pub tables-requires-clause-below : goal.tables-requires-clause-below
-tables-requires-clause-below c = kids_within c.args.root.now c.block.new.nodes c.in_ok-top.top.items (built c)
+pub module_tables-requires-clause-differ : goal.module_tables-requires-clause-differ
+module_tables-requires-clause-differ c =
+    rw c.deref-2.ensures.value (rw (← (built c).are) at (tops_differ 0 (groups c) (built c).differ))
+
+pub node_tables-requires : goal.node_tables-requires
+node_tables-requires c =
+    let before : After-deref-2 = (goal.at.node_tables-requires c).After-deref-2 in
+    built_rows (groups before) c.add_modules.new.nodes (tops before) (built before)
+
+abbrev schema : After-deref-2 → Forest
+schema d = schema_of (truth_of d.args.conditions.now) (choice_of d.args.selection.now) (lent_in d.args.rows.now)
+
+-- the nodes of the modules are the schema tree
+whole_tree : (d : After-deref-2) → all_nodes (groups d) ≡ schema d
+whole_tree d = all_modules (truth_of d.args.conditions.now) (choice_of d.args.selection.now) (lent_in d.args.rows.now) 0 (lent_in d.args.rows.now)
+
+-- the least node that repeats a name
+least : (d : After-deref-2) (first second both : Option Refusal) → IsLesser first second both
+    → IsLeast (Among (tops d) (λ k (top : Top). Namesakes (labels_at d.add_modules.new.nodes top.numbers)) (length d.in_ok-tops.tops.items)) first
+    → IsLeast (Among d.add_modules.new.nodes (λ k (row : Row). Namesakes (labels_at d.add_modules.new.nodes row.children)) (length d.add_modules.new.nodes)) second
+    → IsLeast (Doubled (schema d)) both
+least d first second both lesser p q =
+    subst (λ (ts : Forest). IsLeast (Doubled ts) both) (whole_tree d)
+    (built_doubled (groups d) d.add_modules.new.nodes (tops d) (built d) first second both (length d.in_ok-tops.tops.items) (sym (length-map d.in_ok-tops.tops.items top_of)) lesser p q)
+
+pub returns-in-Some-clause-refusal : goal.returns-in-Some-clause-refusal
+returns-in-Some-clause-refusal c =
+    let d : After-deref-2 = (goal.at.returns-in-Some-clause-refusal c).After-deref-2 in
+    let p = rw c.deref-2.ensures.value at c.in_ok-at_top.ensures.doubled in
+    let found : IsLeast (Doubled (schema d)) (Some c.in-Some.refusal) = least d c.in_ok-at_top.at_top.doubled c.in_ok-below.below.doubled (Some c.in-Some.refusal) c.in-Some.ensures p c.in_ok-below.ensures.doubled in
+    λ r e. let same : c.in-Some.refusal ≡ r = cc in subst (λ (x : Refusal). IsLeast (Doubled (schema d)) (Some x)) same found
 
 pub invariant_of-result : goal.invariant_of-result
 invariant_of-result c =
-    let after : After-as_slice = (goal.at.invariant_of-result c).After-as_slice in
-    let front = c.in_ok-prefix.ensures ∙ ap (front_for []) (c.as_str.ensures.value ∙ home_is after) in
-    kept_made c.args.root.now c.block.new.nodes c.in_ok-top.top.items (built after) _ c.in_ok-tables.tables.items front
-    (rw c.as_slice.ensures.value at c.in_ok-tables.ensures)
+    let d : After-deref-2 = (goal.at.invariant_of-result c).After-deref-2 in
+    let p = rw c.deref-2.ensures.value at c.in_ok-at_top.ensures.doubled in
+    let none : IsLeast (Doubled (schema d)) None = least d c.in_ok-at_top.at_top.doubled c.in_ok-below.below.doubled None c.in-None.ensures p c.in_ok-below.ensures.doubled in
+    let clear : IsLeast (Doubled (all_nodes (groups d))) None = subst (λ (ts : Forest). IsLeast (Doubled ts) None) (sym (whole_tree d)) none in
+    let known = rw c.deref-2.ensures.value at c.in_ok-at_top.ensures.tables in
+    let top = rw c.deref.ensures.value at c.in_ok-top.ensures in
+    let kept = kept_made (groups d) d.add_modules.new.nodes (tops d) (built d) clear c.in_ok-at_top.at_top.tables c.in_ok-below.below.tables.items known c.in_ok-below.ensures.tables in
+    rw top kept
 
 pub returns-clause-schema : goal.returns-clause-schema
-returns-clause-schema c = whole_made c.args.root.now c.block.new.nodes c.in_ok-top.top.items (built (goal.at.returns-clause-schema c).After-as_slice)
+returns-clause-schema c =
+    let d : After-deref-2 = (goal.at.returns-clause-schema c).After-deref-2 in
+    let p = rw c.deref-2.ensures.value at c.in_ok-at_top.ensures.doubled in
+    let none : IsLeast (Doubled (schema d)) None = least d c.in_ok-at_top.at_top.doubled c.in_ok-below.below.doubled None c.in-None.ensures p c.in_ok-below.ensures.doubled in
+    let clear : IsLeast (Doubled (all_nodes (groups d))) None = subst (λ (ts : Forest). IsLeast (Doubled ts) None) (sym (whole_tree d)) none in
+    let top = rw c.deref.ensures.value at c.in_ok-top.ensures in
+    let whole = whole_made (groups d) d.add_modules.new.nodes (tops d) (built d) clear in
+    rw top (whole ∙ whole_tree d)
+
+pub returns-clause-clear : goal.returns-clause-clear
+returns-clause-clear c =
+    let d : After-deref-2 = (goal.at.returns-clause-clear c).After-deref-2 in
+    let p = rw c.deref-2.ensures.value at c.in_ok-at_top.ensures.doubled in
+    least d c.in_ok-at_top.at_top.doubled c.in_ok-below.below.doubled None c.in-None.ensures p c.in_ok-below.ensures.doubled

@@ -1,7 +1,12 @@
-use Rattle.std.proofs.Common.{◌≡◌, ◌++◌, drop, map}
-use Rattle.yv_values.specs.Texts.{chosen}
+use Rattle.std.proofs.Common.{◌≡◌, ◌++◌, true, drop, map}
+use Rattle.yv_values.specs.InnerNames.{Ascends}
+use Rattle.yv_values.specs.Texts.{are_distinct, chosen}
 use Rattle.yv_values.specs.Values.{texts}
 use Rattle.yv_values.proofs.bits.chosen.Given as goal
 
-abbrev pub invariant-loop-name : goal.invariant-loop-name
-invariant-loop-name l = texts l.found.items ++ chosen (texts (drop l.name-index l.names)) (map (λ w. w.now) l.words) ≡ chosen (texts l.names) (map (λ w. w.now) l.words)
+abbrev pub invariant-loop-word : goal.invariant-loop-word
+invariant-loop-word l = record {
+  same : texts l.found.items ++ chosen l.names (map (λ w. w.now) (drop l.word-index l.words)) ≡ chosen l.names (map (λ w. w.now) l.words);
+  order : Ascends (map (λ w. w.now) (drop l.word-index l.words));
+  distinct : are_distinct (map (λ w. w.now) (drop l.word-index l.words)) ≡ true;
+}

@@ -1,14 +1,11 @@
-use Rattle.std.proofs.Common.{List, refl, sym, subst, ◌∙◌, arith}
-use Rattle.yv_values.specs.Pairs.{Pair, Keeps}
-use Rattle.yv_values.proofs.Kept.{keeps_item, none_more, true_false}
+use Rattle.std.proofs.Common.{sym}
+use Rattle.yv_values.proofs.Keys.{within_found, none_kept}
 use Rattle.yv_values.proofs.index.Index.within.Goals as goal
 
-pub returns-then-is_within-clause-found : goal.returns-then-is_within-clause-found
-returns-then-is_within-clause-found c =
-    let h = c.is_within.ensures.0 c.if-is_within.true in
-    let kept = keeps_item c.deref-entry-items.result.now c.loop-entry.entry-index c.entry-item.result c.args.key.now (omega arith) c.entry-item.is h.0 in
-    (λ _. (c.entry-item.result.place, subst (λ (xs : List Pair). Keeps xs c.args.key.now c.entry-item.result.place) (c.deref-entry-items.ensures.value ∙ c.self.view_is) kept, h.1, h.2), λ _. refl)
+pub returns-in-Some-clause-found : goal.returns-in-Some-clause-found
+returns-in-Some-clause-found c =
+    rw (← c.self.view_is, ← c.atoms.ensures) (within_found c.atoms.result.now c.self.inside.places.entries c.in-Some.places.now c.is_within.result c.args.first c.args.last c.self.invariant (sym c.in-Some.ensures.value) c.is_within.ensures)
 
-pub loop-entry-preserved : goal.loop-entry-preserved
-loop-entry-preserved c =
-    none_more _ _ _ _ _ _ (omega arith) c.entry-item.is c.loop-entry.invariant (λ low high e. true_false (sym (c.is_within.ensures.1 (e, low, high)) ∙ c.if-is_within.false))
+pub returns-in-None-clause-found : goal.returns-in-None-clause-found
+returns-in-None-clause-found c =
+    rw (← c.self.view_is, ← c.atoms.ensures) (λ t. absurd (cc), λ h. absurd (none_kept c.atoms.result.now c.self.inside.places.entries h.0 (sym c.in-None.ensures.value) h.1))

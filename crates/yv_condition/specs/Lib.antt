@@ -1,0 +1,10 @@
+pub mod Bytes
+pub mod Names
+pub mod Tokens
+pub mod Condition
+pub mod Truth
+pub mod Shown
+pub mod Reading
+pub mod InnerLeft
+pub mod InnerPass
+pub mod InnerWords

@@ -1,0 +1,16 @@
+//! The truth of an `if-feature` expression, by the truth of the features that it names (RFC 7950, section 7.20.2).
+#![tactic(auto)]
+
+mod condition;
+mod evaluator;
+mod frame;
+pub mod laws;
+mod name;
+mod stack;
+#[cfg(test)]
+mod tests;
+mod word;
+
+pub use condition::is_condition;
+pub use evaluator::Evaluator;
+pub use word::{Word, Words};

@@ -1,0 +1,36 @@
+-- The features of files, as they are found and asked for.
+use Rattle.std.specs.Prelude.{◌≡◌, ◌⊎◌, ℕ, Bool, false, List, map, slice_index_or}
+use Rattle.std.proofs.Common.{inl, inr}
+use Rattle.yv_condition.specs.Condition.{Condition, Spells}
+use Rattle.yv_selection.specs.Choice.{Choice}
+use Rattle.yv_rows.specs.Files.{Files, brief_of}
+use Rattle.yv_rows.specs.Listed.{rows_of}
+use Rattle.yv_rows.specs.Tables.{table_of, first_of}
+use Rattle.yv_rows.specs.declared.kind.Kind.TheVariants.{Feature}
+use Rattle.yv_features.specs.Meaning.{Meaning, looked_up}
+use Rattle.yv_features.specs.Value.{Assignment, value_of}
+use Rattle.yv_features.specs.On.{AreOn}
+use Rattle.yv_features.specs.declared.features.Features.{Features}
+use Rattle.yv_features.specs.Decided.{spelled_by}
+
+-- those that are marked are on
+abbrev pub marked : List Bool → Assignment
+marked marks feature = slice_index_or marks feature false
+
+-- what names mean to the features that were found
+abbrev pub meaning_in : Features → Files → Meaning
+meaning_in features files = looked_up (table_of features.places) (map brief_of files) (rows_of files)
+
+-- they are the features of these files, and those are marked that are on where this is chosen
+unfoldable pub AreFeatures : Files → Choice → Features → Type 0
+AreFeatures files choice features =
+    (table_of features.places ≡ first_of Feature (rows_of files)) × AreOn (map brief_of files) (rows_of files) choice (marked features.on.items)
+
+-- the value of the condition that a text spells, if it spells one
+abbrev pub value_by : (Condition → Bool) → (text : List ℕ) → ((c : Condition) × Spells text c) ⊎ ((c : Condition) → Spells text c → ⊥) → Bool
+value_by value text (inl q) = value q.0
+value_by value text (inr none) = false
+
+-- what the features that were found tell of an expression in a file
+unfoldable pub truth_of : Features → Files → ℕ → List ℕ → Bool
+truth_of features files file text = value_by (value_of (meaning_in features files) (marked features.on.items) file) text (spelled_by text)

@@ -1,0 +1,10 @@
+pub mod Meaning
+pub mod Value
+pub mod On
+pub mod Depends
+pub mod Faults
+pub mod Decided
+pub mod Features
+pub mod InnerGraph
+pub mod InnerNames
+pub mod InnerMarks

@@ -1,0 +1,24 @@
+//! Laws of the definitions alone.
+ghost use Rattle.std.specs.Prelude.{◌≡◌, ℕ, Bool, List, None};
+ghost use Rattle.yv_statement.specs.Order.{IsLeast};
+ghost use Rattle.yv_selection.specs.Choice.{Choice};
+ghost use Rattle.yv_rows.specs.Files.{Files};
+ghost use Rattle.yv_features.specs.Faults.{BadFour};
+ghost use Rattle.yv_features.specs.Features.{AreFeatures, truth_of};
+ghost use Rattle.yv_features.specs.On.{Holds};
+ghost use Rattle.yv_features.specs.declared.features.Features.{Features};
+
+/// What the features of files tell of an expression is its truth, whatever the file and the text.
+pub fn features_tell_what_holds()
+    ensures { (files : Files) (choice : Choice) (features : Features) → AreFeatures files choice features
+        → (file : ℕ) (text : List ℕ) → Holds files choice file text (truth_of features files file text) }
+{}
+
+/// Where nothing is refused of the features, an expression in a file has one truth.
+pub fn an_expression_has_one_truth()
+    ensures { (files : Files) (choice : Choice) (file : ℕ) (text : List ℕ) (a b : Bool) → IsLeast (BadFour files) None
+        → Holds files choice file text a → Holds files choice file text b → a ≡ b }
+{
+    yv_condition::laws::a_text_spells_one_condition();
+    yv_condition::laws::names_stand_in_order();
+}

@@ -1,0 +1,4 @@
+pub mod Graph
+pub mod Ranked
+pub mod InnerMarks
+pub mod InnerSearch

@@ -1,0 +1,9 @@
+pub mod Choosing
+pub mod Numbering
+pub mod Deriving
+pub mod Ways
+pub mod Marking
+pub mod Pairing
+pub mod Placing
+pub mod Faulty
+pub mod Looking

@@ -1,0 +1,10 @@
+pub mod Names
+pub mod Derived
+pub mod Faults
+pub mod References
+pub mod Tables
+pub mod InnerChosen
+pub mod InnerNumbers
+pub mod InnerPairs
+pub mod InnerPlaces
+pub mod InnerWays

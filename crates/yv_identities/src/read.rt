@@ -1,0 +1,49 @@
+//! Reading the identities of files.
+ghost use Rattle.std.specs.Prelude.{◌≡◌, ◌≢◌, IfOk, OnOk};
+ghost use Rattle.yv_statement.specs.Order.{IsLeast};
+ghost use Rattle.yv_statement.specs.declared.refusal.Refusal.{Refusal};
+ghost use Rattle.yv_statement.specs.declared.refusal.Stop.TheVariants.{Fault, PatternBuild};
+ghost use Rattle.yv_rows.specs.Lent.{lent_in, files_in, rows_in};
+ghost use Rattle.yv_identities.specs.Faults.{BadFive};
+ghost use Rattle.yv_identities.specs.Tables.{AreIdentities};
+
+use crate::draft::Draft;
+use crate::faults::first_fault;
+use crate::hierarchy::Hierarchy;
+use crate::known::Identities;
+use crate::pairs::read_bases;
+use crate::references::References;
+use std::alloc::Global;
+use yv_graph::{Ranked, circular, rank};
+use yv_rows::Rows;
+use yv_statement::Stop;
+
+/// The identities of these statements, or the least refusal of a base whose name means nothing and of an identity
+/// that is derived from itself.
+pub fn identities<'a, 'b>(alloc: Global, rows: &Rows<'a, 'b>) -> Result<Identities<'a>, Stop>
+    ensures made { IfOk result (AreIdentities (lent_in rows.now)) }
+    ensures clear { OnOk result (IsLeast (BadFive (files_in rows.now) (rows_in rows.now)) None) }
+    ensures refusal { (r : Refusal) → result ≡ Err (Fault r) → IsLeast (BadFive (files_in rows.now) (rows_in rows.now)) (Some r) }
+    ensures built { result ≢ Err PatternBuild }
+{
+    let draft = Draft::read(alloc, rows)?;
+    let bases = read_bases(alloc, &draft)?;
+    let circles = circular(alloc, &bases)?;
+    if let Some(refusal) = first_fault(&draft, &circles) {
+        return Err(Stop::Fault(refusal));
+    }
+    let Ranked::Ranks { ranks, order } = rank(alloc, &bases)? else {
+        unreachable!();
+    };
+    let places = References::read(alloc, &draft.numbers.identities)?;
+    Ok(Identities {
+        names: draft.names,
+        identities: draft.numbers.identities,
+        places,
+        hierarchy: Hierarchy {
+            bases,
+            ranks,
+            order,
+        },
+    })
+}

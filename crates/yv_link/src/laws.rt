@@ -1,0 +1,24 @@
+//! Laws of the definitions alone. These functions do nothing: the contract of each is the law.
+ghost use Rattle.std.specs.Prelude.{◌≡◌, ◌≤◌, ℕ, List};
+ghost use Rattle.yv_statement.specs.Codes.{phase_of};
+ghost use Rattle.yv_statement.specs.declared.refusal.Refusal.{Refusal};
+ghost use Rattle.yv_selection.specs.Choice.{Choice};
+ghost use Rattle.yv_rows.specs.Files.{Files};
+ghost use Rattle.yv_features.specs.On.{Holds};
+ghost use Rattle.yv_link.specs.Links.{BadLinks};
+ghost use Rattle.yv_link.specs.Linked.{AreLinked, truth_in};
+ghost use Rattle.yv_link.specs.declared.linked.Linked.{Linked};
+
+/// What linked files tell of an expression is its truth, whatever the file and the text.
+pub fn linked_files_tell_what_holds()
+    ensures { (files : Files) (choice : Choice) (linked : Linked) → AreLinked files choice linked
+        → (file : ℕ) (text : List ℕ) → Holds files choice file text (truth_in linked file text) }
+{
+    yv_features::laws::features_tell_what_holds();
+}
+
+/// What is wrong with modules, features and identities is refused in the phases 3, 4 and 5.
+pub fn links_have_phases()
+    ensures first { (files : Files) (f : Refusal) → BadLinks files f → 3 ≤ phase_of f.code }
+    ensures last { (files : Files) (f : Refusal) → BadLinks files f → phase_of f.code ≤ 5 }
+{}

@@ -1,0 +1,15 @@
+//! Modules as a whole: which files there are, what prefixes stand for, which features are on, and which
+//! identities there are (RFC 7950, sections 5.1, 5.6.1, 6.2.1, 7.18 and 7.20).
+#![tactic(auto)]
+
+pub mod laws;
+mod linked;
+mod linking;
+mod modules;
+#[cfg(test)]
+mod tests;
+
+pub use linked::Linked;
+pub use linking::link;
+pub use modules::ModuleRef;
+pub use yv_identities::IdentityRef;

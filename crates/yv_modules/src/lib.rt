@@ -1,0 +1,13 @@
+//! What is wrong with modules as a whole: names given twice, files that aren't there, revisions, circular
+//! imports, prefixes, and submodules.
+#![tactic(auto)]
+
+mod dates;
+mod first;
+mod imports;
+mod links;
+mod prefixes;
+#[cfg(test)]
+mod tests;
+
+pub use first::first_bad;

@@ -1,0 +1,89 @@
+//! Imports, includes and belongs-tos, and the files that they name.
+ghost use Rattle.std.specs.Prelude.{◌≡◌, ◌&&◌, map, is_none, slice_get};
+ghost use Rattle.std.specs.Option.{option_and_then};
+ghost use Rattle.yv_rows.specs.Files.{brief};
+ghost use Rattle.yv_rows.specs.Rows.{row};
+ghost use Rattle.yv_rows.specs.Tables.{table_of};
+ghost use Rattle.yv_rows.specs.Lent.{files_in};
+ghost use Rattle.yv_modules.specs.Links.{is_at, is_left_out, is_link, is_missing, is_module_at, is_wrong, is_wrong_link};
+
+use yv_rows::{Entry, File, Places, Rows, name_of};
+
+/// Whether an import, an include or a belongs-to names no file.
+pub(crate) fn is_missing<'a>(rows: &Rows<'a, '_>, entry: &Entry<'a, '_>) -> bool
+    ensures { result ≡ is_missing (files_in rows.now) (row entry.now) }
+{
+    is_link(entry) && rows.named(name_of(entry.statement)).is_none()
+}
+
+// Whether it is a statement that names a file.
+fn is_link(entry: &Entry<'_, '_>) -> bool
+    ensures { result ≡ is_link (row entry.now).head }
+{
+    matches!(
+        entry.statement.keyword(),
+        "import" | "include" | "belongs-to"
+    )
+}
+
+// Whether a statement in a file of this module names a file of the wrong kind.
+fn is_wrong(entry: &Entry<'_, '_>, own: &str, file: &File<'_, '_>) -> bool
+    ensures { result ≡ is_wrong (row entry.now).head own.now (brief file.now) }
+{
+    if entry.statement.keyword() == "include" {
+        file.is_module || file.home != own
+    } else {
+        is_link(entry) && !file.is_module
+    }
+}
+
+/// Whether an import, an include or a belongs-to names a file of the wrong kind.
+pub(crate) fn is_wrong_link<'a>(rows: &Rows<'a, '_>, entry: &Entry<'a, '_>) -> bool
+    ensures { result ≡ is_wrong_link (files_in rows.now) (row entry.now) }
+{
+    let Some(number) = rows.named(name_of(entry.statement)) else {
+        return false;
+    };
+    let files = rows.files();
+    match (files.get(entry.file as usize), files.get(number)) {
+        (Some(own), Some(file)) => is_wrong(entry, own.home, file),
+        _ => false,
+    }
+}
+
+/// Whether the file of this number is a module.
+pub(crate) fn is_module_at(rows: &Rows<'_, '_>, number: usize) -> bool
+    ensures { result ≡ is_module_at (files_in rows.now) number }
+{
+    match rows.files().get(number) {
+        Some(file) => file.is_module,
+        None => false,
+    }
+}
+
+/// Whether a submodule's module is given, and has no include of it.
+pub(crate) fn is_left_out<'a>(
+    rows: &Rows<'a, '_>,
+    includes: &Places<'a>,
+    file: &File<'a, '_>,
+) -> bool
+    ensures { result ≡ is_left_out (files_in rows.now) (table_of includes.now) (brief file.now) }
+{
+    if file.is_module {
+        return false;
+    }
+    match rows.named(file.home) {
+        Some(home) => is_module_at(rows, home) && includes.get(home, file.name).is_none(),
+        None => false,
+    }
+}
+
+/// Whether the place is this number.
+pub(crate) fn is_at(number: usize, place: Option<usize>) -> bool
+    ensures { result ≡ is_at number place }
+{
+    match place {
+        Some(other) => other == number,
+        None => false,
+    }
+}

@@ -1,0 +1,34 @@
+-- What is wrong with the names of definitions.
+use Rattle.std.specs.Prelude.{◌≡◌, ℕ, ◌⊎◌, true, List, length, map}
+use Rattle.yv_statement.specs.Order.{Stands, Among, refusal_at}
+use Rattle.yv_statement.specs.declared.refusal.Refusal.{Refusal}
+use Rattle.yv_statement.specs.declared.refusal.Code.TheVariants as code
+use Rattle.yv_rows.specs.Files.{Files, Briefs, brief_of}
+use Rattle.yv_rows.specs.Rows.{Row}
+use Rattle.yv_rows.specs.Listed.{rows_of}
+use Rattle.yv_rows.specs.declared.kind.Kind.{Kind}
+use Rattle.yv_rows.specs.declared.kind.Kind.TheVariants.{Typedef, Grouping}
+use Rattle.yv_names.specs.Taken.{is_of, IsTaken}
+use Rattle.yv_names.specs.Refers.{IsUnknown}
+use Rattle.yv_names.specs.Leads.{LeadsTo}
+
+-- a definition of the kind leads to itself
+abbrev pub IsCircular : Briefs → List Row → Kind → ℕ → Row → Type 0
+IsCircular files rows kind k r = (is_of kind r ≡ true) × LeadsTo files rows k k
+
+-- what is wrong with the numbered statement
+abbrev pub BadRow : Briefs → List Row → ℕ → Row → Refusal → Type 0
+BadRow files rows k r f =
+    Stands (IsTaken rows k r) (refusal_at code.DuplicateName r.file r.head) f
+    ⊎ (Stands (IsUnknown files rows Typedef k r) (refusal_at code.UnknownType r.file r.head) f
+    ⊎ (Stands (IsCircular files rows Typedef k r) (refusal_at code.TypeCycle r.file r.head) f
+    ⊎ (Stands (IsUnknown files rows Grouping k r) (refusal_at code.UnknownGrouping r.file r.head) f
+    ⊎ Stands (IsCircular files rows Grouping k r) (refusal_at code.GroupingCycle r.file r.head) f)))
+
+-- what is wrong with one of the statements
+abbrev pub BadIn : Briefs → List Row → Refusal → Type 0
+BadIn files rows f = Among rows (BadRow files rows) (length rows) f
+
+-- what is wrong with the names of definitions in files
+abbrev pub BadSix : Files → Refusal → Type 0
+BadSix files f = BadIn (map brief_of files) (rows_of files) f

@@ -1,0 +1,10 @@
+pub mod BuiltIn
+pub mod Taken
+pub mod Refers
+pub mod Leads
+pub mod Faults
+pub mod References
+pub mod Known
+pub mod InnerGraph
+pub mod InnerPlaces
+pub mod InnerTaken

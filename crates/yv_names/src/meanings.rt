@@ -1,0 +1,93 @@
+//! What types and uses mean.
+ghost use Rattle.std.specs.Prelude.{◌≡◌, ◌↔◌, ℕ, Some, None, true, IsTrue, slice_get};
+ghost use Rattle.yv_rows.specs.Rows.{row, name_in};
+ghost use Rattle.yv_rows.specs.Scopes.{MeansIn};
+ghost use Rattle.yv_rows.specs.Lent.{files_in, rows_in};
+ghost use Rattle.yv_rows.specs.declared.kind.Kind.{Kind};
+ghost use Rattle.yv_names.specs.Refers.{IsUnknown, RefersTo, is_type, is_uses, names_one};
+
+use crate::built_in::is_built_in;
+use crate::draft::Draft;
+use yv_rows::{Entry, Kind, name_of};
+
+/// Whether a statement is a type.
+pub(crate) fn is_type(entry: &Entry<'_, '_>) -> bool
+    ensures { result ≡ is_type (row entry.now) }
+{
+    entry.statement.keyword() == "type"
+}
+
+// Whether a statement is a uses.
+fn is_uses(entry: &Entry<'_, '_>) -> bool
+    ensures { result ≡ is_uses (row entry.now) }
+{
+    entry.statement.keyword() == "uses"
+}
+
+// Whether a statement names a definition of the kind.
+fn names_one(kind: Kind, entry: &Entry<'_, '_>) -> bool
+    ensures { result ≡ names_one kind (row entry.now) }
+{
+    match kind {
+        Kind::Typedef => is_type(entry) && !is_built_in(name_of(entry.statement)),
+        Kind::Grouping => is_uses(entry),
+        _ => false,
+    }
+}
+
+/// Of which kind the definition is that a statement names.
+pub(crate) fn named_kind(entry: &Entry<'_, '_>) -> Option<Kind>
+    ensures { (kind : Kind) → (result ≡ Some kind) ↔ (names_one kind (row entry.now) ≡ true) }
+{
+    if names_one(Kind::Typedef, entry) {
+        Some(Kind::Typedef)
+    } else if names_one(Kind::Grouping, entry) {
+        Some(Kind::Grouping)
+    } else {
+        None
+    }
+}
+
+impl<'a, 'b> Draft<'_, 'a, 'b> {
+    /// The number of the definition of the kind that a statement names.
+    pub(crate) fn definition(
+        &self,
+        kind: Kind,
+        number: usize,
+        entry: &Entry<'a, 'b>,
+    ) -> Option<usize>
+        requires { names_one kind (row entry.now) ≡ true }
+        ensures { MeansIn (files_in self.now.rows.now) (rows_in self.now.rows.now) kind number (name_in (row entry.now)) result }
+    {
+        let name = name_of(entry.statement);
+        match kind {
+            Kind::Typedef => self.rows.meaning(&self.typedefs, number, name),
+            Kind::Grouping => self.rows.meaning(&self.groupings, number, name),
+            _ => None,
+        }
+    }
+
+    /// Whether a statement names a definition of the kind, and there is none.
+    pub(crate) fn is_unknown(&self, kind: Kind, number: usize, entry: &Entry<'a, 'b>) -> bool
+        ensures { IsTrue result ↔ IsUnknown (files_in self.now.rows.now) (rows_in self.now.rows.now) kind number (row entry.now) }
+    {
+        yv_rows::laws::a_name_means_one_thing();
+        if !names_one(kind, entry) {
+            return false;
+        }
+        let meant = self.definition(kind, number, entry);
+        meant.is_none()
+    }
+
+    /// The number of the definition that a type or a uses means.
+    pub(crate) fn meaning(&self, number: usize, entry: &Entry<'a, 'b>) -> Option<usize>
+        requires { slice_get (rows_in self.now.rows.now) number ≡ Some (row entry.now) }
+        ensures { (d : ℕ) → (result ≡ Some d) ↔ RefersTo (files_in self.now.rows.now) (rows_in self.now.rows.now) number d }
+    {
+        yv_rows::laws::a_name_means_one_thing();
+        match named_kind(entry) {
+            Some(kind) => self.definition(kind, number, entry),
+            None => None,
+        }
+    }
+}

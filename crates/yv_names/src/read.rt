@@ -1,0 +1,63 @@
+//! Reading the names of files.
+ghost use Rattle.std.specs.Prelude.{◌≡◌, ◌↔◌, ◌≢◌, ℕ, None, Some, Err, IfOk, OnOk};
+ghost use Rattle.std.specs.Option.{option_and_then};
+ghost use Rattle.std.specs.List.{slice_get};
+ghost use Rattle.yv_statement.specs.Order.{IsLeast};
+ghost use Rattle.yv_statement.specs.declared.refusal.Refusal.{Refusal};
+ghost use Rattle.yv_statement.specs.declared.refusal.Stop.TheVariants.{Fault, PatternBuild};
+ghost use Rattle.yv_rows.specs.Lent.{lent_in, files_in, rows_in};
+ghost use Rattle.yv_names.specs.Faults.{BadSix};
+ghost use Rattle.yv_names.specs.Refers.{RefersTo};
+ghost use Rattle.yv_names.specs.Known.{AreNames};
+
+use crate::draft::Draft;
+use crate::known::Names;
+use crate::references::{References, read_refs};
+use std::alloc::{AllocError, Global};
+use yv_graph::{Ranked, circular, rank};
+use yv_rows::Rows;
+use yv_statement::Stop;
+
+impl Draft<'_, '_, '_> {
+    // For each statement the number of the definition that it means.
+    fn meanings(&self, alloc: Global) -> Result<Vec<Option<usize>>, AllocError>
+        ensures { IfOk result (λ meanings. (k d : ℕ) → (option_and_then (λ meant. meant) (slice_get meanings.items k) ≡ Some d)
+            ↔ RefersTo (files_in self.now.rows.now) (rows_in self.now.rows.now) k d) }
+    {
+        let mut meanings = Vec::new(alloc);
+        for (number, entry) in self.rows.entries().iter().enumerate() {
+            meanings.push(self.meaning(number, entry))?;
+        }
+        Ok(meanings)
+    }
+}
+
+/// What types and uses mean in files, or the least refusal of these: a definition with a name that is taken, a type or
+/// a uses that means nothing, a typedef or a grouping that leads to itself.
+pub fn names<'a, 'b>(alloc: Global, rows: &Rows<'a, 'b>) -> Result<Names, Stop>
+    ensures made { IfOk result (AreNames (lent_in rows.now)) }
+    ensures clear { OnOk result (IsLeast (BadSix (lent_in rows.now)) None) }
+    ensures refusal { (r : Refusal) → result ≡ Err (Fault r) → IsLeast (BadSix (lent_in rows.now)) (Some r) }
+    ensures built { result ≢ Err PatternBuild }
+{
+    let draft = Draft::read(alloc, rows)?;
+    let steps = draft.steps(alloc)?;
+    let circles = circular(alloc, &steps)?;
+    if let Some(refusal) = draft.first_fault(&circles) {
+        return Err(Stop::Fault(refusal));
+    }
+    let Ranked::Ranks { order, .. } = rank(alloc, &steps)? else {
+        unreachable!();
+    };
+    let meanings = draft.meanings(alloc)?;
+    let refs = read_refs(alloc, rows)?;
+    let types = References::read(alloc, rows, "type")?;
+    let uses = References::read(alloc, rows, "uses")?;
+    Ok(Names {
+        meanings,
+        refs,
+        types,
+        uses,
+        order,
+    })
+}

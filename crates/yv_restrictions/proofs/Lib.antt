@@ -1,0 +1,5 @@
+pub mod Along
+pub mod First
+pub mod Pairs
+pub mod Spoken
+pub mod Texts

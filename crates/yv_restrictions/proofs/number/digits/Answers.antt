@@ -1,0 +1,32 @@
+use Rattle.std.proofs.Common.{◌<◌, ◌+◌, ◌*◌, length, drop, get_or, List, ℕ, sym, ap, ◌∙◌, arith}
+use Rattle.yv_values.specs.Numbers.{value_after, digit_of, limited}
+use Rattle.yv_values.proofs.Grown.{too_big, digit_step, all_dropped, fits, is_limited}
+use Rattle.yv_restrictions.proofs.number.digits.Goals as goal
+
+pub returns-in_err-number : goal.returns-in_err-number
+returns-in_err-number c =
+    let n = c.loop-byte.number in
+    let i = c.loop-byte.byte-index in
+    let xs = c.args.text.now in
+    let next = n * 10 + digit_of (get_or xs i 0) in
+    let below : i < length xs = omega arith in
+    c.from_residual.ensures ∙ sym (ap limited (sym c.loop-byte.invariant.same ∙ digit_step 10 n i 0 xs below) ∙ too_big 10 next (drop (i + 1) xs) (omega arith) (sym c.appended.ensures ∙ c.in_err-number.was))
+
+pub returns : goal.returns
+returns c =
+    let n = c.loop-byte.number in
+    let i = c.loop-byte.byte-index in
+    let xs = c.args.text.now in
+    sym (ap limited (sym c.loop-byte.invariant.same) ∙ ap (λ (ys : List ℕ). limited (value_after 10 n ys)) (all_dropped xs i c.loop-byte-test.false) ∙ fits n c.loop-byte.invariant.small)
+
+pub loop-byte-preserved : goal.loop-byte-preserved
+loop-byte-preserved c =
+    let n = c.loop-byte.number in
+    let i = c.loop-byte.byte-index in
+    let xs = c.args.text.now in
+    let below : i < length xs = omega arith in
+    let next = is_limited c.in_ok-number.number (n * 10 + digit_of (get_or xs i 0)) (sym c.in_ok-number.was ∙ c.appended.ensures) in
+    record {
+      same = ap (λ (m : ℕ). value_after 10 m (drop (i + 1) xs)) next.0 ∙ sym (digit_step 10 n i 0 xs below) ∙ c.loop-byte.invariant.same;
+      small = omega (arith, next.0, next.1);
+    }

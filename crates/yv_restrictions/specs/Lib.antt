@@ -1,0 +1,5 @@
+pub mod InnerParts
+pub mod InnerSeen
+pub mod Intervals
+pub mod Numberings
+pub mod Restrictions

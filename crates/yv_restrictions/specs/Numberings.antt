@@ -1,0 +1,107 @@
+-- The numbers of enumerations and of bits (RFC 7950, sections 9.6.4.2 and 9.7.4.2).
+use Rattle.std.specs.Prelude.{◌≡◌, ℕ, ◌<◌, ℤ, pos, negsuc, ◌+ℤ◌, int_le, Bool, true, false, not, ◌&&◌, ◌||◌, List, [], ◌∷◌, ◌++◌, take, map, slice_get, Option, Some, None, is_some, if◌then◌else◌}
+use Rattle.std.specs.BTreeMap.{BTreeMap, get_by}
+use Rattle.std.specs.Borrow.{Bor}
+use Rattle.std.specs.Cmp.Lexicographic.{slice_cmp}
+use Rattle.std.specs.Int.{int_max}
+use Rattle.std.specs.List.{list_any}
+use Rattle.std.specs.Option.{unwrap_or}
+use Rattle.std.specs.Ordering.{int_eq, nat_cmp}
+use Rattle.std.specs.Str.{bytes_eq}
+use Rattle.yv_restrictions.specs.declared.numbering.Kind.{Kind}
+use Rattle.yv_restrictions.specs.declared.numbering.Kind.TheVariants.{Enumeration, Bits}
+use Rattle.yv_restrictions.specs.declared.numbering.Listed.{Listed}
+use Rattle.yv_restrictions.specs.declared.numbering.Numbering.{Numbering}
+
+-- a name with its number
+pub record Pair : Type 0 where
+  pub name : List ℕ
+  pub number : ℤ
+
+-- the number of a name
+abbrev pub number_in : List Pair → List ℕ → Option ℤ
+number_in [] s = None
+number_in (p ∷ ps) s = if bytes_eq p.name s then Some p.number else number_in ps s
+
+-- it is the number of one of the names
+abbrev pub is_taken : List Pair → ℤ → Bool
+is_taken ps n = list_any (λ p. int_eq p.number n) ps
+
+abbrev pub higher : Option ℤ → ℤ → ℤ
+higher None n = n
+higher (Some h) n = int_max h n
+
+-- the highest number, or this one
+abbrev pub highest_from : Option ℤ → List Pair → Option ℤ
+highest_from h [] = h
+highest_from h (p ∷ ps) = highest_from (Some (higher h p.number)) ps
+
+abbrev pub highest : List Pair → Option ℤ
+highest ps = highest_from None ps
+
+-- 0, or one more than the highest
+abbrev pub next_number : Option ℤ → ℤ
+next_number None = pos 0
+next_number (Some h) = h +ℤ pos 1
+
+-- the number that is stated, or the next one
+abbrev pub number_of : List Pair → Listed → ℤ
+number_of before e = unwrap_or e.number (next_number (highest before))
+
+abbrev pub pair_of : List Pair → Listed → Pair
+pair_of before e = record { name = e.name.now; number = number_of before e }
+
+abbrev pub numbered_behind : List Pair → List Listed → List Pair
+numbered_behind before [] = before
+numbered_behind before (e ∷ es) = numbered_behind (before ++ pair_of before e ∷ []) es
+
+-- each name of a new type with its number
+abbrev pub numbered : List Listed → List Pair
+numbered es = numbered_behind [] es
+
+-- the 32 bits of either kind
+abbrev pub is_number : Kind → ℤ → Bool
+is_number Enumeration n = int_le (negsuc 2147483647) n && int_le n (pos 2147483647)
+is_number Bits n = int_le (pos 0) n && int_le n (pos 4294967295)
+
+-- Behind these pairs an entry of a new type is wrong: its name or its number is taken, or the kind hasn't the number.
+abbrev pub is_wrong : Kind → List Pair → Listed → Bool
+is_wrong kind before e =
+    is_some (number_in before e.name.now) || (is_taken before (number_of before e) || not (is_number kind (number_of before e)))
+
+-- the name with the number that the base gives it
+abbrev pub pair_in : (List ℕ → Option ℤ) → Listed → Pair
+pair_in base e = record { name = e.name.now; number = unwrap_or (base e.name.now) (pos 0) }
+
+-- each name of a derived type with its number
+abbrev pub kept : (List ℕ → Option ℤ) → List Listed → List Pair
+kept base es = map (pair_in base) es
+
+-- the base has this number, and no other is stated
+abbrev pub agrees : Option ℤ → Option ℤ → Bool
+agrees stated None = false
+agrees None (Some n) = true
+agrees (Some m) (Some n) = int_eq m n
+
+-- Behind these pairs an entry of a derived type is wrong: its name is taken or is none of the base's, or another
+-- number is stated.
+abbrev pub is_wrong_in : (List ℕ → Option ℤ) → List Pair → Listed → Bool
+is_wrong_in base before e = is_some (number_in before e.name.now) || not (agrees e.number (base e.name.now))
+
+-- the entry at this place is wrong behind the pairs of those before it
+abbrev pub IsWrongAt : (List Listed → List Pair) → (List Pair → Listed → Bool) → List Listed → ℕ → Type 0
+IsWrongAt pairs wrong es i = (e : Listed) × (slice_get es i ≡ Some e) × (wrong (pairs (take i es)) e ≡ true)
+
+-- the first entry that is wrong
+abbrev pub IsFirstWrong : (List Listed → List Pair) → (List Pair → Listed → Bool) → List Listed → ℕ → Type 0
+IsFirstWrong pairs wrong es i = IsWrongAt pairs wrong es i × ((k : ℕ) → k < i → IsWrongAt pairs wrong es k → ⊥)
+
+abbrev pub NoneIsWrong : (List Listed → List Pair) → (List Pair → Listed → Bool) → List Listed → Type 0
+NoneIsWrong pairs wrong es = (k : ℕ) → IsWrongAt pairs wrong es k → ⊥
+
+abbrev pub lookup_in : BTreeMap (Bor (List ℕ)) ℤ → List ℕ → Option ℤ
+lookup_in m name = get_by (λ k. slice_cmp nat_cmp name k.now) m
+
+-- what is looked up in a numbering
+abbrev pub table_of : Numbering → List ℕ → Option ℤ
+table_of numbering = lookup_in numbering.map

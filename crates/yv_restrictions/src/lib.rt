@@ -1,0 +1,20 @@
+//! Restrictions of YANG types, and the numbers of enumerations and bits (RFC 7950, sections 9.2.4, 9.4.4, 9.6.4.2 and
+//! 9.7.4.2).
+#![tactic(auto)]
+
+mod bound;
+mod decimal;
+mod intervals;
+mod number;
+mod numbering;
+mod order;
+mod parts;
+mod restriction;
+mod seen;
+#[cfg(test)]
+mod tests;
+
+pub use intervals::Intervals;
+pub use numbering::{Kind, Listed, Numbering};
+pub use restriction::restricted;
+pub use seen::numbered;

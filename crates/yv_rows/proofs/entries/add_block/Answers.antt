@@ -1,0 +1,19 @@
+use Rattle.std.proofs.Common.{◌++◌, map, sym, ◌∙◌, ap, refl}
+use Rattle.std.proofs.lemmas.List.{length-map}
+use Rattle.yv_statement.specs.Tree.{Then, End, forest}
+use Rattle.yv_rows.specs.Rows.{row, listed}
+use Rattle.yv_rows.proofs.Listing.{lists_step, lists_end, next_of, end_of}
+use Rattle.yv_rows.proofs.entries.add_block.Goals as goal
+
+pub loop-child-init : goal.loop-child-init
+loop-child-init c = record { completes = refl }
+
+pub loop-child-preserved : goal.loop-child-preserved
+loop-child-preserved c =
+    lists_step _ _ c.loop-child.invariant (next_of c.args.block.now c.loop-child.child-index c.child-item.result c.loop-child-test.true c.child-item.is)
+    (c.in_ok-add.ensures ∙ ap (λ n. map row c.loop-child.entries.items ++ listed c.args.file c.args.scope n (Then c.child-item.result.head c.child-item.result.children End)) (sym (length-map c.loop-child.entries.items row)))
+
+pub returns : goal.returns
+returns c =
+    lists_end c.loop-child.invariant (end_of c.args.block.now c.loop-child.child-index c.loop-child-test.false)
+    ∙ ap (λ n. map row c.args.entries.now.items ++ listed c.args.file c.args.scope n (forest c.args.block.now)) (length-map c.args.entries.now.items row)

@@ -1,0 +1,8 @@
+use Rattle.std.proofs.Common.{map, drop}
+use Rattle.yv_statement.specs.Tree.{forest}
+use Rattle.yv_rows.specs.Rows.{row}
+use Rattle.yv_rows.proofs.Listing.{Lists}
+use Rattle.yv_rows.proofs.entries.add_block.Given as goal
+
+abbrev pub invariant-loop-child : goal.invariant-loop-child
+invariant-loop-child l = Lists l.file l.scope (map row l.fn.entries.items) (map row l.entries.items) (forest l.block) (forest (drop l.child-index l.block))

@@ -1,0 +1,41 @@
+//! Laws of the definitions alone.
+ghost use Rattle.std.specs.Prelude.{◌≡◌, ◌<◌, ◌≤◌, ℕ, List, Option, Some, map, length, slice_get};
+ghost use Rattle.yv_statement.specs.Tree.{Tree};
+ghost use Rattle.yv_rows.specs.declared.kind.Kind.{Kind};
+ghost use Rattle.yv_rows.specs.Files.{Files, Briefs, brief_of, home_at, named};
+ghost use Rattle.yv_rows.specs.Rows.{Row};
+ghost use Rattle.yv_rows.specs.Listed.{rows_of};
+ghost use Rattle.yv_rows.specs.Scopes.{AreNested, MeansIn, module_of};
+
+/// The name of a typedef or of a grouping means one thing in a statement.
+pub fn a_name_means_one_thing()
+    ensures { (files : Briefs) (rows : List Row) (kind : Kind) (number : ℕ) (name : List ℕ) (d e : Option ℕ)
+        → MeansIn files rows kind number name d → MeansIn files rows kind number name e → d ≡ e }
+{}
+
+/// It means something, or is known to mean nothing, in each statement of files.
+pub fn a_name_means_something_or_nothing()
+    ensures { (files : Files) (kind : Kind) (number : ℕ) (name : List ℕ)
+        → (d : Option ℕ) × MeansIn (map brief_of files) (rows_of files) kind number name d }
+{}
+
+/// Each statement of files stands in an earlier block, or is a root.
+pub fn blocks_are_nested()
+    ensures { (files : Files) → AreNested (rows_of files) }
+{}
+
+/// Each statement is one of the files, whose roots come first and have their numbers.
+pub fn roots_come_first()
+    ensures count { (files : Files) → length files ≤ length (rows_of files) }
+    ensures roots { (files : Files) (n : ℕ) (t : Tree) → slice_get files n ≡ Some t
+        → slice_get (rows_of files) n ≡ Some (record { file = n; scope = n; head = t.head }) }
+    ensures files { (files : Files) (number : ℕ) (r : Row) → slice_get (rows_of files) number ≡ Some r → r.file < length files }
+{}
+
+/// What is found by a name or a prefix is one of the files.
+pub fn modules_are_files()
+    ensures names { (files : Briefs) (name : List ℕ) (m : ℕ) → named files name ≡ Some m → m < length files }
+    ensures prefixes { (files : Briefs) (rows : List Row) (file : ℕ) (prefix : List ℕ) (m : ℕ)
+        → module_of files rows file prefix ≡ Some m → m < length files }
+    ensures homes { (files : Briefs) (n : ℕ) → n < length files → home_at files n < length files }
+{}

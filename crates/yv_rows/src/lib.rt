@@ -1,0 +1,23 @@
+//! The statements of many YANG files as one numbered list, and what the names and prefixes in them mean.
+//!
+//! A block has the number of its statement, a file's root has the file's number, and a name at the top of
+//! a submodule stands in the block of its module. What stands inside an extension's statement isn't listed.
+#![tactic(auto)]
+
+mod entries;
+mod files;
+mod kind;
+pub mod laws;
+mod names;
+mod places;
+mod rows;
+mod scopes;
+#[cfg(test)]
+mod tests;
+
+pub use entries::Entry;
+pub use files::File;
+pub use kind::{Kind, first_places};
+pub use names::{local, name_of, prefix_of};
+pub use places::Places;
+pub use rows::Rows;

@@ -1,0 +1,149 @@
+//! The statements of the files, and what prefixes and names in them mean.
+ghost use Rattle.std.specs.Prelude.{◌≡◌, ◌≤◌, ◌<◌, ℕ, List, map, length, IfOk};
+ghost use Rattle.yv_rows.specs.Tables.{table_of, first_of};
+ghost use Rattle.yv_rows.specs.Files.{brief, brief_of, named, home_at};
+ghost use Rattle.yv_rows.specs.Rows.{row};
+ghost use Rattle.yv_rows.specs.Listed.{rows_of};
+ghost use Rattle.yv_rows.specs.declared.kind.Kind.{Kind};
+ghost use Rattle.yv_rows.specs.declared.kind.Kind.TheVariants.{Prefix};
+
+use crate::entries::{Entry, read_entries};
+use crate::files::{File, file_places, home, read_files};
+use crate::kind::{Kind, first_entries};
+use crate::names::{local, name_of, prefix_of};
+use crate::places::Places;
+use crate::scopes::meaning_at;
+use std::alloc::{AllocError, Global};
+use yv_statement::Statement;
+
+/// The statements of files as one numbered list.
+#[derive(Drop)]
+pub struct Rows<'a, 'b> {
+    roots: &'a [Statement<'b>],
+    files: Vec<File<'a, 'b>>,
+    entries: Vec<Entry<'a, 'b>>,
+    names: Places<'a>,
+    prefixes: Places<'a>,
+    ghost few: { length roots.now ≤ 4294967296 },
+    ghost briefed: { map brief files.items ≡ map brief_of roots.now },
+    ghost listed: { map row entries.items ≡ rows_of roots.now },
+    ghost named_so: { (name : List ℕ) → table_of names 0 name ≡ named (map brief files.items) name },
+    ghost declared_so: { (s : ℕ) (n : List ℕ) → table_of prefixes s n ≡ first_of Prefix (map row entries.items) s n },
+}
+
+impl<'a, 'b> Rows<'a, 'b> {
+    ghost use Rattle.yv_rows.specs.Lent.{lent_in, files_in, rows_in};
+    ghost use Rattle.yv_rows.specs.Scopes.{Means, MeansIn, block_of, module_of, start_of};
+
+    /// The statements of files that have these roots. No memory where there are more than 2 to the 32.
+    pub fn read(alloc: Global, roots: &'a [Statement<'b>]) -> Result<Rows<'a, 'b>, AllocError>
+        ensures lent { IfOk result (λ rows. lent_in rows ≡ roots.now) }
+        ensures files { IfOk result (λ rows. files_in rows ≡ map brief_of roots.now) }
+        ensures rows { IfOk result (λ rows. rows_in rows ≡ rows_of roots.now) }
+    {
+        if roots.len() > 4_294_967_296 {
+            return Err(AllocError);
+        }
+        let files = read_files(alloc, roots)?;
+        let names = file_places(alloc, &files)?;
+        let entries = read_entries(alloc, roots, &files, &names)?;
+        let prefixes = first_entries(alloc, Kind::Prefix, &entries)?;
+        Ok(Rows {
+            roots,
+            files,
+            entries,
+            names,
+            prefixes,
+        })
+    }
+
+    /// The statements by number, without those inside extensions' statements.
+    pub fn entries(&self) -> &[Entry<'a, 'b>]
+        ensures { map row result.now ≡ rows_in self.now }
+    {
+        &self.entries
+    }
+
+    /// The files, in the order of their roots.
+    pub fn files(&self) -> &[File<'a, 'b>]
+        ensures each { map brief result.now ≡ files_in self.now }
+        ensures few { length result.now ≤ 4294967296 }
+    {
+        &self.files
+    }
+
+    /// The roots as they were lent.
+    pub fn statements(&self) -> &'a [Statement<'b>]
+        ensures { result.now ≡ lent_in self.now }
+    {
+        self.roots
+    }
+
+    /// The number of the first file of a name.
+    pub fn named(&self, name: &'a str) -> Option<usize>
+        ensures { result ≡ named (files_in self.now) name.now }
+    {
+        self.names.get(0, name)
+    }
+
+    /// The number of the file of the module to which a file belongs, its own where that module isn't there.
+    pub fn home(&self, file: usize) -> usize
+        ensures { result ≡ home_at (files_in self.now) file }
+    {
+        home(&self.files, &self.names, file)
+    }
+
+    /// The number of the file of the module that a prefix stands for in a file.
+    pub fn module_of(&self, file: usize, prefix: &'a str) -> Option<usize>
+        ensures { result ≡ module_of (files_in self.now) (rows_in self.now) file prefix.now }
+    {
+        let number = self.prefixes.get(file, prefix)?;
+        let declared = self.entries.get(number)?;
+        let outer = self.entries.get(declared.scope)?;
+        self.named(name_of(outer.statement))
+    }
+
+    /// The number of the root in whose block a feature or an identity is looked up by its name.
+    pub fn block_of(&self, file: usize, name: &'a str) -> Option<usize>
+        ensures { result ≡ block_of (files_in self.now) (rows_in self.now) file name.now }
+    {
+        match prefix_of(name) {
+            Some(prefix) => self.module_of(file, prefix),
+            None => Some(self.home(file)),
+        }
+    }
+
+    // The number of the block in which a name in a statement is looked up.
+    fn start_of(&self, number: usize, name: &'a str) -> Option<usize>
+        ensures { result ≡ start_of (files_in self.now) (rows_in self.now) number name.now }
+    {
+        let entry = self.entries.get(number)?;
+        let Some(prefix) = prefix_of(name) else {
+            return Some(entry.scope);
+        };
+        let file = entry.file as usize;
+        let module = self.module_of(file, prefix)?;
+        let own = self.home(file);
+        Some(if module == own { entry.scope } else { module })
+    }
+
+    /// The number of the first statement that has a name in a block or in one that encloses it, the places being those
+    /// of the statements of a kind (RFC 7950, section 5.5).
+    pub fn meaning_in(&self, places: &Places<'a>, block: usize, name: &'a str) -> Option<usize>
+        requires { block < length (rows_in self.now) }
+        ensures { (kind : Kind) → table_of places.now ≡ first_of kind (rows_in self.now)
+            → Means kind (rows_in self.now) block name.now result }
+    {
+        meaning_at(places, &self.entries, block, name)
+    }
+
+    /// The number of the definition that the name of a typedef or of a grouping means in a numbered statement,
+    /// the places being those of that kind.
+    pub fn meaning(&self, places: &Places<'a>, number: usize, name: &'a str) -> Option<usize>
+        ensures { (kind : Kind) → table_of places.now ≡ first_of kind (rows_in self.now)
+            → MeansIn (files_in self.now) (rows_in self.now) kind number name.now result }
+    {
+        let block = self.start_of(number, name)?;
+        meaning_at(places, &self.entries, block, local(name))
+    }
+}

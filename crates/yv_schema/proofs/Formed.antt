@@ -1,0 +1,215 @@
+-- The trees that files' statements give, module by module.
+use Rattle.std.proofs.Common.{◌≡◌, ◌≢◌, ℕ, zero, suc, ◌+◌, ◌<◌, List, [], ◌∷◌, ◌++◌, map, refl, sym, ap, ◌∙◌, subst, arith, append_assoc, Bool, true, false, cond, Some}
+use Rattle.std.specs.List.{AllByRecursion, slice_get}
+use Rattle.std.specs.Str.{bytes_eq}
+use Rattle.std.proofs.lemmas.Bool.{false_from_ne_true}
+use Rattle.std.proofs.lemmas.Slice.Eq.{bytes_eq-Decides}
+use Rattle.yv_statement.specs.Tree.{Head, End, Then, name_of}
+use Rattle.yv_statement.specs.Tree as statement
+use Rattle.yv_conform.specs.declared.keyword.Keyword.{Keyword}
+use Rattle.yv_conform.specs.declared.keyword.Keyword.TheVariants as word
+use Rattle.yv_conform.specs.Names.{keyword_of}
+use Rattle.yv_selection.specs.Choice.{Choice}
+use Rattle.yv_rows.specs.Files.{Briefs, Files, brief_of, tree_name}
+use Rattle.yv_schema.specs.declared.node.PlainType.{PlainType}
+use Rattle.yv_schema.specs.declared.node.NodeId.{NodeId}
+use Rattle.yv_schema.specs.Truth.{Truth, is_on}
+use Rattle.yv_schema.specs.Tree.{node, Forest, no_trees, tree}
+use Rattle.yv_schema.specs.Module.{given, is_given, is_part, member_name, module_nodes, modules_from, nodes_of, parts_from, types_in}
+use Rattle.yv_schema.specs.InnerNumbers.{count, numbers_from}
+use Rattle.yv_schema.specs.InnerBuild.{Group, HasNoColon, Top, all_nodes, all_numbers, groups_from, joined, tops_from}
+use Rattle.yv_schema.specs.InnerTables.{DifferInName}
+use Rattle.yv_schema.proofs.Gathering.{numbers_joined}
+
+-- what stands before a name in its member's, below a node of the module `above`
+abbrev pub front_for : List ℕ → List ℕ → List ℕ
+front_for above home = cond (bytes_eq above home) [] (home ++ 58 ∷ [])
+
+-- a member is its front and the name
+pub fronted_name : (above home name : List ℕ) → member_name above home name ≡ front_for above home ++ name
+fronted_name above home name = by (bytes_eq above home)
+  where
+    by : (b : Bool) → cond b name (home ++ 58 ∷ name) ≡ cond b [] (home ++ 58 ∷ []) ++ name
+    by true = refl
+    by false = sym (append_assoc home (58 ∷ []) name)
+
+pub no_front : (home : List ℕ) → front_for home home ≡ []
+no_front home = let same : bytes_eq home home ≡ true = (bytes_eq-Decides home home).1 refl in rw same refl
+
+pub top_front : (home : List ℕ) → home ≢ [] → front_for [] home ≡ home ++ 58 ∷ []
+top_front home filled =
+    let differs : bytes_eq [] home ≡ false = false_from_ne_true _ (λ e. filled (sym ((bytes_eq-Decides [] home).0 e))) in
+    rw differs refl
+
+-- each of these nodes is of this module, and its member is its name behind this text
+abbrev pub AreOf : List ℕ → List ℕ → Forest → Type 0
+AreOf home front no_trees = Unit {0}
+AreOf home front (tree (node l kids) ts) = (l.module_name ≡ home) × (l.member ≡ front ++ l.name) × AreOf home front ts
+
+-- below each node the nodes are of its module, and their members are their names
+abbrev pub AreOfBelow : Forest → Type 0
+AreOfBelow no_trees = Unit {0}
+AreOfBelow (tree (node l kids) ts) = AreOf l.module_name [] kids × AreOfBelow kids × AreOfBelow ts
+
+-- both
+abbrev pub AreFormed : List ℕ → List ℕ → Forest → Type 0
+AreFormed home front ts = AreOf home front ts × AreOfBelow ts
+
+given_formed : (k : Keyword) (file : ℕ) (home above : List ℕ) (h : Head) (types : List PlainType) (inside others : Forest) → AreFormed home [] inside → AreFormed home (front_for above home) others
+    → AreFormed home (front_for above home) (given k file home above h types inside others)
+given_formed word.Container file home above h types inside others kids rest = ((refl, fronted_name above home (name_of h), rest.0), (kids.0, kids.1, rest.1))
+given_formed word.Leaf file home above h types inside others kids rest = ((refl, fronted_name above home (name_of h), rest.0), (tt, tt, rest.1))
+given_formed _ file home above h types inside others kids rest = rest
+
+chosen_formed : (b : Bool) (home front : List ℕ) (ts us : Forest) → AreFormed home front ts → AreFormed home front us → AreFormed home front (cond b ts us)
+chosen_formed true home front ts us p q = p
+chosen_formed false home front ts us p q = q
+
+pub nodes_formed : (truth : Truth) (file : ℕ) (home above : List ℕ) (f : statement.Forest) (others : Forest) → AreFormed home (front_for above home) others → AreFormed home (front_for above home) (nodes_of truth file home above f others)
+nodes_formed truth file home above End others rest = rest
+nodes_formed truth file home above (Then h c o) others rest =
+    let behind : AreFormed home (front_for above home) (nodes_of truth file home above o others) = nodes_formed truth file home above o others rest in
+    let kids : AreFormed home (front_for home home) (nodes_of truth file home home c no_trees) = nodes_formed truth file home home c no_trees (tt, tt) in
+    let inside : AreFormed home [] (nodes_of truth file home home c no_trees) = subst (λ (front : List ℕ). AreFormed home front (nodes_of truth file home home c no_trees)) (no_front home) kids in
+    chosen_formed (is_on truth file c) home (front_for above home) _ _ (given_formed (keyword_of h.keyword) file home above h (types_in c) (nodes_of truth file home home c no_trees) (nodes_of truth file home above o others) inside behind) behind
+
+parts_formed : (truth : Truth) (briefs : Briefs) (m : ℕ) (home : List ℕ) (n : ℕ) (ts : Files) (others : Forest) → AreFormed home (front_for [] home) others → AreFormed home (front_for [] home) (parts_from truth briefs m home n ts others)
+parts_formed truth briefs m home n [] others rest = rest
+parts_formed truth briefs m home n (t ∷ ts) others rest =
+    let behind : AreFormed home (front_for [] home) (parts_from truth briefs m home (n + 1) ts others) = parts_formed truth briefs m home (n + 1) ts others rest in
+    chosen_formed (is_part briefs m n) home (front_for [] home) _ _ (nodes_formed truth n home [] t.children (parts_from truth briefs m home (n + 1) ts others) behind) behind
+
+-- a module's nodes
+pub record IsFormed (g : Group) : Type 0 where
+  pub plain : HasNoColon g.name
+  pub formed : AreFormed g.name (g.name ++ 58 ∷ []) g.nodes
+
+-- the names of modules of these files
+pub record NamesIn (choice : Choice) (ts : Files) : Type 0 where
+  pub plain : (n : ℕ) (t : statement.Tree) → slice_get ts n ≡ Some t → is_given choice t ≡ true → HasNoColon (tree_name t)
+  pub filled : (n : ℕ) (t : statement.Tree) → slice_get ts n ≡ Some t → is_given choice t ≡ true → tree_name t ≢ []
+
+abbrev pub names_behind : (choice : Choice) (t : statement.Tree) (ts : Files) → NamesIn choice (t ∷ ts) → NamesIn choice ts
+names_behind choice t ts h = record { plain = λ n. h.plain (suc n); filled = λ n. h.filled (suc n) }
+
+-- no module has this name
+abbrev pub IsNew : List ℕ → List Group → Type 0
+IsNew name gs = AllByRecursion (λ (g : Group). name ≢ g.name) gs
+
+abbrev pub AreDifferent : List Group → Type 0
+AreDifferent [] = Unit {0}
+AreDifferent (g ∷ gs) = IsNew g.name gs × AreDifferent gs
+
+module _ (truth : Truth) (choice : Choice) (files : Files) where
+  group_formed : (m : ℕ) (t : statement.Tree) → HasNoColon (tree_name t) → tree_name t ≢ [] → IsFormed (record { name = tree_name t; nodes = module_nodes truth files m t no_trees })
+  group_formed m t plain filled =
+      let home : List ℕ = tree_name t in
+      let parts : AreFormed home (front_for [] home) (parts_from truth (map brief_of files) m home 0 files no_trees) = parts_formed truth (map brief_of files) m home 0 files no_trees (tt, tt) in
+      record {
+        plain = plain;
+        formed = subst (λ (front : List ℕ). AreFormed home front (module_nodes truth files m t no_trees)) (top_front home filled) (nodes_formed truth m home [] t.children _ parts);
+      }
+
+  chosen_groups : (b : Bool) (P : List Group → Type 0) (g : Group) (gs : List Group) → P gs → (b ≡ true → P gs → P (g ∷ gs)) → P (cond b (g ∷ gs) gs)
+  chosen_groups true P g gs rest one = one refl rest
+  chosen_groups false P g gs rest one = rest
+
+  pub groups_formed : (m : ℕ) (ts : Files) → NamesIn choice ts → AllByRecursion IsFormed (groups_from truth choice files m ts)
+  groups_formed m [] names = tt
+  groups_formed m (t ∷ ts) names =
+      chosen_groups (is_given choice t) (AllByRecursion IsFormed) (record { name = tree_name t; nodes = module_nodes truth files m t no_trees }) (groups_from truth choice files (m + 1) ts)
+      (groups_formed (m + 1) ts (names_behind choice t ts names))
+      (λ given rest. (group_formed m t (names.plain 0 t refl given) (names.filled 0 t refl given), rest))
+
+  groups_new : (name : List ℕ) (m : ℕ) (ts : Files) → ((k : ℕ) (u : statement.Tree) → slice_get ts k ≡ Some u → is_given choice u ≡ true → name ≢ tree_name u) → IsNew name (groups_from truth choice files m ts)
+  groups_new name m [] differ = tt
+  groups_new name m (t ∷ ts) differ =
+      chosen_groups (is_given choice t) (IsNew name) (record { name = tree_name t; nodes = module_nodes truth files m t no_trees }) (groups_from truth choice files (m + 1) ts)
+      (groups_new name (m + 1) ts (λ k u at. differ (suc k) u at))
+      (λ given rest. (differ 0 t refl given, rest))
+
+  pub groups_different : (m : ℕ) (ts : Files)
+      → ((i k : ℕ) (t u : statement.Tree) → i < k → slice_get ts i ≡ Some t → slice_get ts k ≡ Some u → is_given choice t ≡ true → is_given choice u ≡ true → tree_name t ≢ tree_name u)
+      → AreDifferent (groups_from truth choice files m ts)
+  groups_different m [] differ = tt
+  groups_different m (t ∷ ts) differ =
+      chosen_groups (is_given choice t) AreDifferent (record { name = tree_name t; nodes = module_nodes truth files m t no_trees }) (groups_from truth choice files (m + 1) ts)
+      (groups_different (m + 1) ts (λ i k a b lt at_i at_k. differ (suc i) (suc k) a b (omega arith) at_i at_k))
+      (λ given rest. (groups_new (tree_name t) (m + 1) ts (λ k u at given_u. differ 0 (suc k) t u (omega arith) refl at given given_u), rest))
+
+-- modules that differ in name give nodes at the top by different names
+new_tops : (name : List ℕ) (first : ℕ) (gs : List Group) (k : ℕ) (u : Top) → IsNew name gs → slice_get (tops_from first gs) k ≡ Some u → name ≢ u.name
+new_tops name first [] k u new at = cc
+new_tops name first (g ∷ gs) zero u new at = let same : record { name = g.name; numbers = numbers_from first g.nodes } ≡ u = cc in subst (λ (x : Top). name ≢ x.name) same new.0
+new_tops name first (g ∷ gs) (suc k) u new at = new_tops name (first + count g.nodes) gs k u new.1 at
+
+pub tops_differ : (first : ℕ) (gs : List Group) → AreDifferent gs → DifferInName (tops_from first gs)
+tops_differ first [] differ = λ i k t u lt at_i at_k. cc
+tops_differ first (g ∷ gs) differ = λ i k t u lt at_i at_k. by (tops_differ (first + count g.nodes) gs differ.1) i k t u lt at_i at_k
+  where
+    by : DifferInName (tops_from (first + count g.nodes) gs) → (i k : ℕ) (t u : Top) → i < k → slice_get (tops_from first (g ∷ gs)) i ≡ Some t → slice_get (tops_from first (g ∷ gs)) k ≡ Some u → t.name ≢ u.name
+    by later i zero t u lt at_i at_k = absurd (omega arith)
+    by later zero (suc k) t u lt at_i at_k =
+        let same : record { name = g.name; numbers = numbers_from first g.nodes } ≡ t = cc in
+        subst (λ (x : Top). x.name ≢ u.name) same (new_tops g.name (first + count g.nodes) gs k u differ.0 at_k)
+    by later (suc i) (suc k) t u lt at_i at_k = later i k t u (omega arith) at_i at_k
+
+-- what follows stands behind
+joined_assoc : (ts us vs : Forest) → joined (joined ts us) vs ≡ joined ts (joined us vs)
+joined_assoc no_trees us vs = refl
+joined_assoc (tree t ts) us vs = ap (tree t) (joined_assoc ts us vs)
+
+given_joined : (k : Keyword) (file : ℕ) (home above : List ℕ) (h : Head) (types : List PlainType) (inside ts us : Forest)
+    → given k file home above h types inside (joined ts us) ≡ joined (given k file home above h types inside ts) us
+given_joined word.Container file home above h types inside ts us = refl
+given_joined word.Leaf file home above h types inside ts us = refl
+given_joined _ file home above h types inside ts us = refl
+
+chosen_joined : (b : Bool) (a c ts us vs : Forest) → a ≡ joined ts us → c ≡ joined vs us → cond b a c ≡ joined (cond b ts vs) us
+chosen_joined true a c ts us vs p q = p
+chosen_joined false a c ts us vs p q = q
+
+pub nodes_joined : (truth : Truth) (file : ℕ) (home above : List ℕ) (f : statement.Forest) (others : Forest) → nodes_of truth file home above f others ≡ joined (nodes_of truth file home above f no_trees) others
+nodes_joined truth file home above End others = refl
+nodes_joined truth file home above (Then h c o) others =
+    let kids : Forest = nodes_of truth file home home c no_trees in
+    let behind : Forest = nodes_of truth file home above o no_trees in
+    let later : nodes_of truth file home above o others ≡ joined behind others = nodes_joined truth file home above o others in
+    chosen_joined (is_on truth file c) _ _ (given (keyword_of h.keyword) file home above h (types_in c) kids behind) others behind
+    (ap (given (keyword_of h.keyword) file home above h (types_in c) kids) later ∙ given_joined (keyword_of h.keyword) file home above h (types_in c) kids behind others) later
+
+parts_joined : (truth : Truth) (briefs : Briefs) (m : ℕ) (home : List ℕ) (n : ℕ) (ts : Files) (others : Forest) → parts_from truth briefs m home n ts others ≡ joined (parts_from truth briefs m home n ts no_trees) others
+parts_joined truth briefs m home n [] others = refl
+parts_joined truth briefs m home n (t ∷ ts) others =
+    let behind : Forest = parts_from truth briefs m home (n + 1) ts no_trees in
+    let later : parts_from truth briefs m home (n + 1) ts others ≡ joined behind others = parts_joined truth briefs m home (n + 1) ts others in
+    let nodes : Forest → Forest = nodes_of truth n home [] t.children in
+    chosen_joined (is_part briefs m n) _ _ (nodes behind) others behind
+    (ap nodes later ∙ nodes_joined truth n home [] t.children (joined behind others) ∙ sym (joined_assoc (nodes no_trees) behind others) ∙ ap (λ (ts : Forest). joined ts others) (sym (nodes_joined truth n home [] t.children behind)))
+    later
+
+module_joined : (truth : Truth) (files : Files) (m : ℕ) (t : statement.Tree) (others : Forest) → module_nodes truth files m t others ≡ joined (module_nodes truth files m t no_trees) others
+module_joined truth files m t others =
+    let home : List ℕ = tree_name t in
+    let nodes : Forest → Forest = nodes_of truth m home [] t.children in
+    let parts : Forest → Forest = parts_from truth (map brief_of files) m home 0 files in
+    ap nodes (parts_joined truth (map brief_of files) m home 0 files others) ∙ nodes_joined truth m home [] t.children (joined (parts no_trees) others)
+    ∙ sym (joined_assoc (nodes no_trees) (parts no_trees) others) ∙ ap (λ (ts : Forest). joined ts others) (sym (nodes_joined truth m home [] t.children (parts no_trees)))
+
+-- the nodes of all modules are the schema tree
+pub all_modules : (truth : Truth) (choice : Choice) (files : Files) (m : ℕ) (ts : Files) → all_nodes (groups_from truth choice files m ts) ≡ modules_from truth choice files m ts
+all_modules truth choice files m [] = refl
+all_modules truth choice files m (t ∷ ts) =
+    let rest : all_nodes (groups_from truth choice files (m + 1) ts) ≡ modules_from truth choice files (m + 1) ts = all_modules truth choice files (m + 1) ts in
+    by (is_given choice t) rest
+  where
+    by : (b : Bool) → all_nodes (groups_from truth choice files (m + 1) ts) ≡ modules_from truth choice files (m + 1) ts
+        → all_nodes (cond b (record { name = tree_name t; nodes = module_nodes truth files m t no_trees } ∷ groups_from truth choice files (m + 1) ts) (groups_from truth choice files (m + 1) ts))
+        ≡ cond b (module_nodes truth files m t (modules_from truth choice files (m + 1) ts)) (modules_from truth choice files (m + 1) ts)
+    by true rest = ap (joined (module_nodes truth files m t no_trees)) rest ∙ sym (module_joined truth files m t (modules_from truth choice files (m + 1) ts))
+    by false rest = rest
+
+-- the numbers at the top of all modules are those of all nodes
+pub all_numbered : (first : ℕ) (gs : List Group) → all_numbers (tops_from first gs) ≡ numbers_from first (all_nodes gs)
+all_numbered first [] = refl
+all_numbered first (g ∷ gs) = ap (λ (ns : List NodeId). numbers_from first g.nodes ++ ns) (all_numbered (first + count g.nodes) gs) ∙ sym (numbers_joined first g.nodes (all_nodes gs))

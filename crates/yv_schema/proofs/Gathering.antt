@@ -1,0 +1,150 @@
+-- How the nodes of modules are gathered, file by file.
+use Rattle.std.proofs.Common.{◌≡◌, ℕ, suc, ◌+◌, ◌<◌, ◌≤◌, List, [], ◌∷◌, ◌++◌, length, drop, get_or, refl, sym, ap, subst, ◌∙◌, arith, append_assoc, append-nil, length-append, true, false, Some, inl, inr, add-one, drop-cons}
+use Rattle.std.specs.List.{slice_get}
+use Rattle.std.proofs.lemmas.Bool.{cases_lt}
+use Rattle.std.proofs.lemmas.List.{at_drop_all}
+use Rattle.std.proofs.lemmas.Option.{slice_get-get_or}
+use Rattle.std.proofs.Math.ListN.{get_or-append}
+use Rattle.std.proofs.Math.Seq.{get_or-append_seam}
+use Rattle.yv_statement.specs.Tree as statement
+use Rattle.yv_selection.specs.Choice.{Choice}
+use Rattle.yv_rows.specs.Files.{Briefs, Files, tree_name}
+use Rattle.yv_schema.specs.declared.node.NodeId.{NodeId}
+use Rattle.yv_schema.specs.Truth.{Truth}
+use Rattle.yv_schema.specs.Tree.{Forest, node, no_trees, tree}
+use Rattle.yv_schema.specs.Module.{is_given, is_part, module_nodes, nodes_of, parts_from}
+use Rattle.yv_schema.specs.Rows.{Row}
+use Rattle.yv_schema.specs.InnerNumbers.{count, numbers_from, rows_from}
+use Rattle.yv_schema.specs.InnerBuild.{Adds, Group, Top, all_nodes, block_trees, groups_from, joined, tops_from}
+use Rattle.yv_schema.proofs.Blocks.{forest-trees}
+use Rattle.yv_schema.proofs.Growing.{Rest, added_numbers, added_rows, rest_more}
+use Rattle.yv_schema.proofs.Numbers.{length_rows}
+
+-- one more number of a file's module
+pub homes_more : (f : ℕ → ℕ) (xs : List ℕ) (k : ℕ) → length xs ≡ k → ((n : ℕ) → n < k → slice_get xs n ≡ Some (f n)) → (n : ℕ) → n < k + 1 → slice_get (xs ++ f k ∷ []) n ≡ Some (f n)
+homes_more f xs k many are n lt = elim (cases_lt n k) [
+  | inl less ↦
+      let inner : n < length xs = omega (arith, less, many) in
+      slice_get-get_or (xs ++ f k ∷ []) n 0 (omega (arith, length-append xs (f k ∷ []), inner))
+      ∙ ap Some (get_or-append xs (f k ∷ []) 0 n inner) ∙ sym (slice_get-get_or xs n 0 inner) ∙ are n less
+  | inr not_less ↦
+      let last : n ≡ length xs = omega (arith, lt, many) in
+      let same : n ≡ k = omega (arith, lt) in
+      slice_get-get_or (xs ++ f k ∷ []) n 0 (omega (arith, length-append xs (f k ∷ []), last))
+      ∙ ap (λ (i : ℕ). Some (get_or (xs ++ f k ∷ []) i 0)) last ∙ ap Some (get_or-append_seam xs (f k) [] 0) ∙ ap (λ (i : ℕ). Some (f i)) (sym same)
+]
+
+module _ (truth : Truth) (briefs : Briefs) (m : ℕ) (home : List ℕ) (roots : Files) (i : ℕ) (t : statement.Tree) (lt : i < length roots) (is : t ≡ get_or roots i t) (all : Forest → Forest) (old now : List Row) (before mid : List NodeId)
+    (rest : Rest (parts_from truth briefs m home i (drop i roots)) all old now before mid) where
+  next_file : drop i roots ≡ t ∷ drop (i + 1) roots
+  next_file = drop-cons roots i t lt ∙ ap (λ (x : statement.Tree). x ∷ drop (suc i) roots) (sym is) ∙ ap (λ (n : ℕ). t ∷ drop n roots) (sym (add-one i))
+
+  -- a file that is another one of the module
+  pub part_more : (ss : List statement.Tree) (next : List Row) (after : List NodeId) → ss ≡ statement.trees t.children → is_part briefs m i ≡ true → Adds (block_trees truth i home true ss) now next mid after
+      → Rest (parts_from truth briefs m home (i + 1) (drop (i + 1) roots)) all old next before after
+  part_more ss next after block part adds =
+      let behind : Forest → Forest = parts_from truth briefs m home (i + 1) (drop (i + 1) roots) in
+      let inside : statement.forest ss ≡ t.children = ap statement.forest block ∙ forest-trees t.children in
+      let first : (others : Forest) → parts_from truth briefs m home i (drop i roots) others ≡ block_trees truth i home true ss (behind others) =
+      λ others. ap (λ (fs : Files). parts_from truth briefs m home i fs others) next_file ∙ rw (part, inside) refl in
+      rest_more (block_trees truth i home true ss) behind all old now next before mid after (record {
+        rows = λ others. ap (λ (ts : Forest). now ++ rows_from (length now) ts) (sym (first others)) ∙ rest.rows others;
+        are = λ others. ap (λ (ts : Forest). mid ++ numbers_from (length now) ts) (sym (first others)) ∙ rest.are others;
+      }) adds
+
+  -- a file of another module
+  pub part_other : is_part briefs m i ≡ false → Rest (parts_from truth briefs m home (i + 1) (drop (i + 1) roots)) all old now before mid
+  part_other other =
+      let behind : Forest → Forest = parts_from truth briefs m home (i + 1) (drop (i + 1) roots) in
+      let first : (others : Forest) → parts_from truth briefs m home i (drop i roots) others ≡ behind others =
+      λ others. ap (λ (fs : Files). parts_from truth briefs m home i fs others) next_file ∙ rw (other) refl in
+      record {
+        rows = λ others. ap (λ (ts : Forest). now ++ rows_from (length now) ts) (sym (first others)) ∙ rest.rows others;
+        are = λ others. ap (λ (ts : Forest). mid ++ numbers_from (length now) ts) (sym (first others)) ∙ rest.are others;
+      }
+
+pub parts_end : (truth : Truth) (briefs : Briefs) (m : ℕ) (home : List ℕ) (roots : Files) (i : ℕ) (all : Forest → Forest) (old now : List Row) (before after : List NodeId) → length roots ≤ i
+    → Rest (parts_from truth briefs m home i (drop i roots)) all old now before after → Adds all old now before after
+parts_end truth briefs m home roots i all old now before after over rest =
+    let none : (others : Forest) → parts_from truth briefs m home i (drop i roots) others ≡ others =
+    λ others. at_drop_all (λ (fs : Files). parts_from truth briefs m home i fs others) roots i over in
+    record {
+      rows = λ others. ap (λ (ts : Forest). now ++ rows_from (length now) ts) (sym (none others)) ∙ rest.rows others;
+      numbers = λ others. ap (λ (ts : Forest). after ++ numbers_from (length now) ts) (sym (none others)) ∙ rest.are others;
+    }
+
+-- the numbers and rows of trees of which one list stands behind the other
+pub rows_joined : (first : ℕ) (ts us : Forest) → rows_from first (joined ts us) ≡ rows_from first ts ++ rows_from (first + count ts) us
+rows_joined first no_trees us = ap (λ (n : ℕ). rows_from n us) (omega arith)
+rows_joined first (tree (node l kids) ts) us =
+    let end : first + 1 + count kids + count ts ≡ first + (1 + count kids + count ts) = omega arith in
+    rw (rows_joined (first + 1 + count kids) ts us, end)
+    (ap (λ (rs : List Row). record { label = l; children = numbers_from (first + 1) kids } ∷ rs) (sym (append_assoc (rows_from (first + 1) kids) (rows_from (first + 1 + count kids) ts) _)))
+
+pub numbers_joined : (first : ℕ) (ts us : Forest) → numbers_from first (joined ts us) ≡ numbers_from first ts ++ numbers_from (first + count ts) us
+numbers_joined first no_trees us = ap (λ (n : ℕ). numbers_from n us) (omega arith)
+numbers_joined first (tree (node l kids) ts) us =
+    let end : first + 1 + count kids + count ts ≡ first + (1 + count kids + count ts) = omega arith in
+    rw (numbers_joined (first + 1 + count kids) ts us, end) refl
+
+-- with the modules behind, the rows and the nodes at the top are those of all modules
+pub record Gathers (behind all : List Group) (old now : List Row) (tops : List Top) : Type 0 where
+  pub rows : now ++ rows_from (length now) (all_nodes behind) ≡ old ++ rows_from (length old) (all_nodes all)
+  pub are : tops ++ tops_from (length now) behind ≡ tops_from (length old) all
+
+-- the first of the modules behind is gathered
+gather_one : (g : Group) (behind all : List Group) (old now next : List Row) (tops : List Top) (numbers : List NodeId) → next ≡ now ++ rows_from (length now) g.nodes → numbers ≡ numbers_from (length now) g.nodes
+    → Gathers (g ∷ behind) all old now tops → Gathers behind all old next (tops ++ record { name = g.name; numbers = numbers } ∷ [])
+gather_one g behind all old now next tops numbers grew are h =
+    let many : length next ≡ length now + count g.nodes = omega (arith, ap length grew, length-append now (rows_from (length now) g.nodes), length_rows (length now) g.nodes) in
+    let rest : List Row = rows_from (length now + count g.nodes) (all_nodes behind) in
+    record {
+      rows = ap (λ (n : ℕ). next ++ rows_from n (all_nodes behind)) many ∙ ap (λ (rs : List Row). rs ++ rest) grew ∙ append_assoc now (rows_from (length now) g.nodes) rest
+          ∙ ap (λ (rs : List Row). now ++ rs) (sym (rows_joined (length now) g.nodes (all_nodes behind))) ∙ h.rows;
+      are = append_assoc tops (record { name = g.name; numbers = numbers } ∷ []) (tops_from (length next) behind)
+          ∙ ap (λ (n : ℕ). tops ++ record { name = g.name; numbers = numbers } ∷ tops_from n behind) many
+          ∙ ap (λ (cs : List NodeId). tops ++ record { name = g.name; numbers = cs } ∷ tops_from (length now + count g.nodes) behind) are ∙ h.are;
+    }
+
+module _ (truth : Truth) (choice : Choice) (roots : Files) (i : ℕ) (t : statement.Tree) (lt : i < length roots) (is : t ≡ get_or roots i t) (all : List Group) (old now : List Row) (tops : List Top)
+    (h : Gathers (groups_from truth choice roots i (drop i roots)) all old now tops) where
+  abbrev behind : List Group
+  behind = groups_from truth choice roots (i + 1) (drop (i + 1) roots)
+
+  next_root : drop i roots ≡ t ∷ drop (i + 1) roots
+  next_root = drop-cons roots i t lt ∙ ap (λ (x : statement.Tree). x ∷ drop (suc i) roots) (sym is) ∙ ap (λ (n : ℕ). t ∷ drop n roots) (sym (add-one i))
+
+  pub module_more : (next : List Row) (top : Top) → is_given choice t ≡ true → top.name ≡ tree_name t → Adds (module_nodes truth roots i t) now next [] top.numbers → Gathers behind all old next (tops ++ top ∷ [])
+  module_more next top given name adds =
+      let g : Group = record { name = tree_name t; nodes = module_nodes truth roots i t no_trees } in
+      let first : groups_from truth choice roots i (drop i roots) ≡ g ∷ behind = ap (groups_from truth choice roots i) next_root ∙ rw given refl in
+      let same : record { name = tree_name t; numbers = top.numbers } ≡ top = ap (λ (text : List ℕ). let u : Top = record { name = text; numbers = top.numbers } in u) (sym name) in
+      let made : Gathers behind all old next (tops ++ record { name = tree_name t; numbers = top.numbers } ∷ []) =
+      gather_one g behind all old now next tops top.numbers (added_rows (module_nodes truth roots i t) now next [] top.numbers adds) (added_numbers (module_nodes truth roots i t) now next [] top.numbers adds) (rw first at h) in
+      rw same at made
+
+  pub module_other : is_given choice t ≡ false → Gathers behind all old now tops
+  module_other other =
+      let first : groups_from truth choice roots i (drop i roots) ≡ behind = ap (groups_from truth choice roots i) next_root ∙ rw other refl in
+      rw first at h
+
+pub modules_end : (truth : Truth) (choice : Choice) (roots : Files) (i : ℕ) (all : List Group) (old now : List Row) (tops : List Top) → length roots ≤ i
+    → Gathers (groups_from truth choice roots i (drop i roots)) all old now tops → (now ≡ old ++ rows_from (length old) (all_nodes all)) × (tops ≡ tops_from (length old) all)
+modules_end truth choice roots i all old now tops over h =
+    let none : groups_from truth choice roots i (drop i roots) ≡ [] = at_drop_all (groups_from truth choice roots i) roots i over in
+    let end : Gathers [] all old now tops = rw none at h in
+    (sym (append-nil now) ∙ end.rows, sym (append-nil tops) ∙ end.are)
+
+-- trees are added, and then others
+pub adds_both : (first second : Forest → Forest) (old mid new : List Row) (before between after : List NodeId) → Adds first old mid before between → Adds second mid new between after
+    → Adds (λ others. first (second others)) old new before after
+adds_both first second old mid new before between after a b = record {
+  rows = λ others. b.rows others ∙ a.rows (second others);
+  numbers = λ others. b.numbers others ∙ a.numbers (second others);
+}
+
+-- the trees of a file's own block
+pub adds_top : (truth : Truth) (i : ℕ) (home : List ℕ) (t : statement.Tree) (ss : List statement.Tree) (old new : List Row) (before after : List NodeId) → ss ≡ statement.trees t.children
+    → Adds (block_trees truth i home true ss) old new before after → Adds (nodes_of truth i home [] t.children) old new before after
+adds_top truth i home t ss old new before after block adds =
+    subst (λ (f : statement.Forest). Adds (nodes_of truth i home [] f) old new before after) (ap statement.forest block ∙ forest-trees t.children) adds

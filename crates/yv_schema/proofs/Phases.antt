@@ -1,0 +1,191 @@
+-- The phases of a compilation, and what is known where the first ones refuse nothing.
+use Rattle.std.proofs.Common.{◌≡◌, ◌≢◌, ℕ, ◌<◌, ◌≤◌, ◌⊎◌, ◌&&◌, ◌==◌, not, inl, inr, Bool, true, false, List, [], ◌∷◌, length, map, Option, Some, None, refl, sym, ap, ◌∙◌, subst, arith, codes}
+use Rattle.std.specs.List.{list_all, slice_get}
+use Rattle.std.specs.Option.{unwrap_or}
+use Rattle.std.proofs.lemmas.Bool.{cases_Bool, false≢true, false_from_ne_true}
+use Rattle.std.proofs.lemmas.Bool.Decides.{nat_tests}
+use Rattle.std.proofs.lemmas.Option.{same_Some, slice_get_within}
+use Rattle.std.proofs.lemmas.Slice.Eq.{bytes_eq-Decides}
+use Rattle.yv_statement.specs.Tree.{Tree}
+use Rattle.yv_statement.specs.Codes.{phase_of}
+use Rattle.yv_statement.specs.declared.refusal.Refusal.{Refusal}
+use Rattle.yv_statement.specs.declared.refusal.Code.TheVariants as code
+use Rattle.yv_statement.specs.Order.{Among, IsLeast, refusal_at}
+use Rattle.yv_statement.proofs.Least.{least_same}
+use Rattle.yv_conform.specs.declared.keyword.Keyword.{Keyword}
+use Rattle.yv_conform.specs.declared.keyword.Keyword.TheVariants as word
+use Rattle.yv_conform.specs.declared.form.Form.TheVariants as form
+use Rattle.yv_conform.specs.Names.{keyword_of}
+use Rattle.yv_conform.specs.Argument.{ArgumentFits, argument_has}
+use Rattle.yv_conform.specs.Faults.{Bad, keyword_at, own}
+use Rattle.yv_conform.specs.Forms.{form_of}
+use Rattle.yv_conform.specs.Texts.{is_identifier, is_part, is_start}
+use Rattle.yv_selection.specs.Choice.{Choice, is_implemented}
+use Rattle.yv_rows.specs.Files.{Brief, Briefs, Files, brief_of, is_module, named, tree_name}
+use Rattle.yv_modules.specs.Links.{is_at}
+use Rattle.yv_features.specs.Faults.{BadFour}
+use Rattle.yv_features.specs.On.{Holds}
+use Rattle.yv_link.specs.Links.{BadLinks}
+use Rattle.yv_link.proofs.Phases.{ahead, behind}
+use Rattle.yv_schema.specs.Truth.{IsTruth, Truth}
+use Rattle.yv_schema.specs.Tree.{Label, labels}
+use Rattle.yv_schema.specs.Module.{is_given, schema_of}
+use Rattle.yv_schema.specs.Refuses.{BadFile, BadSchema, Doubled, Refuses, Repeated}
+use Rattle.yv_schema.specs.InnerBuild.{AreNames, HasNoColon}
+use Rattle.yv_schema.proofs.Colons.{is_58}
+use Rattle.yv_schema.proofs.Keeping.{map_get}
+use Rattle.yv_schema.proofs.Told.{is_own}
+use Rattle.yv_schema.proofs.Truths.{same_truth}
+
+and_first : (a b : Bool) → (a && b) ≡ true → a ≡ true
+and_first true b h = refl
+and_first false b h = absurd (false≢true h)
+
+and_second : (a b : Bool) → (a && b) ≡ true → b ≡ true
+and_second true b h = h
+and_second false b h = absurd (false≢true h)
+
+-- what begins an identifier, and what stands in one, is no colon
+no_start : (b : ℕ) → is_start b ≡ true → (b == 58) ≡ false
+no_start b h = false_from_ne_true _ (λ e. let same : b ≡ 58 = is_58 b e in false≢true (ap is_start (sym same) ∙ h))
+
+no_part : (b : ℕ) → is_part b ≡ true → (b == 58) ≡ false
+no_part b h = false_from_ne_true _ (λ e. let same : b ≡ 58 = is_58 b e in false≢true (ap is_part (sym same) ∙ h))
+
+no_parts : (text : List ℕ) → list_all is_part text ≡ true → HasNoColon text
+no_parts [] h = refl
+no_parts (b ∷ bs) h = rw (no_part b (and_first (is_part b) (list_all is_part bs) h)) (no_parts bs (and_second (is_part b) (list_all is_part bs) h))
+
+-- an identifier has no colon, and isn't empty
+plain_name : (text : List ℕ) → is_identifier text ≡ true → HasNoColon text
+plain_name [] h = refl
+plain_name (b ∷ bs) h = rw (no_start b (and_first (is_start b) (list_all is_part bs) h)) (no_parts bs (and_second (is_start b) (list_all is_part bs) h))
+
+filled_name : (text : List ℕ) → is_identifier text ≡ true → text ≢ []
+filled_name text h e = false≢true (ap is_identifier (sym e) ∙ h)
+
+module_word : keyword_of (codes "module") ≡ word.Module
+unfolding keyword_of
+module_word = refl
+
+module_form : form_of word.Unknown word.Module ≡ form.Identifier
+unfolding form_of
+module_form = refl
+
+is_word : (t : Tree) → is_module t ≡ true → keyword_at t ≡ word.Module
+is_word t h = ap keyword_of ((bytes_eq-Decides t.head.keyword (codes "module")).0 h) ∙ module_word
+
+named_by : (argument : Option (List ℕ)) → argument_has form.Identifier argument ≡ true → is_identifier (unwrap_or argument []) ≡ true
+named_by None h = absurd (false≢true h)
+named_by (Some text) h = h
+
+-- a module that is as the tables say has an identifier as its name
+module_named : (t : Tree) → is_module t ≡ true → ((f : Refusal) → Bad t f → ⊥) → is_identifier (tree_name t) ≡ true
+module_named t given fine = elim (cases_Bool (argument_has form.Identifier t.head.argument)) [
+  | inl fits ↦ named_by t.head.argument fits
+  | inr unfit ↦
+      let keyword : keyword_at t ≡ word.Module = is_word t given in
+      let plain : keyword_at t ≢ word.Extended = λ e. let other : word.Module ≡ word.Extended = sym keyword ∙ e in cc in
+      let bad : ArgumentFits word.Unknown (keyword_at t) t.head.argument → ⊥ =
+      λ h. false≢true (sym unfit ∙ ap (λ f. argument_has f t.head.argument) (sym module_form) ∙ ap (λ (k : Keyword). argument_has (form_of word.Unknown k) t.head.argument) (sym keyword) ∙ h.0) in
+      absurd (fine (refusal_at code.BadArgument 0 t.head) (inr (own plain (inr (inr (bad, refl))))))
+]
+
+-- where no file's name stands before it, names differ
+own_name : (briefs : Briefs) (n : ℕ) (g : Brief) → not (is_at n (named briefs g.name)) ≡ false → named briefs g.name ≡ Some n
+own_name briefs n g h = by (named briefs g.name) refl (not_false (is_at n (named briefs g.name)) h)
+  where
+    not_false : (b : Bool) → not b ≡ false → b ≡ true
+    not_false true e = refl
+    not_false false e = absurd (false≢true (sym e))
+
+    by : (o : Option ℕ) → named briefs g.name ≡ o → is_at n (named briefs g.name) ≡ true → named briefs g.name ≡ Some n
+    by None e is = absurd (false≢true (ap (is_at n) (sym e) ∙ is))
+    by (Some i) e is =
+        let at : (i == n) ≡ true = ap (is_at n) (sym e) ∙ is in
+        let same : i ≡ n = grind (arith, nat_tests) in
+        e ∙ ap Some same
+
+module _ (choice : Choice) (files : Files) (fine : (f : Refusal) → Among files BadFile (length files) f → ⊥) (linked : (f : Refusal) → BadLinks files f → ⊥) where
+  identifier_at : (n : ℕ) (t : Tree) → slice_get files n ≡ Some t → is_given choice t ≡ true → is_identifier (tree_name t) ≡ true
+  identifier_at n t at given =
+      module_named t (and_first (is_module t) (is_implemented choice (tree_name t)) given)
+      (λ f bad. fine (record { code = f.code; file = n; offset = f.offset; line = f.line }) (n, slice_get_within files n t at, t, at, record { own = f; stands = inl bad; is = refl }))
+
+  first_named : (n : ℕ) (t : Tree) → slice_get files n ≡ Some t → named (map brief_of files) (tree_name t) ≡ Some n
+  first_named n t at =
+      let here : slice_get (map brief_of files) n ≡ Some (brief_of t) = map_get brief_of files n t at in
+      let first : not (is_at n (named (map brief_of files) (tree_name t))) ≡ false =
+      false_from_ne_true _ (λ e. linked (refusal_at code.DuplicateModule n t.head) (inl (inl (n, slice_get_within (map brief_of files) n (brief_of t) here, brief_of t, here, inl (e, refl))))) in
+      own_name (map brief_of files) n (brief_of t) first
+
+  -- the names of the modules of files that nothing is wrong with
+  pub names_of : AreNames choice files
+  names_of = record {
+    plain = λ n t at given. plain_name (tree_name t) (identifier_at n t at given);
+    filled = λ n t at given. filled_name (tree_name t) (identifier_at n t at given);
+    differ = λ m n t u lt at_m at_n given_t given_u same.
+        let one : m ≡ n = same_Some m n (sym (first_named m t at_m) ∙ ap (named (map brief_of files)) same ∙ first_named n u at_n) in
+        omega (arith, lt, one);
+  }
+
+-- the phases of refusals
+file_phase : (n : ℕ) (t : Tree) (f : Refusal) → BadFile n t f → phase_of f.code ≡ 2
+file_phase n t f h = ap (λ (r : Refusal). phase_of r.code) h.is ∙ (is_own t h.own h.stands).phase
+
+repeated_phase : (ls : List Label) (f : Refusal) → Repeated ls f → phase_of f.code ≡ 10
+repeated_phase ls f h = ap (λ (r : Refusal). phase_of r.code) h.4.1
+
+schema_phase : (choice : Choice) (files : Files) (f : Refusal) → BadSchema choice files f → phase_of f.code ≡ 10
+schema_phase choice files f h = elim h.doubled [
+  | inl x ↦ repeated_phase (labels (schema_of h.truth choice files)) f x
+  | inr x ↦ repeated_phase x.2 f x.4
+]
+
+-- what is wrong with the links of files is refused in the phases 3 to 5
+pub record HaveLinksPhases : Type 0 where
+  pub first : (files : Files) (f : Refusal) → BadLinks files f → 3 ≤ phase_of f.code
+  pub last : (files : Files) (f : Refusal) → BadLinks files f → phase_of f.code ≤ 5
+
+-- an expression in files has one truth, where nothing is wrong with their features
+abbrev pub HasOneTruth : Type 0
+HasOneTruth = (files : Files) (choice : Choice) (file : ℕ) (text : List ℕ) (a b : Bool) → IsLeast (BadFour files) None
+    → Holds files choice file text a → Holds files choice file text b → a ≡ b
+
+module _ (choice : Choice) (files : Files) (phases : HaveLinksPhases) where
+  abbrev Own : Refusal → Type 0
+  Own f = Among files BadFile (length files) f
+
+  own_phase : (f : Refusal) → Own f → phase_of f.code ≤ 2
+  own_phase f h = let e : phase_of f.code ≡ 2 = file_phase h.0 h.2 f h.4 in omega (arith, e)
+
+  later_phase : (f : Refusal) → BadLinks files f ⊎ BadSchema choice files f → 2 < phase_of f.code
+  later_phase f (inl h) = let e : 3 ≤ phase_of f.code = phases.first files f h in omega (arith, e)
+  later_phase f (inr h) = let e : phase_of f.code ≡ 10 = schema_phase choice files f h in omega (arith, e)
+
+  last_phase : (f : Refusal) → BadSchema choice files f → 5 < phase_of f.code
+  last_phase f h = let e : phase_of f.code ≡ 10 = schema_phase choice files f h in omega (arith, e)
+
+  -- the least of the files as such is the least of all
+  pub least_first : (r : Refusal) → IsLeast (Among files BadFile (length files)) (Some r) → IsLeast (Refuses choice files) (Some r)
+  least_first r p = ahead Own (λ f. BadLinks files f ⊎ BadSchema choice files f) 2 r own_phase later_phase p
+
+  -- where nothing is wrong with them, the least of their links is the least of all
+  pub least_next : (r : Refusal) → IsLeast (Among files BadFile (length files)) None → IsLeast (BadLinks files) (Some r) → IsLeast (Refuses choice files) (Some r)
+  least_next r p q =
+      behind Own (λ f. BadLinks files f ⊎ BadSchema choice files f) (Some r) p
+      (ahead (BadLinks files) (BadSchema choice files) 5 r (phases.last files) last_phase q)
+
+module _ (choice : Choice) (files : Files) (one : HasOneTruth) (linked : IsLeast (BadLinks files) None) where
+  pub one_truth : (a b : Truth) → IsTruth files choice a → IsTruth files choice b → a ≡ b
+  one_truth a b p q = same_truth a b (λ n text. one files choice n text (a n text) (b n text) (λ f h. linked f (inr (inl h))) (p n text) (q n text))
+
+  -- where all this refuses nothing, the least of the schema tree is the least of all
+  pub least_last : (truth : Truth) (o : Option Refusal) → IsTruth files choice truth → IsLeast (Among files BadFile (length files)) None
+      → IsLeast (Doubled (schema_of truth choice files)) o → IsLeast (Refuses choice files) o
+  least_last truth o is p r =
+      let schema : IsLeast (BadSchema choice files) o =
+      least_same (Doubled (schema_of truth choice files)) (BadSchema choice files) o
+      (λ f h. record { truth = truth; is_truth = is; doubled = h })
+      (λ f h. subst (λ (t : Truth). Doubled (schema_of t choice files) f) (one_truth h.truth truth h.is_truth is) h.doubled) r in
+      behind (Among files BadFile (length files)) (λ f. BadLinks files f ⊎ BadSchema choice files f) o p (behind (BadLinks files) (BadSchema choice files) o linked schema)

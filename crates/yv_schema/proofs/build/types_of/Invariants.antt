@@ -1,8 +1,0 @@
-use Rattle.std.proofs.Common.{◌≡◌, ◌++◌, drop}
-use Rattle.yv_statement.specs.Tree.{forest}
-use Rattle.yv_schema.specs.Module.{types_in}
-use Rattle.yv_schema.proofs.build.types_of.Given as goal
-
--- with the types that the statements behind name, these are all
-abbrev pub invariant-loop-child : goal.invariant-loop-child
-invariant-loop-child l = l.types.items ++ types_in (forest (drop l.child-index l.child-items)) ≡ types_in (forest l.child-items)

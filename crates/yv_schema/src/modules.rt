@@ -1,0 +1,161 @@
+//! The nodes of the modules that are implemented.
+ghost use Rattle.std.specs.Prelude.{◌≡◌, ◌≤◌, ◌<◌, ◌++◌, [], map, length, IfOk, IfErr, OnOk};
+ghost use Rattle.std.specs.Rc.{rc_str_bytes};
+ghost use Rattle.yv_statement.specs.declared.refusal.Stop.TheVariants.{NoMemory};
+ghost use Rattle.yv_selection.specs.Choice.{choice_of};
+ghost use Rattle.yv_rows.specs.Files.{brief_of, tree_name};
+ghost use Rattle.yv_rows.specs.Lent.{lent_in};
+ghost use Rattle.yv_schema.specs.Module.{is_given, is_part, module_nodes, parts_from};
+ghost use Rattle.yv_schema.specs.InnerConditions.{truth_of};
+ghost use Rattle.yv_schema.specs.InnerNumbers.{rows_from};
+ghost use Rattle.yv_schema.specs.InnerBuild.{Adds, AreHomes, all_nodes, groups_from, tops_from};
+ghost use Rattle.yv_schema.specs.InnerTops.{top_of};
+
+use crate::block::Builder;
+use crate::conditions::Conditions;
+use crate::name::name_of;
+use crate::node::NodeId;
+use crate::nodes::Nodes;
+use std::alloc::{AllocError, Global};
+use std::rc::RcStr;
+use yv_rows::Rows;
+use yv_selection::Selection;
+use yv_statement::{Statement, Stop};
+
+/// The nodes at the top of a module, in order.
+#[derive(Drop)]
+pub(crate) struct ModuleTop {
+    pub(crate) name: RcStr,
+    pub(crate) numbers: Vec<NodeId>,
+}
+
+/// The files, each with the number of the file of its module.
+#[derive(Drop)]
+pub(crate) struct Parts<'a, 'b> {
+    roots: &'a [Statement<'b>],
+    homes: Vec<usize>,
+    ghost few: { length roots.now ≤ 4294967296 },
+    ghost homes_so: { AreHomes roots.now homes.items },
+}
+
+impl<'a, 'b> Parts<'a, 'b> {
+    ghost use Rattle.yv_schema.specs.InnerParts.{roots_in};
+
+    /// The files of these rows.
+    pub(crate) fn read(alloc: Global, rows: &Rows<'a, 'b>) -> Result<Parts<'a, 'b>, AllocError>
+        requires few { length (lent_in rows.now) ≤ 4294967296 }
+        ensures { IfOk result (λ parts. roots_in parts ≡ lent_in rows.now) }
+    {
+        let roots = rows.statements();
+        let homes = homes_of(alloc, rows)?;
+        Ok(Parts { roots, homes })
+    }
+
+    /// Adds the nodes of the implemented modules, and gives those at the top of each.
+    pub(crate) fn add_modules(
+        &self,
+        alloc: Global,
+        conditions: &Conditions<'_, 'a, 'b>,
+        selection: &Selection,
+        nodes: &mut Nodes,
+    ) -> Result<Vec<ModuleTop>, Stop>
+        ensures rows { OnOk result (nodes.new ≡ nodes.old ++ rows_from (length nodes.old)
+            (all_nodes (groups_from (truth_of conditions.now) (choice_of selection.now) (roots_in self.now) 0
+            (roots_in self.now)))) }
+        ensures tops { IfOk result (λ tops. map top_of tops.items ≡ tops_from (length nodes.old)
+            (groups_from (truth_of conditions.now) (choice_of selection.now) (roots_in self.now) 0 (roots_in self.now))) }
+        ensures memory { IfErr result (λ stop. stop ≡ NoMemory) }
+    {
+        let mut tops = Vec::new(alloc);
+        for (number, root) in self.roots.iter().enumerate() {
+            if is_given(selection, root) {
+                let top = self.add_module(alloc, conditions, number, root, nodes)?;
+                tops.push(top)?;
+            }
+        }
+        Ok(tops)
+    }
+
+    // Adds the nodes of a module: those of its own file, and then those of its submodules.
+    fn add_module(
+        &self,
+        alloc: Global,
+        conditions: &Conditions<'_, 'a, 'b>,
+        number: usize,
+        root: &'a Statement<'b>,
+        nodes: &mut Nodes,
+    ) -> Result<ModuleTop, Stop>
+        requires { number < 4294967296 }
+        ensures name { IfOk result (λ top. rc_str_bytes top.name ≡ tree_name root.now) }
+        ensures added { IfOk result (λ top. Adds (module_nodes (truth_of conditions.now) (roots_in self.now) number root.now)
+            nodes.old nodes.new [] top.numbers.items) }
+        ensures memory { IfErr result (λ stop. stop ≡ NoMemory) }
+    {
+        let home = RcStr::from_str(alloc, name_of(root))?;
+        let mut numbers = Vec::new(alloc);
+        let own = Builder {
+            alloc,
+            conditions,
+            file: number as u32,
+            home: &home,
+        };
+        own.block(root.children(), true, &mut numbers, nodes)?;
+        self.add_parts(number, own, &mut numbers, nodes)?;
+        Ok(ModuleTop {
+            name: home,
+            numbers,
+        })
+    }
+
+    // Adds the nodes of a module's other files.
+    fn add_parts(
+        &self,
+        number: usize,
+        own: Builder<'_, 'a, 'b>,
+        numbers: &mut Vec<NodeId>,
+        nodes: &mut Nodes,
+    ) -> Result<(), Stop>
+        ensures added { OnOk result (Adds
+            (parts_from (truth_of own.entry.conditions.now) (map brief_of (roots_in self.now)) number
+            (rc_str_bytes own.entry.home.now) 0 (roots_in self.now))
+            nodes.old nodes.new numbers.old.items numbers.new.items) }
+        ensures memory { IfErr result (λ stop. stop ≡ NoMemory) }
+    {
+        for (file, root) in self.roots.iter().enumerate() {
+            if self.is_part(number, file) {
+                let part = Builder {
+                    file: file as u32,
+                    ..own
+                };
+                part.block(root.children(), true, numbers, nodes)?;
+            }
+        }
+        Ok(())
+    }
+
+    // Whether a file is another one of a module.
+    fn is_part(&self, number: usize, file: usize) -> bool
+        requires { file < length (roots_in self.now) }
+        ensures { result ≡ is_part (map brief_of (roots_in self.now)) number file }
+    {
+        file != number && self.homes[file] == number
+    }
+}
+
+// The number of each file's module.
+fn homes_of(alloc: Global, rows: &Rows<'_, '_>) -> Result<Vec<usize>, AllocError>
+    ensures { IfOk result (λ homes. AreHomes (lent_in rows.now) homes.items) }
+{
+    let mut homes = Vec::new(alloc);
+    for file in 0..rows.statements().len() {
+        homes.push(rows.home(file))?;
+    }
+    Ok(homes)
+}
+
+// Whether a file is that of a module that is implemented.
+fn is_given(selection: &Selection, root: &Statement<'_>) -> bool
+    ensures { result ≡ is_given (choice_of selection.now) root.now }
+{
+    root.keyword() == "module" && selection.is_implemented(name_of(root))
+}

@@ -1,0 +1,8 @@
+//! What a caller chooses of the modules that are given: which are implemented, and which of their features are supported.
+#![tactic(auto)]
+
+mod selection;
+#[cfg(test)]
+mod tests;
+
+pub use selection::Selection;

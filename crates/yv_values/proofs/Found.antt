@@ -1,0 +1,71 @@
+-- An identity that is sought among identities in their order.
+use Rattle.std.proofs.Common.{◌≡◌, ℕ, zero, suc, ◌<◌, Bool, true, false, ◌||◌, ◌&&◌, List, [], ◌∷◌, length, get_or, map, refl, sym, ◌∙◌, ap, arith, inl, inr}
+use Rattle.std.specs.Cmp.{IsTotalOrder}
+use Rattle.std.specs.Cmp.Lexicographic.{slice_cmp, on_texts, texts_ties}
+use Rattle.std.specs.List.{list_any, HoldsAt}
+use Rattle.std.specs.List.Sorted.{IsSortedByKey, IsNonDecreasingBy, IsPartitionPoint}
+use Rattle.std.specs.Ordering.{is_eq, nat_cmp, ordering_index}
+use Rattle.std.specs.Str.{bytes_eq}
+use Rattle.std.specs.declared.cmp.Ordering.TheVariants.{Less, Equal, Greater}
+use Rattle.std.proofs.lemmas.Bool.{cases_lt}
+use Rattle.std.proofs.lemmas.Cmp.{then_total}
+use Rattle.std.proofs.lemmas.List.Sorted.{searchable_from_sorted}
+use Rattle.std.proofs.lemmas.Slice.Eq.{bytes_eq-Decides}
+use Rattle.yv_values.specs.declared.members.Member.{Member}
+use Rattle.yv_values.specs.Identities.{Id, id_of, is_identity}
+use Rattle.yv_values.specs.InnerNames.{id_cmp}
+use Rattle.yv_values.proofs.Mapped.{any_mapped}
+use Rattle.yv_values.proofs.Same.{then_equal}
+
+ids_total : IsTotalOrder id_cmp
+ids_total = then_total (on_texts (λ (i : Id). i.home)) (on_texts (λ (i : Id). i.name))
+
+-- the comparison tells whether it is the identity
+compared : (home called : List ℕ) (i : Id) → is_identity home called i ≡ is_eq (id_cmp i record { home = home; name = called })
+compared home called i =
+    ap (λ b. b && bytes_eq i.name called) (texts_ties i.home home) ∙ ap (λ b. is_eq (slice_cmp nat_cmp i.home home) && b) (texts_ties i.name called) ∙ sym (then_equal (slice_cmp nat_cmp i.home home) (slice_cmp nat_cmp i.name called))
+
+and_left : (a b : Bool) → (a && b) ≡ true → a ≡ true
+and_left true b h = refl
+and_left false b h = absurd (cc)
+
+and_right : (a b : Bool) → (a && b) ≡ true → b ≡ true
+and_right true b h = h
+and_right false b h = absurd (cc)
+
+abbrev id_with : List ℕ → List ℕ → Id
+id_with home called = record { home = home; name = called }
+
+joined : (i : Id) (home called : List ℕ) → i.home ≡ home → i.name ≡ called → i ≡ record { home = home; name = called }
+joined i home called e f = ap (λ (t : List ℕ). id_with t i.name) e ∙ ap (id_with home) f
+
+pub same_id : (home called : List ℕ) (i : Id) → id_cmp i record { home = home; name = called } ≡ Equal → i ≡ record { home = home; name = called }
+same_id home called i h =
+    let t = compared home called i ∙ ap is_eq h in
+    joined i home called ((bytes_eq-Decides i.home home).0 (and_left _ _ t)) ((bytes_eq-Decides i.name called).0 (and_right (bytes_eq i.home home) _ t))
+
+any_at : {X : Type 0} (p : X → Bool) (xs : List X) (i : ℕ) (d : X) → i < length xs → p (get_or xs i d) ≡ true → list_any p xs ≡ true
+any_at p [] i d b h = absurd (omega arith)
+any_at p (x ∷ xs) zero d b h = ap (λ t. t || list_any p xs) h
+any_at p (x ∷ xs) (suc i) d b h = ap (λ t. p x || t) (any_at p xs i d (omega arith) h) ∙ or_true (p x)
+  where
+    or_true : (t : Bool) → (t || true) ≡ true
+    or_true true = refl
+    or_true false = refl
+
+any_none : {X : Type 0} (p : X → Bool) (xs : List X) → ((k : ℕ) (d : X) → k < length xs → p (get_or xs k d) ≡ false) → list_any p xs ≡ false
+any_none p [] h = refl
+any_none p (x ∷ xs) h = rw (h zero x (omega arith)) (any_none p xs (λ k d b. h (suc k) d (omega arith)))
+
+module _ (home called : List ℕ) (xs : List Member) where
+  pub found : (at : ℕ) (d : Member) → at < length xs → HoldsAt (λ y. id_cmp (id_of y) record { home = home; name = called } ≡ Equal) xs at → list_any (is_identity home called) (map id_of xs) ≡ true
+  found at d b h = any_mapped id_of (is_identity home called) xs ∙ any_at (λ m. is_identity home called (id_of m)) xs at d b (compared home called (id_of (get_or xs at d)) ∙ ap is_eq (h d))
+
+  pub absent : (at : ℕ) → IsSortedByKey id_of id_cmp xs → (IsNonDecreasingBy (λ y. ordering_index (id_cmp (id_of y) record { home = home; name = called })) xs → IsPartitionPoint (λ y. id_cmp (id_of y) record { home = home; name = called } ≡ Less) (λ y. id_cmp (id_of y) record { home = home; name = called } ≡ Greater) xs at) → list_any (is_identity home called) (map id_of xs) ≡ false
+  absent at up h =
+      let point = h (searchable_from_sorted ids_total id_of xs record { home = home; name = called } up) in
+      any_mapped id_of (is_identity home called) xs ∙ any_none (λ m. is_identity home called (id_of m)) xs (λ k d b.
+      compared home called (id_of (get_or xs k d)) ∙ elim (cases_lt k at) [
+        | inl low ↦ ap is_eq (point.0 k d (omega arith) low)
+        | inr high ↦ ap is_eq (point.1 k d high b)
+      ])

@@ -1,0 +1,200 @@
+-- Keys with their places, as an index finds and adds them.
+use Rattle.std.proofs.Common.{◌≡◌, ℕ, ◌<◌, ◌⊎◌, ◌++◌, Bool, true, false, cond, List, [], ◌∷◌, length, map, Vec, Option, Some, None, Result, Ok, Err, OnOk, OnErr, Ordering, refl, sym, ◌∙◌, subst, inl, inr, arith}
+use Rattle.std.specs.Bool.{Decides}
+use Rattle.std.specs.BTreeMap.{insert_entry}
+use Rattle.std.specs.Cmp.Lexicographic.{slice_cmp}
+use Rattle.std.specs.Map.{lookup, set_value}
+use Rattle.std.specs.Ordering.{is_eq, match_ordering}
+use Rattle.std.proofs.lemmas.Map.Steps.{set_value_same}
+use Rattle.std.specs.declared.alloc.Global.{Global}
+use Rattle.std.specs.declared.cmp.Ordering.TheVariants.{Less, Equal, Greater}
+use Rattle.yv_values.specs.declared.value.Atom.{Atom}
+use Rattle.yv_values.specs.contracts.value.AtomOrd.TheImpl.{cmp-value}
+use Rattle.yv_values.specs.InnerPlaces.{IsPlace, AddsPlace, IsLeastPlace, HasBetween, key_of, pairs_at, pairs_of, AreApart}
+use Rattle.yv_values.specs.Pairs.{Pair, Keeps, IsLeast, IsWithin, Adds}
+use Rattle.yv_values.specs.Values.{Val, value_of}
+use Rattle.yv_values.proofs.Same.{same_keys}
+
+abbrev pub Key : Type 0
+Key = Vec Atom Global
+
+-- the test by which a map finds this key
+abbrev pub finds : List Atom → Key → Bool
+finds key other = is_eq (slice_cmp cmp-value.it key other.items)
+
+at_split : (key : List Val) (ps : List ℕ) (rest : List Pair) (k : List Val) (p : ℕ) → Keeps (pairs_at key ps ++ rest) k p → ((key ≡ k) × IsPlace ps p) ⊎ Keeps rest k p
+at_split key [] rest k p h = inr h
+at_split key (x ∷ ps) rest k p (inl e) = inl (e.0, inl e.1)
+at_split key (x ∷ ps) rest k p (inr h) = elim (at_split key ps rest k p h) [ inl a ↦ inl (a.0, inr a.1) | inr b ↦ inr b ]
+
+at_join : (key : List Val) (ps : List ℕ) (rest : List Pair) (k : List Val) (p : ℕ) → ((key ≡ k) × IsPlace ps p) ⊎ Keeps rest k p → Keeps (pairs_at key ps ++ rest) k p
+at_join key [] rest k p (inl h) = elim h.1 [ ]
+at_join key [] rest k p (inr h) = h
+at_join key (x ∷ ps) rest k p (inl (e, inl f)) = inl (e, f)
+at_join key (x ∷ ps) rest k p (inl (e, inr h)) = inr (at_join key ps rest k p (inl (e, h)))
+at_join key (x ∷ ps) rest k p (inr h) = inr (at_join key ps rest k p (inr h))
+
+-- what a look-up in one more entry says
+if_found : (b : Bool) (x y : List ℕ) (o : Option (List ℕ)) → cond b (Some x) o ≡ Some y → ((b ≡ true) × (x ≡ y)) ⊎ ((b ≡ false) × (o ≡ Some y))
+if_found true x y o h = inl (refl, cc)
+if_found false x y o h = inr (refl, h)
+
+if_none : (b : Bool) (x : List ℕ) (o : Option (List ℕ)) → cond b (Some x) o ≡ None → (b ≡ false) × (o ≡ None)
+if_none true x o h = absurd (cc)
+if_none false x o h = (refl, h)
+
+-- one place more at the first key
+adds_here : (k : List Val) (old new : List ℕ) (rest : List Pair) (p : ℕ) → AddsPlace old new p → Adds (pairs_at k old ++ rest) (pairs_at k new ++ rest) k p
+adds_here k old new rest p add q r = (
+  λ h. elim (at_split k new rest q r h) [
+    | inl a ↦ elim ((add r).0 a.1) [ inl c ↦ inl (at_join k old rest q r (inl (a.0, c))) | inr e ↦ inr (sym a.0, e) ]
+    | inr b ↦ inl (at_join k old rest q r (inr b))
+  ],
+  λ s. elim s [
+    | inl h ↦ elim (at_split k old rest q r h) [ inl a ↦ at_join k new rest q r (inl (a.0, (add r).1 (inl a.1))) | inr b ↦ at_join k new rest q r (inr b) ]
+    | inr e ↦ at_join k new rest q r (inl (sym e.0, (add r).1 (inr e.1)))
+  ],
+)
+
+-- one pair more behind the first key
+adds_later : (k : List Val) (ps : List ℕ) (xs ys : List Pair) (key : List Val) (p : ℕ) → Adds xs ys key p → Adds (pairs_at k ps ++ xs) (pairs_at k ps ++ ys) key p
+adds_later k ps xs ys key p add q r = (
+  λ h. elim (at_split k ps ys q r h) [
+    | inl a ↦ inl (at_join k ps xs q r (inl a))
+    | inr b ↦ elim ((add q r).0 b) [ inl c ↦ inl (at_join k ps xs q r (inr c)) | inr e ↦ inr e ]
+  ],
+  λ s. elim s [
+    | inl h ↦ elim (at_split k ps xs q r h) [ inl a ↦ at_join k ps ys q r (inl a) | inr b ↦ at_join k ps ys q r (inr ((add q r).1 (inl b))) ]
+    | inr e ↦ at_join k ps ys q r (inr ((add q r).1 (inr e)))
+  ],
+)
+
+some_place : (xs : List ℕ) (p : ℕ) → IsPlace xs p → 0 < length xs
+some_place [] p h = elim h [ ]
+some_place (x ∷ xs) p h = omega arith
+
+place_of : (xs : List ℕ) → 0 < length xs → (p : ℕ) × IsPlace xs p
+place_of [] h = absurd (omega arith)
+place_of (x ∷ xs) h = (x, inl refl)
+
+one_place : (p : ℕ) → AddsPlace [] (p ∷ []) p
+one_place p q = (λ h. elim h [ inl e ↦ inr (sym e) | inr f ↦ inl f ], λ s. elim s [ inl f ↦ inr f | inr e ↦ inl (sym e) ])
+
+-- where the order of two keys isn't `Equal`
+placed : {X : Type 0} (P : X → Type 0) (o : Ordering) (x y z : X) → is_eq o ≡ false → P x → P z → P (match_ordering o x y z)
+placed P Less x y z f g h = g
+placed P Equal x y z f g h = absurd (cc)
+placed P Greater x y z f g h = h
+
+module _ (key : List Atom) where
+  differs : (other : Key) → finds key other ≡ false → key_of other ≡ map value_of key → ⊥
+  differs other f e = let t : true ≡ false = sym ((same_keys key other.items).1 (sym e)) ∙ f in cc
+
+  -- the places of the key that is found are kept at it
+  pub found_keeps : (es : List (Key × List ℕ)) (ps : List ℕ) (p : ℕ) → lookup (finds key) es ≡ Some ps → IsPlace ps p → Keeps (pairs_of es) (map value_of key) p
+  found_keeps [] ps p f h = absurd (cc)
+  found_keeps (e ∷ es) ps p f h = elim (if_found (finds key e.0) e.1 ps (lookup (finds key) es) f) [
+    | inl t ↦ at_join (key_of e.0) e.1 (pairs_of es) _ p (inl (sym ((same_keys key e.0.items).0 t.0), subst (λ (xs : List ℕ). IsPlace xs p) (sym t.1) h))
+    | inr g ↦ at_join (key_of e.0) e.1 (pairs_of es) _ p (inr (found_keeps es ps p g.1 h))
+  ]
+
+  -- and no others
+  pub keeps_found : (es : List (Key × List ℕ)) (ps : List ℕ) (p : ℕ) → AreApart es → lookup (finds key) es ≡ Some ps → Keeps (pairs_of es) (map value_of key) p → IsPlace ps p
+  keeps_found [] ps p a f h = absurd (cc)
+  keeps_found (e ∷ es) ps p a f h = elim (if_found (finds key e.0) e.1 ps (lookup (finds key) es) f) [
+    | inl t ↦ elim (at_split (key_of e.0) e.1 (pairs_of es) _ p h) [
+      | inl here ↦ subst (λ (xs : List ℕ). IsPlace xs p) t.1 here.1
+      | inr later ↦ absurd (a.1 p (subst (λ (k : List Val). Keeps (pairs_of es) k p) ((same_keys key e.0.items).0 t.0) later))
+    ]
+    | inr g ↦ elim (at_split (key_of e.0) e.1 (pairs_of es) _ p h) [
+      | inl here ↦ absurd (differs e.0 g.0 here.0)
+      | inr later ↦ keeps_found es ps p a.2 g.1 later
+    ]
+  ]
+
+  pub none_kept : (es : List (Key × List ℕ)) (p : ℕ) → lookup (finds key) es ≡ None → Keeps (pairs_of es) (map value_of key) p → ⊥
+  none_kept [] p f h = elim h [ ]
+  none_kept (e ∷ es) p f h =
+      let g = if_none (finds key e.0) e.1 (lookup (finds key) es) f in
+      elim (at_split (key_of e.0) e.1 (pairs_of es) _ p h) [ inl here ↦ differs e.0 g.0 here.0 | inr later ↦ none_kept es p g.1 later ]
+
+  pub least_found : (es : List (Key × List ℕ)) (ps : List ℕ) (p : ℕ) → AreApart es → lookup (finds key) es ≡ Some ps → IsLeastPlace ps p → IsLeast (pairs_of es) (map value_of key) (Some p)
+  least_found es ps p a f h = (found_keeps es ps p f h.0, λ q g. h.1 q (keeps_found es ps q a f g))
+
+  -- a key of which nothing is kept isn't found
+  pub not_found : (es : List (Key × List ℕ)) → AreApart es → ((p : ℕ) → Keeps (pairs_of es) (map value_of key) p → ⊥) → lookup (finds key) es ≡ None
+  not_found [] a none = refl
+  not_found (e ∷ es) a none = by (finds key e.0) refl (λ h. not_found es a.2 h)
+    where
+      by : (b : Bool) → finds key e.0 ≡ b → (((p : ℕ) → Keeps (pairs_of es) (map value_of key) p → ⊥) → lookup (finds key) es ≡ None) → cond b (Some e.1) (lookup (finds key) es) ≡ None
+      by true t later =
+          let one = place_of e.1 a.0 in
+          absurd (none one.0 (at_join (key_of e.0) e.1 (pairs_of es) _ one.0 (inl (sym ((same_keys key e.0.items).0 t), one.1))))
+      by false t later = later (λ p h. none p (at_join (key_of e.0) e.1 (pairs_of es) _ p (inr h)))
+
+  pub within_found : (es : List (Key × List ℕ)) (ps : List ℕ) (b : Bool) (first last : ℕ) → AreApart es → lookup (finds key) es ≡ Some ps → Decides b (HasBetween ps first last) → Decides b (IsWithin (pairs_of es) (map value_of key) first last)
+  within_found es ps b first last a f d = (
+    λ t. (let h = d.0 t in (h.0, found_keeps es ps h.0 f h.1, h.2, h.3)),
+    λ h. d.1 (h.0, keeps_found es ps h.0 a f h.1, h.2, h.3),
+  )
+
+  -- one place more at the key that is found
+  pub set_adds : (es : List (Key × List ℕ)) (ps new : List ℕ) (p : ℕ) → lookup (finds key) es ≡ Some ps → AddsPlace ps new p → Adds (pairs_of es) (pairs_of (set_value (finds key) es new)) (map value_of key) p
+  set_adds [] ps new p f h = absurd (cc)
+  set_adds (e ∷ es) ps new p f h = elim (if_found (finds key e.0) e.1 ps (lookup (finds key) es) f) [
+    | inl t ↦ rw t.0 (
+        subst (λ (k : List Val). Adds (pairs_of (e ∷ es)) (pairs_at (key_of e.0) new ++ pairs_of es) k p) (sym ((same_keys key e.0.items).0 t.0)) (adds_here (key_of e.0) e.1 new (pairs_of es) p (subst (λ (xs : List ℕ). AddsPlace xs new p) (sym t.1) h))
+        )
+    | inr g ↦ rw g.0 (adds_later (key_of e.0) e.1 (pairs_of es) (pairs_of (set_value (finds key) es new)) (map value_of key) p (set_adds es ps new p g.1 h))
+  ]
+
+  pub set_apart : (es : List (Key × List ℕ)) (ps new : List ℕ) (p : ℕ) → AreApart es → lookup (finds key) es ≡ Some ps → AddsPlace ps new p → AreApart (set_value (finds key) es new)
+  set_apart [] ps new p a f h = absurd (cc)
+  set_apart (e ∷ es) ps new p a f h = elim (if_found (finds key e.0) e.1 ps (lookup (finds key) es) f) [
+    | inl t ↦ rw t.0 (some_place new p ((h p).1 (inr refl)), a.1, a.2)
+    | inr g ↦ rw g.0 (
+      a.0,
+      λ r kept. elim ((set_adds es ps new p g.1 h (key_of e.0) r).0 kept) [ inl k ↦ a.1 r k | inr s ↦ differs e.0 g.0 s.0 ],
+      set_apart es ps new p a.2 g.1 h,
+    )
+  ]
+
+module _ (key : Key) (p : ℕ) where
+  pub insert_adds : (es : List (Key × List ℕ)) → lookup (finds key.items) es ≡ None → Adds (pairs_of es) (pairs_of (insert_entry (λ x y. slice_cmp cmp-value.it x.items y.items) es key (p ∷ []))) (key_of key) p
+  insert_adds [] f = adds_here (key_of key) [] (p ∷ []) [] p (one_place p)
+  insert_adds (e ∷ es) f =
+      let g = if_none (finds key.items e.0) e.1 (lookup (finds key.items) es) f in
+      placed (λ (xs : List (Key × List ℕ)). Adds (pairs_of (e ∷ es)) (pairs_of xs) (key_of key) p) (slice_cmp cmp-value.it key.items e.0.items) _ _ _ g.0
+      (adds_here (key_of key) [] (p ∷ []) (pairs_of (e ∷ es)) p (one_place p))
+      (adds_later (key_of e.0) e.1 (pairs_of es) _ (key_of key) p (insert_adds es g.1))
+
+  pub insert_apart : (es : List (Key × List ℕ)) → AreApart es → lookup (finds key.items) es ≡ None → AreApart (insert_entry (λ x y. slice_cmp cmp-value.it x.items y.items) es key (p ∷ []))
+  insert_apart [] a f = (omega arith, λ r kept. kept, tt)
+  insert_apart (e ∷ es) a f =
+      let g = if_none (finds key.items e.0) e.1 (lookup (finds key.items) es) f in
+      placed AreApart (slice_cmp cmp-value.it key.items e.0.items) _ _ _ g.0
+      (omega arith, λ r kept. none_kept key.items (e ∷ es) r f kept, a)
+      (a.0, λ r kept. elim ((insert_adds es g.1 (key_of e.0) r).0 kept) [ inl k ↦ a.1 r k | inr s ↦ differs key.items e.0 g.0 s.0 ], insert_apart es a.2 g.1)
+
+-- after `add` at the key that is found, whether it had memory or not
+module _ {X E : Type 0} (r : Result X E) (key : List Atom) (es : List (Key × List ℕ)) (ps new : List ℕ) (p : ℕ) (f : lookup (finds key) es ≡ Some ps) where
+  pub apart_after : AreApart es → OnOk r (AddsPlace ps new p) → OnErr r (new ≡ ps) → AreApart (set_value (finds key) es new)
+  apart_after a = by r
+    where
+      by : (s : Result X E) → OnOk s (AddsPlace ps new p) → OnErr s (new ≡ ps) → AreApart (set_value (finds key) es new)
+      by (Ok x) added same = set_apart key es ps new p a f added
+      by (Err e) added same = rw (same, set_value_same (finds key) es ps f) a
+
+  pub adds_after : OnOk r (AddsPlace ps new p) → OnOk r (Adds (pairs_of es) (pairs_of (set_value (finds key) es new)) (map value_of key) p)
+  adds_after = by r
+    where
+      by : (s : Result X E) → OnOk s (AddsPlace ps new p) → OnOk s (Adds (pairs_of es) (pairs_of (set_value (finds key) es new)) (map value_of key) p)
+      by (Ok x) added = set_adds key es ps new p f added
+      by (Err e) added = tt
+
+  pub same_after : OnErr r (new ≡ ps) → OnErr r (pairs_of (set_value (finds key) es new) ≡ pairs_of es)
+  same_after = by r
+    where
+      by : (s : Result X E) → OnErr s (new ≡ ps) → OnErr s (pairs_of (set_value (finds key) es new) ≡ pairs_of es)
+      by (Ok x) same = tt
+      by (Err e) same = rw (same, set_value_same (finds key) es ps f) refl

@@ -1,0 +1,14 @@
+use Rattle.yv_values.proofs.Keys.{insert_adds, insert_apart, not_found}
+use Rattle.yv_values.proofs.index.Index.keep_new.Goals as goal
+
+pub invariant_of-self-2 : goal.invariant_of-self-2
+invariant_of-self-2 c =
+    let es = c.self.inside.places.entries in
+    let none = not_found c.into_atoms.result.items es c.self.invariant (λ p. rw (c.into_atoms.ensures, c.self.view_is) (c.requires p)) in
+    rw (c.in_ok-insert.ensures.entries, c.in_ok-places.ensures) (insert_apart c.into_atoms.result c.args.place es c.self.invariant none)
+
+pub returns-clause-kept : goal.returns-clause-kept
+returns-clause-kept c =
+    let es = c.self.inside.places.entries in
+    let none = not_found c.into_atoms.result.items es c.self.invariant (λ p. rw (c.into_atoms.ensures, c.self.view_is) (c.requires p)) in
+    rw (c.in_ok-insert.ensures.entries, c.in_ok-places.ensures, ← c.self.view_is, ← c.into_atoms.ensures) (insert_adds c.into_atoms.result c.args.place es none)

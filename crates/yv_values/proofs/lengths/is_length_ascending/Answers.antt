@@ -1,0 +1,26 @@
+use Rattle.std.proofs.Common.{sym, subst, ℕ, length, rules}
+use Rattle.std.specs.Prelude.{◌≡◌, false, nat_le}
+use Rattle.std.specs.List.{AllWithin}
+use Rattle.std.proofs.lemmas.List.Sorted.{IsPartitionPoint-from_clause}
+use Rattle.yv_values.specs.declared.plain.Lengths.{Lengths}
+use Rattle.yv_values.proofs.Halves.{parted, none_begins, last_begins, lengths_fall}
+use Rattle.yv_values.proofs.lengths.is_length_ascending.Goals as goal
+
+pub returns-then-count-eq0 : goal.returns-then-count-eq0
+returns-then-count-eq0 c =
+    let z = c.args.length in
+    let begins = λ (s : Lengths). nat_le s.low z in
+    let reaches = λ (s : Lengths). nat_le z s.high in
+    let xs = c.args.lengths.now in
+    let point = IsPartitionPoint-from_clause begins _ _ c.partition_point-count.ensures.partitioned (parted begins reaches xs (lengths_fall z xs c.requires)) (λ a r q k. search rules) in
+    sym (none_begins begins reaches xs (subst (λ (n : ℕ). AllWithin (λ s. begins s ≡ false) xs n (length xs)) c.if-count-eq0.true point.1))
+
+pub returns : goal.returns
+returns c =
+    let z = c.args.length in
+    let begins = λ (s : Lengths). nat_le s.low z in
+    let reaches = λ (s : Lengths). nat_le z s.high in
+    let xs = c.args.lengths.now in
+    let falls = lengths_fall z xs c.requires in
+    let point = IsPartitionPoint-from_clause begins _ _ c.partition_point-count.ensures.partitioned (parted begins reaches xs falls) (λ a r q k. search rules) in
+    sym (last_begins begins reaches xs c.partition_point-count.result _ falls c.if-count-eq0.false c.partition_point-count.ensures.bound point.0 point.1)

@@ -1,0 +1,21 @@
+-- Identities (RFC 7950, section 7.18).
+use Rattle.std.specs.Prelude.{ℕ, List, Bool, ◌&&◌, Option, Some, None, string_bytes, if◌then◌else◌}
+use Rattle.std.specs.List.{list_any}
+use Rattle.std.specs.Str.{bytes_eq}
+use Rattle.yv_values.specs.declared.members.Member.{Member}
+use Rattle.yv_values.specs.Values.{Val, identity}
+
+-- an identity: its module and its name
+pub record Id : Type 0 where
+  pub home : List ℕ
+  pub name : List ℕ
+
+abbrev pub id_of : Member → Id
+id_of m = record { home = string_bytes m.module; name = string_bytes m.name }
+
+abbrev pub is_identity : List ℕ → List ℕ → Id → Bool
+is_identity home called i = bytes_eq i.home home && bytes_eq i.name called
+
+-- the identity of this module and name, where it is one of these (section 9.10)
+abbrev pub identity_in : List Id → List ℕ → List ℕ → Option Val
+identity_in ids home called = if list_any (is_identity home called) ids then Some (identity home called) else None

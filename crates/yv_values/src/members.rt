@@ -1,0 +1,85 @@
+//! The identities of an identityref type, in one order.
+ghost use Rattle.std.specs.Prelude.{◌≡◌, List, ℕ, IfOk, IfSome, is_some, map};
+ghost use Rattle.std.specs.List.{list_any};
+ghost use Rattle.std.specs.List.Sorted.{IsPermutation};
+ghost use Rattle.yv_values.specs.Identities.{Id, id_of, is_identity, identity_in};
+ghost use Rattle.yv_values.specs.InnerNames.{id_cmp};
+
+use crate::names::compare;
+use std::alloc::AllocError;
+use std::cmp::Ordering;
+use std::marker::Model;
+use std::rc::RcSlice;
+
+/// An identity: the module that defines it, and its name.
+#[derive(PartialEq, Eq, PartialOrd, Ord, Drop)]
+pub struct Member {
+    pub module: String,
+    pub name: String,
+}
+
+/// The identities of an identityref type, in the order of their modules and then of their names, so that one is found
+/// by halves. Contracts see them as that list.
+#[derive(Drop)]
+pub struct Members {
+    members: RcSlice<Member>,
+}
+
+impl Model for Members {
+    ghost use Rattle.std.specs.Prelude.{List, map};
+    ghost use Rattle.std.specs.List.Sorted.{IsSortedByKey};
+    ghost use Rattle.std.specs.Rc.{rc_slice_items};
+    ghost use Rattle.yv_values.specs.Identities.{Id, id_of};
+    ghost use Rattle.yv_values.specs.InnerNames.{id_cmp};
+
+    ghost Value = { List Id };
+
+    ghost view = { λ i. map id_of (rc_slice_items i.members) };
+
+    ghost invariant = { λ i. IsSortedByKey id_of id_cmp (rc_slice_items i.members) };
+}
+
+impl Members {
+    /// Puts the identities of a type into their order.
+    pub fn new(members: Vec<Member>) -> Result<Members, AllocError>
+        ensures members { IfOk result (λ sorted. IsPermutation (map id_of members.items) sorted) }
+        ensures same { IfOk result (λ sorted. (home called : List ℕ) →
+            identity_in sorted home called ≡ identity_in (map id_of members.items) home called) }
+    {
+        let mut members = members;
+        members.sort()?;
+        Ok(Members {
+            members: RcSlice::from_vec(members)?,
+        })
+    }
+
+    /// The identity of this module and name, where it is one of these.
+    pub(crate) fn find(&self, module: &[u8], name: &[u8]) -> Option<&Member>
+        ensures value { is_some result ≡ list_any (is_identity module.now name.now) self.now }
+        ensures same { IfSome result (λ m. id_of m.now ≡ record { home = module.now; name = name.now }) }
+    {
+        match self
+            .members
+            .binary_search_by(|member| member.compare(module, name))
+        {
+            Ok(at) => Some(&self.members[at]),
+            Err(_) => None,
+        }
+    }
+
+    pub(crate) fn copy(&self) -> Result<Members, AllocError>
+        ensures { IfOk result (λ copy. copy ≡ self.now) }
+    {
+        Ok(Members {
+            members: self.members.clone()?,
+        })
+    }
+}
+
+impl Member {
+    fn compare(&self, module: &[u8], name: &[u8]) -> Ordering
+        ensures { result ≡ id_cmp (id_of self.now) record { home = module.now; name = name.now } }
+    {
+        compare(self.module.as_bytes(), module).then(compare(self.name.as_bytes(), name))
+    }
+}

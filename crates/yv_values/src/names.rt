@@ -1,0 +1,89 @@
+//! The names of an enumeration or of a bits type, in one order.
+ghost use Rattle.std.specs.Prelude.{◌≡◌, ℕ, List, IfOk};
+ghost use Rattle.std.specs.Cmp.Lexicographic.{slice_cmp};
+ghost use Rattle.std.specs.List.{filter};
+ghost use Rattle.std.specs.Ordering.{nat_cmp};
+ghost use Rattle.std.specs.Str.{bytes_eq};
+ghost use Rattle.yv_values.specs.InnerNames.{is_below, Ascends};
+ghost use Rattle.yv_values.specs.Sorted.{AreSorted, is_named};
+ghost use Rattle.yv_values.specs.Values.{texts};
+
+use std::alloc::AllocError;
+use std::cmp::Ordering;
+use std::marker::Model;
+use std::rc::RcSlice;
+
+/// The names of an enumeration or of a bits type, in the order of their bytes, so that each set of bits is one list,
+/// and a name is found by halves. Contracts see it as that list.
+#[derive(Drop)]
+pub struct Names {
+    names: RcSlice<String>,
+}
+
+impl Model for Names {
+    ghost use Rattle.std.specs.Prelude.{ℕ, List, string_cmp};
+    ghost use Rattle.std.specs.List.Sorted.{IsSorted};
+    ghost use Rattle.std.specs.Rc.{rc_slice_items};
+    ghost use Rattle.yv_values.specs.Values.{texts};
+
+    ghost Value = { List (List ℕ) };
+
+    ghost view = { λ b. texts (rc_slice_items b.names) };
+
+    ghost invariant = { λ b. IsSorted string_cmp (rc_slice_items b.names) };
+}
+
+impl Names {
+    /// Puts the names of a type, each given once, into their order.
+    pub fn new(names: Vec<String>) -> Result<Names, AllocError>
+        ensures sorted { IfOk result (AreSorted names.items) }
+        ensures same { IfOk result (λ sorted. (s : List ℕ) → is_named sorted s ≡ is_named (texts names.items) s) }
+    {
+        let mut names = names;
+        names.sort()?;
+        Ok(Names {
+            names: RcSlice::from_vec(names)?,
+        })
+    }
+
+    pub(crate) fn has(&self, text: &[u8]) -> bool
+        ensures { result ≡ is_named self.now text.now }
+    {
+        !self.equal_to(text).is_empty()
+    }
+
+    /// The names that are this text: one where it is a name, since each is given once.
+    pub(crate) fn equal_to(&self, text: &[u8]) -> &[String]
+        ensures names { texts result.now ≡ filter (λ n. bytes_eq n text.now) self.now }
+        ensures order { Ascends self.now }
+    {
+        let low = self
+            .names
+            .partition_point(|name| is_below(name.as_bytes(), text));
+        let (_, rest) = self.names.split_at(low);
+        let count = rest.partition_point(|name| !is_below(text, name.as_bytes()));
+        &rest[..count]
+    }
+
+    pub(crate) fn copy(&self) -> Result<Names, AllocError>
+        ensures { IfOk result (λ copy. copy ≡ self.now) }
+    {
+        Ok(Names {
+            names: self.names.clone()?,
+        })
+    }
+}
+
+// Whether the one text stands before the other.
+fn is_below(one: &[u8], other: &[u8]) -> bool
+    ensures { result ≡ is_below one.now other.now }
+{
+    compare(one, other).is_lt()
+}
+
+/// The order of the bytes.
+pub fn compare<'a>(one: &'a [u8], other: &'a [u8]) -> Ordering
+    ensures { result ≡ slice_cmp nat_cmp one.now other.now }
+{
+    Ord::cmp(&one, &other)
+}
