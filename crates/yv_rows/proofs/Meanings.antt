@@ -103,6 +103,18 @@ module _ (kind : Kind) (rows : List Row) (name : List ℕ) where
       (λ d v. subst (λ b. IsNamed kind rows b name d) (root_alone at own v.1 refl) v.2)
       h
 
+  -- nothing encloses what isn't there but itself
+  pub means_outside : (block : ℕ) (here : Option ℕ) → slice_get rows block ≡ None → IsFirst (IsNamed kind rows block name) here → Means kind rows block name here
+  means_outside block here gone h =
+      first_same (IsNamed kind rows block name) (IsVisible kind rows block name) here
+      (λ d n. (block, itself, n))
+      (λ d v. alone d v.1 gone v.2)
+      h
+    where
+      alone : (d : ℕ) {outer inner : ℕ} → Encloses rows outer inner → slice_get rows inner ≡ None → IsNamed kind rows outer name d → IsNamed kind rows inner name d
+      alone d itself none n = n
+      alone d (inside at next) none n = absurd (let h = sym at ∙ none in cc)
+
 single : (o : Option ℕ) → IsFirst (λ d. o ≡ Some d) o
 single None = λ d e. absurd (let h : None ≡ Some d = e in cc)
 single (Some d) = (refl, λ e h. let same : d ≡ e = same_Some d e h in omega arith)

@@ -1,5 +1,5 @@
 //! The statements of the files, and what prefixes and names in them mean.
-ghost use Rattle.std.specs.Prelude.{◌≡◌, ◌≤◌, ◌<◌, ℕ, List, map, length, IfOk};
+ghost use Rattle.std.specs.Prelude.{◌≡◌, ◌≤◌, ℕ, List, map, length, IfOk};
 ghost use Rattle.yv_rows.specs.Tables.{table_of, first_of};
 ghost use Rattle.yv_rows.specs.Files.{brief, brief_of, named, home_at};
 ghost use Rattle.yv_rows.specs.Rows.{row};
@@ -130,7 +130,6 @@ impl<'a, 'b> Rows<'a, 'b> {
     /// The number of the first statement that has a name in a block or in one that encloses it, the places being those
     /// of the statements of a kind (RFC 7950, section 5.5).
     pub fn meaning_in(&self, places: &Places<'a>, block: usize, name: &'a str) -> Option<usize>
-        requires { block < length (rows_in self.now) }
         ensures { (kind : Kind) → table_of places.now ≡ first_of kind (rows_in self.now)
             → Means kind (rows_in self.now) block name.now result }
     {

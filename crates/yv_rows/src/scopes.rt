@@ -1,5 +1,5 @@
 //! What a name means in a block.
-ghost use Rattle.std.specs.Prelude.{◌≡◌, ◌<◌, map, length};
+ghost use Rattle.std.specs.Prelude.{◌≡◌, map};
 ghost use Rattle.yv_rows.specs.Tables.{first_of, table_of};
 ghost use Rattle.yv_rows.specs.Rows.{row};
 ghost use Rattle.yv_rows.specs.Scopes.{Means, AreNested};
@@ -29,8 +29,7 @@ pub(crate) fn meaning_at<'a>(
     scope: usize,
     name: &'a str,
 ) -> Option<usize>
-    requires within { scope < length entries.now }
-    requires nested { AreNested (map row entries.now) }
+    requires { AreNested (map row entries.now) }
     ensures { (kind : Kind) → table_of places.now ≡ first_of kind (map row entries.now)
         → Means kind (map row entries.now) scope name.now result }
 {
@@ -39,7 +38,9 @@ pub(crate) fn meaning_at<'a>(
     loop {
         let place = places.get(block, name);
         least = lesser(least, place);
-        let entry = &entries[block];
+        let Some(entry) = entries.get(block) else {
+            return least;
+        };
         if entry.scope == block {
             return least;
         }

@@ -1,4 +1,4 @@
-use Rattle.std.proofs.Common.{◌≡◌, ◌<◌, Option, ℕ, map, length}
+use Rattle.std.proofs.Common.{◌≡◌, Option, ℕ, map}
 use Rattle.yv_rows.specs.Tables.{first_of, table_of}
 use Rattle.yv_rows.specs.Rows.{row}
 use Rattle.yv_rows.specs.Scopes.{Means}
@@ -7,12 +7,11 @@ use Rattle.yv_rows.specs.declared.kind.Kind.{Kind}
 use Rattle.yv_rows.proofs.scopes.meaning_at.Given as goal
 
 -- with what the name means in the block, the least so far is what it means where the search began
-abbrev pub invariant-loop-block : goal.invariant-loop-block
-invariant-loop-block l = record {
-  within : l.block < length l.entries;
+abbrev pub invariant-loop-entry : goal.invariant-loop-entry
+invariant-loop-entry l = record {
   leads : (kind : Kind) → table_of l.places ≡ first_of kind (map row l.entries) → (o : Option ℕ)
       → Means kind (map row l.entries) l.block l.name o → Means kind (map row l.entries) l.scope l.name (lesser_of l.least o);
 }
 
-abbrev pub decreases-loop-block : goal.decreases-loop-block
-decreases-loop-block l = l.block
+abbrev pub decreases-loop-entry : goal.decreases-loop-entry
+decreases-loop-entry l = l.block

@@ -7,8 +7,8 @@ use Rattle.yv_rows.specs.declared.kind.Kind.{Kind}
 use Rattle.yv_rows.proofs.Bodies.{rows_nested}
 use Rattle.yv_rows.proofs.rows.Rows.meaning_in.Goals as goal
 
-pub meaning_at-requires-clause-nested : goal.meaning_at-requires-clause-nested
-meaning_at-requires-clause-nested c =
+pub meaning_at-requires : goal.meaning_at-requires
+meaning_at-requires c =
     let same : map row c.deref.result.now ≡ rows_of c.args.self.now.roots.now = ap (map row) c.deref.ensures.value ∙ c.args.self.now.listed in
     subst (λ (rs : List Row). AreNested rs) (sym same) (rows_nested c.args.self.now.roots.now)
 
