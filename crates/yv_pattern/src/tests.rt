@@ -107,13 +107,80 @@ fn classes(rt: HostRuntime) -> Result<(), Fail> {
     Ok(())
 }
 
+// Whether a category takes one character and refuses the other, in a class too, and its complement the other way round.
+fn divides(alloc: Global, name: &str, one: &str, other: &str) -> Result<bool, Fail> {
+    let category = format!(in alloc; "\\p{{{name}}}")?;
+    let class = format!(in alloc; "[\\p{{{name}}}]")?;
+    let complement = format!(in alloc; "\\P{{{name}}}")?;
+    Ok(
+        tells(alloc, category.as_str(), one, other)?
+            && tells(alloc, class.as_str(), one, other)?
+            && tells(alloc, complement.as_str(), other, one)?,
+    )
+}
+
 #[test]
-fn each_category_is_built(rt: HostRuntime) -> Result<(), Fail> {
-    let names =
-        "L Lu Ll Lt Lm Lo M Mn Mc Me N Nd Nl No P Pc Pd Ps Pe Pi Pf Po Z Zs Zl Zp S Sm Sc Sk So C Cc Cf Co Cn";
-    for name in names.split(' ') {
-        let pattern = format!(in rt.alloc(); "[\\p{{{name}}}]\\P{{{name}}}")?;
-        let _ = Pattern::read(rt.alloc(), pattern.as_str())?;
+fn categories_of_letters_marks_and_numbers(rt: HostRuntime) -> Result<(), Fail> {
+    let rows = [
+        ("L", "a", "1"),
+        ("Lu", "A", "a"),
+        ("Ll", "a", "A"),
+        ("Lt", "\u{1c5}", "A"),
+        ("Lm", "\u{2b0}", "a"),
+        ("Lo", "\u{5d0}", "a"),
+        ("M", "\u{301}", "a"),
+        ("Mn", "\u{301}", "\u{903}"),
+        ("Mc", "\u{903}", "\u{301}"),
+        ("Me", "\u{20dd}", "\u{301}"),
+        ("N", "5", "a"),
+        ("Nd", "5", "\u{2160}"),
+        ("Nl", "\u{2160}", "5"),
+        ("No", "\u{b2}", "5"),
+    ];
+    for (name, one, other) in rows {
+        assert!(rt; divides(rt.alloc(), name, one, other)?, "{name}");
+    }
+    Ok(())
+}
+
+#[test]
+fn categories_of_punctuation_and_separators(rt: HostRuntime) -> Result<(), Fail> {
+    let rows = [
+        ("P", "!", "a"),
+        ("Pc", "_", "-"),
+        ("Pd", "-", "_"),
+        ("Ps", "(", ")"),
+        ("Pe", ")", "("),
+        ("Pi", "\u{ab}", "\u{bb}"),
+        ("Pf", "\u{bb}", "\u{ab}"),
+        ("Po", "!", "("),
+        ("Z", " ", "a"),
+        ("Zs", "\u{a0}", "\u{2028}"),
+        ("Zl", "\u{2028}", "\u{2029}"),
+        ("Zp", "\u{2029}", "\u{2028}"),
+    ];
+    for (name, one, other) in rows {
+        assert!(rt; divides(rt.alloc(), name, one, other)?, "{name}");
+    }
+    Ok(())
+}
+
+#[test]
+fn categories_of_symbols_and_others(rt: HostRuntime) -> Result<(), Fail> {
+    let rows = [
+        ("S", "+", "a"),
+        ("Sm", "+", "$"),
+        ("Sc", "$", "+"),
+        ("Sk", "^", "+"),
+        ("So", "\u{a9}", "+"),
+        ("C", "\u{7}", "a"),
+        ("Cc", "\u{7}", "\u{ad}"),
+        ("Cf", "\u{ad}", "\u{7}"),
+        ("Co", "\u{e000}", "\u{7}"),
+        ("Cn", "\u{378}", "\u{7}"),
+    ];
+    for (name, one, other) in rows {
+        assert!(rt; divides(rt.alloc(), name, one, other)?, "{name}");
     }
     Ok(())
 }
@@ -157,6 +224,9 @@ fn outside_the_dialect(rt: HostRuntime) {
         "[\\W]",
         "[\\P{L}]",
         "\\p{Xx}",
+        "\\p{Cs}",
+        "\\P{Lx}",
+        "[a-\\p{L}]",
         "\\p{L",
         "\\pL",
         "\\p{Lux}",
