@@ -1,4 +1,4 @@
--- The names of features (RFC 7950, sections 6.2 and 14).
+-- Identifiers, and names with and without a prefix (RFC 7950, sections 6.2 and 14).
 use Rattle.std.specs.Prelude.{ℕ, Bool, false, ◌&&◌, ◌||◌, ◌==◌, nat_le, List, [], ◌∷◌, count_by}
 use Rattle.std.specs.List.{list_all, slice_split}
 use Rattle.yv_condition.specs.Bytes.{colon, dash, dot, is_digit, is_letter, underscore}

@@ -13,4 +13,5 @@ mod word;
 
 pub use condition::is_condition;
 pub use evaluator::Evaluator;
+pub use name::{is_identifier, is_name};
 pub use word::{Word, Words};

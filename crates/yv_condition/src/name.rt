@@ -1,4 +1,4 @@
-//! The names that an expression may have.
+//! Identifiers and names.
 ghost use Rattle.std.specs.Prelude.{◌≡◌, ◌==◌};
 ghost use Rattle.std.specs.List.{list_all, slice_split};
 ghost use Rattle.yv_condition.specs.Bytes.{colon, is_digit};
@@ -22,8 +22,8 @@ fn is_part(byte: u8) -> bool
     is_start(byte) || is_digit(byte) || byte == b'-' || byte == b'.'
 }
 
-// A letter or `_`, then letters, digits, `_`, `-` and `.` (RFC 7950, section 6.2).
-fn is_identifier(text: &[u8]) -> bool
+/// Whether a text is an identifier: a letter or `_`, then letters, digits, `_`, `-` and `.` (RFC 7950, section 6.2).
+pub fn is_identifier(text: &[u8]) -> bool
     ensures { result ≡ is_identifier text.now }
 {
     match text.split_first() {
@@ -38,7 +38,7 @@ fn are_parts(text: &[u8]) -> bool
     text.iter().all(|byte| is_part(*byte))
 }
 
-/// An identifier, or two with a colon between.
+/// Whether a text is a name, perhaps with a prefix: an identifier, or two with a colon between.
 #[tactic(auto, unfolding(crate::specs::Names::is_name))]
 pub fn is_name(text: &[u8]) -> bool
     ensures { result ≡ is_name text.now }

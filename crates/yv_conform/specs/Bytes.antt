@@ -13,9 +13,6 @@ slash = 47
 abbrev pub colon : ℕ
 colon = 58
 
-abbrev pub underscore : ℕ
-underscore = 95
-
 abbrev pub opening_bracket : ℕ
 opening_bracket = 91
 
@@ -29,7 +26,3 @@ is_blank b = b == 32 || b == 9 || b == 13 || b == 10
 -- `0` to `9`
 abbrev pub is_digit : ℕ → Bool
 is_digit b = nat_le 48 b && nat_le b 57
-
--- `A` to `Z` and `a` to `z`
-abbrev pub is_letter : ℕ → Bool
-is_letter b = (nat_le 65 b && nat_le b 90) || (nat_le 97 b && nat_le b 122)

@@ -1,26 +1,10 @@
 -- The forms of arguments, as tests of their bytes (RFC 7950, section 14, where no other is named).
-use Rattle.std.specs.Prelude.{ℕ, ◌+◌, ◌-◌, ◌*◌, Bool, true, false, not, ◌&&◌, ◌||◌, ◌==◌, nat_le, List, [], ◌∷◌, count_by, codes, length, take, drop, nat_eq, slice_index, slice_range, if◌then◌else◌}
+use Rattle.std.specs.Prelude.{ℕ, ◌+◌, ◌-◌, ◌*◌, Bool, true, false, not, ◌&&◌, ◌||◌, ◌==◌, nat_le, List, [], ◌∷◌, codes, length, take, drop, nat_eq, slice_index, slice_range, if◌then◌else◌}
 use Rattle.std.specs.List.{list_all, list_any, slice_split, starts_with}
 use Rattle.std.specs.Str.{bytes_eq, trim}
-use Rattle.yv_conform.specs.Bytes.{colon, dash, dot, is_blank, is_digit, is_letter, slash, underscore}
+use Rattle.yv_condition.specs.Names.{is_name}
+use Rattle.yv_conform.specs.Bytes.{dash, dot, is_blank, is_digit, slash}
 use Rattle.yv_conform.specs.Words.{is_empty, words}
-
--- a letter or `_`
-abbrev pub is_start : ℕ → Bool
-is_start b = is_letter b || b == underscore
-
--- a letter, `_`, a digit, `-` or `.`
-abbrev pub is_part : ℕ → Bool
-is_part b = is_start b || is_digit b || b == dash || b == dot
-
--- an identifier is a letter or `_`, and then letters, digits, `_`, `-` and `.` (section 6.2)
-abbrev pub is_identifier : List ℕ → Bool
-is_identifier [] = false
-is_identifier (b ∷ bs) = is_start b && list_all is_part bs
-
--- a name is an identifier, or two with a colon between
-unfoldable pub is_name : List ℕ → Bool
-is_name text = nat_le (count_by (λ b. b == colon) text) 1 && list_all is_identifier (slice_split (λ b. b == colon) text)
 
 -- a descendant path is names with slashes between (section 6.5)
 unfoldable pub is_descendant_path : List ℕ → Bool

@@ -6,7 +6,7 @@ ghost use Rattle.yv_conform.specs.Argument.{ArgumentFits, ConditionFits, argumen
 use crate::form::{Form, find_form};
 use crate::keyword::Keyword;
 use crate::{lists, text};
-use yv_condition::is_condition;
+use yv_condition::{is_condition, is_identifier, is_name};
 
 /// Whether the argument of a statement, in the block of a parent, is as its keyword wants it (RFC 7950, section 14).
 pub fn fits(parent: Keyword, keyword: Keyword, argument: Option<&str>) -> bool
@@ -43,8 +43,8 @@ fn has_form(form: Form, text: &str) -> bool
 {
     let bytes = text.as_bytes();
     match form {
-        Form::Identifier => text::is_identifier(bytes),
-        Form::Name => text::is_name(bytes),
+        Form::Identifier => is_identifier(bytes),
+        Form::Name => is_name(bytes),
         Form::EnumName => text::is_enum_name(text),
         Form::Version => text == "1" || text == "1.1",
         Form::Boolean => text == "true" || text == "false",

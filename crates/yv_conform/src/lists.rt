@@ -1,12 +1,14 @@
 //! The arguments that are lists of words: those of `key` and `unique`.
 ghost use Rattle.std.specs.Prelude.{◌≡◌};
 ghost use Rattle.std.specs.List.{list_all};
-ghost use Rattle.yv_conform.specs.Texts.{is_descendant_path, is_key, is_name, is_unique};
+ghost use Rattle.yv_condition.specs.Names.{is_name};
+ghost use Rattle.yv_conform.specs.Texts.{is_descendant_path, is_key, is_unique};
 ghost use Rattle.yv_conform.specs.Words.{words};
 
 use crate::distinct::none_twice;
-use crate::text::{is_descendant_path, is_name, is_trimmed};
+use crate::text::{is_descendant_path, is_trimmed};
 use crate::words::Words;
+use yv_condition::is_name;
 
 /// Names with blanks between, none twice (RFC 7950, section 7.8.2).
 pub fn is_key(text: &[u8]) -> bool

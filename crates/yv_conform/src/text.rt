@@ -1,58 +1,16 @@
 //! The forms of arguments that are told by a text alone.
 ghost use Rattle.std.specs.Prelude.{◌≡◌, ◌<◌, ◌==◌, ◌^◌};
-ghost use Rattle.std.specs.List.{list_all, slice_split};
-ghost use Rattle.yv_conform.specs.Bytes.{colon, is_digit};
-ghost use Rattle.yv_conform.specs.Texts.{is_absolute_path, is_date, is_descendant_path, is_enum_name, is_enum_value, is_fraction_digits, is_identifier, is_leafref_path, is_max_elements, is_name, is_number, is_part, is_relative_path, is_start, is_trimmed};
+ghost use Rattle.std.specs.List.{list_all};
+ghost use Rattle.yv_conform.specs.Bytes.{is_digit};
+ghost use Rattle.yv_conform.specs.Texts.{is_absolute_path, is_date, is_descendant_path, is_enum_name, is_enum_value, is_fraction_digits, is_leafref_path, is_max_elements, is_number, is_relative_path, is_trimmed};
 
 use crate::words::is_blank;
+use yv_condition::is_name;
 
 fn is_digit(byte: u8) -> bool
     ensures { result ≡ is_digit byte }
 {
     byte >= b'0' && byte <= b'9'
-}
-
-fn is_start(byte: u8) -> bool
-    ensures { result ≡ is_start byte }
-{
-    byte >= b'A' && byte <= b'Z' || byte >= b'a' && byte <= b'z' || byte == b'_'
-}
-
-fn is_part(byte: u8) -> bool
-    ensures { result ≡ is_part byte }
-{
-    is_start(byte) || is_digit(byte) || byte == b'-' || byte == b'.'
-}
-
-/// A letter or `_`, then letters, digits, `_`, `-` and `.` (RFC 7950, section 6.2).
-pub fn is_identifier(text: &[u8]) -> bool
-    ensures { result ≡ is_identifier text.now }
-{
-    match text.split_first() {
-        None => false,
-        Some((first, rest)) => is_start(*first) && are_parts(rest),
-    }
-}
-
-fn are_parts(text: &[u8]) -> bool
-    ensures { result ≡ list_all is_part text.now }
-{
-    text.iter().all(|byte| is_part(*byte))
-}
-
-/// An identifier, or two with a colon between.
-#[tactic(auto, unfolding(crate::specs::Texts::is_name))]
-pub fn is_name(text: &[u8]) -> bool
-    ensures { result ≡ is_name text.now }
-{
-    text.iter().filter(|byte| **byte == b':').count() <= 1 && are_identifiers(text)
-}
-
-fn are_identifiers(text: &[u8]) -> bool
-    ensures { result ≡ list_all is_identifier (slice_split (λ b. b == colon) text.now) }
-{
-    text.split(|byte| *byte == b':')
-        .all(|piece| is_identifier(piece))
 }
 
 /// Names with slashes between (RFC 7950, section 6.5).

@@ -1,15 +1,8 @@
 -- Which characters a text may have, and how many bytes.
-use Rattle.std.specs.Prelude.{◌≡◌, ℕ, ◌≤◌, ◌<◌, ◌%◌, Bool, ◌==◌, ◌&&◌, ◌||◌, nat_le, nat_lt, IsTrue, IsFalse, List, ◌∷◌, ◌++◌, length, encode_utf8_all, IsUtf8}
+use Rattle.std.specs.Prelude.{◌≡◌, ℕ, ◌≤◌, ◌<◌, IsTrue, IsFalse, List, ◌∷◌, ◌++◌, length, encode_utf8_all, IsUtf8}
 use Rattle.std.specs.List.{list_all}
 use Rattle.std.specs.Str.{chars}
-use Rattle.yv_source.specs.Characters.{tab, line_feed, carriage_return}
-
--- no control but tab, LF and CR, and no noncharacter (RFC 7950, section 14, yang-char)
-abbrev pub is_legal : ℕ → Bool
-is_legal c =
-    (c == tab || c == line_feed || c == carriage_return || nat_le 0x20 c)
-    && (nat_lt c 0xFDD0 || nat_lt 0xFDEF c)
-    && nat_lt (c % 0x10000) 0xFFFE
+pub use Rattle.yv_statement.specs.Legal.{is_legal}
 
 -- 4 MiB, a limit of this compiler
 abbrev pub most_bytes : ℕ

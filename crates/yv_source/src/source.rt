@@ -9,7 +9,7 @@ use crate::fault::refuse;
 use std::alloc::Global;
 use std::marker::Model;
 use std::str;
-use yv_statement::{Code, Stop};
+use yv_statement::{Code, Stop, is_legal};
 
 /// How many bytes a file may have.
 pub const MOST_BYTES: usize = 4_194_304;
@@ -99,14 +99,4 @@ fn first_illegal(text: &str) -> Option<usize>
         at += c.len_utf8();
     }
     None
-}
-
-// No control but tab, LF and CR, and no noncharacter.
-fn is_legal(c: char) -> bool
-    ensures { result ≡ is_legal c }
-{
-    let code = c as u32;
-    (c == '\t' || c == '\n' || c == '\r' || ' ' <= c)
-        && (code < 0xFDD0 || 0xFDEF < code)
-        && code % 0x1_0000 < 0xFFFE
 }

@@ -1,7 +1,7 @@
 use Rattle.std.proofs.Common.{rules, tests}
 use Rattle.std.proofs.lemmas.Iterator.Consumers.{YieldsList-from_first}
 use Rattle.std.proofs.lemmas.Iterator.Search.{all_from_yields_List}
-use Rattle.yv_conform.specs.Texts.{is_name}
+use Rattle.yv_condition.specs.Names.{is_name}
 use Rattle.yv_conform.specs.InnerWords.{words_left}
 use Rattle.yv_conform.proofs.lists.are_names.Goals as goal
 

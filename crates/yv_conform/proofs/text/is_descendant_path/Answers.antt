@@ -1,7 +1,8 @@
 use Rattle.std.proofs.Common.{nat_eq, rules}
 use Rattle.std.proofs.lemmas.Iterator.Search.{all_from_yields_List}
 use Rattle.std.proofs.lemmas.Iterator.Splits.{YieldsList-from_slice_split}
-use Rattle.yv_conform.specs.Texts.{is_name, is_descendant_path}
+use Rattle.yv_condition.specs.Names.{is_name}
+use Rattle.yv_conform.specs.Texts.{is_descendant_path}
 use Rattle.yv_conform.proofs.text.is_descendant_path.Goals as goal
 
 pub returns : goal.returns
