@@ -1,6 +1,8 @@
 -- How a place in a file is shown.
-use Rattle.std.specs.Prelude.{◌≡◌, ◌≢◌, ◌≤◌, ◌<◌, ◌+◌, ◌-◌, ◌&&◌, ◌||◌, ◌==◌, ◌++◌, ℕ, Bool, nat_le, nat_lt, List, [], ◌∷◌, length, map, replicate, slice_index, slice_range, if◌then◌else◌}
+use Rattle.std.specs.Prelude.{◌≡◌, ◌≢◌, ◌≤◌, ◌<◌, ◌+◌, ◌-◌, ◌&&◌, ◌||◌, ◌==◌, ◌++◌, ℕ, Bool, nat_le, nat_lt, List, [], ◌∷◌, length, map, min, replicate, slice_index, slice_range, codes, if◌then◌else◌}
 use Rattle.std.specs.List.{filter}
+use Rattle.yv_statement.specs.Codes.{name_of}
+use Rattle.yv_statement.specs.declared.refusal.Refusal.{Refusal}
 
 -- from start to end, without the end, is the line that holds the offset, but for what of it is
 -- more than 72 bytes away
@@ -35,3 +37,10 @@ abbrev pub ShowsPlace : List ℕ → ℕ → List ℕ → Type 0
 ShowsPlace bytes offset text =
     (start : ℕ) × (end : ℕ) × IsShownAt bytes offset start end
     × (text ≡ excerpt_text (slice_range bytes start end) (slice_range bytes start offset))
+
+-- what a refusal of a file with these bytes means: the line that holds its place, and below that the code's name with a
+-- sentence
+abbrev pub Explains : List ℕ → Refusal → List ℕ → Type 0
+Explains bytes refusal text =
+    (line : List ℕ) × (sentence : List ℕ) × ShowsPlace bytes (min refusal.offset (length bytes)) line
+    × (text ≡ line ++ (name_of refusal.code ++ (codes ": " ++ (sentence ++ 10 ∷ []))))

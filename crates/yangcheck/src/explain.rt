@@ -1,7 +1,8 @@
 //! What helps a person to mend a file that is refused.
-ghost use Rattle.std.specs.Prelude.{◌≤◌, length, map, IfOk, IfSome, IfNone};
+ghost use Rattle.std.specs.Prelude.{◌≤◌, length, map, string_bytes, IfOk, IfSome, IfNone};
 ghost use Rattle.yv_selection.specs.Choice.{choice_of};
 ghost use Rattle.yangcheck.specs.Compiles.{FilesCompile, RefusedAt, GiveSchema};
+ghost use Rattle.yangcheck.specs.Excerpt.{Explains};
 ghost use Rattle.yangcheck.specs.Files.{file_of};
 
 use crate::compiled::compiled;
@@ -29,14 +30,17 @@ pub fn refusal_of(
     }
 }
 
-/// The line of the file with a caret under the place of a refusal, and what the refusal means.
-pub fn explanation(alloc: Global, input: &Input, refusal: &Refusal) -> Result<String, AllocError> {
+/// The line of the file with a caret under the place of a refusal, and what the refusal means: its name, and the sentence
+/// that `meaning` gives.
+pub fn explanation(alloc: Global, input: &Input, refusal: &Refusal) -> Result<String, AllocError>
+    ensures { IfOk result (λ s. Explains (file_of input.now).bytes refusal.now (string_bytes s)) }
+{
     let bytes = input.bytes.as_slice();
     let place = usize::try_from(refusal.offset).unwrap_or(0);
     let mut text = excerpt(alloc, bytes, place.min(bytes.len()))?;
     text.push_str(refusal.code.name())?;
     text.push_str(": ")?;
     text.push_str(meaning(refusal.code))?;
-    text.push('\n')?;
+    text.push_str("\n")?;
     Ok(text)
 }

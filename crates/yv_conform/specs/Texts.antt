@@ -2,7 +2,7 @@
 use Rattle.std.specs.Prelude.{ℕ, ◌+◌, ◌-◌, ◌*◌, Bool, true, false, not, ◌&&◌, ◌||◌, ◌==◌, nat_le, List, [], ◌∷◌, codes, length, take, drop, nat_eq, slice_index, slice_range, if◌then◌else◌}
 use Rattle.std.specs.List.{list_all, list_any, slice_split, starts_with}
 use Rattle.std.specs.Str.{bytes_eq, trim}
-use Rattle.yv_condition.specs.Names.{is_name}
+pub use Rattle.yv_condition.specs.Names.{is_start, is_part, is_identifier, is_name}
 use Rattle.yv_conform.specs.Bytes.{dash, dot, is_blank, is_digit, slash}
 use Rattle.yv_conform.specs.Words.{is_empty, words}
 
