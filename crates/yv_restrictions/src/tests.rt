@@ -1,8 +1,7 @@
 //! Examples of RFC 7950, and what stands at the edges of the rules.
-use crate::{Intervals, Kind, Listed, Numbering, numbered, restricted};
+use crate::{Integer, Intervals, Kind, Listed, Numbering, Span, numbered, restricted};
 use std::alloc::Global;
 use std::test::Fail;
-use yv_values::{Integer, Lengths, Span};
 
 fn whole(number: i64) -> Integer {
     if number < 0 {
@@ -46,7 +45,7 @@ fn leaves(
 ) -> Result<bool, Fail> {
     match left(alloc, text, base, digits)? {
         Some(found) => {
-            let spans = found.shared()?;
+            let spans = found.spans();
             let are_same = spans
                 .iter()
                 .zip(wanted)
@@ -137,33 +136,14 @@ fn ranges_of_decimals(rt: HostRuntime) -> Result<(), Fail> {
     Ok(())
 }
 
-// The lengths that a text leaves of those from one number to another.
-fn lengths_left(
-    alloc: Global,
-    text: &str,
-    low: u64,
-    high: u64,
-) -> Result<Option<Vec<Lengths>>, Fail> {
-    let base = [Span {
-        low: Integer::Natural(low),
-        high: Integer::Natural(high),
-    }];
-    match left(alloc, text, &base, None)? {
-        Some(found) => Ok(found.copy()?.lengths(alloc)?),
-        None => Ok(None),
-    }
+fn length(number: u64) -> Integer {
+    Integer::Natural(number)
 }
 
-fn are_lengths(found: Option<Vec<Lengths>>, wanted: &[(u64, u64)]) -> bool {
-    match found {
-        Some(lengths) => {
-            lengths.len() == wanted.len()
-                && lengths
-                    .iter()
-                    .zip(wanted)
-                    .all(|(one, other)| one.low == other.0 && one.high == other.1)
-        }
-        None => false,
+fn lengths(low: u64, high: u64) -> Span {
+    Span {
+        low: length(low),
+        high: length(high),
     }
 }
 
@@ -172,14 +152,16 @@ fn are_lengths(found: Option<Vec<Lengths>>, wanted: &[(u64, u64)]) -> bool {
 fn lengths_of_strings(rt: HostRuntime) -> Result<(), Fail> {
     let alloc = rt.alloc();
     let most = 18446744073709551615;
-    assert!(rt; are_lengths(lengths_left(alloc, "1..255", 0, most)?, &[(1, 255)]));
-    let found = lengths_left(alloc, "11 | 42..max", 1, 255)?;
-    assert!(rt; are_lengths(found, &[(11, 11), (42, 255)]));
-    assert!(rt; lengths_left(alloc, "1..999", 1, 255)?.is_none());
-    assert!(rt; are_lengths(lengths_left(alloc, "+1..05", 0, most)?, &[(1, 5)]));
-    assert!(rt; are_lengths(lengths_left(alloc, "-0..max", 0, most)?, &[(0, most)]));
-    assert!(rt; lengths_left(alloc, "-1..2", 0, most)?.is_none());
-    assert!(rt; lengths_left(alloc, "1..18446744073709551616", 0, most)?.is_none());
+    let all = [lengths(0, most)];
+    let some = [lengths(1, 255)];
+    assert!(rt; leaves(alloc, "1..255", &all, None, &some)?);
+    let wanted = [lengths(11, 11), lengths(42, 255)];
+    assert!(rt; leaves(alloc, "11 | 42..max", &some, None, &wanted)?);
+    assert!(rt; !restricts(alloc, "1..999", &some, None)?);
+    assert!(rt; leaves(alloc, "+1..05", &all, None, &[lengths(1, 5)])?);
+    assert!(rt; leaves(alloc, "-0..max", &all, None, &all)?);
+    assert!(rt; !restricts(alloc, "-1..2", &all, None)?);
+    assert!(rt; !restricts(alloc, "1..18446744073709551616", &all, None)?);
     Ok(())
 }
 
