@@ -11,7 +11,7 @@ mod seen;
 #[cfg(test)]
 mod tests;
 
-pub use numbering::{Kind, Listed, Numbering};
+pub use numbering::{Kind, Listed, Numbered, Numbering};
 pub use restriction::restricted;
 pub use seen::numbered;
 pub use yv_numbers::{Integer, Intervals, Span};
