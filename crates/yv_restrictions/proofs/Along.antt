@@ -4,7 +4,7 @@ use Rattle.std.specs.Prelude.{int_le, ⊤}
 use Rattle.std.specs.List.{list_any}
 use Rattle.std.proofs.lemmas.Bool.{and_parts, or_cases, not-true, false_from_ne_true, both_ways, and_from, and_right, or_from, leb-true, leb-false, le-leb}
 use Rattle.std.proofs.lemmas.List.{map-append}
-use Rattle.yv_values.specs.declared.plain.Span.{Span}
+use Rattle.yv_numbers.specs.declared.intervals.Span.{Span}
 use Rattle.yv_restrictions.specs.Intervals.{Interval, ends_below, ascend, lies_in}
 
 le_trans : (a b c : ℤ) → int_le a b ≡ true → int_le b c ≡ true → int_le a c ≡ true

@@ -1,30 +1,24 @@
 -- One pair more.
-use Rattle.std.proofs.Common.{◌≡◌, ℕ, ℤ, pos, Bool, true, false, not, ◌&&◌, ◌||◌, cond, List, [], ◌∷◌, ◌++◌, Option, Some, None, Result, Ok, Err, refl, sym, ◌∙◌, ap}
-use Rattle.std.specs.Prelude.{IfOk, is_some}
+use Rattle.std.proofs.Common.{◌≡◌, ℕ, ℤ, Bool, true, false, not, ◌||◌, cond, List, [], ◌∷◌, ◌++◌, Option, Some, None, refl, sym, ◌∙◌, ap, subst}
+use Rattle.std.specs.Prelude.{is_some}
 use Rattle.std.specs.Bool.{one_answer}
 use Rattle.std.specs.BTreeMap.{BTreeMap, UpdatesBy}
 use Rattle.std.specs.BTreeSet.{contains}
 use Rattle.std.specs.Cmp.{Equal-is, int_cmp_is}
 use Rattle.std.specs.Cmp.Lexicographic.{slice_cmp}
-use Rattle.std.specs.Option.{unwrap_or}
 use Rattle.std.specs.Ordering.{int_cmp, int_eq, is_eq, nat_cmp}
 use Rattle.std.specs.declared.cmp.Ordering.TheVariants.{Equal}
 use Rattle.std.specs.Str.{bytes_eq}
-use Rattle.std.proofs.lemmas.Bool.{and_parts, both_ways}
+use Rattle.std.proofs.lemmas.Bool.{both_ways}
 use Rattle.std.proofs.lemmas.Bool.Decides.{Decides-int_eq}
 use Rattle.std.proofs.lemmas.Map.Lookups.{exact_signed}
 use Rattle.std.proofs.lemmas.Map.Text.{is_eq-slice_cmp}
 use Rattle.std.proofs.lemmas.Slice.Eq.{bytes_eq-Decides}
 use denote.Ref.{Bor}
-use Rattle.yv_restrictions.specs.InnerSeen.{Adds, Puts, Tells, Keeps}
-use Rattle.yv_restrictions.specs.Numberings.{Pair, number_in, is_taken, higher, highest_from, pair_in, agrees, is_wrong_in, lookup_in}
-use Rattle.yv_restrictions.specs.declared.numbering.Listed.{Listed}
+use Rattle.yv_restrictions.specs.InnerSeen.{Adds, Gives, Tells, Keeps}
+use Rattle.yv_restrictions.specs.Numberings.{Pair, number_in, is_taken, higher, highest_from, lookup_in, table_of}
 use Rattle.yv_restrictions.specs.declared.numbering.Numbering.{Numbering}
 use Rattle.yv_restrictions.specs.declared.seen.Seen.{Seen}
-
-is_none : (o : Option ℤ) → not (is_some o) ≡ true → o ≡ None
-is_none None h = refl
-is_none (Some n) h = absurd (cc)
 
 not_here : (b : Bool) (n : ℤ) (o : Option ℤ) → cond b (Some n) o ≡ None → (b ≡ false) × (o ≡ None)
 not_here true n o h = absurd (cc)
@@ -70,44 +64,39 @@ pub put_new : (old new : BTreeMap (Bor (List ℕ)) ℤ) (name : Bor (List ℕ)) 
 put_new old new name n u s =
     u.0 (record { ref_ptr = (0, 0); now = s }) ∙ ap (λ (b : Bool). cond b (Some n) (lookup_in old s)) (is_eq-slice_cmp name.now s)
 
-neither : (x y : Bool) → (not x && not y) ≡ not (x || y)
-neither true y = refl
-neither false y = refl
+-- an entry that is right is kept
+pub takes : {S : Type 0} (holds : S → List Pair → Type 0) (wrong : List Pair → Bool) (pair : List Pair → Pair) (old new : S) → ((ps : List Pair) → holds old ps → (wrong ps ≡ false) × holds new (ps ++ pair ps ∷ [])) → Adds holds wrong pair old new true
+takes holds wrong pair old new f = λ ps h.
+    let more = f ps h in
+    (sym (ap not more.0), subst (λ (b : Bool). holds new (cond b ps (ps ++ pair ps ∷ []))) (sym more.0) more.1)
 
-pub put_adds : (old new : Seen) (name : List ℕ) (n : ℤ) (is_new is_free : Bool) → Puts old.names new.names name n is_new → is_free ≡ not (contains int_cmp old.taken n) → ((q : ℤ) → contains int_cmp new.taken q ≡ cond (is_eq (int_cmp n q)) true (contains int_cmp old.taken q)) → new.highest ≡ Some (higher old.highest n) → Adds Keeps (λ ps. is_some (number_in ps name) || is_taken ps n) (λ ps. record { name = name; number = n }) old new (is_new && is_free)
-put_adds old new name n is_new is_free puts free taken top = λ ps k.
+not_some : (o : Option ℤ) → is_some o ≡ false → o ≡ None
+not_some None h = refl
+not_some (Some n) h = absurd (cc)
+
+neither : (a b : Bool) → (a || b) ≡ false → (a ≡ false) × (b ≡ false)
+neither true b h = absurd (cc)
+neither false b h = (refl, h)
+
+pub put_adds : (old new : Seen) (name : List ℕ) (n : ℤ) → Gives old.names new.names name n → ((q : ℤ) → contains int_cmp new.taken q ≡ cond (is_eq (int_cmp n q)) true (contains int_cmp old.taken q)) → new.highest ≡ Some (higher old.highest n) → (is_some (table_of old.names name) || contains int_cmp old.taken n) ≡ false → Adds Keeps (λ ps. is_some (number_in ps name) || is_taken ps n) (λ ps. record { name = name; number = n }) old new true
+put_adds old new name n gives taken top free = takes Keeps (λ ps. is_some (number_in ps name) || is_taken ps n) (λ ps. record { name = name; number = n }) old new (λ ps k.
     let p : Pair = record { name = name; number = n } in
-    let a : is_new ≡ not (is_some (number_in ps name)) = puts.0 ∙ ap (λ o. not (is_some o)) (k.names name) in
-    let b : is_free ≡ not (is_taken ps n) = free ∙ ap not (k.numbers n) in (
-      ap (λ (t : Bool). t && is_free) a ∙ ap (λ (t : Bool). not (is_some (number_in ps name)) && t) b ∙ neither (is_some (number_in ps name)) (is_taken ps n),
-      λ good.
-          let none = is_none (number_in ps name) (sym a ∙ (and_parts is_new is_free good).0) in
-          record {
-            names = λ s. puts.1 s ∙ ap (λ o. cond (bytes_eq name s) (Some n) o) (k.names s) ∙ sym (number_pushed ps p s none);
-            numbers = λ q. taken q ∙ ap (λ (t : Bool). cond (is_eq (int_cmp n q)) true t) (k.numbers q) ∙ sym (taken_pushed ps p q);
-            top = top ∙ ap (λ h. Some (higher h n)) k.top ∙ sym (highest_pushed None ps p);
-          },
-    )
+    let both = neither (is_some (table_of old.names name)) (contains int_cmp old.taken n) free in
+    let no_name : is_some (number_in ps name) ≡ false = ap (λ (o : Option ℤ). is_some o) (sym (k.names name)) ∙ both.0 in
+    let no_number : is_taken ps n ≡ false = sym (k.numbers n) ∙ both.1 in
+    let none = not_some (number_in ps name) no_name in (
+      ap (λ (t : Bool). t || is_taken ps n) no_name ∙ no_number,
+      record {
+        names = λ s. gives s ∙ ap (λ o. cond (bytes_eq name s) (Some n) o) (k.names s) ∙ sym (number_pushed ps p s none);
+        numbers = λ q. taken q ∙ ap (λ (t : Bool). cond (is_eq (int_cmp n q)) true t) (k.numbers q) ∙ sym (taken_pushed ps p q);
+        top = top ∙ ap (λ h. Some (higher h n)) k.top ∙ sym (highest_pushed None ps p);
+      },
+    ))
 
-alike : (x t : Bool) → t ≡ true → x ≡ (x || not t)
-alike true t h = refl
-alike false true h = refl
-alike false false h = absurd (cc)
-
-pub keep_adds : (base : List ℕ → Option ℤ) (old new : Numbering) (e : Listed) (n : ℤ) (good : Bool) → base e.name.now ≡ Some n → agrees e.number (Some n) ≡ true → Puts old new e.name.now n good → Adds Tells (λ ps. is_wrong_in base ps e) (λ ps. pair_in base e) old new good
-keep_adds base old new e n good at_base agree puts = λ ps t.
-    let a : good ≡ not (is_some (number_in ps e.name.now)) = puts.0 ∙ ap (λ o. not (is_some o)) (t e.name.now) in
-    let same : n ≡ unwrap_or (base e.name.now) (pos 0) = sym (ap (λ o. unwrap_or o (pos 0)) at_base) in (
-      a ∙ ap not (alike (is_some (number_in ps e.name.now)) (agrees e.number (base e.name.now)) (ap (agrees e.number) at_base ∙ agree)),
-      λ h. λ s. puts.1 s ∙ ap (λ o. cond (bytes_eq e.name.now s) (Some n) o) (t s) ∙ ap (λ (m : ℤ). cond (bytes_eq e.name.now s) (Some m) (number_in ps s)) same ∙ sym (number_pushed ps (pair_in base e) s (is_none (number_in ps e.name.now) (sym a ∙ h))),
-    )
-
-pub turned : (a b : Bool) → a ≡ not b → b ≡ not a
-turned true true h = absurd (cc)
-turned true false h = refl
-turned false true h = refl
-turned false false h = absurd (cc)
-
-pub if_ok : {T E : Type 0} (r : Result T E) (P Q : T → Type 0) → ((x : T) → P x → Q x) → IfOk r P → IfOk r Q
-if_ok (Ok x) P Q f h = f x h
-if_ok (Err e) P Q f h = tt
+pub new_adds : (old new : Numbering) (name : List ℕ) (n : ℤ) → Gives old new name n → is_some (table_of old name) ≡ false → Adds Tells (λ ps. is_some (number_in ps name)) (λ ps. record { name = name; number = n }) old new true
+new_adds old new name n gives free = takes Tells (λ ps. is_some (number_in ps name)) (λ ps. record { name = name; number = n }) old new (λ ps t.
+    let p : Pair = record { name = name; number = n } in
+    let no_name : is_some (number_in ps name) ≡ false = ap (λ (o : Option ℤ). is_some o) (sym (t name)) ∙ free in (
+      no_name,
+      λ s. gives s ∙ ap (λ o. cond (bytes_eq name s) (Some n) o) (t s) ∙ sym (number_pushed ps p s (not_some (number_in ps name) no_name)),
+    ))

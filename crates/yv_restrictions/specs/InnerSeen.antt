@@ -1,5 +1,5 @@
 -- For private clauses alone: what is kept of the entries that were passed.
-use Rattle.std.specs.Prelude.{◌≡◌, ℕ, ℤ, Bool, true, not, List, [], ◌∷◌, ◌++◌, Some, is_some, if◌then◌else◌}
+use Rattle.std.specs.Prelude.{◌≡◌, ℕ, ◌<◌, ℤ, Bool, not, ◌||◌, List, [], ◌∷◌, ◌++◌, Option, Some, None, is_some, if◌then◌else◌}
 use Rattle.std.specs.BTreeSet.{contains}
 use Rattle.std.specs.Ordering.{int_cmp}
 use Rattle.std.specs.Str.{bytes_eq}
@@ -7,11 +7,9 @@ use Rattle.yv_restrictions.specs.Numberings.{Pair, number_in, is_taken, highest,
 use Rattle.yv_restrictions.specs.declared.numbering.Numbering.{Numbering}
 use Rattle.yv_restrictions.specs.declared.seen.Seen.{Seen}
 
--- the name was new, and it has the number
-abbrev pub Puts : Numbering → Numbering → List ℕ → ℤ → Bool → Type 0
-Puts old new name n fresh =
-    (fresh ≡ not (is_some (table_of old name)))
-    × ((s : List ℕ) → table_of new s ≡ (if bytes_eq name s then Some n else table_of old s))
+-- the name has the number, and the others have theirs
+abbrev pub Gives : Numbering → Numbering → List ℕ → ℤ → Type 0
+Gives old new name n = (s : List ℕ) → table_of new s ≡ (if bytes_eq name s then Some n else table_of old s)
 
 -- the table of these pairs
 abbrev pub Tells : Numbering → List Pair → Type 0
@@ -26,4 +24,14 @@ pub record Keeps (seen : Seen) (ps : List Pair) : Type 0 where
 -- Behind the pairs that were kept it tells whether an entry isn't wrong, and then it keeps the entry's pair too.
 abbrev pub Adds : {S : Type 0} → (S → List Pair → Type 0) → (List Pair → Bool) → (List Pair → Pair) → S → S → Bool → Type 0
 Adds {S} holds wrong pair old new good =
-    (ps : List Pair) → holds old ps → (good ≡ not (wrong ps)) × (good ≡ true → holds new (ps ++ pair ps ∷ []))
+    (ps : List Pair) → holds old ps →
+    (good ≡ not (wrong ps)) × holds new (if wrong ps then ps else ps ++ pair ps ∷ [])
+
+-- the first place where an entry was wrong, with one more entry, at this place
+abbrev pub first_with : Option ℕ → ℕ → Bool → Option ℕ
+first_with found i good = if good || is_some found then found else Some i
+
+-- the least of these places below n
+abbrev pub IsLeastBelow : (ℕ → Type 0) → ℕ → Option ℕ → Type 0
+IsLeastBelow P n None = (k : ℕ) → k < n → P k → ⊥
+IsLeastBelow P n (Some i) = P i × ((k : ℕ) → k < i → P k → ⊥)

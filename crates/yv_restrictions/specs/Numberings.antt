@@ -1,5 +1,5 @@
 -- The numbers of enumerations and of bits (RFC 7950, sections 9.6.4.2 and 9.7.4.2).
-use Rattle.std.specs.Prelude.{◌≡◌, ℕ, ◌<◌, ℤ, pos, negsuc, ◌+ℤ◌, int_le, Bool, true, false, not, ◌&&◌, ◌||◌, List, [], ◌∷◌, ◌++◌, take, map, slice_get, Option, Some, None, is_some, if◌then◌else◌}
+use Rattle.std.specs.Prelude.{◌≡◌, ℕ, ◌<◌, ℤ, pos, negsuc, ◌+ℤ◌, int_le, Bool, true, false, not, ◌&&◌, ◌||◌, List, [], ◌∷◌, ◌++◌, take, slice_get, Option, Some, None, is_some, if◌then◌else◌}
 use Rattle.std.specs.BTreeMap.{BTreeMap, get_by}
 use Rattle.std.specs.Borrow.{Bor}
 use Rattle.std.specs.Cmp.Lexicographic.{slice_cmp}
@@ -51,14 +51,6 @@ number_of before e = unwrap_or e.number (next_number (highest before))
 abbrev pub pair_of : List Pair → Listed → Pair
 pair_of before e = record { name = e.name.now; number = number_of before e }
 
-abbrev pub numbered_behind : List Pair → List Listed → List Pair
-numbered_behind before [] = before
-numbered_behind before (e ∷ es) = numbered_behind (before ++ pair_of before e ∷ []) es
-
--- each name of a new type with its number
-abbrev pub numbered : List Listed → List Pair
-numbered es = numbered_behind [] es
-
 -- the 32 bits of either kind
 abbrev pub is_number : Kind → ℤ → Bool
 is_number Enumeration n = int_le (negsuc 2147483647) n && int_le n (pos 2147483647)
@@ -73,10 +65,6 @@ is_wrong kind before e =
 abbrev pub pair_in : (List ℕ → Option ℤ) → Listed → Pair
 pair_in base e = record { name = e.name.now; number = unwrap_or (base e.name.now) (pos 0) }
 
--- each name of a derived type with its number
-abbrev pub kept : (List ℕ → Option ℤ) → List Listed → List Pair
-kept base es = map (pair_in base) es
-
 -- the base has this number, and no other is stated
 abbrev pub agrees : Option ℤ → Option ℤ → Bool
 agrees stated None = false
@@ -88,16 +76,31 @@ agrees (Some m) (Some n) = int_eq m n
 abbrev pub is_wrong_in : (List ℕ → Option ℤ) → List Pair → Listed → Bool
 is_wrong_in base before e = is_some (number_in before e.name.now) || not (agrees e.number (base e.name.now))
 
+-- the pairs with that of one more entry, which is left out where it is wrong behind them
+abbrev pub with_entry : (List Pair → Listed → Bool) → (List Pair → Listed → Pair) → List Pair → Listed → List Pair
+with_entry wrong pair before e = if wrong before e then before else before ++ pair before e ∷ []
+
+abbrev pub pairs_behind : (List Pair → Listed → Bool) → (List Pair → Listed → Pair) → List Pair → List Listed → List Pair
+pairs_behind wrong pair before [] = before
+pairs_behind wrong pair before (e ∷ es) = pairs_behind wrong pair (with_entry wrong pair before e) es
+
+-- each name of a new type with its number; the entries that are wrong are left out
+abbrev pub numbered : Kind → List Listed → List Pair
+numbered kind es = pairs_behind (is_wrong kind) pair_of [] es
+
+-- each name of a derived type with its number; the entries that are wrong are left out
+abbrev pub kept : (List ℕ → Option ℤ) → List Listed → List Pair
+kept base es = pairs_behind (is_wrong_in base) (λ before e. pair_in base e) [] es
+
 -- the entry at this place is wrong behind the pairs of those before it
 abbrev pub IsWrongAt : (List Listed → List Pair) → (List Pair → Listed → Bool) → List Listed → ℕ → Type 0
 IsWrongAt pairs wrong es i = (e : Listed) × (slice_get es i ≡ Some e) × (wrong (pairs (take i es)) e ≡ true)
 
--- the first entry that is wrong
-abbrev pub IsFirstWrong : (List Listed → List Pair) → (List Pair → Listed → Bool) → List Listed → ℕ → Type 0
-IsFirstWrong pairs wrong es i = IsWrongAt pairs wrong es i × ((k : ℕ) → k < i → IsWrongAt pairs wrong es k → ⊥)
-
-abbrev pub NoneIsWrong : (List Listed → List Pair) → (List Pair → Listed → Bool) → List Listed → Type 0
-NoneIsWrong pairs wrong es = (k : ℕ) → IsWrongAt pairs wrong es k → ⊥
+-- the least place where an entry is wrong, or none where no entry is
+abbrev pub IsFirstWrong : (List Listed → List Pair) → (List Pair → Listed → Bool) → List Listed → Option ℕ → Type 0
+IsFirstWrong pairs wrong es None = (k : ℕ) → IsWrongAt pairs wrong es k → ⊥
+IsFirstWrong pairs wrong es (Some i) =
+    IsWrongAt pairs wrong es i × ((k : ℕ) → k < i → IsWrongAt pairs wrong es k → ⊥)
 
 abbrev pub lookup_in : BTreeMap (Bor (List ℕ)) ℤ → List ℕ → Option ℤ
 lookup_in m name = get_by (λ k. slice_cmp nat_cmp name k.now) m

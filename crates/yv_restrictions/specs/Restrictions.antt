@@ -2,7 +2,7 @@
 use Rattle.std.specs.Prelude.{◌≡◌, ℕ, ◌+◌, ℤ, Bool, true, ◌==◌, ◌&&◌, ◌||◌, List, [], ◌∷◌, take, drop, map, reverse, slice_index, Option, Some, None, option_map, if◌then◌else◌, codes}
 use Rattle.std.specs.List.{slice_split}
 use Rattle.std.specs.Str.{bytes_eq}
-use Rattle.yv_values.specs.Numbers.{integer_of, scaled_of}
+use Rattle.yv_numbers.specs.Numbers.{integer_of, scaled_of}
 pub use Rattle.yv_restrictions.specs.Intervals.{Interval, lowest, highest, ascend, lie_within}
 
 -- space, tab, line feed and carriage return

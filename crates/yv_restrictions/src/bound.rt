@@ -1,13 +1,11 @@
 //! The bounds of a part of a restriction.
 ghost use Rattle.std.specs.Prelude.{◌≡◌, ◌==◌, ◌&&◌, ◌+◌, ◌<◌, ◌≤◌, length, map, option_map, reverse, slice_index, IfSome};
 ghost use Rattle.std.specs.Str.{bytes_eq};
-ghost use Rattle.yv_values.specs.Values.{integer};
+ghost use Rattle.yv_numbers.specs.Numbers.{integer};
 ghost use Rattle.yv_restrictions.specs.Intervals.{interval, lowest, highest};
 ghost use Rattle.yv_restrictions.specs.Restrictions.{is_blank, behind_blanks, without_blanks, number_of, bound_of, between, dots_at, around_dots, part_of};
 
-use crate::decimal::scaled_of;
-use crate::number::integer_of;
-use yv_values::{Integer, Span};
+use yv_numbers::{Integer, Span, integer_of, scaled_of};
 
 /// The interval that one part says.
 pub fn part_of(digits: Option<u32>, base: &[Span], text: &[u8]) -> Option<Span>

@@ -3,9 +3,6 @@
 #![tactic(auto)]
 
 mod bound;
-mod decimal;
-mod intervals;
-mod number;
 mod numbering;
 mod order;
 mod parts;
@@ -14,7 +11,7 @@ mod seen;
 #[cfg(test)]
 mod tests;
 
-pub use intervals::Intervals;
-pub use numbering::{Kind, Listed, Numbering};
+pub use numbering::{Kind, Listed, Numbered, Numbering};
 pub use restriction::restricted;
 pub use seen::numbered;
+pub use yv_numbers::{Integer, Intervals, Span};

@@ -1,7 +1,7 @@
 //! The numbers of the names of enumerations and bits.
-ghost use Rattle.std.specs.Prelude.{◌≡◌, ℕ, List, None, IfOk, IfErr, OnOk};
-ghost use Rattle.yv_restrictions.specs.InnerSeen.{Adds, Puts, Tells};
-ghost use Rattle.yv_restrictions.specs.Numberings.{Pair, agrees, number_in, kept, is_wrong_in, pair_in, IsFirstWrong, NoneIsWrong, table_of};
+ghost use Rattle.std.specs.Prelude.{◌≡◌, ℕ, List, None, Some, is_some, IfOk};
+ghost use Rattle.yv_restrictions.specs.InnerSeen.{Adds, Gives, Tells, first_with};
+ghost use Rattle.yv_restrictions.specs.Numberings.{Pair, agrees, number_in, kept, is_wrong_in, pair_in, IsFirstWrong, table_of};
 
 use std::alloc::{AllocError, Global};
 use std::collections::BTreeMap;
@@ -26,6 +26,14 @@ pub struct Numbering<'a> {
     map: BTreeMap<&'a [u8], i64>,
 }
 
+/// What comes of a type's entries: the numbers of those that are right, so that types derived from this one are
+/// judged by them alone, and the place among the entries where the first stands that is wrong.
+#[derive(Drop)]
+pub struct Numbered<'a> {
+    pub numbering: Numbering<'a>,
+    pub first_wrong: Option<usize>,
+}
+
 impl<'a> Numbering<'a> {
     /// No names.
     pub(crate) fn new(alloc: Global) -> Numbering<'a>
@@ -43,43 +51,39 @@ impl<'a> Numbering<'a> {
         self.map.get(&name.as_bytes()).copied()
     }
 
-    /// Gives a name its number, and tells whether the name is new.
-    pub(crate) fn put(&mut self, name: &'a str, number: i64) -> Result<bool, AllocError>
-        ensures { IfOk result (Puts self.old self.new name.now number) }
+    /// Gives a name its number.
+    pub(crate) fn put(&mut self, name: &'a str, number: i64) -> Result<(), AllocError>
+        ensures { IfOk result (λ _. Gives self.old self.new name.now number) }
     {
         self.put_bytes(name.as_bytes(), number)
     }
 
-    fn put_bytes(&mut self, name: &'a [u8], number: i64) -> Result<bool, AllocError>
-        ensures { IfOk result (Puts self.old self.new name.now number) }
+    fn put_bytes(&mut self, name: &'a [u8], number: i64) -> Result<(), AllocError>
+        ensures { IfOk result (λ _. Gives self.old self.new name.now number) }
     {
-        let old = self.map.insert(name, number)?;
-        Ok(old.is_none())
+        self.map.insert(name, number)?;
+        Ok(())
     }
 
     /// The numbers of a type that is derived from the one with these numbers and lists some of its names (RFC 7950,
-    /// sections 9.6.3 and 9.7.3): each keeps its number. Or else the place among the entries where the first stands
-    /// that is wrong: its name is none of this type's or is listed before, or another number is stated. It takes
-    /// time n log n.
-    pub fn derived(
-        &self,
-        alloc: Global,
-        entries: &[Listed<'a>],
-    ) -> Result<Result<Numbering<'a>, usize>, AllocError>
-        ensures numbers { IfOk result (λ r. IfOk r (λ n. (name : List ℕ)
-            → table_of n name ≡ number_in (kept (table_of self.now) entries.now) name)) }
-        ensures right { IfOk result (λ r. OnOk r
-            (NoneIsWrong (kept (table_of self.now)) (is_wrong_in (table_of self.now)) entries.now)) }
-        ensures wrong { IfOk result (λ r. IfErr r
-            (IsFirstWrong (kept (table_of self.now)) (is_wrong_in (table_of self.now)) entries.now)) }
+    /// sections 9.6.3 and 9.7.3): each keeps its number. An entry is wrong where its name is none of this type's or is
+    /// a right one's before it, or where another number is stated. It takes time n log n.
+    pub fn derived(&self, alloc: Global, entries: &[Listed<'a>]) -> Result<Numbered<'a>, AllocError>
+        ensures numbers { IfOk result (λ r. (name : List ℕ)
+            → table_of r.numbering name ≡ number_in (kept (table_of self.now) entries.now) name) }
+        ensures wrong { IfOk result (λ r.
+            IsFirstWrong (kept (table_of self.now)) (is_wrong_in (table_of self.now)) entries.now r.first_wrong) }
     {
-        let mut found = Numbering::new(alloc);
+        let mut numbering = Numbering::new(alloc);
+        let mut first_wrong = None;
         for (at, listed) in entries.iter().enumerate() {
-            if !found.keep(self, *listed)? {
-                return Ok(Err(at));
-            }
+            let is_right = numbering.keep(self, *listed)?;
+            first_wrong = first_with(first_wrong, at, is_right);
         }
-        Ok(Ok(found))
+        Ok(Numbered {
+            numbering,
+            first_wrong,
+        })
     }
 }
 
@@ -94,13 +98,45 @@ impl<'a> Numbering<'a> {
         match base.number(listed.name) {
             Some(number) => {
                 if agrees(listed.number, number) {
-                    self.put(listed.name, number)
+                    self.keep_new(listed.name, number)
                 } else {
                     Ok(false)
                 }
             }
             None => Ok(false),
         }
+    }
+
+    // Adds a name with its number, where it is new.
+    fn keep_new(&mut self, name: &'a str, number: i64) -> Result<bool, AllocError>
+        ensures { IfOk result (Adds Tells
+            (λ ps. is_some (number_in ps name.now))
+            (λ ps. record { name = name.now; number = number })
+            self.old self.new) }
+    {
+        if self.has(name) {
+            return Ok(false);
+        }
+        self.put(name, number)?;
+        Ok(true)
+    }
+
+    /// Whether the name has a number.
+    pub(crate) fn has(&self, name: &'a str) -> bool
+        ensures { result ≡ is_some (table_of self.now name.now) }
+    {
+        self.number(name).is_some()
+    }
+}
+
+/// The first place where an entry was wrong, with one more entry, at this place.
+pub(crate) fn first_with(found: Option<usize>, at: usize, is_right: bool) -> Option<usize>
+    ensures { result ≡ first_with found at is_right }
+{
+    if is_right || found.is_some() {
+        found
+    } else {
+        Some(at)
     }
 }
 

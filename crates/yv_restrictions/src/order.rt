@@ -1,33 +1,9 @@
-//! The order of intervals, and which lie within others.
+//! Which intervals lie within others.
 ghost use Rattle.std.specs.Prelude.{◌≡◌, true, map, int_le, [], ◌++◌, ◌∷◌, IfSome, IfNone};
 ghost use Rattle.std.specs.List.{list_any};
-ghost use Rattle.yv_restrictions.specs.Intervals.{interval, ends_below, ascend, lies_in, lie_within};
+ghost use Rattle.yv_restrictions.specs.Intervals.{interval, ascend, lies_in, lie_within};
 
-use crate::number::is_at_most;
-use yv_values::Span;
-
-/// Whether none is empty, and each begins above the one before it.
-pub fn ascend(spans: &[Span]) -> bool
-    ensures { result ≡ ascend (map interval spans.now) }
-{
-    let mut rest = spans;
-    while let Some((span, others)) = rest.split_first() {
-        if !is_at_most(span.low, span.high) || !ends_below(*span, others) {
-            return false;
-        }
-        rest = others;
-    }
-    true
-}
-
-fn ends_below(span: Span, others: &[Span]) -> bool
-    ensures { result ≡ ends_below (interval span) (map interval others.now) }
-{
-    match others.first() {
-        Some(next) => !is_at_most(next.low, span.high),
-        None => true,
-    }
-}
+use yv_numbers::{Span, is_at_most};
 
 /// Whether each of some intervals that ascend lies within one interval of a base that ascends, too.
 pub fn lie_within(base: &[Span], spans: &[Span]) -> bool

@@ -7,7 +7,7 @@ ghost use Rattle.yv_restrictions.specs.Restrictions.{part_of};
 
 use crate::bound::part_of;
 use std::alloc::{AllocError, Global};
-use yv_values::Span;
+use yv_numbers::Span;
 
 /// What the text is cut into at each bar.
 pub fn pieces<'a>(alloc: Global, text: &'a str) -> Result<Vec<&'a str>, AllocError>

@@ -3,11 +3,10 @@ ghost use Rattle.std.specs.Prelude.{◌≡◌, List, map, true, false, ◌&&◌,
 ghost use Rattle.yv_restrictions.specs.Intervals.{Interval, interval, ascend, lie_within};
 ghost use Rattle.yv_restrictions.specs.Restrictions.{Restricts};
 
-use crate::intervals::Intervals;
 use crate::order::lie_within;
 use crate::parts::{intervals_of, pieces};
 use std::alloc::{AllocError, Global};
-use yv_values::Span;
+use yv_numbers::{Intervals, Span};
 
 /// The intervals that the argument of a `range` leaves of a type's (RFC 7950, sections 9.2.4 and 9.3.4), or that of a
 /// `length` (section 9.4.4), or `None` where it doesn't restrict that type. The type's numbers are whole, or decimals

@@ -1,34 +1,38 @@
 //! The entries of a new enumeration or bits type, one after another.
-ghost use Rattle.std.specs.Prelude.{◌≡◌, ℕ, List, [], ◌||◌, false, is_some, IfOk, IfErr, IfNone, IfSome, OnOk};
+ghost use Rattle.std.specs.Prelude.{◌≡◌, ℕ, List, [], ◌||◌, false, is_some, IfOk, IfNone, IfSome};
+ghost use Rattle.std.specs.BTreeSet.{contains};
 ghost use Rattle.std.specs.Option.{unwrap_or};
+ghost use Rattle.std.specs.Ordering.{int_cmp};
 ghost use Rattle.yv_restrictions.specs.InnerSeen.{Adds, Keeps};
-ghost use Rattle.yv_restrictions.specs.Numberings.{number_in, is_taken, higher, next_number, pair_of, numbered, is_number, is_wrong, IsFirstWrong, NoneIsWrong, table_of};
+ghost use Rattle.yv_restrictions.specs.Numberings.{number_in, is_taken, higher, next_number, pair_of, numbered, is_number, is_wrong, IsFirstWrong, table_of};
 
-use crate::numbering::{Kind, Listed, Numbering};
+use crate::numbering::{Kind, Listed, Numbered, Numbering, first_with};
 use std::alloc::{AllocError, Global};
 use std::collections::BTreeSet;
 
 /// The numbers of a new type with these entries (RFC 7950, sections 9.6.4.2 and 9.7.4.2): the stated one; else 0 for
-/// the first, and one more than the highest so far for a later one. Or else the place among the entries where the
-/// first stands that is wrong: its name or its number is an earlier one's, or the kind hasn't its number. It takes
-/// time n log n.
+/// the first, and one more than the highest so far for a later one. An entry is wrong where its name or its number is
+/// that of a right one before it, or where the kind hasn't its number; it is left out. It takes time n log n.
 pub fn numbered<'a>(
     alloc: Global,
     kind: Kind,
     entries: &[Listed<'a>],
-) -> Result<Result<Numbering<'a>, usize>, AllocError>
-    ensures numbers { IfOk result (λ r. IfOk r (λ n. (name : List ℕ)
-        → table_of n name ≡ number_in (numbered entries.now) name)) }
-    ensures right { IfOk result (λ r. OnOk r (NoneIsWrong numbered (is_wrong kind) entries.now)) }
-    ensures wrong { IfOk result (λ r. IfErr r (IsFirstWrong numbered (is_wrong kind) entries.now)) }
+) -> Result<Numbered<'a>, AllocError>
+    ensures numbers { IfOk result (λ r. (name : List ℕ)
+        → table_of r.numbering name ≡ number_in (numbered kind entries.now) name) }
+    ensures wrong { IfOk result (λ r.
+        IsFirstWrong (numbered kind) (is_wrong kind) entries.now r.first_wrong) }
 {
     let mut seen = Seen::new(alloc);
+    let mut first_wrong = None;
     for (at, listed) in entries.iter().enumerate() {
-        if !seen.add(kind, *listed)? {
-            return Ok(Err(at));
-        }
+        let is_right = seen.add(kind, *listed)?;
+        first_wrong = first_with(first_wrong, at, is_right);
     }
-    Ok(Ok(seen.into_names()))
+    Ok(Numbered {
+        numbering: seen.into_names(),
+        first_wrong,
+    })
 }
 
 // What is kept of the entries that were passed: their names with their numbers, the numbers, and the highest one.
@@ -67,15 +71,26 @@ impl<'a> Seen<'a> {
         }
     }
 
+    // Adds a name with its number, where both are free.
     fn put(&mut self, name: &'a str, number: i64) -> Result<bool, AllocError>
         ensures { IfOk result (Adds Keeps
             (λ ps. is_some (number_in ps name.now) || is_taken ps number)
             (λ ps. record { name = name.now; number = number }) self.old self.new) }
     {
-        let is_new = self.names.put(name, number)?;
-        let is_free = self.taken.insert(number)?;
+        if self.has(name, number) {
+            return Ok(false);
+        }
+        self.names.put(name, number)?;
+        self.taken.insert(number)?;
         self.highest = Some(higher(self.highest, number));
-        Ok(is_new && is_free)
+        Ok(true)
+    }
+
+    // Whether the name or the number is taken.
+    fn has(&self, name: &'a str, number: i64) -> bool
+        ensures { result ≡ (is_some (table_of self.now.names name.now) || contains int_cmp self.now.taken number) }
+    {
+        self.names.has(name) || self.taken.contains(&number)
     }
 
     fn into_names(self) -> Numbering<'a>

@@ -1,8 +1,7 @@
 //! Examples of RFC 7950, and what stands at the edges of the rules.
-use crate::{Intervals, Kind, Listed, Numbering, numbered, restricted};
+use crate::{Integer, Intervals, Kind, Listed, Numbered, Span, numbered, restricted};
 use std::alloc::Global;
 use std::test::Fail;
-use yv_values::{Integer, Lengths, Span};
 
 fn whole(number: i64) -> Integer {
     if number < 0 {
@@ -46,7 +45,7 @@ fn leaves(
 ) -> Result<bool, Fail> {
     match left(alloc, text, base, digits)? {
         Some(found) => {
-            let spans = found.shared()?;
+            let spans = found.spans();
             let are_same = spans
                 .iter()
                 .zip(wanted)
@@ -137,33 +136,14 @@ fn ranges_of_decimals(rt: HostRuntime) -> Result<(), Fail> {
     Ok(())
 }
 
-// The lengths that a text leaves of those from one number to another.
-fn lengths_left(
-    alloc: Global,
-    text: &str,
-    low: u64,
-    high: u64,
-) -> Result<Option<Vec<Lengths>>, Fail> {
-    let base = [Span {
-        low: Integer::Natural(low),
-        high: Integer::Natural(high),
-    }];
-    match left(alloc, text, &base, None)? {
-        Some(found) => Ok(found.copy()?.lengths(alloc)?),
-        None => Ok(None),
-    }
+fn length(number: u64) -> Integer {
+    Integer::Natural(number)
 }
 
-fn are_lengths(found: Option<Vec<Lengths>>, wanted: &[(u64, u64)]) -> bool {
-    match found {
-        Some(lengths) => {
-            lengths.len() == wanted.len()
-                && lengths
-                    .iter()
-                    .zip(wanted)
-                    .all(|(one, other)| one.low == other.0 && one.high == other.1)
-        }
-        None => false,
+fn lengths(low: u64, high: u64) -> Span {
+    Span {
+        low: length(low),
+        high: length(high),
     }
 }
 
@@ -172,14 +152,16 @@ fn are_lengths(found: Option<Vec<Lengths>>, wanted: &[(u64, u64)]) -> bool {
 fn lengths_of_strings(rt: HostRuntime) -> Result<(), Fail> {
     let alloc = rt.alloc();
     let most = 18446744073709551615;
-    assert!(rt; are_lengths(lengths_left(alloc, "1..255", 0, most)?, &[(1, 255)]));
-    let found = lengths_left(alloc, "11 | 42..max", 1, 255)?;
-    assert!(rt; are_lengths(found, &[(11, 11), (42, 255)]));
-    assert!(rt; lengths_left(alloc, "1..999", 1, 255)?.is_none());
-    assert!(rt; are_lengths(lengths_left(alloc, "+1..05", 0, most)?, &[(1, 5)]));
-    assert!(rt; are_lengths(lengths_left(alloc, "-0..max", 0, most)?, &[(0, most)]));
-    assert!(rt; lengths_left(alloc, "-1..2", 0, most)?.is_none());
-    assert!(rt; lengths_left(alloc, "1..18446744073709551616", 0, most)?.is_none());
+    let all = [lengths(0, most)];
+    let some = [lengths(1, 255)];
+    assert!(rt; leaves(alloc, "1..255", &all, None, &some)?);
+    let wanted = [lengths(11, 11), lengths(42, 255)];
+    assert!(rt; leaves(alloc, "11 | 42..max", &some, None, &wanted)?);
+    assert!(rt; !restricts(alloc, "1..999", &some, None)?);
+    assert!(rt; leaves(alloc, "+1..05", &all, None, &[lengths(1, 5)])?);
+    assert!(rt; leaves(alloc, "-0..max", &all, None, &all)?);
+    assert!(rt; !restricts(alloc, "-1..2", &all, None)?);
+    assert!(rt; !restricts(alloc, "1..18446744073709551616", &all, None)?);
     Ok(())
 }
 
@@ -194,17 +176,15 @@ fn stated(name: &str, number: i64) -> Listed<'_> {
     }
 }
 
-// The numbers of these names, where no entry is wrong.
+// The numbers of these names.
 fn numbers(
     alloc: Global,
-    found: Result<Numbering<'static>, usize>,
+    found: &Numbered<'static>,
     names: &[&'static str],
 ) -> Result<Vec<Option<i64>>, Fail> {
     let mut numbers = Vec::new(alloc);
-    if let Ok(numbering) = found {
-        for name in names {
-            numbers.push(numbering.number(name))?;
-        }
+    for name in names {
+        numbers.push(found.numbering.number(name))?;
     }
     Ok(numbers)
 }
@@ -216,59 +196,61 @@ fn values_of_enumerations(rt: HostRuntime) -> Result<(), Fail> {
     let entries = [named("zero"), named("one"), stated("seven", 7)];
     let found = numbered(alloc, Kind::Enumeration, &entries)?;
     let wanted = [Some(0), Some(1), Some(7), None];
-    let given = numbers(alloc, found, &["zero", "one", "seven", "two"])?;
+    let given = numbers(alloc, &found, &["zero", "one", "seven", "two"])?;
     assert_eq!(rt; given.as_slice(), wanted.as_slice());
+    assert_eq!(rt; found.first_wrong, None);
     let entries = [stated("a", 5), stated("b", -3), named("c")];
     let found = numbered(alloc, Kind::Enumeration, &entries)?;
-    let given = numbers(alloc, found, &["c"])?;
+    let given = numbers(alloc, &found, &["c"])?;
     assert_eq!(rt; given.as_slice(), [Some(6)].as_slice());
     Ok(())
 }
 
-// The place of the wrong entry.
-fn wrong_at(found: Result<Numbering<'_>, usize>) -> Option<usize> {
-    match found {
-        Ok(_) => None,
-        Err(at) => Some(at),
-    }
+// The place of the first wrong entry.
+fn wrong_at(alloc: Global, kind: Kind, entries: &[Listed<'static>]) -> Result<Option<usize>, Fail> {
+    Ok(numbered(alloc, kind, entries)?.first_wrong)
 }
 
 #[test]
 fn entries_that_are_wrong(rt: HostRuntime) -> Result<(), Fail> {
     let alloc = rt.alloc();
     let whole = Kind::Enumeration;
-    assert_eq!(rt;
-        wrong_at(numbered(alloc, whole, &[stated("a", 2147483647), named("b")])?),
-        Some(1)
-    );
-    assert_eq!(rt;
-        wrong_at(numbered(alloc, whole, &[stated("a", 2147483646), named("b")])?),
-        None
-    );
-    assert_eq!(rt;
-        wrong_at(numbered(alloc, whole, &[stated("a", -2147483649)])?),
-        Some(0)
-    );
-    assert_eq!(rt;
-        wrong_at(numbered(alloc, whole, &[named("a"), named("b"), named("a")])?),
-        Some(2)
-    );
-    assert_eq!(rt;
-        wrong_at(numbered(alloc, whole, &[named("a"), stated("b", 0)])?),
-        Some(1)
-    );
-    assert_eq!(rt;
-        wrong_at(numbered(alloc, Kind::Bits, &[stated("a", 4294967295)])?),
-        None
-    );
-    assert_eq!(rt;
-        wrong_at(numbered(alloc, Kind::Bits, &[stated("a", 4294967295), named("b")])?),
-        Some(1)
-    );
-    assert_eq!(rt;
-        wrong_at(numbered(alloc, Kind::Bits, &[stated("a", -1)])?),
-        Some(0)
-    );
+    let last = [stated("a", 2147483647), named("b")];
+    assert_eq!(rt; wrong_at(alloc, whole, &last)?, Some(1));
+    let last = [stated("a", 2147483646), named("b")];
+    assert_eq!(rt; wrong_at(alloc, whole, &last)?, None);
+    let low = [stated("a", -2147483649)];
+    assert_eq!(rt; wrong_at(alloc, whole, &low)?, Some(0));
+    let twice = [named("a"), named("b"), named("a")];
+    assert_eq!(rt; wrong_at(alloc, whole, &twice)?, Some(2));
+    let taken = [named("a"), stated("b", 0)];
+    assert_eq!(rt; wrong_at(alloc, whole, &taken)?, Some(1));
+    let last = [stated("a", 4294967295)];
+    assert_eq!(rt; wrong_at(alloc, Kind::Bits, &last)?, None);
+    let past = [stated("a", 4294967295), named("b")];
+    assert_eq!(rt; wrong_at(alloc, Kind::Bits, &past)?, Some(1));
+    let below = [stated("a", -1)];
+    assert_eq!(rt; wrong_at(alloc, Kind::Bits, &below)?, Some(0));
+    Ok(())
+}
+
+// The right entries are numbered as if no wrong one stood among them.
+#[test]
+fn wrong_entries_are_left_out(rt: HostRuntime) -> Result<(), Fail> {
+    let alloc = rt.alloc();
+    let entries = [
+        named("a"),
+        stated("a", 9),
+        stated("b", 2147483648),
+        named("c"),
+        stated("d", 1),
+        named("e"),
+    ];
+    let found = numbered(alloc, Kind::Enumeration, &entries)?;
+    assert_eq!(rt; found.first_wrong, Some(1));
+    let given = numbers(alloc, &found, &["a", "b", "c", "d", "e"])?;
+    let wanted = [Some(0), None, Some(1), None, Some(2)];
+    assert_eq!(rt; given.as_slice(), wanted.as_slice());
     Ok(())
 }
 
@@ -277,24 +259,19 @@ fn entries_that_are_wrong(rt: HostRuntime) -> Result<(), Fail> {
 fn derived_enumerations(rt: HostRuntime) -> Result<(), Fail> {
     let alloc = rt.alloc();
     let entries = [named("unbounded"), stated("zero", 4), named("one")];
-    if let Ok(base) = numbered(alloc, Kind::Enumeration, &entries)? {
-        let found = base.derived(alloc, &[named("one"), stated("unbounded", 0)])?;
-        let given = numbers(alloc, found, &["unbounded", "zero", "one"])?;
-        assert_eq!(rt; given.as_slice(), [Some(0), None, Some(5)].as_slice());
-        assert_eq!(rt;
-            wrong_at(base.derived(alloc, &[named("one"), named("two")])?),
-            Some(1)
-        );
-        assert_eq!(rt;
-            wrong_at(base.derived(alloc, &[stated("one", 1)])?),
-            Some(0)
-        );
-        assert_eq!(rt;
-            wrong_at(base.derived(alloc, &[named("one"), named("one")])?),
-            Some(1)
-        );
-        return Ok(());
-    }
-    assert!(rt; false);
+    let base = numbered(alloc, Kind::Enumeration, &entries)?.numbering;
+    let found = base.derived(alloc, &[named("one"), stated("unbounded", 0)])?;
+    let given = numbers(alloc, &found, &["unbounded", "zero", "one"])?;
+    assert_eq!(rt; given.as_slice(), [Some(0), None, Some(5)].as_slice());
+    assert_eq!(rt; found.first_wrong, None);
+    let entries = [named("one"), named("two"), named("one"), named("zero")];
+    let found = base.derived(alloc, &entries)?;
+    assert_eq!(rt; found.first_wrong, Some(1));
+    let given = numbers(alloc, &found, &["zero", "one", "two"])?;
+    assert_eq!(rt; given.as_slice(), [Some(4), Some(5), None].as_slice());
+    let found = base.derived(alloc, &[stated("one", 1)])?;
+    assert_eq!(rt; found.first_wrong, Some(0));
+    let found = base.derived(alloc, &[named("one"), named("one")])?;
+    assert_eq!(rt; found.first_wrong, Some(1));
     Ok(())
 }

@@ -1,8 +1,6 @@
 pub mod Ascending
 pub mod Chosen
 pub mod Found
-pub mod Grown
-pub mod Halves
 pub mod Keys
 pub mod Mapped
 pub mod Order

@@ -3,8 +3,6 @@ pub mod Identities
 pub mod InnerBits
 pub mod InnerNames
 pub mod InnerPlaces
-pub mod InnerSpans
-pub mod Numbers
 pub mod Pairs
 pub mod Reads
 pub mod Scopes

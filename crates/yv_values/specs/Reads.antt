@@ -4,20 +4,20 @@ use Rattle.base64.specs.Engines.{standard}
 use Rattle.base64.specs.GeneralPurpose.{decode_of}
 use Rattle.serde_json.specs.Data.{Data, boolean as truth, number, string, array, Items, item, no_items}
 use Rattle.serde_json.specs.Find.{as_integer, as_null}
-use Rattle.yv_values.specs.declared.plain.Span.{Span}
-use Rattle.yv_values.specs.Numbers.{are_among, integer_of, scaled_of}
+use Rattle.yv_numbers.specs.Intervals.{Interval, are_among}
+use Rattle.yv_numbers.specs.Numbers.{integer_of, scaled_of}
 use Rattle.yv_values.specs.Texts.{text_in, name_in, bits_in, binary_in, identity_at}
 use Rattle.yv_values.specs.Types.{Plain, wholes, decimals, strings, booleans, names, flags, octets, identities, empties}
 use Rattle.yv_values.specs.Values.{Val, whole, decimal, boolean, empty}
 
-abbrev pub whole_in : List Span → ℤ → Option Val
+abbrev pub whole_in : List Interval → ℤ → Option Val
 whole_in spans z = if are_among spans z then Some (whole z) else None
 
-abbrev pub decimal_in : ℕ → List Span → ℤ → Option Val
+abbrev pub decimal_in : ℕ → List Interval → ℤ → Option Val
 decimal_in digits spans z = if are_among spans z then Some (decimal digits z) else None
 
 -- numbers of 64 bits are texts, the others numbers that aren't floats
-abbrev pub whole_from : Bool → List Span → Data → Option Val
+abbrev pub whole_from : Bool → List Interval → Data → Option Val
 whole_from true spans (string s) = option_and_then (whole_in spans) (integer_of s)
 whole_from false spans (number n) = option_and_then (whole_in spans) (as_integer n)
 whole_from _ spans _ = None

@@ -5,7 +5,7 @@ use Rattle.base64.specs.Engines.{standard}
 use Rattle.base64.specs.GeneralPurpose.{decode_of}
 use Rattle.std.specs.declared.alloc.Global.{Global}
 use Rattle.yv_values.specs.declared.scope.Scope.{Scope}
-use Rattle.yv_values.specs.Numbers.{based_integer_of, scaled_of}
+use Rattle.yv_numbers.specs.Numbers.{based_integer_of, scaled_of}
 use Rattle.yv_values.specs.Reads.{whole_in, decimal_in}
 use Rattle.yv_values.specs.Texts.{text_in, name_in, bits_in, binary_in, identity_in}
 use Rattle.yv_values.specs.Types.{Plain, wholes, decimals, strings, booleans, names, flags, octets, identities, empties, Id}

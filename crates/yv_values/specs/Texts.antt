@@ -1,26 +1,26 @@
 -- The values of texts: strings, names, sets of bits, octets and identities.
-use Rattle.std.specs.Prelude.{◌≡◌, ℕ, ◌+◌, ◌-◌, nat_lt, nat_le, List, [], ◌∷◌, take, drop, length, slice_index, Bool, true, not, ◌&&◌, ◌==◌, Option, Some, None, Result, Ok, Err, if◌then◌else◌}
-use Rattle.std.specs.List.{list_any, list_all, filter, slice_split}
+use Rattle.std.specs.Prelude.{◌≡◌, ℕ, ◌+◌, ◌-◌, nat_lt, List, [], ◌∷◌, take, drop, length, slice_index, Bool, true, not, pos, ◌&&◌, ◌==◌, Option, Some, None, Result, Ok, Err, if◌then◌else◌}
+use Rattle.std.specs.List.{list_all, filter, slice_split}
 use Rattle.std.specs.Str.{chars}
 use Rattle.base64.specs.declared.decode.DecodeError.{DecodeError}
 use Rattle.yv_statement.specs.Legal.{all_legal}
 use Rattle.yv_pattern.specs.Meaning.{verdict}
-use Rattle.yv_values.specs.declared.plain.Lengths.{Lengths}
+use Rattle.yv_numbers.specs.Intervals.{Interval, are_among}
 pub use Rattle.yv_values.specs.Identities.{is_identity, identity_in}
 pub use Rattle.yv_values.specs.Sorted.{is_named}
 use Rattle.yv_values.specs.Types.{Test, Id}
 use Rattle.yv_values.specs.Values.{Val, text, name, bits, binary}
 
 -- the length lies in one of the intervals, ends included
-abbrev pub is_length : List Lengths → ℕ → Bool
-is_length lengths n = list_any (λ l. nat_le l.low n && nat_le n l.high) lengths
+abbrev pub is_length : List Interval → ℕ → Bool
+is_length lengths n = are_among lengths (pos n)
 
 -- the pattern matches the text, or doesn't where it is inverted
 abbrev pub passes : List ℕ → Test → Bool
 passes s t = if t.inverted then not (verdict t.source s) else verdict t.source s
 
 -- a string of legal characters, of so many, that passes every pattern (RFC 7950, section 9.4)
-abbrev pub text_in : List Lengths → List Test → List ℕ → Option Val
+abbrev pub text_in : List Interval → List Test → List ℕ → Option Val
 text_in lengths tests s =
     if is_length lengths (length (chars s)) && (all_legal (chars s) && list_all (passes s) tests)
     then Some (text s) else None
@@ -30,7 +30,7 @@ abbrev pub name_in : List (List ℕ) → List ℕ → Option Val
 name_in names s = if is_named names s then Some (name s) else None
 
 -- so many octets, in base64 (section 9.8)
-abbrev pub binary_in : List Lengths → Result (List ℕ) DecodeError → Option Val
+abbrev pub binary_in : List Interval → Result (List ℕ) DecodeError → Option Val
 binary_in lengths (Ok octets) = if is_length lengths (length octets) then Some (binary octets) else None
 binary_in lengths (Err e) = None
 

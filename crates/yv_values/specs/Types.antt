@@ -1,8 +1,7 @@
 -- Plain types as data: what is left of a type when typedefs, unions and leafrefs are followed.
 use Rattle.std.specs.Prelude.{ℕ, List, Bool, map}
 use Rattle.std.specs.Rc.{rc_slice_items}
-use Rattle.yv_values.specs.declared.plain.Span.{Span}
-use Rattle.yv_values.specs.declared.plain.Lengths.{Lengths}
+use Rattle.yv_numbers.specs.Intervals.{Interval}
 use Rattle.yv_values.specs.declared.plain.PatternTest.{PatternTest}
 use Rattle.yv_values.specs.declared.plain.PlainType.{PlainType}
 use Rattle.yv_values.specs.declared.plain.PlainType.TheVariants.{Whole, Decimal, Text, Boolean, Enumeration, Bits, Binary, Identity, Empty}
@@ -17,13 +16,13 @@ pub record Test : Type 0 where
 -- scaled number; texts by lengths and patterns; the truth values; the names of an enumeration; the bits' names;
 -- octets by lengths; identities; the one value of empty.
 pub data Plain : Type 0 where
-  wholes : Bool → List Span → Plain
-  decimals : ℕ → List Span → Plain
-  strings : List Lengths → List Test → Plain
+  wholes : Bool → List Interval → Plain
+  decimals : ℕ → List Interval → Plain
+  strings : List Interval → List Test → Plain
   booleans : Plain
   names : List (List ℕ) → Plain
   flags : List (List ℕ) → Plain
-  octets : List Lengths → Plain
+  octets : List Interval → Plain
   identities : List Id → Plain
   empties : Plain
 

@@ -1,8 +1,7 @@
 -- What a value is (RFC 7950, section 9): its kind and content. Two values are the same where they are one of these.
-use Rattle.std.specs.Prelude.{ℕ, ℤ, pos, negsuc, List, Bool, String, string_bytes, map}
+use Rattle.std.specs.Prelude.{ℕ, ℤ, List, Bool, String, string_bytes, map}
 use Rattle.std.specs.declared.alloc.Global.{Global}
-use Rattle.yv_values.specs.declared.plain.Integer.{Integer}
-use Rattle.yv_values.specs.declared.plain.Integer.TheVariants.{Natural, Below}
+use Rattle.yv_numbers.specs.Numbers.{integer}
 use Rattle.yv_values.specs.declared.value.Atom.{Atom}
 use Rattle.yv_values.specs.declared.value.Atom.TheVariants as atom
 
@@ -18,11 +17,6 @@ pub data Val : Type 0 where
   binary : List ℕ → Val
   identity : List ℕ → List ℕ → Val
   empty : Val
-
--- the number that the program writes as a natural one, or as one below zero
-abbrev pub integer : Integer → ℤ
-integer (Natural n) = pos n
-integer (Below n) = negsuc n
 
 -- the bytes of each text
 abbrev pub texts : List (String Global) → List (List ℕ)

@@ -4,22 +4,24 @@ ghost use Rattle.base64.specs.Engines.{standard};
 ghost use Rattle.base64.specs.GeneralPurpose.{decode_of};
 ghost use Rattle.yv_values.specs.Texts.{binary_in};
 
-use crate::lengths::LengthList;
 use crate::value::Value;
 use base64::DecodeAllocError;
 use base64::engine::general_purpose::STANDARD;
 use std::alloc::{AllocError, Global};
+use yv_numbers::{Integer, Intervals};
 
 /// The octets that the text writes in padded standard base64, where there are so many.
 pub fn binary_in(
     alloc: Global,
-    lengths: &LengthList,
+    lengths: &Intervals,
     text: &str,
 ) -> Result<Option<Value>, AllocError>
     ensures { IfOk result (λ found. found ≡ binary_in lengths.now (decode_of standard text.now)) }
 {
     match STANDARD.decode(alloc, text.as_bytes()) {
-        Ok(octets) if lengths.has(octets.len() as u64) => Ok(Some(Value::binary(octets))),
+        Ok(octets) if lengths.holds(Integer::Natural(octets.len() as u64)) => {
+            Ok(Some(Value::binary(octets)))
+        }
         Ok(_) => Ok(None),
         Err(DecodeAllocError::OutOfMemory) => Err(AllocError),
         Err(_) => Ok(None),

@@ -1,13 +1,11 @@
 //! Values of decimal64 types.
-ghost use Rattle.std.specs.Prelude.{◌≡◌, ◌≤◌, ◌*◌, ◌^◌, ◌==◌, ◌++◌, true, option_map, option_and_then, position};
-ghost use Rattle.std.specs.List.{list_all};
-ghost use Rattle.yv_values.specs.Values.{integer};
-ghost use Rattle.yv_values.specs.Numbers.{value_after, limited, is_digit, scaled, around_point, magnitude_of, scaled_of};
+ghost use Rattle.std.specs.Prelude.{◌≡◌, option_map, option_and_then};
+ghost use Rattle.yv_numbers.specs.Numbers.{integer, scaled_of};
 ghost use Rattle.yv_values.specs.Reads.{decimal_in};
 
-use crate::number::{are_digits, digits, is_negative, is_numeral, signed, without_sign};
-use crate::plain::{DecimalType, Integer};
+use crate::plain::DecimalType;
 use crate::value::Value;
+use yv_numbers::{Integer, scaled_of};
 
 /// The decimal that the text writes, where the type has it.
 pub fn decimal_in(plain: &DecimalType, text: &[u8]) -> Option<Value>
@@ -24,87 +22,7 @@ fn decimal_among(plain: &DecimalType, number: Option<Integer>) -> Option<Value>
         (option_map integer number) }
 {
     match number {
-        Some(number) if plain.spans.has(number) => { Some(Value::decimal(plain.digits, number)) }
+        Some(number) if plain.spans.holds(number) => { Some(Value::decimal(plain.digits, number)) }
         _ => None,
     }
-}
-
-// The number of a decimal text, scaled by so many places.
-#[tactic(auto, unfolding(crate::specs::Numbers::scaled_of))]
-fn scaled_of(places: u32, text: &[u8]) -> Option<Integer>
-    ensures { option_map integer result ≡ scaled_of places text.now }
-{
-    match magnitude(places, without_sign(text)) {
-        Some(number) => Some(signed(is_negative(text), number)),
-        None => None,
-    }
-}
-
-#[tactic(auto, unfolding(crate::specs::Numbers::magnitude_of))]
-fn magnitude(places: u32, text: &[u8]) -> Option<u64>
-    ensures { result ≡ magnitude_of places text.now }
-{
-    around_point(places, text, point(text))
-}
-
-fn point(text: &[u8]) -> Option<usize>
-    ensures { result ≡ position (λ b. b == 46) text.now }
-{
-    text.iter().position(|byte| *byte == b'.')
-}
-
-fn around_point(places: u32, text: &[u8], point: Option<usize>) -> Option<u64>
-    requires { point ≡ position (λ b. b == 46) text.now }
-    ensures { result ≡ around_point places text.now point }
-{
-    match point {
-        None => scaled(places, text, &[]),
-        Some(at) => {
-            let fraction = &text[at + 1..];
-            if fraction.is_empty() {
-                None
-            } else {
-                scaled(places, &text[..at], fraction)
-            }
-        }
-    }
-}
-
-#[tactic(auto, unfolding(crate::specs::Numbers::scaled))]
-fn scaled(places: u32, whole: &[u8], fraction: &[u8]) -> Option<u64>
-    ensures { result ≡ scaled places whole.now fraction.now }
-{
-    let shown = fraction.len().min(places as usize);
-    let digits = &fraction[..shown];
-    if is_numeral(10, whole) && are_digits(10, digits) && are_zeros(&fraction[shown..]) {
-        written(whole, digits, places as usize - shown)
-    } else {
-        None
-    }
-}
-
-fn are_zeros(text: &[u8]) -> bool
-    ensures { result ≡ list_all (λ b. b == 48) text.now }
-{
-    text.iter().all(|byte| *byte == b'0')
-}
-
-// The digits of both, and so many zeros.
-fn written(whole: &[u8], fraction: &[u8], zeros: usize) -> Option<u64>
-    ensures { result ≡ limited (value_after 10 0 (whole.now ++ fraction.now) * 10 ^ zeros) }
-{
-    let number = digits(10, 0, whole)?;
-    let longer = digits(10, number, fraction)?;
-    with_zeros(longer, zeros)
-}
-
-// The number with so many zeros behind.
-fn with_zeros(from: u64, count: usize) -> Option<u64>
-    ensures { result ≡ limited (from * 10 ^ count) }
-{
-    let mut number = from;
-    for _place in 0..count {
-        number = number.checked_mul(10)?;
-    }
-    Some(number)
 }

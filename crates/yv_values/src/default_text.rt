@@ -9,13 +9,13 @@ use crate::decimal::decimal_in;
 use crate::identity::{colon, identity_in};
 use crate::members::Members;
 use crate::name::name_in;
-use crate::number::based_integer_of;
 use crate::plain::PlainType;
 use crate::scope::{Scope, module_of};
 use crate::text::text_in;
 use crate::value::Value;
 use crate::whole::whole_among;
 use std::alloc::{AllocError, Global};
+use yv_numbers::based_integer_of;
 
 /// The value of a `default` statement's text, where the type has one. The scope is that of the file in which it is
 /// written. Whole numbers may be hexadecimal or octal (RFC 7950, section 9.2.1).

@@ -2,48 +2,26 @@
 ghost use Rattle.std.specs.Prelude.{◌≡◌, IfOk};
 ghost use Rattle.yv_values.specs.Types.{plain_of};
 
-use crate::lengths::LengthList;
 use crate::members::Members;
 use crate::names::Names;
-use crate::spans::SpanList;
 use std::alloc::AllocError;
 use std::rc::{Rc, RcSlice};
+use yv_numbers::Intervals;
 use yv_pattern::Pattern;
-
-/// A whole number of at most 64 bits besides its sign: `Natural(n)` is n, and `Below(n)` is -1 - n.
-#[derive(Clone, Copy, PartialEq, Eq, PartialOrd, Ord, Drop)]
-pub enum Integer {
-    Natural(u64),
-    Below(u64),
-}
-
-/// The numbers from the low one to the high one, both included.
-#[derive(Clone, Copy, Drop)]
-pub struct Span {
-    pub low: Integer,
-    pub high: Integer,
-}
 
 /// A type of whole numbers: whether JSON writes them as texts, as it does those of 64 bits (RFC 7951, section
 /// 6.1), and the intervals of its range.
 #[derive(Drop)]
 pub struct WholeType {
     pub is_text: bool,
-    pub spans: SpanList,
+    pub spans: Intervals,
 }
 
 /// A decimal64: the digits behind the point, and the intervals of the number scaled by them.
 #[derive(Drop)]
 pub struct DecimalType {
     pub digits: u32,
-    pub spans: SpanList,
-}
-
-/// The lengths from the low one to the high one, both included: characters of a string, octets of a binary.
-#[derive(Clone, Copy, Drop)]
-pub struct Lengths {
-    pub low: u64,
-    pub high: u64,
+    pub spans: Intervals,
 }
 
 /// A pattern that a string is to match, or not to match where it is inverted (`invert-match`).
@@ -53,10 +31,10 @@ pub struct PatternTest {
     pub is_inverted: bool,
 }
 
-/// A string type: its lengths, and its patterns, all of which must pass.
+/// A string type: the intervals of its lengths in characters, and its patterns, all of which must pass.
 #[derive(Drop)]
 pub struct TextType {
-    pub lengths: LengthList,
+    pub lengths: Intervals,
     pub patterns: RcSlice<PatternTest>,
 }
 
@@ -71,7 +49,8 @@ pub enum PlainType {
     /// The names that are values; one whose `if-feature` is false is not among them.
     Enumeration(Names),
     Bits(Names),
-    Binary(LengthList),
+    /// The intervals of the lengths in octets.
+    Binary(Intervals),
     /// The identities that are values.
     Identity(Members),
     Empty,

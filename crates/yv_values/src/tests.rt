@@ -44,12 +44,23 @@ fn span(low: Integer, high: Integer) -> Span {
     Span { low, high }
 }
 
-fn spans(alloc: Global, low: Integer, high: Integer) -> Result<SpanList, AllocError> {
-    SpanList::new(vec![in alloc; Span { low, high }]?)
+fn intervals(spans: Vec<Span>) -> Result<Intervals, Fail> {
+    match Intervals::new(spans)? {
+        Some(intervals) => Ok(intervals),
+        None => Err(Fail::new("intervals in no order")),
+    }
 }
 
-fn lengths(alloc: Global, low: u64, high: u64) -> Result<LengthList, AllocError> {
-    LengthList::new(vec![in alloc; Lengths { low, high }]?)
+fn spans(alloc: Global, low: Integer, high: Integer) -> Result<Intervals, Fail> {
+    intervals(vec![in alloc; Span { low, high }]?)
+}
+
+fn length(low: u64, high: u64) -> Span {
+    span(Integer::Natural(low), Integer::Natural(high))
+}
+
+fn lengths(alloc: Global, low: u64, high: u64) -> Result<Intervals, Fail> {
+    intervals(vec![in alloc; length(low, high)]?)
 }
 
 fn string(
@@ -57,7 +68,7 @@ fn string(
     low: u64,
     high: u64,
     patterns: Vec<PatternTest>,
-) -> Result<PlainType, AllocError> {
+) -> Result<PlainType, Fail> {
     let patterns = RcSlice::from_vec(patterns)?;
     Ok(PlainType::Text(TextType {
         lengths: lengths(alloc, low, high)?,
@@ -70,12 +81,12 @@ fn whole(
     is_text: bool,
     low: Integer,
     high: Integer,
-) -> Result<Vec<PlainType>, AllocError> {
+) -> Result<Vec<PlainType>, Fail> {
     let spans = spans(alloc, low, high)?;
     Ok(vec![in alloc; PlainType::Whole(WholeType { is_text, spans })]?)
 }
 
-fn decimal(alloc: Global, digits: u32) -> Result<Vec<PlainType>, AllocError> {
+fn decimal(alloc: Global, digits: u32) -> Result<Vec<PlainType>, Fail> {
     let most = 9223372036854775807;
     let spans = spans(alloc, Integer::Below(most), Integer::Natural(most))?;
     Ok(vec![in alloc; PlainType::Decimal(DecimalType { digits, spans })]?)
@@ -157,29 +168,27 @@ fn several_intervals(rt: HostRuntime) -> Result<(), Fail> {
     let alloc = rt.alloc();
     let low = span(Integer::Natural(1), Integer::Natural(4));
     let high = span(Integer::Natural(10), Integer::Natural(20));
-    for spans in [vec![in alloc; low, high]?, vec![in alloc; high, low]?] {
-        let spans = SpanList::new(spans)?;
-        let types = vec![in alloc;
-            PlainType::Whole(WholeType {
-                is_text: false,
-                spans
-            }),
-        ]?;
-        for (json, is_read) in [
-            ("-1", false),
-            ("0", false),
-            ("1", true),
-            ("4", true),
-            ("5", false),
-            ("9", false),
-            ("10", true),
-            ("20", true),
-            ("21", false),
-        ] {
-            assert_eq!(rt; reads(alloc, &types, json)?, is_read, "{json}");
-        }
+    let spans = intervals(vec![in alloc; low, high]?)?;
+    let types = vec![in alloc;
+        PlainType::Whole(WholeType {
+            is_text: false,
+            spans
+        }),
+    ]?;
+    for (json, is_read) in [
+        ("-1", false),
+        ("0", false),
+        ("1", true),
+        ("4", true),
+        ("5", false),
+        ("9", false),
+        ("10", true),
+        ("20", true),
+        ("21", false),
+    ] {
+        assert_eq!(rt; reads(alloc, &types, json)?, is_read, "{json}");
     }
-    let spans = SpanList::new(vec![in alloc;
+    let spans = intervals(vec![in alloc;
         span(Integer::Natural(100), Integer::Natural(314)),
         span(Integer::Natural(1000), Integer::Natural(1000)),
         span(
@@ -340,27 +349,24 @@ fn row_of(alloc: Global, count: u32) -> Result<String, AllocError> {
 #[test]
 fn several_lengths(rt: HostRuntime) -> Result<(), Fail> {
     let alloc = rt.alloc();
-    let short = Lengths { low: 11, high: 11 };
-    let long = Lengths { low: 42, high: 255 };
-    for list in [vec![in alloc; short, long]?, vec![in alloc; long, short]?] {
-        let text = TextType {
-            lengths: LengthList::new(list)?,
-            patterns: RcSlice::from_vec(Vec::new(alloc))?,
-        };
-        let types = vec![in alloc; PlainType::Text(text)]?;
-        for (count, is_read) in [
-            (0, false),
-            (10, false),
-            (11, true),
-            (12, false),
-            (41, false),
-            (42, true),
-            (255, true),
-            (256, false),
-        ] {
-            let json = row_of(alloc, count)?;
-            assert_eq!(rt; reads(alloc, &types, json.as_str())?, is_read, "{count}");
-        }
+    let list = vec![in alloc; length(11, 11), length(42, 255)]?;
+    let text = TextType {
+        lengths: intervals(list)?,
+        patterns: RcSlice::from_vec(Vec::new(alloc))?,
+    };
+    let types = vec![in alloc; PlainType::Text(text)]?;
+    for (count, is_read) in [
+        (0, false),
+        (10, false),
+        (11, true),
+        (12, false),
+        (41, false),
+        (42, true),
+        (255, true),
+        (256, false),
+    ] {
+        let json = row_of(alloc, count)?;
+        assert_eq!(rt; reads(alloc, &types, json.as_str())?, is_read, "{count}");
     }
     Ok(())
 }

@@ -10,6 +10,7 @@ ghost use Rattle.yv_values.specs.Types.{test_of};
 use crate::plain::{PatternTest, TextType};
 use crate::value::Value;
 use std::alloc::{AllocError, Global};
+use yv_numbers::Integer;
 use yv_statement::is_legal_text;
 
 /// The text, where it is a value of the type.
@@ -17,7 +18,7 @@ pub fn text_in(alloc: Global, plain: &TextType, text: &str) -> Result<Option<Val
     ensures { IfOk result (λ found. found ≡ text_in plain.now.lengths
         (map test_of (rc_slice_items plain.now.patterns)) text.now) }
 {
-    if plain.lengths.has(character_count(text))
+    if plain.lengths.holds(Integer::Natural(character_count(text)))
         && is_legal_text(text)
         && passes_all(alloc, &plain.patterns, text)?
     {

@@ -1,9 +1,9 @@
 //! Values, and tuples of them.
 ghost use Rattle.std.specs.Prelude.{◌≡◌, [], ◌∷◌, ◌++◌, IfOk, is_ok, IsTrue, ◌↔◌, if◌then◌else◌};
 
-use crate::plain::Integer;
 use std::alloc::{AllocError, Global};
 use std::marker::Model;
+use yv_numbers::Integer;
 
 /// What a value holds. Its order serves to find keys again, and means nothing besides.
 #[derive(PartialEq, Eq, PartialOrd, Ord, Drop)]
@@ -34,7 +34,8 @@ impl Model for Value {
 }
 
 impl Value {
-    ghost use Rattle.yv_values.specs.Values.{whole, decimal, boolean, name, bits, binary, identity, empty, integer};
+    ghost use Rattle.yv_numbers.specs.Numbers.{integer};
+    ghost use Rattle.yv_values.specs.Values.{whole, decimal, boolean, name, bits, binary, identity, empty};
     ghost use Rattle.yv_values.specs.Values as spec;
     ghost use Rattle.std.specs.Prelude.{string_bytes};
 

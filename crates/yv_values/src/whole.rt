@@ -2,13 +2,13 @@
 ghost use Rattle.std.specs.Prelude.{◌≡◌, option_map, option_and_then};
 ghost use Rattle.serde_json.specs.View.{view, number_view};
 ghost use Rattle.serde_json.specs.Find.{as_integer};
-ghost use Rattle.yv_values.specs.Values.{integer};
+ghost use Rattle.yv_numbers.specs.Numbers.{integer};
 ghost use Rattle.yv_values.specs.Reads.{whole_in, whole_from};
 
-use crate::number::integer_of;
-use crate::plain::{Integer, WholeType};
+use crate::plain::WholeType;
 use crate::value::Value;
 use serde_json::{Number, Value as Json};
+use yv_numbers::{Integer, integer_of};
 
 /// The whole number of a JSON number, or of a text where the type is of 64 bits.
 pub fn whole_of(plain: &WholeType, json: &Json) -> Option<Value>
@@ -32,7 +32,7 @@ pub fn whole_among(plain: &WholeType, number: Option<Integer>) -> Option<Value>
     ensures { result ≡ option_and_then (whole_in plain.now.spans) (option_map integer number) }
 {
     match number {
-        Some(number) if plain.spans.has(number) => Some(Value::whole(number)),
+        Some(number) if plain.spans.holds(number) => Some(Value::whole(number)),
         _ => None,
     }
 }

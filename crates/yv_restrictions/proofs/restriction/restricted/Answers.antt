@@ -1,6 +1,6 @@
 use Rattle.std.proofs.Common.{◌∙◌, List, ℕ, Bor, Vec, map, option_map, sym, ap}
 use Rattle.std.specs.declared.alloc.Global.{Global}
-use Rattle.yv_values.specs.declared.plain.Span.{Span}
+use Rattle.yv_numbers.specs.declared.intervals.Span.{Span}
 use Rattle.yv_restrictions.specs.InnerParts.{all_of}
 use Rattle.yv_restrictions.specs.Intervals.{Interval, interval}
 use Rattle.yv_restrictions.specs.Restrictions.{part_of}

@@ -1,15 +1,17 @@
+use Rattle.std.proofs.Common.{◌+◌, sym, subst}
 use Rattle.std.proofs.lemmas.Option.{slice_get-get_or}
-use Rattle.yv_restrictions.specs.Numberings.{numbered, is_wrong}
-use Rattle.yv_restrictions.proofs.First.{none_at_all, numbered_step}
+use Rattle.yv_restrictions.specs.InnerSeen.{Keeps, IsLeastBelow}
+use Rattle.yv_restrictions.specs.Numberings.{IsWrongAt, numbered, is_wrong, pair_of}
+use Rattle.yv_restrictions.proofs.First.{first_of_all, entry_step}
 use Rattle.yv_restrictions.proofs.seen.numbered.Goals as goal
 
 pub loop-at-preserved : goal.loop-at-preserved
 loop-at-preserved c =
-    let more = numbered_step c.args.kind c.loop-at.seen c.add.new.self c.args.entries.now c.loop-at.at _ c.in_ok-add.field-0 (slice_get-get_or c.args.entries.now c.loop-at.at _ c.loop-at-test.true) c.in_ok-add.ensures c.if-not-branch.false c.loop-at.invariant.keeps c.loop-at.invariant.none in
+    let more = entry_step (is_wrong c.args.kind) pair_of Keeps c.loop-at.seen c.add.new.self c.args.entries.now c.loop-at.at _ c.loop-at.first_wrong _ (slice_get-get_or c.args.entries.now c.loop-at.at _ c.loop-at-test.true) c.in_ok-is_right.ensures c.loop-at.invariant.keeps c.loop-at.invariant.least in
     record {
       keeps = more.0;
-      none = more.1;
+      least = subst (IsLeastBelow (IsWrongAt (numbered c.args.kind) (is_wrong c.args.kind) c.args.entries.now) (c.loop-at.at + 1)) (sym c.first_with-first_wrong.ensures) more.1;
     }
 
-pub returns-clause-right : goal.returns-clause-right
-returns-clause-right c = none_at_all numbered (is_wrong c.args.kind) c.args.entries.now c.loop-at.at c.loop-at-test.false c.loop-at.invariant.none
+pub returns-clause-wrong : goal.returns-clause-wrong
+returns-clause-wrong c = first_of_all (numbered c.args.kind) (is_wrong c.args.kind) c.args.entries.now c.loop-at.at c.loop-at.first_wrong c.loop-at-test.false c.loop-at.invariant.least

@@ -1,10 +1,10 @@
-use Rattle.std.proofs.Common.{ℕ, ◌<◌, take}
-use Rattle.yv_restrictions.specs.InnerSeen.{Keeps}
+use Rattle.std.proofs.Common.{take}
+use Rattle.yv_restrictions.specs.InnerSeen.{Keeps, IsLeastBelow}
 use Rattle.yv_restrictions.specs.Numberings.{numbered, is_wrong, IsWrongAt}
 use Rattle.yv_restrictions.proofs.seen.numbered.Given as goal
 
 abbrev pub invariant-loop-at : goal.invariant-loop-at
 invariant-loop-at l = record {
-  keeps : Keeps l.seen (numbered (take l.at l.entries));
-  none : (k : ℕ) → k < l.at → IsWrongAt numbered (is_wrong l.kind) l.entries k → ⊥;
+  keeps : Keeps l.seen (numbered l.kind (take l.at l.entries));
+  least : IsLeastBelow (IsWrongAt (numbered l.kind) (is_wrong l.kind) l.entries) l.at l.first_wrong;
 }

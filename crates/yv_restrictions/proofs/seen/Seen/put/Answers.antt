@@ -1,5 +1,5 @@
-use Rattle.std.proofs.Common.{◌∙◌, ◌&&◌, ◌||◌, ap, subst, Bool, Some, ℤ, rules}
-use Rattle.std.specs.Prelude.{is_some}
+use Rattle.std.proofs.Common.{◌∙◌, sym, ap, subst, true, Some, ℤ, rules}
+use Rattle.std.specs.Prelude.{◌||◌, is_some}
 use Rattle.std.proofs.lemmas.Int.{to_z-of_z}
 use mir.Syntax.{w64}
 use mir.Val.{SFits, to_z, of_z}
@@ -9,14 +9,12 @@ use Rattle.yv_restrictions.specs.declared.seen.Seen.{Seen}
 use Rattle.yv_restrictions.proofs.Pairs.{put_adds}
 use Rattle.yv_restrictions.proofs.seen.Seen.put.Goals as goal
 
-pub returns-then-is_new : goal.returns-then-is_new
-returns-then-is_new c =
-    let same = to_z-of_z w64 c.args.number c.ranges.number in
+pub returns : goal.returns
+returns c =
     let fits : SFits w64 c.higher.result = search rules in
     let top = ap (λ (n : ℤ). Some n) (to_z-of_z w64 c.higher.result fits ∙ c.higher.ensures) in
     let name = c.args.name.now in
-    let free = c.in_ok-is_free.is_free in
+    let same = to_z-of_z w64 c.args.number c.ranges.number in
     let new : Seen = record { names = c.put.new.self; taken = c.insert.new.self; highest = Some (to_z w64 (of_z w64 c.higher.result)) } in
-    let adds = put_adds c.args.self.now new name (to_z w64 (of_z w64 c.args.number)) c.in_ok-is_new.is_new free c.in_ok-is_new.ensures c.in_ok-is_free.ensures.added c.in_ok-is_free.ensures.updates.0 top in
-    let both = subst (λ (t : Bool). Adds Keeps (λ ps. is_some (number_in ps name) || is_taken ps (to_z w64 (of_z w64 c.args.number))) (λ ps. record { name = name; number = to_z w64 (of_z w64 c.args.number) }) c.args.self.now new (t && free)) c.if-is_new.true adds in
-    subst (λ (n : ℤ). Adds Keeps (λ ps. is_some (number_in ps name) || is_taken ps n) (λ ps. record { name = name; number = n }) c.args.self.now new free) same both
+    let adds = put_adds c.args.self.now new name (to_z w64 (of_z w64 c.args.number)) c.in_ok-put.ensures c.in_ok-insert.ensures.updates.0 top (sym c.if-has.ensures) in
+    subst (λ (n : ℤ). Adds Keeps (λ ps. is_some (number_in ps name) || is_taken ps n) (λ ps. record { name = name; number = n }) c.args.self.now new true) same adds
