@@ -11,7 +11,7 @@ use Rattle.yv_conform.specs.declared.keyword.Keyword.TheVariants as word
 use Rattle.yv_conform.specs.Names.{keyword_of}
 use Rattle.yv_selection.specs.Choice.{Choice}
 use Rattle.yv_rows.specs.Files.{Briefs, Files, brief_of, tree_name}
-use Rattle.yv_schema.specs.declared.node.PlainType.{PlainType}
+use Rattle.yv_values.specs.Types.{Plain}
 use Rattle.yv_schema.specs.declared.node.NodeId.{NodeId}
 use Rattle.yv_schema.specs.Truth.{Truth, is_on}
 use Rattle.yv_schema.specs.Tree.{node, Forest, no_trees, tree}
@@ -55,7 +55,7 @@ AreOfBelow (tree (node l kids) ts) = AreOf l.module_name [] kids × AreOfBelow k
 abbrev pub AreFormed : List ℕ → List ℕ → Forest → Type 0
 AreFormed home front ts = AreOf home front ts × AreOfBelow ts
 
-given_formed : (k : Keyword) (file : ℕ) (home above : List ℕ) (h : Head) (types : List PlainType) (inside others : Forest) → AreFormed home [] inside → AreFormed home (front_for above home) others
+given_formed : (k : Keyword) (file : ℕ) (home above : List ℕ) (h : Head) (types : List Plain) (inside others : Forest) → AreFormed home [] inside → AreFormed home (front_for above home) others
     → AreFormed home (front_for above home) (given k file home above h types inside others)
 given_formed word.Container file home above h types inside others kids rest = ((refl, fronted_name above home (name_of h), rest.0), (kids.0, kids.1, rest.1))
 given_formed word.Leaf file home above h types inside others kids rest = ((refl, fronted_name above home (name_of h), rest.0), (tt, tt, rest.1))
@@ -159,7 +159,7 @@ joined_assoc : (ts us vs : Forest) → joined (joined ts us) vs ≡ joined ts (j
 joined_assoc no_trees us vs = refl
 joined_assoc (tree t ts) us vs = ap (tree t) (joined_assoc ts us vs)
 
-given_joined : (k : Keyword) (file : ℕ) (home above : List ℕ) (h : Head) (types : List PlainType) (inside ts us : Forest)
+given_joined : (k : Keyword) (file : ℕ) (home above : List ℕ) (h : Head) (types : List Plain) (inside ts us : Forest)
     → given k file home above h types inside (joined ts us) ≡ joined (given k file home above h types inside ts) us
 given_joined word.Container file home above h types inside ts us = refl
 given_joined word.Leaf file home above h types inside ts us = refl

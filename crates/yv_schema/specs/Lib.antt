@@ -1,5 +1,6 @@
 pub mod Truth
 pub mod Tree
+pub mod Plain
 pub mod Module
 pub mod Refuses
 pub mod Rows

@@ -1,5 +1,5 @@
 -- The schema tree that the statements of files give (RFC 7950, sections 7.5, 7.6 and 9).
-use Rattle.std.specs.Prelude.{ℕ, ◌+◌, ◌==◌, Bool, ◌&&◌, not, List, [], ◌∷◌, ◌++◌, map, Option, Some, None, option_to_list, codes, if◌then◌else◌}
+use Rattle.std.specs.Prelude.{ℕ, ◌+◌, ◌==◌, Bool, ◌&&◌, not, List, [], ◌∷◌, ◌++◌, map, option_to_list, if◌then◌else◌}
 use Rattle.std.specs.Str.{bytes_eq}
 use Rattle.yv_statement.specs.Tree.{Head, name_of}
 use Rattle.yv_statement.specs.Tree as statement
@@ -8,28 +8,20 @@ use Rattle.yv_conform.specs.declared.keyword.Keyword.TheVariants as word
 use Rattle.yv_conform.specs.Names.{keyword_of}
 use Rattle.yv_schema.specs.declared.node.NodeKind.{NodeKind}
 use Rattle.yv_schema.specs.declared.node.NodeKind.TheVariants.{Container, Leaf}
-use Rattle.yv_schema.specs.declared.node.PlainType.{PlainType}
-use Rattle.yv_schema.specs.declared.node.PlainType.TheVariants.{Text, Int32, Boolean}
+use Rattle.yv_values.specs.Types.{Plain}
 use Rattle.yv_selection.specs.Choice.{Choice, is_implemented}
 use Rattle.yv_rows.specs.Files.{Briefs, Files, brief_of, home_at, is_module, tree_name}
 use Rattle.yv_schema.specs.Truth.{Truth, is_on}
+use Rattle.yv_schema.specs.Plain.{plain_type}
 use Rattle.yv_schema.specs.Tree.{Label, node, Forest, no_trees, tree}
 
--- the type of this name, where it is taken
-abbrev pub plain_type : List ℕ → Option PlainType
-plain_type name =
-    if bytes_eq name (codes "string") then Some Text
-    else if bytes_eq name (codes "int32") then Some Int32
-    else if bytes_eq name (codes "boolean") then Some Boolean
-    else None
-
 -- the types that a statement names, by its keyword
-abbrev pub types_at : Keyword → Head → List PlainType
+abbrev pub types_at : Keyword → Head → List Plain
 types_at word.Type h = option_to_list (plain_type (name_of h))
 types_at _ h = []
 
 -- the types that the statements of a block name
-abbrev pub types_in : statement.Forest → List PlainType
+abbrev pub types_in : statement.Forest → List Plain
 types_in statement.End = []
 types_in (statement.Then h c o) = types_at (keyword_of h.keyword) h ++ types_in o
 
@@ -39,7 +31,7 @@ abbrev pub member_name : List ℕ → List ℕ → List ℕ → List ℕ
 member_name above home name = if bytes_eq above home then name else home ++ 58 ∷ name
 
 -- what the node of a statement of a file is
-abbrev pub label_of : NodeKind → ℕ → List ℕ → List ℕ → Head → List PlainType → Label
+abbrev pub label_of : NodeKind → ℕ → List ℕ → List ℕ → Head → List Plain → Label
 label_of kind file home above h types = record {
   file = file;
   offset = h.offset;
@@ -52,7 +44,7 @@ label_of kind file home above h types = record {
 }
 
 -- the node that a statement of a file gives, by its keyword, before the nodes that the statements behind it give
-abbrev pub given : Keyword → ℕ → List ℕ → List ℕ → Head → List PlainType → Forest → Forest → Forest
+abbrev pub given : Keyword → ℕ → List ℕ → List ℕ → Head → List Plain → Forest → Forest → Forest
 given word.Container file home above h types inside others = tree (node (label_of Container file home above h []) inside) others
 given word.Leaf file home above h types inside others = tree (node (label_of Leaf file home above h types) no_trees) others
 given _ file home above h types inside others = others

@@ -13,7 +13,8 @@ use Rattle.yv_rows.specs.Files.{Files}
 use Rattle.yv_link.specs.Links.{BadLinks}
 use Rattle.yv_schema.specs.Truth.{IsTruth, Truth}
 use Rattle.yv_schema.specs.Tree.{Forest, Label, families, labels}
-use Rattle.yv_schema.specs.Module.{plain_type, schema_of}
+use Rattle.yv_schema.specs.Module.{schema_of}
+use Rattle.yv_schema.specs.Plain.{plain_type}
 
 -- the statements that are taken so far; one of no keyword of the language is refused as such, and not here
 abbrev pub is_taken : Keyword → Option (List ℕ) → Bool

@@ -2,7 +2,7 @@
 use Rattle.std.specs.Prelude.{ℕ, List, [], ◌∷◌, ◌++◌, Bool, false, ◌||◌}
 use Rattle.std.specs.Str.{bytes_eq}
 use Rattle.yv_schema.specs.declared.node.NodeKind.{NodeKind}
-use Rattle.yv_schema.specs.declared.node.PlainType.{PlainType}
+use Rattle.yv_values.specs.Types.{Plain}
 
 -- what a schema node is, without its place in the tree: `member` is what a JSON member that writes it is called
 -- (RFC 7951, section 4), `types` are those that its values may have, in order, and `file`, `offset` and `line` say where
@@ -15,7 +15,7 @@ pub record Label : Type 0 where
   pub module_name : List ℕ
   pub name : List ℕ
   pub member : List ℕ
-  pub types : List PlainType
+  pub types : List Plain
 
 -- schema nodes of one parent, in order, each with those below it
 mutual

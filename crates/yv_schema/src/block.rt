@@ -1,8 +1,10 @@
 //! From the statements of a block to nodes.
-ghost use Rattle.std.specs.Prelude.{◌≡◌, ◌++◌, ◌∷◌, [], length, IfOk, IfErr, OnOk, option_to_list};
+ghost use Rattle.std.specs.Prelude.{◌≡◌, ◌++◌, ◌∷◌, [], length, map, IfOk, IfErr, OnOk, option_to_list};
+ghost use Rattle.std.specs.Option.{option_map};
 ghost use Rattle.std.specs.Rc.{rc_str_bytes};
 ghost use Rattle.yv_statement.specs.declared.refusal.Stop.TheVariants.{NoMemory};
 ghost use Rattle.yv_conform.specs.Names.{keyword_of};
+ghost use Rattle.yv_values.specs.Types.{plain_of};
 ghost use Rattle.yv_schema.specs.Truth.{holds, is_on};
 ghost use Rattle.yv_schema.specs.Module.{label_of, types_at, types_in};
 ghost use Rattle.yv_schema.specs.InnerConditions.{truth_of};
@@ -10,12 +12,14 @@ ghost use Rattle.yv_schema.specs.InnerBuild.{Adds, above_of, block_trees, statem
 
 use crate::conditions::Conditions;
 use crate::name::name_of;
-use crate::node::{Node, NodeId, NodeKind, Place, PlainType};
+use crate::node::{Node, NodeId, NodeKind, Place};
 use crate::nodes::Nodes;
+use crate::plain::plain_type;
 use std::alloc::{AllocError, Global};
 use std::rc::RcStr;
 use yv_conform::Keyword;
 use yv_statement::{Statement, Stop};
+use yv_values::PlainType;
 
 /// What the nodes of a file have in common.
 #[derive(Clone, Copy)]
@@ -121,7 +125,7 @@ impl<'a, 'b> Builder<'_, 'a, 'b> {
     ) -> Result<Node, AllocError>
         ensures { IfOk result (λ node. node ≡ record {
           label = label_of kind self.now.file (rc_str_bytes self.now.home.now) (above_of is_top (rc_str_bytes self.now.home.now))
-              statement.now.head types.items;
+              statement.now.head (map plain_of types.items);
           children = [];
         }) }
     {
@@ -156,11 +160,11 @@ fn add(node: Node, children: &mut Vec<NodeId>, nodes: &mut Nodes) -> Result<Node
 
 // The types that the statements of its block name.
 fn types_of(alloc: Global, statement: &Statement<'_>) -> Result<Vec<PlainType>, AllocError>
-    ensures { IfOk result (λ types. types.items ≡ types_in statement.now.children) }
+    ensures { IfOk result (λ types. map plain_of types.items ≡ types_in statement.now.children) }
 {
     let mut types = Vec::new(alloc);
     for child in statement.children() {
-        if let Some(plain) = type_of(child) {
+        if let Some(plain) = type_of(alloc, child)? {
             types.push(plain)?;
         }
     }
@@ -168,11 +172,12 @@ fn types_of(alloc: Global, statement: &Statement<'_>) -> Result<Vec<PlainType>, 
 }
 
 // The type that a statement names, where it is one that names a type that is taken.
-fn type_of(statement: &Statement<'_>) -> Option<PlainType>
-    ensures { option_to_list result ≡ types_at (keyword_of statement.now.head.keyword) statement.now.head }
+fn type_of(alloc: Global, statement: &Statement<'_>) -> Result<Option<PlainType>, AllocError>
+    ensures { IfOk result (λ found. option_to_list (option_map plain_of found)
+        ≡ types_at (keyword_of statement.now.head.keyword) statement.now.head) }
 {
     match Keyword::read(statement.keyword()) {
-        Keyword::Type => PlainType::read(name_of(statement)),
-        _ => None,
+        Keyword::Type => plain_type(alloc, name_of(statement)),
+        _ => Ok(None),
     }
 }

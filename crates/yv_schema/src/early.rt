@@ -4,7 +4,7 @@ ghost use Rattle.std.specs.Option.{option_copied};
 ghost use Rattle.yv_statement.specs.Order.{IsLeast};
 ghost use Rattle.yv_schema.specs.Refuses.{Early, is_taken};
 
-use crate::node::PlainType;
+use crate::plain::is_plain;
 use yv_conform::Keyword;
 use yv_statement::{Code, Refusal, Statement, lesser, refused};
 
@@ -60,7 +60,7 @@ fn is_taken(keyword: Keyword, argument: Option<&str>) -> bool
             | Keyword::Unknown,
             _,
         ) => true,
-        (Keyword::Type, Some(name)) => PlainType::read(name).is_some(),
+        (Keyword::Type, Some(name)) => is_plain(name),
         _ => false,
     }
 }

@@ -12,6 +12,7 @@ mod modules;
 mod name;
 mod node;
 mod nodes;
+mod plain;
 mod schema;
 mod table;
 mod tables;
@@ -20,5 +21,5 @@ mod tests;
 mod tops;
 
 pub use compilation::compile;
-pub use node::{Node, NodeId, NodeKind, PlainType};
+pub use node::{Node, NodeId, NodeKind};
 pub use schema::Schema;

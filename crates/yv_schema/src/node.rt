@@ -5,6 +5,7 @@ use std::alloc::{AllocError, Global};
 use std::marker::Model;
 use std::rc::RcStr;
 use yv_statement::{Code, Refusal};
+use yv_values::PlainType;
 
 /// The number of a schema node, or `Schema::ROOT`.
 #[derive(Clone, Copy, Debug, PartialEq, Eq, PartialOrd, Ord)]
@@ -26,36 +27,6 @@ pub enum NodeKind {
     Container,
     /// A node with one value (RFC 7950, section 7.6).
     Leaf,
-}
-
-/// A type that a leaf's value may have (RFC 7950, section 9).
-#[derive(Clone, Copy, Debug, PartialEq, Eq)]
-pub enum PlainType {
-    /// `string`: legal characters (RFC 7950, section 9.4).
-    Text,
-    /// `int32`: a whole number of 32 bits with its sign (RFC 7950, section 9.2).
-    Int32,
-    /// `boolean`: true or false (RFC 7950, section 9.5).
-    Boolean,
-}
-
-impl PlainType {
-    ghost use Rattle.yv_schema.specs.Module.{plain_type};
-
-    /// The type of this name, where it is taken.
-    pub(crate) fn read(name: &str) -> Option<PlainType>
-        ensures { result ≡ plain_type name.now }
-    {
-        if name == "string" {
-            Some(PlainType::Text)
-        } else if name == "int32" {
-            Some(PlainType::Int32)
-        } else if name == "boolean" {
-            Some(PlainType::Boolean)
-        } else {
-            None
-        }
-    }
 }
 
 // Where the statement that defines a node stands.
@@ -80,8 +51,9 @@ pub struct Node {
 }
 
 impl Model for Node {
-    ghost use Rattle.std.specs.Prelude.{string_bytes};
+    ghost use Rattle.std.specs.Prelude.{string_bytes, map};
     ghost use Rattle.std.specs.Rc.{rc_str_bytes};
+    ghost use Rattle.yv_values.specs.Types.{plain_of};
     ghost use Rattle.yv_schema.specs.Rows.{Row};
     ghost use Rattle.yv_schema.specs.InnerMember.{member_of};
 
@@ -96,13 +68,15 @@ impl Model for Node {
         module_name = rc_str_bytes n.module;
         name = string_bytes n.name;
         member = member_of n.is_qualified (rc_str_bytes n.module) (string_bytes n.name);
-        types = n.types.items;
+        types = map plain_of n.types.items;
       };
       children = n.children.items;
     } };
 }
 
 impl Node {
+    ghost use Rattle.std.specs.Prelude.{map};
+    ghost use Rattle.yv_values.specs.Types.{plain_of};
     ghost use Rattle.yv_schema.specs.Refuses.{refusal_of};
 
     /// The number of the file in which the node is defined.
@@ -180,7 +154,7 @@ impl Node {
 
     /// The types that its value may have, in order: none at a container.
     pub fn types(&self) -> &[PlainType]
-        ensures { result.now ≡ self.now.label.types }
+        ensures { map plain_of result.now ≡ self.now.label.types }
     {
         self.types.as_slice()
     }

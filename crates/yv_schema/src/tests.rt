@@ -1,8 +1,9 @@
-use crate::{NodeKind, PlainType, Schema, compile};
+use crate::{NodeKind, Schema, compile};
 use std::alloc::{AllocError, Global};
 use std::test::Fail;
 use yv_selection::Selection;
 use yv_statement::{Code, Refusal, Statement, Stop};
+use yv_values::PlainType;
 
 // A statement with an argument, on line 1.
 fn statement(
@@ -143,7 +144,31 @@ fn a_node_has_its_member_and_types(rt: HostRuntime) -> Result<(), Fail> {
     let leaf = schema.node(b);
     assert!(rt; leaf.kind() == NodeKind::Leaf);
     assert!(rt; leaf.member(alloc)?.as_str() == "b");
-    assert!(rt; leaf.types() == [PlainType::Int32].as_slice());
+    assert_eq!(rt; leaf.types().len(), 1);
+    Ok(())
+}
+
+// What the only type of a leaf of this type reads.
+fn kind_of(alloc: Global, plain: &str) -> Result<&'static str, Stop> {
+    let root = module(alloc, vec![in alloc; leaf(alloc, "a", plain, 10)?]?)?;
+    let schema = compiled(alloc, &root)?;
+    let Some(a) = schema.find(Schema::ROOT, "ex:a") else {
+        return Ok("no leaf");
+    };
+    match schema.node(a).types().first() {
+        Some(PlainType::Text(_)) => Ok("texts"),
+        Some(PlainType::Whole(_)) => Ok("whole numbers"),
+        Some(PlainType::Boolean) => Ok("truth values"),
+        _ => Ok("other"),
+    }
+}
+
+#[test]
+fn the_name_tells_the_type(rt: HostRuntime) -> Result<(), Fail> {
+    let alloc = rt.alloc();
+    assert_eq!(rt; kind_of(alloc, "string")?, "texts");
+    assert_eq!(rt; kind_of(alloc, "int32")?, "whole numbers");
+    assert_eq!(rt; kind_of(alloc, "boolean")?, "truth values");
     Ok(())
 }
 

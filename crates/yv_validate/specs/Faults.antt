@@ -1,35 +1,14 @@
 -- The faults of a document, by the tree of its schema (RFC 7950, sections 7.5, 7.6 and 9; RFC 7951, sections 4 to 6).
-use Rattle.std.specs.Prelude.{ℕ, ◌^◌, List, [], ◌∷◌, ◌++◌, Bool, true, false, nat_lt, Option, Some, None, negsuc, int_le, if◌then◌else◌}
-use Rattle.std.specs.List.{list_any}
-use Rattle.std.specs.Str.{chars}
-use Rattle.serde_json.specs.Data.{Num, unsigned, negative, float, Data, null, boolean, number, string, array, object, Members, no_members, member}
+use Rattle.std.specs.Prelude.{ℕ, List, [], ◌∷◌, ◌++◌, Option, Some, None, is_some, if◌then◌else◌}
+use Rattle.serde_json.specs.Data.{Data, object, Members, no_members, member}
 use Rattle.serde_json.specs.Find.{get_member}
-use Rattle.yv_statement.specs.Legal.{all_legal}
 use Rattle.yv_schema.specs.declared.node.NodeKind.{NodeKind}
 use Rattle.yv_schema.specs.declared.node.NodeKind.TheVariants.{Container, Leaf}
-use Rattle.yv_schema.specs.declared.node.PlainType.{PlainType}
-use Rattle.yv_schema.specs.declared.node.PlainType.TheVariants.{Text, Int32, Boolean}
 use Rattle.yv_schema.specs.Tree.{Label, Tree, node, Forest, no_trees, tree, is_known}
+use Rattle.yv_values.specs.Reads.{first_read}
 use Rattle.yv_validate.specs.declared.fault.FaultKind.{FaultKind}
 use Rattle.yv_validate.specs.declared.fault.FaultKind.TheVariants.{Unknown, Shape, Value}
 use Rattle.yv_validate.specs.Place.{Place, Flaw}
-
--- a whole number of 32 bits with its sign, written without fraction and exponent
-abbrev pub is_int32 : Num → Bool
-is_int32 (unsigned n) = nat_lt n (2 ^ 31)
-is_int32 (negative z) = int_le (negsuc 2147483647) z
-is_int32 (float x) = false
-
--- the type has a value that is written so (RFC 7951, section 6)
-abbrev pub reads_as : PlainType → Data → Bool
-reads_as Text (string s) = all_legal (chars s)
-reads_as Int32 (number n) = is_int32 n
-reads_as Boolean (boolean b) = true
-reads_as _ _ = false
-
--- one of the types has
-abbrev pub reads : List PlainType → Data → Bool
-reads types d = list_any (λ type. reads_as type d) types
 
 abbrev pub under : List Place → List ℕ → List Place
 under path name = path ++ record { member = name; item = None } ∷ []
@@ -47,13 +26,17 @@ abbrev pub entered : List Place → Data → (Members → List Flaw) → List Fl
 entered path (object ms) inside = inside ms
 entered path _ inside = flaw Shape path ∷ []
 
+-- none, where one of the leaf's types has a value that is written so (RFC 7951, section 6)
+abbrev pub value_faults : Label → List Place → Data → List Flaw
+value_faults l path d = if is_some (first_read l.types l.module_name d) then [] else flaw Value path ∷ []
+
 -- the faults of a written node, by its kind
-abbrev pub kind_faults : NodeKind → List PlainType → List Place → Data → (Members → List Flaw) → List Flaw
-kind_faults Container types path d inside = entered path d inside
-kind_faults Leaf types path d inside = if reads types d then [] else flaw Value path ∷ []
+abbrev pub kind_faults : NodeKind → Label → List Place → Data → (Members → List Flaw) → List Flaw
+kind_faults Container l path d inside = entered path d inside
+kind_faults Leaf l path d inside = value_faults l path d
 
 abbrev pub written : Label → List Place → Data → (Members → List Flaw) → List Flaw
-written l path d inside = kind_faults l.kind l.types path d inside
+written l path d inside = kind_faults l.kind l path d inside
 
 abbrev pub if_written : Option Data → (Data → List Flaw) → List Flaw
 if_written None faults = []

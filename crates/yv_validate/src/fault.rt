@@ -45,7 +45,8 @@ impl Model for Fault {
     ghost view = { λ f. record { kind = f.kind; path = f.path.items; number = f.number } };
 }
 
-/// The faults of a document, in their order. `steps` is 0: no count of the validator's work is claimed yet.
+/// The faults of a document, in their order, and how many types were tried for the values of leaves. No clause pins
+/// `steps` yet: a validation may be counted otherwise later.
 #[derive(Drop)]
 pub struct Report {
     pub faults: Vec<Fault>,

@@ -7,7 +7,6 @@ mod fault;
 mod tests;
 mod text;
 mod trail;
-mod types;
 mod walk;
 mod written;
 

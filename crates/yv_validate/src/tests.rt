@@ -61,6 +61,7 @@ fn documents_have_faults(rt: HostRuntime) -> Result<(), Fail> {
         ("{}", ""),
         ("{\"ex:top\":{\"b\":-2147483648,\"c\":false}}", ""),
         ("{\"ex:top\":{\"b\":2147483648}}", "value /ex:top/b;"),
+        ("{\"ex:top\":{\"b\":-2147483649}}", "value /ex:top/b;"),
         (
             "{\"ex:top\":{\"a\":\"\\u0001\",\"c\":1}}",
             "value /ex:top/a;value /ex:top/c;",
@@ -79,6 +80,18 @@ fn documents_have_faults(rt: HostRuntime) -> Result<(), Fail> {
     for (text, expected) in cases {
         assert_eq!(rt; lines(alloc, &schema, text)?.as_str(), expected, "{text}");
     }
+    Ok(())
+}
+
+#[test]
+fn tried_types_are_steps(rt: HostRuntime) -> Result<(), Fail> {
+    let alloc = rt.alloc();
+    let schema = schema(alloc)?;
+    let text = "{\"ex:top\":{\"a\":\"x\",\"b\":\"3\",\"z\":1}}";
+    let document = Value::from_str(alloc, text)?;
+    assert!(rt; size(&document) < 100);
+    let report = validate(alloc, &schema, &document)?;
+    assert_eq!(rt; report.steps, 2);
     Ok(())
 }
 

@@ -6,15 +6,15 @@ ghost use Rattle.yv_schema.specs.Rows.{row_at, rank, below, whole};
 ghost use Rattle.yv_validate.specs.Size.{size};
 ghost use Rattle.yv_validate.specs.InnerTrail.{places, IsWithin, child_faults};
 ghost use Rattle.yv_validate.specs.InnerWritten.{value_at, AreWritten};
-ghost use Rattle.yv_validate.specs.Faults.{flaw, unknowns, object_faults, written, under, faults as all_faults};
+ghost use Rattle.yv_validate.specs.Faults.{flaw, unknowns, object_faults, value_faults, written, under, faults as all_faults};
 
 use crate::fault::{Fault, FaultKind, Report, Step};
 use crate::trail::{Trail, steps_of};
-use crate::types::reads;
 use crate::written::Written;
 use serde_json::{Map, Value};
 use std::alloc::{AllocError, Global};
-use yv_schema::{NodeId, NodeKind, Schema};
+use yv_schema::{Node, NodeId, NodeKind, Schema};
+use yv_values::{Meter, check};
 
 #[derive(Clone, Copy)]
 struct Walk<'a> {
@@ -29,12 +29,22 @@ pub fn validate(alloc: Global, schema: &Schema, document: &Value) -> Result<Repo
     ensures faults { IfOk result (λ r. r.faults.items ≡ all_faults (whole schema.now) (view document.now)) }
 {
     let mut faults = Vec::new(alloc);
+    let mut meter = Meter::new();
     let walk = Walk { alloc, schema };
     match document {
-        Value::Object(members) => walk.object(Schema::ROOT, members, &Trail::Root, &mut faults)?,
+        Value::Object(members) => walk.object(
+            Schema::ROOT,
+            members,
+            &Trail::Root,
+            &mut meter,
+            &mut faults,
+        )?,
         _ => walk.tell(FaultKind::Shape, &Trail::Root, &mut faults)?,
     }
-    Ok(Report { faults, steps: 0 })
+    Ok(Report {
+        faults,
+        steps: meter.steps(),
+    })
 }
 
 impl Walk<'_> {
@@ -109,6 +119,7 @@ impl Walk<'_> {
         parent: NodeId,
         members: &Map<String, Value>,
         trail: &Trail<'_>,
+        meter: &mut Meter,
         faults: &mut Vec<Fault>,
     ) -> Result<(), AllocError>
         requires node { rank parent ≤ length self.now.schema.now.nodes }
@@ -119,7 +130,7 @@ impl Walk<'_> {
     {
         let written = self.look_up(parent, members, trail, faults)?;
         for child in self.schema.children(parent) {
-            self.child(*child, &written, trail, faults)?;
+            self.child(*child, &written, trail, meter, faults)?;
         }
         Ok(())
     }
@@ -130,6 +141,7 @@ impl Walk<'_> {
         id: NodeId,
         written: &Written<'_>,
         trail: &Trail<'_>,
+        meter: &mut Meter,
         faults: &mut Vec<Fault>,
     ) -> Result<(), AllocError>
         requires node { id.0 < length self.now.schema.now.nodes }
@@ -139,7 +151,7 @@ impl Walk<'_> {
     {
         if let Some(value) = written.get(id.number()) {
             let here = Trail::Below(&*trail, id, None);
-            self.node(id, value, &here, faults)?;
+            self.node(id, value, &here, meter, faults)?;
         }
         Ok(())
     }
@@ -150,6 +162,7 @@ impl Walk<'_> {
         id: NodeId,
         value: &Value,
         trail: &Trail<'_>,
+        meter: &mut Meter,
         faults: &mut Vec<Fault>,
     ) -> Result<(), AllocError>
         requires node { id.0 < length self.now.schema.now.nodes }
@@ -161,14 +174,30 @@ impl Walk<'_> {
         let node = self.schema.node(id);
         match node.kind() {
             NodeKind::Container => match value {
-                Value::Object(members) => self.object(id, members, trail, faults),
+                Value::Object(members) => self.object(id, members, trail, meter, faults),
                 _ => self.tell(FaultKind::Shape, trail, faults),
             },
-            NodeKind::Leaf => if reads(node.types(), value) {
-                Ok(())
-            } else {
-                self.tell(FaultKind::Value, trail, faults)
-            },
+            NodeKind::Leaf => self.leaf(node, value, trail, meter, faults),
+        }
+    }
+
+    // Tells a leaf for whose types the value is none.
+    fn leaf(
+        &self,
+        node: &Node,
+        value: &Value,
+        trail: &Trail<'_>,
+        meter: &mut Meter,
+        faults: &mut Vec<Fault>,
+    ) -> Result<(), AllocError>
+        requires { IsWithin self.now.schema.now trail.now }
+        ensures { OnOk result (faults.new.items ≡ faults.old.items
+            ++ value_faults node.now.label (places self.now.schema.now trail.now) (view value.now)) }
+    {
+        let read = check(self.alloc, meter, node.types(), node.module(), value)?;
+        match read {
+            Some(_) => Ok(()),
+            None => self.tell(FaultKind::Value, trail, faults),
         }
     }
 }

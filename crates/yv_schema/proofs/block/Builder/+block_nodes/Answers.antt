@@ -1,10 +1,10 @@
-use Rattle.std.proofs.Common.{◌≡◌, true, false, ap, ◌∙◌, sym, arith, length, length-append, List, [], ◌∷◌}
+use Rattle.std.proofs.Common.{◌≡◌, true, false, ap, ◌∙◌, sym, arith, length, length-append, List, [], ◌∷◌, map}
 use Rattle.std.specs.Rc.{rc_str_bytes}
 use Rattle.yv_statement.specs.Tree.{count, forest}
 use Rattle.yv_conform.specs.Names.{keyword_of}
 use Rattle.yv_conform.specs.declared.keyword.Keyword.TheVariants as word
 use Rattle.yv_schema.specs.declared.node.NodeKind.TheVariants.{Container, Leaf}
-use Rattle.yv_schema.specs.declared.node.PlainType.{PlainType}
+use Rattle.yv_values.specs.Types.{Plain, plain_of}
 use Rattle.yv_schema.specs.Tree.{no_trees}
 use Rattle.yv_schema.specs.Truth.{is_on}
 use Rattle.yv_schema.specs.Module.{label_of, nodes_of, types_in}
@@ -38,7 +38,7 @@ statement-returns-in_ok-block-in-Container-clause-added t c =
     let is : keyword_of s.head.keyword ≡ word.Container = ap keyword_of (sym c.keyword.ensures) ∙ sym c.in-Container.ensures in
     let made : c.in_ok-node-in-Container.node ≡ record { label = label_of Container file home (above_of c.args.is_top home) s.head []; children = [] } =
     c.in_ok-node-in-Container.ensures
-    ∙ ap (λ (ts : List PlainType). let row : Row = record { label = label_of Container file home (above_of c.args.is_top home) s.head ts; children = [] } in row) c.new-types.ensures.items in
+    ∙ ap (λ (ts : List Plain). let row : Row = record { label = label_of Container file home (above_of c.args.is_top home) s.head ts; children = [] } in row) (ap (map plain_of) c.new-types.ensures.items) in
     let trees = block_trees truth file home false c.children.result.now in
     let adds = c.in_ok-block-in-Container.ensures.added in
     let inside : trees no_trees ≡ nodes_of truth file home home s.children no_trees =
@@ -61,7 +61,7 @@ statement-returns-in_ok-add-in-Leaf-clause-added t c =
     let is : keyword_of s.head.keyword ≡ word.Leaf = ap keyword_of (sym c.keyword.ensures) ∙ sym c.in-Leaf.ensures in
     let made : c.in_ok-node-in-Leaf.node ≡ record { label = label_of Leaf file home (above_of c.args.is_top home) s.head (types_in s.children); children = [] } =
     c.in_ok-node-in-Leaf.ensures
-    ∙ ap (λ (ts : List PlainType). let row : Row = record { label = label_of Leaf file home (above_of c.args.is_top home) s.head ts; children = [] } in row) c.in_ok-types-in-Leaf.ensures in
+    ∙ ap (λ (ts : List Plain). let row : Row = record { label = label_of Leaf file home (above_of c.args.is_top home) s.head ts; children = [] } in row) c.in_ok-types-in-Leaf.ensures in
     adds_leaf c.args.nodes.now c.args.children.now.items c.add-in-Leaf.new.children.items c.in_ok-add-in-Leaf.field-0
     (label_of Leaf file home (above_of c.args.is_top home) s.head (types_in s.children)) c.in_ok-add-in-Leaf.ensures.number c.in_ok-add-in-Leaf.ensures.children
     (statement_trees truth file home c.args.is_top s) c.in_ok-node-in-Leaf.node c.add-in-Leaf.new.nodes

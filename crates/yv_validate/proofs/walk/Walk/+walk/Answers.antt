@@ -1,4 +1,4 @@
-use Rattle.std.proofs.Common.{All, ◌≡◌, ◌++◌, ◌+◌, drop, slice_index_or, rules, ap, sym, ◌∙◌, subst}
+use Rattle.std.proofs.Common.{All, ◌+◌, drop, slice_index_or, ap, sym, ◌∙◌, subst}
 use Rattle.serde_json.specs.View.{members_view}
 use Rattle.yv_schema.specs.declared.node.NodeId.{NodeId}
 use Rattle.yv_schema.specs.Rows.{forest, IsFound}
