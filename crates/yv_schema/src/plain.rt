@@ -1,12 +1,14 @@
 //! The types that are taken so far, by their names.
-ghost use Rattle.std.specs.Prelude.{◌≡◌, IfOk, is_some};
+ghost use Rattle.std.specs.Prelude.{◌≡◌, ◌∷◌, [], true, int_le, IfOk, is_some};
 ghost use Rattle.std.specs.Option.{option_map};
+ghost use Rattle.yv_numbers.specs.Numbers.{integer};
 ghost use Rattle.yv_values.specs.Types.{plain_of};
 ghost use Rattle.yv_schema.specs.Plain.{every_text, int32, plain_type};
 
 use std::alloc::{AllocError, Global};
 use std::rc::RcSlice;
-use yv_values::{Integer, Intervals, PlainType, Span, TextType, WholeType};
+use yv_numbers::{Integer, Intervals, Span};
+use yv_values::{PlainType, TextType, WholeType};
 
 /// Whether the type of this name is taken.
 pub(crate) fn is_plain(name: &str) -> bool
@@ -30,16 +32,23 @@ pub(crate) fn plain_type(alloc: Global, name: &str) -> Result<Option<PlainType>,
     }
 }
 
+// The one interval from the low number to the high one.
+fn all_between(alloc: Global, low: Integer, high: Integer) -> Result<Intervals, AllocError>
+    requires { int_le (integer low) (integer high) ≡ true }
+    ensures { IfOk result (λ all. all ≡ record { low = integer low; high = integer high } ∷ []) }
+{
+    match Intervals::new(vec![in alloc; Span { low, high }]?)? {
+        Some(intervals) => Ok(intervals),
+        None => unreachable!(),
+    }
+}
+
 // Texts of every length.
 fn every_text(alloc: Global) -> Result<PlainType, AllocError>
     ensures { IfOk result (λ plain. plain_of plain ≡ every_text) }
 {
-    let every = Lengths {
-        low: 0,
-        high: u64::MAX,
-    };
     Ok(PlainType::Text(TextType {
-        lengths: LengthList::new(vec![in alloc; every]?)?,
+        lengths: all_between(alloc, Integer::Natural(0), Integer::Natural(u64::MAX))?,
         patterns: RcSlice::from_vec(Vec::new(alloc))?,
     }))
 }
@@ -48,12 +57,10 @@ fn every_text(alloc: Global) -> Result<PlainType, AllocError>
 fn int32(alloc: Global) -> Result<PlainType, AllocError>
     ensures { IfOk result (λ plain. plain_of plain ≡ int32) }
 {
-    let every = Span {
-        low: Integer::Below(2_147_483_647),
-        high: Integer::Natural(2_147_483_647),
-    };
+    let low = Integer::Below(2_147_483_647);
+    let high = Integer::Natural(2_147_483_647);
     Ok(PlainType::Whole(WholeType {
         is_text: false,
-        spans: SpanList::new(vec![in alloc; every]?)?,
+        spans: all_between(alloc, low, high)?,
     }))
 }
