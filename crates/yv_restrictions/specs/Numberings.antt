@@ -80,6 +80,7 @@ is_wrong_in base before e = is_some (number_in before e.name.now) || not (agrees
 abbrev pub with_entry : (List Pair → Listed → Bool) → (List Pair → Listed → Pair) → List Pair → Listed → List Pair
 with_entry wrong pair before e = if wrong before e then before else before ++ pair before e ∷ []
 
+-- these pairs with those of the entries, one entry after another
 abbrev pub pairs_behind : (List Pair → Listed → Bool) → (List Pair → Listed → Pair) → List Pair → List Listed → List Pair
 pairs_behind wrong pair before [] = before
 pairs_behind wrong pair before (e ∷ es) = pairs_behind wrong pair (with_entry wrong pair before e) es
