@@ -17,10 +17,10 @@ pub record Roots (whole : Files) (now : List Row) (i : ℕ) : Type 0 where
 pub record Bodies (whole : Files) (now : List Row) (i : ℕ) : Type 0 where
   pub completes : now ++ bodies (map brief_of whole) (length now) i (drop i whole) ≡ rows_of whole
 
-next_drop : (ts : Files) (i : ℕ) (t : Tree) → i < length ts → t ≡ get_or ts i t → drop i ts ≡ t ∷ drop (i + 1) ts
+pub next_drop : (ts : Files) (i : ℕ) (t : Tree) → i < length ts → t ≡ get_or ts i t → drop i ts ≡ t ∷ drop (i + 1) ts
 next_drop ts i t h e = rw (add-one, drop-cons ts i t h) (rw (← e) refl)
 
-drop_end : (ts : Files) (i : ℕ) → length ts ≤ i → drop i ts ≡ []
+pub drop_end : (ts : Files) (i : ℕ) → length ts ≤ i → drop i ts ≡ []
 drop_end ts i h = rw drop_all refl
 
 pub body_is : (roots : Files) (files : Briefs) (number n k scope : ℕ) (t : Tree) (f : Forest) → files ≡ map brief_of roots → slice_get (map brief_of roots) number ≡ Some (brief_of t) → scope ≡ home_at files number → f ≡ t.children → n ≡ k → listed number scope n f ≡ body_of (map brief_of roots) k number t

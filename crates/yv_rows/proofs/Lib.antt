@@ -5,3 +5,4 @@ pub mod Firsts
 pub mod Meanings
 pub mod Bodies
 pub mod Within
+pub mod Telling

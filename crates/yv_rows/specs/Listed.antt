@@ -1,7 +1,7 @@
 -- All statements of the files as one numbered list.
-use Rattle.std.specs.Prelude.{ℕ, ◌+◌, List, [], ◌∷◌, ◌++◌, map, length, Some}
-use Rattle.yv_statement.specs.Tree.{Tree}
-use Rattle.yv_rows.specs.Rows.{Row, listed}
+use Rattle.std.specs.Prelude.{ℕ, ◌+◌, List, [], ◌∷◌, ◌++◌, map, length, Some, if◌then◌else◌}
+use Rattle.yv_statement.specs.Tree.{Tree, Forest, Then, End}
+use Rattle.yv_rows.specs.Rows.{Row, is_extended, listed}
 use Rattle.yv_rows.specs.Files.{Files, Briefs, brief_of, home_in}
 
 -- the roots, each its own block
@@ -21,3 +21,18 @@ bodies files number n (t ∷ ts) = body_of files number n t ++ bodies files (num
 -- the roots by file, so that a root has its file's number, and then the other statements by file and offset
 abbrev pub rows_of : Files → List Row
 rows_of files = roots_from 0 files ++ bodies (map brief_of files) (length files) 0 files
+
+-- the statements of a block in order, each followed by those of its own block, as they are numbered
+abbrev pub statements_in : Forest → List Tree
+statements_in End = []
+statements_in (Then h c o) =
+    let inner : List Tree = if is_extended h.keyword then [] else statements_in c in
+    record { head = h; children = c } ∷ inner ++ statements_in o
+
+abbrev pub inner_statements : Files → List Tree
+inner_statements [] = []
+inner_statements (t ∷ ts) = statements_in t.children ++ inner_statements ts
+
+-- the statement of each number, with what stands in its block
+abbrev pub statements_of : Files → List Tree
+statements_of files = files ++ inner_statements files

@@ -1,7 +1,7 @@
 -- The statements of a block, with what stands in their blocks, as one numbered list.
 use Rattle.std.specs.Prelude.{ℕ, ◌+◌, ◌==◌, Bool, List, [], ◌∷◌, ◌++◌, length, if◌then◌else◌}
 use Rattle.std.specs.List.{list_any}
-use Rattle.yv_statement.specs.Tree.{Head, Forest, Then, End, name_of}
+use Rattle.yv_statement.specs.Tree.{Head, Forest, Then, End, Tree, name_of}
 use Rattle.yv_rows.specs.declared.entries.Entry.{Entry}
 
 -- a statement, its file's number, and the number of the block in which its names stand
@@ -12,6 +12,10 @@ pub record Row : Type 0 where
 
 abbrev pub row : Entry → Row
 row e = record { file = e.file; scope = e.scope; head = e.statement.now.head }
+
+-- the statement itself, with what stands in its block
+abbrev pub tree : Entry → Tree
+tree e = e.statement.now
 
 abbrev pub name_in : Row → List ℕ
 name_in r = name_of r.head

@@ -3,8 +3,8 @@ ghost use Rattle.std.specs.Prelude.{◌≡◌, ◌≤◌, ◌<◌, ◌++◌, ℕ
 ghost use Rattle.yv_statement.specs.Tree.{Then, End, forest};
 ghost use Rattle.yv_rows.specs.Tables.{table_of};
 ghost use Rattle.yv_rows.specs.Files.{brief, brief_of, named};
-ghost use Rattle.yv_rows.specs.Rows.{row, listed, is_extended};
-ghost use Rattle.yv_rows.specs.Listed.{rows_of};
+ghost use Rattle.yv_rows.specs.Rows.{row, tree, listed, is_extended};
+ghost use Rattle.yv_rows.specs.Listed.{rows_of, statements_in, statements_of};
 
 use crate::files::{File, home};
 use crate::places::Places;
@@ -33,8 +33,10 @@ fn add<'a, 'b>(
     scope: usize,
     statement: &'a Statement<'b>,
 ) -> Result<(), AllocError>
-    ensures { OnOk result (map row entries.new.items ≡ map row entries.old.items
+    ensures rows { OnOk result (map row entries.new.items ≡ map row entries.old.items
         ++ listed file scope (length entries.old.items) (Then statement.now.head statement.now.children End)) }
+    ensures trees { OnOk result (map tree entries.new.items ≡ map tree entries.old.items
+        ++ statements_in (Then statement.now.head statement.now.children End)) }
 {
     let number = entries.len();
     entries.push(Entry {
@@ -58,8 +60,10 @@ fn add_block<'a, 'b>(
     scope: usize,
     block: &'a [Statement<'b>],
 ) -> Result<(), AllocError>
-    ensures { OnOk result (map row entries.new.items ≡ map row entries.old.items
+    ensures rows { OnOk result (map row entries.new.items ≡ map row entries.old.items
         ++ listed file scope (length entries.old.items) (forest block.now)) }
+    ensures trees { OnOk result (map tree entries.new.items ≡ map tree entries.old.items
+        ++ statements_in (forest block.now)) }
 {
     for child in block {
         add(entries, file, scope, child)?;
@@ -77,7 +81,8 @@ pub(crate) fn read_entries<'a, 'b>(
     requires few { length roots.now ≤ 4294967296 }
     requires files { map brief files.now ≡ map brief_of roots.now }
     requires names { (name : List ℕ) → table_of names.now 0 name ≡ named (map brief files.now) name }
-    ensures { IfOk result (λ entries. map row entries.items ≡ rows_of roots.now) }
+    ensures rows { IfOk result (λ entries. map row entries.items ≡ rows_of roots.now) }
+    ensures trees { IfOk result (λ entries. map tree entries.items ≡ statements_of roots.now) }
 {
     let mut entries = Vec::new(alloc);
     for (file, root) in roots.iter().enumerate() {

@@ -4,7 +4,7 @@ ghost use Rattle.yv_statement.specs.Tree.{Tree};
 ghost use Rattle.yv_rows.specs.declared.kind.Kind.{Kind};
 ghost use Rattle.yv_rows.specs.Files.{Files, Briefs, brief_of, home_at, named};
 ghost use Rattle.yv_rows.specs.Rows.{Row};
-ghost use Rattle.yv_rows.specs.Listed.{rows_of};
+ghost use Rattle.yv_rows.specs.Listed.{rows_of, statements_of};
 ghost use Rattle.yv_rows.specs.Scopes.{AreNested, MeansIn, module_of};
 
 /// The name of a typedef or of a grouping means one thing in a statement.
@@ -38,4 +38,9 @@ pub fn modules_are_files()
     ensures prefixes { (files : Briefs) (rows : List Row) (file : ℕ) (prefix : List ℕ) (m : ℕ)
         → module_of files rows file prefix ≡ Some m → m < length files }
     ensures homes { (files : Briefs) (n : ℕ) → n < length files → home_at files n < length files }
+{}
+
+/// The statement of a number has the head of the row of that number.
+pub fn statements_have_their_rows()
+    ensures { (files : Files) → map (λ t. t.head) (statements_of files) ≡ map (λ r. r.head) (rows_of files) }
 {}

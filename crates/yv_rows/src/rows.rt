@@ -1,9 +1,10 @@
 //! The statements of the files, and what prefixes and names in them mean.
-ghost use Rattle.std.specs.Prelude.{◌≡◌, ◌≤◌, ℕ, List, map, length, IfOk};
+ghost use Rattle.std.specs.Prelude.{◌≡◌, ◌≤◌, ℕ, List, map, length, slice_get, IfOk};
+ghost use Rattle.std.specs.Option.{option_map};
 ghost use Rattle.yv_rows.specs.Tables.{table_of, first_of};
 ghost use Rattle.yv_rows.specs.Files.{brief, brief_of, named, home_at};
-ghost use Rattle.yv_rows.specs.Rows.{row};
-ghost use Rattle.yv_rows.specs.Listed.{rows_of};
+ghost use Rattle.yv_rows.specs.Rows.{row, tree};
+ghost use Rattle.yv_rows.specs.Listed.{rows_of, statements_of};
 ghost use Rattle.yv_rows.specs.declared.kind.Kind.{Kind};
 ghost use Rattle.yv_rows.specs.declared.kind.Kind.TheVariants.{Prefix};
 
@@ -27,12 +28,13 @@ pub struct Rows<'a, 'b> {
     ghost few: { length roots.now ≤ 4294967296 },
     ghost briefed: { map brief files.items ≡ map brief_of roots.now },
     ghost listed: { map row entries.items ≡ rows_of roots.now },
+    ghost told: { map tree entries.items ≡ statements_of roots.now },
     ghost named_so: { (name : List ℕ) → table_of names 0 name ≡ named (map brief files.items) name },
     ghost declared_so: { (s : ℕ) (n : List ℕ) → table_of prefixes s n ≡ first_of Prefix (map row entries.items) s n },
 }
 
 impl<'a, 'b> Rows<'a, 'b> {
-    ghost use Rattle.yv_rows.specs.Lent.{lent_in, files_in, rows_in};
+    ghost use Rattle.yv_rows.specs.Lent.{lent_in, files_in, rows_in, trees_in};
     ghost use Rattle.yv_rows.specs.Scopes.{Means, MeansIn, block_of, module_of, start_of};
 
     /// The statements of files that have these roots. No memory where there are more than 2 to the 32.
@@ -62,6 +64,13 @@ impl<'a, 'b> Rows<'a, 'b> {
         ensures { map row result.now ≡ rows_in self.now }
     {
         &self.entries
+    }
+
+    /// The statement of a number, with what stands in its block.
+    pub fn statement(&self, number: usize) -> Option<&'a Statement<'b>>
+        ensures { option_map (λ s. s.now) result ≡ slice_get (trees_in self.now) number }
+    {
+        Some(self.entries.get(number)?.statement)
     }
 
     /// The files, in the order of their roots.

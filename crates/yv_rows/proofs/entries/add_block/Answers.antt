@@ -3,17 +3,24 @@ use Rattle.std.proofs.lemmas.List.{length-map}
 use Rattle.yv_statement.specs.Tree.{Then, End, forest}
 use Rattle.yv_rows.specs.Rows.{row, listed}
 use Rattle.yv_rows.proofs.Listing.{lists_step, lists_end, next_of, end_of}
+use Rattle.yv_rows.proofs.Telling.{tells_step, tells_end}
 use Rattle.yv_rows.proofs.entries.add_block.Goals as goal
 
 pub loop-child-init : goal.loop-child-init
-loop-child-init c = record { completes = refl }
+loop-child-init c = record { rows = record { completes = refl }; trees = record { completes = refl } }
 
 pub loop-child-preserved : goal.loop-child-preserved
 loop-child-preserved c =
-    lists_step _ _ c.loop-child.invariant (next_of c.args.block.now c.loop-child.child-index c.child-item.result c.loop-child-test.true c.child-item.is)
-    (c.in_ok-add.ensures ∙ ap (λ n. map row c.loop-child.entries.items ++ listed c.args.file c.args.scope n (Then c.child-item.result.head c.child-item.result.children End)) (sym (length-map c.loop-child.entries.items row)))
+    let next = next_of c.args.block.now c.loop-child.child-index c.child-item.result c.loop-child-test.true c.child-item.is in
+    record {
+      rows = lists_step _ _ c.loop-child.invariant.rows next (c.in_ok-add.ensures.rows ∙ ap (λ n. map row c.loop-child.entries.items ++ listed c.args.file c.args.scope n (Then c.child-item.result.head c.child-item.result.children End)) (sym (length-map c.loop-child.entries.items row)));
+      trees = tells_step c.child-item.result.head c.child-item.result.children c.loop-child.invariant.trees next c.in_ok-add.ensures.trees;
+    }
 
 pub returns : goal.returns
 returns c =
-    lists_end c.loop-child.invariant (end_of c.args.block.now c.loop-child.child-index c.loop-child-test.false)
-    ∙ ap (λ n. map row c.args.entries.now.items ++ listed c.args.file c.args.scope n (forest c.args.block.now)) (length-map c.args.entries.now.items row)
+    let end = end_of c.args.block.now c.loop-child.child-index c.loop-child-test.false in
+    record {
+      rows = lists_end c.loop-child.invariant.rows end ∙ ap (λ n. map row c.args.entries.now.items ++ listed c.args.file c.args.scope n (forest c.args.block.now)) (length-map c.args.entries.now.items row);
+      trees = tells_end c.loop-child.invariant.trees end;
+    }

@@ -1,8 +1,12 @@
 use Rattle.std.proofs.Common.{map, drop}
 use Rattle.yv_statement.specs.Tree.{forest}
-use Rattle.yv_rows.specs.Rows.{row}
+use Rattle.yv_rows.specs.Rows.{row, tree}
 use Rattle.yv_rows.proofs.Listing.{Lists}
+use Rattle.yv_rows.proofs.Telling.{Tells}
 use Rattle.yv_rows.proofs.entries.add_block.Given as goal
 
 abbrev pub invariant-loop-child : goal.invariant-loop-child
-invariant-loop-child l = Lists l.file l.scope (map row l.fn.entries.items) (map row l.entries.items) (forest l.block) (forest (drop l.child-index l.block))
+invariant-loop-child l = record {
+  rows : Lists l.file l.scope (map row l.fn.entries.items) (map row l.entries.items) (forest l.block) (forest (drop l.child-index l.block));
+  trees : Tells (map tree l.fn.entries.items) (map tree l.entries.items) (forest l.block) (forest (drop l.child-index l.block));
+}
