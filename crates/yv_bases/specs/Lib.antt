@@ -1,0 +1,5 @@
+pub mod Kinds
+pub mod Types
+pub mod InnerPairs
+pub mod InnerTables
+pub mod InnerSteps

@@ -1,0 +1,10 @@
+//! What types lead to along typedefs, how many plain types their values may have, and what is wrong with them.
+#![tactic(auto)]
+
+mod draft;
+mod follows;
+mod inside;
+mod kinds;
+mod order;
+mod slots;
+mod steps;
