@@ -35,7 +35,7 @@ module _ (block : ℕ) where
       ap (λ m. types_in (take m rows) block) (add-one i) ∙ types_next 0 i rows r at ∙ ap (λ m. types_in (take i rows) block ++ entry_of m r) k
 
 -- a list at a place is another one
-items_of : (g : List (Vec ℕ Global)) (k : ℕ) (v : Vec ℕ Global) → k < length g → v ≡ get_or g k v → items_at g k ≡ v.items
+pub items_of : (g : List (Vec ℕ Global)) (k : ℕ) (v : Vec ℕ Global) → k < length g → v ≡ get_or g k v → items_at g k ≡ v.items
 items_of g k v h e = ap (λ (o : Option (Vec ℕ Global)). unwrap_or (option_map (λ (x : Vec ℕ Global). x.items) o) []) (slice_get_read g (length g) k v refl h e)
 
 items_here : (g : List (Vec ℕ Global)) (own : ℕ) (v : Vec ℕ Global) → own < length g → items_at (set g own v) own ≡ v.items

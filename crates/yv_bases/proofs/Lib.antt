@@ -4,3 +4,8 @@ pub mod Filling
 pub mod Following
 pub mod Stepping
 pub mod Ordering
+pub mod Walking
+pub mod Basing
+pub mod Marking
+pub mod Fitting
+pub mod Counting

@@ -5,7 +5,7 @@ use Rattle.std.specs.declared.vec.Vec.{Vec}
 use Rattle.std.specs.declared.alloc.Global.{Global}
 use Rattle.yv_rows.specs.Files.{Briefs}
 use Rattle.yv_rows.specs.Rows.{Row}
-use Rattle.yv_bases.specs.Types.{Follows}
+use Rattle.yv_bases.specs.Types.{Follows, HasBase}
 
 -- the number at a place, if there is one
 abbrev pub at : List (Option ℕ) → ℕ → Option ℕ
@@ -18,3 +18,7 @@ items_at lists k = unwrap_or (option_map (λ v. v.items) (slice_get lists k)) []
 -- these are the types that types follow
 abbrev pub AreFollowed : Briefs → List Row → List (Option ℕ) → Type 0
 AreFollowed files rows follows = (k j : ℕ) → (at follows k ≡ Some j) ↔ Follows files rows k j
+
+-- these are the bases of types
+abbrev pub AreBased : Briefs → List Row → List (Option ℕ) → Type 0
+AreBased files rows bases = (k b : ℕ) → (at bases k ≡ Some b) ↔ HasBase files rows k b

@@ -1,5 +1,10 @@
 pub mod Kinds
 pub mod Types
+pub mod Counts
+pub mod Faults
 pub mod InnerPairs
 pub mod InnerTables
 pub mod InnerSteps
+pub mod InnerBase
+pub mod InnerMarks
+pub mod InnerCounts

@@ -19,10 +19,10 @@ pub(crate) fn get(slots: &[Option<usize>], place: usize) -> Option<usize>
 }
 
 /// Puts a number, or none, at a place that there is.
-pub(crate) fn put(slots: &mut [Option<usize>], place: usize, number: Option<usize>)
-    ensures each { length slots.new ≡ length slots.old }
-    ensures here { place < length slots.old → at slots.new place ≡ number }
-    ensures elsewhere { (k : ℕ) → k ≢ place → at slots.new k ≡ at slots.old k }
+pub(crate) fn put(slots: &mut Vec<Option<usize>>, place: usize, number: Option<usize>)
+    ensures each { length slots.new.items ≡ length slots.old.items }
+    ensures here { place < length slots.old.items → at slots.new.items place ≡ number }
+    ensures elsewhere { (k : ℕ) → k ≢ place → at slots.new.items k ≡ at slots.old.items k }
 {
     if place < slots.len() {
         slots[place] = number;
