@@ -1,12 +1,10 @@
 -- The base of a type.
-use Rattle.std.proofs.Common.{◌≡◌, ℕ, ◌<◌, ◌≤◌, ◌↔◌, ◌⊎◌, inl, inr, not, Bool, true, false, List, length, refl, sym, ◌∙◌, ap, subst, arith, Option, Some, None}
-use Rattle.std.specs.List.{slice_get}
+use Rattle.std.proofs.Common.{◌≡◌, ℕ, ◌<◌, ◌↔◌, ◌⊎◌, inl, inr, not, Bool, true, false, List, length, refl, sym, ◌∙◌, ap, subst, Option, Some, None}
 use Rattle.std.proofs.lemmas.Bool.{false≢true}
 use Rattle.std.proofs.lemmas.Option.{same_Some, slice_get_within}
 use Rattle.yv_rows.specs.Files.{Briefs}
 use Rattle.yv_rows.specs.Rows.{Row, name_in}
 use Rattle.yv_names.specs.BuiltIn.{is_built_in}
-use Rattle.yv_names.specs.Refers.{is_type}
 use Rattle.yv_bases.specs.Types.{Follows, HasBase, built_in, derived}
 use Rattle.yv_bases.specs.InnerBase.{NamesBuiltIn}
 use Rattle.yv_bases.specs.InnerTables.{AreFollowed, at}

@@ -1,5 +1,5 @@
 -- How many plain types the values of a type may have.
-use Rattle.std.proofs.Common.{◌≡◌, ℕ, ◌+◌, ◌<◌, ◌≤◌, ◌↔◌, ◌⊎◌, inl, inr, zero, suc, min, Bool, true, false, List, [], ◌∷◌, length, refl, sym, ◌∙◌, ap, subst, arith, Option, Some, None, codes}
+use Rattle.std.proofs.Common.{◌≡◌, ℕ, ◌+◌, ◌<◌, ◌⊎◌, inl, inr, suc, true, false, List, [], ◌∷◌, length, refl, sym, ◌∙◌, ap, subst, arith, Option, Some, None, codes}
 use Rattle.std.specs.List.{slice_get, Contains}
 use Rattle.std.specs.Option.{option_and_then}
 use Rattle.std.proofs.lemmas.Bool.{false≢true}
@@ -21,7 +21,7 @@ use Rattle.yv_bases.proofs.Basing.{apart, no_number}
 use Rattle.yv_bases.proofs.Following.{follower_within}
 use Rattle.yv_bases.proofs.Ordering.{union_built_in}
 
-leafref_built_in : (r : Row) → is_leafref r ≡ true → is_built_in (name_in r) ≡ true
+pub leafref_built_in : (r : Row) → is_leafref r ≡ true → is_built_in (name_in r) ≡ true
 unfolding is_built_in
 leafref_built_in r h = rw ((bytes_eq-Decides (name_in r) (codes "leafref")).0 (both_true (is_type r) (bytes_eq (name_in r) (codes "leafref")) h).1) refl
 
@@ -75,14 +75,13 @@ module _ (files : Briefs) (rows : List Row) where
       ∙ ap Some (cap_more t a b n e)
 
   -- how a type has its count
-  Shape : ℕ → ℕ → Row → Type 0
+  abbrev pub Shape : ℕ → ℕ → Row → Type 0
   Shape k n r = ((is_leafref r ≡ true) × (n ≡ 0))
       ⊎ (((is_union r ≡ true) × CountAll files rows (types_in rows k) n)
       ⊎ (((is_leafref r ≡ false) × (is_union r ≡ false) × NamesBuiltIn rows k × (n ≡ 1))
       ⊎ ((j : ℕ) × Follows files rows k j × Counts files rows j n)))
 
-  shape : {k n : ℕ} (r : Row) → slice_get rows k ≡ Some r → Counts files rows k n → Shape k n r
-  unfolding Shape
+  pub shape : {k n : ℕ} (r : Row) → slice_get rows k ≡ Some r → Counts files rows k n → Shape k n r
   shape r at (leafref {r = q} here is) = inl (ap is_leafref (same_Some r q (sym at ∙ here)) ∙ is, refl)
   shape r at (union {r = q} here is all) = inr (inl (ap is_union (same_Some r q (sym at ∙ here)) ∙ is, all))
   shape r at (plain {r = q} here is named out off) =
@@ -95,7 +94,6 @@ module _ (files : Briefs) (rows : List Row) where
     built is named = record { statement = r; at = here; is = is; named = named }
 
     pub count_leafref : is_leafref r ≡ true → IsCount files rows k (Some 0)
-    unfolding Shape
     count_leafref is = record {
       exists = λ c e. (0, leafref here is, let z : 0 ≡ c = same_Some 0 c e in omega (arith, z));
       all = λ n h. elim (shape r here h) [
@@ -107,7 +105,6 @@ module _ (files : Briefs) (rows : List Row) where
     }
 
     pub count_union : (counts : List (Option ℕ)) (o : Option ℕ) → is_union r ≡ true → o ≡ total_from counts 0 (types_in rows k) → ((j : ℕ) → RestsOn files rows k j → IsCount files rows j (at counts j)) → IsCount files rows k o
-    unfolding Shape
     count_union counts o is e known = record {
       exists = λ c h. let p = total_exists counts 0 (types_in rows k) c members (sym e ∙ h) in (p.0, union here is p.1, p.2 ∙ (let z = p.0 in omega arith));
       all = λ n h. elim (shape r here h) [
@@ -125,7 +122,6 @@ module _ (files : Briefs) (rows : List Row) where
 
     module _ (out : is_leafref r ≡ false) (off : is_union r ≡ false) where
       pub count_plain : NamesBuiltIn rows k → IsCount files rows k (Some 1)
-      unfolding Shape
       count_plain b =
           let same : b.statement ≡ r = same_Some b.statement r (sym b.at ∙ here) in
           record {
@@ -140,7 +136,6 @@ module _ (files : Briefs) (rows : List Row) where
 
       module _ (follows : List (Option ℕ)) (told : AreFollowed files rows follows) (not_built : NamesBuiltIn rows k → ⊥) where
         pub count_along : (counts : List (Option ℕ)) (j : ℕ) (o : Option ℕ) → at follows k ≡ Some j → o ≡ at counts j → ((j : ℕ) → RestsOn files rows k j → IsCount files rows j (at counts j)) → IsCount files rows k o
-        unfolding Shape
         count_along counts j o is e known =
             let f : Follows files rows k j = (told k j).0 is in
             let own : IsCount files rows j (at counts j) = known j (inl f) in
@@ -157,7 +152,6 @@ module _ (files : Briefs) (rows : List Row) where
             }
 
         pub count_none : at follows k ≡ None → IsCount files rows k None
-        unfolding Shape
         count_none is = record {
           exists = λ c h. absurd (no_number c h);
           all = λ n h. elim (shape r here h) [
@@ -167,9 +161,3 @@ module _ (files : Briefs) (rows : List Row) where
             | inr (inr (inr p)) ↦ absurd (no_number p.0 (sym is ∙ (told k p.0).1 p.1))
           ];
         }
-
-  pub count_past : (k : ℕ) → length rows ≤ k → IsCount files rows k None
-  count_past k past = record {
-    exists = λ c h. absurd (no_number c h);
-    all = λ n h. let w = count_within h in absurd (omega (arith, w, past));
-  }

@@ -1,5 +1,5 @@
 -- Substatements that types don't take, or need.
-use Rattle.std.proofs.Common.{◌≡◌, ℕ, ◌<◌, ◌≤◌, ◌↔◌, ◌⊎◌, inl, inr, Bool, true, false, IsTrue, List, length, refl, sym, ◌∙◌, ap, subst, arith, Option, Some, None, codes}
+use Rattle.std.proofs.Common.{◌≡◌, ℕ, ◌≤◌, ◌↔◌, ◌⊎◌, inl, inr, Bool, false, IsTrue, List, length, sym, ◌∙◌, ap, arith, Option, Some, None}
 use Rattle.std.specs.List.{slice_get}
 use Rattle.std.specs.Str.{bytes_eq}
 use Rattle.std.proofs.lemmas.Bool.{false≢true}
@@ -7,7 +7,7 @@ use Rattle.std.proofs.lemmas.Option.{same_Some, slice_get_within}
 use Rattle.std.proofs.lemmas.Slice.Eq.{bytes_eq-Decides}
 use Rattle.yv_rows.specs.Files.{Briefs}
 use Rattle.yv_rows.specs.Rows.{Row, name_in}
-use Rattle.yv_bases.specs.Kinds.{is_foreign, is_first}
+use Rattle.yv_bases.specs.Kinds.{is_foreign}
 use Rattle.yv_bases.specs.Types.{HasKind}
 use Rattle.yv_bases.specs.Faults.{IsMisfit, foreign, inherited}
 use Rattle.yv_bases.specs.InnerMarks.{IsForeign, IsInherited, Passes}

@@ -9,3 +9,5 @@ pub mod Basing
 pub mod Marking
 pub mod Fitting
 pub mod Counting
+pub mod Judging
+pub mod Once

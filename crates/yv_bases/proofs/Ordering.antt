@@ -1,24 +1,24 @@
 -- No type leads to itself, and so types have an order.
-use Rattle.std.proofs.Common.{◌≡◌, ℕ, ◌<◌, ◌≤◌, ◌↔◌, ◌⊎◌, inl, inr, not, ◌==◌, ◌&&◌, nat_lt, Bool, true, false, zero, suc, get_or, List, [], ◌∷◌, length, take, map, refl, sym, ◌∙◌, ap, subst, arith, Option, Some, None, codes, eqb-true}
+use Rattle.std.proofs.Common.{◌≡◌, ℕ, ◌<◌, ◌⊎◌, inl, inr, not, ◌==◌, nat_lt, Bool, true, false, zero, suc, List, [], ◌∷◌, length, refl, sym, ◌∙◌, subst, arith, Option, Some, None, codes, eqb-true}
 use Rattle.std.specs.List.{slice_get, slice_index, All, Contains}
 use Rattle.std.specs.Str.{bytes_eq}
-use Rattle.std.proofs.lemmas.Bool.{false≢true, cases_lt}
+use Rattle.std.proofs.lemmas.Bool.{false≢true}
 use Rattle.std.proofs.lemmas.List.{get_or_default, get_or-take, length-take-le}
-use Rattle.std.proofs.lemmas.Option.{same_Some, slice_get_within}
+use Rattle.std.proofs.lemmas.Option.{slice_get_within}
 use Rattle.std.proofs.lemmas.Slice.Eq.{bytes_eq-Decides}
 use Rattle.yv_rows.specs.Files.{Briefs}
 use Rattle.yv_rows.specs.Names.{local_of}
 use Rattle.yv_rows.specs.Rows.{Row, name_in}
-use Rattle.yv_rows.specs.Scopes.{AreNested, MeansFrom, start_of}
+use Rattle.yv_rows.specs.Scopes.{MeansFrom, start_of}
 use Rattle.yv_rows.specs.declared.kind.Kind.TheVariants.{Typedef}
 use Rattle.yv_graph.specs.Graph.{Graph, HasEdge, IsOrder}
 use Rattle.yv_graph.specs.Graph as graph
 use Rattle.yv_names.specs.BuiltIn.{is_built_in}
 use Rattle.yv_names.specs.Taken.{is_of}
 use Rattle.yv_names.specs.Refers.{Refers, is_type}
-use Rattle.yv_names.specs.Leads.{CountsFor, directly, further, Joins, LeadsTo, by_step, by_way, IsOrderOf}
+use Rattle.yv_names.specs.Leads.{CountsFor, directly, further, LeadsTo, by_step, by_way, IsOrderOf}
 use Rattle.yv_bases.specs.Types.{Follows, IsMember, IsOrderOfTypes, RestsOn, is_inner, is_type_in, is_union, types_in}
-use Rattle.yv_bases.specs.InnerTables.{AreFollowed, items_at}
+use Rattle.yv_bases.specs.InnerTables.{AreFollowed}
 use Rattle.yv_bases.specs.InnerSteps.{AreSteps}
 use Rattle.yv_bases.proofs.Words.{both_true}
 use Rattle.yv_bases.proofs.Blocks.{first_in, in_types, type_in}

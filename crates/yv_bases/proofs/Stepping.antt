@@ -1,15 +1,15 @@
 -- The graph of the types.
-use Rattle.std.proofs.Common.{◌≡◌, ℕ, ◌+◌, ◌<◌, ◌≤◌, ◌↔◌, ◌⊎◌, inl, inr, zero, suc, Bool, true, false, List, [], ◌∷◌, ◌++◌, length, get_or, refl, sym, ◌∙◌, ap, subst, arith, Option, Some, None}
+use Rattle.std.proofs.Common.{◌≡◌, ℕ, ◌+◌, ◌<◌, inl, inr, zero, suc, Bool, true, false, List, [], ◌∷◌, ◌++◌, length, get_or, refl, sym, ◌∙◌, ap, subst, arith, Option, Some}
 use Rattle.std.specs.List.{slice_get, Contains}
 use Rattle.std.specs.Option.{option_map, unwrap_or}
 use Rattle.std.specs.declared.vec.Vec.{Vec}
 use Rattle.std.specs.declared.alloc.Global.{Global}
-use Rattle.std.proofs.lemmas.Bool.{cases_lt, false≢true}
+use Rattle.std.proofs.lemmas.Bool.{cases_lt}
 use Rattle.std.proofs.lemmas.List.{get_or_default}
 use Rattle.std.proofs.lemmas.Option.{same_Some, slice_get_within, slice_get-get_or}
 use Rattle.yv_rows.specs.Rows.{Row}
-use Rattle.yv_graph.specs.Graph.{Graph, HasEdge, IsGraph}
-use Rattle.yv_bases.specs.Types.{is_union, types_in}
+use Rattle.yv_graph.specs.Graph.{Graph, HasEdge}
+use Rattle.yv_bases.specs.Types.{is_union}
 use Rattle.yv_bases.specs.InnerTables.{at, items_at}
 use Rattle.yv_bases.specs.InnerSteps.{AreEdges, AreSteps}
 use Rattle.yv_bases.proofs.Blocks.{type_in}

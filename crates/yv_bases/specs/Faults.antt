@@ -1,5 +1,5 @@
 -- What is wrong with the types (RFC 7950, sections 7.3.2, 7.4 and 9).
-use Rattle.std.specs.Prelude.{◌≡◌, ℕ, ◌<◌, ◌&&◌, ◌⊎◌, not, Bool, true, List, length, map, Some, codes, slice_get}
+use Rattle.std.specs.Prelude.{◌≡◌, ℕ, ◌&&◌, ◌⊎◌, not, Bool, true, List, length, map, Some, codes, slice_get}
 use Rattle.yv_statement.specs.Order.{Stands, Among, refusal_at}
 use Rattle.yv_statement.specs.declared.refusal.Refusal.{Refusal}
 use Rattle.yv_statement.specs.declared.refusal.Code.TheVariants as code
@@ -10,6 +10,7 @@ use Rattle.yv_names.specs.BuiltIn.{is_built_in}
 use Rattle.yv_names.specs.Refers.{is_type}
 use Rattle.yv_bases.specs.Kinds.{is_first, is_foreign, needs, needs_one}
 use Rattle.yv_bases.specs.Types.{HasKind, is_union}
+use Rattle.yv_bases.specs.Counts.{HasTooMany}
 
 -- statement c stands in the block of k
 abbrev pub IsChild : List Row → ℕ → ℕ → Row → Type 0
@@ -31,3 +32,17 @@ pub data IsBadType (files : Briefs) (rows : List Row) (k : ℕ) (r : Row) : Type
   missing : is_type r ≡ true → needs_one (name_in r) ≡ true → ((c : ℕ) (s : Row) → IsChild rows k c s → needs (name_in r) s.head.keyword ≡ true → ⊥)
       → IsBadType files rows k r
   joined : {u : Row} → HasKind files rows k (codes "leafref") → slice_get rows r.scope ≡ Some u → is_union u ≡ true → IsBadType files rows k r
+
+-- what is wrong with the numbered statement
+abbrev pub BadRow : Briefs → List Row → ℕ → Row → Refusal → Type 0
+BadRow files rows k r f =
+    Stands (IsBadType files rows k r) (refusal_at code.BadType r.file r.head) f
+    ⊎ Stands (HasTooMany files rows k) (refusal_at code.TooManyMembers r.file r.head) f
+
+-- what is wrong with one of the statements
+abbrev pub BadIn : Briefs → List Row → Refusal → Type 0
+BadIn files rows f = Among rows (BadRow files rows) (length rows) f
+
+-- what is wrong with the types in files
+abbrev pub BadKinds : Files → Refusal → Type 0
+BadKinds files f = BadIn (map brief_of files) (rows_of files) f

@@ -2,7 +2,6 @@
 use Rattle.std.specs.Prelude.{◌≡◌, ◌↔◌, ℕ, Bool, true, false, List, Some, codes, slice_get, slice_index_or}
 use Rattle.yv_rows.specs.Files.{Briefs}
 use Rattle.yv_rows.specs.Rows.{Row, name_in}
-use Rattle.yv_names.specs.Refers.{is_type}
 use Rattle.yv_bases.specs.Kinds.{is_first, is_foreign, needs}
 use Rattle.yv_bases.specs.Types.{HasKind, is_union}
 use Rattle.yv_bases.specs.Faults.{IsChild, is_derived}

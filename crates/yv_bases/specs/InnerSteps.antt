@@ -1,9 +1,9 @@
 -- Inner definitions, which only private clauses cite: the graph of the types.
-use Rattle.std.specs.Prelude.{◌≡◌, ◌↔◌, ◌⊎◌, ℕ, ◌<◌, true, false, List, length, Option, Some, slice_get}
+use Rattle.std.specs.Prelude.{◌≡◌, ◌↔◌, ℕ, true, false, List, length, Option, Some, slice_get}
 use Rattle.std.specs.List.{Contains}
 use Rattle.yv_rows.specs.Rows.{Row}
-use Rattle.yv_graph.specs.Graph.{Graph, HasEdge, IsGraph}
-use Rattle.yv_bases.specs.Types.{IsMember, is_union, types_in}
+use Rattle.yv_graph.specs.Graph.{Graph, IsGraph}
+use Rattle.yv_bases.specs.Types.{is_union, types_in}
 use Rattle.yv_bases.specs.InnerTables.{at, items_at}
 
 -- the edges of statement k: to a union's members, else to the type that it follows

@@ -1,5 +1,4 @@
-use Rattle.std.proofs.Common.{◌≡◌, ◌≤◌, ◌<◌, ℕ, Some, List, length, ◌∙◌, ap, arith}
-use Rattle.std.specs.List.{slice_get}
+use Rattle.std.proofs.Common.{◌≤◌, ◌<◌, ℕ, List, length, ◌∙◌, ap, arith}
 use Rattle.yv_rows.specs.Rows.{Row, row}
 use Rattle.yv_rows.specs.Lent.{files_in, rows_in}
 use Rattle.yv_bases.specs.Types.{Follows}

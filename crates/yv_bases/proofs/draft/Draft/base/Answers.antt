@@ -1,8 +1,6 @@
-use Rattle.std.proofs.Common.{◌≡◌, Some, None, sym, ◌∙◌, ap, subst, Option, ℕ, ◌↔◌}
+use Rattle.std.proofs.Common.{◌≡◌, Some, None, sym, ◌∙◌, ap}
 use Rattle.std.proofs.lemmas.Bool.{false≢true}
 use Rattle.yv_rows.specs.Lent.{files_in, rows_in}
-use Rattle.yv_bases.specs.Types.{HasBase}
-use Rattle.yv_bases.specs.InnerBase.{NamesBuiltIn}
 use Rattle.yv_bases.specs.InnerTables.{at}
 use Rattle.yv_bases.proofs.Basing.{base_along, base_itself, base_none}
 use Rattle.yv_bases.proofs.draft.Draft.base.Goals as goal

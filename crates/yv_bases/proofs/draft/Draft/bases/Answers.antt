@@ -1,11 +1,10 @@
-use Rattle.std.proofs.Common.{◌≡◌, ◌<◌, ◌↔◌, inl, ℕ, List, Option, Some, length, refl, subst, sym, ◌∙◌, ap, arith}
+use Rattle.std.proofs.Common.{◌≡◌, ◌<◌, ◌↔◌, inl, ℕ, List, Option, Some, length, refl, subst, sym, ◌∙◌, arith}
 use Rattle.std.specs.List.{slice_index}
-use Rattle.yv_rows.specs.Rows.{Row, row}
+use Rattle.yv_rows.specs.Rows.{Row}
 use Rattle.yv_rows.specs.Files.{Briefs}
 use Rattle.yv_rows.specs.Lent.{files_in, rows_in}
 use Rattle.yv_bases.specs.Types.{Follows, HasBase}
 use Rattle.yv_bases.specs.InnerTables.{at}
-use Rattle.yv_bases.proofs.Words.{rows_count}
 use Rattle.yv_bases.proofs.Basing.{base_within, no_number}
 use Rattle.yv_bases.proofs.Walking.{walk_all, walk_more}
 use Rattle.yv_bases.proofs.draft.Draft.bases.Goals as goal

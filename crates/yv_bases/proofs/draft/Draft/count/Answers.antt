@@ -1,16 +1,16 @@
-use Rattle.std.proofs.Common.{◌≡◌, ◌≤◌, List, Option, ℕ, Some, None, true, false, length, sym, ◌∙◌, ap, arith}
+use Rattle.std.proofs.Common.{◌≡◌, List, Some, None, sym, ◌∙◌, ap, arith}
 use Rattle.std.specs.List.{slice_get}
 use Rattle.std.proofs.lemmas.Bool.{false≢true}
 use Rattle.std.proofs.lemmas.Option.{slice_get_within}
 use Rattle.yv_rows.specs.Files.{Briefs}
 use Rattle.yv_rows.specs.Rows.{Row, row}
 use Rattle.yv_rows.specs.Lent.{files_in, rows_in}
-use Rattle.yv_bases.specs.Types.{is_leafref, is_union, types_in}
+use Rattle.yv_bases.specs.Types.{types_in}
 use Rattle.yv_bases.specs.InnerCounts.{total_from}
 use Rattle.yv_bases.specs.InnerTables.{at}
-use Rattle.yv_bases.proofs.Words.{row_read, rows_count}
+use Rattle.yv_bases.proofs.Words.{row_read}
 use Rattle.yv_bases.proofs.Blocks.{items_of}
-use Rattle.yv_bases.proofs.Counting.{count_along, count_leafref, count_none, count_past, count_plain, count_union}
+use Rattle.yv_bases.proofs.Counting.{count_along, count_leafref, count_none, count_plain, count_union}
 use Rattle.yv_bases.proofs.draft.Draft.count.Goals as goal
 
 pub returns-then-is_kind : goal.returns-then-is_kind

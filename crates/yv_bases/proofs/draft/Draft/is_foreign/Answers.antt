@@ -1,4 +1,4 @@
-use Rattle.std.proofs.Common.{sym, ◌∙◌, ap}
+use Rattle.std.proofs.Common.{ap}
 use Rattle.std.specs.Option.{option_map}
 use Rattle.yv_rows.specs.Lent.{files_in, rows_in}
 use Rattle.yv_bases.proofs.Fitting.{foreign_none, foreign_some}

@@ -1,4 +1,4 @@
-use Rattle.std.proofs.Common.{codes, sym, ◌∙◌, ap}
+use Rattle.std.proofs.Common.{codes, ap}
 use Rattle.std.specs.Option.{option_map}
 use Rattle.yv_rows.specs.Lent.{files_in, rows_in}
 use Rattle.yv_bases.proofs.Fitting.{kind_is, kind_none}

@@ -1,10 +1,8 @@
-use Rattle.std.proofs.Common.{◌≡◌, ◌≤◌, List, Some, length, ◌∙◌, ap, arith}
+use Rattle.std.proofs.Common.{◌≡◌, ◌≤◌, List, Some, length, arith}
 use Rattle.std.specs.List.{slice_get}
-use Rattle.yv_rows.specs.Rows.{Row, row, name_in}
+use Rattle.yv_rows.specs.Rows.{Row, row}
 use Rattle.yv_rows.specs.Lent.{rows_in}
-use Rattle.yv_bases.specs.Kinds.{needs}
 use Rattle.yv_bases.specs.Types.{is_union}
-use Rattle.yv_bases.specs.Faults.{is_derived}
 use Rattle.yv_bases.proofs.Words.{row_read, rows_count}
 use Rattle.yv_bases.proofs.Fitting.{passes_here, passes_past}
 use Rattle.yv_bases.proofs.draft.Draft.is_union_at.Goals as goal

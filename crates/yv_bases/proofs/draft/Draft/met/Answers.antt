@@ -6,7 +6,7 @@ use Rattle.yv_rows.specs.Rows.{Row, row}
 use Rattle.yv_rows.specs.Lent.{lent_in, rows_in}
 use Rattle.yv_bases.specs.InnerMarks.{Meets}
 use Rattle.yv_bases.proofs.Words.{row_read, rows_count}
-use Rattle.yv_bases.proofs.Marking.{MarkedUpTo, marked_all, marked_more, marked_other}
+use Rattle.yv_bases.proofs.Marking.{marked_all, marked_more, marked_other}
 use Rattle.yv_bases.proofs.draft.Draft.met.Goals as goal
 use Rattle.yv_bases.proofs.draft.Draft.met.Goals.{then-meets, else-meets}
 

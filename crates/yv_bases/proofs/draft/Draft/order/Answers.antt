@@ -1,11 +1,10 @@
-use Rattle.std.proofs.Common.{List, map, subst}
+use Rattle.std.proofs.Common.{List, subst}
 use Rattle.yv_rows.specs.Files.{Briefs}
 use Rattle.yv_rows.specs.Rows.{Row}
 use Rattle.yv_rows.specs.Lent.{files_in, rows_in}
 use Rattle.yv_graph.specs.Graph.{IsOrder, IsFirstOnCycle}
 use Rattle.yv_graph.specs.Ranked.{IfCircle, IfRanks}
 use Rattle.yv_graph.specs.declared.circles.Ranked.{Ranked}
-use Rattle.yv_graph.specs.declared.circles.Ranked.TheVariants.{Circle, Ranks}
 use Rattle.yv_bases.proofs.Ordering.{no_circle, order_of}
 use Rattle.yv_bases.proofs.draft.Draft.order.Goals as goal
 
