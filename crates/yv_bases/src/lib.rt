@@ -18,5 +18,7 @@ mod misfits;
 mod order;
 mod slots;
 mod steps;
+#[cfg(test)]
+mod tests;
 
 pub use known::Bases;
