@@ -1,0 +1,13 @@
+pub mod Words
+pub mod Blocks
+pub mod Filling
+pub mod Following
+pub mod Stepping
+pub mod Ordering
+pub mod Walking
+pub mod Basing
+pub mod Marking
+pub mod Fitting
+pub mod Counting
+pub mod Judging
+pub mod Once

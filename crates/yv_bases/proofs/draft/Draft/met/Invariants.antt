@@ -1,0 +1,11 @@
+use Rattle.std.proofs.Common.{◌≡◌, length}
+use Rattle.yv_rows.specs.Lent.{rows_in}
+use Rattle.yv_bases.specs.InnerMarks.{Meets}
+use Rattle.yv_bases.proofs.Marking.{MarkedUpTo}
+use Rattle.yv_bases.proofs.draft.Draft.met.Given as goal
+
+abbrev pub invariant-loop-entry : goal.invariant-loop-entry
+invariant-loop-entry l = record {
+  each : length l.marks.items ≡ length (rows_in l.self.rows.now);
+  told : MarkedUpTo (Meets (rows_in l.self.rows.now)) (rows_in l.self.rows.now) l.entry-index l.marks.items;
+}

@@ -1,0 +1,26 @@
+use Rattle.std.proofs.Common.{◌≡◌, sym, ◌∙◌, ap, subst}
+use Rattle.yv_rows.specs.Files.{Files}
+use Rattle.yv_rows.specs.Lent.{lent_in, files_in, rows_in}
+use Rattle.yv_rows.specs.declared.rows.Rows.{Rows}
+use Rattle.yv_names.specs.Known.{AreNames}
+use Rattle.yv_bases.specs.Types.{IsOrderOfTypes}
+use Rattle.yv_bases.specs.Known.{AreBases}
+use Rattle.yv_bases.specs.InnerFound.{AreFound}
+use Rattle.yv_bases.specs.InnerTables.{AreFollowed}
+use Rattle.yv_bases.specs.declared.known.Bases.{Bases}
+use Rattle.yv_bases.proofs.known.Bases.read.Goals as goal
+
+pub returns : goal.returns
+returns c files is given =
+    let own : Rows = c.in_ok-draft.draft.rows.now in
+    let same : own ≡ c.args.rows.now = c.in_ok-draft.ensures.rows in
+    let lent : AreNames (lent_in c.args.rows.now) c.args.names.now = subst (λ (fs : Files). AreNames fs c.args.names.now) (sym is) given in
+    let names : AreNames (lent_in own) c.args.names.now = subst (λ (x : Rows). AreNames (lent_in x) c.args.names.now) (sym same) lent in
+    let followed : AreFollowed (files_in own) (rows_in own) c.in_ok-draft.draft.follows.items =
+    subst (λ (x : Rows). AreFollowed (files_in x) (rows_in x) c.in_ok-draft.draft.follows.items) (sym same) (c.in_ok-draft.ensures.follows lent) in
+    let order : IsOrderOfTypes (files_in own) (rows_in own) c.in_ok-order.order.items = c.in_ok-order.ensures c.args.names.now names followed in
+    let found : AreFound (files_in own) (rows_in own) c.in_ok-found.found =
+    c.in_ok-found.ensures followed (subst (λ xs. IsOrderOfTypes (files_in own) (rows_in own) xs) (sym c.deref-2.ensures.value) order) in
+    let bases : Bases = record { bases = c.in_ok-found.found.bases; follows = c.in_ok-draft.draft.follows; order = c.in_ok-order.order; fault = c.first_fault-fault.result } in
+    let all : AreBases (lent_in own) bases = record { based = found.based; followed = followed; order = order; least = c.first_fault-fault.ensures found } in
+    subst (λ (fs : Files). AreBases fs bases) (ap lent_in same ∙ is) all

@@ -1,0 +1,12 @@
+pub mod Kinds
+pub mod Types
+pub mod Counts
+pub mod Faults
+pub mod Known
+pub mod InnerPairs
+pub mod InnerTables
+pub mod InnerSteps
+pub mod InnerBase
+pub mod InnerMarks
+pub mod InnerCounts
+pub mod InnerFound

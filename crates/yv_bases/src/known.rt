@@ -1,0 +1,82 @@
+//! The bases of types, and what readers ask of them.
+ghost use Rattle.std.specs.Prelude.{◌≡◌, ◌↔◌, ℕ, Some, map, IfOk};
+ghost use Rattle.yv_statement.specs.Order.{IsLeast};
+ghost use Rattle.yv_rows.specs.Files.{Files, brief_of};
+ghost use Rattle.yv_rows.specs.Listed.{rows_of};
+ghost use Rattle.yv_rows.specs.Lent.{lent_in};
+ghost use Rattle.yv_names.specs.Known.{AreNames};
+
+use crate::draft::Draft;
+use crate::found::Found;
+use crate::slots::get;
+use std::alloc::{AllocError, Global};
+use yv_names::Names;
+use yv_rows::Rows;
+use yv_statement::Refusal;
+
+/// The built-in types to which the types of files lead, and what is wrong with these.
+#[derive(Drop)]
+pub struct Bases {
+    pub(crate) bases: Vec<Option<usize>>,
+    pub(crate) follows: Vec<Option<usize>>,
+    pub(crate) order: Vec<usize>,
+    pub(crate) fault: Option<Refusal>,
+}
+
+impl Bases {
+    ghost use Rattle.yv_bases.specs.Types.{Follows, HasBase, IsOrderOfTypes};
+    ghost use Rattle.yv_bases.specs.Faults.{BadKinds};
+    ghost use Rattle.yv_bases.specs.Known.{AreBases};
+
+    /// Reads the types of these statements, the names being theirs. Want of memory is the only error.
+    pub fn read(alloc: Global, rows: &Rows<'_, '_>, names: &Names) -> Result<Bases, AllocError>
+        ensures { IfOk result (λ bases. (files : Files) → lent_in rows.now ≡ files → AreNames files names.now → AreBases files bases) }
+    {
+        let draft = Draft::read(alloc, rows, names)?;
+        let steps = draft.steps(alloc)?;
+        let order = draft.order(alloc, &steps)?;
+        let found = Found::read(alloc, &draft, &order)?;
+        let fault = draft.first_fault(&found);
+        let bases = found.bases;
+        let follows = draft.follows;
+        Ok(Bases {
+            bases,
+            follows,
+            order,
+            fault,
+        })
+    }
+
+    /// The number of the type statement that names the built-in type to which the type of this number leads along
+    /// typedefs (RFC 7950, section 7.3): its own where it names one. None for other statements.
+    pub fn base(&self, number: usize) -> Option<usize>
+        ensures { (files : Files) → AreBases files self.now
+            → (b : ℕ) → (result ≡ Some b) ↔ HasBase (map brief_of files) (rows_of files) number b }
+    {
+        get(&self.bases, number)
+    }
+
+    /// The number of the type of the typedef that the type of this number names. None for other statements, and for
+    /// types that name built-in types.
+    pub fn follows(&self, number: usize) -> Option<usize>
+        ensures { (files : Files) → AreBases files self.now
+            → (j : ℕ) → (result ≡ Some j) ↔ Follows (map brief_of files) (rows_of files) number j }
+    {
+        get(&self.follows, number)
+    }
+
+    /// The numbers of all statements, each once, and each type behind the type that it follows and behind its members.
+    pub fn order(&self) -> &[usize]
+        ensures { (files : Files) → AreBases files self.now → IsOrderOfTypes (map brief_of files) (rows_of files) result.now }
+    {
+        &self.order
+    }
+
+    /// The least that is wrong with the types (RFC 7950, section 9): a substatement that a type doesn't take or lacks,
+    /// a leafref in a union, or a type with more than 64 members. None where nothing is wrong.
+    pub fn fault(&self) -> Option<Refusal>
+        ensures { (files : Files) → AreBases files self.now → IsLeast (BadKinds files) result }
+    {
+        self.fault
+    }
+}

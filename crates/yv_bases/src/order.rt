@@ -1,0 +1,32 @@
+//! An order of the types.
+ghost use Rattle.std.specs.Prelude.{IfOk};
+ghost use Rattle.yv_rows.specs.Lent.{files_in, lent_in, rows_in};
+ghost use Rattle.yv_names.specs.Known.{AreNames};
+ghost use Rattle.yv_names.specs.declared.known.Names.{Names};
+ghost use Rattle.yv_bases.specs.Types.{IsOrderOfTypes};
+ghost use Rattle.yv_bases.specs.InnerTables.{AreFollowed};
+ghost use Rattle.yv_bases.specs.InnerSteps.{AreSteps};
+
+use crate::draft::Draft;
+use std::alloc::{AllocError, Global};
+use yv_graph::{Ranked, rank};
+
+impl Draft<'_, '_, '_> {
+    /// An order in which each type stands behind those from which it takes its values, these being the steps.
+    pub(crate) fn order(
+        &self,
+        alloc: Global,
+        steps: &[Vec<usize>],
+    ) -> Result<Vec<usize>, AllocError>
+        requires { AreSteps (rows_in self.now.rows.now) self.now.follows.items steps.now }
+        ensures { IfOk result (λ order. (names : Names) → AreNames (lent_in self.now.rows.now) names
+            → AreFollowed (files_in self.now.rows.now) (rows_in self.now.rows.now) self.now.follows.items
+            → IsOrderOfTypes (files_in self.now.rows.now) (rows_in self.now.rows.now) order.items) }
+    {
+        match rank(alloc, steps)? {
+            Ranked::Ranks { order, .. } => Ok(order),
+            // Where the names are known no typedef leads to itself, and then no type does.
+            Ranked::Circle(_) => Ok(Vec::new(alloc)),
+        }
+    }
+}
