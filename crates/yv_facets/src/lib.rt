@@ -1,0 +1,10 @@
+//! What a `type` statement makes of the numbers, texts and octets of the type that it names: `range`, `length` and
+//! `pattern` (RFC 7950, sections 9.2.4, 9.3.4, 9.4.4, 9.4.5 and 9.8.1).
+#![tactic(auto)]
+
+mod restriction;
+mod unrestricted;
+
+pub use unrestricted::built_in;
+pub use yv_numbers::{Integer, Intervals, Span};
+pub use yv_values::PlainType;
