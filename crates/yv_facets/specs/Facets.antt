@@ -39,9 +39,11 @@ IsTest c (Some test) =
     × (test.inverted ≡ is_some (child (codes "modifier") c))
 
 -- the tests that substatements are, in order
-pub data AreTests : List Tree → List Test → Type 0 where
-  none : AreTests [] []
-  more : (c : Tree) (cs : List Tree) (test : Option Test) (tests : List Test) → IsTest c test → AreTests cs tests → AreTests (c ∷ cs) (option_to_list test ++ tests)
+abbrev pub AreTests : List Tree → List Test → Type 0
+AreTests [] tests = tests ≡ []
+AreTests (c ∷ cs) tests =
+    (first : Option Test) × (others : List Test)
+    × IsTest c first × AreTests cs others × (tests ≡ option_to_list first ++ others)
 
 -- What is left of a type: fewer numbers, fewer lengths, more tests. The `length` of a string counts characters, that of
 -- a binary octets.

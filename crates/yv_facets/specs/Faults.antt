@@ -16,13 +16,13 @@ BadRestriction file digits base (Some c) f =
     Stands (RestrictsNone digits base (name_of c.head)) (refusal_at code.BadRestriction file c.head) f
 
 -- a substatement is a `pattern` outside the dialect
-abbrev pub BadPattern : ℕ → ℕ → Tree → Refusal → Type 0
-BadPattern file k c f =
+abbrev pub BadPattern : ℕ → Tree → Refusal → Type 0
+BadPattern file c f =
     Stands ((has_word (codes "pattern") c ≡ true) × IsOutside (name_of c.head)) (refusal_at code.BadPattern file c.head) f
 
 -- one of these statements is
 abbrev pub BadPatterns : ℕ → List Tree → Refusal → Type 0
-BadPatterns file cs f = Among cs (BadPattern file) (length cs) f
+BadPatterns file cs f = Among cs (λ k. BadPattern file) (length cs) f
 
 -- what is wrong with the restrictions of a type statement, by the type that it names
 abbrev pub BadFacets : ℕ → Tree → Plain → Refusal → Type 0
@@ -33,8 +33,10 @@ BadFacets file t (strings lengths tests) f =
 BadFacets file t (octets lengths) f = BadRestriction file None lengths (child (codes "length") t) f
 BadFacets file t p f = ⊥
 
--- a pattern of the statement is in the dialect
+-- a statement is a `pattern` in the dialect
+abbrev pub IsPattern : Tree → Type 0
+IsPattern c = (source : List ℕ) × (has_word (codes "pattern") c ≡ true) × Translates (name_of c.head) source
+
+-- one of these statements is
 abbrev pub HasPattern : List Tree → Type 0
-HasPattern cs =
-    (k : ℕ) × (c : Tree) × (source : List ℕ)
-    × (slice_get cs k ≡ Some c) × (has_word (codes "pattern") c ≡ true) × Translates (name_of c.head) source
+HasPattern cs = (k : ℕ) × (c : Tree) × (slice_get cs k ≡ Some c) × IsPattern c

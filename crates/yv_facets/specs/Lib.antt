@@ -1,3 +1,4 @@
 pub mod BuiltIn
 pub mod Facets
 pub mod Faults
+pub mod InnerStops

@@ -2,6 +2,7 @@
 //! `pattern` (RFC 7950, sections 9.2.4, 9.3.4, 9.4.4, 9.4.5 and 9.8.1).
 #![tactic(auto)]
 
+mod patterns;
 mod restriction;
 mod unrestricted;
 
