@@ -1,6 +1,6 @@
 -- The built-in types whose values are numbers, texts, octets or a truth value, and empty, before any restriction (RFC
 -- 7950, sections 9.2 to 9.5, 9.8 and 9.11).
-use Rattle.std.specs.Prelude.{ℕ, ◌-◌, ◌^◌, pos, negsuc, Bool, true, false, List, [], ◌∷◌, Option, Some, None, codes, if◌then◌else◌}
+use Rattle.std.specs.Prelude.{ℕ, ◌-◌, ◌^◌, pos, negsuc, true, false, List, [], ◌∷◌, Option, Some, None, codes, if◌then◌else◌}
 use Rattle.std.specs.Str.{bytes_eq}
 use Rattle.yv_numbers.specs.Intervals.{Interval}
 use Rattle.yv_values.specs.Types.{Plain, wholes, decimals, strings, booleans, octets, empties}
