@@ -6,6 +6,8 @@ mod facets;
 mod narrowing;
 mod patterns;
 mod restriction;
+#[cfg(test)]
+mod tests;
 mod unrestricted;
 
 pub use facets::narrowed;

@@ -29,8 +29,10 @@ pub(crate) fn whole(
     statement: &Statement<'_>,
     base: &WholeType,
 ) -> Result<Narrowed, AllocError>
-    ensures narrows { IfOk result (λ n. Narrows statement.now (wholes base.now.is_text base.now.spans) (plain_of n.plain)) }
-    ensures fault { IfOk result (λ n. IsLeast (BadFacets file statement.now (wholes base.now.is_text base.now.spans)) n.fault) }
+    ensures narrows { IfOk result (λ n.
+        Narrows statement.now (wholes base.now.is_text base.now.spans) (plain_of n.plain)) }
+    ensures fault { IfOk result (λ n.
+        IsLeast (BadFacets file statement.now (wholes base.now.is_text base.now.spans)) n.fault) }
 {
     let left = left_by(alloc, file, child("range", statement), &base.spans, None)?;
     Ok(Narrowed {
@@ -49,8 +51,10 @@ pub(crate) fn decimal(
     statement: &Statement<'_>,
     base: &DecimalType,
 ) -> Result<Narrowed, AllocError>
-    ensures narrows { IfOk result (λ n. Narrows statement.now (decimals base.now.digits base.now.spans) (plain_of n.plain)) }
-    ensures fault { IfOk result (λ n. IsLeast (BadFacets file statement.now (decimals base.now.digits base.now.spans)) n.fault) }
+    ensures narrows { IfOk result (λ n.
+        Narrows statement.now (decimals base.now.digits base.now.spans) (plain_of n.plain)) }
+    ensures fault { IfOk result (λ n.
+        IsLeast (BadFacets file statement.now (decimals base.now.digits base.now.spans)) n.fault) }
 {
     let range = child("range", statement);
     let left = left_by(alloc, file, range, &base.spans, Some(base.digits))?;

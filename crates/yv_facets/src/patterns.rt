@@ -49,7 +49,8 @@ pub fn read_tests(alloc: Global, file: u32, statements: &[Statement<'_>]) -> Res
 }
 
 fn keep(tests: &mut Vec<PatternTest>, test: Option<PatternTest>) -> Result<(), AllocError>
-    ensures { OnOk result (map test_of tests.new.items ≡ map test_of tests.old.items ++ option_to_list (option_map test_of test)) }
+    ensures { OnOk result (map test_of tests.new.items
+        ≡ map test_of tests.old.items ++ option_to_list (option_map test_of test)) }
 {
     if let Some(test) = test {
         tests.push(test)?;
@@ -90,7 +91,8 @@ pub fn joined(
     base: &RcSlice<PatternTest>,
     tests: Vec<PatternTest>,
 ) -> Result<RcSlice<PatternTest>, AllocError>
-    ensures { IfOk result (λ all. map test_of (rc_slice_items all) ≡ map test_of (rc_slice_items base.now) ++ map test_of tests.items) }
+    ensures { IfOk result (λ all. map test_of (rc_slice_items all)
+        ≡ map test_of (rc_slice_items base.now) ++ map test_of tests.items) }
 {
     if tests.is_empty() {
         return base.clone();

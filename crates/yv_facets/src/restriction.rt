@@ -46,7 +46,8 @@ pub fn left_by(
     digits: Option<u32>,
 ) -> Result<Leftover, AllocError>
     ensures leaves { IfOk result (λ l. Leaves digits base.now (option_copied restriction.entry) l.spans) }
-    ensures fault { IfOk result (λ l. IsLeast (BadRestriction file digits base.now (option_copied restriction.entry)) l.fault) }
+    ensures fault { IfOk result (λ l.
+        IsLeast (BadRestriction file digits base.now (option_copied restriction.entry)) l.fault) }
 {
     match restriction {
         Some(statement) => match restricted(alloc, text_of(statement), base, digits)? {
