@@ -3,6 +3,7 @@
 #![tactic(auto)]
 
 mod facets;
+pub mod laws;
 mod narrowing;
 mod patterns;
 mod restriction;

@@ -4,7 +4,7 @@ use Rattle.std.proofs.lemmas.Option.{slice_get_read}
 use Rattle.yv_statement.proofs.Least.{least_more}
 use Rattle.yv_statement.specs.Tree.{Tree}
 use Rattle.yv_facets.specs.Faults.{BadPattern}
-use Rattle.yv_facets.proofs.Tests.{more_tests, least_all}
+use Rattle.yv_facets.proofs.Read.{more_tests, least_all}
 use Rattle.yv_facets.proofs.patterns.read_tests.Goals as goal
 
 pub loop-statement-preserved : goal.loop-statement-preserved
