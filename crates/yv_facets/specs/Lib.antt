@@ -1,0 +1,4 @@
+pub mod BuiltIn
+pub mod Facets
+pub mod Faults
+pub mod InnerStops

@@ -1,0 +1,45 @@
+//! What a type statement leaves of the type that it names.
+ghost use Rattle.std.specs.Prelude.{◌≡◌, ◌≢◌, Err, IfOk};
+ghost use Rattle.yv_statement.specs.Order.{IsLeast};
+ghost use Rattle.yv_statement.specs.Tree.{trees};
+ghost use Rattle.yv_statement.specs.declared.refusal.Stop.TheVariants.{Fault, PatternBuild};
+ghost use Rattle.yv_values.specs.Types.{plain_of};
+ghost use Rattle.yv_facets.specs.Facets.{Narrows};
+ghost use Rattle.yv_facets.specs.Faults.{BadFacets, HasPattern};
+
+use crate::narrowing::{Narrowed, binary, decimal, text, whole};
+use std::alloc::Global;
+use yv_statement::{Refusal, Statement, Stop};
+use yv_values::PlainType;
+
+/// What a type statement's `range`, `length` and `pattern` leave of the type that it names, and the least that is wrong
+/// with them (RFC 7950, sections 9.2.4, 9.3.4, 9.4.4 to 9.4.6 and 9.8.1). A type that none of them restricts passes
+/// unchanged. `PatternBuild` says that `regex` doesn't build the translation of a pattern of the dialect; no refusal is
+/// an error here. It takes time linear in the statement but for what `restricted` and `Pattern::read` say, and where
+/// there is a pattern linear in those of the type.
+pub fn narrowed(
+    alloc: Global,
+    file: u32,
+    statement: &Statement<'_>,
+    base: &PlainType,
+) -> Result<Narrowed, Stop>
+    ensures narrows { IfOk result (λ n. Narrows statement.now (plain_of base.now) (plain_of n.plain)) }
+    ensures fault { IfOk result (λ n. IsLeast (BadFacets file statement.now (plain_of base.now)) n.fault) }
+    ensures faultless { (r : Refusal) → result ≢ Err (Fault r) }
+    ensures built { result ≡ Err PatternBuild → HasPattern (trees statement.now.children) }
+{
+    match base {
+        PlainType::Whole(base) => Ok(whole(alloc, file, statement, base)?),
+        PlainType::Decimal(base) => Ok(decimal(alloc, file, statement, base)?),
+        PlainType::Text(base) => text(alloc, file, statement, base),
+        PlainType::Binary(base) => Ok(binary(alloc, file, statement, base)?),
+        PlainType::Boolean
+        | PlainType::Enumeration(_)
+        | PlainType::Bits(_)
+        | PlainType::Identity(_)
+        | PlainType::Empty => Ok(Narrowed {
+            plain: base.copy()?,
+            fault: None,
+        }),
+    }
+}

@@ -1,0 +1,118 @@
+//! The tests that the patterns of a type statement are.
+ghost use Rattle.std.specs.Prelude.{◌≡◌, ◌++◌, map, option_to_list, IfOk, IfErr, OnOk};
+ghost use Rattle.std.specs.Option.{option_map};
+ghost use Rattle.std.specs.Rc.{rc_slice_items};
+ghost use Rattle.yv_statement.specs.Order.{IsLeast};
+ghost use Rattle.yv_values.specs.Types.{test_of};
+ghost use Rattle.yv_facets.specs.Facets.{AreTests, IsTest};
+ghost use Rattle.yv_facets.specs.Faults.{BadPattern, BadPatterns, HasPattern, IsPattern};
+ghost use Rattle.yv_facets.specs.InnerStops.{StopsWhere};
+
+use crate::restriction::{child, text_of};
+use std::alloc::{AllocError, Global};
+use std::rc::{Rc, RcSlice};
+use yv_pattern::Pattern;
+use yv_statement::{Code, Refusal, Statement, Stop, lesser, refused};
+use yv_values::PatternTest;
+
+// The test that a statement is, and its refusal where it is a pattern outside the dialect.
+#[derive(Drop)]
+struct Reading {
+    test: Option<PatternTest>,
+    fault: Option<Refusal>,
+}
+
+/// The tests that statements are, and the least of their refusals.
+#[derive(Drop)]
+pub struct Readings {
+    pub tests: Vec<PatternTest>,
+    pub fault: Option<Refusal>,
+}
+
+/// The tests that the patterns among some statements are, in order.
+pub fn read_tests(alloc: Global, file: u32, statements: &[Statement<'_>]) -> Result<Readings, Stop>
+    ensures tests { IfOk result (λ r. AreTests statements.now (map test_of r.tests.items)) }
+    ensures fault { IfOk result (λ r. IsLeast (BadPatterns file statements.now) r.fault) }
+    ensures stops { IfErr result (StopsWhere (HasPattern statements.now)) }
+{
+    let mut tests = Vec::new(alloc);
+    let mut fault = None;
+    for statement in statements {
+        let reading = match read_test(alloc, file, statement) {
+            Ok(reading) => reading,
+            Err(stop) => return Err(stop),
+        };
+        fault = lesser(fault, reading.fault);
+        keep(&mut tests, reading.test)?;
+    }
+    Ok(Readings { tests, fault })
+}
+
+fn keep(tests: &mut Vec<PatternTest>, test: Option<PatternTest>) -> Result<(), AllocError>
+    ensures { OnOk result (map test_of tests.new.items
+        ≡ map test_of tests.old.items ++ option_to_list (option_map test_of test)) }
+{
+    if let Some(test) = test {
+        tests.push(test)?;
+    }
+    Ok(())
+}
+
+fn read_test(alloc: Global, file: u32, statement: &Statement<'_>) -> Result<Reading, Stop>
+    ensures test { IfOk result (λ r. IsTest statement.now (option_map test_of r.test)) }
+    ensures fault { IfOk result (λ r. IsLeast (BadPattern file statement.now) r.fault) }
+    ensures stops { IfErr result (StopsWhere (IsPattern statement.now)) }
+{
+    if statement.keyword() != "pattern" {
+        return Ok(Reading {
+            test: None,
+            fault: None,
+        });
+    }
+    match Pattern::read(alloc, text_of(statement)) {
+        Ok(pattern) => Ok(Reading {
+            test: Some(PatternTest {
+                pattern: Rc::new(alloc, pattern)?,
+                is_inverted: child("modifier", statement).is_some(),
+            }),
+            fault: None,
+        }),
+        Err(Stop::Fault(_)) => Ok(Reading {
+            test: None,
+            fault: refused(true, Code::BadPattern, file, statement),
+        }),
+        Err(stop) => Err(stop),
+    }
+}
+
+/// Tests behind those of a type. The type's list is shared where there are none.
+pub fn joined(
+    alloc: Global,
+    base: &RcSlice<PatternTest>,
+    tests: Vec<PatternTest>,
+) -> Result<RcSlice<PatternTest>, AllocError>
+    ensures { IfOk result (λ all. map test_of (rc_slice_items all)
+        ≡ map test_of (rc_slice_items base.now) ++ map test_of tests.items) }
+{
+    if tests.is_empty() {
+        return base.clone();
+    }
+    let mut tests = tests;
+    let mut all = copies(alloc, base)?;
+    all.append(&mut tests)?;
+    RcSlice::from_vec(all)
+}
+
+// The same tests once more, over the same patterns.
+fn copies(alloc: Global, tests: &[PatternTest]) -> Result<Vec<PatternTest>, AllocError>
+    ensures { IfOk result (λ v. map test_of v.items ≡ map test_of tests.now) }
+{
+    let mut copies = Vec::new(alloc);
+    for test in tests {
+        copies.push(PatternTest {
+            pattern: test.pattern.clone()?,
+            is_inverted: test.is_inverted,
+        })?;
+    }
+    Ok(copies)
+}
