@@ -1,0 +1,9 @@
+pub mod Words
+pub mod Weights
+pub mod Listing
+pub mod Placing
+pub mod Using
+pub mod Stepping
+pub mod Settling
+pub mod Circling
+pub mod Limiting

@@ -1,0 +1,5 @@
+pub mod Units
+pub mod Weigh
+pub mod Limit
+pub mod InnerLists
+pub mod InnerSteps
