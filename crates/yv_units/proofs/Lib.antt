@@ -1,5 +1,5 @@
 pub mod Words
-pub mod Weights
+pub mod Once
 pub mod Listing
 pub mod Placing
 pub mod Using
@@ -7,3 +7,4 @@ pub mod Stepping
 pub mod Settling
 pub mod Circling
 pub mod Limiting
+pub mod Weighing

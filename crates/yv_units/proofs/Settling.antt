@@ -99,7 +99,7 @@ used_grouping files rows k d (r, own, at, units, refers) =
 
 module _ (files : Briefs) (rows : List Row) (values : List ℕ) where
   -- one more statement that counts
-  counted : (k own m s : ℕ) (r : Row) (ks : List ℕ) → slice_get rows k ≡ Some r → units_of r.head.keyword ≡ Some own → IsSettled files rows values k → Weigh files rows ks m → saturated s ≡ saturated m → (t : ℕ) × Weigh files rows (k ∷ ks) t × (saturated (get_or values k 0 + s) ≡ saturated t)
+  pub counted : (k own m s : ℕ) (r : Row) (ks : List ℕ) → slice_get rows k ≡ Some r → units_of r.head.keyword ≡ Some own → IsSettled files rows values k → Weigh files rows ks m → saturated s ≡ saturated m → (t : ℕ) × Weigh files rows (k ∷ ks) t × (saturated (get_or values k 0 + s) ≡ saturated t)
   counted k own m s r ks at units settled w e =
       let same : settled.0 ≡ r = same_Some settled.0 r (sym settled.2 ∙ at) in
       let worth : WorthBy files rows k (Some own) settled.1 = subst (λ (o : Option ℕ). WorthBy files rows k o settled.1) (ap (λ (x : Row). units_of x.head.keyword) same ∙ units) settled.3 in

@@ -1,6 +1,6 @@
 -- Inner definitions, which only private clauses cite: statements by the block or the file in which they count.
 use Rattle.std.specs.Prelude.{◌≡◌, ℕ, ◌+◌, ◌==◌, ◌&&◌, not, Bool, false, List, [], ◌∷◌, length, if◌then◌else◌, Option, Some, None, slice_get, slice_index_or}
-use Rattle.std.specs.Option.{is_some}
+use Rattle.std.specs.Option.{is_some, unwrap_or}
 use Rattle.std.specs.declared.vec.Vec.{Vec}
 use Rattle.std.specs.declared.alloc.Global.{Global}
 use Rattle.yv_rows.specs.Files.{Briefs, home_at}
@@ -17,6 +17,10 @@ counts r = is_some (units_of r.head.keyword)
 -- the block in which a statement counts, if it does
 abbrev pub part_place : ℕ → Row → Option ℕ
 part_place k r = if counts r && not (r.scope == k) then Some r.scope else None
+
+-- for each file that of its module; a file past the last is its own
+abbrev pub AreHomes : Briefs → List ℕ → Type 0
+AreHomes files homes = (n : ℕ) → unwrap_or (slice_get homes n) n ≡ home_at files n
 
 -- the file at whose top it counts, if it does
 abbrev pub top_place : Briefs → ℕ → Row → Option ℕ

@@ -2,13 +2,14 @@
 use Rattle.std.specs.Prelude.{ℕ, List, [], ◌∷◌, Option, Some, None, codes, if◌then◌else◌, min}
 use Rattle.yv_names.specs.BuiltIn.{is_among}
 
--- a schema node each (RFC 7950, section 3), and a uses, which counts one besides the nodes of its grouping
+-- a schema node each (RFC 7950, section 3), and a uses, which counts one besides the nodes of its grouping; a case that is
+-- left out (section 7.9.2) isn't counted
 abbrev pub nodes : List (List ℕ)
 nodes =
     codes "container" ∷ codes "leaf" ∷ codes "leaf-list" ∷ codes "list" ∷ codes "choice" ∷ codes "case" ∷ codes "anydata" ∷ codes "anyxml"
     ∷ codes "notification" ∷ codes "uses" ∷ []
 
--- a schema node with its input and its output, which are there in any case (sections 7.14.2 and 7.14.3)
+-- a schema node with those for its input and its output, which are there in any case (sections 7.14 and 7.15)
 abbrev pub operations : List (List ℕ)
 operations = codes "rpc" ∷ codes "action" ∷ []
 

@@ -23,8 +23,8 @@ abbrev pub top_of : Briefs → List Row → ℕ → List ℕ
 top_of files rows file = numbers_from (λ k r. stands_in (home_at files file) k r && (r.file == file)) 0 rows
 
 -- The numbered statements take so many units: each what it counts by itself, what the statements of its block take, and,
--- if it is a uses, once more what those in the block of its grouping take. No statement leads to no number where a grouping
--- doesn't lead to itself.
+-- if it uses a grouping, once more what those in the block of that grouping take. A grouping itself takes none. No number
+-- is that of a statement from which a grouping is reached that leads to itself.
 pub data Weigh (files : Briefs) (rows : List Row) : List ℕ → ℕ → Type 0 where
   nothing : Weigh files rows [] 0
   other : {k m : ℕ} {r : Row} {others : List ℕ} → slice_get rows k ≡ Some r → units_of r.head.keyword ≡ None → Weigh files rows others m

@@ -1,6 +1,6 @@
-//! How many nodes the expansion of files would have, without a node being made: each uses counts the nodes of its
-//! grouping once more. All takes time linear in statements, but for the ordered table of files, since what a grouping
-//! takes is counted once.
+//! How many units the expansion of files takes, which are about its nodes, without a node being made: each uses counts
+//! what stands in its grouping once more. All takes time linear in statements, since what a grouping takes is counted
+//! once, but for one look-up of a name for each file.
 #![tactic(auto)]
 
 pub mod laws;
@@ -8,6 +8,10 @@ mod limit;
 mod lists;
 mod own;
 mod steps;
+#[cfg(test)]
+mod tests;
 mod values;
+mod weights;
 
 pub use limit::too_many;
+pub use weights::Units;

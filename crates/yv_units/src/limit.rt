@@ -8,8 +8,8 @@ ghost use Rattle.yv_units.specs.InnerLists.{ArePlaced, top_place, top_sum};
 ghost use Rattle.yv_units.specs.InnerSteps.{AreSettled};
 
 use crate::lists::tops;
-use crate::steps::{order, steps};
-use crate::values::{sum, values};
+use crate::values::sum;
+use crate::weights::settled;
 use std::alloc::{AllocError, Global};
 use yv_names::Names;
 use yv_rows::Rows;
@@ -75,10 +75,7 @@ pub fn too_many(
     ensures refusal { AreNames (lent_in rows.now) names.now
         → IfOk result (IsLeast (TooMany (lent_in rows.now) given.now limit)) }
 {
-    yv_rows::laws::blocks_are_nested();
-    let steps = steps(alloc, rows, names)?;
-    let order = order(alloc, &steps)?;
-    let values = values(alloc, rows, &steps, &order)?;
+    let values = settled(alloc, rows, names)?;
     let tops = tops(alloc, rows)?;
     Ok(first_past(rows, &values, &tops, given, limit))
 }

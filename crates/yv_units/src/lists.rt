@@ -1,8 +1,9 @@
 //! The statements that count, by the block or by the file in which they do.
 ghost use Rattle.std.specs.Prelude.{◌≡◌, length, IfOk};
+ghost use Rattle.yv_rows.specs.Files.{Briefs};
 ghost use Rattle.yv_rows.specs.Rows.{row};
 ghost use Rattle.yv_rows.specs.Lent.{files_in, rows_in};
-ghost use Rattle.yv_units.specs.InnerLists.{AreEmpty, ArePlaced, part_place, top_place};
+ghost use Rattle.yv_units.specs.InnerLists.{AreEmpty, AreHomes, ArePlaced, part_place, top_place};
 
 use crate::own::own_units;
 use std::alloc::{AllocError, Global};
@@ -30,12 +31,24 @@ fn part_place(number: usize, entry: &Entry<'_, '_>) -> Option<usize>
     }
 }
 
+// For each file that of its module. A name is looked up once for a file, and not for each statement at its top: the
+// names may be long.
+fn homes(alloc: Global, rows: &Rows<'_, '_>) -> Result<Vec<usize>, AllocError>
+    ensures { IfOk result (λ homes. AreHomes (files_in rows.now) homes.items) }
+{
+    let mut homes = Vec::new(alloc);
+    for number in 0..rows.files().len() {
+        homes.push(rows.home(number))?;
+    }
+    Ok(homes)
+}
+
 // The file at whose top a statement counts.
-fn top_place(rows: &Rows<'_, '_>, number: usize, entry: &Entry<'_, '_>) -> Option<usize>
-    ensures { result ≡ top_place (files_in rows.now) number (row entry.now) }
+fn top_place(homes: &[usize], number: usize, entry: &Entry<'_, '_>) -> Option<usize>
+    ensures { (files : Briefs) → AreHomes files homes.now → result ≡ top_place files number (row entry.now) }
 {
     let file = entry.file as usize;
-    let home = rows.home(file);
+    let home = homes.get(file).copied().unwrap_or(file);
     if own_units(entry).is_some() && entry.scope == home && entry.scope != number {
         Some(file)
     } else {
@@ -63,9 +76,10 @@ pub(crate) fn tops(alloc: Global, rows: &Rows<'_, '_>) -> Result<Vec<Vec<usize>>
     ensures { IfOk result (λ lists. ArePlaced (top_place (files_in rows.now)) (rows_in rows.now) (length (files_in rows.now)) lists.items) }
 {
     yv_rows::laws::roots_come_first();
+    let homes = homes(alloc, rows)?;
     let mut lists = no_lists(alloc, rows.files().len())?;
     for (number, entry) in rows.entries().iter().enumerate() {
-        if let Some(place) = top_place(rows, number, entry) {
+        if let Some(place) = top_place(&homes, number, entry) {
             lists[place].push(number)?;
         }
     }

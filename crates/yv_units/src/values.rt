@@ -1,5 +1,5 @@
 //! What each statement takes.
-ghost use Rattle.std.specs.Prelude.{◌≡◌, ◌<◌, length, IfOk};
+ghost use Rattle.std.specs.Prelude.{◌≡◌, ◌<◌, length, slice_index_or, IfOk};
 ghost use Rattle.std.specs.List.{All};
 ghost use Rattle.yv_rows.specs.Files.{Briefs};
 ghost use Rattle.yv_rows.specs.Lent.{rows_in};
@@ -12,14 +12,20 @@ use crate::own::own_units;
 use std::alloc::{AllocError, Global};
 use yv_rows::Rows;
 
+/// The value of a number; 0 past the last.
+pub(crate) fn value(values: &[u64], number: usize) -> u64
+    ensures { result ≡ slice_index_or values.now number 0 }
+{
+    values.get(number).copied().unwrap_or(0)
+}
+
 /// The sum of the values of these numbers.
 pub(crate) fn sum(values: &[u64], numbers: &[usize]) -> u64
     ensures { result ≡ saturated (sum_at values.now numbers.now) }
 {
     let mut total: u64 = 0;
     for number in numbers {
-        let value = values.get(*number).copied().unwrap_or(0);
-        total = total.saturating_add(value);
+        total = total.saturating_add(value(values, *number));
     }
     total
 }

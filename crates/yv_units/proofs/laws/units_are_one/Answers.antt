@@ -1,4 +1,4 @@
-use Rattle.yv_units.proofs.Weights.{weigh_one}
+use Rattle.yv_units.proofs.Once.{weigh_one}
 use Rattle.yv_units.proofs.laws.units_are_one.Goals as goal
 
 pub returns : goal.returns
