@@ -1,5 +1,6 @@
 -- The files, as they are gone over.
-use Rattle.std.proofs.Common.{◌≡◌, ◌↔◌, ◌==◌, ◌&&◌, ℕ, zero, suc, ◌+◌, ◌<◌, ◌≤◌, Bool, true, false, IsTrue, cond, if◌then◌else◌, List, [], ◌∷◌, ◌++◌, length, map, get_or, refl, sym, ◌∙◌, ap, subst, arith, add-one, Option, Some, None}
+use Rattle.std.proofs.lemmas.Bool.{cases_lt}
+use Rattle.std.proofs.Common.{inl, inr, IfNone, ◌≡◌, ◌↔◌, ◌==◌, ◌&&◌, ℕ, zero, suc, ◌+◌, ◌<◌, ◌≤◌, Bool, true, false, IsTrue, cond, if◌then◌else◌, List, [], ◌∷◌, ◌++◌, length, map, get_or, refl, sym, ◌∙◌, ap, subst, arith, add-one, Option, Some, None}
 use Rattle.std.specs.List.{slice_get}
 use Rattle.std.specs.Option.{option_map}
 use Rattle.std.specs.declared.vec.Vec.{Vec}
@@ -15,7 +16,7 @@ use Rattle.yv_rows.specs.Rows.{Row}
 use Rattle.yv_rows.specs.Listed.{rows_of}
 use Rattle.yv_units.specs.Units.{saturated}
 use Rattle.yv_units.specs.Weigh.{Weigh, nothing, other, node, uses, stands_in}
-use Rattle.yv_units.specs.Limit.{Passes, given_at, given_before}
+use Rattle.yv_units.specs.Limit.{Fits, Passes, given_at, given_before}
 use Rattle.yv_units.specs.InnerLists.{Lists, ArePlaced, is_place, sum_at, top_place, top_sum}
 use Rattle.yv_units.specs.InnerSteps.{AreSettled}
 use Rattle.yv_units.proofs.Settling.{list_sum, top_split}
@@ -55,6 +56,19 @@ PassesAt files marks limit n t f = Stands (Passes (map brief_of files) (rows_of 
 pub record Limiting (H : Type 0) (files : Files) (marks : List Bool) (limit i total : ℕ) (least : Option Refusal) : Type 0 where
   pub runs : H → (s : ℕ) × Weigh (map brief_of files) (rows_of files) (given_before (map brief_of files) (rows_of files) marks i) s × (total ≡ saturated s)
   pub leasts : H → IsLeast (Among files (PassesAt files marks limit) i) least
+  pub fits : least ≡ None → total ≤ limit
+
+-- neither of two where there is no lesser one
+neither : (a b c : Option Refusal) → IsLesser a b c → c ≡ None → (a ≡ None) × (b ≡ None)
+neither None b c l e = (refl, sym l ∙ e)
+neither (Some r) None c l e = absurd (let bad : Some r ≡ None = sym l ∙ e in cc)
+neither (Some r) (Some s) c (inl l) e = absurd (let bad : Some r ≡ None = sym l.0 ∙ e in cc)
+neither (Some r) (Some s) c (inr l) e = absurd (let bad : Some s ≡ None = sym l.0 ∙ e in cc)
+
+-- a test fails where nothing is refused
+not_passed : (b : Bool) (r : Refusal) → cond b (Some r) None ≡ None → b ≡ true → ⊥
+not_passed true r e h = let bad : Some r ≡ None = e in cc
+not_passed false r e h = cc
 
 module _ (H : Type 0) (files : Files) (marks : List Bool) (limit : ℕ) where
   abbrev Before : ℕ → List ℕ
@@ -64,7 +78,7 @@ module _ (H : Type 0) (files : Files) (marks : List Bool) (limit : ℕ) where
   WeighOne = (bs : Briefs) (rows : List Row) (numbers : List ℕ) (n m : ℕ) → Weigh bs rows numbers n → Weigh bs rows numbers m → n ≡ m
 
   pub limiting_none : Limiting H files marks limit 0 0 None
-  limiting_none = record { runs = λ h. (0, nothing, refl); leasts = λ h f p. omega (arith, p.1) }
+  limiting_none = record { runs = λ h. (0, nothing, refl); leasts = λ h f p. omega (arith, p.1); fits = λ e. omega arith }
 
   -- one more file
   pub limiting_more : (i total units after : ℕ) (least fault next : Option Refusal) (t : Tree) (b : Bool) → WeighOne → limit < 4294967296 → Limiting H files marks limit i total least → slice_get files i ≡ Some t → (H → (m : ℕ) × Weigh (map brief_of files) (rows_of files) (given_at (map brief_of files) (rows_of files) marks i) m × (units ≡ saturated m)) → after ≡ saturated (total + units) → IsTrue b ↔ ((total ≤ limit) × (limit < after)) → fault ≡ cond b (Some (refusal_at code.TooManyNodes i t.head)) None → IsLesser least fault next → Limiting H files marks limit (i + 1) after next
@@ -92,6 +106,13 @@ module _ (H : Type 0) (files : Files) (marks : List Bool) (limit : ℕ) where
         passes.1 (omega (arith, first, p.fits, s.2), omega (arith, both, p.passes, sum, s.2, m.2, small)) in
         let here : IsLeast (PassesAt files marks limit i t) fault = subst (λ (o : Option Refusal). IsLeast (PassesAt files marks limit i t) o) (sym is) (least_refused (Passes (map brief_of files) (rows_of files) marks limit i) b (refusal_at code.TooManyNodes i t.head) to from) in
         least_more files (PassesAt files marks limit) i t least fault next at lesser (old.leasts h) here;
+    fits = λ e.
+        let none = neither least fault next lesser e in
+        let before : total ≤ limit = old.fits none.0 in
+        elim (cases_lt limit after) [
+          | inl past ↦ absurd (not_passed b (refusal_at code.TooManyNodes i t.head) (sym is ∙ none.1) (passes.1 (before, past)))
+          | inr fits ↦ omega (arith, fits)
+        ];
   }
     where
       all : (s m : ℕ) → Weigh (map brief_of files) (rows_of files) (Before i) s → Weigh (map brief_of files) (rows_of files) (given_at (map brief_of files) (rows_of files) marks i) m → Weigh (map brief_of files) (rows_of files) (Before (i + 1)) (s + m)
@@ -101,6 +122,14 @@ module _ (H : Type 0) (files : Files) (marks : List Bool) (limit : ℕ) where
   limiting_all i total least past old h = least_same (Among files (PassesAt files marks limit) i) (Among files (PassesAt files marks limit) (length files)) least
       (λ r a. (a.0, slice_get_within files a.0 a.2 a.3, a.2, a.3, a.4))
       (λ r a. (a.0, omega (arith, a.1, past), a.2, a.3, a.4)) (old.leasts h)
+
+-- how many units all files take that are given
+pub limiting_fits : (H : Type 0) (files : Files) (marks : List Bool) (limit i total : ℕ) (least : Option Refusal) → limit < 4294967296 → i ≡ length files → Limiting H files marks limit i total least → H → IfNone least (Fits files marks limit)
+limiting_fits H files marks limit i total None small all old h =
+    let s = old.runs h in
+    let fits : total ≤ limit = old.fits refl in
+    (s.0, subst (λ (n : ℕ). Weigh (map brief_of files) (rows_of files) (given_before (map brief_of files) (rows_of files) marks n) s.0) all s.1, omega (arith, fits, s.2, small))
+limiting_fits H files marks limit i total (Some r) small all old h = tt
 
 -- the file of a brief
 pub brief_at : (files : Files) (i : ℕ) (b : Brief) → slice_get (map brief_of files) i ≡ Some b → (t : Tree) × (slice_get files i ≡ Some t) × (t.head ≡ b.head)

@@ -30,3 +30,8 @@ pub record Passes (files : Briefs) (rows : List Row) (marks : List Bool) (limit 
 abbrev pub TooMany : Files → List Bool → ℕ → Refusal → Type 0
 TooMany files marks limit f =
     Among files (λ n t. Stands (Passes (map brief_of files) (rows_of files) marks limit n) (refusal_at code.TooManyNodes n t.head)) (length files) f
+
+-- the files that are given fit the limit
+abbrev pub Fits : Files → List Bool → ℕ → Type 0
+Fits files marks limit =
+    (n : ℕ) × Weigh (map brief_of files) (rows_of files) (given_before (map brief_of files) (rows_of files) marks (length files)) n × (n ≤ limit)

@@ -1,9 +1,9 @@
 //! Where the units of files pass the limit.
-ghost use Rattle.std.specs.Prelude.{◌≡◌, ◌≤◌, ◌<◌, ◌↔◌, IsTrue, false, if◌then◌else◌, slice_get, slice_index_or, length, IfOk};
+ghost use Rattle.std.specs.Prelude.{◌≡◌, ◌≤◌, ◌<◌, ◌↔◌, IsTrue, false, if◌then◌else◌, slice_get, slice_index_or, length, IfOk, IfNone};
 ghost use Rattle.yv_statement.specs.Order.{IsLeast};
 ghost use Rattle.yv_rows.specs.Lent.{lent_in, files_in, rows_in};
 ghost use Rattle.yv_names.specs.Known.{AreNames};
-ghost use Rattle.yv_units.specs.Limit.{TooMany};
+ghost use Rattle.yv_units.specs.Limit.{Fits, TooMany};
 ghost use Rattle.yv_units.specs.InnerLists.{ArePlaced, top_place, top_sum};
 ghost use Rattle.yv_units.specs.InnerSteps.{AreSettled};
 
@@ -45,8 +45,10 @@ fn first_past(
     limit: u32,
 ) -> Option<Refusal>
     requires { ArePlaced (top_place (files_in rows.now)) (rows_in rows.now) (length (files_in rows.now)) tops.now }
-    ensures { AreSettled (files_in rows.now) (rows_in rows.now) values.now
+    ensures refusal { AreSettled (files_in rows.now) (rows_in rows.now) values.now
         → IsLeast (TooMany (lent_in rows.now) given.now limit) result }
+    ensures fits { AreSettled (files_in rows.now) (rows_in rows.now) values.now
+        → IfNone result (Fits (lent_in rows.now) given.now limit) }
 {
     crate::laws::units_are_one();
     let mut least = None;
@@ -63,8 +65,8 @@ fn first_past(
 
 /// The refusal of the first file with which the units of files pass the limit, at its root (RFC 7950, sections 7.12
 /// and 7.13): those of the files that are marked as given, in their order. A file without a mark isn't given. A node
-/// counts one, an rpc or an action three with its input and output, and a uses one and besides once more what its
-/// grouping counts.
+/// counts one, an rpc or an action three with its input and output, and a uses one and besides once more what stands
+/// in its grouping. Takes time linear in statements, also where the units are too many to be told.
 pub fn too_many(
     alloc: Global,
     rows: &Rows<'_, '_>,
@@ -74,6 +76,8 @@ pub fn too_many(
 ) -> Result<Option<Refusal>, AllocError>
     ensures refusal { AreNames (lent_in rows.now) names.now
         → IfOk result (IsLeast (TooMany (lent_in rows.now) given.now limit)) }
+    ensures fits { AreNames (lent_in rows.now) names.now
+        → IfOk result (λ found. IfNone found (Fits (lent_in rows.now) given.now limit)) }
 {
     let values = settled(alloc, rows, names)?;
     let tops = tops(alloc, rows)?;

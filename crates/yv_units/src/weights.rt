@@ -17,7 +17,7 @@ use std::alloc::{AllocError, Global};
 use yv_names::Names;
 use yv_rows::{Entry, Rows};
 
-/// What each statement takes, and each that doesn't count what stands in its block takes.
+/// The value of each statement: what it takes, or, where it doesn't count, what the statements in its block take.
 pub(crate) fn settled(
     alloc: Global,
     rows: &Rows<'_, '_>,

@@ -1,11 +1,11 @@
-use Rattle.std.proofs.Common.{◌<◌, sym, ◌∙◌, ap, arith, cond, length, Some, None, refl}
+use Rattle.std.proofs.Common.{◌≡◌, ◌<◌, sym, ◌∙◌, ap, arith, cond, length, Some, None, refl}
 use Rattle.yv_statement.specs.Order.{refusal_at}
 use Rattle.yv_statement.specs.Tree.{Head}
 use Rattle.yv_statement.specs.declared.refusal.Code.TheVariants as code
 use Rattle.yv_rows.specs.Files.{Briefs, Files, brief, brief_of}
 use Rattle.yv_rows.specs.Lent.{lent_in, files_in, rows_in}
 use Rattle.yv_units.proofs.Words.{row_read, rows_count}
-use Rattle.yv_units.proofs.Limiting.{brief_at, file_weighs, limiting_all, limiting_more, limiting_none}
+use Rattle.yv_units.proofs.Limiting.{brief_at, file_weighs, limiting_all, limiting_fits, limiting_more, limiting_none}
 use Rattle.yv_units.proofs.limit.first_past.Goals as goal
 
 pub loop-number-init : goal.loop-number-init
@@ -25,7 +25,13 @@ loop-number-preserved c =
     (c.refused-fault.ensures ∙ ap (λ (h : Head). cond c.is_passed-passed.result (Some (refusal_at code.TooManyNodes c.loop-number.number h)) None) (sym found.2))
     c.lesser-least.ensures
 
-pub returns : goal.returns
-returns c = λ h.
+pub returns-clause-refusal : goal.returns-clause-refusal
+returns-clause-refusal c = λ h.
     let files : Files = lent_in c.args.rows.now in
     limiting_all _ files c.args.given.now c.args.limit c.loop-number.number _ _ (omega (arith, rows_count brief _ (files_in c.args.rows.now) c.files-file-items.ensures.each, rows_count brief_of files (files_in c.args.rows.now) refl, c.loop-number-test.false)) c.loop-number.invariant h
+
+pub returns-clause-fits : goal.returns-clause-fits
+returns-clause-fits c = λ h.
+    let files : Files = lent_in c.args.rows.now in
+    let all : c.loop-number.number ≡ length files = omega (arith, rows_count brief _ (files_in c.args.rows.now) c.files-file-items.ensures.each, rows_count brief_of files (files_in c.args.rows.now) refl, c.loop-number-test.false, c.loop-number.auto.number-end) in
+    limiting_fits _ files c.args.given.now c.args.limit c.loop-number.number _ _ (omega (arith, c.ranges.limit.fits)) all c.loop-number.invariant h
