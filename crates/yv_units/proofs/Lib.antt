@@ -1,0 +1,10 @@
+pub mod Words
+pub mod Once
+pub mod Listing
+pub mod Placing
+pub mod Using
+pub mod Stepping
+pub mod Settling
+pub mod Circling
+pub mod Limiting
+pub mod Weighing

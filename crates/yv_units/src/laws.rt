@@ -1,0 +1,13 @@
+//! Laws of the definitions alone.
+ghost use Rattle.std.specs.Prelude.{◌≡◌, ℕ, List};
+ghost use Rattle.yv_rows.specs.Files.{Briefs};
+ghost use Rattle.yv_rows.specs.Rows.{Row};
+ghost use Rattle.yv_units.specs.Weigh.{Weigh};
+
+/// Statements take one number of units at most.
+pub fn units_are_one()
+    ensures { (files : Briefs) (rows : List Row) (numbers : List ℕ) (n m : ℕ) → Weigh files rows numbers n
+        → Weigh files rows numbers m → n ≡ m }
+{
+    yv_rows::laws::a_name_means_one_thing();
+}
