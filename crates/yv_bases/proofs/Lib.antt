@@ -11,3 +11,4 @@ pub mod Fitting
 pub mod Counting
 pub mod Judging
 pub mod Once
+pub mod Sifting

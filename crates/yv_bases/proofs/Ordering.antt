@@ -17,7 +17,8 @@ use Rattle.yv_names.specs.BuiltIn.{is_built_in}
 use Rattle.yv_names.specs.Taken.{is_of}
 use Rattle.yv_names.specs.Refers.{Refers, is_type}
 use Rattle.yv_names.specs.Leads.{CountsFor, directly, further, LeadsTo, by_step, by_way, IsOrderOf}
-use Rattle.yv_bases.specs.Types.{Follows, IsMember, IsOrderOfTypes, RestsOn, is_inner, is_type_in, is_union, types_in}
+use Rattle.yv_bases.specs.Types.{Follows, IsMember, RestsOn, is_inner, is_type_in, is_union, types_in}
+use Rattle.yv_bases.specs.InnerOrder.{IsOrderOfAll}
 use Rattle.yv_bases.specs.InnerTables.{AreFollowed}
 use Rattle.yv_bases.specs.InnerSteps.{AreSteps}
 use Rattle.yv_bases.proofs.Words.{both_true}
@@ -36,7 +37,7 @@ meant_at files rows k d h = by (start_of files rows k (name_in h.statement)) h.m
 below_true : (a b : ℕ) → nat_lt a b ≡ true → a < b
 below_true a b h = grind (arith, h)
 
-inner_parts : (k m : ℕ) (r : Row) → is_type_in k m r ≡ true → (is_type r ≡ true) × (r.scope < m) × (r.scope ≡ k)
+pub inner_parts : (k m : ℕ) (r : Row) → is_type_in k m r ≡ true → (is_type r ≡ true) × (r.scope < m) × (r.scope ≡ k)
 inner_parts k m r h =
     let p = both_true (is_inner m r) (r.scope == k) h in
     let q = both_true (is_type r) (nat_lt r.scope m) p.0 in
@@ -159,7 +160,7 @@ module _ (files : Briefs) (rows : List Row) (follows : List (Option ℕ)) (g : G
       | inr back ↦ own_circle back.0 (owner_within back.1) (back.2 back.0 back.1)
     ]
 
-  pub order_of : (order : List ℕ) → IsOrder g order → IsOrderOfTypes files rows order
+  pub order_of : (order : List ℕ) → IsOrder g order → IsOrderOfAll files rows order
   order_of order o = record {
     within = subst (λ n. All (λ a. a < n) order) steps.each o.within;
     stands = λ a l. o.stands a (let each = steps.each in omega (arith, l, each));

@@ -6,7 +6,7 @@ use Rattle.std.proofs.lemmas.List.{take_more, take_all}
 use Rattle.std.proofs.lemmas.List.Elements.{Contains-append_cases}
 use Rattle.yv_bases.specs.InnerTables.{at}
 
-one_in : (n m : ℕ) → Contains (n ∷ []) m → n ≡ m
+pub one_in : (n m : ℕ) → Contains (n ∷ []) m → n ≡ m
 one_in n m (zero, l, e) = e
 one_in n m (suc k, l, e) = absurd (omega (arith, l))
 

@@ -6,6 +6,7 @@ pub mod Known
 pub mod InnerPairs
 pub mod InnerTables
 pub mod InnerSteps
+pub mod InnerOrder
 pub mod InnerBase
 pub mod InnerMarks
 pub mod InnerCounts

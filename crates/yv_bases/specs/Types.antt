@@ -1,6 +1,6 @@
 -- To which built-in types the types lead, along typedefs (RFC 7950, sections 4.2.4, 7.3 and 7.4).
-use Rattle.std.specs.Prelude.{◌≡◌, ℕ, ◌+◌, ◌<◌, ◌==◌, ◌&&◌, ◌⊎◌, nat_lt, Bool, true, List, [], ◌∷◌, ◌++◌, length, take, Option, Some, codes, if◌then◌else◌, slice_get, slice_index}
-use Rattle.std.specs.List.{All, Contains}
+use Rattle.std.specs.Prelude.{◌≡◌, ◌↔◌, ℕ, ◌+◌, ◌<◌, ◌==◌, ◌&&◌, ◌⊎◌, nat_lt, Bool, true, List, [], ◌∷◌, ◌++◌, length, take, Option, Some, codes, if◌then◌else◌, slice_get, slice_index}
+use Rattle.std.specs.List.{Contains}
 use Rattle.std.specs.Str.{bytes_eq}
 use Rattle.yv_rows.specs.Files.{Briefs}
 use Rattle.yv_rows.specs.Rows.{Row, name_in}
@@ -69,9 +69,12 @@ pub record IsMember (rows : List Row) (k m : ℕ) : Type 0 where
 abbrev pub RestsOn : Briefs → List Row → ℕ → ℕ → Type 0
 RestsOn files rows k j = Follows files rows k j ⊎ IsMember rows k j
 
--- all statements, each once, and each type behind those on which it rests
+-- the numbered statement is a type
+abbrev pub IsTypeAt : List Row → ℕ → Type 0
+IsTypeAt rows k = (r : Row) × (slice_get rows k ≡ Some r) × (is_type r ≡ true)
+
+-- all types, each once and behind those on which it rests
 pub record IsOrderOfTypes (files : Briefs) (rows : List Row) (order : List ℕ) : Type 0 where
-  pub within : All (λ a. a < length rows) order
-  pub stands : (a : ℕ) → a < length rows → Contains order a
+  pub exact : (a : ℕ) → Contains order a ↔ IsTypeAt rows a
   pub once : (i j : ℕ) → i < length order → j < length order → slice_index order i ≡ slice_index order j → i ≡ j
   pub behind : (i b : ℕ) → i < length order → RestsOn files rows (slice_index order i) b → Contains (take i order) b

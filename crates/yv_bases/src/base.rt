@@ -1,7 +1,8 @@
 //! The built-in types to which types lead.
 ghost use Rattle.std.specs.Prelude.{◌≡◌, ◌↔◌, ℕ, Some, IfOk, IsTrue};
 ghost use Rattle.yv_rows.specs.Lent.{files_in, rows_in};
-ghost use Rattle.yv_bases.specs.Types.{Follows, HasBase, IsOrderOfTypes};
+ghost use Rattle.yv_bases.specs.Types.{Follows, HasBase};
+ghost use Rattle.yv_bases.specs.InnerOrder.{IsOrderOfAll};
 ghost use Rattle.yv_bases.specs.InnerBase.{NamesBuiltIn};
 ghost use Rattle.yv_bases.specs.InnerTables.{AreBased, AreFollowed, at};
 
@@ -46,7 +47,7 @@ impl Draft<'_, '_, '_> {
         order: &[usize],
     ) -> Result<Vec<Option<usize>>, AllocError>
         ensures { IfOk result (λ bases. AreFollowed (files_in self.now.rows.now) (rows_in self.now.rows.now) self.now.follows.items
-            → IsOrderOfTypes (files_in self.now.rows.now) (rows_in self.now.rows.now) order.now
+            → IsOrderOfAll (files_in self.now.rows.now) (rows_in self.now.rows.now) order.now
             → AreBased (files_in self.now.rows.now) (rows_in self.now.rows.now) bases.items) }
     {
         let mut bases = no_numbers(alloc, self.rows.entries().len())?;

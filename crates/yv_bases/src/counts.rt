@@ -1,7 +1,8 @@
 //! How many plain types the values of a type may have.
 ghost use Rattle.std.specs.Prelude.{◌≡◌, ◌+◌, ℕ, IfOk};
 ghost use Rattle.yv_rows.specs.Lent.{files_in, rows_in};
-ghost use Rattle.yv_bases.specs.Types.{IsOrderOfTypes, RestsOn};
+ghost use Rattle.yv_bases.specs.Types.{RestsOn};
+ghost use Rattle.yv_bases.specs.InnerOrder.{IsOrderOfAll};
 ghost use Rattle.yv_bases.specs.InnerTables.{AreFollowed, at};
 ghost use Rattle.yv_bases.specs.InnerCounts.{AreCounts, IsCount, capped, total_from};
 
@@ -68,7 +69,7 @@ impl Draft<'_, '_, '_> {
         order: &[usize],
     ) -> Result<Vec<Option<usize>>, AllocError>
         ensures { IfOk result (λ counts. AreFollowed (files_in self.now.rows.now) (rows_in self.now.rows.now) self.now.follows.items
-            → IsOrderOfTypes (files_in self.now.rows.now) (rows_in self.now.rows.now) order.now
+            → IsOrderOfAll (files_in self.now.rows.now) (rows_in self.now.rows.now) order.now
             → AreCounts (files_in self.now.rows.now) (rows_in self.now.rows.now) counts.items) }
     {
         let mut counts = no_numbers(alloc, self.rows.entries().len())?;

@@ -1,7 +1,7 @@
 //! What is found on the types before they are judged.
 ghost use Rattle.std.specs.Prelude.{◌≡◌, IfOk};
 ghost use Rattle.yv_rows.specs.Lent.{files_in, rows_in};
-ghost use Rattle.yv_bases.specs.Types.{IsOrderOfTypes};
+ghost use Rattle.yv_bases.specs.InnerOrder.{IsOrderOfAll};
 ghost use Rattle.yv_bases.specs.InnerTables.{AreFollowed};
 ghost use Rattle.yv_bases.specs.InnerFound.{AreFound};
 
@@ -25,7 +25,7 @@ impl Found {
         order: &[usize],
     ) -> Result<Found, AllocError>
         ensures { IfOk result (λ found. AreFollowed (files_in draft.now.rows.now) (rows_in draft.now.rows.now) draft.now.follows.items
-            → IsOrderOfTypes (files_in draft.now.rows.now) (rows_in draft.now.rows.now) order.now
+            → IsOrderOfAll (files_in draft.now.rows.now) (rows_in draft.now.rows.now) order.now
             → AreFound (files_in draft.now.rows.now) (rows_in draft.now.rows.now) found) }
     {
         let bases = draft.bases(alloc, order)?;

@@ -10,7 +10,7 @@ struct Pair {
     word: &'static str,
 }
 
-// A pair of these two.
+// Pairs, each of a type and a substatement.
 macro_rules! pairs {
     ($($kind:literal $word:literal,)*) => {
         [$(Pair { kind: $kind, word: $word }),*]

@@ -34,9 +34,10 @@ impl Bases {
     {
         let draft = Draft::read(alloc, rows, names)?;
         let steps = draft.steps(alloc)?;
-        let order = draft.order(alloc, &steps)?;
-        let found = Found::read(alloc, &draft, &order)?;
+        let all = draft.order(alloc, &steps)?;
+        let found = Found::read(alloc, &draft, &all)?;
         let fault = draft.first_fault(&found);
+        let order = draft.types_only(alloc, &all)?;
         let bases = found.bases;
         let follows = draft.follows;
         Ok(Bases {
@@ -65,7 +66,7 @@ impl Bases {
         get(&self.follows, number)
     }
 
-    /// The numbers of all statements, each once, and each type behind the type that it follows and behind its members.
+    /// The numbers of all type statements, each once and behind the type that it follows and behind its members.
     pub fn order(&self) -> &[usize]
         ensures { (files : Files) → AreBases files self.now → IsOrderOfTypes (map brief_of files) (rows_of files) result.now }
     {

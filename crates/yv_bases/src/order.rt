@@ -1,18 +1,20 @@
 //! An order of the types.
-ghost use Rattle.std.specs.Prelude.{IfOk};
+ghost use Rattle.std.specs.Prelude.{◌↔◌, IfOk, IsTrue};
 ghost use Rattle.yv_rows.specs.Lent.{files_in, lent_in, rows_in};
 ghost use Rattle.yv_names.specs.Known.{AreNames};
 ghost use Rattle.yv_names.specs.declared.known.Names.{Names};
-ghost use Rattle.yv_bases.specs.Types.{IsOrderOfTypes};
+ghost use Rattle.yv_bases.specs.Types.{IsOrderOfTypes, IsTypeAt};
+ghost use Rattle.yv_bases.specs.InnerOrder.{IsOrderOfAll};
 ghost use Rattle.yv_bases.specs.InnerTables.{AreFollowed};
 ghost use Rattle.yv_bases.specs.InnerSteps.{AreSteps};
 
 use crate::draft::Draft;
+use crate::inside::is_type;
 use std::alloc::{AllocError, Global};
 use yv_graph::{Ranked, rank};
 
 impl Draft<'_, '_, '_> {
-    /// An order in which each type stands behind those from which it takes its values, these being the steps.
+    /// An order of all statements in which each type stands behind those from which it takes its values, these being the steps.
     pub(crate) fn order(
         &self,
         alloc: Global,
@@ -21,12 +23,40 @@ impl Draft<'_, '_, '_> {
         requires { AreSteps (rows_in self.now.rows.now) self.now.follows.items steps.now }
         ensures { IfOk result (λ order. (names : Names) → AreNames (lent_in self.now.rows.now) names
             → AreFollowed (files_in self.now.rows.now) (rows_in self.now.rows.now) self.now.follows.items
-            → IsOrderOfTypes (files_in self.now.rows.now) (rows_in self.now.rows.now) order.items) }
+            → IsOrderOfAll (files_in self.now.rows.now) (rows_in self.now.rows.now) order.items) }
     {
         match rank(alloc, steps)? {
             Ranked::Ranks { order, .. } => Ok(order),
             // Where the names are known no typedef leads to itself, and then no type does.
             Ranked::Circle(_) => Ok(Vec::new(alloc)),
+        }
+    }
+
+    /// The types alone, in an order of all statements.
+    pub(crate) fn types_only(
+        &self,
+        alloc: Global,
+        order: &[usize],
+    ) -> Result<Vec<usize>, AllocError>
+        ensures { IfOk result (λ types. IsOrderOfAll (files_in self.now.rows.now) (rows_in self.now.rows.now) order.now
+            → IsOrderOfTypes (files_in self.now.rows.now) (rows_in self.now.rows.now) types.items) }
+    {
+        let mut types = Vec::new(alloc);
+        for number in order {
+            if self.is_type_at(*number) {
+                types.push(*number)?;
+            }
+        }
+        Ok(types)
+    }
+
+    // Whether a statement is a type.
+    fn is_type_at(&self, number: usize) -> bool
+        ensures { IsTrue result ↔ IsTypeAt (rows_in self.now.rows.now) number }
+    {
+        match self.rows.entries().get(number) {
+            Some(entry) => is_type(entry),
+            None => false,
         }
     }
 }

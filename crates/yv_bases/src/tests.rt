@@ -116,6 +116,7 @@ fn a_chain_of_typedefs_leads_to_its_end(rt: HostRuntime) -> Result<(), Fail> {
     assert!(rt; types.follows(8) == Some(3));
     assert!(rt; types.follows(3) == Some(5));
     assert!(rt; types.follows(5) == None);
+    assert_eq!(rt; types.order().len(), 3);
     assert!(rt; comes_before(types.order(), 5, 3));
     assert!(rt; comes_before(types.order(), 3, 8));
     assert!(rt; types.fault() == None);

@@ -1,7 +1,7 @@
 use Rattle.std.proofs.Common.{◌≡◌, ℕ, length, take}
 use Rattle.std.specs.List.{Contains}
 use Rattle.yv_rows.specs.Lent.{files_in, rows_in}
-use Rattle.yv_bases.specs.Types.{IsOrderOfTypes}
+use Rattle.yv_bases.specs.InnerOrder.{IsOrderOfAll}
 use Rattle.yv_bases.specs.InnerCounts.{IsCount}
 use Rattle.yv_bases.specs.InnerTables.{AreFollowed, at}
 use Rattle.yv_bases.proofs.draft.Draft.counts.Given as goal
@@ -10,6 +10,6 @@ abbrev pub invariant-loop-number : goal.invariant-loop-number
 invariant-loop-number l = record {
   each : length l.counts.items ≡ length (rows_in l.self.rows.now);
   told : AreFollowed (files_in l.self.rows.now) (rows_in l.self.rows.now) l.self.follows.items
-      → IsOrderOfTypes (files_in l.self.rows.now) (rows_in l.self.rows.now) l.order
+      → IsOrderOfAll (files_in l.self.rows.now) (rows_in l.self.rows.now) l.order
       → (k : ℕ) → Contains (take l.number-index l.order) k → IsCount (files_in l.self.rows.now) (rows_in l.self.rows.now) k (at l.counts.items k);
 }

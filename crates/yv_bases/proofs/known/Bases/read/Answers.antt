@@ -4,6 +4,7 @@ use Rattle.yv_rows.specs.Lent.{lent_in, files_in, rows_in}
 use Rattle.yv_rows.specs.declared.rows.Rows.{Rows}
 use Rattle.yv_names.specs.Known.{AreNames}
 use Rattle.yv_bases.specs.Types.{IsOrderOfTypes}
+use Rattle.yv_bases.specs.InnerOrder.{IsOrderOfAll}
 use Rattle.yv_bases.specs.Known.{AreBases}
 use Rattle.yv_bases.specs.InnerFound.{AreFound}
 use Rattle.yv_bases.specs.InnerTables.{AreFollowed}
@@ -18,9 +19,11 @@ returns c files is given =
     let names : AreNames (lent_in own) c.args.names.now = subst (λ (x : Rows). AreNames (lent_in x) c.args.names.now) (sym same) lent in
     let followed : AreFollowed (files_in own) (rows_in own) c.in_ok-draft.draft.follows.items =
     subst (λ (x : Rows). AreFollowed (files_in x) (rows_in x) c.in_ok-draft.draft.follows.items) (sym same) (c.in_ok-draft.ensures.follows lent) in
-    let order : IsOrderOfTypes (files_in own) (rows_in own) c.in_ok-order.order.items = c.in_ok-order.ensures c.args.names.now names followed in
+    let every : IsOrderOfAll (files_in own) (rows_in own) c.in_ok-all.all.items = c.in_ok-all.ensures c.args.names.now names followed in
     let found : AreFound (files_in own) (rows_in own) c.in_ok-found.found =
-    c.in_ok-found.ensures followed (subst (λ xs. IsOrderOfTypes (files_in own) (rows_in own) xs) (sym c.deref-2.ensures.value) order) in
+    c.in_ok-found.ensures followed (subst (λ xs. IsOrderOfAll (files_in own) (rows_in own) xs) (sym c.deref-2.ensures.value) every) in
+    let order : IsOrderOfTypes (files_in own) (rows_in own) c.in_ok-order.order.items =
+    c.in_ok-order.ensures (subst (λ xs. IsOrderOfAll (files_in own) (rows_in own) xs) (sym c.deref-3.ensures.value) every) in
     let bases : Bases = record { bases = c.in_ok-found.found.bases; follows = c.in_ok-draft.draft.follows; order = c.in_ok-order.order; fault = c.first_fault-fault.result } in
     let all : AreBases (lent_in own) bases = record { based = found.based; followed = followed; order = order; least = c.first_fault-fault.ensures found } in
     subst (λ (fs : Files). AreBases fs bases) (ap lent_in same ∙ is) all
