@@ -8,7 +8,7 @@ use Rattle.yv_rows.specs.Rows.{Row, name_in}
 use Rattle.yv_rows.specs.Listed.{rows_of}
 use Rattle.yv_names.specs.BuiltIn.{is_built_in}
 use Rattle.yv_names.specs.Refers.{is_type}
-use Rattle.yv_bases.specs.Kinds.{is_first, is_foreign, needs, needs_one}
+use Rattle.yv_bases.specs.Kinds.{is_of_built_in, is_foreign, needs, needs_one}
 use Rattle.yv_bases.specs.Types.{HasKind, is_union}
 use Rattle.yv_bases.specs.Counts.{HasTooMany}
 
@@ -23,7 +23,7 @@ is_derived r = is_type r && not (is_built_in (name_in r))
 -- type k doesn't take the substatement: the built-in type to which it leads never does, or only that type itself does
 pub data IsMisfit (files : Briefs) (rows : List Row) (k : ℕ) (s : Row) : Type 0 where
   foreign : {kind : List ℕ} → HasKind files rows k kind → is_foreign kind s.head.keyword ≡ true → IsMisfit files rows k s
-  inherited : {r : Row} → slice_get rows k ≡ Some r → is_derived r ≡ true → is_first s.head.keyword ≡ true → IsMisfit files rows k s
+  inherited : {r : Row} → slice_get rows k ≡ Some r → is_derived r ≡ true → is_of_built_in s.head.keyword ≡ true → IsMisfit files rows k s
 
 -- Type k has a substatement that it doesn't take, or names a built-in type and lacks what that must have, or it leads to
 -- leafref and is a member of a union.

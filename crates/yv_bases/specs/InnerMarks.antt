@@ -2,7 +2,7 @@
 use Rattle.std.specs.Prelude.{◌≡◌, ◌↔◌, ℕ, Bool, true, false, List, Some, codes, slice_get, slice_index_or}
 use Rattle.yv_rows.specs.Files.{Briefs}
 use Rattle.yv_rows.specs.Rows.{Row, name_in}
-use Rattle.yv_bases.specs.Kinds.{is_first, is_foreign, needs}
+use Rattle.yv_bases.specs.Kinds.{is_of_built_in, is_foreign, needs}
 use Rattle.yv_bases.specs.Types.{HasKind, is_union}
 use Rattle.yv_bases.specs.Faults.{IsChild, is_derived}
 
@@ -19,7 +19,7 @@ Passes test rows k = (r : Row) × (slice_get rows k ≡ Some r) × (test r ≡ t
 
 -- type k names a typedef, and no derived type takes the substatement
 abbrev pub IsInherited : List Row → ℕ → List ℕ → Type 0
-IsInherited rows k word = Passes is_derived rows k × (is_first word ≡ true)
+IsInherited rows k word = Passes is_derived rows k × (is_of_built_in word ≡ true)
 
 -- the built-in type to which type k leads doesn't take it
 abbrev pub IsForeign : Briefs → List Row → ℕ → List ℕ → Type 0

@@ -11,8 +11,8 @@ restrictions =
     ∷ codes "require-instance" ∷ codes "type" ∷ []
 
 -- those that only the built-in type itself takes, and no type that is derived from it
-abbrev pub first_ones : List (List ℕ)
-first_ones = codes "fraction-digits" ∷ codes "path" ∷ codes "base" ∷ codes "type" ∷ []
+abbrev pub of_built_in : List (List ℕ)
+of_built_in = codes "fraction-digits" ∷ codes "path" ∷ codes "base" ∷ codes "type" ∷ []
 
 -- each built-in type with each that it takes
 abbrev pub taken : List (List ℕ × List ℕ)
@@ -59,8 +59,8 @@ unfoldable pub is_foreign : List ℕ → List ℕ → Bool
 is_foreign kind word = is_among restrictions word && not (has_pair taken kind word)
 
 -- a derived type doesn't take it
-unfoldable pub is_first : List ℕ → Bool
-is_first word = is_among first_ones word
+unfoldable pub is_of_built_in : List ℕ → Bool
+is_of_built_in word = is_among of_built_in word
 
 -- a built-in type must have it
 unfoldable pub needs : List ℕ → List ℕ → Bool

@@ -1,7 +1,7 @@
 //! The built-in types, and the substatements that each takes.
 ghost use Rattle.std.specs.Prelude.{◌≡◌, map};
 ghost use Rattle.yv_names.specs.BuiltIn.{is_among, is_built_in};
-ghost use Rattle.yv_bases.specs.Kinds.{has_kind, has_pair, is_first, is_foreign, needs, needs_one};
+ghost use Rattle.yv_bases.specs.Kinds.{has_kind, has_pair, is_of_built_in, is_foreign, needs, needs_one};
 ghost use Rattle.yv_bases.specs.InnerPairs.{pair};
 
 // A built-in type and the keyword of a substatement.
@@ -52,7 +52,7 @@ static RESTRICTIONS: [&str; 10] = [
     "type",
 ];
 
-static FIRST_ONES: [&str; 4] = ["fraction-digits", "path", "base", "type"];
+static OF_BUILT_IN: [&str; 4] = ["fraction-digits", "path", "base", "type"];
 
 static TAKEN: [Pair; 20] = pairs![
     "int8" "range",
@@ -139,11 +139,11 @@ pub(crate) fn is_foreign(kind: &str, word: &str) -> bool
 }
 
 /// Whether a substatement is one that no derived type takes.
-#[tactic(auto, unfolding(crate::specs::Kinds::is_first))]
-pub(crate) fn is_first(word: &str) -> bool
-    ensures { result ≡ is_first word.now }
+#[tactic(auto, unfolding(crate::specs::Kinds::is_of_built_in))]
+pub(crate) fn is_of_built_in(word: &str) -> bool
+    ensures { result ≡ is_of_built_in word.now }
 {
-    is_among(&FIRST_ONES, word)
+    is_among(&OF_BUILT_IN, word)
 }
 
 /// Whether the built-in type must have a substatement.

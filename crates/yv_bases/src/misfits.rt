@@ -3,7 +3,7 @@ ghost use Rattle.std.specs.Prelude.{◌≡◌, ◌↔◌, ℕ, List, Some, IsTru
 ghost use Rattle.std.specs.Option.{option_map};
 ghost use Rattle.yv_rows.specs.Rows.{row, name_in};
 ghost use Rattle.yv_rows.specs.Lent.{files_in, rows_in};
-ghost use Rattle.yv_bases.specs.Kinds.{is_first, needs};
+ghost use Rattle.yv_bases.specs.Kinds.{is_of_built_in, needs};
 ghost use Rattle.yv_bases.specs.Types.{HasKind, is_union};
 ghost use Rattle.yv_bases.specs.Faults.{IsMisfit, is_derived};
 ghost use Rattle.yv_bases.specs.InnerTables.{AreBased};
@@ -11,7 +11,7 @@ ghost use Rattle.yv_bases.specs.InnerMarks.{IsForeign, IsInherited, IsJoined, Me
 
 use crate::draft::Draft;
 use crate::inside::is_type;
-use crate::kinds::{is_built_in, is_first, is_foreign, needs};
+use crate::kinds::{is_built_in, is_foreign, is_of_built_in, needs};
 use crate::slots::get;
 use crate::steps::is_kind;
 use yv_rows::{Entry, name_of};
@@ -60,7 +60,7 @@ impl<'a, 'b> Draft<'_, 'a, 'b> {
     fn is_inherited(&self, number: usize, word: &str) -> bool
         ensures { IsTrue result ↔ IsInherited (rows_in self.now.rows.now) number word.now }
     {
-        self.is_derived_at(number) && is_first(word)
+        self.is_derived_at(number) && is_of_built_in(word)
     }
 
     // Whether a statement is a union.
