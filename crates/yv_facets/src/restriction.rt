@@ -52,10 +52,11 @@ pub fn left_by(
     match restriction {
         Some(statement) => match restricted(alloc, text_of(statement), base, digits)? {
             Some(spans) => Ok(Leftover { spans, fault: None }),
-            None => Ok(Leftover {
-                spans: base.copy()?,
-                fault: refused(true, Code::BadRestriction, file, statement),
-            }),
+            None => {
+                let spans = base.copy()?;
+                let fault = refused(true, Code::BadRestriction, file, statement);
+                Ok(Leftover { spans, fault })
+            }
         },
         None => Ok(Leftover {
             spans: base.copy()?,
