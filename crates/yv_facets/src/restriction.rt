@@ -30,7 +30,7 @@ pub fn child<'a, 'b>(word: &str, statement: &'a Statement<'b>) -> Option<&'a Sta
     None
 }
 
-/// What a restriction leaves of a type's intervals, and its refusal where it restricts none.
+/// What a restriction leaves of a type's intervals, and its refusal where it doesn't restrict them.
 #[derive(Drop)]
 pub struct Leftover {
     pub spans: Intervals,
