@@ -16,15 +16,15 @@ has_word word t = bytes_eq t.head.keyword word
 abbrev pub child : List ℕ → Tree → Option Tree
 child word t = find (has_word word) (trees t.children)
 
--- the text restricts no type of these intervals
-abbrev pub RestrictsNone : Option ℕ → List Interval → List ℕ → Type 0
-RestrictsNone digits base text = (is : List Interval) → Restricts digits base text is → ⊥
+-- the text doesn't restrict a type of these intervals
+abbrev pub IsNoRestriction : Option ℕ → List Interval → List ℕ → Type 0
+IsNoRestriction digits base text = (is : List Interval) → Restricts digits base text is → ⊥
 
 -- the intervals that a `range` or a `length` leaves; all where there is none, or none that restricts them
 abbrev pub Leaves : Option ℕ → List Interval → Option Tree → List Interval → Type 0
 Leaves digits base None is = is ≡ base
 Leaves digits base (Some c) is =
-    Restricts digits base (name_of c.head) is ⊎ (RestrictsNone digits base (name_of c.head) × (is ≡ base))
+    Restricts digits base (name_of c.head) is ⊎ (IsNoRestriction digits base (name_of c.head) × (is ≡ base))
 
 -- the text is outside the dialect
 abbrev pub IsOutside : List ℕ → Type 0
@@ -48,7 +48,8 @@ AreTests (c ∷ cs) tests =
 -- What is left of a type: fewer numbers, fewer lengths, more tests. The `length` of a string counts characters, that of
 -- a binary octets.
 abbrev pub Narrows : Tree → Plain → Plain → Type 0
-Narrows t (wholes is_text is) q = (js : List Interval) × Leaves None is (child (codes "range") t) js × (q ≡ wholes is_text js)
+Narrows t (wholes is_text is) q =
+    (js : List Interval) × Leaves None is (child (codes "range") t) js × (q ≡ wholes is_text js)
 Narrows t (decimals digits is) q =
     (js : List Interval) × Leaves (Some digits) is (child (codes "range") t) js × (q ≡ decimals digits js)
 Narrows t (strings lengths tests) q =
@@ -56,5 +57,6 @@ Narrows t (strings lengths tests) q =
     × Leaves None lengths (child (codes "length") t) left
     × AreTests (trees t.children) more
     × (q ≡ strings left (tests ++ more))
-Narrows t (octets lengths) q = (left : List Interval) × Leaves None lengths (child (codes "length") t) left × (q ≡ octets left)
+Narrows t (octets lengths) q =
+    (left : List Interval) × Leaves None lengths (child (codes "length") t) left × (q ≡ octets left)
 Narrows t p q = q ≡ p

@@ -7,13 +7,13 @@ use Rattle.yv_statement.specs.declared.refusal.Code.TheVariants as code
 use Rattle.yv_numbers.specs.Intervals.{Interval}
 use Rattle.yv_pattern.specs.Spells.{Translates}
 use Rattle.yv_values.specs.Types.{Plain, wholes, decimals, strings, octets}
-use Rattle.yv_facets.specs.Facets.{child, has_word, IsOutside, RestrictsNone}
+use Rattle.yv_facets.specs.Facets.{child, has_word, IsOutside, IsNoRestriction}
 
 -- a `range` or a `length`, where there is one, doesn't restrict a type of these intervals
 abbrev pub BadRestriction : ℕ → Option ℕ → List Interval → Option Tree → Refusal → Type 0
 BadRestriction file digits base None f = ⊥
 BadRestriction file digits base (Some c) f =
-    Stands (RestrictsNone digits base (name_of c.head)) (refusal_at code.BadRestriction file c.head) f
+    Stands (IsNoRestriction digits base (name_of c.head)) (refusal_at code.BadRestriction file c.head) f
 
 -- a substatement is a `pattern` outside the dialect
 abbrev pub BadPattern : ℕ → Tree → Refusal → Type 0

@@ -30,7 +30,7 @@ pub fn child<'a, 'b>(word: &str, statement: &'a Statement<'b>) -> Option<&'a Sta
     None
 }
 
-/// What a restriction leaves of a type's intervals, and its refusal where it restricts none.
+/// What a restriction leaves of a type's intervals, and its refusal where it doesn't restrict them.
 #[derive(Drop)]
 pub struct Leftover {
     pub spans: Intervals,
@@ -52,10 +52,11 @@ pub fn left_by(
     match restriction {
         Some(statement) => match restricted(alloc, text_of(statement), base, digits)? {
             Some(spans) => Ok(Leftover { spans, fault: None }),
-            None => Ok(Leftover {
-                spans: base.copy()?,
-                fault: refused(true, Code::BadRestriction, file, statement),
-            }),
+            None => {
+                let spans = base.copy()?;
+                let fault = refused(true, Code::BadRestriction, file, statement);
+                Ok(Leftover { spans, fault })
+            }
         },
         None => Ok(Leftover {
             spans: base.copy()?,

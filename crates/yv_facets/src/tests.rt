@@ -133,7 +133,7 @@ fn left(alloc: Global, base: &PlainType, parts: &[(&str, &str)]) -> Result<Narro
     let mut offset = 10;
     for (keyword, argument) in parts {
         outer.adopt(statement(alloc, keyword, argument, offset)?)?;
-        offset += 1;
+        offset = offset.wrapping_add(1);
     }
     narrowed(alloc, 3, &outer, base)
 }
