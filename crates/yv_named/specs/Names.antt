@@ -1,0 +1,1 @@
+-- The names of a type (RFC 7950, sections 9.6.3, 9.6.4, 9.7.3 and 9.7.4).
