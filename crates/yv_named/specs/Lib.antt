@@ -1,3 +1,4 @@
 pub mod Entries
 pub mod Names
 pub mod InnerEntries
+pub mod InnerValues

@@ -4,5 +4,7 @@
 
 mod entries;
 mod kind;
+mod numbers;
+mod values;
 
 pub use yv_restrictions::Kind;
