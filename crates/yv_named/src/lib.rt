@@ -2,6 +2,7 @@
 //! (RFC 7950, sections 9.6.3, 9.6.4, 9.7.3 and 9.7.4).
 #![tactic(auto)]
 
+mod conditions;
 mod entries;
 mod kind;
 mod numbers;
