@@ -1,7 +1,6 @@
 -- Where names lie in memory plays no part for their numbers.
-use Rattle.std.proofs.Common.{◌≡◌, ℕ, ℤ, ◌<◌, Bool, true, List, [], ◌∷◌, take, map, Option, Some, None, refl, sym, ◌∙◌, ap, subst, suc, zero}
+use Rattle.std.proofs.Common.{◌≡◌, ℕ, ℤ, Bool, List, [], ◌∷◌, take, map, Option, Some, None, refl, sym, ◌∙◌, ap, subst, suc, zero}
 use Rattle.std.specs.Prelude.{slice_get}
-use Rattle.std.specs.Option.{option_map}
 use Rattle.std.proofs.lemmas.List.{take-map}
 use Rattle.yv_restrictions.specs.Numberings.{Pair, pairs_behind, with_entry, is_wrong, pair_of, numbered, is_wrong_in, pair_in, kept, IsWrongAt, IsFirstWrong}
 use Rattle.yv_restrictions.specs.declared.numbering.Kind.{Kind}

@@ -11,7 +11,7 @@ use Rattle.yv_restrictions.specs.declared.numbering.Kind.{Kind}
 use Rattle.yv_restrictions.specs.declared.numbering.Listed.{Listed}
 use Rattle.yv_restrictions.specs.declared.numbering.Numbering.{Numbering}
 use Rattle.yv_named.specs.Entries.{entry_of}
-use Rattle.yv_named.specs.InnerValues.{has}
+use Rattle.yv_named.specs.Values.{has}
 use Rattle.yv_named.specs.declared.values.Values.{Values}
 
 abbrev pub plain : Listed → Listed

@@ -8,8 +8,8 @@ use Rattle.yv_statement.specs.declared.refusal.Refusal.{Refusal}
 use Rattle.yv_restrictions.specs.Numberings.{Pair, IsFirstWrong, kept, number_in, table_of}
 use Rattle.yv_restrictions.specs.declared.numbering.Kind.{Kind}
 use Rattle.yv_restrictions.specs.declared.numbering.Listed.{Listed}
-use Rattle.yv_named.specs.Entries.{entries, is_on_among, listing}
-use Rattle.yv_named.specs.InnerValues.{has}
+use Rattle.yv_named.specs.Entries.{entries, listing}
+use Rattle.yv_named.specs.Values.{has}
 use Rattle.yv_named.specs.declared.named.Named.{Named}
 
 -- the number of each name that a type has
@@ -29,11 +29,11 @@ abbrev pub number_from : (List ℕ → Option ℤ) → List Listed → List ℕ 
 number_from base [] name = base name
 number_from base (e ∷ es) name = number_in (kept base (e ∷ es)) name
 
--- A derived type has the values of its base where it lists nothing. Else a name that it has is a value where it is one in the base and is given by an
--- entry that is on.
-abbrev pub is_value_from : (List ℕ → Bool) → (List ℕ → Bool) → List Tree → List ℕ → Bool
-is_value_from base listed [] name = base name
-is_value_from base listed (c ∷ cs) name = base name && listed name
+-- A derived type has the values of its base where it lists nothing. Else a name with a number is a value where it is
+-- one in the base and is given by an entry that is on.
+abbrev pub is_value_from : (List ℕ → Bool) → (List ℕ → Option ℤ) → (List Tree → List ℕ → Bool) → List Tree → List ℕ → Bool
+is_value_from base number listed [] name = base name
+is_value_from base number listed (c ∷ cs) name = is_some (number name) && (base name && listed (c ∷ cs) name)
 
 -- No entry of a type statement is wrong, or f is the refusal of the first one that is.
 abbrev pub IsFault : (List Listed → List Pair) → (List Pair → Listed → Bool) → Kind → ℕ → Tree → Option Refusal → Type 0

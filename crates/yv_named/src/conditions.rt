@@ -4,7 +4,7 @@ ghost use Rattle.yv_statement.specs.Tree.{name_of as name_at};
 ghost use Rattle.yv_link.specs.Linked.{truth_in};
 ghost use Rattle.yv_named.specs.Entries.{is_on, is_on_among};
 ghost use Rattle.yv_named.specs.InnerEntries.{base_has, counts, lent};
-ghost use Rattle.yv_named.specs.InnerValues.{has};
+ghost use Rattle.yv_named.specs.Values.{has};
 
 use crate::entries::is_on;
 use crate::values::Values;

@@ -5,7 +5,12 @@
 mod conditions;
 mod entries;
 mod kind;
+mod named;
 mod numbers;
+mod shared;
+#[cfg(test)]
+mod tests;
 mod values;
 
+pub use named::{Listing, Named};
 pub use yv_restrictions::Kind;

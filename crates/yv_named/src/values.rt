@@ -3,7 +3,7 @@ ghost use Rattle.std.specs.Prelude.{◌≡◌, ◌||◌, ℕ, List, false, map, 
 ghost use Rattle.std.specs.Str.{bytes_eq};
 ghost use Rattle.yv_values.specs.Sorted.{is_named};
 ghost use Rattle.yv_values.specs.Values.{texts};
-ghost use Rattle.yv_named.specs.InnerValues.{has};
+ghost use Rattle.yv_named.specs.Values.{has};
 
 use std::alloc::{AllocError, Global};
 use std::collections::BTreeSet;

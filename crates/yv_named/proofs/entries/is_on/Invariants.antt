@@ -3,7 +3,6 @@ use Rattle.std.specs.List.{list_all}
 use Rattle.yv_statement.specs.Tree.{Tree, trees, name_of}
 use Rattle.yv_rows.specs.Files.{has_word}
 use Rattle.yv_link.specs.Linked.{truth_in}
-use Rattle.yv_named.specs.Entries.{is_on}
 use Rattle.yv_named.proofs.entries.is_on.Given as goal
 
 abbrev pub invariant-loop-child : goal.invariant-loop-child

@@ -1,9 +1,8 @@
-use Rattle.std.proofs.Common.{◌≡◌, ◌∙◌, ◌&&◌, ◌||◌, sym, ap, List, ℕ}
+use Rattle.std.proofs.Common.{◌∙◌, ◌||◌, sym, ap}
 use Rattle.std.specs.Str.{bytes_eq}
-use Rattle.yv_statement.specs.Tree.{name_of}
 use Rattle.yv_link.specs.Linked.{truth_in}
 use Rattle.yv_named.specs.InnerEntries.{counts, lent}
-use Rattle.yv_named.specs.InnerValues.{has}
+use Rattle.yv_named.specs.Values.{has}
 use Rattle.yv_named.proofs.Adding.{value_more, value_same, lent_at}
 use Rattle.yv_named.proofs.conditions.Conditions.values.Goals as goal
 use Rattle.yv_named.proofs.conditions.Conditions.values.Goals.{then-is_value+in_ok-add, else-is_value}

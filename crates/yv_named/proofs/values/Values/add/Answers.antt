@@ -1,7 +1,7 @@
 use Rattle.std.proofs.Common.{◌∙◌, ap, cond, true}
 use Rattle.std.specs.Str.{bytes_eq}
 use Rattle.std.proofs.lemmas.Map.Text.{is_eq-slice_cmp}
-use Rattle.yv_named.specs.InnerValues.{has}
+use Rattle.yv_named.specs.Values.{has}
 use Rattle.yv_named.proofs.Adding.{joined}
 use Rattle.yv_named.proofs.values.Values.add.Goals as goal
 

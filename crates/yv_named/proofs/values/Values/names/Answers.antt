@@ -2,7 +2,7 @@ use Rattle.std.proofs.Common.{◌≡◌, ◌∙◌, ◌++◌, ap, map, sym, appe
 use Rattle.std.proofs.lemmas.Result.{IfOk-weaker}
 use Rattle.yv_values.specs.Sorted.{is_named}
 use Rattle.yv_values.specs.Values.{texts}
-use Rattle.yv_named.specs.InnerValues.{has}
+use Rattle.yv_named.specs.Values.{has}
 use Rattle.yv_named.proofs.Adding.{named_keys}
 use Rattle.yv_named.proofs.values.Values.names.Goals as goal
 
