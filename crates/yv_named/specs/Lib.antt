@@ -1,0 +1,5 @@
+pub mod Entries
+pub mod Names
+pub mod Values
+pub mod InnerEntries
+pub mod InnerValues
