@@ -79,7 +79,8 @@ fn a_new_enumeration(rt: HostRuntime) -> Result<(), Fail> {
     let names = listing.names;
     assert!(rt; names.number("one") == Some(1) && names.number("seven") == Some(7));
     assert!(rt; names.number("last") == Some(8) && names.number("two").is_none());
-    assert!(rt; names.is_value("seven") && !names.is_value("last") && !names.is_value("two"));
+    let copy = names.copy()?;
+    assert!(rt; copy.is_value("seven") && !copy.is_value("last") && !names.is_value("two"));
     Ok(())
 }
 
