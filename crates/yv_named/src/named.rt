@@ -37,7 +37,7 @@ pub struct Listing<'a> {
 
 impl<'a> Named<'a> {
     /// The names of a `type` statement of this file that isn't derived from another enumeration or other bits (RFC 7950,
-    /// sections 9.6.4 and 9.7.4). It takes time n log n in the statements.
+    /// sections 9.6.4 and 9.7.4). It takes time n log n in the statements, besides that of their conditions.
     pub fn new(
         alloc: Global,
         linked: &Linked<'a, '_>,
@@ -59,7 +59,7 @@ impl<'a> Named<'a> {
 
     /// The names of a `type` statement of this file that is derived from this type, of the same kind (RFC 7950, sections
     /// 9.6.3 and 9.7.3). Where it lists nothing, it takes constant time besides that for the statement's substatements,
-    /// else time n log n in the statements.
+    /// else time n log n in the statements, besides that of their conditions.
     pub fn derived(
         &self,
         alloc: Global,
