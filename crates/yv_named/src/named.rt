@@ -1,5 +1,5 @@
 //! The names of a type.
-ghost use Rattle.std.specs.Prelude.{◌≡◌, ℕ, List, ◌&&◌, None, IfOk};
+ghost use Rattle.std.specs.Prelude.{◌≡◌, ℕ, List, ◌&&◌, IfOk};
 ghost use Rattle.yv_link.specs.Linked.{truth_in};
 ghost use Rattle.yv_restrictions.specs.Numberings.{is_wrong, is_wrong_in, kept, number_in, numbered, table_of};
 ghost use Rattle.yv_values.specs.Sorted.{is_named};
@@ -37,7 +37,7 @@ pub struct Listing<'a> {
 
 impl<'a> Named<'a> {
     /// The names of a `type` statement of this file that isn't derived from another enumeration or other bits (RFC 7950,
-    /// sections 9.6.4 and 9.7.4). It takes time n log n in the statements.
+    /// sections 9.6.4 and 9.7.4). It takes time n log n in the statements, besides that of their conditions.
     pub fn new(
         alloc: Global,
         linked: &Linked<'a, '_>,
@@ -59,7 +59,7 @@ impl<'a> Named<'a> {
 
     /// The names of a `type` statement of this file that is derived from this type, of the same kind (RFC 7950, sections
     /// 9.6.3 and 9.7.3). Where it lists nothing, it takes constant time besides that for the statement's substatements,
-    /// else time n log n in the statements.
+    /// else time n log n in the statements, besides that of their conditions.
     pub fn derived(
         &self,
         alloc: Global,
@@ -71,16 +71,31 @@ impl<'a> Named<'a> {
         ensures numbers { IfOk result (λ l. (name : List ℕ)
             → number_of l.names name ≡ number_from (number_of self.now) (entries kind statement.now) name) }
         ensures values { IfOk result (λ l. (name : List ℕ) → is_value l.names name
-            ≡ is_value_from (is_value self.now) (number_of l.names) (is_on_among (truth_in linked.now) file) (listing kind statement.now) name) }
-        ensures fault { IfOk result (λ l. IsFault (kept (number_of self.now)) (is_wrong_in (number_of self.now)) kind file statement.now l.fault) }
+            ≡ is_value_from (is_value self.now) (number_of l.names) (is_on_among (truth_in linked.now) file)
+            (listing kind statement.now) name) }
+        ensures fault { IfOk result (λ l. IsFault (kept (number_of self.now)) (is_wrong_in (number_of self.now)) kind
+            file statement.now l.fault) }
     {
         let lines = listing(alloc, kind, statement)?;
         if lines.is_empty() {
-            return self.whole();
+            return Ok(Listing {
+                names: self.copy()?,
+                fault: None,
+            });
         }
         let found = derived_numbers(alloc, &self.shared.numbering, kind, &lines)?;
         let conditions = Conditions { linked, file };
         Named::made(alloc, conditions, found, Some(&self.shared.values), &lines)
+    }
+
+    /// The same names once more, over the same tables. It takes constant time.
+    pub fn copy(&self) -> Result<Named<'a>, AllocError>
+        ensures numbers { IfOk result (λ copy. (name : List ℕ) → number_of copy name ≡ number_of self.now name) }
+        ensures values { IfOk result (λ copy. (name : List ℕ) → is_value copy name ≡ is_value self.now name) }
+    {
+        Ok(Named {
+            shared: self.shared.clone()?,
+        })
     }
 
     /// The number of a name that is right, be it a value or not.
@@ -105,20 +120,6 @@ impl<'a> Named<'a> {
             PlainType::Enumeration(names) => Ok(names),
             _ => unreachable!(),
         }
-    }
-
-    // The same names once more.
-    fn whole(&self) -> Result<Listing<'a>, AllocError>
-        ensures numbers { IfOk result (λ l. (name : List ℕ) → number_of l.names name ≡ number_of self.now name) }
-        ensures values { IfOk result (λ l. (name : List ℕ) → is_value l.names name ≡ is_value self.now name) }
-        ensures fault { IfOk result (λ l. l.fault ≡ None) }
-    {
-        Ok(Listing {
-            names: Named {
-                shared: self.shared.clone()?,
-            },
-            fault: None,
-        })
     }
 
     // The names of a listing, by its numbers.

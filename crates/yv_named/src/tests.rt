@@ -79,7 +79,8 @@ fn a_new_enumeration(rt: HostRuntime) -> Result<(), Fail> {
     let names = listing.names;
     assert!(rt; names.number("one") == Some(1) && names.number("seven") == Some(7));
     assert!(rt; names.number("last") == Some(8) && names.number("two").is_none());
-    assert!(rt; names.is_value("seven") && !names.is_value("last") && !names.is_value("two"));
+    let copy = names.copy()?;
+    assert!(rt; copy.is_value("seven") && !copy.is_value("last") && !names.is_value("two"));
     Ok(())
 }
 
@@ -98,14 +99,8 @@ fn is_read(alloc: Global, names: &Named<'_>, text: &str) -> Result<bool, AllocEr
 fn a_derived_enumeration(rt: HostRuntime) -> Result<(), Fail> {
     let alloc = rt.alloc();
     let files = [module_a(alloc)?];
-    let linked = link(alloc, &files, &Selection::everything(alloc))
-        .ok()
-        .ok_or("refused")?;
     let base = numerals(alloc)?;
-    let names = Named::new(alloc, &linked, 0, Kind::Enumeration, &base)?.names;
     let empty = bare(alloc, "type", "numerals", 200)?;
-    let same = names.derived(alloc, &linked, 0, Kind::Enumeration, &empty)?;
-    assert!(rt; same.fault.is_none() && same.names.number("one") == Some(1));
     let body = vec![in alloc;
         bare(alloc, "enum", "seven", 310)?,
         bare(alloc, "enum", "last", 320)?,
@@ -113,6 +108,12 @@ fn a_derived_enumeration(rt: HostRuntime) -> Result<(), Fail> {
         bare(alloc, "enum", "seven", 340)?,
     ]?;
     let written = statement(alloc, "type", "numerals", 300, body)?;
+    let linked = link(alloc, &files, &Selection::everything(alloc))
+        .ok()
+        .ok_or("refused")?;
+    let names = Named::new(alloc, &linked, 0, Kind::Enumeration, &base)?.names;
+    let same = names.derived(alloc, &linked, 0, Kind::Enumeration, &empty)?;
+    assert!(rt; same.fault.is_none() && same.names.number("one") == Some(1));
     let fewer = same
         .names
         .derived(alloc, &linked, 0, Kind::Enumeration, &written)?;
@@ -134,9 +135,6 @@ fn a_derived_enumeration(rt: HostRuntime) -> Result<(), Fail> {
 fn positions_of_bits(rt: HostRuntime) -> Result<(), Fail> {
     let alloc = rt.alloc();
     let files = [module_a(alloc)?];
-    let linked = link(alloc, &files, &Selection::everything(alloc))
-        .ok()
-        .ok_or("refused")?;
     let most = bare(alloc, "position", "4294967295", 111)?;
     let past = bare(alloc, "position", "18446744073709551616", 121)?;
     let body = vec![in alloc;
@@ -144,6 +142,9 @@ fn positions_of_bits(rt: HostRuntime) -> Result<(), Fail> {
         entry(alloc, "bit", "past", 120, past)?,
     ]?;
     let written = statement(alloc, "type", "bits", 100, body)?;
+    let linked = link(alloc, &files, &Selection::everything(alloc))
+        .ok()
+        .ok_or("refused")?;
     let listing = Named::new(alloc, &linked, 0, Kind::Bits, &written)?;
     assert!(rt; listing.names.number("most") == Some(4294967295));
     assert!(rt; listing.names.number("past").is_none());
