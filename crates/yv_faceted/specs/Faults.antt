@@ -11,9 +11,9 @@ use Rattle.yv_facets.specs.Faults.{BadFacets}
 use Rattle.yv_faceted.specs.Types.{StartsFrom}
 
 -- what is wrong with the restrictions of type k, by what it narrows
-abbrev pub BadType : Files → ℕ → Row → Refusal → Type 0
-BadType files k r f = (t : Tree) × (p : Plain) × StartsFrom files k t p × BadFacets r.file t p f
+abbrev pub BadNarrowing : Files → ℕ → Row → Refusal → Type 0
+BadNarrowing files k r f = (t : Tree) × (p : Plain) × StartsFrom files k t p × BadFacets r.file t p f
 
 -- what is wrong with the restrictions of one of the types
 abbrev pub BadFaceted : Files → Refusal → Type 0
-BadFaceted files f = Among (rows_of files) (BadType files) (length (rows_of files)) f
+BadFaceted files f = Among (rows_of files) (BadNarrowing files) (length (rows_of files)) f

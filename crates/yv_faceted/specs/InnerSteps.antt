@@ -15,7 +15,7 @@ use Rattle.yv_values.specs.declared.plain.PlainType.{PlainType}
 use Rattle.yv_facets.specs.Facets.{Narrows}
 use Rattle.yv_facets.specs.Faults.{BadFacets}
 use Rattle.yv_faceted.specs.Types.{HasPlainType}
-use Rattle.yv_faceted.specs.Faults.{BadType}
+use Rattle.yv_faceted.specs.Faults.{BadNarrowing}
 use Rattle.yv_faceted.specs.InnerTables.{plain_at}
 
 -- no file is refused, and a pattern isn't built only where P holds
@@ -32,7 +32,7 @@ pub record IsLeft (file : ℕ) (t : Tree) (base plain : Option Plain) (fault : O
 
 -- what is wrong with the restrictions of the numbered statement
 abbrev pub BadAt : Files → ℕ → Refusal → Type 0
-BadAt files k f = (r : Row) × (slice_get (rows_of files) k ≡ Some r) × BadType files k r f
+BadAt files k f = (r : Row) × (slice_get (rows_of files) k ≡ Some r) × BadNarrowing files k r f
 
 -- this is the plain type of the numbered statement, and the least that is wrong with its restrictions
 pub record IsStep (files : Files) (k : ℕ) (plain : Option Plain) (fault : Option Refusal) : Type 0 where

@@ -32,7 +32,8 @@ impl Faceted {
 
     /// Reads the types of these statements, the bases being theirs. `PatternBuild` says that `regex` doesn't build the
     /// translation of a pattern of the dialect; no refusal is an error here. It takes time linear in the statements but
-    /// for what `narrowed` says of each type.
+    /// for what `narrowed` says of each type. Since a type with patterns has a list of its own of all patterns on its
+    /// way, a chain of such types takes time and memory quadratic in its length.
     pub fn read(alloc: Global, rows: &Rows<'_, '_>, bases: &Bases) -> Result<Faceted, Stop>
         ensures made { IfOk result (λ faceted. (files : Files) → lent_in rows.now ≡ files → AreBases files bases.now → AreFaceted files faceted) }
         ensures faultless { (r : Refusal) → result ≢ Err (Fault r) }

@@ -52,7 +52,8 @@ fn left_of(
     statement: &Statement<'_>,
     base: Option<&PlainType>,
 ) -> Result<Step, Stop>
-    ensures left { IfOk result (λ s. IsLeft file statement.now (option_map plain_of (option_copied base.entry)) (option_map plain_of s.plain) s.fault) }
+    ensures left { IfOk result (λ s.
+        IsLeft file statement.now (option_map plain_of (option_copied base.entry)) (option_map plain_of s.plain) s.fault) }
     ensures stops { IfErr result (StopsWhere (HasPattern (trees statement.now.children))) }
 {
     yv_facets::laws::one_type_is_left();
@@ -70,7 +71,8 @@ fn left_of(
 
 // What a type statement leaves of the built-in type that it names.
 fn named(alloc: Global, file: u32, statement: &Statement<'_>) -> Result<Step, Stop>
-    ensures left { IfOk result (λ s. IsLeft file statement.now (built_in (name_at statement.now.head) (digits_of statement.now)) (option_map plain_of s.plain) s.fault) }
+    ensures left { IfOk result (λ s.
+        IsLeft file statement.now (built_in (name_at statement.now.head) (digits_of statement.now)) (option_map plain_of s.plain) s.fault) }
     ensures stops { IfErr result (StopsWhere (HasPattern (trees statement.now.children))) }
 {
     let base = built_in(alloc, name_of(statement), digits_of(statement))?;
