@@ -1,9 +1,9 @@
 -- Inner definitions, which only private clauses cite: what is asked of a statement.
-use Rattle.std.specs.Prelude.{◌≡◌, ℕ, Bool, ◌&&◌, not, ◌==◌, List, map, Option, Some, None, if◌then◌else◌, slice_get}
+use Rattle.std.specs.Prelude.{ℕ, Bool, ◌&&◌, not, ◌==◌, List, Option, None, if◌then◌else◌}
 use Rattle.std.specs.BTreeSet.{contains}
 use Rattle.std.specs.Ordering.{nat_cmp}
 use Rattle.yv_selection.specs.Choice.{Choice}
-use Rattle.yv_rows.specs.Files.{Files, Briefs, brief_of}
+use Rattle.yv_rows.specs.Files.{Briefs}
 use Rattle.yv_rows.specs.Rows.{Row, name_in}
 use Rattle.yv_features.specs.On.{is_condition_of}
 use Rattle.yv_identities.specs.Names.{is_base, is_identity}

@@ -2,7 +2,7 @@ use Rattle.std.proofs.Common.{◌≡◌, ◌&&◌, Some, List, refl, sym, ◌∙
 use Rattle.std.specs.List.{slice_get, list_any}
 use Rattle.yv_rows.specs.Files.{brief_of}
 use Rattle.yv_rows.specs.Listed.{rows_of}
-use Rattle.yv_rows.specs.Rows.{Row, row}
+use Rattle.yv_rows.specs.Rows.{row}
 use Rattle.yv_identities.specs.References.{is_at}
 use Rattle.yv_identities.specs.declared.references.IdentityRef.{IdentityRef}
 use Rattle.yv_identityref.specs.InnerDraft.{base_by}

@@ -1,10 +1,10 @@
-use Rattle.std.proofs.Common.{◌≡◌, Some, List, sym, ◌∙◌, ap, arith, map}
+use Rattle.std.proofs.Common.{◌≡◌, Some, sym, ◌∙◌, ap, arith, map}
 use Rattle.std.specs.List.{slice_get}
 use Rattle.yv_rows.specs.Listed.{rows_of}
-use Rattle.yv_rows.specs.Rows.{Row, row}
+use Rattle.yv_rows.specs.Rows.{row}
 use Rattle.yv_link.specs.Linked.{truth_in}
 use Rattle.yv_identityref.proofs.Numbers.{none_in}
-use Rattle.yv_identityref.proofs.Reading.{row_read, rows_count, all_taken}
+use Rattle.yv_identityref.proofs.Reading.{row_read, rows_count}
 use Rattle.yv_identityref.proofs.Standing.{failing_more, failing_same, failing_all}
 use Rattle.yv_identityref.proofs.conditions.off.Goals as goal
 use Rattle.yv_identityref.proofs.conditions.off.Goals.{then-is_false+in_ok-insert, else-is_false}
