@@ -14,7 +14,7 @@ use Rattle.yv_identityref.specs.InnerDraft.{base_by}
 use Rattle.yv_identityref.proofs.Placing.{same_at}
 use Rattle.yv_identityref.proofs.Reading.{both, both_true, found, finds, mapped}
 
-same_place : (place ref : IdentityRef) → place ≡ ref → is_at place ref ≡ true
+pub same_place : (place ref : IdentityRef) → place ≡ ref → is_at place ref ≡ true
 same_place place ref e =
     both_true (ref.file == place.file) (ref.offset == place.offset)
     (eq-eqb ref.file place.file (ap (λ (r : IdentityRef). r.file) (sym e)))

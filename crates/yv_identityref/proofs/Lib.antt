@@ -1,3 +1,4 @@
+pub mod Apart
 pub mod Below
 pub mod Gathering
 pub mod Numbers
