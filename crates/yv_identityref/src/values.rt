@@ -20,8 +20,8 @@ use yv_values::Members;
 /// and so no value. An identity is derived through others whether or not these are values. A base whose name means
 /// nothing, which linking refuses, is taken as none, and a type without a base has all identities.
 ///
-/// For each base it takes time linear in identities and their bases, beside it time linear in statements but for
-/// ordered tables; and memory for one set of identities.
+/// It takes time linear in statements, and for each base time linear in identities and their bases, all but for ordered
+/// sets; and memory linear in statements. Who asks about many types with the same bases asks once.
 pub fn identities_of(
     alloc: Global,
     linked: &Linked<'_, '_>,
