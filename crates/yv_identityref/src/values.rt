@@ -21,7 +21,7 @@ use yv_values::Members;
 /// nothing, which linking refuses, is taken as none, and a type without a base has all identities.
 ///
 /// It takes time linear in statements, and for each base time linear in identities and their bases, all but for ordered
-/// sets; and memory linear in statements. Who asks about many types with the same bases asks once.
+/// sets. Each value has a copy of its module's name. Who asks about many types with the same bases asks once.
 pub fn identities_of(
     alloc: Global,
     linked: &Linked<'_, '_>,
