@@ -1,0 +1,4 @@
+pub mod Bases
+pub mod Values
+pub mod InnerSets
+pub mod InnerDraft

@@ -1,0 +1,45 @@
+-- The values of an identityref type (RFC 7950, section 9.10).
+use Rattle.std.specs.Prelude.{◌≡◌, ℕ, Bool, true, false, List, map, Some, slice_get}
+use Rattle.std.specs.Option.{option_map, unwrap_or}
+use Rattle.yv_selection.specs.Choice.{Choice}
+use Rattle.yv_rows.specs.Files.{Files, Briefs, brief_of}
+use Rattle.yv_rows.specs.Listed.{rows_of}
+use Rattle.yv_rows.specs.Rows.{Row, name_in}
+use Rattle.yv_features.specs.On.{home_in, is_condition_of}
+use Rattle.yv_identities.specs.Names.{is_identity}
+use Rattle.yv_identities.specs.References.{ref_of}
+use Rattle.yv_link.specs.Modules.{named_module}
+use Rattle.yv_link.specs.declared.modules.ModuleRef.{ModuleRef}
+use Rattle.yv_values.specs.Identities.{Id}
+use Rattle.yv_identityref.specs.Bases.{IsBelowAll}
+
+-- whether the expression of an `if-feature` holds in a file
+abbrev pub Truth : Type 0
+Truth = ℕ → List ℕ → Bool
+
+-- each condition in the block of a numbered statement holds (section 7.20.2)
+abbrev pub IsOn : Truth → List Row → ℕ → Type 0
+IsOn truth rows number =
+    (c : ℕ) (s : Row) → slice_get rows c ≡ Some s → is_condition_of number s ≡ true → truth s.file (name_in s) ≡ true
+
+-- the module of a name is there, and it is implemented (section 5.6.5)
+abbrev pub is_implemented : Choice → Briefs → List ℕ → Bool
+is_implemented choice files name = unwrap_or (option_map (λ (m : ModuleRef). m.implemented) (named_module choice files name)) false
+
+-- an identity by its name and that of the module to which its file belongs (section 5.1)
+abbrev pub id_at : Briefs → Row → Id
+id_at files r = record { home = home_in (slice_get files r.file); name = name_in r }
+
+-- the numbered statement r is an identity that is derived from every base of the type, of an implemented module, and none
+-- of its conditions is false (section 9.10.2)
+pub record IsValue (truth : Truth) (choice : Choice) (files : Files) (kind number : ℕ) (r : Row) : Type 0 where
+  pub identity : is_identity r ≡ true
+  pub derived : IsBelowAll (map brief_of files) (rows_of files) kind (ref_of r)
+  pub implemented : is_implemented choice (map brief_of files) (id_at (map brief_of files) r).home ≡ true
+  pub on : IsOn truth (rows_of files) number
+
+-- this module has an identity of this name that is a value
+abbrev pub HasValue : Truth → Choice → Files → ℕ → List ℕ → List ℕ → Type 0
+HasValue truth choice files kind home called =
+    (number : ℕ) × (r : Row) × (slice_get (rows_of files) number ≡ Some r) × IsValue truth choice files kind number r
+    × (id_at (map brief_of files) r ≡ record { home = home; name = called })
