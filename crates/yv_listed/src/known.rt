@@ -48,7 +48,8 @@ impl<'a> Lists<'a> {
         Ok(Lists { types, fault })
     }
 
-    /// The names of the type of this number. None for other statements, and for types that lead elsewhere.
+    /// The names of the type of this number, in constant time. None for other statements, and for types that lead
+    /// elsewhere.
     pub fn names(&self, number: usize) -> Option<&TypeNames<'a>>
         ensures { (files : Files) (truth : Truth) → AreLists files truth self.now
             → (told : Told) → (option_map told_of (option_copied result) ≡ Some told) ↔ HasNames files truth number told }

@@ -6,7 +6,7 @@ ghost use Rattle.yv_listed.specs.Told.{told_at, told_of};
 use std::alloc::{AllocError, Global};
 use yv_named::{Kind, Named};
 
-/// The names of an enumeration or of bits.
+/// The names of a type that leads to `enumeration` or to `bits`, and to which of these.
 #[derive(Drop)]
 pub struct TypeNames<'a> {
     pub kind: Kind,
