@@ -10,11 +10,12 @@ use Rattle.yv_statement.specs.Order.{IsLeast}
 use Rattle.yv_statement.specs.Tree.{Head, Tree, name_of}
 use Rattle.yv_statement.specs.declared.refusal.Refusal.{Refusal}
 use Rattle.yv_statement.proofs.Least.{least_same}
-use Rattle.yv_rows.specs.Files.{Files}
+use Rattle.yv_rows.specs.Files.{Files, has_word as is_word}
 use Rattle.yv_rows.specs.Rows.{Row}
 use Rattle.yv_rows.specs.Listed.{rows_of, statements_of}
 use Rattle.yv_names.specs.BuiltIn.{is_built_in}
 use Rattle.yv_names.specs.Refers.{is_type}
+use Rattle.yv_bases.specs.Types.{IsTypeAt as IsTypeRow}
 use Rattle.yv_values.specs.Types.{Plain, plain_of}
 use Rattle.yv_values.specs.declared.plain.PlainType.{PlainType}
 use Rattle.yv_facets.specs.BuiltIn.{built_in}
@@ -29,6 +30,9 @@ no_type p e = cc
 
 no_number : (j : ℕ) → None ≡ Some j → ⊥
 no_number j e = cc
+
+no_head : (h : Head) → Some h ≡ None → ⊥
+no_head h e = cc
 
 no_tree : (t : Tree) → None ≡ Some t → ⊥
 no_tree t e = cc
@@ -87,6 +91,27 @@ module _ (files : Files) where
   starts_by (first here e) = inl e
   starts_by (derived {j = j} here f h) = inr (j, f, h)
 
+  head_there : HaveRows → (k : ℕ) (t : Tree) → IsTypeAt files k t → Some t.head ≡ option_map (λ (r : Row). r.head) (slice_get (rows_of files) k)
+  head_there heads k t here =
+      sym (ap (option_map (λ (u : Tree). u.head)) here.0)
+      ∙ sym (slice_get-map (λ (u : Tree). u.head) (statements_of files) k)
+      ∙ ap (λ (l : List Head). slice_get l k) (heads files)
+      ∙ slice_get-map (λ (r : Row). r.head) (rows_of files) k
+
+  -- the row of a type is one
+  type_row : HaveRows → (k : ℕ) (t : Tree) (o : Option Row) → IsTypeAt files k t → slice_get (rows_of files) k ≡ o → IsTypeRow (rows_of files) k
+  type_row heads k t (Some r) here at =
+      let same : t.head ≡ r.head = same_Some t.head r.head (head_there heads k t here ∙ ap (option_map (λ (x : Row). x.head)) at) in
+      (r, at, ap (is_word (codes "type")) (sym same) ∙ here.1)
+  type_row heads k t None here at = absurd (no_head t.head (head_there heads k t here ∙ ap (option_map (λ (x : Row). x.head)) at))
+
+  pub starts_type : HaveRows → {k : ℕ} {t : Tree} {p : Plain} → StartsFrom files k t p → IsTypeRow (rows_of files) k
+  starts_type heads {k} {t} s = type_row heads k t (slice_get (rows_of files) k) (starts_at s) refl
+
+  -- what has a plain type is a type
+  pub plain_type : HaveRows → {k : ℕ} {q : Plain} → HasPlainType files k q → IsTypeRow (rows_of files) k
+  plain_type heads h = starts_type heads (left_by h).2
+
   -- what isn't a type has no plain type, and nothing is wrong with it
   pub step_none : (k : ℕ) → ((t : Tree) → IsTypeAt files k t → ⊥) → IsStep files k None None
   step_none k out = record {
@@ -108,10 +133,6 @@ module _ (files : Files) where
   out_past heads entries view k e past =
       let rows : length entries ≡ length (rows_of files) = sym (length-map entries view) ∙ ap length e in
       out_beyond heads k (omega (arith, rows, past))
-
-  -- and has no plain type
-  pub plain_beyond : HaveRows → (k : ℕ) → length (rows_of files) ≤ k → (p : Plain) → (None ≡ Some p) ↔ HasPlainType files k p
-  plain_beyond heads k past p = (step_none k (out_beyond heads k past)).exact p
 
   -- a number without a statement is none either
   pub out_none : (k : ℕ) → None ≡ slice_get (statements_of files) k → (t : Tree) → IsTypeAt files k t → ⊥

@@ -50,3 +50,7 @@ IsFollowed files k j = Follows (map brief_of files) (rows_of files) k j
 -- what is wrong with the restrictions of one of those
 abbrev pub BadAmong : Files → List ℕ → Refusal → Type 0
 BadAmong files ks f = (k : ℕ) × Contains ks k × BadAt files k f
+
+-- the table has the plain types of these numbers, and no others
+abbrev pub AreTold : Files → List ℕ → List (Option PlainType) → Type 0
+AreTold files ks types = (k : ℕ) (p : Plain) → (plain_at types k ≡ Some p) ↔ (Contains ks k × HasPlainType files k p)

@@ -1,5 +1,5 @@
 //! Plain types by number.
-ghost use Rattle.std.specs.Prelude.{◌≡◌, ◌≢◌, ◌<◌, ℕ, length, IfOk};
+ghost use Rattle.std.specs.Prelude.{◌≡◌, ◌≢◌, ◌<◌, ℕ, None, length, IfOk};
 ghost use Rattle.std.specs.Option.{option_map, option_copied};
 ghost use Rattle.yv_values.specs.Types.{plain_of};
 ghost use Rattle.yv_faceted.specs.InnerTables.{plain_at};
@@ -9,7 +9,7 @@ use yv_values::PlainType;
 
 /// So many places, none with a type.
 pub(crate) fn no_types(alloc: Global, count: usize) -> Result<Vec<Option<PlainType>>, AllocError>
-    ensures { IfOk result (λ types. length types.items ≡ count) }
+    ensures { IfOk result (λ types. (length types.items ≡ count) × ((k : ℕ) → plain_at types.items k ≡ None)) }
 {
     let mut types = Vec::new(alloc);
     for _ in 0..count {

@@ -1,0 +1,3 @@
+mod Faulty
+mod Stepping
+mod Walking

@@ -1,0 +1,5 @@
+pub mod Types
+pub mod Faults
+pub mod Told
+pub mod Known
+pub mod InnerSteps
