@@ -4,5 +4,7 @@
 
 mod first;
 mod layers;
+#[cfg(test)]
+mod tests;
 
 pub use first::first_bad_type;
