@@ -4,6 +4,8 @@
 
 mod first;
 mod layers;
+mod step;
+mod table;
 #[cfg(test)]
 mod tests;
 
