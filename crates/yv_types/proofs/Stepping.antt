@@ -1,7 +1,7 @@
 -- What one type statement has.
-use Rattle.std.proofs.Common.{◌≡◌, ℕ, ◌<◌, ◌≤◌, ◌↔◌, inl, inr, zero, suc, length, get_or, ◌&&◌, Bool, true, false, not, List, [], ◌∷◌, map, refl, sym, ◌∙◌, ap, subst, arith, Option, Some, None, codes}
-use Rattle.std.specs.Prelude.{IsTrue, Result, Ok, Err, IfOk}
-use Rattle.std.specs.List.{Contains, list_any, slice_get}
+use Rattle.std.proofs.Common.{◌≡◌, ℕ, ◌<◌, ◌≤◌, ◌↔◌, inr, zero, suc, length, get_or, ◌&&◌, Bool, true, false, not, List, [], ◌∷◌, map, refl, sym, ◌∙◌, ap, subst, arith, Option, Some, None, codes}
+use Rattle.std.specs.Prelude.{Result, Ok, Err, IfOk}
+use Rattle.std.specs.List.{Contains, slice_get}
 use Rattle.std.specs.Str.{bytes_eq}
 use Rattle.std.proofs.lemmas.Bool.{false≢true}
 use Rattle.std.specs.Option.{option_map}
@@ -13,12 +13,10 @@ use Rattle.yv_rows.specs.Rows.{Row, name_in}
 use Rattle.yv_rows.specs.Listed.{rows_of}
 use Rattle.yv_names.specs.BuiltIn.{is_built_in}
 use Rattle.yv_names.specs.Refers.{is_type}
-use Rattle.yv_bases.specs.Types.{Follows, is_kind, is_union, is_leafref, types_in, RestsOn}
-use Rattle.yv_values.specs.Types.{Plain, identities}
-use Rattle.yv_values.specs.Identities.{Id, is_identity}
+use Rattle.yv_bases.specs.Types.{Follows, is_kind, types_in, RestsOn}
+use Rattle.yv_values.specs.Types.{Plain}
 use Rattle.yv_listed.specs.Types.{HasNames, Told, Truth}
 use Rattle.yv_faceted.specs.Types.{HasPlainType}
-use Rattle.yv_identityref.specs.Values.{HasValue}
 use Rattle.yv_types.specs.Spaces.{Space, Spaces, faceted, listed, identityref, leafref, union, derived}
 use Rattle.yv_types.specs.InnerTables.{AreKnown, FollowsNone, IsBare, IsSpace, joined_from, plains_at}
 use Rattle.yv_types.specs.declared.table.Shared.{Shared}

@@ -1,6 +1,5 @@
 -- Inner definitions, which only private clauses and the tables cite: plain types by number.
 use Rattle.std.specs.Prelude.{◌≡◌, ℕ, List, [], ◌∷◌, ◌++◌, Option, Some, None, map, slice_get}
-use Rattle.std.specs.List.{Contains}
 use Rattle.std.specs.Option.{option_and_then, option_map}
 use Rattle.std.specs.Rc.{rc_slice_items}
 use Rattle.yv_selection.specs.Choice.{Choice}
@@ -8,7 +7,7 @@ use Rattle.yv_rows.specs.Files.{Files, brief_of}
 use Rattle.yv_rows.specs.Listed.{rows_of}
 use Rattle.yv_values.specs.Types.{Plain, plain_of}
 use Rattle.yv_values.specs.Sorted.{is_named}
-use Rattle.yv_bases.specs.Types.{Follows}
+use Rattle.yv_bases.specs.Types.{Follows, IsTypeAt}
 use Rattle.yv_faceted.specs.Types.{HasPlainType}
 use Rattle.yv_listed.specs.Types.{HasNames, Told, Truth}
 use Rattle.yv_types.specs.Spaces.{Space, of_kind}
@@ -48,3 +47,8 @@ pub record IsBare (files : Files) (truth : Truth) (k : ℕ) : Type 0 where
 -- and it follows none
 abbrev pub FollowsNone : Files → ℕ → Type 0
 FollowsNone files k = (j : ℕ) → Follows (map brief_of files) (rows_of files) k j → ⊥
+
+-- the table has the plain types of all types, and of nothing else
+pub record AreSpaces (files : Files) (truth : Truth) (choice : Choice) (spaces : List (Option Shared)) : Type 0 where
+  pub sound : (k : ℕ) (ps : List Plain) → plains_at spaces k ≡ Some ps → Space files truth choice k ps
+  pub full : (k : ℕ) → IsTypeAt (rows_of files) k → plains_at spaces k ≡ None → (ps : List Plain) → Space files truth choice k ps → ⊥

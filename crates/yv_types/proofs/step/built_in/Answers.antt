@@ -1,7 +1,6 @@
-use Rattle.std.proofs.Common.{◌≡◌, [], ap, refl, sym, ◌∙◌, Bool, false, true, Some, None, codes}
+use Rattle.std.proofs.Common.{[], ap, refl, sym, ◌∙◌, Some, None}
 use Rattle.std.specs.Option.{option_map}
 use Rattle.yv_rows.specs.Rows.{row}
-use Rattle.yv_bases.specs.Types.{is_kind}
 use Rattle.yv_link.specs.Linked.{truth_in}
 use Rattle.yv_types.specs.Spaces.{identityref, leafref}
 use Rattle.yv_types.specs.InnerTables.{joined_from, plains}
