@@ -1,11 +1,12 @@
 //! The least of what is wrong with types.
-use crate::first_bad_type;
+use crate::{first_bad_type, types};
 use std::alloc::{AllocError, Global};
 use std::test::Fail;
 use yv_link::link;
 use yv_names::names;
 use yv_selection::Selection;
 use yv_statement::{Code, Refusal, Statement, Stop};
+use yv_values::PlainType;
 
 type Made = Result<Statement<'static>, AllocError>;
 
@@ -132,5 +133,46 @@ fn each_kind_is_told(rt: HostRuntime) -> Result<(), Fail> {
     let files = [module(alloc, vec![in alloc; far(alloc, 10)?]?)?];
     let fault = first(alloc, &files)?.ok_or("no fault")?;
     assert!(rt; fault.code == Code::BadNumbering && fault.offset == 12);
+    Ok(())
+}
+
+// 2 and 3 `both` and its type, whose members are 4 and 5; 7 and 8 `again` and its type; 9 and 10 a leaf and its type.
+fn unions(alloc: Global) -> Made {
+    let listed = block(
+        alloc,
+        "type",
+        "enumeration",
+        13,
+        vec![in alloc; line(alloc, "enum", "a", 14)?]?,
+    )?;
+    let members = vec![in alloc; line(alloc, "type", "int8", 12)?, listed]?;
+    let union = block(alloc, "type", "union", 11, members)?;
+    let both = block(alloc, "typedef", "both", 10, vec![in alloc; union]?)?;
+    let of_both = vec![in alloc; line(alloc, "type", "both", 21)?]?;
+    let again = block(alloc, "typedef", "again", 20, of_both)?;
+    let path = vec![in alloc; line(alloc, "path", "../b", 32)?]?;
+    let lead = block(alloc, "type", "leafref", 31, path)?;
+    let leaf = block(alloc, "leaf", "l", 30, vec![in alloc; lead]?)?;
+    module(alloc, vec![in alloc; both, again, leaf]?)
+}
+
+// RFC 7950, sections 7.3, 9.9 and 9.12.
+#[test]
+fn unions_are_opened_in_order(rt: HostRuntime) -> Result<(), Fail> {
+    let alloc = rt.alloc();
+    let files = [unions(alloc)?];
+    let linked = link(alloc, &files, &Selection::everything(alloc))
+        .ok()
+        .ok_or("refused")?;
+    let known = names(alloc, linked.rows()).ok().ok_or("refused")?;
+    let found = types(alloc, &linked, &known).ok().ok_or("refused")?;
+    let union = found.plain(3).ok_or("no types")?;
+    assert!(rt; union.len() == 2);
+    assert!(rt; matches!(&union[0], PlainType::Whole(_)));
+    assert!(rt; matches!(&union[1], PlainType::Enumeration(_)));
+    assert!(rt; found.plain(4).ok_or("no types")?.len() == 1);
+    assert!(rt; found.plain(8).ok_or("no types")?.len() == 2);
+    assert!(rt; found.plain(10).ok_or("no types")?.is_empty());
+    assert!(rt; found.plain(2).is_none());
     Ok(())
 }
