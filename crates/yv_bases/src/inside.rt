@@ -35,7 +35,7 @@ fn no_lists(alloc: Global, count: usize) -> Result<Vec<Vec<usize>>, AllocError>
 }
 
 /// For each block the numbers of the types in it, in order.
-pub(crate) fn types_inside(
+pub fn types_inside(
     alloc: Global,
     rows: &Rows<'_, '_>,
 ) -> Result<Vec<Vec<usize>>, AllocError>

@@ -21,4 +21,5 @@ mod steps;
 #[cfg(test)]
 mod tests;
 
+pub use inside::types_inside;
 pub use known::Bases;

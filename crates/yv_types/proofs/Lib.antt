@@ -1,0 +1,3 @@
+mod Joining
+mod Stepping
+mod Walking

@@ -1,0 +1,19 @@
+use Rattle.std.proofs.Common.{◌≡◌, ℕ, List, Some, length, take}
+use Rattle.std.specs.List.{Contains}
+use Rattle.yv_selection.specs.Choice.{Choice}
+use Rattle.yv_rows.specs.Files.{Files}
+use Rattle.yv_link.specs.Linked.{AreLinked, truth_in}
+use Rattle.yv_values.specs.Types.{Plain}
+use Rattle.yv_types.specs.Spaces.{Space}
+use Rattle.yv_types.specs.Known.{AreLayers}
+use Rattle.yv_types.specs.InnerTables.{AreKnown, plains_at}
+use Rattle.yv_types.proofs.layers.Layers.spaces.Given as goal
+
+abbrev pub invariant-loop-number : goal.invariant-loop-number
+invariant-loop-number l = record {
+  each : length l.spaces.items ≡ length l.inside.items;
+  told : (files : Files) (choice : Choice) → AreLinked files choice l.linked → AreLayers files (truth_in l.linked) l.self
+      → AreKnown files (truth_in l.linked) choice (Contains (take l.number-index l.number-items)) l.spaces.items;
+  sound : (files : Files) (choice : Choice) → AreLinked files choice l.linked → AreLayers files (truth_in l.linked) l.self
+      → (k : ℕ) (ps : List Plain) → plains_at l.spaces.items k ≡ Some ps → Space files (truth_in l.linked) choice k ps;
+}

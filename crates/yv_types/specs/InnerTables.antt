@@ -1,0 +1,54 @@
+-- Inner definitions, which only private clauses and the tables cite: plain types by number.
+use Rattle.std.specs.Prelude.{◌≡◌, ℕ, List, [], ◌∷◌, ◌++◌, Option, Some, None, map, slice_get}
+use Rattle.std.specs.Option.{option_and_then, option_map}
+use Rattle.std.specs.Rc.{rc_slice_items}
+use Rattle.yv_selection.specs.Choice.{Choice}
+use Rattle.yv_rows.specs.Files.{Files, brief_of}
+use Rattle.yv_rows.specs.Listed.{rows_of}
+use Rattle.yv_values.specs.Types.{Plain, plain_of}
+use Rattle.yv_values.specs.Sorted.{is_named}
+use Rattle.yv_bases.specs.Types.{Follows, IsTypeAt}
+use Rattle.yv_faceted.specs.Types.{HasPlainType}
+use Rattle.yv_listed.specs.Types.{HasNames, Told, Truth}
+use Rattle.yv_types.specs.Spaces.{Space, of_kind}
+use Rattle.yv_types.specs.declared.table.Shared.{Shared}
+
+-- the plain types of a list
+abbrev pub plains : Shared → List Plain
+plains shared = map plain_of (rc_slice_items shared.types)
+
+-- those at a place, if there are some
+abbrev pub plains_at : List (Option Shared) → ℕ → Option (List Plain)
+plains_at spaces k = option_and_then (option_map plains) (slice_get spaces k)
+
+-- plain types and those of members behind them, if each has some
+abbrev pub joined_from : List (Option Shared) → List Plain → List ℕ → Option (List Plain)
+joined_from spaces all [] = Some all
+joined_from spaces all (m ∷ ms) = option_and_then (λ ps. joined_from spaces (all ++ ps) ms) (plains_at spaces m)
+
+-- these are the plain types of the numbered statement, or it has none
+pub record IsSpace (files : Files) (truth : Truth) (choice : Choice) (k : ℕ) (space : Option (List Plain)) : Type 0 where
+  pub sound : (ps : List Plain) → space ≡ Some ps → Space files truth choice k ps
+  pub full : space ≡ None → (ps : List Plain) → Space files truth choice k ps → ⊥
+
+-- the table has the plain types of those
+abbrev pub AreKnown : Files → Truth → Choice → (ℕ → Type 0) → List (Option Shared) → Type 0
+AreKnown files truth choice Those spaces = (k : ℕ) → Those k → IsSpace files truth choice k (plains_at spaces k)
+
+-- an enumeration or bits of the names that are values
+abbrev pub IsListed : Told → Plain → Type 0
+IsListed told p = (ns : List (List ℕ)) × (p ≡ of_kind told.kind ns) × ((s : List ℕ) → is_named ns s ≡ told.value s)
+
+-- the numbered statement has no plain type of its own and no names
+pub record IsBare (files : Files) (truth : Truth) (k : ℕ) : Type 0 where
+  pub plain : (p : Plain) → HasPlainType files k p → ⊥
+  pub names : (told : Told) → HasNames files truth k told → ⊥
+
+-- and it follows none
+abbrev pub FollowsNone : Files → ℕ → Type 0
+FollowsNone files k = (j : ℕ) → Follows (map brief_of files) (rows_of files) k j → ⊥
+
+-- the table has the plain types of all types, and of nothing else
+pub record AreSpaces (files : Files) (truth : Truth) (choice : Choice) (spaces : List (Option Shared)) : Type 0 where
+  pub sound : (k : ℕ) (ps : List Plain) → plains_at spaces k ≡ Some ps → Space files truth choice k ps
+  pub full : (k : ℕ) → IsTypeAt (rows_of files) k → plains_at spaces k ≡ None → (ps : List Plain) → Space files truth choice k ps → ⊥

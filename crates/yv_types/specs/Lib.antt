@@ -1,0 +1,4 @@
+pub mod Faults
+pub mod Spaces
+pub mod Known
+pub mod InnerTables

@@ -1,0 +1,42 @@
+//! The first of all that is wrong with types.
+ghost use Rattle.std.specs.Prelude.{◌≡◌, ◌≢◌, Err, IfOk};
+ghost use Rattle.yv_statement.specs.Order.{IsLeast};
+ghost use Rattle.yv_statement.specs.declared.refusal.Refusal.{Refusal};
+ghost use Rattle.yv_statement.specs.declared.refusal.Stop.TheVariants.{Fault, PatternBuild};
+ghost use Rattle.yv_selection.specs.Choice.{Choice};
+ghost use Rattle.yv_rows.specs.Files.{Files};
+ghost use Rattle.yv_names.specs.Known.{AreNames};
+ghost use Rattle.yv_faceted.specs.Types.{HasTypePattern};
+ghost use Rattle.yv_link.specs.Linked.{AreLinked, truth_in};
+ghost use Rattle.yv_types.specs.Faults.{BadTypes};
+
+use crate::layers::Layers;
+use std::alloc::Global;
+use yv_link::Linked;
+use yv_names::Names;
+use yv_statement::{Refusal, Stop};
+
+/// The least that is wrong with the types of linked files, the names being theirs (RFC 7950, section 9): a substatement
+/// that a type doesn't take or lacks, a leafref in a union, a type with more than 64 members, a range, a length or a
+/// pattern that is malformed or wider than what it narrows, or a name or a number of an enumeration or of bits. None where
+/// nothing is wrong. `PatternBuild` says that `regex` doesn't build the translation of a pattern of the dialect; no
+/// refusal is an error here.
+///
+/// It takes time n log n in statements but for chains of typedefs with patterns, each of which has a list of its own of
+/// all patterns on its way. Nothing recurses along typedefs.
+pub fn first_bad_type(
+    alloc: Global,
+    linked: &Linked<'_, '_>,
+    names: &Names,
+) -> Result<Option<Refusal>, Stop>
+    ensures least { IfOk result (λ fault. (files : Files) (choice : Choice) → AreLinked files choice linked.now → AreNames files names.now
+        → IsLeast (BadTypes files (truth_in linked.now)) fault) }
+    ensures faultless { (r : Refusal) → result ≢ Err (Fault r) }
+    ensures built { result ≡ Err PatternBuild
+        → (files : Files) (choice : Choice) → AreLinked files choice linked.now → HasTypePattern files }
+{
+    match Layers::read(alloc, linked, names) {
+        Ok(layers) => Ok(layers.fault()),
+        Err(stop) => Err(stop),
+    }
+}

@@ -1,0 +1,36 @@
+//! The plain types of types, and what readers ask of them.
+ghost use Rattle.std.specs.Prelude.{◌≡◌, ℕ, List, None, map, IfSome};
+ghost use Rattle.yv_selection.specs.Choice.{Choice};
+ghost use Rattle.yv_rows.specs.Files.{Files};
+ghost use Rattle.yv_rows.specs.Listed.{rows_of};
+ghost use Rattle.yv_bases.specs.Types.{IsTypeAt};
+ghost use Rattle.yv_listed.specs.Types.{Truth};
+ghost use Rattle.yv_values.specs.Types.{Plain, plain_of};
+ghost use Rattle.yv_types.specs.Spaces.{Space};
+ghost use Rattle.yv_types.specs.Known.{AreTypes};
+
+use crate::table::{Shared, get};
+use yv_values::PlainType;
+
+/// The plain types of the types of files in which nothing is wrong with types.
+#[derive(Drop)]
+pub struct Types {
+    pub(crate) spaces: Vec<Option<Shared>>,
+}
+
+impl Types {
+    /// The plain types of the type of this number, typedefs followed and unions opened in order (RFC 7950, section 9.12):
+    /// no types for a leafref, whose values are its target's. None for other statements, and for types that lead to
+    /// instance-identifier and unions with such a member.
+    pub fn plain(&self, number: usize) -> Option<&[PlainType]>
+        ensures told { (files : Files) (choice : Choice) (truth : Truth) → AreTypes files choice truth self.now
+            → IfSome result (λ types. Space files truth choice number (map plain_of types.now)) }
+        ensures none { (files : Files) (choice : Choice) (truth : Truth) → AreTypes files choice truth self.now
+            → IsTypeAt (rows_of files) number → result ≡ None → (types : List Plain) → Space files truth choice number types → ⊥ }
+    {
+        match get(&self.spaces, number) {
+            Some(shared) => Some(shared.types.as_slice()),
+            None => None,
+        }
+    }
+}

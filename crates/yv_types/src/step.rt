@@ -1,0 +1,133 @@
+//! The plain types of one type.
+ghost use Rattle.std.specs.Prelude.{◌≡◌, ℕ, [], Some, map, slice_get, IfOk};
+ghost use Rattle.std.specs.Option.{option_map};
+ghost use Rattle.yv_selection.specs.Choice.{Choice};
+ghost use Rattle.yv_rows.specs.Files.{Files, brief_of};
+ghost use Rattle.yv_rows.specs.Rows.{row};
+ghost use Rattle.yv_rows.specs.Listed.{rows_of};
+ghost use Rattle.yv_bases.specs.Types.{RestsOn, is_kind, types_in};
+ghost use Rattle.yv_listed.specs.Told.{told_of};
+ghost use Rattle.yv_link.specs.Linked.{AreLinked, truth_in};
+ghost use Rattle.yv_values.specs.Types.{plain_of};
+ghost use Rattle.yv_bases.specs.InnerTables.{items_at};
+ghost use Rattle.yv_types.specs.Known.{AreLayers};
+ghost use Rattle.yv_types.specs.InnerTables.{AreKnown, FollowsNone, IsBare, IsListed, IsSpace, plains, plains_at};
+
+use crate::layers::Layers;
+use crate::table::{Shared, get, joined, one};
+use std::alloc::{AllocError, Global};
+use std::rc::RcSlice;
+use yv_identityref::identities_of;
+use yv_link::Linked;
+use yv_listed::TypeNames;
+use yv_named::Kind;
+use yv_rows::{Entry, name_of};
+use yv_values::PlainType;
+
+// The plain type of an enumeration or of bits.
+fn listed(names: &TypeNames<'_>) -> Result<PlainType, AllocError>
+    ensures { IfOk result (λ p. IsListed (told_of names.now) (plain_of p)) }
+{
+    let values = names.names.values()?;
+    match names.kind {
+        Kind::Enumeration => Ok(PlainType::Enumeration(values)),
+        Kind::Bits => Ok(PlainType::Bits(values)),
+    }
+}
+
+// Whether a statement is a type of this name.
+fn is_kind(name: &str, entry: &Entry<'_, '_>) -> bool
+    ensures { result ≡ is_kind name.now (row entry.now) }
+{
+    entry.statement.keyword() == "type" && name_of(entry.statement) == name
+}
+
+// The types at a place once more.
+fn shared(spaces: &[Option<Shared>], place: usize) -> Result<Option<Shared>, AllocError>
+    ensures { IfOk result (λ s. option_map plains s ≡ plains_at spaces.now place) }
+{
+    match get(spaces, place) {
+        Some(space) => Ok(Some(space.copy()?)),
+        None => Ok(None),
+    }
+}
+
+// No types.
+fn nothing(alloc: Global) -> Result<Shared, AllocError>
+    ensures { IfOk result (λ s. plains s ≡ []) }
+{
+    let types = RcSlice::from_vec(Vec::new(alloc))?;
+    Ok(Shared { types })
+}
+
+// The types of a type that names a built-in type without facets or names.
+fn built_in(
+    alloc: Global,
+    linked: &Linked<'_, '_>,
+    spaces: &[Option<Shared>],
+    members: &[usize],
+    number: usize,
+    entry: &Entry<'_, '_>,
+) -> Result<Option<Shared>, AllocError>
+    ensures { IfOk result (λ s. (files : Files) (choice : Choice) → AreLinked files choice linked.now
+        → slice_get (rows_of files) number ≡ Some (row entry.now) → members.now ≡ types_in (rows_of files) number
+        → IsBare files (truth_in linked.now) number → FollowsNone files number
+        → AreKnown files (truth_in linked.now) choice (RestsOn (map brief_of files) (rows_of files) number) spaces.now
+        → IsSpace files (truth_in linked.now) choice number (option_map plains s)) }
+{
+    if is_kind("leafref", entry) {
+        return Ok(Some(nothing(alloc)?));
+    }
+    if is_kind("identityref", entry) {
+        let identities = identities_of(alloc, linked, number)?;
+        return Ok(Some(one(alloc, PlainType::Identity(identities))?));
+    }
+    if is_kind("union", entry) {
+        joined(alloc, spaces, members)
+    } else {
+        Ok(None)
+    }
+}
+
+// The members of a union.
+fn members_of(inside: &[Vec<usize>], number: usize) -> &[usize]
+    ensures { result.now ≡ items_at inside.now number }
+{
+    match inside.get(number) {
+        Some(members) => members,
+        None => &[],
+    }
+}
+
+impl Layers<'_> {
+    /// The plain types of the numbered type, the table having those of the types on which it rests.
+    pub(crate) fn types_at(
+        &self,
+        alloc: Global,
+        linked: &Linked<'_, '_>,
+        inside: &[Vec<usize>],
+        spaces: &[Option<Shared>],
+        number: usize,
+    ) -> Result<Option<Shared>, AllocError>
+        ensures { IfOk result (λ s. (files : Files) (choice : Choice) → AreLinked files choice linked.now
+            → AreLayers files (truth_in linked.now) self.now
+            → ((block : ℕ) → items_at inside.now block ≡ types_in (rows_of files) block)
+            → AreKnown files (truth_in linked.now) choice (RestsOn (map brief_of files) (rows_of files) number) spaces.now
+            → IsSpace files (truth_in linked.now) choice number (option_map plains s)) }
+    {
+        if let Some(plain) = self.faceted.plain(number) {
+            return Ok(Some(one(alloc, plain.copy()?)?));
+        }
+        if let Some(names) = self.lists.names(number) {
+            return Ok(Some(one(alloc, listed(names)?)?));
+        }
+        if let Some(followed) = self.bases.follows(number) {
+            return shared(spaces, followed);
+        }
+        let members = members_of(inside, number);
+        match linked.rows().entries().get(number) {
+            Some(entry) => built_in(alloc, linked, spaces, members, number, entry),
+            None => Ok(None),
+        }
+    }
+}

@@ -1,0 +1,94 @@
+//! Plain types by number.
+ghost use Rattle.std.specs.Prelude.{◌≡◌, ◌≢◌, ◌<◌, ◌∷◌, ◌++◌, ℕ, [], None, length, map, take, IfOk, OnOk};
+ghost use Rattle.std.specs.Option.{option_map, option_copied};
+ghost use Rattle.yv_values.specs.Types.{plain_of};
+ghost use Rattle.yv_types.specs.InnerTables.{joined_from, plains, plains_at};
+
+use std::alloc::{AllocError, Global};
+use std::rc::RcSlice;
+use yv_values::PlainType;
+
+/// The plain types of a type. Those that share them have one list.
+#[derive(Drop)]
+pub(crate) struct Shared {
+    pub types: RcSlice<PlainType>,
+}
+
+impl Shared {
+    /// The same types once more, over the same list.
+    pub(crate) fn copy(&self) -> Result<Shared, AllocError>
+        ensures { IfOk result (λ copy. plains copy ≡ plains self.now) }
+    {
+        Ok(Shared {
+            types: self.types.clone()?,
+        })
+    }
+}
+
+/// So many places, none with types.
+pub(crate) fn no_spaces(alloc: Global, count: usize) -> Result<Vec<Option<Shared>>, AllocError>
+    ensures { IfOk result (λ spaces. (length spaces.items ≡ count) × ((k : ℕ) → plains_at spaces.items k ≡ None)) }
+{
+    let mut spaces = Vec::new(alloc);
+    for _ in 0..count {
+        spaces.push(None)?;
+    }
+    Ok(spaces)
+}
+
+/// The types at a place.
+pub(crate) fn get(spaces: &[Option<Shared>], place: usize) -> Option<&Shared>
+    ensures { option_map plains (option_copied result) ≡ plains_at spaces.now place }
+{
+    spaces.get(place)?.as_ref()
+}
+
+/// Puts types, or none, at a place that there is.
+pub(crate) fn put(spaces: &mut Vec<Option<Shared>>, place: usize, space: Option<Shared>)
+    ensures each { length spaces.new.items ≡ length spaces.old.items }
+    ensures here { place < length spaces.old.items → plains_at spaces.new.items place ≡ option_map plains space }
+    ensures elsewhere { (k : ℕ) → k ≢ place → plains_at spaces.new.items k ≡ plains_at spaces.old.items k }
+{
+    if place < spaces.len() {
+        spaces[place] = space;
+    }
+}
+
+/// A list of one type.
+pub(crate) fn one(alloc: Global, plain: PlainType) -> Result<Shared, AllocError>
+    ensures { IfOk result (λ list. plains list ≡ plain_of plain ∷ []) }
+{
+    let mut all = Vec::new(alloc);
+    all.push(plain)?;
+    let types = RcSlice::from_vec(all)?;
+    Ok(Shared { types })
+}
+
+// Puts copies of types behind others.
+fn extend(all: &mut Vec<PlainType>, types: &[PlainType]) -> Result<(), AllocError>
+    ensures { OnOk result (map plain_of all.new.items ≡ map plain_of all.old.items ++ map plain_of types.now) }
+{
+    for plain in types {
+        all.push(plain.copy()?)?;
+    }
+    Ok(())
+}
+
+/// The types of members, one behind the other, if each has some.
+pub(crate) fn joined(
+    alloc: Global,
+    spaces: &[Option<Shared>],
+    members: &[usize],
+) -> Result<Option<Shared>, AllocError>
+    ensures { IfOk result (λ list. option_map plains list ≡ joined_from spaces.now [] members.now) }
+{
+    let mut all = Vec::new(alloc);
+    for member in members {
+        let Some(space) = get(spaces, *member) else {
+            return Ok(None);
+        };
+        extend(&mut all, &space.types)?;
+    }
+    let types = RcSlice::from_vec(all)?;
+    Ok(Some(Shared { types }))
+}
