@@ -35,10 +35,7 @@ fn no_lists(alloc: Global, count: usize) -> Result<Vec<Vec<usize>>, AllocError>
 }
 
 /// For each block the numbers of the types in it, in order.
-pub fn types_inside(
-    alloc: Global,
-    rows: &Rows<'_, '_>,
-) -> Result<Vec<Vec<usize>>, AllocError>
+pub fn types_inside(alloc: Global, rows: &Rows<'_, '_>) -> Result<Vec<Vec<usize>>, AllocError>
     ensures { IfOk result (λ inside. (length inside.items ≡ length (rows_in rows.now))
         × ((block : ℕ) → items_at inside.items block ≡ types_in (rows_in rows.now) block)) }
 {
