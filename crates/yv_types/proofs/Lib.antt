@@ -1,3 +1,4 @@
 mod Joining
+mod Placing
 mod Stepping
 mod Walking

@@ -6,6 +6,7 @@
 mod first;
 mod known;
 mod layers;
+mod places;
 mod read;
 mod spaces;
 mod step;

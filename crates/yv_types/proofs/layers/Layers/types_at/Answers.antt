@@ -31,7 +31,7 @@ returns-in-Some-names c = λ files choice linked layers inside known.
     (listed told is.0 ((c.in-Some-names.ensures files (truth_in c.args.linked.now) layers.listed told).0 refl) is.2)
 
 pub returns-in-Some-follows : goal.returns-in-Some-follows
-returns-in-Some-follows c = if_ok _ _ c.shared.result
+returns-in-Some-follows c = if_ok _ _ c.list_at.result
     (λ s e files choice linked layers inside known.
     let truth : Truth = truth_in c.args.linked.now in
     let k : ℕ = c.args.number in
@@ -41,7 +41,7 @@ returns-in-Some-follows c = if_ok _ _ c.shared.result
     let f : Follows (map brief_of files) (rows_of files) k j = (follows j).0 refl in
     has_followed files truth choice k bare j f (λ i g. sym (same_Some j i ((follows i).1 g))) (option_map plains s)
     (subst (IsSpace files truth choice j) (sym e) (known j (inl f))))
-    c.shared.ensures
+    c.list_at.ensures
 
 pub returns-in-Some-get : goal.returns-in-Some-get
 returns-in-Some-get c = if_ok _ _ c.built_in.result
