@@ -22,8 +22,9 @@ of_kind Enumeration ns = names ns
 of_kind Bits ns = flags ns
 
 mutual
-  -- the plain types of type k, where a type that has no plain type of its own and no names has those of the type that it
-  -- follows; an instance-identifier has none, nor has a union with one in it
+  -- The plain types of type k, where a type that has no plain type of its own and no names has those of the type that it
+  -- follows. Names and identities stand in their order, each once, so that a type has one list. An instance-identifier has
+  -- none, nor has a union with one in it.
   pub data Space (files : Files) (truth : Truth) (choice : Choice) : ℕ → List Plain → Type 0 where
     faceted : {k : ℕ} {p : Plain} → HasPlainType files k p → Space files truth choice k (p ∷ [])
     listed : {k : ℕ} (told : Told) (ns : List (List ℕ)) → HasNames files truth k told → Rises ns

@@ -68,6 +68,7 @@ impl Members {
     pub(crate) fn rise(&self)
         ensures { RiseById self.now }
     {
+        // What a value keeps is known where it is read.
         let _count = self.members.len();
     }
 

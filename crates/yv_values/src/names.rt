@@ -70,6 +70,7 @@ impl Names {
     pub(crate) fn rise(&self)
         ensures { Rises self.now }
     {
+        // What a value keeps is known where it is read.
         let _count = self.names.len();
     }
 
