@@ -1,3 +1,6 @@
 mod Joining
+mod Placing
+mod Single
 mod Stepping
+mod Telling
 mod Walking

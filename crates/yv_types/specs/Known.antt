@@ -1,10 +1,14 @@
 -- What is known of types that were read.
+use Rattle.std.specs.Prelude.{◌≡◌, ℕ, codes}
 use Rattle.yv_selection.specs.Choice.{Choice}
 use Rattle.yv_rows.specs.Files.{Files}
+use Rattle.yv_rows.specs.Listed.{rows_of}
+use Rattle.yv_names.specs.References.{number_at}
 use Rattle.yv_bases.specs.Known.{AreBases}
 use Rattle.yv_faceted.specs.Known.{AreFaceted}
 use Rattle.yv_listed.specs.Types.{Truth}
 use Rattle.yv_listed.specs.Known.{AreLists}
+use Rattle.yv_types.specs.InnerPlaces.{placed_in}
 use Rattle.yv_types.specs.InnerTables.{AreSpaces}
 use Rattle.yv_types.specs.declared.layers.Layers.{Layers}
 use Rattle.yv_types.specs.declared.known.Types.{Types}
@@ -15,6 +19,7 @@ pub record AreLayers (files : Files) (truth : Truth) (layers : Layers) : Type 0 
   pub faceted : AreFaceted files layers.faceted
   pub listed : AreLists files truth layers.lists
 
--- these are the plain types of the types of these files; how, only the readers ask
-abbrev pub AreTypes : Files → Choice → Truth → Types → Type 0
-AreTypes files choice truth types = AreSpaces files truth choice types.spaces.items
+-- these are the plain types of the types of these files, and the places of these; how, only the readers ask
+pub record AreTypes (files : Files) (choice : Choice) (truth : Truth) (types : Types) : Type 0 where
+  pub spaces : AreSpaces files truth choice types.spaces.items
+  pub places : (file offset : ℕ) → placed_in types.places file offset ≡ number_at (rows_of files) (codes "type") file offset

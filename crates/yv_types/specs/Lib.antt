@@ -1,4 +1,5 @@
 pub mod Faults
 pub mod Spaces
 pub mod Known
+pub mod InnerPlaces
 pub mod InnerTables

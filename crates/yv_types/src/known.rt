@@ -1,21 +1,27 @@
 //! The plain types of types, and what readers ask of them.
-ghost use Rattle.std.specs.Prelude.{◌≡◌, ℕ, List, None, map, IfSome};
+ghost use Rattle.std.specs.Prelude.{◌≡◌, ℕ, List, None, Some, codes, map, IfOk, IfSome};
+ghost use Rattle.std.specs.Rc.{rc_slice_items};
 ghost use Rattle.yv_selection.specs.Choice.{Choice};
 ghost use Rattle.yv_rows.specs.Files.{Files};
 ghost use Rattle.yv_rows.specs.Listed.{rows_of};
+ghost use Rattle.yv_names.specs.References.{number_at};
 ghost use Rattle.yv_bases.specs.Types.{IsTypeAt};
 ghost use Rattle.yv_listed.specs.Types.{Truth};
 ghost use Rattle.yv_values.specs.Types.{Plain, plain_of};
 ghost use Rattle.yv_types.specs.Spaces.{Space};
 ghost use Rattle.yv_types.specs.Known.{AreTypes};
 
-use crate::table::{Shared, get};
+use crate::places::Places;
+use crate::table::{Shared, get, list_at};
+use std::alloc::AllocError;
+use std::rc::RcSlice;
 use yv_values::PlainType;
 
 /// The plain types of the types of files in which nothing is wrong with types.
 #[derive(Drop)]
 pub struct Types {
     pub(crate) spaces: Vec<Option<Shared>>,
+    pub(crate) places: Places,
 }
 
 impl Types {
@@ -31,6 +37,25 @@ impl Types {
         match get(&self.spaces, number) {
             Some(shared) => Some(shared.types.as_slice()),
             None => None,
+        }
+    }
+
+    /// The plain types of the type statement that stands first at an offset (bytes) of a file, as `plain` tells them: the
+    /// list itself, which its types share. None where there is no type, and where `plain` has none.
+    pub fn at(&self, file: u32, offset: u64) -> Result<Option<RcSlice<PlainType>>, AllocError>
+        ensures told { IfOk result (λ found. (files : Files) (choice : Choice) (truth : Truth) → AreTypes files choice truth self.now
+            → IfSome found (λ types. (k : ℕ) × (number_at (rows_of files) (codes "type") file offset ≡ Some k)
+            × Space files truth choice k (map plain_of (rc_slice_items types)))) }
+        ensures none { IfOk result (λ found. (files : Files) (choice : Choice) (truth : Truth) → AreTypes files choice truth self.now
+            → found ≡ None → (k : ℕ) → number_at (rows_of files) (codes "type") file offset ≡ Some k
+            → (types : List Plain) → Space files truth choice k types → ⊥) }
+    {
+        let Some(number) = self.places.get(file, offset) else {
+            return Ok(None);
+        };
+        match list_at(&self.spaces, number)? {
+            Some(shared) => Ok(Some(shared.types)),
+            None => Ok(None),
         }
     }
 }

@@ -5,7 +5,9 @@
 
 mod first;
 mod known;
+pub mod laws;
 mod layers;
+mod places;
 mod read;
 mod spaces;
 mod step;

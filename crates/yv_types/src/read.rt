@@ -13,6 +13,7 @@ ghost use Rattle.yv_types.specs.Known.{AreTypes};
 
 use crate::known::Types;
 use crate::layers::Layers;
+use crate::places::Places;
 use std::alloc::Global;
 use yv_link::Linked;
 use yv_names::Names;
@@ -41,5 +42,6 @@ pub fn types(alloc: Global, linked: &Linked<'_, '_>, names: &Names) -> Result<Ty
         return Err(Stop::Fault(refusal));
     }
     let spaces = layers.spaces(alloc, linked)?;
-    Ok(Types { spaces })
+    let places = Places::read(alloc, linked.rows())?;
+    Ok(Types { spaces, places })
 }

@@ -11,10 +11,10 @@ ghost use Rattle.yv_link.specs.Linked.{AreLinked, truth_in};
 ghost use Rattle.yv_values.specs.Types.{plain_of};
 ghost use Rattle.yv_bases.specs.InnerTables.{items_at};
 ghost use Rattle.yv_types.specs.Known.{AreLayers};
-ghost use Rattle.yv_types.specs.InnerTables.{AreKnown, FollowsNone, IsBare, IsListed, IsSpace, plains, plains_at};
+ghost use Rattle.yv_types.specs.InnerTables.{AreKnown, FollowsNone, IsBare, IsListed, IsSpace, plains};
 
 use crate::layers::Layers;
-use crate::table::{Shared, get, joined, one};
+use crate::table::{Shared, joined, list_at, one};
 use std::alloc::{AllocError, Global};
 use std::rc::RcSlice;
 use yv_identityref::identities_of;
@@ -40,16 +40,6 @@ fn is_kind(name: &str, entry: &Entry<'_, '_>) -> bool
     ensures { result ≡ is_kind name.now (row entry.now) }
 {
     entry.statement.keyword() == "type" && name_of(entry.statement) == name
-}
-
-// The types at a place once more.
-fn shared(spaces: &[Option<Shared>], place: usize) -> Result<Option<Shared>, AllocError>
-    ensures { IfOk result (λ s. option_map plains s ≡ plains_at spaces.now place) }
-{
-    match get(spaces, place) {
-        Some(space) => Ok(Some(space.copy()?)),
-        None => Ok(None),
-    }
 }
 
 // No types.
@@ -122,7 +112,7 @@ impl Layers<'_> {
             return Ok(Some(one(alloc, listed(names)?)?));
         }
         if let Some(followed) = self.bases.follows(number) {
-            return shared(spaces, followed);
+            return list_at(spaces, followed);
         }
         let members = members_of(inside, number);
         match linked.rows().entries().get(number) {

@@ -43,6 +43,16 @@ pub(crate) fn get(spaces: &[Option<Shared>], place: usize) -> Option<&Shared>
     spaces.get(place)?.as_ref()
 }
 
+/// The types at a place once more.
+pub(crate) fn list_at(spaces: &[Option<Shared>], place: usize) -> Result<Option<Shared>, AllocError>
+    ensures { IfOk result (λ s. option_map plains s ≡ plains_at spaces.now place) }
+{
+    match get(spaces, place) {
+        Some(space) => Ok(Some(space.copy()?)),
+        None => Ok(None),
+    }
+}
+
 /// Puts types, or none, at a place that there is.
 pub(crate) fn put(spaces: &mut Vec<Option<Shared>>, place: usize, space: Option<Shared>)
     ensures each { length spaces.new.items ≡ length spaces.old.items }

@@ -174,5 +174,12 @@ fn unions_are_opened_in_order(rt: HostRuntime) -> Result<(), Fail> {
     assert!(rt; found.plain(8).ok_or("no types")?.len() == 2);
     assert!(rt; found.plain(10).ok_or("no types")?.is_empty());
     assert!(rt; found.plain(2).is_none());
+    let again = found.at(0, 21)?.ok_or("no types")?;
+    assert!(rt; again.len() == 2);
+    assert!(rt; matches!(&again[1], PlainType::Enumeration(_)));
+    assert!(rt; found.at(0, 12)?.ok_or("no types")?.len() == 1);
+    assert!(rt; found.at(0, 31)?.ok_or("no types")?.is_empty());
+    assert!(rt; found.at(0, 20)?.is_none());
+    assert!(rt; found.at(1, 21)?.is_none());
     Ok(())
 }

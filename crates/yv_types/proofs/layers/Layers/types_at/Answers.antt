@@ -28,10 +28,10 @@ returns-in-Some-names c = λ files choice linked layers inside known.
     let is : IsListed told (plain_of c.in_ok-listed.field-0) = c.in_ok-listed.ensures in
     has_some files (truth_in c.args.linked.now) choice c.args.number (Some (plains c.in_ok-one-2.field-0)) (of_kind told.kind is.0 ∷ [])
     (ap Some (c.in_ok-one-2.ensures ∙ ap (λ p. p ∷ []) is.1))
-    (listed told is.0 ((c.in-Some-names.ensures files (truth_in c.args.linked.now) layers.listed told).0 refl) is.2)
+    (listed told is.0 ((c.in-Some-names.ensures files (truth_in c.args.linked.now) layers.listed told).0 refl) is.2 is.3)
 
 pub returns-in-Some-follows : goal.returns-in-Some-follows
-returns-in-Some-follows c = if_ok _ _ c.shared.result
+returns-in-Some-follows c = if_ok _ _ c.list_at.result
     (λ s e files choice linked layers inside known.
     let truth : Truth = truth_in c.args.linked.now in
     let k : ℕ = c.args.number in
@@ -41,7 +41,7 @@ returns-in-Some-follows c = if_ok _ _ c.shared.result
     let f : Follows (map brief_of files) (rows_of files) k j = (follows j).0 refl in
     has_followed files truth choice k bare j f (λ i g. sym (same_Some j i ((follows i).1 g))) (option_map plains s)
     (subst (IsSpace files truth choice j) (sym e) (known j (inl f))))
-    c.shared.ensures
+    c.list_at.ensures
 
 pub returns-in-Some-get : goal.returns-in-Some-get
 returns-in-Some-get c = if_ok _ _ c.built_in.result

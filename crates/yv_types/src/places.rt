@@ -1,0 +1,59 @@
+//! Where type statements stand.
+ghost use Rattle.std.specs.Prelude.{◌≡◌, ℕ, codes, OnOk, IfOk};
+ghost use Rattle.yv_rows.specs.Rows.{row};
+ghost use Rattle.yv_rows.specs.Lent.{rows_in};
+ghost use Rattle.yv_names.specs.Refers.{is_type};
+ghost use Rattle.yv_names.specs.References.{number_at};
+ghost use Rattle.yv_names.specs.InnerPlaces.{kept};
+ghost use Rattle.yv_types.specs.InnerPlaces.{placed_in};
+
+use std::alloc::{AllocError, Global};
+use std::collections::BTreeMap;
+use yv_rows::{Entry, Rows};
+
+/// For each place in a file the number of the first type statement there.
+#[derive(Drop)]
+pub(crate) struct Places {
+    map: BTreeMap<(u32, u64), usize>,
+}
+
+impl Places {
+    /// The places of the type statements.
+    pub(crate) fn read(alloc: Global, rows: &Rows<'_, '_>) -> Result<Places, AllocError>
+        ensures { IfOk result (λ places. (f o : ℕ) → placed_in places f o ≡ number_at (rows_in rows.now) (codes "type") f o) }
+    {
+        let mut places = Places {
+            map: BTreeMap::new(alloc),
+        };
+        for (number, entry) in rows.entries().iter().enumerate() {
+            if is_type(entry) {
+                places.keep(entry.file, entry.statement.offset(), number)?;
+            }
+        }
+        Ok(places)
+    }
+
+    /// The number of the first type statement at an offset of a file.
+    pub(crate) fn get(&self, file: u32, offset: u64) -> Option<usize>
+        ensures { result ≡ placed_in self.now file offset }
+    {
+        self.map.get(&(file, offset)).copied()
+    }
+
+    // Puts a number at a place, where there is none yet.
+    fn keep(&mut self, file: u32, offset: u64, number: usize) -> Result<(), AllocError>
+        ensures { OnOk result ((f o : ℕ) → placed_in self.new f o ≡ kept (placed_in self.old) file offset number f o) }
+    {
+        if self.get(file, offset).is_none() {
+            self.map.insert((file, offset), number)?;
+        }
+        Ok(())
+    }
+}
+
+// Whether a statement is a type.
+fn is_type(entry: &Entry<'_, '_>) -> bool
+    ensures { result ≡ is_type (row entry.now) }
+{
+    entry.statement.keyword() == "type"
+}
