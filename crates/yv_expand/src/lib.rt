@@ -1,0 +1,15 @@
+//! The expansion of files within a limit: each schema node that their statements give, with copies of what stands in
+//! groupings below each uses, as one list (RFC 7950, sections 7.12 and 7.13). Takes time linear in statements and in
+//! items.
+#![tactic(auto)]
+
+pub mod laws;
+mod lists;
+mod own;
+mod spread;
+mod stack;
+#[cfg(test)]
+mod tests;
+mod whole;
+
+pub use whole::expand;
