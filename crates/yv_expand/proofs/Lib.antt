@@ -8,3 +8,4 @@ pub mod Filing
 pub mod Pending
 pub mod Stacking
 pub mod Expanding
+pub mod Looking

@@ -3,6 +3,7 @@
 //! items.
 #![tactic(auto)]
 
+mod deep;
 pub mod laws;
 mod lists;
 mod own;
@@ -12,4 +13,5 @@ mod stack;
 mod tests;
 mod whole;
 
+pub use deep::first_too_deep;
 pub use whole::expand;

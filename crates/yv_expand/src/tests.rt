@@ -1,4 +1,4 @@
-use crate::expand;
+use crate::{expand, first_too_deep};
 use std::alloc::{AllocError, Global};
 use std::test::Fail;
 use yv_expansion::Item;
@@ -115,5 +115,41 @@ fn files_follow_one_another(rt: HostRuntime) -> Result<(), Fail> {
     };
     assert!(rt; all.len() == 10);
     assert!(rt; all[7] == item(10, None));
+    Ok(())
+}
+
+// A module with one container below another, and in the last a uses of a grouping of a leaf, which has this depth.
+fn nested(alloc: Global, depth: u32) -> Made {
+    let leaves = vec![in alloc; line(alloc, "leaf", "x")?]?;
+    let mut inner = line(alloc, "uses", "g")?;
+    for _ in 1..depth {
+        let body = vec![in alloc; inner]?;
+        inner = block(alloc, "container", "c", body)?;
+    }
+    let body = vec![in alloc; block(alloc, "grouping", "g", leaves)?, inner]?;
+    block(alloc, "module", "a", body)
+}
+
+// What is refused in the expansion of these files.
+fn too_deep(alloc: Global, roots: &[Statement<'static>]) -> Result<Option<Refusal>, Stop> {
+    let rows = Rows::read(alloc, roots)?;
+    let names = names(alloc, &rows)?;
+    let expansion = expand(alloc, &rows, &names, &[true], 1000)?;
+    Ok(first_too_deep(alloc, &rows, &expansion)?)
+}
+
+#[test]
+fn nodes_have_128_levels(rt: HostRuntime) -> Result<(), Fail> {
+    let alloc = rt.alloc();
+    let roots = vec![in alloc; nested(alloc, 128)?]?;
+    assert!(rt; too_deep(alloc, &roots) == Ok(None));
+    let expected = Refusal {
+        code: Code::TreeTooDeep,
+        file: 0,
+        offset: 0,
+        line: 1,
+    };
+    let deeper = vec![in alloc; nested(alloc, 129)?]?;
+    assert!(rt; too_deep(alloc, &deeper) == Ok(Some(expected)));
     Ok(())
 }
