@@ -26,5 +26,5 @@ firsts_give files marks limit tops firsts (n, weigh, fits) placed are =
     let give : Give briefs rows (tops_before tops marks (length files)) t = tops_give briefs rows tops marks (length files) t placed (omega (arith, count)) expands in (
       t,
       subst (λ (l : List ℕ). Give briefs rows l t) (sym (are ∙ ap (tops_before tops marks) (placed.each ∙ count))) give,
-      λ items is. record { trees = trees; are = record { each = each ∙ sym count; expands = expand }; listed_whole = is ∙ ap (listed None 0) whole },
+      λ items is. record { trees = trees; are = record { each = each ∙ sym count; expands = expand }; listed = is ∙ ap (listed None 0) whole },
     )

@@ -159,9 +159,9 @@ module _ (rows : List Row) where
         others = others;
         first = same_Some x (record { origin = k; parent = parent }) (ap (λ (l : List Item). slice_get l 0) e);
         rest =
-          tails x (record { origin = k; parent = parent }) xs ((inner ++ after) ++ last) e
-          ∙ append_assoc inner after last
-          ∙ ap (λ (n : ℕ). inner ++ (after ++ items_of n others)) place;
+            tails x (record { origin = k; parent = parent }) xs ((inner ++ after) ++ last) e
+            ∙ append_assoc inner after last
+            ∙ ap (λ (n : ℕ). inner ++ (after ++ items_of n others)) place;
         known = λ h. h;
         to = λ f d. d;
         from = λ f d. d;
@@ -266,7 +266,7 @@ module _ (rows : List Row) where
         parts = parts;
         rest = r.rest;
         known = subst (λ (l : List ℕ). HaveDepths l parts) (sym more)
-          (get_pushed depths level i old.each, (has_more depths level r.parent r.depth known.0, have_more depths level r.others known.1));
+            (get_pushed depths level i old.each, (has_more depths level r.parent r.depth known.0, have_more depths level r.others known.1));
         within = λ f d. elim d [
           | inl below ↦ up f (inr (inl (subst (λ (n : ℕ). TooDeep rows n r.below f) level_so below)))
           | inr (inl behind) ↦ up f (inr (inr behind))

@@ -17,4 +17,4 @@ pub record AreTrees (files : Briefs) (rows : List Row) (marks : List Bool) (tree
 pub record IsExpansion (files : Files) (marks : List Bool) (items : List Item) : Type 0 where
   pub trees : List Tree
   pub are : AreTrees (map brief_of files) (rows_of files) marks trees
-  pub listed_whole : items ≡ listed None 0 (all_of trees)
+  pub listed : items ≡ listed None 0 (all_of trees)

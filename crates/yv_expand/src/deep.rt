@@ -45,7 +45,11 @@ fn depth_of(depths: &[u32], parent: Option<usize>) -> u32
 fn deeper(depth: u32) -> u32
     ensures { result ≡ deeper depth }
 {
-    if depth < TOO_DEEP { depth + 1 } else { TOO_DEEP + 1 }
+    if depth < TOO_DEEP {
+        depth + 1
+    } else {
+        TOO_DEEP + 1
+    }
 }
 
 // The depth of the items below one that is made of this statement.

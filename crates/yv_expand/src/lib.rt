@@ -1,6 +1,6 @@
 //! The expansion of files within a limit: each schema node that their statements give, with copies of what stands in
-//! groupings below each uses, as one list (RFC 7950, sections 7.12 and 7.13). Takes time linear in statements and in
-//! items.
+//! groupings below each uses, as one list (RFC 7950, sections 7.12 and 7.13), and the schema nodes that stand too deep
+//! in it. All takes time linear in statements and items, but for one look-up of a name for each file.
 #![tactic(auto)]
 
 mod deep;

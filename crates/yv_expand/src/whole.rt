@@ -35,9 +35,10 @@ fn within(
     spread(alloc, names, &blocks, &firsts, limit)
 }
 
-/// The expansion of the files that are marked as given, or, where their units pass the limit, the refusal of the first
-/// file with which they do. An expansion never has more items than the limit: where the names aren't those of the
-/// files, there is no memory for more.
+/// The expansion of the files that are marked as given, one file behind the other and each item before those below it
+/// (RFC 7950, sections 7.12 and 7.13), or, where their units pass the limit, the refusal of the first file with which
+/// they do. A file without a mark isn't given. An expansion has no more items than units, and never more than the
+/// limit: where the names aren't those of the files, there is no memory for more.
 pub fn expand(
     alloc: Global,
     rows: &Rows<'_, '_>,

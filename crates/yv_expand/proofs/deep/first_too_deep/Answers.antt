@@ -21,12 +21,12 @@ loop-item-preserved c =
     let told : (d : ℕ) → HasDepth c.loop-item.depths.items x.parent d → c.depth_of-depth.result ≡ d =
     λ d has. c.depth_of-depth.ensures d (subst (λ (l : List ℕ). HasDepth l x.parent d) (sym c.deref.ensures.value) has) in
     λ t is.
-        looking_next (rows_in c.args.rows.now) c.args.expansion.now.items t c.loop-item.item-index x c.depth_of-depth.result c.depth_below.result c.loop-item.least c.fault_at.result _ c.loop-item.depths.items _ at told
-        (c.fault_at.ensures ∙ ap (λ (o : Option Row). fault_at o c.depth_of-depth.result) c.entry_at-entry.ensures)
-        (c.depth_below.ensures ∙ ap (λ (o : Option Row). depth_below o c.depth_of-depth.result) c.entry_at-entry.ensures)
-        c.lesser-least.ensures
-        c.in_ok-push.ensures.items
-        (c.loop-item.invariant t is)
+    looking_next (rows_in c.args.rows.now) c.args.expansion.now.items t c.loop-item.item-index x c.depth_of-depth.result c.depth_below.result c.loop-item.least c.fault_at.result _ c.loop-item.depths.items _ at told
+    (c.fault_at.ensures ∙ ap (λ (o : Option Row). fault_at o c.depth_of-depth.result) c.entry_at-entry.ensures)
+    (c.depth_below.ensures ∙ ap (λ (o : Option Row). depth_below o c.depth_of-depth.result) c.entry_at-entry.ensures)
+    c.lesser-least.ensures
+    c.in_ok-push.ensures.items
+    (c.loop-item.invariant t is)
 
 pub returns : goal.returns
 returns c = λ trees is.
