@@ -1,0 +1,5 @@
+pub mod Expands
+pub mod Expanded
+pub mod InnerItems
+pub mod TooDeep
+pub mod InnerLevels

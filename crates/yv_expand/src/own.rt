@@ -1,0 +1,48 @@
+//! Which statements are items.
+ghost use Rattle.std.specs.Prelude.{◌≡◌, map};
+ghost use Rattle.yv_rows.specs.Rows.{row};
+ghost use Rattle.yv_names.specs.BuiltIn.{is_among};
+ghost use Rattle.yv_units.specs.Units.{nodes};
+ghost use Rattle.yv_expand.specs.Expands.{is_item};
+
+use yv_rows::Entry;
+
+static NODES: [&str; 10] = [
+    "container",
+    "leaf",
+    "leaf-list",
+    "list",
+    "choice",
+    "case",
+    "anydata",
+    "anyxml",
+    "notification",
+    "uses",
+];
+
+// Whether one of the words is the name.
+fn is_among(words: &[&str], name: &str) -> bool
+    ensures { result ≡ is_among (map (λ w. w.now) words.now) name.now }
+{
+    for word in words {
+        if *word == name {
+            return true;
+        }
+    }
+    false
+}
+
+// Whether a keyword is that of an item.
+fn is_node(keyword: &str) -> bool
+    ensures { result ≡ is_among nodes keyword.now }
+{
+    is_among(&NODES, keyword)
+}
+
+/// Whether a statement is an item: one that gives a schema node, or a uses.
+#[tactic(auto, unfolding(crate::specs::Expands::is_item))]
+pub(crate) fn is_item(entry: &Entry<'_, '_>) -> bool
+    ensures { result ≡ is_item (row entry.now) }
+{
+    is_node(entry.statement.keyword())
+}

@@ -1,0 +1,6 @@
+use Rattle.yv_expansion.proofs.Listing.{length_listed}
+use Rattle.yv_expansion.proofs.laws.a_tree_is_listed_whole.Goals as goal
+
+-- src/laws.rt:6:1
+pub returns : goal.returns
+returns c = length_listed

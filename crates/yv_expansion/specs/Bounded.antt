@@ -1,0 +1,12 @@
+-- A list of items that keeps to a limit.
+use Rattle.std.specs.Prelude.{◌≡◌, ◌<◌, ℕ, List, Some, slice_get}
+use Rattle.yv_expansion.specs.declared.item.Item.{Item}
+
+-- what contracts see of an `Expansion`
+pub record Bounded : Type 0 where
+  pub limit : ℕ
+  pub items : List Item
+
+-- each parent stands before its items
+abbrev pub ParentsComeFirst : List Item → Type 0
+ParentsComeFirst items = (i p : ℕ) (item : Item) → slice_get items i ≡ Some item → item.parent ≡ Some p → p < i

@@ -1,0 +1,82 @@
+//! Items in a list that keeps to a limit.
+ghost use Rattle.std.specs.Prelude.{◌≡◌, ◌≤◌, ◌<◌, ◌==◌, ℕ, [], ◌∷◌, ◌++◌, Some, length, OnOk, OnErr};
+
+use crate::item::Item;
+use std::alloc::{AllocError, Global};
+use std::marker::Model;
+
+/// Items with numbers from 0, each behind its parent, and never more than a limit. Contracts see the limit and the items.
+#[derive(Drop)]
+pub struct Expansion {
+    limit: u32,
+    items: Vec<Item>,
+}
+
+impl Model for Expansion {
+    ghost use Rattle.std.specs.Prelude.{◌≤◌, length};
+    ghost use Rattle.yv_expansion.specs.Bounded.{Bounded, ParentsComeFirst};
+
+    ghost Value = { Bounded };
+
+    ghost view = { λ a. record { limit = a.limit; items = a.items.items } };
+
+    ghost invariant = { λ a. (length a.items.items ≤ a.limit) × ParentsComeFirst a.items.items };
+}
+
+impl Expansion {
+    ghost use Rattle.yv_expansion.specs.Bounded.{ParentsComeFirst};
+
+    /// No items.
+    pub fn new(alloc: Global, limit: u32) -> Expansion
+        ensures limit { result.limit ≡ limit }
+        ensures items { result.items ≡ [] }
+    {
+        Expansion {
+            limit,
+            items: Vec::new(alloc),
+        }
+    }
+
+    /// The most items that it may hold.
+    pub fn limit(&self) -> u32
+        ensures { result ≡ self.now.limit }
+    {
+        self.limit
+    }
+
+    /// How many items there are.
+    pub fn len(&self) -> u32
+        ensures count { result ≡ length self.now.items }
+        ensures within { length self.now.items ≤ self.now.limit }
+    {
+        let _limit = self.limit;
+        self.items.len() as u32
+    }
+
+    /// Whether there is none.
+    pub fn is_empty(&self) -> bool
+        ensures { result ≡ (length self.now.items == 0) }
+    {
+        self.items.is_empty()
+    }
+
+    /// The items in the order of their numbers.
+    pub fn items(&self) -> &[Item]
+        ensures items { result.now ≡ self.now.items }
+        ensures parents { ParentsComeFirst result.now }
+    {
+        self.items.as_slice()
+    }
+
+    /// Adds an item behind the others. There must be room, and its parent must be there.
+    pub fn push(&mut self, item: Item) -> Result<(), AllocError>
+        requires room { length self.old.items < self.old.limit }
+        requires parent { (p : ℕ) → item.parent ≡ Some p → p < length self.old.items }
+        ensures added { OnOk result (self.new.items ≡ self.old.items ++ item ∷ []) }
+        ensures same { OnErr result (self.new.items ≡ self.old.items) }
+        ensures limit { self.new.limit ≡ self.old.limit }
+    {
+        self.items.push(item)?;
+        Ok(())
+    }
+}

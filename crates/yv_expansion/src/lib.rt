@@ -1,0 +1,12 @@
+//! The expansion of statements: the schema nodes that they give, copies of groupings included, as one list that never
+//! holds more items than its limit (RFC 7950, sections 7.12 and 7.13).
+#![tactic(auto)]
+
+mod expansion;
+mod item;
+pub mod laws;
+#[cfg(test)]
+mod tests;
+
+pub use expansion::Expansion;
+pub use item::Item;
