@@ -1,0 +1,5 @@
+mod Filing
+mod Running
+mod Parting
+mod Cutting
+mod Adding

@@ -1,0 +1,4 @@
+pub mod Pruned
+pub mod Listed
+pub mod InnerRuns
+pub mod InnerPruning
