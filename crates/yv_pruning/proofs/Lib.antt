@@ -3,3 +3,4 @@ mod Running
 mod Parting
 mod Cutting
 mod Adding
+mod Hanging

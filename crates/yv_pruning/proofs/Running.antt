@@ -21,6 +21,15 @@ given_joined true true first inner inside mid after others p q = p ∙ ap (joine
 given_joined true false first inner inside mid after others p q = ap (item first inside) q
 given_joined false uses first inner inside mid after others p q = q
 
+-- a parent stands before an item
+abbrev pub IsBefore : Option ℕ → ℕ → Type 0
+IsBefore None first = ⊤
+IsBefore (Some p) first = p < first
+
+pub later_before : (parent : Option ℕ) (first n : ℕ) → first ≤ n → IsBefore parent first → IsBefore parent n
+later_before None first n le lt = lt
+later_before (Some p) first n le lt = omega (arith, le, lt)
+
 module _ (is_on is_uses : ℕ → Bool) where
   -- other trees are put behind
   pub pruned_joined : (first : ℕ) (t others : Tree) → pruned is_on is_uses first t others ≡ joined (pruned is_on is_uses first t none) others
@@ -40,11 +49,6 @@ module _ (is_on is_uses : ℕ → Bool) where
   shown None n first t = []
   shown (Some q) n first t = listed q n (pruned is_on is_uses first t none)
 
-  -- a parent stands before an item
-  abbrev pub IsBefore : Option ℕ → ℕ → Type 0
-  IsBefore None first = ⊤
-  IsBefore (Some p) first = p < first
-
   -- these nodes were added, and no place before this one was changed
   pub record Ran (first : ℕ) (before after : Runs) (given : List Item) : Type 0 where
     pub nodes : after.nodes ≡ before.nodes ++ given
@@ -56,10 +60,6 @@ module _ (is_on is_uses : ℕ → Bool) where
       → above after.places parent ≡ above before.places parent
   same_above None first before after lt same = refl
   same_above (Some p) first before after lt same = same p lt
-
-  later_before : (parent : Option ℕ) (first n : ℕ) → first ≤ n → IsBefore parent first → IsBefore parent n
-  later_before None first n le lt = lt
-  later_before (Some p) first n le lt = omega (arith, le, lt)
 
   module _ (lengths : (parent : Option ℕ) (first : ℕ) (t : Tree) → length (listed parent first t) ≡ count t)
       (in_order : (parent : Option ℕ) (first : ℕ) (t u : Tree) → listed parent first (joined t u) ≡ listed parent first t ++ listed parent (first + count t) u) where

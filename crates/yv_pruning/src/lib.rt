@@ -2,10 +2,12 @@
 //! schema (RFC 7950, section 7.20.2). All takes time linear in items.
 #![tactic(auto)]
 
+mod families;
 mod files;
 mod nodes;
 mod runs;
 #[cfg(test)]
 mod tests;
 
+pub use families::{Families, families_of};
 pub use nodes::pruned;

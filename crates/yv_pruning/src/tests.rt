@@ -1,4 +1,4 @@
-use crate::pruned;
+use crate::{families_of, pruned};
 use std::alloc::{AllocError, Global};
 use std::test::Fail;
 use yv_expansion::Item;
@@ -45,5 +45,21 @@ fn what_is_off_takes_along_what_stands_below(rt: HostRuntime) -> Result<(), Fail
     assert!(rt; nodes.as_slice() == &[item(3, None)][..]);
     let nodes = left(rt.alloc(), &[false, true, true, true])?;
     assert!(rt; nodes.as_slice() == &[item(3, None)][..]);
+    Ok(())
+}
+
+#[test]
+fn nodes_stand_below_their_parents(rt: HostRuntime) -> Result<(), Fail> {
+    let nodes = [
+        item(5, None),
+        item(6, Some(0)),
+        item(7, Some(0)),
+        item(8, None),
+    ];
+    let families = families_of(rt.alloc(), &nodes)?;
+    assert!(rt; families.top.as_slice() == &[0, 3][..]);
+    assert!(rt; families.below.len() == 4);
+    assert!(rt; families.below[0].as_slice() == &[1, 2][..]);
+    assert!(rt; families.below[3].is_empty());
     Ok(())
 }
