@@ -6,8 +6,12 @@ use Rattle.yv_expansion.specs.Tree.{Tree, none, item, count, joined, listed}
 pub length_listed : (parent : Option ℕ) (first : ℕ) (t : Tree) → length (listed parent first t) ≡ count t
 length_listed parent first none = refl
 length_listed parent first (item origin below behind) =
-    omega (arith, length-append (listed (Some first) (first + 1) below) (listed parent (first + 1 + count below) behind),
-    length_listed (Some first) (first + 1) below, length_listed parent (first + 1 + count below) behind)
+    omega (
+      arith,
+      length-append (listed (Some first) (first + 1) below) (listed parent (first + 1 + count below) behind),
+      length_listed (Some first) (first + 1) below,
+      length_listed parent (first + 1 + count below) behind,
+    )
 
 pub count_joined : (t u : Tree) → count (joined t u) ≡ count t + count u
 count_joined none u = omega arith

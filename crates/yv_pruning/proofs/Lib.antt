@@ -1,0 +1,6 @@
+mod Filing
+mod Running
+mod Parting
+mod Cutting
+mod Adding
+mod Hanging

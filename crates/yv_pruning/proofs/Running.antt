@@ -1,0 +1,167 @@
+-- What going over the items of a tree gives.
+use Rattle.std.proofs.Common.{◌≡◌, ◌≢◌, ℕ, ◌+◌, ◌<◌, ◌≤◌, Bool, true, false, cond, List, [], ◌∷◌, ◌++◌, length, Option, Some, None, slice_index_or, refl, sym, ap, ◌∙◌, arith, append_assoc, append-nil, length-append}
+use Rattle.std.specs.Prelude.{⊤}
+use Rattle.std.proofs.lemmas.List.{get_or-set_same, get_or-set_other, length-set}
+use Rattle.yv_expansion.specs.declared.item.Item.{Item}
+use Rattle.yv_expansion.specs.Tree.{Tree, none, item, count, joined, listed}
+use Rattle.yv_pruning.specs.Pruned.{pruned}
+use Rattle.yv_pruning.specs.InnerRuns.{Place, Runs, above, place_by, node_by, one_more, run}
+
+pub joined_assoc : (t u v : Tree) → joined (joined t u) v ≡ joined t (joined u v)
+joined_assoc none u v = refl
+joined_assoc (item origin below behind) u v = ap (item origin below) (joined_assoc behind u v)
+
+-- what an item gives, whether it is on, and whether it is a uses, before what follows it
+abbrev pub given : Bool → Bool → ℕ → Tree → Tree → Tree → Tree
+given on uses first inner inside after = cond on (cond uses inner (item first inside after)) after
+
+given_joined : (on uses : Bool) (first : ℕ) (inner inside mid after others : Tree) → inner ≡ joined inside mid → mid ≡ joined after others
+    → given on uses first inner inside mid ≡ joined (given on uses first (joined inside after) inside after) others
+given_joined true true first inner inside mid after others p q = p ∙ ap (joined inside) q ∙ sym (joined_assoc inside after others)
+given_joined true false first inner inside mid after others p q = ap (item first inside) q
+given_joined false uses first inner inside mid after others p q = q
+
+-- a parent stands before an item
+abbrev pub IsBefore : Option ℕ → ℕ → Type 0
+IsBefore None first = ⊤
+IsBefore (Some p) first = p < first
+
+pub later_before : (parent : Option ℕ) (first n : ℕ) → first ≤ n → IsBefore parent first → IsBefore parent n
+later_before None first n le lt = lt
+later_before (Some p) first n le lt = omega (arith, le, lt)
+
+module _ (is_on is_uses : ℕ → Bool) where
+  -- other trees are put behind
+  pub pruned_joined : (first : ℕ) (t others : Tree) → pruned is_on is_uses first t others ≡ joined (pruned is_on is_uses first t none) others
+  pruned_joined first none others = refl
+  pruned_joined first (item origin below behind) others =
+      let inside : Tree = pruned is_on is_uses (first + 1) below none in
+      let after : Tree = pruned is_on is_uses (first + 1 + count below) behind none in
+      let mid : Tree = pruned is_on is_uses (first + 1 + count below) behind others in
+      let later : mid ≡ joined after others = pruned_joined (first + 1 + count below) behind others in
+      let inner : pruned is_on is_uses (first + 1) below mid ≡ joined inside mid = pruned_joined (first + 1) below mid in
+      let own : pruned is_on is_uses (first + 1) below after ≡ joined inside after = pruned_joined (first + 1) below after in
+      given_joined (is_on first) (is_uses origin) first _ inside mid after others inner later
+      ∙ ap (λ (x : Tree). joined (given (is_on first) (is_uses origin) first x inside after) others) (sym own)
+
+  -- the nodes of a tree whose items go to this place, where the next node has the number n
+  abbrev pub shown : Place → ℕ → ℕ → Tree → List Item
+  shown None n first t = []
+  shown (Some q) n first t = listed q n (pruned is_on is_uses first t none)
+
+  -- these nodes were added, and no place before this one was changed
+  pub record Ran (first : ℕ) (before after : Runs) (given : List Item) : Type 0 where
+    pub nodes : after.nodes ≡ before.nodes ++ given
+    pub places : (p : ℕ) → p < first → slice_index_or after.places p None ≡ slice_index_or before.places p None
+    pub each : length after.places ≡ length before.places
+
+  same_above : (parent : Option ℕ) (first : ℕ) (before after : Runs) → IsBefore parent first
+      → ((p : ℕ) → p < first → slice_index_or after.places p None ≡ slice_index_or before.places p None)
+      → above after.places parent ≡ above before.places parent
+  same_above None first before after lt same = refl
+  same_above (Some p) first before after lt same = same p lt
+
+  module _ (lengths : (parent : Option ℕ) (first : ℕ) (t : Tree) → length (listed parent first t) ≡ count t)
+      (in_order : (parent : Option ℕ) (first : ℕ) (t u : Tree) → listed parent first (joined t u) ≡ listed parent first t ++ listed parent (first + count t) u) where
+    -- an item's node, what stands below it, and what follows it, is what its tree shows
+    shown_item : (on uses : Bool) (place : Place) (n first origin : ℕ) (below behind : Tree) → on ≡ is_on first → uses ≡ is_uses origin
+        → (mid last : ℕ) → mid ≡ n + length (node_by on uses first place) → last ≡ mid + length (shown (place_by on uses n place) mid (first + 1) below)
+        → node_by on uses first place ++ (shown (place_by on uses n place) mid (first + 1) below ++ shown place last (first + 1 + count below) behind)
+        ≡ shown place n first (item origin below behind)
+    shown_item on uses None n first origin below behind is_o is_u mid last at_mid at_last = refl
+    shown_item false uses (Some q) n first origin below behind is_o is_u mid last at_mid at_last =
+        let at : last ≡ n = omega (arith, at_mid, at_last) in
+        let after : Tree = pruned is_on is_uses (first + 1 + count below) behind none in
+        let inner : Tree = pruned is_on is_uses (first + 1) below after in
+        let inside : Tree = pruned is_on is_uses (first + 1) below none in
+        ap (λ (k : ℕ). listed q k after) at ∙ ap (λ (b : Bool). listed q n (given b (is_uses origin) first inner inside after)) is_o
+    shown_item true true (Some q) n first origin below behind is_o is_u mid last at_mid at_last =
+        let after : Tree = pruned is_on is_uses (first + 1 + count below) behind none in
+        let inner : Tree = pruned is_on is_uses (first + 1) below after in
+        let inside : Tree = pruned is_on is_uses (first + 1) below none in
+        let here : mid ≡ n = omega (arith, at_mid) in
+        let there : last ≡ n + count inside = omega (arith, at_last, here, lengths q mid inside) in
+        let both : listed q mid inside ++ listed q last after ≡ listed q n (joined inside after) =
+        ap (λ (k : ℕ). listed q k inside ++ listed q last after) here ∙ ap (λ (k : ℕ). listed q n inside ++ listed q k after) there ∙ sym (in_order q n inside after) in
+        let own : inner ≡ joined inside after = pruned_joined (first + 1) below after in
+        both ∙ ap (listed q n) (sym own) ∙ ap (λ (b : Bool). listed q n (given true b first inner inside after)) is_u
+        ∙ ap (λ (b : Bool). listed q n (given b (is_uses origin) first inner inside after)) is_o
+    shown_item true false (Some q) n first origin below behind is_o is_u mid last at_mid at_last =
+        let after : Tree = pruned is_on is_uses (first + 1 + count below) behind none in
+        let inner : Tree = pruned is_on is_uses (first + 1) below after in
+        let inside : Tree = pruned is_on is_uses (first + 1) below none in
+        let here : mid ≡ n + 1 = omega (arith, at_mid) in
+        let there : last ≡ n + 1 + count inside = omega (arith, at_last, here, lengths (Some n) mid inside) in
+        let node : Item = record { origin = first; parent = q } in
+        ap (λ (k : ℕ). node ∷ listed (Some n) k inside ++ listed q last after) here ∙ ap (λ (k : ℕ). node ∷ listed (Some n) (n + 1) inside ++ listed q k after) there
+        ∙ ap (λ (b : Bool). listed q n (given true b first inner inside after)) is_u
+        ∙ ap (λ (b : Bool). listed q n (given b (is_uses origin) first inner inside after)) is_o
+
+    -- going over the items of a tree adds what it shows
+    pub runs_tree : (t : Tree) (parent : Option ℕ) (first : ℕ) (s : Runs) (rest : List Item) → IsBefore parent first → first + count t ≤ length s.places
+        → (end : Runs) × (run is_on is_uses first (listed parent first t ++ rest) s ≡ run is_on is_uses (first + count t) rest end)
+        × Ran first s end (shown (above s.places parent) (length s.nodes) first t)
+    runs_tree none parent first s rest lt le = (s, ap (λ (k : ℕ). run is_on is_uses k rest s) (omega arith), nothing (above s.places parent))
+      where
+        nothing : (place : Place) → Ran first s s (shown place (length s.nodes) first none)
+        nothing None = record { nodes = sym (append-nil s.nodes); places = λ p h. refl; each = refl }
+        nothing (Some q) = record { nodes = sym (append-nil s.nodes); places = λ p h. refl; each = refl }
+    runs_tree (item origin below behind) parent first s rest lt le =
+        let place : Place = above s.places parent in
+        let n : ℕ = length s.nodes in
+        let node : List Item = node_by (is_on first) (is_uses origin) first place in
+        let own : Place = place_by (is_on first) (is_uses origin) n place in
+        let here : Item = record { origin = origin; parent = parent } in
+        let one : Runs = one_more is_on is_uses first here s in
+        let inner : List Item = listed (Some first) (first + 1) below in
+        let after : List Item = listed parent (first + 1 + count below) behind in
+        let size : length one.places ≡ length s.places = length-set s.places first own in
+        let in_below = runs_tree below (Some first) (first + 1) one (after ++ rest) (omega arith) (omega (arith, le, size)) in
+        let two : Runs = in_below.0 in
+        let ran_below : Ran (first + 1) one two (shown (above one.places (Some first)) (length one.nodes) (first + 1) below) = in_below.2 in
+        let in_behind = runs_tree behind parent (first + 1 + count below) two rest (later_before parent first (first + 1 + count below) (omega arith) lt)
+        (omega (arith, le, size, ran_below.each)) in
+        let end : Runs = in_behind.0 in
+        let ran_behind : Ran (first + 1 + count below) two end (shown (above two.places parent) (length two.nodes) (first + 1 + count below) behind) = in_behind.2 in
+        let kept_one : (p : ℕ) → p < first → slice_index_or one.places p None ≡ slice_index_or s.places p None =
+        λ p h. get_or-set_other s.places first p own None (other p h) in
+        let kept_two : (p : ℕ) → p < first → slice_index_or two.places p None ≡ slice_index_or s.places p None =
+        λ p h. ran_below.places p (omega (arith, h)) ∙ kept_one p h in
+        let kept_end : (p : ℕ) → p < first → slice_index_or end.places p None ≡ slice_index_or s.places p None =
+        λ p h. ran_behind.places p (omega (arith, h)) ∙ kept_two p h in
+        let own_is : above one.places (Some first) ≡ own = get_or-set_same s.places first own None (omega (arith, le)) in
+        let place_is : above two.places parent ≡ place = same_above parent first s two lt kept_two in
+        let mid_is : length one.nodes ≡ n + length node = length-append s.nodes node in
+        let below_nodes : List Item = shown own (length one.nodes) (first + 1) below in
+        let two_nodes : two.nodes ≡ one.nodes ++ below_nodes =
+        ran_below.nodes ∙ ap (λ (x : Place). one.nodes ++ shown x (length one.nodes) (first + 1) below) own_is in
+        let last_is : length two.nodes ≡ length one.nodes + length below_nodes = ap length two_nodes ∙ length-append one.nodes below_nodes in
+        let behind_nodes : List Item = shown place (length two.nodes) (first + 1 + count below) behind in
+        let end_nodes : end.nodes ≡ two.nodes ++ behind_nodes =
+        ran_behind.nodes ∙ ap (λ (x : Place). two.nodes ++ shown x (length two.nodes) (first + 1 + count below) behind) place_is in
+        let two_is : end.nodes ≡ (one.nodes ++ below_nodes) ++ behind_nodes = end_nodes ∙ ap (λ (xs : List Item). xs ++ behind_nodes) two_nodes in
+        let one_is : (one.nodes ++ below_nodes) ++ behind_nodes ≡ one.nodes ++ (below_nodes ++ behind_nodes) =
+        append_assoc one.nodes below_nodes behind_nodes in
+        let s_is : (s.nodes ++ node) ++ (below_nodes ++ behind_nodes) ≡ s.nodes ++ (node ++ (below_nodes ++ behind_nodes)) =
+        append_assoc s.nodes node (below_nodes ++ behind_nodes) in
+        let all_nodes : end.nodes ≡ s.nodes ++ (node ++ (below_nodes ++ behind_nodes)) = two_is ∙ one_is ∙ s_is in
+        let shows : node ++ (below_nodes ++ behind_nodes) ≡ shown place n first (item origin below behind) =
+        shown_item (is_on first) (is_uses origin) place n first origin below behind refl refl (length one.nodes) (length two.nodes) mid_is last_is in
+        let flat : (inner ++ after) ++ rest ≡ inner ++ (after ++ rest) = append_assoc inner after rest in
+        let number : first + 1 + count below + count behind ≡ first + (1 + count below + count behind) = omega arith in (
+          end,
+          ap (λ (xs : List Item). run is_on is_uses (first + 1) xs one) flat ∙ in_below.1 ∙ in_behind.1 ∙ ap (λ (k : ℕ). run is_on is_uses k rest end) number,
+          record {
+            nodes = all_nodes ∙ ap (λ (xs : List Item). s.nodes ++ xs) shows;
+            places = kept_end;
+            each = ran_behind.each ∙ ran_below.each ∙ size;
+          },
+        )
+      where
+        other : (p : ℕ) → p < first → p ≢ first
+        other p h e = omega (arith, h, e)
+
+-- no place is lost
+pub run_each : (is_on is_uses : ℕ → Bool) (items : List Item) (i : ℕ) (s : Runs) → length (run is_on is_uses i items s).places ≡ length s.places
+run_each is_on is_uses [] i s = refl
+run_each is_on is_uses (x ∷ items) i s = run_each is_on is_uses items (i + 1) (one_more is_on is_uses i x s) ∙ length-set s.places i _

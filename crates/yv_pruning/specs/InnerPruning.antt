@@ -1,0 +1,6 @@
+-- Inner definitions, which only private clauses cite: what a pruning has so far.
+use Rattle.yv_pruning.specs.InnerRuns.{Runs}
+use Rattle.yv_pruning.specs.declared.runs.Pruning.{Pruning}
+
+abbrev pub runs_of : Pruning → Runs
+runs_of p = record { places = p.places.items; nodes = p.nodes.items }
