@@ -1,4 +1,5 @@
 mod Joining
 mod Placing
 mod Stepping
+mod Telling
 mod Walking

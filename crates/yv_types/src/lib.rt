@@ -5,6 +5,7 @@
 
 mod first;
 mod known;
+pub mod laws;
 mod layers;
 mod places;
 mod read;
