@@ -4,7 +4,7 @@ ghost use Rattle.std.specs.List.{list_any};
 ghost use Rattle.yv_selection.specs.Choice.{Choice};
 ghost use Rattle.yv_rows.specs.Files.{Files};
 ghost use Rattle.yv_link.specs.Linked.{AreLinked, truth_in};
-ghost use Rattle.yv_values.specs.Identities.{is_identity};
+ghost use Rattle.yv_values.specs.Identities.{RiseById, is_identity};
 ghost use Rattle.yv_identityref.specs.Values.{HasValue};
 
 use crate::bases::below_bases;
@@ -27,9 +27,10 @@ pub fn identities_of(
     linked: &Linked<'_, '_>,
     number: usize,
 ) -> Result<Members, AllocError>
-    ensures { IfOk result (λ members. (files : Files) (choice : Choice) → AreLinked files choice linked.now
+    ensures same { IfOk result (λ members. (files : Files) (choice : Choice) → AreLinked files choice linked.now
         → (home called : List ℕ) → IsTrue (list_any (is_identity home called) members)
         ↔ HasValue (truth_in linked.now) choice files number home called) }
+    ensures rises { IfOk result (λ members. RiseById members) }
 {
     let left = below_bases(alloc, linked, number)?;
     let off = off(alloc, linked)?;

@@ -2,7 +2,7 @@
 ghost use Rattle.std.specs.Prelude.{◌≡◌, ℕ, List, ◌&&◌, IfOk};
 ghost use Rattle.yv_link.specs.Linked.{truth_in};
 ghost use Rattle.yv_restrictions.specs.Numberings.{is_wrong, is_wrong_in, kept, number_in, numbered, table_of};
-ghost use Rattle.yv_values.specs.Sorted.{is_named};
+ghost use Rattle.yv_values.specs.Sorted.{Rises, is_named};
 ghost use Rattle.yv_named.specs.Entries.{entries, is_on_among, listing};
 ghost use Rattle.yv_named.specs.InnerEntries.{counts, fault_at, lent};
 ghost use Rattle.yv_named.specs.Names.{IsFault, is_value, is_value_by, is_value_from, number_from, number_of};
@@ -114,10 +114,14 @@ impl<'a> Named<'a> {
 
     /// The names that are values, as plain types take them. The list is shared: it takes constant time.
     pub fn values(&self) -> Result<Names, AllocError>
-        ensures { IfOk result (λ names. (name : List ℕ) → is_named names name ≡ is_value self.now name) }
+        ensures same { IfOk result (λ names. (name : List ℕ) → is_named names name ≡ is_value self.now name) }
+        ensures rises { IfOk result (λ names. Rises names) }
     {
         match self.shared.list.copy()? {
-            PlainType::Enumeration(names) => Ok(names),
+            PlainType::Enumeration(names) => {
+                yv_values::laws::names_rise(&names);
+                Ok(names)
+            }
             _ => unreachable!(),
         }
     }

@@ -33,7 +33,7 @@ pub if_ok : {A E : Type 0} (P Q : A → Type 0) (r : Result A E) → ((s : A) �
 if_ok P Q (Ok s) f h = f s h
 if_ok P Q (Err e) f h = h
 
-both_true : (a b : Bool) → (a && b) ≡ true → b ≡ true
+pub both_true : (a b : Bool) → (a && b) ≡ true → b ≡ true
 both_true true b h = h
 both_true false b h = absurd (false≢true h)
 
@@ -41,20 +41,20 @@ not_both : (b : Bool) → b ≡ true → not b ≡ true → ⊥
 not_both true h g = false≢true g
 not_both false h g = false≢true h
 
-named_is : (word : List ℕ) (r : Row) → is_built_in word ≡ true → is_kind word r ≡ true → is_built_in (name_in r) ≡ true
+pub named_is : (word : List ℕ) (r : Row) → is_built_in word ≡ true → is_kind word r ≡ true → is_built_in (name_in r) ≡ true
 named_is word r built is =
     let same : name_in r ≡ word = (bytes_eq-Decides (name_in r) word).0 (both_true (is_type r) (bytes_eq (name_in r) word) is) in
     rw (same) built
 
-leafref_built : is_built_in (codes "leafref") ≡ true
+pub leafref_built : is_built_in (codes "leafref") ≡ true
 unfolding is_built_in
 leafref_built = refl
 
-identityref_built : is_built_in (codes "identityref") ≡ true
+pub identityref_built : is_built_in (codes "identityref") ≡ true
 unfolding is_built_in
 identityref_built = refl
 
-union_built : is_built_in (codes "union") ≡ true
+pub union_built : is_built_in (codes "union") ≡ true
 unfolding is_built_in
 union_built = refl
 
@@ -83,6 +83,13 @@ row_past f xs ys k e h = ap (λ l. slice_get l k) (sym e) ∙ slice_get-map f xs
 pub bare_by : (files : Files) (truth : Truth) (k : ℕ) → ((p : Plain) → (None ≡ Some p) ↔ HasPlainType files k p) → ((t : Told) → (None ≡ Some t) ↔ HasNames files truth k t) → IsBare files truth k
 bare_by files truth k plain names = record { plain = λ p h. no_plain p ((plain p).1 h); names = λ t h. no_told t ((names t).1 h) }
 
+-- what names a built-in type follows none
+pub apart : (files : Files) (k j : ℕ) (r : Row) (word : List ℕ) → is_built_in word ≡ true → slice_get (rows_of files) k ≡ Some r → is_kind word r ≡ true → Follows (map brief_of files) (rows_of files) k j → ⊥
+apart files k j r word known at is f =
+    let same : f.refers.statement ≡ r = same_Some f.refers.statement r (sym f.refers.at ∙ at) in
+    let built : is_built_in (name_in f.refers.statement) ≡ true = subst (λ (x : Row). is_built_in (name_in x) ≡ true) (sym same) (named_is word r known is) in
+    not_both (is_built_in (name_in f.refers.statement)) built (both_true (is_type f.refers.statement) (not (is_built_in (name_in f.refers.statement))) f.refers.names)
+
 module _ (files : Files) (truth : Truth) (choice : Choice) (k : ℕ) where
   -- what it has is known
   pub has_some : (o : Option (List Plain)) (ps : List Plain) → o ≡ Some ps → Space files truth choice k ps → IsSpace files truth choice k o
@@ -91,21 +98,14 @@ module _ (files : Files) (truth : Truth) (choice : Choice) (k : ℕ) where
     full = λ e qs h. absurd (some_list ps (sym is ∙ e));
   }
 
-  -- what names a built-in type follows none
-  apart : (j : ℕ) (r : Row) (word : List ℕ) → is_built_in word ≡ true → slice_get (rows_of files) k ≡ Some r → is_kind word r ≡ true → Follows (map brief_of files) (rows_of files) k j → ⊥
-  apart j r word known at is f =
-      let same : f.refers.statement ≡ r = same_Some f.refers.statement r (sym f.refers.at ∙ at) in
-      let built : is_built_in (name_in f.refers.statement) ≡ true = subst (λ (x : Row). is_built_in (name_in x) ≡ true) (sym same) (named_is word r known is) in
-      not_both (is_built_in (name_in f.refers.statement)) built (both_true (is_type f.refers.statement) (not (is_built_in (name_in f.refers.statement))) f.refers.names)
-
   -- a derived type has what the type has that it follows
   module _ (bare : IsBare files truth k) (j : ℕ) (f : Follows (map brief_of files) (rows_of files) k j) (one : (i : ℕ) → Follows (map brief_of files) (rows_of files) k i → i ≡ j) where
     follows_space : (ps : List Plain) → Space files truth choice k ps → Space files truth choice j ps
     follows_space ps (faceted h) = absurd (bare.plain _ h)
-    follows_space ps (listed told ns h same) = absurd (bare.names told h)
-    follows_space ps (identityref {r = r} at is ids) = absurd (apart j r (codes "identityref") identityref_built at is f)
-    follows_space ps (leafref {r = r} at is) = absurd (apart j r (codes "leafref") leafref_built at is f)
-    follows_space ps (union {r = r} at is all) = absurd (apart j r (codes "union") union_built at is f)
+    follows_space ps (listed told ns h up same) = absurd (bare.names told h)
+    follows_space ps (identityref {r = r} at is up ids) = absurd (apart files k j r (codes "identityref") identityref_built at is f)
+    follows_space ps (leafref {r = r} at is) = absurd (apart files k j r (codes "leafref") leafref_built at is f)
+    follows_space ps (union {r = r} at is all) = absurd (apart files k j r (codes "union") union_built at is f)
     follows_space ps (derived {j = i} g np nn s) = subst (λ n. Space files truth choice n ps) (one i g) s
 
     pub has_followed : (o : Option (List Plain)) → IsSpace files truth choice j o → IsSpace files truth choice k o
@@ -118,8 +118,8 @@ module _ (files : Files) (truth : Truth) (choice : Choice) (k : ℕ) where
     -- a number without a statement
     out_space : slice_get (rows_of files) k ≡ None → (ps : List Plain) → Space files truth choice k ps → ⊥
     out_space out ps (faceted h) = bare.plain _ h
-    out_space out ps (listed told ns h same) = bare.names told h
-    out_space out ps (identityref {r = r} at is ids) = let bad : None ≡ Some r = sym out ∙ at in cc
+    out_space out ps (listed told ns h up same) = bare.names told h
+    out_space out ps (identityref {r = r} at is up ids) = let bad : None ≡ Some r = sym out ∙ at in cc
     out_space out ps (leafref {r = r} at is) = let bad : None ≡ Some r = sym out ∙ at in cc
     out_space out ps (union {r = r} at is all) = let bad : None ≡ Some r = sym out ∙ at in cc
     out_space out ps (derived {j = i} g np nn s) = alone i g
@@ -136,8 +136,8 @@ module _ (files : Files) (truth : Truth) (choice : Choice) (k : ℕ) where
 
       other_space : is_kind (codes "leafref") r ≡ false → is_kind (codes "identityref") r ≡ false → is_kind (codes "union") r ≡ false → (ps : List Plain) → Space files truth choice k ps → ⊥
       other_space l i u ps (faceted h) = bare.plain _ h
-      other_space l i u ps (listed told ns h same) = bare.names told h
-      other_space l i u ps (identityref {r = s} there is ids) = false≢true (sym i ∙ row_is (codes "identityref") s there is)
+      other_space l i u ps (listed told ns h up same) = bare.names told h
+      other_space l i u ps (identityref {r = s} there is up ids) = false≢true (sym i ∙ row_is (codes "identityref") s there is)
       other_space l i u ps (leafref {r = s} there is) = false≢true (sym l ∙ row_is (codes "leafref") s there is)
       other_space l i u ps (union {r = s} there is all) = false≢true (sym u ∙ row_is (codes "union") s there is)
       other_space l i u ps (derived {j = j} g np nn s) = alone j g
@@ -151,8 +151,8 @@ module _ (files : Files) (truth : Truth) (choice : Choice) (k : ℕ) where
 
       union_space : is_kind (codes "leafref") r ≡ false → is_kind (codes "identityref") r ≡ false → (ps : List Plain) → Space files truth choice k ps → Spaces files truth choice (types_in (rows_of files) k) ps
       union_space l i ps (faceted h) = absurd (bare.plain _ h)
-      union_space l i ps (listed told ns h same) = absurd (bare.names told h)
-      union_space l i ps (identityref {r = s} there is ids) = absurd (false≢true (sym i ∙ row_is (codes "identityref") s there is))
+      union_space l i ps (listed told ns h up same) = absurd (bare.names told h)
+      union_space l i ps (identityref {r = s} there is up ids) = absurd (false≢true (sym i ∙ row_is (codes "identityref") s there is))
       union_space l i ps (leafref {r = s} there is) = absurd (false≢true (sym l ∙ row_is (codes "leafref") s there is))
       union_space l i ps (union {r = s} there is all) = all
       union_space l i ps (derived {j = j} g np nn s) = absurd (alone j g)

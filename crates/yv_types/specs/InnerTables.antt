@@ -6,7 +6,7 @@ use Rattle.yv_selection.specs.Choice.{Choice}
 use Rattle.yv_rows.specs.Files.{Files, brief_of}
 use Rattle.yv_rows.specs.Listed.{rows_of}
 use Rattle.yv_values.specs.Types.{Plain, plain_of}
-use Rattle.yv_values.specs.Sorted.{is_named}
+use Rattle.yv_values.specs.Sorted.{Rises, is_named}
 use Rattle.yv_bases.specs.Types.{Follows, IsTypeAt}
 use Rattle.yv_faceted.specs.Types.{HasPlainType}
 use Rattle.yv_listed.specs.Types.{HasNames, Told, Truth}
@@ -37,7 +37,7 @@ AreKnown files truth choice Those spaces = (k : ℕ) → Those k → IsSpace fil
 
 -- an enumeration or bits of the names that are values
 abbrev pub IsListed : Told → Plain → Type 0
-IsListed told p = (ns : List (List ℕ)) × (p ≡ of_kind told.kind ns) × ((s : List ℕ) → is_named ns s ≡ told.value s)
+IsListed told p = (ns : List (List ℕ)) × (p ≡ of_kind told.kind ns) × Rises ns × ((s : List ℕ) → is_named ns s ≡ told.value s)
 
 -- the numbered statement has no plain type of its own and no names
 pub record IsBare (files : Files) (truth : Truth) (k : ℕ) : Type 0 where

@@ -9,8 +9,8 @@ use Rattle.yv_rows.specs.Listed.{rows_of}
 use Rattle.yv_bases.specs.Types.{Follows, is_kind, is_leafref, is_union, types_in}
 use Rattle.yv_restrictions.specs.declared.numbering.Kind.{Kind}
 use Rattle.yv_restrictions.specs.declared.numbering.Kind.TheVariants.{Enumeration, Bits}
-use Rattle.yv_values.specs.Identities.{Id, is_identity}
-use Rattle.yv_values.specs.Sorted.{is_named}
+use Rattle.yv_values.specs.Identities.{Id, RiseById, is_identity}
+use Rattle.yv_values.specs.Sorted.{Rises, is_named}
 use Rattle.yv_values.specs.Types.{Plain, names, flags, identities}
 use Rattle.yv_faceted.specs.Types.{HasPlainType}
 use Rattle.yv_listed.specs.Types.{Truth, HasNames, Told}
@@ -26,10 +26,10 @@ mutual
   -- follows; an instance-identifier has none, nor has a union with one in it
   pub data Space (files : Files) (truth : Truth) (choice : Choice) : ℕ → List Plain → Type 0 where
     faceted : {k : ℕ} {p : Plain} → HasPlainType files k p → Space files truth choice k (p ∷ [])
-    listed : {k : ℕ} (told : Told) (ns : List (List ℕ)) → HasNames files truth k told → ((s : List ℕ) → is_named ns s ≡ told.value s)
-        → Space files truth choice k (of_kind told.kind ns ∷ [])
+    listed : {k : ℕ} (told : Told) (ns : List (List ℕ)) → HasNames files truth k told → Rises ns
+        → ((s : List ℕ) → is_named ns s ≡ told.value s) → Space files truth choice k (of_kind told.kind ns ∷ [])
     identityref : {k : ℕ} {r : Row} {ids : List Id} → slice_get (rows_of files) k ≡ Some r → is_kind (codes "identityref") r ≡ true
-        → ((home called : List ℕ) → IsTrue (list_any (is_identity home called) ids) ↔ HasValue truth choice files k home called)
+        → RiseById ids → ((home called : List ℕ) → IsTrue (list_any (is_identity home called) ids) ↔ HasValue truth choice files k home called)
         → Space files truth choice k (identities ids ∷ [])
     leafref : {k : ℕ} {r : Row} → slice_get (rows_of files) k ≡ Some r → is_leafref r ≡ true → Space files truth choice k []
     union : {k : ℕ} {r : Row} {ps : List Plain} → slice_get (rows_of files) k ≡ Some r → is_union r ≡ true

@@ -12,16 +12,15 @@ use Rattle.std.proofs.lemmas.Cmp.{then_total}
 use Rattle.std.proofs.lemmas.List.Sorted.{searchable_from_sorted}
 use Rattle.std.proofs.lemmas.Slice.Eq.{bytes_eq-Decides}
 use Rattle.yv_values.specs.declared.members.Member.{Member}
-use Rattle.yv_values.specs.Identities.{Id, id_of, is_identity}
-use Rattle.yv_values.specs.InnerNames.{id_cmp}
+use Rattle.yv_values.specs.Identities.{Id, id_cmp, id_of, is_identity}
 use Rattle.yv_values.proofs.Mapped.{any_mapped}
 use Rattle.yv_values.proofs.Same.{then_equal}
 
-ids_total : IsTotalOrder id_cmp
+pub ids_total : IsTotalOrder id_cmp
 ids_total = then_total (on_texts (λ (i : Id). i.home)) (on_texts (λ (i : Id). i.name))
 
 -- the comparison tells whether it is the identity
-compared : (home called : List ℕ) (i : Id) → is_identity home called i ≡ is_eq (id_cmp i record { home = home; name = called })
+pub compared : (home called : List ℕ) (i : Id) → is_identity home called i ≡ is_eq (id_cmp i record { home = home; name = called })
 compared home called i =
     ap (λ b. b && bytes_eq i.name called) (texts_ties i.home home) ∙ ap (λ b. is_eq (slice_cmp nat_cmp i.home home) && b) (texts_ties i.name called) ∙ sym (then_equal (slice_cmp nat_cmp i.home home) (slice_cmp nat_cmp i.name called))
 

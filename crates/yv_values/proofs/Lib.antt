@@ -4,4 +4,6 @@ pub mod Found
 pub mod Keys
 pub mod Mapped
 pub mod Order
+pub mod Rising
 pub mod Same
+pub mod Single

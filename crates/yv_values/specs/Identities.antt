@@ -1,7 +1,11 @@
 -- Identities (RFC 7950, section 7.18).
 use Rattle.std.specs.Prelude.{ℕ, List, Bool, ◌&&◌, Option, Some, None, string_bytes, if◌then◌else◌}
+use Rattle.std.specs.Cmp.Lexicographic.{slice_cmp}
 use Rattle.std.specs.List.{list_any}
+use Rattle.std.specs.List.Sorted.{IsStrictlySortedBy}
+use Rattle.std.specs.Ordering.{nat_cmp, ordering_then}
 use Rattle.std.specs.Str.{bytes_eq}
+use Rattle.std.specs.declared.cmp.Ordering.{Ordering}
 use Rattle.yv_values.specs.declared.members.Member.{Member}
 use Rattle.yv_values.specs.Values.{Val, identity}
 
@@ -12,6 +16,14 @@ pub record Id : Type 0 where
 
 abbrev pub id_of : Member → Id
 id_of m = record { home = string_bytes m.module; name = string_bytes m.name }
+
+-- by module, and then by name
+abbrev pub id_cmp : Id → Id → Ordering
+id_cmp i j = ordering_then (slice_cmp nat_cmp i.home j.home) (slice_cmp nat_cmp i.name j.name)
+
+-- each of these identities stands before all behind it, so that none stands twice
+abbrev pub RiseById : List Id → Type 0
+RiseById = IsStrictlySortedBy id_cmp
 
 abbrev pub is_identity : List ℕ → List ℕ → Id → Bool
 is_identity home called i = bytes_eq i.home home && bytes_eq i.name called

@@ -2,9 +2,7 @@
 use Rattle.std.specs.Prelude.{◌≡◌, ℕ, List, [], ◌∷◌, Bool, false, ⊤}
 use Rattle.std.specs.Cmp.Lexicographic.{slice_cmp}
 use Rattle.std.specs.List.Sorted.{IsPermutation}
-use Rattle.std.specs.Ordering.{is_lt, nat_cmp, ordering_then}
-use Rattle.std.specs.declared.cmp.Ordering.{Ordering}
-use Rattle.yv_values.specs.Identities.{Id}
+use Rattle.std.specs.Ordering.{is_lt, nat_cmp}
 
 -- the one stands before the other
 abbrev pub is_below : List ℕ → List ℕ → Bool
@@ -23,7 +21,3 @@ Ascends (x ∷ xs) = NoneBelow x xs × Ascends xs
 -- these are the same texts, in ascending order
 abbrev pub Arranges : List (List ℕ) → List (List ℕ) → Type 0
 Arranges xs ys = IsPermutation xs ys × Ascends ys
-
--- by module, and then by name
-abbrev pub id_cmp : Id → Id → Ordering
-id_cmp i j = ordering_then (slice_cmp nat_cmp i.home j.home) (slice_cmp nat_cmp i.name j.name)

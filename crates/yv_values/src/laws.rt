@@ -1,7 +1,40 @@
-//! Laws of the definitions alone.
+//! Laws of names, of identities, and of the definitions alone.
 ghost use Rattle.std.specs.Prelude.{◌≡◌, ℕ, List, Some};
+ghost use Rattle.std.specs.List.{list_any};
+ghost use Rattle.yv_values.specs.Identities.{Id, RiseById, is_identity};
+ghost use Rattle.yv_values.specs.Sorted.{Rises, is_named};
 ghost use Rattle.yv_values.specs.Texts.{HaveSameWords, bits_in};
 ghost use Rattle.yv_values.specs.Values.{Val};
+
+use crate::members::Members;
+use crate::names::Names;
+
+/// Each name of a type stands before all behind it.
+pub fn names_rise(names: &Names)
+    ensures { Rises names.now }
+{
+    names.rise();
+}
+
+/// Each identity of a type stands before all behind it.
+pub fn identities_rise(members: &Members)
+    ensures { RiseById members.now }
+{
+    members.rise();
+}
+
+/// Two lists of texts that rise are one where they have the same texts.
+pub fn texts_that_rise_are_one_list()
+    ensures { (xs ys : List (List ℕ)) → Rises xs → Rises ys
+        → ((s : List ℕ) → is_named xs s ≡ is_named ys s) → xs ≡ ys }
+{}
+
+/// Two lists of identities that rise are one where they have the same identities.
+pub fn identities_that_rise_are_one_list()
+    ensures { (xs ys : List Id) → RiseById xs → RiseById ys
+        → ((home called : List ℕ) → list_any (is_identity home called) xs ≡ list_any (is_identity home called) ys)
+        → xs ≡ ys }
+{}
 
 /// A set of bits is the same value in whatever order its names are written.
 pub fn bits_come_in_any_order()

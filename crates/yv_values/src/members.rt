@@ -1,9 +1,7 @@
 //! The identities of an identityref type, in one order.
 ghost use Rattle.std.specs.Prelude.{◌≡◌, List, ℕ, IfOk, IfSome, is_some, map};
 ghost use Rattle.std.specs.List.{list_any};
-ghost use Rattle.std.specs.List.Sorted.{IsPermutation};
-ghost use Rattle.yv_values.specs.Identities.{Id, id_of, is_identity, identity_in};
-ghost use Rattle.yv_values.specs.InnerNames.{id_cmp};
+ghost use Rattle.yv_values.specs.Identities.{Id, RiseById, id_cmp, id_of, is_identity, identity_in};
 
 use crate::names::compare;
 use std::alloc::AllocError;
@@ -18,8 +16,8 @@ pub struct Member {
     pub name: String,
 }
 
-/// The identities of an identityref type, in the order of their modules and then of their names, so that one is found
-/// by halves. Contracts see them as that list.
+/// The identities of an identityref type, in the order of their modules and then of their names and each once, so that
+/// one is found by halves. Contracts see them as that list.
 #[derive(Drop)]
 pub struct Members {
     members: RcSlice<Member>,
@@ -27,27 +25,26 @@ pub struct Members {
 
 impl Model for Members {
     ghost use Rattle.std.specs.Prelude.{List, map};
-    ghost use Rattle.std.specs.List.Sorted.{IsSortedByKey};
     ghost use Rattle.std.specs.Rc.{rc_slice_items};
-    ghost use Rattle.yv_values.specs.Identities.{Id, id_of};
-    ghost use Rattle.yv_values.specs.InnerNames.{id_cmp};
+    ghost use Rattle.yv_values.specs.Identities.{Id, RiseById, id_of};
 
     ghost Value = { List Id };
 
     ghost view = { λ i. map id_of (rc_slice_items i.members) };
 
-    ghost invariant = { λ i. IsSortedByKey id_of id_cmp (rc_slice_items i.members) };
+    ghost invariant = { λ i. RiseById (map id_of (rc_slice_items i.members)) };
 }
 
 impl Members {
-    /// Puts the identities of a type into their order.
+    /// Puts the identities of a type into their order, each once.
     pub fn new(members: Vec<Member>) -> Result<Members, AllocError>
-        ensures members { IfOk result (λ sorted. IsPermutation (map id_of members.items) sorted) }
+        ensures rises { IfOk result (λ sorted. RiseById sorted) }
         ensures same { IfOk result (λ sorted. (home called : List ℕ) →
             identity_in sorted home called ≡ identity_in (map id_of members.items) home called) }
     {
         let mut members = members;
         members.sort()?;
+        members.dedup();
         Ok(Members {
             members: RcSlice::from_vec(members)?,
         })
@@ -65,6 +62,13 @@ impl Members {
             Ok(at) => Some(&self.members[at]),
             Err(_) => None,
         }
+    }
+
+    /// They are in their order.
+    pub(crate) fn rise(&self)
+        ensures { RiseById self.now }
+    {
+        let _count = self.members.len();
     }
 
     pub(crate) fn copy(&self) -> Result<Members, AllocError>

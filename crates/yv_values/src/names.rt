@@ -5,7 +5,7 @@ ghost use Rattle.std.specs.List.{filter};
 ghost use Rattle.std.specs.Ordering.{nat_cmp};
 ghost use Rattle.std.specs.Str.{bytes_eq};
 ghost use Rattle.yv_values.specs.InnerNames.{is_below, Ascends};
-ghost use Rattle.yv_values.specs.Sorted.{AreSorted, is_named};
+ghost use Rattle.yv_values.specs.Sorted.{Rises, is_named};
 ghost use Rattle.yv_values.specs.Values.{texts};
 
 use std::alloc::AllocError;
@@ -13,34 +13,35 @@ use std::cmp::Ordering;
 use std::marker::Model;
 use std::rc::RcSlice;
 
-/// The names of an enumeration or of a bits type, in the order of their bytes, so that each set of bits is one list,
-/// and a name is found by halves. Contracts see it as that list.
+/// The names of an enumeration or of a bits type, in the order of their bytes and each once, so that each set of bits is
+/// one list, and a name is found by halves. Contracts see it as that list.
 #[derive(Drop)]
 pub struct Names {
     names: RcSlice<String>,
 }
 
 impl Model for Names {
-    ghost use Rattle.std.specs.Prelude.{ℕ, List, string_cmp};
-    ghost use Rattle.std.specs.List.Sorted.{IsSorted};
+    ghost use Rattle.std.specs.Prelude.{ℕ, List};
     ghost use Rattle.std.specs.Rc.{rc_slice_items};
+    ghost use Rattle.yv_values.specs.Sorted.{Rises};
     ghost use Rattle.yv_values.specs.Values.{texts};
 
     ghost Value = { List (List ℕ) };
 
     ghost view = { λ b. texts (rc_slice_items b.names) };
 
-    ghost invariant = { λ b. IsSorted string_cmp (rc_slice_items b.names) };
+    ghost invariant = { λ b. Rises (texts (rc_slice_items b.names)) };
 }
 
 impl Names {
-    /// Puts the names of a type, each given once, into their order.
+    /// Puts the names of a type into their order, each once.
     pub fn new(names: Vec<String>) -> Result<Names, AllocError>
-        ensures sorted { IfOk result (AreSorted names.items) }
+        ensures rises { IfOk result (λ sorted. Rises sorted) }
         ensures same { IfOk result (λ sorted. (s : List ℕ) → is_named sorted s ≡ is_named (texts names.items) s) }
     {
         let mut names = names;
         names.sort()?;
+        names.dedup();
         Ok(Names {
             names: RcSlice::from_vec(names)?,
         })
@@ -52,7 +53,7 @@ impl Names {
         !self.equal_to(text).is_empty()
     }
 
-    /// The names that are this text: one where it is a name, since each is given once.
+    /// The names that are this text: one where it is a name, since each stands once.
     pub(crate) fn equal_to(&self, text: &[u8]) -> &[String]
         ensures names { texts result.now ≡ filter (λ n. bytes_eq n text.now) self.now }
         ensures order { Ascends self.now }
@@ -63,6 +64,13 @@ impl Names {
         let (_, rest) = self.names.split_at(low);
         let count = rest.partition_point(|name| !is_below(text, name.as_bytes()));
         &rest[..count]
+    }
+
+    /// They are in their order.
+    pub(crate) fn rise(&self)
+        ensures { Rises self.now }
+    {
+        let _count = self.names.len();
     }
 
     pub(crate) fn copy(&self) -> Result<Names, AllocError>

@@ -527,6 +527,27 @@ fn a_base_is_no_value(rt: HostRuntime) -> Result<(), Fail> {
     Ok(())
 }
 
+#[test]
+fn what_is_given_twice_stands_once(rt: HostRuntime) -> Result<(), Fail> {
+    let alloc = rt.alloc();
+    let once = vec![in alloc; PlainType::Bits(names(alloc, &["a", "b"])?)]?;
+    let twice = vec![in alloc; PlainType::Bits(names(alloc, &["b", "a", "b"])?)]?;
+    assert!(rt;
+        are_same(
+            alloc,
+            value(alloc, &once, "\"a b\"")?,
+            value(alloc, &twice, "\"a b\"")?
+        )?
+    );
+    let members = Members::new(vec![in alloc;
+        member(alloc, MODULE, "loop")?,
+        member(alloc, MODULE, "loop")?,
+    ]?)?;
+    let types = vec![in alloc; PlainType::Identity(members)]?;
+    assert!(rt; reads(alloc, &types, "\"loop\"")?);
+    Ok(())
+}
+
 // The union of RFC 7950, section 9.12.4: a number, or `unbounded`.
 #[test]
 fn a_number_or_a_name(rt: HostRuntime) -> Result<(), Fail> {

@@ -15,7 +15,7 @@ returns-then-is_kind c = λ files choice linked at own bare alone known.
 pub returns-then-is_kind-2 : goal.returns-then-is_kind-2
 returns-then-is_kind-2 c = λ files choice linked at own bare alone known.
     has_some files (truth_in c.args.linked.now) choice c.args.number (Some (plains c.in_ok-one.field-0)) _ (ap Some c.in_ok-one.ensures)
-    (identityref at (sym c.is_kind-2.ensures ∙ c.if-is_kind-2.true) (c.in_ok-identities.ensures files choice linked))
+    (identityref at (sym c.is_kind-2.ensures ∙ c.if-is_kind-2.true) c.in_ok-identities.ensures.rises (c.in_ok-identities.ensures.same files choice linked))
 
 pub returns-then-is_kind-3 : goal.returns-then-is_kind-3
 returns-then-is_kind-3 c = if_ok _ _ c.joined.result

@@ -28,7 +28,7 @@ returns-in-Some-names c = λ files choice linked layers inside known.
     let is : IsListed told (plain_of c.in_ok-listed.field-0) = c.in_ok-listed.ensures in
     has_some files (truth_in c.args.linked.now) choice c.args.number (Some (plains c.in_ok-one-2.field-0)) (of_kind told.kind is.0 ∷ [])
     (ap Some (c.in_ok-one-2.ensures ∙ ap (λ p. p ∷ []) is.1))
-    (listed told is.0 ((c.in-Some-names.ensures files (truth_in c.args.linked.now) layers.listed told).0 refl) is.2)
+    (listed told is.0 ((c.in-Some-names.ensures files (truth_in c.args.linked.now) layers.listed told).0 refl) is.2 is.3)
 
 pub returns-in-Some-follows : goal.returns-in-Some-follows
 returns-in-Some-follows c = if_ok _ _ c.list_at.result

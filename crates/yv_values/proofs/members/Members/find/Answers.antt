@@ -3,9 +3,9 @@ use Rattle.std.specs.List.{list_any}
 use Rattle.std.specs.declared.cmp.Ordering.TheVariants.{Equal}
 use Rattle.std.proofs.lemmas.Fn.{always_returns_same}
 use Rattle.yv_values.specs.declared.members.Member.{Member}
-use Rattle.yv_values.specs.Identities.{Id, id_of, is_identity}
-use Rattle.yv_values.specs.InnerNames.{id_cmp}
-use Rattle.yv_values.proofs.Found.{same_id, found, absent}
+use Rattle.yv_values.specs.Identities.{Id, id_cmp, id_of, is_identity}
+use Rattle.yv_values.proofs.Found.{same_id, found, absent, ids_total}
+use Rattle.yv_values.proofs.Rising.{sorted_from_rising}
 use Rattle.yv_values.proofs.members.Members.find.Goals as goal
 
 pub returns-in-Ok-clause-value : goal.returns-in-Ok-clause-value
@@ -31,4 +31,4 @@ returns-in-Err-clause-value c =
     let called = c.args.name.now in
     let parted = c.in-Err.ensures.position (λ (m : Member). id_cmp (id_of m) record { home = home; name = called }) (always_returns_same _ _ _ (λ a r k h. search rules)) in
     let same = ap (λ (ms : List Member). map id_of ms) c.deref.ensures.value ∙ c.self.view_is in
-    sym (absent home called c.deref.result.now c.in-Err.field-0 (rw c.deref.ensures.value c.self.invariant) parted) ∙ ap (λ (ids : List Id). list_any (is_identity home called) ids) same
+    sym (absent home called c.deref.result.now c.in-Err.field-0 (rw c.deref.ensures.value (sorted_from_rising id_of id_cmp ids_total _ c.self.invariant)) parted) ∙ ap (λ (ids : List Id). list_any (is_identity home called) ids) same

@@ -1,11 +1,37 @@
-use Rattle.std.proofs.Common.{Bool, Some, None, cond, sym, ap}
-use Rattle.std.proofs.lemmas.List.Sorted.{IsPermutation-map, list_any-IsPermutation}
-use Rattle.yv_values.specs.Identities.{id_of, is_identity}
+use Rattle.std.proofs.Common.{◌≡◌, ◌∙◌, sym, ap, subst, List, Bool, Some, None, cond, map, string_bytes, ◌&&◌}
+use Rattle.std.specs.Cmp.{Equal-is}
+use Rattle.std.specs.List.{dedup}
+use Rattle.std.specs.List.Sorted.{IsSortedByKey}
+use Rattle.std.specs.Ordering.{is_eq}
+use Rattle.std.specs.Str.{bytes_eq}
+use Rattle.std.proofs.lemmas.Cmp.{on_total}
+use Rattle.std.proofs.lemmas.List.Filters.{dedup_is}
+use Rattle.yv_values.specs.declared.members.Member.{Member}
+use Rattle.yv_values.specs.Identities.{RiseById, id_cmp, id_of, identity_in, is_identity}
 use Rattle.yv_values.specs.Values.{identity}
+use Rattle.yv_values.proofs.Found.{compared, ids_total, same_id}
+use Rattle.yv_values.proofs.Rising.{left_rises, left_same}
 use Rattle.yv_values.proofs.members.Members.new.Goals as goal
 
-pub returns-clause-members : goal.returns-clause-members
-returns-clause-members c = rw c.in_ok-from_vec.ensures (IsPermutation-map id_of _ _ c.in_ok-sort.ensures.permutation)
+abbrev same : Member → Member → Bool
+same x y = bytes_eq (string_bytes x.«module») (string_bytes y.«module») && bytes_eq (string_bytes x.name) (string_bytes y.name)
+
+ties : (x y : Member) → same x y ≡ is_eq (id_cmp (id_of x) (id_of y))
+ties x y = compared (string_bytes y.«module») (string_bytes y.name) (id_of x)
+
+-- what is left of sorted identities
+rises_left : (xs ys : List Member) → ys ≡ dedup same xs → IsSortedByKey id_of id_cmp xs → RiseById (map id_of ys)
+rises_left xs ys e up = subst (λ (zs : List Member). RiseById (map id_of zs)) (sym e) (left_rises id_of id_cmp same (on_total id_of ids_total) ties xs up)
+
+pub invariant_of-result : goal.invariant_of-result
+invariant_of-result c = rises_left c.sort.new.self.items _ (c.in_ok-from_vec.ensures ∙ dedup_is same _ _ c.dedup.ensures.filtered) c.in_ok-sort.ensures.sorted
+
+pub returns-clause-rises : goal.returns-clause-rises
+returns-clause-rises c = rises_left c.sort.new.self.items _ (c.in_ok-from_vec.ensures ∙ dedup_is same _ _ c.dedup.ensures.filtered) c.in_ok-sort.ensures.sorted
 
 pub returns-clause-same : goal.returns-clause-same
-returns-clause-same c = λ home called. rw c.in_ok-from_vec.ensures (ap (λ (b : Bool). cond b (Some (identity home called)) None) (sym (list_any-IsPermutation (is_identity home called) _ _ (IsPermutation-map id_of _ _ c.in_ok-sort.ensures.permutation))))
+returns-clause-same c = λ home called.
+    let left = dedup_is same _ _ c.dedup.ensures.filtered in
+    ap (λ (xs : List Member). identity_in (map id_of xs) home called) (c.in_ok-from_vec.ensures ∙ left)
+    ∙ ap (λ (b : Bool). cond b (Some (identity home called)) None)
+    (left_same id_of id_cmp same (λ x y h. same_id (string_bytes y.«module») (string_bytes y.name) (id_of x) ((Equal-is (id_cmp (id_of x) (id_of y))).0 (sym (ties x y) ∙ h))) (is_identity home called) _ _ c.in_ok-sort.ensures.permutation)

@@ -4,10 +4,12 @@ use Rattle.std.specs.List.Sorted.{IsSortedBy, IsPartitionedBy, IsPartitionPoint}
 use Rattle.std.specs.Ordering.{is_lt, nat_cmp}
 use Rattle.std.specs.Str.{bytes_eq}
 use Rattle.std.specs.declared.alloc.Global.{Global}
+use Rattle.std.proofs.lemmas.Cmp.{nat_list_cmp_total}
 use Rattle.std.proofs.lemmas.List.Sorted.{IsPartitionPoint-from_clause}
 use Rattle.yv_values.specs.InnerNames.{is_below}
 use Rattle.yv_values.specs.Values.{texts}
 use Rattle.yv_values.proofs.Order.{below_parted, upto_parted, run_is, ascends, filter_mapped}
+use Rattle.yv_values.proofs.Rising.{sorted_from_rising}
 use Rattle.yv_values.proofs.names.Names.equal_to.Goals as goal
 
 pub returns-clause-names : goal.returns-clause-names
@@ -15,8 +17,9 @@ returns-clause-names c =
     let w = c.args.text.now in
     let low = c.partition_point-low.result in
     let xs = c.deref-2.result.now in
-    let up = subst (IsSortedBy (λ (a b : String Global). is_lt (slice_cmp nat_cmp (string_bytes a) (string_bytes b)))) (sym c.deref-2.ensures.value) c.self.invariant in
-    let first_up = subst (IsSortedBy (λ (a b : String Global). is_lt (slice_cmp nat_cmp (string_bytes a) (string_bytes b)))) (sym c.deref.ensures.value) c.self.invariant in
+    let sorted = sorted_from_rising (λ (n : String Global). string_bytes n) (slice_cmp nat_cmp) nat_list_cmp_total _ c.self.invariant in
+    let up = subst (IsSortedBy (λ (a b : String Global). is_lt (slice_cmp nat_cmp (string_bytes a) (string_bytes b)))) (sym c.deref-2.ensures.value) sorted in
+    let first_up = subst (IsSortedBy (λ (a b : String Global). is_lt (slice_cmp nat_cmp (string_bytes a) (string_bytes b)))) (sym c.deref.ensures.value) sorted in
     let below = IsPartitionPoint-from_clause (λ (y : String Global). is_below (string_bytes y) w) _ _ c.partition_point-low.ensures.partitioned (below_parted string_bytes c.deref.result.now first_up w) (λ a r q k. search rules) in
     let lower = subst (λ (ys : List (String Global)). IsPartitionPoint (λ y. is_below (string_bytes y) w ≡ true) (λ y. is_below (string_bytes y) w ≡ false) ys low) (c.deref.ensures.value ∙ sym c.deref-2.ensures.value) below in
     let parted = subst (IsPartitionedBy (λ (y : String Global). not (is_below w (string_bytes y)))) (sym c.split_at.ensures.back) (upto_parted string_bytes xs up w low) in
@@ -30,4 +33,4 @@ returns-clause-names c =
     )
 
 pub returns-clause-order : goal.returns-clause-order
-returns-clause-order c = rw (← c.self.view_is) (ascends string_bytes _ c.self.invariant)
+returns-clause-order c = rw (← c.self.view_is) (ascends string_bytes _ (sorted_from_rising (λ (n : String Global). string_bytes n) (slice_cmp nat_cmp) nat_list_cmp_total _ c.self.invariant))
