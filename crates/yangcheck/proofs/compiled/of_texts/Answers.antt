@@ -1,7 +1,7 @@
 use Rattle.std.proofs.Common.{◌≡◌, map, subst, List}
 use Rattle.std.specs.List.{AllZip}
 use Rattle.yv_selection.specs.Choice.{choice_of}
-use Rattle.yangcheck.specs.Compiles.{FilesCompile, HavePattern, IsRead, RefusedAt, refused}
+use Rattle.yangcheck.specs.Compiles.{FilesCompile, IsRead, RefusedAt, refused}
 use Rattle.yangcheck.specs.Files.{File, file_of}
 use Rattle.yangcheck.proofs.Compiling.{all_read, err_again, gives_schema, no_text, none_spelled}
 use Rattle.yangcheck.proofs.compiled.of_texts.Goals as goal
