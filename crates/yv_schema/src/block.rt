@@ -43,7 +43,8 @@ impl<'a, 'b> Builder<'_, 'a, 'b> {
         nodes: &mut Nodes,
     ) -> Result<(), Stop>
         ensures added { OnOk result (Adds
-            (block_trees (truth_of self.now.context.now) (kinds_of self.now.context.now) self.now.file (rc_str_bytes self.now.home.now) is_top statements.now)
+            (block_trees (truth_of self.now.context.now) (kinds_of self.now.context.now) self.now.file (rc_str_bytes self.now.home.now)
+            is_top statements.now)
             nodes.old nodes.new children.old.items children.new.items) }
         ensures memory { IfErr result (λ stop. stop ≡ NoMemory) }
     {
@@ -63,8 +64,8 @@ impl<'a, 'b> Builder<'_, 'a, 'b> {
         nodes: &mut Nodes,
     ) -> Result<(), Stop>
         ensures added { OnOk result (Adds
-            (statement_trees (truth_of self.now.context.now) (kinds_of self.now.context.now) self.now.file (rc_str_bytes self.now.home.now) is_top
-            statement.now)
+            (statement_trees (truth_of self.now.context.now) (kinds_of self.now.context.now) self.now.file (rc_str_bytes self.now.home.now)
+            is_top statement.now)
             nodes.old nodes.new children.old.items children.new.items) }
         ensures memory { IfErr result (λ stop. stop ≡ NoMemory) }
     {
@@ -130,7 +131,8 @@ impl<'a, 'b> Builder<'_, 'a, 'b> {
     // The types that a statement stands for, where it is a `type` statement.
     fn type_of(&self, statement: &Statement<'_>) -> Result<Option<RcSlice<PlainType>>, AllocError>
         ensures { IfOk result (λ found. (others : List Plain)
-            → types_at (kinds_of self.now.context.now) self.now.file (keyword_of statement.now.head.keyword) statement.now.head others
+            → types_at (kinds_of self.now.context.now) self.now.file (keyword_of statement.now.head.keyword) statement.now.head
+            others
             ≡ unwrap_or (option_map (λ types. map plain_of (rc_slice_items types)) found) others) }
     {
         match Keyword::read(statement.keyword()) {

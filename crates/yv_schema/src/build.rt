@@ -35,9 +35,11 @@ pub(crate) fn build<'a, 'b>(
     ensures schema { IfOk result (λ s. whole s
         ≡ schema_of (truth_of context.now) (kinds_of context.now) (choice_of selection.now) (lent_in rows.now)) }
     ensures clear { OnOk result
-        (IsLeast (Doubled (schema_of (truth_of context.now) (kinds_of context.now) (choice_of selection.now) (lent_in rows.now))) None) }
+        (IsLeast (Doubled (schema_of (truth_of context.now) (kinds_of context.now) (choice_of selection.now) (lent_in rows.now)))
+        None) }
     ensures refusal { (r : Refusal) → result ≡ Err (Fault r)
-        → IsLeast (Doubled (schema_of (truth_of context.now) (kinds_of context.now) (choice_of selection.now) (lent_in rows.now))) (Some r) }
+        → IsLeast (Doubled (schema_of (truth_of context.now) (kinds_of context.now) (choice_of selection.now) (lent_in rows.now)))
+        (Some r) }
     ensures built { result ≢ Err PatternBuild }
 {
     let parts = Parts::read(alloc, rows)?;

@@ -63,7 +63,8 @@ impl<'a, 'b> Parts<'a, 'b> {
             (all_nodes (groups_from (truth_of context.now) (kinds_of context.now) (choice_of selection.now) (roots_in self.now) 0
             (roots_in self.now)))) }
         ensures tops { IfOk result (λ tops. map top_of tops.items ≡ tops_from (length nodes.old)
-            (groups_from (truth_of context.now) (kinds_of context.now) (choice_of selection.now) (roots_in self.now) 0 (roots_in self.now))) }
+            (groups_from (truth_of context.now) (kinds_of context.now) (choice_of selection.now) (roots_in self.now) 0
+            (roots_in self.now))) }
         ensures memory { IfErr result (λ stop. stop ≡ NoMemory) }
     {
         let mut tops = Vec::new(alloc);
@@ -87,7 +88,8 @@ impl<'a, 'b> Parts<'a, 'b> {
     ) -> Result<ModuleTop, Stop>
         requires { number < 4294967296 }
         ensures name { IfOk result (λ top. rc_str_bytes top.name ≡ tree_name root.now) }
-        ensures added { IfOk result (λ top. Adds (module_nodes (truth_of context.now) (kinds_of context.now) (roots_in self.now) number root.now)
+        ensures added { IfOk result (λ top. Adds
+            (module_nodes (truth_of context.now) (kinds_of context.now) (roots_in self.now) number root.now)
             nodes.old nodes.new [] top.numbers.items) }
         ensures memory { IfErr result (λ stop. stop ≡ NoMemory) }
     {
@@ -116,8 +118,8 @@ impl<'a, 'b> Parts<'a, 'b> {
         nodes: &mut Nodes,
     ) -> Result<(), Stop>
         ensures added { OnOk result (Adds
-            (parts_from (truth_of own.entry.context.now) (kinds_of own.entry.context.now) (map brief_of (roots_in self.now)) number
-            (rc_str_bytes own.entry.home.now) 0 (roots_in self.now))
+            (parts_from (truth_of own.entry.context.now) (kinds_of own.entry.context.now) (map brief_of (roots_in self.now))
+            number (rc_str_bytes own.entry.home.now) 0 (roots_in self.now))
             nodes.old nodes.new numbers.old.items numbers.new.items) }
         ensures memory { IfErr result (λ stop. stop ≡ NoMemory) }
     {

@@ -46,7 +46,7 @@ pub struct Node {
     pub(crate) name: String,
     /// Whether a JSON member of the node has the module's name in front.
     pub(crate) is_qualified: bool,
-    /// Shared with all nodes whose types are the same type's.
+    /// A list that nodes may share.
     pub(crate) types: RcSlice<PlainType>,
     pub(crate) children: Vec<NodeId>,
 }
