@@ -12,6 +12,7 @@ use Rattle.yv_selection.specs.Choice.{Choice}
 use Rattle.yv_schema.specs.Rows.{Rows, whole}
 use Rattle.yv_schema.specs.Module.{schema_of}
 use Rattle.yv_schema.specs.Refuses.{Refuses}
+use Rattle.yv_schema.specs.Kinds.{AreKinds, Kinds}
 use Rattle.yv_schema.specs.Truth.{Truth, IsTruth}
 use Rattle.yangcheck.specs.Compiles.{Built, RefusedAt, FilesCompile, IsRead, IsUnread, in_file, unread, built}
 use Rattle.yangcheck.specs.Files.{File}
@@ -112,10 +113,10 @@ all_read files ss ts whole each spelled =
 
 -- files of which nothing is refused give their schema tree
 pub gives_schema : (choice : Choice) (files : List File) (ts : List Tree) (answer : Result Rows Stop) → AllZip IsRead files ts
-    → IfOk answer (λ s. (truth : Truth) × IsTruth ts choice truth × (whole s ≡ schema_of truth choice ts)) → OnOk answer (IsLeast (Refuses choice ts) None)
+    → IfOk answer (λ s. (truth : Truth) × (kinds : Kinds) × IsTruth ts choice truth × AreKinds ts choice truth kinds × (whole s ≡ schema_of truth kinds choice ts)) → OnOk answer (IsLeast (Refuses choice ts) None)
     → IfOk answer (λ s. FilesCompile choice files (Built (whole s)))
 gives_schema choice files ts (Ok s) read is clear =
-    subst (λ tree. FilesCompile choice files (Built tree)) (sym is.2) (built ts is.0 read clear is.1)
+    subst (λ tree. FilesCompile choice files (Built tree)) (sym is.4) (built ts is.0 is.1 read clear is.2 is.3)
 gives_schema choice files ts (Err e) read is clear = tt
 
 -- what a view shows at a place

@@ -8,6 +8,7 @@ use Rattle.yv_statement.specs.declared.refusal.Refusal.{Refusal}
 use Rattle.yv_source.specs.Answer.{IsBadFile, IsSpelled, IsRefused}
 use Rattle.yv_source.specs.Legal.{IsLegalFile}
 use Rattle.yv_selection.specs.Choice.{Choice}
+use Rattle.yv_schema.specs.Kinds.{AreKinds, Kinds}
 use Rattle.yv_schema.specs.Truth.{Truth, IsTruth}
 use Rattle.yv_schema.specs.Module.{schema_of}
 use Rattle.yv_schema.specs.Refuses.{Refuses}
@@ -23,8 +24,8 @@ pub record Once : Type 0 where
   pub spelled : (text : List ℕ) (t u : Tree) → IsSpelled text t → IsSpelled text u → t ≡ u
   pub refused : (text : List ℕ) (r s : Refusal) → IsRefused text r → IsRefused text s → r ≡ s
   pub apart : (text : List ℕ) (t : Tree) (r : Refusal) → IsSpelled text t → IsRefused text r → ⊥
-  pub schema : (choice : Choice) (files : List Tree) (t u : Truth) → IsLeast (Refuses choice files) None → IsTruth files choice t → IsTruth files choice u
-      → schema_of t choice files ≡ schema_of u choice files
+  pub schema : (choice : Choice) (files : List Tree) (t u : Truth) (kinds others : Kinds) → IsLeast (Refuses choice files) None → IsTruth files choice t → IsTruth files choice u
+      → AreKinds files choice t kinds → AreKinds files choice u others → schema_of t kinds choice files ≡ schema_of u others choice files
   pub order : (r s : Refusal) → IsUpTo r s → IsUpTo s r → r ≡ s
 
 one_least : Once → (choice : Choice) (ts : List Tree) (r s : Refusal) → IsLeast (Refuses choice ts) (Some r) → IsLeast (Refuses choice ts) (Some s) → r ≡ s
@@ -85,18 +86,19 @@ one_place once files ts us n m f g r s p at a q at' b =
 files_once : Once → (choice : Choice) (files : List File) (c d : Compiled) → FilesCompile choice files c → FilesCompile choice files d → c ≡ d
 files_once once choice files _ _ (unread {r} n f ts p at a) (unread {r = s} m g us q at' b) = ap RefusedAt (one_place once files ts us n m f g r s p at a q at' b)
 files_once once choice files _ _ (unread {r} n f ts p at a) (refused us q b) = absurd (not_read once files us n f r q at a)
-files_once once choice files _ _ (unread {r} n f ts p at a) (built us truth q b is) = absurd (not_read once files us n f r q at a)
+files_once once choice files _ _ (unread {r} n f ts p at a) (built us truth kinds q b is are) = absurd (not_read once files us n f r q at a)
 files_once once choice files _ _ (refused ts p a) (unread {r = s} m g us q at' b) = absurd (not_read once files ts m g s p at' b)
 files_once once choice files _ _ (refused {r} ts p a) (refused {r = s} us q b) =
     ap RefusedAt (one_least once choice us r s (subst (λ xs. IsLeast (Refuses choice xs) (Some r)) (one_list once files ts us p q) a) b)
-files_once once choice files _ _ (refused {r} ts p a) (built us truth q b is) =
+files_once once choice files _ _ (refused {r} ts p a) (built us truth kinds q b is are) =
     absurd (b r (subst (λ xs. Refuses choice xs r) (one_list once files ts us p q) a.0))
-files_once once choice files _ _ (built ts truth p a is) (unread {r = s} m g us q at' b) = absurd (not_read once files ts m g s p at' b)
-files_once once choice files _ _ (built ts truth p a is) (refused {r = s} us q b) =
+files_once once choice files _ _ (built ts truth kinds p a is are) (unread {r = s} m g us q at' b) = absurd (not_read once files ts m g s p at' b)
+files_once once choice files _ _ (built ts truth kinds p a is are) (refused {r = s} us q b) =
     absurd (a s (subst (λ xs. Refuses choice xs s) (sym (one_list once files ts us p q)) b.0))
-files_once once choice files _ _ (built ts t p a is) (built us u q b is') =
+files_once once choice files _ _ (built ts t kinds p a is are) (built us u others q b is' are') =
     let one : ts ≡ us = one_list once files ts us p q in
-    ap (λ xs. Built (schema_of t choice xs)) one ∙ ap Built (once.schema choice us t u b (subst (λ xs. IsTruth xs choice t) one is) is')
+    ap (λ xs. Built (schema_of t kinds choice xs)) one
+    ∙ ap Built (once.schema choice us t u kinds others b (subst (λ xs. IsTruth xs choice t) one is) is' (subst (λ xs. AreKinds xs choice t kinds) one are) are')
 
 pub one_output : Once → (choice : Choice) (files : List File) (given : List ℕ) (p q : Printed) → IsOutput choice files given p → IsOutput choice files given q → p ≡ q
 one_output once choice files given p q a b =

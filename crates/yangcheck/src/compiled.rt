@@ -1,10 +1,10 @@
 //! The schema of files, through the layers below.
-ghost use Rattle.std.specs.Prelude.{◌≡◌, ◌≢◌, ◌≤◌, length, map, IfOk, Err};
+ghost use Rattle.std.specs.Prelude.{◌≡◌, ◌≤◌, length, map, IfOk, Err};
 ghost use Rattle.yv_statement.specs.declared.refusal.Refusal.{Refusal};
 ghost use Rattle.yv_statement.specs.declared.refusal.Stop.TheVariants.{Fault, PatternBuild};
 ghost use Rattle.yv_selection.specs.Choice.{choice_of};
 ghost use Rattle.yv_schema.specs.Rows.{whole};
-ghost use Rattle.yangcheck.specs.Compiles.{FilesCompile, RefusedAt, Built};
+ghost use Rattle.yangcheck.specs.Compiles.{FilesCompile, RefusedAt, Built, HavePattern};
 ghost use Rattle.yangcheck.specs.Files.{file_of};
 ghost use Rattle.yangcheck.specs.InnerParsed.{AreTexts};
 
@@ -15,12 +15,13 @@ use yv_schema::{Schema, compile};
 use yv_selection::Selection;
 use yv_statement::Stop;
 
-/// The schema of these files, or what is refused first.
+/// The schema of these files, or what is refused first. `PatternBuild` says that the library of regular expressions
+/// doesn't build a pattern of theirs.
 pub fn compiled(alloc: Global, inputs: &[Input], selection: &Selection) -> Result<Schema, Stop>
     requires { length inputs.now ≤ 256 }
     ensures schema { IfOk result (λ s. FilesCompile (choice_of selection.now) (map file_of inputs.now) (Built (whole s))) }
     ensures refused { (r : Refusal) → result ≡ Err (Fault r) → FilesCompile (choice_of selection.now) (map file_of inputs.now) (RefusedAt r) }
-    ensures never_built { result ≢ Err PatternBuild }
+    ensures built { result ≡ Err PatternBuild → HavePattern (map file_of inputs.now) }
 {
     let texts = read_texts(alloc, inputs)?;
     of_texts(alloc, inputs, &texts, selection)
@@ -37,7 +38,7 @@ fn of_texts(
     requires texts { AreTexts (map file_of inputs.now) texts.now }
     ensures schema { IfOk result (λ s. FilesCompile (choice_of selection.now) (map file_of inputs.now) (Built (whole s))) }
     ensures refused { (r : Refusal) → result ≡ Err (Fault r) → FilesCompile (choice_of selection.now) (map file_of inputs.now) (RefusedAt r) }
-    ensures never_built { result ≢ Err PatternBuild }
+    ensures built { result ≡ Err PatternBuild → HavePattern (map file_of inputs.now) }
 {
     match parse_all(alloc, &texts.sources) {
         Ok(statements) => match texts.bad {

@@ -1,11 +1,11 @@
 //! A run over files that were read: what it writes, and how it ends.
-ghost use Rattle.std.specs.Prelude.{◌≡◌, ◌≢◌, ◌≤◌, ◌↔◌, ◌⊎◌, true, map, length, IfOk, IsErrOf};
+ghost use Rattle.std.specs.Prelude.{◌≡◌, ◌≤◌, ◌↔◌, ◌⊎◌, true, map, length, IfOk, IsErrOf};
 ghost use Rattle.yv_job.specs.Jobs.{HasFiles, HasLimit, ChecksADocument};
 ghost use Rattle.yv_selection.specs.Choice.{choice_of};
 ghost use Rattle.yv_schema.specs.Rows.{whole};
 ghost use Rattle.yangcheck.specs.Stream.{stream_inner, has_failed, IsFresh};
 ghost use Rattle.yangcheck.specs.Files.{file_of};
-ghost use Rattle.yangcheck.specs.Compiles.{GiveSchema};
+ghost use Rattle.yangcheck.specs.Compiles.{GiveSchema, HavePattern};
 ghost use Rattle.yangcheck.specs.InnerRun.{AppendsAll, AppendsFront, SaysOf};
 ghost use Rattle.yangcheck.specs.Output.{PrintsFor, WritesAll, WritesFront, IsFinished, IsStopped, printed_of};
 
@@ -50,7 +50,7 @@ const DATA_BYTES: usize = 16_777_217;
 
 /// Compiles the files of a job, reads the document where none is refused, and writes the outcome: the
 /// refusal's line, or what is wrong with the document, or that it is valid. After `WriteFault` the writer
-/// holds the front of that text; after `NoMemory` and `ReadFault` nothing was written.
+/// holds the front of that text; after `NoMemory`, `PatternBuild` and `ReadFault` nothing was written.
 pub fn run<R: Read, W: Write>(
     alloc: Global,
     job: &Job,
@@ -72,7 +72,7 @@ pub fn run<R: Read, W: Write>(
     ensures unread { GiveSchema (choice_of job.now.selection) (map file_of inputs.now) ⊎ (reader.new ≡ reader.old) }
     ensures read_fault { result ≡ Status.ReadFault ↔ (has_failed reader.new ≡ true) }
     ensures write_fault { result ≡ Status.WriteFault ↔ (has_failed writer.new ≡ true) }
-    ensures never_built { result ≢ Status.PatternBuild }
+    ensures built { result ≡ Status.PatternBuild → HavePattern (map file_of inputs.now) }
 {
     let Command::Validate(_) = &job.command else {
         unreachable!()
@@ -112,7 +112,7 @@ fn outcome<R: Read>(
     ensures printed { IfOk result (λ o. PrintsFor (R.remaining (stream_inner reader.old)) (choice_of selection.now) (map file_of inputs.now) (printed_of o)) }
     ensures unread { GiveSchema (choice_of selection.now) (map file_of inputs.now) ⊎ (reader.new ≡ reader.old) }
     ensures fault { IsErrOf result Halt.Read ↔ (has_failed reader.new ≡ true) }
-    ensures never_built { IsErrOf result Halt.PatternBuild → ⊥ }
+    ensures built { IsErrOf result Halt.PatternBuild → HavePattern (map file_of inputs.now) }
 {
     match compiled(alloc, inputs, selection) {
         Ok(schema) => validated(alloc, &schema, reader),

@@ -6,6 +6,7 @@ use Rattle.yv_schema.specs.declared.node.NodeId.{NodeId}
 use Rattle.yv_schema.specs.Tree.{Forest, Label, node, no_trees, tree}
 use Rattle.yv_schema.specs.Rows.{Row, blank_row}
 use Rattle.yv_schema.specs.InnerNumbers.{count, numbers_from, rows_from}
+use Rattle.yv_schema.specs.Kinds.{Kinds}
 use Rattle.yv_schema.specs.Truth.{Truth, is_on}
 use Rattle.yv_schema.specs.InnerBuild.{Adds, above_of, statement_trees}
 use Rattle.yv_schema.specs.Module.{label_of, nodes_of, types_in}
@@ -117,21 +118,21 @@ module _ (old : List Row) (before after : List NodeId) (n : NodeId) (l : Label) 
       adds_node trees kids new gives set_row
 
 -- what a container's and a leaf's statement give, and one that isn't there or gives none
-pub gives_container : (truth : Truth) (file : ℕ) (home : List ℕ) (is_top : Bool) (s : statement.Tree) → is_on truth file s.children ≡ true → keyword_of s.head.keyword ≡ word.Container
-    → (others : Forest) → statement_trees truth file home is_top s others
-    ≡ tree (node (label_of Container file home (above_of is_top home) s.head []) (nodes_of truth file home home s.children no_trees)) others
-gives_container truth file home is_top s on e others = rw (on, e) refl
+pub gives_container : (truth : Truth) (kinds : Kinds) (file : ℕ) (home : List ℕ) (is_top : Bool) (s : statement.Tree) → is_on truth file s.children ≡ true → keyword_of s.head.keyword ≡ word.Container
+    → (others : Forest) → statement_trees truth kinds file home is_top s others
+    ≡ tree (node (label_of Container file home (above_of is_top home) s.head []) (nodes_of truth kinds file home home s.children no_trees)) others
+gives_container truth kinds file home is_top s on e others = rw (on, e) refl
 
-pub gives_leaf : (truth : Truth) (file : ℕ) (home : List ℕ) (is_top : Bool) (s : statement.Tree) → is_on truth file s.children ≡ true → keyword_of s.head.keyword ≡ word.Leaf
-    → (others : Forest) → statement_trees truth file home is_top s others ≡ tree (node (label_of Leaf file home (above_of is_top home) s.head (types_in s.children)) no_trees) others
-gives_leaf truth file home is_top s on e others = rw (on, e) refl
+pub gives_leaf : (truth : Truth) (kinds : Kinds) (file : ℕ) (home : List ℕ) (is_top : Bool) (s : statement.Tree) → is_on truth file s.children ≡ true → keyword_of s.head.keyword ≡ word.Leaf
+    → (others : Forest) → statement_trees truth kinds file home is_top s others ≡ tree (node (label_of Leaf file home (above_of is_top home) s.head (types_in kinds file s.children)) no_trees) others
+gives_leaf truth kinds file home is_top s on e others = rw (on, e) refl
 
-pub adds_off : (truth : Truth) (file : ℕ) (home : List ℕ) (is_top : Bool) (s : statement.Tree) (old : List Row) (before : List NodeId) → is_on truth file s.children ≡ false
-    → Adds (statement_trees truth file home is_top s) old old before before
-adds_off truth file home is_top s old before off = record {
+pub adds_off : (truth : Truth) (kinds : Kinds) (file : ℕ) (home : List ℕ) (is_top : Bool) (s : statement.Tree) (old : List Row) (before : List NodeId) → is_on truth file s.children ≡ false
+    → Adds (statement_trees truth kinds file home is_top s) old old before before
+adds_off truth kinds file home is_top s old before off = record {
   rows = λ others. ap (λ (ts : Forest). old ++ rows_from (length old) ts) (sym (none others));
   numbers = λ others. ap (λ (ts : Forest). before ++ numbers_from (length old) ts) (sym (none others));
 }
   where
-    none : (others : Forest) → statement_trees truth file home is_top s others ≡ others
+    none : (others : Forest) → statement_trees truth kinds file home is_top s others ≡ others
     none others = rw off refl

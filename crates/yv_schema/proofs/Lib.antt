@@ -14,3 +14,5 @@ pub mod Doubling
 pub mod Kept
 pub mod Phases
 pub mod Truths
+pub mod TypeKinds
+pub mod TypePhases

@@ -27,15 +27,20 @@ use Rattle.yv_features.specs.Faults.{BadFour}
 use Rattle.yv_features.specs.On.{Holds}
 use Rattle.yv_link.specs.Links.{BadLinks}
 use Rattle.yv_link.proofs.Phases.{ahead, behind}
+use Rattle.yv_names.specs.Faults.{BadSix}
+use Rattle.yv_types.specs.Faults.{BadTypes}
+use Rattle.yv_schema.specs.Kinds.{AreKinds, Kinds}
 use Rattle.yv_schema.specs.Truth.{IsTruth, Truth}
-use Rattle.yv_schema.specs.Tree.{Label, labels}
+use Rattle.yv_schema.specs.Tree.{Forest, Label, labels}
 use Rattle.yv_schema.specs.Module.{is_given, schema_of}
-use Rattle.yv_schema.specs.Refuses.{BadFile, BadSchema, Doubled, Refuses, Repeated}
+use Rattle.yv_schema.specs.Refuses.{BadFile, BadSchema, BadTyping, Doubled, Refuses, RefusesBeforeTypes, Repeated}
 use Rattle.yv_schema.specs.InnerBuild.{AreNames, HasNoColon}
 use Rattle.yv_schema.proofs.Colons.{is_58}
 use Rattle.yv_schema.proofs.Keeping.{map_get}
 use Rattle.yv_schema.proofs.Told.{is_own}
 use Rattle.yv_schema.proofs.Truths.{same_truth}
+use Rattle.yv_schema.proofs.TypeKinds.{HasOneSpace, one_kinds}
+use Rattle.yv_schema.proofs.TypePhases.{names_phase, types_phase}
 
 and_first : (a b : Bool) → (a && b) ≡ true → a ≡ true
 and_first true b h = refl
@@ -138,7 +143,7 @@ repeated_phase ls f h = ap (λ (r : Refusal). phase_of r.code) h.4.1
 
 schema_phase : (choice : Choice) (files : Files) (f : Refusal) → BadSchema choice files f → phase_of f.code ≡ 10
 schema_phase choice files f h = elim h.doubled [
-  | inl x ↦ repeated_phase (labels (schema_of h.truth choice files)) f x
+  | inl x ↦ repeated_phase (labels (schema_of h.truth h.kinds choice files)) f x
   | inr x ↦ repeated_phase x.2 f x.4
 ]
 
@@ -152,40 +157,94 @@ abbrev pub HasOneTruth : Type 0
 HasOneTruth = (files : Files) (choice : Choice) (file : ℕ) (text : List ℕ) (a b : Bool) → IsLeast (BadFour files) None
     → Holds files choice file text a → Holds files choice file text b → a ≡ b
 
-module _ (choice : Choice) (files : Files) (phases : HaveLinksPhases) where
+-- nothing is wrong with files as such, nor with their links, nor with their names, where nothing is before types
+pub files_clear : (files : Files) → IsLeast (RefusesBeforeTypes files) None → IsLeast (Among files BadFile (length files)) None
+files_clear files h = λ f x. h f (inl x)
+
+pub links_clear : (files : Files) → IsLeast (RefusesBeforeTypes files) None → IsLeast (BadLinks files) None
+links_clear files h = λ f x. h f (inr (inl x))
+
+module _ (files : Files) (phases : HaveLinksPhases) where
   abbrev Own : Refusal → Type 0
   Own f = Among files BadFile (length files) f
 
   own_phase : (f : Refusal) → Own f → phase_of f.code ≤ 2
   own_phase f h = let e : phase_of f.code ≡ 2 = file_phase h.0 h.2 f h.4 in omega (arith, e)
 
-  later_phase : (f : Refusal) → BadLinks files f ⊎ BadSchema choice files f → 2 < phase_of f.code
+  later_phase : (f : Refusal) → BadLinks files f ⊎ BadSix files f → 2 < phase_of f.code
   later_phase f (inl h) = let e : 3 ≤ phase_of f.code = phases.first files f h in omega (arith, e)
-  later_phase f (inr h) = let e : phase_of f.code ≡ 10 = schema_phase choice files f h in omega (arith, e)
+  later_phase f (inr h) = let e : phase_of f.code ≡ 6 = names_phase files f h in omega (arith, e)
 
-  last_phase : (f : Refusal) → BadSchema choice files f → 5 < phase_of f.code
-  last_phase f h = let e : phase_of f.code ≡ 10 = schema_phase choice files f h in omega (arith, e)
+  last_phase : (f : Refusal) → BadSix files f → 5 < phase_of f.code
+  last_phase f h = let e : phase_of f.code ≡ 6 = names_phase files f h in omega (arith, e)
 
-  -- the least of the files as such is the least of all
-  pub least_first : (r : Refusal) → IsLeast (Among files BadFile (length files)) (Some r) → IsLeast (Refuses choice files) (Some r)
-  least_first r p = ahead Own (λ f. BadLinks files f ⊎ BadSchema choice files f) 2 r own_phase later_phase p
+  -- the least of the files as such is the least before types
+  pub least_own : (r : Refusal) → IsLeast (Among files BadFile (length files)) (Some r) → IsLeast (RefusesBeforeTypes files) (Some r)
+  least_own r p = ahead Own (λ f. BadLinks files f ⊎ BadSix files f) 2 r own_phase later_phase p
 
-  -- where nothing is wrong with them, the least of their links is the least of all
-  pub least_next : (r : Refusal) → IsLeast (Among files BadFile (length files)) None → IsLeast (BadLinks files) (Some r) → IsLeast (Refuses choice files) (Some r)
-  least_next r p q =
-      behind Own (λ f. BadLinks files f ⊎ BadSchema choice files f) (Some r) p
-      (ahead (BadLinks files) (BadSchema choice files) 5 r (phases.last files) last_phase q)
+  -- where nothing is wrong with them, the least of their links is
+  pub least_linked : (r : Refusal) → IsLeast (Among files BadFile (length files)) None → IsLeast (BadLinks files) (Some r) → IsLeast (RefusesBeforeTypes files) (Some r)
+  least_linked r p q =
+      behind Own (λ f. BadLinks files f ⊎ BadSix files f) (Some r) p
+      (ahead (BadLinks files) (BadSix files) 5 r (phases.last files) last_phase q)
 
-module _ (choice : Choice) (files : Files) (one : HasOneTruth) (linked : IsLeast (BadLinks files) None) where
+-- where nothing is wrong with those either, the least of their names is
+pub least_named : (files : Files) (o : Option Refusal) → IsLeast (Among files BadFile (length files)) None → IsLeast (BadLinks files) None → IsLeast (BadSix files) o
+    → IsLeast (RefusesBeforeTypes files) o
+least_named files o p q r =
+    behind (Among files BadFile (length files)) (λ f. BadLinks files f ⊎ BadSix files f) o p (behind (BadLinks files) (BadSix files) o q r)
+
+module _ (choice : Choice) (files : Files) (phases : HaveLinksPhases) where
+  before_phase : (f : Refusal) → RefusesBeforeTypes files f → phase_of f.code ≤ 6
+  before_phase f (inl h) = let e : phase_of f.code ≡ 2 = file_phase h.0 h.2 f h.4 in omega (arith, e)
+  before_phase f (inr (inl h)) = let e : phase_of f.code ≤ 5 = phases.last files f h in omega (arith, e)
+  before_phase f (inr (inr h)) = let e : phase_of f.code ≡ 6 = names_phase files f h in omega (arith, e)
+
+  typing_phase : (f : Refusal) → BadTyping choice files f → phase_of f.code ≡ 9
+  typing_phase f h = types_phase files h.truth f h.bad
+
+  behind_phase : (f : Refusal) → BadTyping choice files f ⊎ BadSchema choice files f → 6 < phase_of f.code
+  behind_phase f (inl h) = let e : phase_of f.code ≡ 9 = typing_phase f h in omega (arith, e)
+  behind_phase f (inr h) = let e : phase_of f.code ≡ 10 = schema_phase choice files f h in omega (arith, e)
+
+  -- the least before types is the least of all
+  pub least_first : (r : Refusal) → IsLeast (RefusesBeforeTypes files) (Some r) → IsLeast (Refuses choice files) (Some r)
+  least_first r p = ahead (RefusesBeforeTypes files) (λ f. BadTyping choice files f ⊎ BadSchema choice files f) 6 r before_phase behind_phase p
+
+module _ (choice : Choice) (files : Files) (one : HasOneTruth) (before : IsLeast (RefusesBeforeTypes files) None) where
   pub one_truth : (a b : Truth) → IsTruth files choice a → IsTruth files choice b → a ≡ b
-  one_truth a b p q = same_truth a b (λ n text. one files choice n text (a n text) (b n text) (λ f h. linked f (inr (inl h))) (p n text) (q n text))
+  one_truth a b p q = same_truth a b (λ n text. one files choice n text (a n text) (b n text) (λ f h. links_clear files before f (inr (inl h))) (p n text) (q n text))
+
+  -- what is wrong with types by one truth is all that is wrong with them
+  typed : (truth : Truth) (o : Option Refusal) → IsTruth files choice truth → IsLeast (BadTypes files truth) o → IsLeast (BadTyping choice files) o
+  typed truth o is r =
+      least_same (BadTypes files truth) (BadTyping choice files) o
+      (λ f h. record { truth = truth; is_truth = is; bad = h })
+      (λ f h. subst (λ (t : Truth). BadTypes files t f) (one_truth h.truth truth h.is_truth is) h.bad) r
+
+  -- where nothing is refused before types, the least of these is the least of all
+  pub least_typed : (truth : Truth) (r : Refusal) → IsTruth files choice truth → IsLeast (BadTypes files truth) (Some r) → IsLeast (Refuses choice files) (Some r)
+  least_typed truth r is p =
+      behind (RefusesBeforeTypes files) (λ f. BadTyping choice files f ⊎ BadSchema choice files f) (Some r) before
+      (ahead (BadTyping choice files) (BadSchema choice files) 9 r
+      (λ f h. let e : phase_of f.code ≡ 9 = types_phase files h.truth f h.bad in omega (arith, e))
+      (λ f h. let e : phase_of f.code ≡ 10 = schema_phase choice files f h in omega (arith, e)) (typed truth (Some r) is p))
+
+  -- files that give one schema tree: whichever truth and types these are
+  pub one_schema : HasOneSpace → (t u : Truth) (a b : Kinds) → IsTruth files choice t → IsTruth files choice u → AreKinds files choice t a → AreKinds files choice u b
+      → schema_of t a choice files ≡ schema_of u b choice files
+  one_schema space t u a b p q are are' =
+      let same : t ≡ u = one_truth t u p q in
+      let kinds : AreKinds files choice u a = subst (λ (x : Truth). AreKinds files choice x a) same are in
+      ap (λ (x : Truth). schema_of x a choice files) same ∙ ap (λ (x : Kinds). schema_of u x choice files) (one_kinds files choice u space a b kinds are')
 
   -- where all this refuses nothing, the least of the schema tree is the least of all
-  pub least_last : (truth : Truth) (o : Option Refusal) → IsTruth files choice truth → IsLeast (Among files BadFile (length files)) None
-      → IsLeast (Doubled (schema_of truth choice files)) o → IsLeast (Refuses choice files) o
-  least_last truth o is p r =
+  pub least_last : HasOneSpace → (truth : Truth) (kinds : Kinds) (o : Option Refusal) → IsTruth files choice truth → AreKinds files choice truth kinds → IsLeast (BadTypes files truth) None
+      → IsLeast (Doubled (schema_of truth kinds choice files)) o → IsLeast (Refuses choice files) o
+  least_last space truth kinds o is are p r =
       let schema : IsLeast (BadSchema choice files) o =
-      least_same (Doubled (schema_of truth choice files)) (BadSchema choice files) o
-      (λ f h. record { truth = truth; is_truth = is; doubled = h })
-      (λ f h. subst (λ (t : Truth). Doubled (schema_of t choice files) f) (one_truth h.truth truth h.is_truth is) h.doubled) r in
-      behind (Among files BadFile (length files)) (λ f. BadLinks files f ⊎ BadSchema choice files f) o p (behind (BadLinks files) (BadSchema choice files) o linked schema)
+      least_same (Doubled (schema_of truth kinds choice files)) (BadSchema choice files) o
+      (λ f h. record { truth = truth; kinds = kinds; is_truth = is; are_kinds = are; doubled = h })
+      (λ f h. subst (λ (ts : Forest). Doubled ts f) (one_schema space h.truth truth h.kinds kinds h.is_truth is h.are_kinds are) h.doubled) r in
+      behind (RefusesBeforeTypes files) (λ f. BadTyping choice files f ⊎ BadSchema choice files f) o before
+      (behind (BadTyping choice files) (BadSchema choice files) o (typed truth None is p) schema)

@@ -1,11 +1,11 @@
 pub mod Truth
 pub mod Tree
-pub mod Plain
+pub mod Kinds
 pub mod Module
 pub mod Refuses
 pub mod Rows
 pub mod InnerMember
-pub mod InnerConditions
+pub mod InnerContext
 pub mod InnerNumbers
 pub mod InnerBuild
 pub mod InnerTables

@@ -1,5 +1,6 @@
 -- What the compilation of files refuses.
-use Rattle.std.specs.Prelude.{◌≡◌, ◌≢◌, ◌<◌, ◌⊎◌, ℕ, Bool, true, false, is_some, List, length, Option, Some, None, slice_get}
+use Rattle.std.specs.Prelude.{◌≡◌, ◌≢◌, ◌<◌, ◌⊎◌, ℕ, Bool, true, false, not, List, length, Option, Some, None, codes, slice_get}
+use Rattle.std.specs.Str.{bytes_eq}
 use Rattle.yv_statement.specs.Tree.{Tree, trees}
 use Rattle.yv_statement.specs.declared.refusal.Refusal.{Refusal}
 use Rattle.yv_statement.specs.declared.refusal.Code.TheVariants as code
@@ -11,10 +12,12 @@ use Rattle.yv_conform.specs.Faults.{Bad}
 use Rattle.yv_selection.specs.Choice.{Choice}
 use Rattle.yv_rows.specs.Files.{Files}
 use Rattle.yv_link.specs.Links.{BadLinks}
+use Rattle.yv_names.specs.Faults.{BadSix}
+use Rattle.yv_types.specs.Faults.{BadTypes}
 use Rattle.yv_schema.specs.Truth.{IsTruth, Truth}
+use Rattle.yv_schema.specs.Kinds.{AreKinds, Kinds}
 use Rattle.yv_schema.specs.Tree.{Forest, Label, families, labels}
 use Rattle.yv_schema.specs.Module.{schema_of}
-use Rattle.yv_schema.specs.Plain.{plain_type}
 
 -- the statements that are taken so far; one of no keyword of the language is refused as such, and not here
 abbrev pub is_taken : Keyword → Option (List ℕ) → Bool
@@ -42,8 +45,21 @@ is_taken word.Argument argument = true
 is_taken word.YinElement argument = true
 is_taken word.Container argument = true
 is_taken word.Leaf argument = true
+is_taken word.Typedef argument = true
+is_taken word.Units argument = true
 is_taken word.Type None = false
-is_taken word.Type (Some name) = is_some (plain_type name)
+is_taken word.Type (Some name) = not (bytes_eq name (codes "leafref"))
+is_taken word.Range argument = true
+is_taken word.Length argument = true
+is_taken word.Pattern argument = true
+is_taken word.Modifier argument = true
+is_taken word.ErrorMessage argument = true
+is_taken word.ErrorAppTag argument = true
+is_taken word.Enum argument = true
+is_taken word.Value argument = true
+is_taken word.Bit argument = true
+is_taken word.Position argument = true
+is_taken word.FractionDigits argument = true
 is_taken word.Extended argument = true
 is_taken word.Unknown argument = true
 is_taken _ argument = false
@@ -85,14 +101,26 @@ Repeated ls f = Among ls (λ k l. Stands (IsRepeated ls k l) (refusal_of l)) (le
 abbrev pub Doubled : Forest → Refusal → Type 0
 Doubled ts f = Repeated (labels ts) f ⊎ Among (families ts) (λ k. Repeated) (length (families ts)) f
 
+-- f stands at a type of the files, by the truth of their conditions
+pub record BadTyping (choice : Choice) (files : Files) (f : Refusal) : Type 0 where
+  pub truth : Truth
+  pub is_truth : IsTruth files choice truth
+  pub bad : BadTypes files truth f
+
 -- f stands in the schema tree of the files
 pub record BadSchema (choice : Choice) (files : Files) (f : Refusal) : Type 0 where
   pub truth : Truth
+  pub kinds : Kinds
   pub is_truth : IsTruth files choice truth
-  pub doubled : Doubled (schema_of truth choice files) f
+  pub are_kinds : AreKinds files choice truth kinds
+  pub doubled : Doubled (schema_of truth kinds choice files) f
 
--- the refusals of files; the least of them, by phase, file, offset and code, is answered. Every file is looked at as such
--- and by its links to others, its features and its identities, and of the implemented modules the nodes as well
+-- what is refused before types are read: every file is looked at as such, by its links to others, its features and its
+-- identities, and by the names of its definitions
+abbrev pub RefusesBeforeTypes : Files → Refusal → Type 0
+RefusesBeforeTypes files f = Among files BadFile (length files) f ⊎ (BadLinks files f ⊎ BadSix files f)
+
+-- the refusals of files; the least of them, by phase, file, offset and code, is answered. The types of every file are looked
+-- at as well, and of the implemented modules the nodes
 abbrev pub Refuses : Choice → Files → Refusal → Type 0
-Refuses choice files f =
-    Among files BadFile (length files) f ⊎ (BadLinks files f ⊎ BadSchema choice files f)
+Refuses choice files f = RefusesBeforeTypes files f ⊎ (BadTyping choice files f ⊎ BadSchema choice files f)

@@ -1,22 +1,21 @@
 //! From the statements of a block to nodes.
-ghost use Rattle.std.specs.Prelude.{◌≡◌, ◌++◌, ◌∷◌, [], length, map, IfOk, IfErr, OnOk, option_to_list};
-ghost use Rattle.std.specs.Option.{option_map};
-ghost use Rattle.std.specs.Rc.{rc_str_bytes};
+ghost use Rattle.std.specs.Prelude.{◌≡◌, ◌++◌, ◌∷◌, [], List, length, map, IfOk, IfErr, OnOk};
+ghost use Rattle.std.specs.Option.{option_map, unwrap_or};
+ghost use Rattle.std.specs.Rc.{rc_slice_items, rc_str_bytes};
 ghost use Rattle.yv_statement.specs.declared.refusal.Stop.TheVariants.{NoMemory};
 ghost use Rattle.yv_conform.specs.Names.{keyword_of};
-ghost use Rattle.yv_values.specs.Types.{plain_of};
+ghost use Rattle.yv_values.specs.Types.{Plain, plain_of};
 ghost use Rattle.yv_schema.specs.Truth.{holds, is_on};
 ghost use Rattle.yv_schema.specs.Module.{label_of, types_at, types_in};
-ghost use Rattle.yv_schema.specs.InnerConditions.{truth_of};
+ghost use Rattle.yv_schema.specs.InnerContext.{kinds_of, truth_of};
 ghost use Rattle.yv_schema.specs.InnerBuild.{Adds, above_of, block_trees, statement_trees};
 
-use crate::conditions::Conditions;
+use crate::context::{Context, no_types};
 use crate::name::name_of;
 use crate::node::{Node, NodeId, NodeKind, Place};
 use crate::nodes::Nodes;
-use crate::plain::plain_type;
 use std::alloc::{AllocError, Global};
-use std::rc::RcStr;
+use std::rc::{RcSlice, RcStr};
 use yv_conform::Keyword;
 use yv_statement::{Statement, Stop};
 use yv_values::PlainType;
@@ -25,7 +24,7 @@ use yv_values::PlainType;
 #[derive(Clone, Copy)]
 pub(crate) struct Builder<'c, 'a, 'b> {
     pub(crate) alloc: Global,
-    pub(crate) conditions: &'c Conditions<'c, 'a, 'b>,
+    pub(crate) context: &'c Context<'c, 'a, 'b>,
     /// The file's number.
     pub(crate) file: u32,
     /// The name of the module to which the file belongs.
@@ -44,7 +43,8 @@ impl<'a, 'b> Builder<'_, 'a, 'b> {
         nodes: &mut Nodes,
     ) -> Result<(), Stop>
         ensures added { OnOk result (Adds
-            (block_trees (truth_of self.now.conditions.now) self.now.file (rc_str_bytes self.now.home.now) is_top statements.now)
+            (block_trees (truth_of self.now.context.now) (kinds_of self.now.context.now) self.now.file (rc_str_bytes self.now.home.now)
+            is_top statements.now)
             nodes.old nodes.new children.old.items children.new.items) }
         ensures memory { IfErr result (λ stop. stop ≡ NoMemory) }
     {
@@ -64,8 +64,8 @@ impl<'a, 'b> Builder<'_, 'a, 'b> {
         nodes: &mut Nodes,
     ) -> Result<(), Stop>
         ensures added { OnOk result (Adds
-            (statement_trees (truth_of self.now.conditions.now) self.now.file (rc_str_bytes self.now.home.now) is_top
-            statement.now)
+            (statement_trees (truth_of self.now.context.now) (kinds_of self.now.context.now) self.now.file (rc_str_bytes self.now.home.now)
+            is_top statement.now)
             nodes.old nodes.new children.old.items children.new.items) }
         ensures memory { IfErr result (λ stop. stop ≡ NoMemory) }
     {
@@ -74,7 +74,7 @@ impl<'a, 'b> Builder<'_, 'a, 'b> {
         }
         match Keyword::read(statement.keyword()) {
             Keyword::Container => {
-                let types = Vec::new(self.alloc);
+                let types = no_types(self.alloc)?;
                 let node = self.node(NodeKind::Container, types, statement, is_top)?;
                 let number = add(node, children, nodes)?;
                 let mut below = Vec::new(self.alloc);
@@ -83,7 +83,7 @@ impl<'a, 'b> Builder<'_, 'a, 'b> {
                 Ok(())
             }
             Keyword::Leaf => {
-                let types = types_of(self.alloc, statement)?;
+                let types = self.types_of(statement)?;
                 let node = self.node(NodeKind::Leaf, types, statement, is_top)?;
                 add(node, children, nodes)?;
                 Ok(())
@@ -94,7 +94,7 @@ impl<'a, 'b> Builder<'_, 'a, 'b> {
 
     // Whether each condition of a statement holds.
     fn is_on(&self, statement: &'a Statement<'b>) -> bool
-        ensures { result ≡ is_on (truth_of self.now.conditions.now) self.now.file statement.now.children }
+        ensures { result ≡ is_on (truth_of self.now.context.now) self.now.file statement.now.children }
     {
         for child in statement.children() {
             if !self.holds(child) {
@@ -106,12 +106,43 @@ impl<'a, 'b> Builder<'_, 'a, 'b> {
 
     // Whether a statement is no condition, or holds.
     fn holds(&self, statement: &'a Statement<'b>) -> bool
-        ensures { result ≡ holds (truth_of self.now.conditions.now) self.now.file
+        ensures { result ≡ holds (truth_of self.now.context.now) self.now.file
             (keyword_of statement.now.head.keyword) statement.now.head }
     {
         match Keyword::read(statement.keyword()) {
-            Keyword::IfFeature => self.conditions.holds(self.file, name_of(statement)),
+            Keyword::IfFeature => self.context.holds(self.file, name_of(statement)),
             _ => true,
+        }
+    }
+
+    // The types that the `type` statement of its block stands for.
+    fn types_of(&self, statement: &Statement<'_>) -> Result<RcSlice<PlainType>, AllocError>
+        ensures { IfOk result (λ types. map plain_of (rc_slice_items types)
+            ≡ types_in (kinds_of self.now.context.now) self.now.file statement.now.children) }
+    {
+        for child in statement.children() {
+            if let Some(types) = self.type_of(child)? {
+                return Ok(types);
+            }
+        }
+        no_types(self.alloc)
+    }
+
+    // The types that a statement stands for, where it is a `type` statement.
+    fn type_of(&self, statement: &Statement<'_>) -> Result<Option<RcSlice<PlainType>>, AllocError>
+        ensures { IfOk result (λ found. (others : List Plain)
+            → types_at (kinds_of self.now.context.now) self.now.file (keyword_of statement.now.head.keyword) statement.now.head
+            others
+            ≡ unwrap_or (option_map (λ types. map plain_of (rc_slice_items types)) found) others) }
+    {
+        match Keyword::read(statement.keyword()) {
+            Keyword::Type => {
+                let types = self
+                    .context
+                    .types_at(self.alloc, self.file, statement.offset())?;
+                Ok(Some(types))
+            }
+            _ => Ok(None),
         }
     }
 
@@ -119,13 +150,13 @@ impl<'a, 'b> Builder<'_, 'a, 'b> {
     fn node(
         &self,
         kind: NodeKind,
-        types: Vec<PlainType>,
+        types: RcSlice<PlainType>,
         statement: &Statement<'_>,
         is_top: bool,
     ) -> Result<Node, AllocError>
         ensures { IfOk result (λ node. node ≡ record {
           label = label_of kind self.now.file (rc_str_bytes self.now.home.now) (above_of is_top (rc_str_bytes self.now.home.now))
-              statement.now.head (map plain_of types.items);
+              statement.now.head (map plain_of (rc_slice_items types));
           children = [];
         }) }
     {
@@ -156,28 +187,4 @@ fn add(node: Node, children: &mut Vec<NodeId>, nodes: &mut Nodes) -> Result<Node
     let number = nodes.push(node)?;
     children.push(number)?;
     Ok(number)
-}
-
-// The types that the statements of its block name.
-fn types_of(alloc: Global, statement: &Statement<'_>) -> Result<Vec<PlainType>, AllocError>
-    ensures { IfOk result (λ types. map plain_of types.items ≡ types_in statement.now.children) }
-{
-    let mut types = Vec::new(alloc);
-    for child in statement.children() {
-        if let Some(plain) = type_of(alloc, child)? {
-            types.push(plain)?;
-        }
-    }
-    Ok(types)
-}
-
-// The type that a statement names, where it is one that names a type that is taken.
-fn type_of(alloc: Global, statement: &Statement<'_>) -> Result<Option<PlainType>, AllocError>
-    ensures { IfOk result (λ found. option_to_list (option_map plain_of found)
-        ≡ types_at (keyword_of statement.now.head.keyword) statement.now.head) }
-{
-    match Keyword::read(statement.keyword()) {
-        Keyword::Type => plain_type(alloc, name_of(statement)),
-        _ => Ok(None),
-    }
 }

@@ -8,10 +8,10 @@ ghost use Rattle.yv_rows.specs.Lent.{lent_in};
 ghost use Rattle.yv_schema.specs.Module.{schema_of};
 ghost use Rattle.yv_schema.specs.Refuses.{Doubled};
 ghost use Rattle.yv_schema.specs.Rows.{whole};
-ghost use Rattle.yv_schema.specs.InnerConditions.{truth_of};
+ghost use Rattle.yv_schema.specs.InnerContext.{kinds_of, truth_of};
 ghost use Rattle.yv_schema.specs.InnerBuild.{AreNames};
 
-use crate::conditions::Conditions;
+use crate::context::Context;
 use crate::modules::Parts;
 use crate::nodes::Nodes;
 use crate::schema::Schema;
@@ -27,22 +27,24 @@ use yv_statement::{Stop, lesser};
 pub(crate) fn build<'a, 'b>(
     alloc: Global,
     rows: &Rows<'a, 'b>,
-    conditions: &Conditions<'_, 'a, 'b>,
+    context: &Context<'_, 'a, 'b>,
     selection: &Selection,
 ) -> Result<Schema, Stop>
     requires few { length (lent_in rows.now) ≤ 4294967296 }
     requires names { AreNames (choice_of selection.now) (lent_in rows.now) }
     ensures schema { IfOk result (λ s. whole s
-        ≡ schema_of (truth_of conditions.now) (choice_of selection.now) (lent_in rows.now)) }
+        ≡ schema_of (truth_of context.now) (kinds_of context.now) (choice_of selection.now) (lent_in rows.now)) }
     ensures clear { OnOk result
-        (IsLeast (Doubled (schema_of (truth_of conditions.now) (choice_of selection.now) (lent_in rows.now))) None) }
+        (IsLeast (Doubled (schema_of (truth_of context.now) (kinds_of context.now) (choice_of selection.now) (lent_in rows.now)))
+        None) }
     ensures refusal { (r : Refusal) → result ≡ Err (Fault r)
-        → IsLeast (Doubled (schema_of (truth_of conditions.now) (choice_of selection.now) (lent_in rows.now))) (Some r) }
+        → IsLeast (Doubled (schema_of (truth_of context.now) (kinds_of context.now) (choice_of selection.now) (lent_in rows.now)))
+        (Some r) }
     ensures built { result ≢ Err PatternBuild }
 {
     let parts = Parts::read(alloc, rows)?;
     let mut nodes = Nodes::new(alloc);
-    let tops = parts.add_modules(alloc, conditions, selection, &mut nodes)?;
+    let tops = parts.add_modules(alloc, context, selection, &mut nodes)?;
     let top = all_tops(alloc, &tops)?;
     let at_top = module_tables(alloc, &nodes, &tops)?;
     let below = node_tables(alloc, &nodes)?;

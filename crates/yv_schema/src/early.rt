@@ -4,7 +4,6 @@ ghost use Rattle.std.specs.Option.{option_copied};
 ghost use Rattle.yv_statement.specs.Order.{IsLeast};
 ghost use Rattle.yv_schema.specs.Refuses.{Early, is_taken};
 
-use crate::plain::is_plain;
 use yv_conform::Keyword;
 use yv_statement::{Code, Refusal, Statement, lesser, refused};
 
@@ -56,11 +55,24 @@ fn is_taken(keyword: Keyword, argument: Option<&str>) -> bool
             | Keyword::YinElement
             | Keyword::Container
             | Keyword::Leaf
+            | Keyword::Typedef
+            | Keyword::Units
+            | Keyword::Range
+            | Keyword::Length
+            | Keyword::Pattern
+            | Keyword::Modifier
+            | Keyword::ErrorMessage
+            | Keyword::ErrorAppTag
+            | Keyword::Enum
+            | Keyword::Value
+            | Keyword::Bit
+            | Keyword::Position
+            | Keyword::FractionDigits
             | Keyword::Extended
             | Keyword::Unknown,
             _,
         ) => true,
-        (Keyword::Type, Some(name)) => is_plain(name),
+        (Keyword::Type, Some(name)) => name != "leafref",
         _ => false,
     }
 }

@@ -4,15 +4,14 @@
 mod block;
 mod build;
 mod compilation;
-mod conditions;
 mod conformance;
+mod context;
 mod early;
 pub mod laws;
 mod modules;
 mod name;
 mod node;
 mod nodes;
-mod plain;
 mod schema;
 mod table;
 mod tables;

@@ -6,13 +6,13 @@ ghost use Rattle.yv_selection.specs.Choice.{choice_of};
 ghost use Rattle.yv_rows.specs.Files.{brief_of, tree_name};
 ghost use Rattle.yv_rows.specs.Lent.{lent_in};
 ghost use Rattle.yv_schema.specs.Module.{is_given, is_part, module_nodes, parts_from};
-ghost use Rattle.yv_schema.specs.InnerConditions.{truth_of};
+ghost use Rattle.yv_schema.specs.InnerContext.{kinds_of, truth_of};
 ghost use Rattle.yv_schema.specs.InnerNumbers.{rows_from};
 ghost use Rattle.yv_schema.specs.InnerBuild.{Adds, AreHomes, all_nodes, groups_from, tops_from};
 ghost use Rattle.yv_schema.specs.InnerTops.{top_of};
 
 use crate::block::Builder;
-use crate::conditions::Conditions;
+use crate::context::Context;
 use crate::name::name_of;
 use crate::node::NodeId;
 use crate::nodes::Nodes;
@@ -55,21 +55,22 @@ impl<'a, 'b> Parts<'a, 'b> {
     pub(crate) fn add_modules(
         &self,
         alloc: Global,
-        conditions: &Conditions<'_, 'a, 'b>,
+        context: &Context<'_, 'a, 'b>,
         selection: &Selection,
         nodes: &mut Nodes,
     ) -> Result<Vec<ModuleTop>, Stop>
         ensures rows { OnOk result (nodes.new ≡ nodes.old ++ rows_from (length nodes.old)
-            (all_nodes (groups_from (truth_of conditions.now) (choice_of selection.now) (roots_in self.now) 0
+            (all_nodes (groups_from (truth_of context.now) (kinds_of context.now) (choice_of selection.now) (roots_in self.now) 0
             (roots_in self.now)))) }
         ensures tops { IfOk result (λ tops. map top_of tops.items ≡ tops_from (length nodes.old)
-            (groups_from (truth_of conditions.now) (choice_of selection.now) (roots_in self.now) 0 (roots_in self.now))) }
+            (groups_from (truth_of context.now) (kinds_of context.now) (choice_of selection.now) (roots_in self.now) 0
+            (roots_in self.now))) }
         ensures memory { IfErr result (λ stop. stop ≡ NoMemory) }
     {
         let mut tops = Vec::new(alloc);
         for (number, root) in self.roots.iter().enumerate() {
             if is_given(selection, root) {
-                let top = self.add_module(alloc, conditions, number, root, nodes)?;
+                let top = self.add_module(alloc, context, number, root, nodes)?;
                 tops.push(top)?;
             }
         }
@@ -80,14 +81,15 @@ impl<'a, 'b> Parts<'a, 'b> {
     fn add_module(
         &self,
         alloc: Global,
-        conditions: &Conditions<'_, 'a, 'b>,
+        context: &Context<'_, 'a, 'b>,
         number: usize,
         root: &'a Statement<'b>,
         nodes: &mut Nodes,
     ) -> Result<ModuleTop, Stop>
         requires { number < 4294967296 }
         ensures name { IfOk result (λ top. rc_str_bytes top.name ≡ tree_name root.now) }
-        ensures added { IfOk result (λ top. Adds (module_nodes (truth_of conditions.now) (roots_in self.now) number root.now)
+        ensures added { IfOk result (λ top. Adds
+            (module_nodes (truth_of context.now) (kinds_of context.now) (roots_in self.now) number root.now)
             nodes.old nodes.new [] top.numbers.items) }
         ensures memory { IfErr result (λ stop. stop ≡ NoMemory) }
     {
@@ -95,7 +97,7 @@ impl<'a, 'b> Parts<'a, 'b> {
         let mut numbers = Vec::new(alloc);
         let own = Builder {
             alloc,
-            conditions,
+            context,
             file: number as u32,
             home: &home,
         };
@@ -116,8 +118,8 @@ impl<'a, 'b> Parts<'a, 'b> {
         nodes: &mut Nodes,
     ) -> Result<(), Stop>
         ensures added { OnOk result (Adds
-            (parts_from (truth_of own.entry.conditions.now) (map brief_of (roots_in self.now)) number
-            (rc_str_bytes own.entry.home.now) 0 (roots_in self.now))
+            (parts_from (truth_of own.entry.context.now) (kinds_of own.entry.context.now) (map brief_of (roots_in self.now))
+            number (rc_str_bytes own.entry.home.now) 0 (roots_in self.now))
             nodes.old nodes.new numbers.old.items numbers.new.items) }
         ensures memory { IfErr result (λ stop. stop ≡ NoMemory) }
     {

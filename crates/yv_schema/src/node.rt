@@ -3,7 +3,7 @@ ghost use Rattle.std.specs.Prelude.{◌≡◌, Some, None, IfOk, string_bytes, i
 
 use std::alloc::{AllocError, Global};
 use std::marker::Model;
-use std::rc::RcStr;
+use std::rc::{RcSlice, RcStr};
 use yv_statement::{Code, Refusal};
 use yv_values::PlainType;
 
@@ -46,13 +46,14 @@ pub struct Node {
     pub(crate) name: String,
     /// Whether a JSON member of the node has the module's name in front.
     pub(crate) is_qualified: bool,
-    pub(crate) types: Vec<PlainType>,
+    /// A list that nodes may share.
+    pub(crate) types: RcSlice<PlainType>,
     pub(crate) children: Vec<NodeId>,
 }
 
 impl Model for Node {
     ghost use Rattle.std.specs.Prelude.{string_bytes, map};
-    ghost use Rattle.std.specs.Rc.{rc_str_bytes};
+    ghost use Rattle.std.specs.Rc.{rc_slice_items, rc_str_bytes};
     ghost use Rattle.yv_values.specs.Types.{plain_of};
     ghost use Rattle.yv_schema.specs.Rows.{Row};
     ghost use Rattle.yv_schema.specs.InnerMember.{member_of};
@@ -68,7 +69,7 @@ impl Model for Node {
         module_name = rc_str_bytes n.module;
         name = string_bytes n.name;
         member = member_of n.is_qualified (rc_str_bytes n.module) (string_bytes n.name);
-        types = map plain_of n.types.items;
+        types = map plain_of (rc_slice_items n.types);
       };
       children = n.children.items;
     } };

@@ -148,27 +148,62 @@ fn a_node_has_its_member_and_types(rt: HostRuntime) -> Result<(), Fail> {
     Ok(())
 }
 
-// What the only type of a leaf of this type reads.
-fn kind_of(alloc: Global, plain: &str) -> Result<&'static str, Stop> {
-    let root = module(alloc, vec![in alloc; leaf(alloc, "a", plain, 10)?]?)?;
-    let schema = compiled(alloc, &root)?;
-    let Some(a) = schema.find(Schema::ROOT, "ex:a") else {
-        return Ok("no leaf");
+// What the only type of this leaf reads.
+fn kind_of(schema: &Schema, member: &str) -> &'static str {
+    let Some(leaf) = schema.find(Schema::ROOT, member) else {
+        return "no leaf";
     };
-    match schema.node(a).types().first() {
-        Some(PlainType::Text(_)) => Ok("texts"),
-        Some(PlainType::Whole(_)) => Ok("whole numbers"),
-        Some(PlainType::Boolean) => Ok("truth values"),
-        _ => Ok("other"),
+    match schema.node(leaf).types() {
+        [PlainType::Text(_)] => "texts",
+        [PlainType::Whole(_)] => "whole numbers",
+        [PlainType::Boolean] => "truth values",
+        [_] => "other",
+        _ => "not one type",
     }
 }
 
 #[test]
-fn the_name_tells_the_type(rt: HostRuntime) -> Result<(), Fail> {
+fn a_leaf_has_the_type_of_its_statement(rt: HostRuntime) -> Result<(), Fail> {
     let alloc = rt.alloc();
-    assert_eq!(rt; kind_of(alloc, "string")?, "texts");
-    assert_eq!(rt; kind_of(alloc, "int32")?, "whole numbers");
-    assert_eq!(rt; kind_of(alloc, "boolean")?, "truth values");
+    let mut defined = statement(alloc, "typedef", "t", 10)?;
+    defined.adopt(statement(alloc, "type", "boolean", 11)?)?;
+    let a = leaf(alloc, "a", "string", 20)?;
+    let b = leaf(alloc, "b", "uint8", 30)?;
+    let c = leaf(alloc, "c", "t", 40)?;
+    let root = module(alloc, vec![in alloc; defined, a, b, c]?)?;
+    let schema = compiled(alloc, &root).ok().ok_or("refused")?;
+    assert_eq!(rt; kind_of(&schema, "ex:a"), "texts");
+    assert_eq!(rt; kind_of(&schema, "ex:b"), "whole numbers");
+    assert_eq!(rt; kind_of(&schema, "ex:c"), "truth values");
+    Ok(())
+}
+
+#[test]
+fn a_union_gives_the_types_of_its_members(rt: HostRuntime) -> Result<(), Fail> {
+    let alloc = rt.alloc();
+    let mut union = statement(alloc, "type", "union", 11)?;
+    union.adopt(statement(alloc, "type", "int8", 12)?)?;
+    union.adopt(statement(alloc, "type", "string", 13)?)?;
+    let mut leaf = statement(alloc, "leaf", "a", 10)?;
+    leaf.adopt(union)?;
+    let root = module(alloc, vec![in alloc; leaf]?)?;
+    let schema = compiled(alloc, &root).ok().ok_or("refused")?;
+    let a = schema.find(Schema::ROOT, "ex:a").ok_or("a")?;
+    assert_eq!(rt; schema.node(a).types().len(), 2);
+    Ok(())
+}
+
+#[test]
+fn names_come_before_types_and_types_before_nodes(rt: HostRuntime) -> Result<(), Fail> {
+    let alloc = rt.alloc();
+    let unknown = leaf(alloc, "b", "nope", 30)?;
+    let bare = leaf(alloc, "a", "enumeration", 10)?;
+    assert!(rt; refusal(alloc, vec![in alloc; bare, unknown]?)? == at(Code::UnknownType, 31));
+    let bare = leaf(alloc, "a", "enumeration", 30)?;
+    let first = leaf(alloc, "b", "string", 10)?;
+    let second = leaf(alloc, "b", "string", 20)?;
+    let all = vec![in alloc; first, second, bare]?;
+    assert!(rt; refusal(alloc, all)? == at(Code::BadType, 31));
     Ok(())
 }
 
@@ -177,8 +212,8 @@ fn the_least_refusal_is_answered(rt: HostRuntime) -> Result<(), Fail> {
     let alloc = rt.alloc();
     let list = statement(alloc, "list", "l", 10)?;
     assert!(rt; refusal(alloc, vec![in alloc; list]?)? == at(Code::Unsupported, 10));
-    let number = leaf(alloc, "a", "int8", 10)?;
-    assert!(rt; refusal(alloc, vec![in alloc; number]?)? == at(Code::Unsupported, 11));
+    let path = leaf(alloc, "a", "leafref", 10)?;
+    assert!(rt; refusal(alloc, vec![in alloc; path]?)? == at(Code::Unsupported, 11));
     let misspelled = statement(alloc, "leave", "a", 10)?;
     assert!(rt; refusal(alloc, vec![in alloc; misspelled]?)? == at(Code::UnknownStatement, 10));
     let untyped = statement(alloc, "leaf", "a", 10)?;

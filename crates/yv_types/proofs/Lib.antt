@@ -3,4 +3,5 @@ mod Placing
 mod Single
 mod Stepping
 mod Telling
+mod Told
 mod Walking

@@ -1,5 +1,6 @@
 -- What is known of types that were read.
-use Rattle.std.specs.Prelude.{◌≡◌, ℕ, codes}
+use Rattle.std.specs.Prelude.{◌≡◌, ℕ, List, Option, Some, None, codes}
+use Rattle.std.specs.Option.{option_and_then}
 use Rattle.yv_selection.specs.Choice.{Choice}
 use Rattle.yv_rows.specs.Files.{Files}
 use Rattle.yv_rows.specs.Listed.{rows_of}
@@ -9,7 +10,9 @@ use Rattle.yv_faceted.specs.Known.{AreFaceted}
 use Rattle.yv_listed.specs.Types.{Truth}
 use Rattle.yv_listed.specs.Known.{AreLists}
 use Rattle.yv_types.specs.InnerPlaces.{placed_in}
-use Rattle.yv_types.specs.InnerTables.{AreSpaces}
+use Rattle.yv_values.specs.Types.{Plain}
+use Rattle.yv_types.specs.InnerTables.{AreSpaces, plains_at}
+use Rattle.yv_types.specs.Spaces.{Space}
 use Rattle.yv_types.specs.declared.layers.Layers.{Layers}
 use Rattle.yv_types.specs.declared.known.Types.{Types}
 
@@ -23,3 +26,14 @@ pub record AreLayers (files : Files) (truth : Truth) (layers : Layers) : Type 0 
 pub record AreTypes (files : Files) (choice : Choice) (truth : Truth) (types : Types) : Type 0 where
   pub spaces : AreSpaces files truth choice types.spaces.items
   pub places : (file offset : ℕ) → placed_in types.places file offset ≡ number_at (rows_of files) (codes "type") file offset
+
+-- the plain types that are told of the type statement at an offset of a file
+abbrev pub space_at : Types → ℕ → ℕ → Option (List Plain)
+space_at types file offset = option_and_then (plains_at types.spaces.items) (placed_in types.places file offset)
+
+-- what is told of the plain types of the statement of this number, where there is one, is so
+abbrev pub IsTold : Files → Choice → Truth → Option ℕ → Option (List Plain) → Type 0
+IsTold files choice truth None None = Unit {0}
+IsTold files choice truth None (Some ps) = ⊥
+IsTold files choice truth (Some k) None = (ps : List Plain) → Space files truth choice k ps → ⊥
+IsTold files choice truth (Some k) (Some ps) = Space files truth choice k ps

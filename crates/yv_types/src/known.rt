@@ -1,5 +1,6 @@
 //! The plain types of types, and what readers ask of them.
 ghost use Rattle.std.specs.Prelude.{◌≡◌, ℕ, List, None, Some, codes, map, IfOk, IfSome};
+ghost use Rattle.std.specs.Option.{option_map};
 ghost use Rattle.std.specs.Rc.{rc_slice_items};
 ghost use Rattle.yv_selection.specs.Choice.{Choice};
 ghost use Rattle.yv_rows.specs.Files.{Files};
@@ -9,7 +10,7 @@ ghost use Rattle.yv_bases.specs.Types.{IsTypeAt};
 ghost use Rattle.yv_listed.specs.Types.{Truth};
 ghost use Rattle.yv_values.specs.Types.{Plain, plain_of};
 ghost use Rattle.yv_types.specs.Spaces.{Space};
-ghost use Rattle.yv_types.specs.Known.{AreTypes};
+ghost use Rattle.yv_types.specs.Known.{AreTypes, space_at};
 
 use crate::places::Places;
 use crate::table::{Shared, get, list_at};
@@ -49,6 +50,8 @@ impl Types {
         ensures none { IfOk result (λ found. (files : Files) (choice : Choice) (truth : Truth) → AreTypes files choice truth self.now
             → found ≡ None → (k : ℕ) → number_at (rows_of files) (codes "type") file offset ≡ Some k
             → (types : List Plain) → Space files truth choice k types → ⊥) }
+        ensures same { IfOk result (λ found. option_map (λ types. map plain_of (rc_slice_items types)) found
+            ≡ space_at self.now file offset) }
     {
         let Some(number) = self.places.get(file, offset) else {
             return Ok(None);

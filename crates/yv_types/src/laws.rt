@@ -1,10 +1,14 @@
-//! Laws of the definitions alone.
-ghost use Rattle.std.specs.Prelude.{◌≡◌, ℕ, List};
+//! Laws of the definitions alone. These functions do nothing: the contract of each is the law.
+ghost use Rattle.std.specs.Prelude.{◌≡◌, ℕ, List, codes};
 ghost use Rattle.yv_selection.specs.Choice.{Choice};
 ghost use Rattle.yv_rows.specs.Files.{Files};
+ghost use Rattle.yv_rows.specs.Listed.{rows_of};
+ghost use Rattle.yv_names.specs.References.{number_at};
 ghost use Rattle.yv_listed.specs.Types.{Truth};
 ghost use Rattle.yv_values.specs.Types.{Plain};
 ghost use Rattle.yv_types.specs.Spaces.{Space};
+ghost use Rattle.yv_types.specs.Known.{AreTypes, IsTold, space_at};
+ghost use Rattle.yv_types.specs.declared.known.Types.{Types};
 
 /// A type has one list of plain types.
 pub fn a_type_has_one_space()
@@ -17,3 +21,10 @@ pub fn a_type_has_one_space()
     yv_values::laws::texts_that_rise_are_one_list();
     yv_values::laws::identities_that_rise_are_one_list();
 }
+
+/// What is told of the type statement at an offset of a file are its plain types, and none where it has none.
+pub fn types_tell_spaces()
+    ensures { (files : Files) (choice : Choice) (truth : Truth) (types : Types) → AreTypes files choice truth types
+        → (file offset : ℕ) → IsTold files choice truth (number_at (rows_of files) (codes "type") file offset)
+        (space_at types file offset) }
+{}

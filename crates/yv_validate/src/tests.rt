@@ -10,27 +10,34 @@ fn statement(
     alloc: Global,
     keyword: &'static str,
     argument: &str,
+    offset: u64,
 ) -> Result<Statement<'static>, AllocError> {
-    let mut statement = Statement::new(alloc, keyword, 1, 0);
+    let mut statement = Statement::new(alloc, keyword, 1, offset);
     statement.give(String::from_str(alloc, argument)?);
     Ok(statement)
 }
 
-fn leaf(alloc: Global, name: &str, plain: &str) -> Result<Statement<'static>, AllocError> {
-    let mut leaf = statement(alloc, "leaf", name)?;
-    leaf.adopt(statement(alloc, "type", plain)?)?;
+// A leaf, whose type stands one byte behind.
+fn leaf(
+    alloc: Global,
+    name: &str,
+    plain: &str,
+    offset: u64,
+) -> Result<Statement<'static>, AllocError> {
+    let mut leaf = statement(alloc, "leaf", name, offset)?;
+    leaf.adopt(statement(alloc, "type", plain, offset.wrapping_add(1))?)?;
     Ok(leaf)
 }
 
 // The module `ex` with a container `top` of three leaves.
 fn schema(alloc: Global) -> Result<Schema, Stop> {
-    let mut top = statement(alloc, "container", "top")?;
-    top.adopt(leaf(alloc, "a", "string")?)?;
-    top.adopt(leaf(alloc, "b", "int32")?)?;
-    top.adopt(leaf(alloc, "c", "boolean")?)?;
-    let mut module = statement(alloc, "module", "ex")?;
-    module.adopt(statement(alloc, "namespace", "urn:ex")?)?;
-    module.adopt(statement(alloc, "prefix", "ex")?)?;
+    let mut top = statement(alloc, "container", "top", 3)?;
+    top.adopt(leaf(alloc, "a", "string", 10)?)?;
+    top.adopt(leaf(alloc, "b", "int32", 20)?)?;
+    top.adopt(leaf(alloc, "c", "boolean", 30)?)?;
+    let mut module = statement(alloc, "module", "ex", 0)?;
+    module.adopt(statement(alloc, "namespace", "urn:ex", 1)?)?;
+    module.adopt(statement(alloc, "prefix", "ex", 2)?)?;
     module.adopt(top)?;
     compile(alloc, &[module], &Selection::everything(alloc))
 }

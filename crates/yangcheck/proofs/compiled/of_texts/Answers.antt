@@ -33,3 +33,15 @@ pub returns-clause-refused : goal.returns-clause-refused
 returns-clause-refused c = λ r e.
     none_spelled (choice_of c.args.selection.now) (map file_of c.args.inputs.now) c.args.texts.now.sources.items r c.requires.texts.each
     (rw (c.deref.ensures.value) at (c.in-Err.ensures.refused r (err_again _ _ e)))
+
+pub returns-in-Ok-clause-built : goal.returns-in-Ok-clause-built
+returns-in-Ok-clause-built c = λ e.
+    let files : List File = map file_of c.args.inputs.now in
+    let read : AllZip IsRead files c.in-Ok.statements.items =
+    all_read files c.args.texts.now.sources.items c.in-Ok.statements.items (rw c.in-None.is at c.requires.texts.rest) c.requires.texts.each (rw (c.deref.ensures.value) at c.in-Ok.ensures.spelled) in
+    record {
+      trees = c.in-Ok.statements.items;
+      read = read;
+      clear = (rw (c.deref-in-None.ensures.value) at c.compile.ensures.before) e;
+      pattern = (rw (c.deref-in-None.ensures.value) at c.compile.ensures.built) e;
+    }

@@ -7,7 +7,7 @@ use Rattle.yv_rows.specs.Lent.{lent_in}
 use Rattle.yv_schema.specs.Tree.{Forest}
 use Rattle.yv_schema.specs.Module.{schema_of}
 use Rattle.yv_schema.specs.Refuses.{Doubled}
-use Rattle.yv_schema.specs.InnerConditions.{truth_of}
+use Rattle.yv_schema.specs.InnerContext.{kinds_of, truth_of}
 use Rattle.yv_schema.specs.InnerBuild.{Group, Top, all_nodes, groups_from}
 use Rattle.yv_schema.specs.InnerTables.{Namesakes, labels_at}
 use Rattle.yv_schema.specs.InnerTops.{top_of}
@@ -18,7 +18,7 @@ use Rattle.yv_schema.proofs.build.build.Goals as goal
 use Rattle.yv_schema.proofs.build.build.Goals.{After-deref-2}
 
 abbrev groups : After-deref-2 → List Group
-groups c = groups_from (truth_of c.args.conditions.now) (choice_of c.args.selection.now) (lent_in c.args.rows.now) 0 (lent_in c.args.rows.now)
+groups c = groups_from (truth_of c.args.context.now) (kinds_of c.args.context.now) (choice_of c.args.selection.now) (lent_in c.args.rows.now) 0 (lent_in c.args.rows.now)
 
 abbrev tops : After-deref-2 → List Top
 tops c = map top_of c.in_ok-tops.tops.items
@@ -28,8 +28,8 @@ built c =
     let files = lent_in c.args.rows.now in
     let names = c.requires.names in
     record {
-      formed = groups_formed (truth_of c.args.conditions.now) (choice_of c.args.selection.now) files 0 files (record { plain = names.plain; filled = names.filled });
-      differ = groups_different (truth_of c.args.conditions.now) (choice_of c.args.selection.now) files 0 files names.differ;
+      formed = groups_formed (truth_of c.args.context.now) (kinds_of c.args.context.now) (choice_of c.args.selection.now) files 0 files (record { plain = names.plain; filled = names.filled });
+      differ = groups_different (truth_of c.args.context.now) (kinds_of c.args.context.now) (choice_of c.args.selection.now) files 0 files names.differ;
       rows = rw (c.in_ok-parts.ensures, c.new-nodes.ensures) at c.in_ok-tops.ensures.rows;
       are = rw (c.in_ok-parts.ensures, c.new-nodes.ensures) at c.in_ok-tops.ensures.tops;
       small = rw c.nodes.view_is at c.nodes.invariant;
@@ -49,11 +49,11 @@ node_tables-requires c =
     built_rows (groups before) c.add_modules.new.nodes (tops before) (built before)
 
 abbrev schema : After-deref-2 → Forest
-schema d = schema_of (truth_of d.args.conditions.now) (choice_of d.args.selection.now) (lent_in d.args.rows.now)
+schema d = schema_of (truth_of d.args.context.now) (kinds_of d.args.context.now) (choice_of d.args.selection.now) (lent_in d.args.rows.now)
 
 -- the nodes of the modules are the schema tree
 whole_tree : (d : After-deref-2) → all_nodes (groups d) ≡ schema d
-whole_tree d = all_modules (truth_of d.args.conditions.now) (choice_of d.args.selection.now) (lent_in d.args.rows.now) 0 (lent_in d.args.rows.now)
+whole_tree d = all_modules (truth_of d.args.context.now) (kinds_of d.args.context.now) (choice_of d.args.selection.now) (lent_in d.args.rows.now) 0 (lent_in d.args.rows.now)
 
 -- the least node that repeats a name
 least : (d : After-deref-2) (first second both : Option Refusal) → IsLesser first second both

@@ -1,12 +1,16 @@
-use Rattle.std.proofs.Common.{◌≡◌, Some, None, subst}
+use Rattle.std.proofs.Common.{◌≡◌, Some, None, sym, subst}
 use Rattle.std.proofs.lemmas.Result.{IfOk-weaker, on_ok_weaker}
 use Rattle.yv_statement.specs.declared.refusal.Refusal.{Refusal}
 use Rattle.yv_statement.specs.Order.{IsLeast}
 use Rattle.yv_selection.specs.Choice.{choice_of}
+use Rattle.yv_link.specs.Linked.{truth_in}
 use Rattle.yv_link.proofs.Phases.{err_again}
-use Rattle.yv_schema.specs.Refuses.{Refuses}
-use Rattle.yv_schema.specs.InnerConditions.{truth_of}
-use Rattle.yv_schema.proofs.Phases.{HaveLinksPhases, least_first, least_last, least_next, names_of}
+use Rattle.yv_types.specs.Faults.{BadTypes}
+use Rattle.yv_schema.specs.Kinds.{AreKinds}
+use Rattle.yv_schema.specs.Truth.{IsTruth, Truth}
+use Rattle.yv_schema.specs.Refuses.{Refuses, RefusesBeforeTypes}
+use Rattle.yv_schema.specs.InnerContext.{kinds_of, truth_of}
+use Rattle.yv_schema.proofs.Phases.{HaveLinksPhases, least_first, least_last, least_linked, least_named, least_own, least_typed, names_of}
 use Rattle.yv_schema.proofs.compilation.compile.Goals as goal
 
 pub returns-in-Some-clause-refusal : goal.returns-in-Some-clause-refusal
@@ -15,7 +19,8 @@ returns-in-Some-clause-refusal c =
     let files = c.args.files.now in
     let phases : HaveLinksPhases = record { first = c.links_have_phases.ensures.first; last = c.links_have_phases.ensures.last } in
     let own = rw c.in-Some.is at c.first_bad_file.ensures in
-    let least : IsLeast (Refuses choice files) (Some c.in-Some.refusal) = least_first choice files phases c.in-Some.refusal own in
+    let least : IsLeast (Refuses choice files) (Some c.in-Some.refusal) =
+    least_first choice files phases c.in-Some.refusal (least_own files phases c.in-Some.refusal own) in
     λ r e. let same : c.in-Some.refusal ≡ r = cc in subst (λ (x : Refusal). IsLeast (Refuses choice files) (Some x)) same least
 
 pub returns-in-Err-clause-refusal : goal.returns-in-Err-clause-refusal
@@ -24,38 +29,108 @@ returns-in-Err-clause-refusal c =
     let files = c.args.files.now in
     let phases : HaveLinksPhases = record { first = c.links_have_phases.ensures.first; last = c.links_have_phases.ensures.last } in
     let own = rw c.in_default.is at c.first_bad_file.ensures in
-    λ r e. least_next choice files phases r own (c.in-Err.ensures.refusal r (err_again _ _ e))
+    λ r e. least_first choice files phases r (least_linked files phases r own (c.in-Err.ensures.refusal r (err_again _ _ e)))
+
+pub returns-in-Err-names-clause-refusal : goal.returns-in-Err-names-clause-refusal
+returns-in-Err-names-clause-refusal c =
+    let choice = choice_of c.args.selection.now in
+    let files = c.args.files.now in
+    let phases : HaveLinksPhases = record { first = c.links_have_phases.ensures.first; last = c.links_have_phases.ensures.last } in
+    let own = rw c.in_default.is at c.first_bad_file.ensures in
+    let rows = c.rows.ensures files choice c.in-Ok.ensures.linked in
+    let named = rw rows at c.in-Err-names.ensures.refusal in
+    λ r e. least_first choice files phases r (least_named files (Some r) own c.in-Ok.ensures.clear (named r (err_again _ _ e)))
+
+pub returns-in-Err-types-clause-refusal : goal.returns-in-Err-types-clause-refusal
+returns-in-Err-types-clause-refusal c =
+    let choice = choice_of c.args.selection.now in
+    let files = c.args.files.now in
+    let own = rw c.in_default.is at c.first_bad_file.ensures in
+    let rows = c.rows.ensures files choice c.in-Ok.ensures.linked in
+    let named = rw rows at c.in-Ok-names.ensures.clear in
+    let before : IsLeast (RefusesBeforeTypes files) None = least_named files None own c.in-Ok.ensures.clear named in
+    let names = rw rows at c.in-Ok-names.ensures.made in
+    let truth = truth_in c.in-Ok.linked in
+    let is : IsTruth files choice truth = c.linked_files_tell_what_holds.ensures files choice c.in-Ok.linked c.in-Ok.ensures.linked in
+    λ r e. least_typed choice files c.an_expression_has_one_truth.ensures before truth r is
+    (c.in-Err-types.ensures.refusal r (err_again _ _ e) files choice c.in-Ok.ensures.linked names)
+
+pub returns-in-Err-types-clause-before : goal.returns-in-Err-types-clause-before
+returns-in-Err-types-clause-before c =
+    let choice = choice_of c.args.selection.now in
+    let files = c.args.files.now in
+    let own = rw c.in_default.is at c.first_bad_file.ensures in
+    let rows = c.rows.ensures files choice c.in-Ok.ensures.linked in
+    let named = rw rows at c.in-Ok-names.ensures.clear in
+    let before : IsLeast (RefusesBeforeTypes files) None = least_named files None own c.in-Ok.ensures.clear named in
+    λ e. before
 
 pub build-requires-clause-names : goal.build-requires-clause-names
 build-requires-clause-names c =
     let choice = choice_of c.args.selection.now in
     let files = c.args.files.now in
     let own = rw c.in_default.is at c.first_bad_file.ensures in
-    rw (c.rows.ensures files choice c.in-Ok.ensures.linked) (names_of choice files own c.in-Ok.ensures.clear)
+    let lent = c.rows-2.ensures files choice c.in-Ok.ensures.linked in
+    rw lent (names_of choice files own c.in-Ok.ensures.clear)
 
 pub returns-clause-schema : goal.returns-clause-schema
 returns-clause-schema c =
     let choice = choice_of c.args.selection.now in
     let files = c.args.files.now in
-    let is = c.new.ensures files choice c.in-Ok.ensures.linked in
-    let built = rw (c.rows.ensures files choice c.in-Ok.ensures.linked) at c.build.ensures.schema in
-    IfOk-weaker c.build.result _ _ (λ s e. (truth_of c.new.result, is, e)) built
+    let rows = c.rows.ensures files choice c.in-Ok.ensures.linked in
+    let names = rw rows at c.in-Ok-names.ensures.made in
+    let truth = truth_of c.new.result in
+    let same : truth_in c.in-Ok.linked ≡ truth = sym c.new.ensures.truth in
+    let is : IsTruth files choice truth =
+    subst (λ (t : Truth). IsTruth files choice t) same (c.linked_files_tell_what_holds.ensures files choice c.in-Ok.linked c.in-Ok.ensures.linked) in
+    let are : AreKinds files choice truth (kinds_of c.new.result) =
+    subst (λ (t : Truth). AreKinds files choice t (kinds_of c.new.result)) same
+    (c.new.ensures.kinds files choice (truth_in c.in-Ok.linked) (c.in-Ok-types.ensures.made files choice c.in-Ok.ensures.linked names)) in
+    let lent = c.rows-2.ensures files choice c.in-Ok.ensures.linked in
+    let built = rw lent at c.build.ensures.schema in
+    IfOk-weaker c.build.result _ _ (λ s e. (truth, kinds_of c.new.result, is, are, e)) built
 
 pub returns-clause-clear : goal.returns-clause-clear
 returns-clause-clear c =
     let choice = choice_of c.args.selection.now in
     let files = c.args.files.now in
-    let is = c.new.ensures files choice c.in-Ok.ensures.linked in
     let own = rw c.in_default.is at c.first_bad_file.ensures in
-    let clear = rw (c.rows.ensures files choice c.in-Ok.ensures.linked) at c.build.ensures.clear in
+    let rows = c.rows.ensures files choice c.in-Ok.ensures.linked in
+    let named = rw rows at c.in-Ok-names.ensures.clear in
+    let before : IsLeast (RefusesBeforeTypes files) None = least_named files None own c.in-Ok.ensures.clear named in
+    let names = rw rows at c.in-Ok-names.ensures.made in
+    let truth = truth_of c.new.result in
+    let same : truth_in c.in-Ok.linked ≡ truth = sym c.new.ensures.truth in
+    let is : IsTruth files choice truth =
+    subst (λ (t : Truth). IsTruth files choice t) same (c.linked_files_tell_what_holds.ensures files choice c.in-Ok.linked c.in-Ok.ensures.linked) in
+    let are : AreKinds files choice truth (kinds_of c.new.result) =
+    subst (λ (t : Truth). AreKinds files choice t (kinds_of c.new.result)) same
+    (c.new.ensures.kinds files choice (truth_in c.in-Ok.linked) (c.in-Ok-types.ensures.made files choice c.in-Ok.ensures.linked names)) in
+    let typed : IsLeast (BadTypes files truth) None =
+    subst (λ (t : Truth). IsLeast (BadTypes files t) None) same (c.in-Ok-types.ensures.clear files choice c.in-Ok.ensures.linked names) in
+    let lent = c.rows-2.ensures files choice c.in-Ok.ensures.linked in
+    let clear = rw lent at c.build.ensures.clear in
     on_ok_weaker c.build.result
-    (λ h. least_last choice files c.an_expression_has_one_truth.ensures c.in-Ok.ensures.clear (truth_of c.new.result) None is own h) clear
+    (λ h. least_last choice files c.an_expression_has_one_truth.ensures before c.a_type_has_one_space.ensures truth (kinds_of c.new.result) None is are typed h) clear
 
 pub returns-clause-refusal : goal.returns-clause-refusal
 returns-clause-refusal c = λ r e.
     let choice = choice_of c.args.selection.now in
     let files = c.args.files.now in
-    let is = c.new.ensures files choice c.in-Ok.ensures.linked in
     let own = rw c.in_default.is at c.first_bad_file.ensures in
-    let found = rw (c.rows.ensures files choice c.in-Ok.ensures.linked) at (c.build.ensures.refusal r e) in
-    least_last choice files c.an_expression_has_one_truth.ensures c.in-Ok.ensures.clear (truth_of c.new.result) (Some r) is own found
+    let rows = c.rows.ensures files choice c.in-Ok.ensures.linked in
+    let named = rw rows at c.in-Ok-names.ensures.clear in
+    let before : IsLeast (RefusesBeforeTypes files) None = least_named files None own c.in-Ok.ensures.clear named in
+    let names = rw rows at c.in-Ok-names.ensures.made in
+    let truth = truth_of c.new.result in
+    let same : truth_in c.in-Ok.linked ≡ truth = sym c.new.ensures.truth in
+    let is : IsTruth files choice truth =
+    subst (λ (t : Truth). IsTruth files choice t) same (c.linked_files_tell_what_holds.ensures files choice c.in-Ok.linked c.in-Ok.ensures.linked) in
+    let are : AreKinds files choice truth (kinds_of c.new.result) =
+    subst (λ (t : Truth). AreKinds files choice t (kinds_of c.new.result)) same
+    (c.new.ensures.kinds files choice (truth_in c.in-Ok.linked) (c.in-Ok-types.ensures.made files choice c.in-Ok.ensures.linked names)) in
+    let typed : IsLeast (BadTypes files truth) None =
+    subst (λ (t : Truth). IsLeast (BadTypes files t) None) same (c.in-Ok-types.ensures.clear files choice c.in-Ok.ensures.linked names) in
+    let lent = c.rows-2.ensures files choice c.in-Ok.ensures.linked in
+    let found = rw lent at (c.build.ensures.refusal r e) in
+    least_last choice files c.an_expression_has_one_truth.ensures before c.a_type_has_one_space.ensures truth (kinds_of c.new.result) (Some r) is are typed found

@@ -1,8 +1,7 @@
-use Rattle.std.proofs.Common.{ap, inl, inr}
-use Rattle.yv_schema.specs.Module.{schema_of}
-use Rattle.yv_schema.proofs.Phases.{one_truth}
+use Rattle.std.proofs.Common.{inl}
+use Rattle.yv_schema.proofs.Phases.{one_schema}
 use Rattle.yv_schema.proofs.laws.files_have_one_schema.Goals as goal
 
 pub returns : goal.returns
-returns c = λ choice files t u clear a b.
-    ap (λ x. schema_of x choice files) (one_truth choice files c.an_expression_has_one_truth.ensures (λ f h. clear f (inr (inl h))) t u a b)
+returns c = λ choice files t u kinds others clear a b p q.
+    one_schema choice files c.an_expression_has_one_truth.ensures (λ f h. clear f (inl h)) c.a_type_has_one_space.ensures t u kinds others a b p q

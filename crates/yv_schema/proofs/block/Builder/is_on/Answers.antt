@@ -3,13 +3,13 @@ use Rattle.std.proofs.lemmas.List.{at_drop_all, at_drop_more}
 use Rattle.yv_statement.specs.Tree.{Tree, forest}
 use Rattle.yv_conform.specs.Names.{keyword_of}
 use Rattle.yv_schema.specs.Truth.{holds, is_on}
-use Rattle.yv_schema.specs.InnerConditions.{truth_of}
+use Rattle.yv_schema.specs.InnerContext.{truth_of}
 use Rattle.yv_schema.proofs.Blocks.{forest-trees}
 use Rattle.yv_schema.proofs.block.Builder.is_on.Goals as goal
 
 pub returns-then-not-holds : goal.returns-then-not-holds
 returns-then-not-holds c =
-    let truth = truth_of c.args.self.now.conditions.now in
+    let truth = truth_of c.args.self.now.context.now in
     let on = is_on truth c.args.self.now.file in
     let items = c.children-child-items.result.now in
     let i = c.loop-child.child-index in
@@ -21,6 +21,6 @@ returns-then-not-holds c =
 
 pub returns : goal.returns
 returns c =
-    let on = is_on (truth_of c.args.self.now.conditions.now) c.args.self.now.file in
+    let on = is_on (truth_of c.args.self.now.context.now) c.args.self.now.file in
     sym (at_drop_all (λ (ss : List Tree). on (forest ss)) c.children-child-items.result.now c.loop-child.child-index c.loop-child-test.false)
     ∙ c.loop-child.invariant ∙ ap on (ap forest c.children-child-items.ensures ∙ forest-trees c.args.statement.now.children)

@@ -1,0 +1,33 @@
+-- What is told of the type statements at places.
+use Rattle.std.proofs.Common.{◌≡◌, ℕ, List, Option, Some, None, refl, sym, ◌∙◌, subst, codes}
+use Rattle.std.specs.Option.{option_and_then}
+use Rattle.yv_selection.specs.Choice.{Choice}
+use Rattle.yv_rows.specs.Files.{Files}
+use Rattle.yv_rows.specs.Listed.{rows_of}
+use Rattle.yv_names.specs.References.{number_at}
+use Rattle.yv_bases.specs.Types.{IsTypeAt}
+use Rattle.yv_listed.specs.Types.{Truth}
+use Rattle.yv_values.specs.Types.{Plain}
+use Rattle.yv_types.specs.InnerPlaces.{placed_in}
+use Rattle.yv_types.specs.InnerTables.{AreSpaces, plains_at}
+use Rattle.yv_types.specs.Known.{AreTypes, IsTold, space_at}
+use Rattle.yv_types.specs.declared.known.Types.{Types}
+use Rattle.yv_types.specs.declared.table.Shared.{Shared}
+use Rattle.yv_types.proofs.Placing.{type_there}
+
+module _ (files : Files) (choice : Choice) (truth : Truth) where
+  told_of : (spaces : List (Option Shared)) (number : Option ℕ) → AreSpaces files truth choice spaces → ((k : ℕ) → number ≡ Some k → IsTypeAt (rows_of files) k)
+      → IsTold files choice truth number (option_and_then (plains_at spaces) number)
+  told_of spaces None are types = tt
+  told_of spaces (Some k) are types = by (plains_at spaces k) refl
+    where
+      by : (told : Option (List Plain)) → plains_at spaces k ≡ told → IsTold files choice truth (Some k) told
+      by None e = are.full k (types k refl) e
+      by (Some ps) e = are.sound k ps e
+
+  pub all_told : (types : Types) → AreTypes files choice truth types → (file offset : ℕ)
+      → IsTold files choice truth (number_at (rows_of files) (codes "type") file offset) (space_at types file offset)
+  all_told types are file offset =
+      let placed : placed_in types.places file offset ≡ number_at (rows_of files) (codes "type") file offset = are.places file offset in
+      subst (λ (number : Option ℕ). IsTold files choice truth number (space_at types file offset)) placed
+      (told_of types.spaces.items (placed_in types.places file offset) are.spaces (λ k e. type_there (rows_of files) file offset k (sym placed ∙ e)))
