@@ -1,0 +1,6 @@
+pub mod Words
+pub mod Listing
+pub mod Naming
+pub mod Placing
+pub mod Ending
+pub mod Walking
