@@ -13,10 +13,10 @@ above_less : (i e : ℕ) (o : Option ℕ) → i ≤ e → is_above e o ≡ true 
 above_less i e None l h = h
 above_less i e (Some p) l h = grind arith
 
-run_yes : (i : ℕ) (x : Item) (xs : List Item) → is_from i x ≡ true → run i (x ∷ xs) ≡ 1 + run i xs
+pub run_yes : (i : ℕ) (x : Item) (xs : List Item) → is_from i x ≡ true → run i (x ∷ xs) ≡ 1 + run i xs
 run_yes i x xs h = ap (λ (b : Bool). if b then 1 + run i xs else 0) h
 
-run_no : (i : ℕ) (x : Item) (xs : List Item) → is_from i x ≡ false → run i (x ∷ xs) ≡ 0
+pub run_no : (i : ℕ) (x : Item) (xs : List Item) → is_from i x ≡ false → run i (x ∷ xs) ≡ 0
 run_no i x xs h = ap (λ (b : Bool). if b then 1 + run i xs else 0) h
 
 -- what stands below a later item may be passed at once

@@ -4,3 +4,5 @@ pub mod Naming
 pub mod Placing
 pub mod Ending
 pub mod Walking
+pub mod Siting
+pub mod Spotting

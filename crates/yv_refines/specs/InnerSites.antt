@@ -78,10 +78,10 @@ pub record AreSites (rows : List Row) (items : List Item) (all : List Site) : Ty
   pub origins : (i : ℕ) (s : Site) → slice_get all i ≡ Some s → s.place.origin < length rows
   pub numbers : (i : ℕ) (s : Site) → slice_get all i ≡ Some s → s.place.number ≡ i
   pub groups : (i : ℕ) (s : Site) → slice_get all i ≡ Some s → StandsBelow rows all s s.parent
-  pub ends : (i : ℕ) (s : Site) → slice_get all i ≡ Some s → end_at items i ≡ i + 1 + count s.place.below
+  pub ends : (i : ℕ) (s : Site) → slice_get all i ≡ Some s → end_at items i ≡ s.place.number + 1 + count s.place.below
   pub low : (i : ℕ) (s : Site) → slice_get all i ≡ Some s → s.group ≤ i
   pub below : (i : ℕ) (s : Site) → slice_get all i ≡ Some s
-      → (rest : List Site) × (drop (i + 1) all ≡ sites rows s.place.file (inside_of rows s) (Some i) (i + 1) s.place.below ++ rest)
+      → (rest : List Site) × (drop (i + 1) all ≡ sites rows s.place.file (inside_of rows s) (Some s.place.number) (s.place.number + 1) s.place.below ++ rest)
 
 abbrev pub name_by : List Row → Option Row → ℕ
 name_by rows None = 0

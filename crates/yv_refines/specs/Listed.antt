@@ -1,5 +1,5 @@
 -- What an expansion of files is: one tree a file, listed.
-use Rattle.std.specs.Prelude.{◌≡◌, ℕ, ◌<◌, ◌+◌, List, length, Option, Some, None, slice_get}
+use Rattle.std.specs.Prelude.{◌≡◌, ℕ, ◌<◌, List, length, Some, None, slice_get}
 use Rattle.yv_expansion.specs.Tree.{Tree, none, item, listed, all_of}
 use Rattle.yv_expansion.specs.declared.item.Item.{Item}
 use Rattle.yv_rows.specs.Files.{Files}

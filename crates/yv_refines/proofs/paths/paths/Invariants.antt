@@ -1,4 +1,4 @@
-use Rattle.std.proofs.Common.{◌≡◌, ℕ, true, length, List, Vec, Global, Some}
+use Rattle.std.proofs.Common.{◌≡◌, ℕ, true, length, Vec, Global, Some}
 use Rattle.std.specs.List.{slice_get}
 use Rattle.yv_rows.specs.Rows.{Row}
 use Rattle.yv_rows.specs.Lent.{files_in, rows_in}
