@@ -6,3 +6,5 @@ pub mod Ending
 pub mod Walking
 pub mod Siting
 pub mod Spotting
+pub mod Siteds
+pub mod Meaning

@@ -143,7 +143,7 @@ module _ (rows : List Row) where
       let o : List Site = sites rows file g parent (first + 1 + count below) behind in
       run_no i (item_of (site file g parent first k below)) (map item_of ((bs ++ o) ++ rest)) (not_above from i parent b l)
 
-  moved : (first first' i i' : ℕ) (all all' : List Site) (s : Site) → first + i ≡ first' + i' → drop (i + 1) all ≡ drop (i' + 1) all' → Sited rows first all i s → Sited rows first' all' i' s
+  pub moved : (first first' i i' : ℕ) (all all' : List Site) (s : Site) → first + i ≡ first' + i' → drop (i + 1) all ≡ drop (i' + 1) all' → Sited rows first all i s → Sited rows first' all' i' s
   moved first first' i i' all all' s e d old = record {
     number = old.number ∙ e;
     low = omega (arith, old.low, e);
@@ -203,7 +203,7 @@ pub record Under (rows : List Row) (first : ℕ) (all : List Site) (i : ℕ) (s 
   pub same_file : s.place.file ≡ upper.place.file
 
 module _ (rows : List Row) where
-  under_moved : (first first' more i i' : ℕ) (all all' : List Site) (s : Site) → first ≡ first' + more → i' ≡ more + i → ((j : ℕ) → slice_get all' (more + j) ≡ slice_get all j) → Under rows first all i s → Under rows first' all' i' s
+  pub under_moved : (first first' more i i' : ℕ) (all all' : List Site) (s : Site) → first ≡ first' + more → i' ≡ more + i → ((j : ℕ) → slice_get all' (more + j) ≡ slice_get all j) → Under rows first all i s → Under rows first' all' i' s
   under_moved first first' more i i' all all' s e k d old = record {
     above = more + old.above;
     before = omega (arith, old.before, k);

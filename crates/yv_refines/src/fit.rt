@@ -1,6 +1,7 @@
 //! Which statements may refine which nodes.
-ghost use Rattle.std.specs.Prelude.{◌≡◌, map, slice_get};
-ghost use Rattle.yv_statement.specs.Tree.{Tree};
+ghost use Rattle.std.specs.Prelude.{◌≡◌, map, codes, count_by, slice_get};
+ghost use Rattle.std.specs.List.{list_all};
+ghost use Rattle.yv_rows.specs.Files.{has_word};
 ghost use Rattle.yv_rows.specs.Rows.{is_extended};
 ghost use Rattle.yv_rows.specs.Lent.{rows_in, trees_in};
 ghost use Rattle.yv_refines.specs.Faults.{is_among, is_allowed, is_fit, fit_by};
@@ -57,19 +58,31 @@ fn is_allowed(word: &str, target: &str) -> bool
     }
 }
 
-// Whether a refine may stand for a node of a keyword.
+// Whether each of these statements may refine a node of a keyword.
+fn is_each_allowed(target: &str, children: &[Statement<'_>]) -> bool
+    ensures { result ≡ list_all (λ c. is_allowed c.head.keyword target.now) children.now }
+{
+    children
+        .iter()
+        .all(|child| is_allowed(child.keyword(), target))
+}
+
+// How many of these statements are defaults.
+fn defaults(children: &[Statement<'_>]) -> usize
+    ensures { result ≡ count_by (λ c. has_word (codes "default") c.head) children.now }
+{
+    children
+        .iter()
+        .filter(|child| child.keyword() == "default")
+        .count()
+}
+
+// Whether a refine is fit for a node of a keyword.
 fn is_fit(target: &str, refine: &Statement<'_>) -> bool
     ensures { result ≡ is_fit target.now refine.now }
 {
     let children = refine.children();
-    let is_each = children
-        .iter()
-        .all(|child| is_allowed(child.keyword(), target));
-    let defaults = children
-        .iter()
-        .filter(|child| child.keyword() == "default")
-        .count();
-    is_each && defaults <= 1
+    is_each_allowed(target, children) && defaults(children) <= 1
 }
 
 /// Whether a numbered refine is fit for a node that is made of a numbered statement.
