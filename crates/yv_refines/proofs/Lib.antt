@@ -8,3 +8,5 @@ pub mod Siting
 pub mod Spotting
 pub mod Siteds
 pub mod Meaning
+pub mod Leading
+pub mod Reaching

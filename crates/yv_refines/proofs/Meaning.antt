@@ -24,7 +24,7 @@ use Rattle.yv_refines.proofs.Siting.{sites_count, inside_low, get_parts}
 abbrev pub is_node_in : List Row → ℕ → (Row → Bool) → Site → Bool
 is_node_in rows g test s = (s.group == g) && (not (is_at is_uses rows s.place.origin) && is_at test rows s.place.origin)
 
-find_none : {A : Type 0} (p : A → Bool) (xs : List A) → ((i : ℕ) (x : A) → slice_get xs i ≡ Some x → p x ≡ false) → find p xs ≡ None
+pub find_none : {A : Type 0} (p : A → Bool) (xs : List A) → ((i : ℕ) (x : A) → slice_get xs i ≡ Some x → p x ≡ false) → find p xs ≡ None
 find_none p [] h = refl
 find_none p (x ∷ xs) h = ap (λ b. cond b (Some x) (find p xs)) (h zero x refl) ∙ find_none p xs (λ i y at. h (suc i) y at)
 
@@ -81,7 +81,7 @@ module _ (rows : List Row) where
         | inr (j, e, there) ↦ group_from behind file g h parent (first + 1 + count below) j s l (omega (arith, m)) there
       ]
 
-  file_same : (t : Tree) (file g : ℕ) (parent : Option ℕ) (first i : ℕ) (s : Site) → slice_get (sites rows file g parent first t) i ≡ Some s → s.place.file ≡ file
+  pub file_same : (t : Tree) (file g : ℕ) (parent : Option ℕ) (first i : ℕ) (s : Site) → slice_get (sites rows file g parent first t) i ≡ Some s → s.place.file ≡ file
   file_same none file g parent first i s at = absurd (let bad : None ≡ Some s = at in cc)
   file_same (item k below behind) file g parent first zero s at =
       let head : Site = record { group = g; parent = parent; place = record { file = file; number = first; origin = k; below = below } } in
