@@ -10,3 +10,4 @@ pub mod Siteds
 pub mod Meaning
 pub mod Leading
 pub mod Reaching
+pub mod Noting

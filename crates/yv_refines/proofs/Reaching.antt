@@ -49,7 +49,7 @@ is_not false h = refl
 abbrev pub IsReady : List Row → (k i : ℕ) → Site → Type 0
 IsReady rows k i s = (k ≡ i + 1) ⊎ ((k ≤ i) × (is_at is_uses rows s.place.origin ≡ false))
 
-none_past : {A : Type 0} (xs : List A) (k : ℕ) → slice_get xs k ≡ None → k < length xs → ⊥
+pub none_past : {A : Type 0} (xs : List A) (k : ℕ) → slice_get xs k ≡ None → k < length xs → ⊥
 none_past [] k e h = omega (arith, h)
 none_past (x ∷ xs) zero e h = cc
 none_past (x ∷ xs) (suc k) e h = none_past xs k e (omega (arith, h))

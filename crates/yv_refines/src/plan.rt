@@ -1,8 +1,8 @@
 //! What is known of refines before an expansion is looked at.
-ghost use Rattle.std.specs.Prelude.{◌≡◌, ℕ, List, IfOk};
+ghost use Rattle.std.specs.Prelude.{◌≡◌, ℕ, List, IfOk, slice_get};
 ghost use Rattle.yv_rows.specs.Lent.{files_in, rows_in};
 ghost use Rattle.yv_refines.specs.InnerNames.{named_in, first_named};
-ghost use Rattle.yv_refines.specs.InnerDraft.{IsPlan};
+ghost use Rattle.yv_refines.specs.InnerDraft.{IsPlan, block_by, path_by};
 
 use crate::blocks::blocks;
 use crate::names::Names;
@@ -30,5 +30,25 @@ impl Plan {
         let blocks = blocks(alloc, rows)?;
         let paths = paths(alloc, rows, names)?;
         Ok(Plan { blocks, paths })
+    }
+
+    /// The refines in a block.
+    pub(crate) fn block(&self, number: usize) -> &[usize]
+        ensures { result.now ≡ block_by (slice_get self.now.blocks.items number) }
+    {
+        match self.blocks.get(number) {
+            Some(block) => block,
+            None => &[],
+        }
+    }
+
+    /// The path of a refine.
+    pub(crate) fn path(&self, number: usize) -> &[Step]
+        ensures { result.now ≡ path_by (slice_get self.now.paths.items number) }
+    {
+        match self.paths.get(number) {
+            Some(path) => path,
+            None => &[],
+        }
     }
 }

@@ -1,9 +1,13 @@
 //! What the refines of an expansion change.
-ghost use Rattle.std.specs.Prelude.{◌≡◌, List, IfOk};
+ghost use Rattle.std.specs.Prelude.{◌≡◌, List, map, length, IfOk};
 ghost use Rattle.yv_statement.specs.Order.{IsLeast};
 ghost use Rattle.yv_expansion.specs.Tree.{Tree};
 ghost use Rattle.yv_rows.specs.Files.{Files};
-ghost use Rattle.yv_rows.specs.Lent.{lent_in};
+ghost use Rattle.yv_rows.specs.Lent.{lent_in, files_in, rows_in};
+ghost use Rattle.yv_expansion.specs.declared.item.Item.{Item};
+ghost use Rattle.yv_refines.specs.Refined.{refined_by};
+ghost use Rattle.yv_refines.specs.InnerSites.{Site, AreSites, spot_of};
+ghost use Rattle.yv_refines.specs.InnerDraft.{IsPlan, IsDraft};
 ghost use Rattle.yv_refines.specs.Faults.{changes, BadRefines};
 ghost use Rattle.yv_refines.specs.Listed.{IsListed};
 ghost use Rattle.yv_refines.specs.Known.{AreRefines};
@@ -25,7 +29,13 @@ fn noted(
     rows: &Rows<'_, '_>,
     plan: &Plan,
     spots: &[Spot],
-) -> Result<Draft, AllocError> {
+) -> Result<Draft, AllocError>
+    requires { IsPlan (files_in rows.now) (rows_in rows.now) plan.now }
+    ensures { (items : List Item) (sites : List Site) → AreSites (rows_in rows.now) items sites
+        → spots.now ≡ map (spot_of (files_in rows.now) (rows_in rows.now)) sites
+        → IfOk result (IsDraft (lent_in rows.now) (length spots.now)
+            (refined_by (files_in rows.now) (rows_in rows.now) (map (λ s. s.place) sites))) }
+{
     let mut index = Index::new(alloc);
     let mut draft = Draft::new(alloc, spots.len())?;
     let mut left = spots.len();
@@ -57,6 +67,7 @@ impl Refines {
         ensures { IfOk result (λ refines. (trees : List Tree) → IsListed (lent_in rows.now) items.now trees
             → AreRefines (lent_in rows.now) trees refines) }
     {
+        yv_expansion::laws::trees_are_listed_in_order();
         let names = Names::read(alloc, rows)?;
         let numbers = numbers(alloc, rows, &names)?;
         let plan = Plan::read(alloc, rows, &names)?;

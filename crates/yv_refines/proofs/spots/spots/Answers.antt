@@ -5,7 +5,6 @@ use Rattle.yv_rows.specs.Rows.{Row}
 use Rattle.yv_rows.specs.Lent.{files_in, rows_in}
 use Rattle.yv_refines.specs.InnerSites.{AreHomes}
 use Rattle.yv_refines.proofs.Spotting.{spots_more, spots_all}
-use Rattle.yv_refines.proofs.Reaching.{IsReady}
 use Rattle.yv_refines.proofs.spots.spots.Goals as goal
 
 pub loop-number-preserved : goal.loop-number-preserved
