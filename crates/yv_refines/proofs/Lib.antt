@@ -11,3 +11,4 @@ pub mod Meaning
 pub mod Leading
 pub mod Reaching
 pub mod Noting
+pub mod Walked
