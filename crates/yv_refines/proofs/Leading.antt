@@ -1,32 +1,20 @@
 -- A path leads by the table of nodes to where it ends.
-use Rattle.std.proofs.Common.{◌≡◌, ℕ, ◌+◌, ◌<◌, ◌≤◌, ◌==◌, ◌&&◌, ◌||◌, ◌⊎◌, inl, inr, nat_lt, not, zero, suc, Bool, true, false, cond, if◌then◌else◌, List, [], ◌∷◌, ◌++◌, length, map, drop, Option, Some, None, refl, sym, ◌∙◌, ap, subst, arith, eqb-true, eq-eqb}
+use Rattle.std.proofs.Common.{◌≡◌, ℕ, ◌+◌, ◌<◌, ◌==◌, ◌||◌, zero, suc, Bool, true, false, cond, List, [], ◌∷◌, map, drop, Option, Some, None, refl, sym, ◌∙◌, ap, arith, eqb-true, eq-eqb}
 use Rattle.std.specs.Bool.{one_answer}
 use Rattle.std.specs.List.{slice_get, find, position_from}
-use Rattle.std.specs.Option.{option_map, option_and_then, option_or, unwrap_or, is_none}
+use Rattle.std.specs.Option.{option_map, option_and_then, unwrap_or, is_none}
 use Rattle.std.specs.Str.{bytes_eq}
-use Rattle.std.proofs.lemmas.Bool.{ne_eqb}
 use Rattle.std.proofs.lemmas.Slice.Eq.{bytes_eq-Decides}
-use Rattle.std.proofs.lemmas.Option.{same_Some, slice_get-map}
-use Rattle.std.proofs.lemmas.List.Folds.{find-append}
-use Rattle.yv_expansion.specs.Tree.{Tree, count}
-use Rattle.yv_expansion.specs.declared.item.Item.{Item}
+use Rattle.std.proofs.lemmas.Option.{same_Some}
 use Rattle.yv_rows.specs.Rows.{Row, name_in}
-use Rattle.yv_rows.specs.Names.{prefix_of, local_of}
-use Rattle.yv_rows.specs.Files.{Briefs, home_at}
+use Rattle.yv_rows.specs.Names.{prefix_of}
+use Rattle.yv_rows.specs.Files.{Briefs}
 use Rattle.yv_rows.specs.Scopes.{module_of}
-use Rattle.yv_refines.specs.Places.{Place}
-use Rattle.yv_refines.specs.Paths.{is_step, is_of, is_home}
-use Rattle.yv_refines.specs.Targets.{passes, is_at, is_uses, nodes, ended}
+use Rattle.yv_refines.specs.Paths.{is_of, is_home}
 use Rattle.yv_refines.specs.InnerNames.{step_of, first_named, name_number}
-use Rattle.yv_refines.specs.InnerSites.{Site, sites, inside, inside_of, item_of, AreSites, name_by, spot_of}
-use Rattle.yv_refines.specs.InnerWalk.{Table, is_hit, first_hit, IsTable, within, is_open, step_from, walk}
-use Rattle.yv_refines.specs.InnerDraft.{IsMeant}
-use Rattle.yv_refines.specs.declared.paths.Step.{Step}
+use Rattle.yv_refines.specs.InnerSites.{Site}
+use Rattle.yv_refines.specs.InnerWalk.{is_open}
 use Rattle.yv_refines.specs.declared.spots.Spot.{Spot}
-use Rattle.yv_refines.proofs.Words.{both_true}
-use Rattle.yv_refines.proofs.Siting.{sites_count, get_front, get_behind}
-use Rattle.yv_refines.proofs.Siteds.{drop_map}
-use Rattle.yv_refines.proofs.Meaning.{is_node_in, first_node, find_none, file_same}
 
 pub position_hit : {A : Type 0} (p : A → Bool) (k : ℕ) (xs : List A) (a : ℕ) → position_from p k xs ≡ Some a → (j : ℕ) × (x : A) × (a ≡ k + j) × (slice_get xs j ≡ Some x) × (p x ≡ true)
 position_hit p k [] a h = absurd (let bad : None ≡ Some a = h in cc)
@@ -98,15 +86,16 @@ same_name rows o r n a at named = by (first_named rows (name_in r)) refl
     by None e = absurd (let own : bytes_eq (name_in r) (name_in r) ≡ true = (bytes_eq-Decides (name_in r) (name_in r)).1 refl in let miss : bytes_eq (name_in r) (name_in r) ≡ false = position_miss (λ (x : Row). bytes_eq (name_in x) (name_in r)) 0 rows o r e at in let bad : true ≡ false = sym own ∙ miss in cc)
     by (Some b) e =
         one_answer (b == a) (bytes_eq (name_in r) n)
-        (λ h. eqb-true b a h, λ h. eq-eqb b a h)
-        (λ h. let same : name_in r ≡ n = (bytes_eq-Decides (name_in r) n).0 h in same_Some b a (sym e ∙ ap (first_named rows) same ∙ named),
-         λ h.
-            let x = position_hit (λ (x : Row). bytes_eq (name_in x) (name_in r)) 0 rows b e in
-            let y = position_hit (λ (x : Row). bytes_eq (name_in x) n) 0 rows a named in
-            let one : x.1 ≡ y.1 = same_Some x.1 y.1 (sym x.3 ∙ ap (slice_get rows) (omega (arith, x.2, y.2, h)) ∙ y.3) in
-            let left : name_in x.1 ≡ name_in r = (bytes_eq-Decides (name_in x.1) (name_in r)).0 x.4 in
-            let right : name_in y.1 ≡ n = (bytes_eq-Decides (name_in y.1) n).0 y.4 in
-            (bytes_eq-Decides (name_in r) n).1 (sym left ∙ ap name_in one ∙ right))
+        (λ h. eqb-true b a h, λ h. eq-eqb b a h) (
+          λ h. let same : name_in r ≡ n = (bytes_eq-Decides (name_in r) n).0 h in same_Some b a (sym e ∙ ap (first_named rows) same ∙ named),
+          λ h.
+              let x = position_hit (λ (x : Row). bytes_eq (name_in x) (name_in r)) 0 rows b e in
+              let y = position_hit (λ (x : Row). bytes_eq (name_in x) n) 0 rows a named in
+              let one : x.1 ≡ y.1 = same_Some x.1 y.1 (sym x.3 ∙ ap (slice_get rows) (omega (arith, x.2, y.2, h)) ∙ y.3) in
+              let left : name_in x.1 ≡ name_in r = (bytes_eq-Decides (name_in x.1) (name_in r)).0 x.4 in
+              let right : name_in y.1 ≡ n = (bytes_eq-Decides (name_in y.1) n).0 y.4 in
+              (bytes_eq-Decides (name_in r) n).1 (sym left ∙ ap name_in one ∙ right),
+        )
 
 pub open_is : (files : Briefs) (rows : List Row) (home file : ℕ) (text : List ℕ) → is_open home (step_of files rows file text) ≡ is_of files rows home file (prefix_of text)
 open_is files rows home file text = by (prefix_of text)

@@ -1,24 +1,16 @@
 -- Where paths lead by the table of nodes is where they end.
-use Rattle.std.proofs.Common.{◌≡◌, ℕ, ◌+◌, ◌<◌, ◌≤◌, ◌==◌, ◌&&◌, ◌||◌, ◌⊎◌, inl, inr, nat_lt, not, zero, suc, Bool, true, false, cond, if◌then◌else◌, List, [], ◌∷◌, ◌++◌, length, map, drop, Option, Some, None, refl, sym, ◌∙◌, ap, subst, arith, eqb-true, eq-eqb}
-use Rattle.std.specs.List.{slice_get, find, position_from}
-use Rattle.std.specs.Option.{option_map, option_and_then, option_or}
-use Rattle.std.specs.Str.{bytes_eq}
+use Rattle.std.proofs.Common.{◌≡◌, ℕ, ◌+◌, ◌≤◌, ◌==◌, ◌&&◌, inl, inr, not, zero, suc, Bool, true, false, cond, if◌then◌else◌, List, [], ◌∷◌, ◌++◌, Option, Some, None, refl, sym, ◌∙◌, ap, subst, arith, eq-eqb}
+use Rattle.std.specs.List.{slice_get, find}
+use Rattle.std.specs.Option.{option_map, option_or}
 use Rattle.std.proofs.lemmas.Bool.{ne_eqb}
-use Rattle.std.proofs.lemmas.Option.{same_Some, slice_get-map}
+use Rattle.std.proofs.lemmas.Option.{same_Some}
 use Rattle.std.proofs.lemmas.List.Folds.{find-append}
 use Rattle.yv_expansion.specs.Tree.{Tree, none, item, count}
-use Rattle.yv_expansion.specs.declared.item.Item.{Item}
-use Rattle.yv_rows.specs.Rows.{Row, name_in}
-use Rattle.yv_rows.specs.Files.{Briefs, home_at}
+use Rattle.yv_rows.specs.Rows.{Row}
 use Rattle.yv_refines.specs.Places.{Place}
-use Rattle.yv_refines.specs.Paths.{is_step}
-use Rattle.yv_refines.specs.Targets.{passes, is_at, is_uses, nodes, ended}
-use Rattle.yv_refines.specs.InnerNames.{step_of}
-use Rattle.yv_refines.specs.InnerSites.{Site, sites, inside, inside_of, item_of, AreSites, spot_of}
-use Rattle.yv_refines.specs.InnerWalk.{Table, is_hit, first_hit, IsTable, within, is_open, step_from, walk}
-use Rattle.yv_refines.specs.declared.paths.Step.{Step}
-use Rattle.yv_refines.specs.declared.spots.Spot.{Spot}
-use Rattle.yv_refines.proofs.Siting.{sites_count, inside_low, get_parts}
+use Rattle.yv_refines.specs.Targets.{is_at, is_uses, nodes}
+use Rattle.yv_refines.specs.InnerSites.{Site, sites, inside}
+use Rattle.yv_refines.proofs.Siting.{inside_low, get_parts}
 
 -- a node of the group, whose statement passes
 abbrev pub is_node_in : List Row → ℕ → (Row → Bool) → Site → Bool
@@ -94,7 +86,6 @@ module _ (rows : List Row) where
         | inr (j, e, there) ↦ file_same behind file g parent (first + 1 + count below) j s there
       ]
 
-
   -- the first node of a group among the sites of a tree is the first of the tree's nodes
   pub first_node : (t : Tree) (file g : ℕ) (parent : Option ℕ) (first : ℕ) (test : Row → Bool) → g ≤ first → option_map (λ s. s.place) (find (is_node_in rows g test) (sites rows file g parent first t)) ≡ find (λ p. is_at test rows p.origin) (nodes rows file first t)
   first_node none file g parent first test l = refl
@@ -106,7 +97,7 @@ module _ (rows : List Row) where
       (λ u. ap (λ b. (g == g) && (not b && v)) u ∙ and_no (g == g))
       (λ u. first_node below file g (Some first) (first + 1) test (omega (arith, l)))
       (λ u. find_none (is_node_in rows g test) (sites rows file (first + 1) (Some first) (first + 1) below) (λ i s at.
-          let far : first + 1 ≤ s.group = group_from below file (first + 1) (first + 1) (Some first) (first + 1) i s (omega arith) (omega arith) at in
-          ap (λ c. c && (not (is_at is_uses rows s.place.origin) && is_at test rows s.place.origin)) (ne_eqb s.group g (λ e. omega (arith, e, far, l)))))
+      let far : first + 1 ≤ s.group = group_from below file (first + 1) (first + 1) (Some first) (first + 1) i s (omega arith) (omega arith) at in
+      ap (λ c. c && (not (is_at is_uses rows s.place.origin) && is_at test rows s.place.origin)) (ne_eqb s.group g (λ e. omega (arith, e, far, l)))))
       (λ u. ap (λ b. (g == g) && (not b && v)) u ∙ ap (λ b. b && v) own)
       (first_node behind file g parent (first + 1 + count below) test (omega (arith, l)))

@@ -1,28 +1,26 @@
 -- Refines, as they are noted.
-use Rattle.std.proofs.Common.{◌≡◌, ℕ, ◌+◌, ◌<◌, ◌≤◌, ◌==◌, ◌&&◌, ◌⊎◌, inl, inr, zero, suc, Bool, true, false, cond, if◌then◌else◌, List, [], ◌∷◌, ◌++◌, length, set, get_or, map, take, drop, Option, Some, None, Vec, Global, refl, sym, ◌∙◌, ap, subst, arith, append_assoc, length-set, eqb-true, eq-eqb}
-use Rattle.std.specs.List.{slice_get, filter, Contains}
-use Rattle.std.specs.Option.{option_map}
+use Rattle.std.proofs.Common.{◌≡◌, ℕ, ◌+◌, ◌<◌, ◌≤◌, ◌==◌, ◌&&◌, inl, inr, Bool, true, false, cond, if◌then◌else◌, List, [], ◌∷◌, ◌++◌, length, set, get_or, map, take, Option, Some, None, Vec, Global, refl, sym, ◌∙◌, ap, subst, arith, append_assoc, length-set, eq-eqb}
+use Rattle.std.specs.List.{slice_get, filter}
 use Rattle.std.proofs.lemmas.Bool.{ne_eqb, cases_eq}
 use Rattle.std.proofs.lemmas.List.{map-append, append-nil}
 use Rattle.std.proofs.lemmas.List.Elements.{filter-append}
-use Rattle.std.proofs.lemmas.Option.{same_Some, slice_get-map, slice_get-get_or, slice_get_within, get_or_from_slice_get}
+use Rattle.std.proofs.lemmas.Option.{same_Some, slice_get-get_or, slice_get_within, get_or_from_slice_get}
 use Rattle.yv_statement.specs.Order.{IsLeast, IsLesser, IsUpTo, Among, refusal_at}
 use Rattle.yv_statement.specs.declared.refusal.Refusal.{Refusal}
 use Rattle.yv_statement.specs.declared.refusal.Code.TheVariants as code
-use Rattle.yv_statement.proofs.Least.{least_same, least_more, least_start, least_refused}
+use Rattle.yv_statement.proofs.Least.{least_same, least_more, least_refused}
 use Rattle.yv_rows.specs.Files.{Files, Briefs, home_at}
 use Rattle.yv_rows.specs.Rows.{Row, name_in}
 use Rattle.yv_rows.specs.Listed.{rows_of}
 use Rattle.yv_rows.proofs.Firsts.{take_next}
 use Rattle.yv_refines.specs.Places.{Place}
 use Rattle.yv_refines.specs.Paths.{steps_of}
-use Rattle.yv_refines.specs.Targets.{is_at, is_uses}
-use Rattle.yv_refines.specs.Refined.{Refined, is_refine, is_refine_of, refines_in, refined_at, target, target_by}
+use Rattle.yv_refines.specs.Refined.{Refined, is_refine, is_refine_of, refines_in, target, target_by}
 use Rattle.yv_refines.specs.Faults.{is_fit_for, is_change, is_change_by, changes_by, BadRefined, BadAmong}
-use Rattle.yv_refines.specs.InnerNames.{path_of, step_of}
+use Rattle.yv_refines.specs.InnerNames.{path_of}
 use Rattle.yv_refines.specs.InnerSites.{Site, spot_of}
 use Rattle.yv_refines.specs.InnerWalk.{Table, IsTable, walk}
-use Rattle.yv_refines.specs.InnerDraft.{Lists, IsDraft, IsMeant, IsPlan, Asked, Changed, AreRefineNumbers, code_of, fit_item_of, refined_of, path_by, block_by}
+use Rattle.yv_refines.specs.InnerDraft.{Lists, IsDraft, IsMeant, IsPlan, Asked, Changed, AreRefineNumbers, code_of, fit_item_of, path_by, block_by}
 use Rattle.yv_refines.specs.declared.draft.Draft.{Draft}
 use Rattle.yv_refines.specs.declared.plan.Plan.{Plan}
 use Rattle.yv_refines.specs.declared.paths.Step.{Step}
@@ -78,10 +76,10 @@ least_added : (files : Files) (xs : List Refined) (x : Refined) (o q c : Option 
 least_added files xs x o q c old l new =
     let all : List Refined = xs ++ x ∷ [] in
     let before : IsLeast (Among all (BadRefined files) (length xs)) o =
-        least_same (BadAmong files xs) (Among all (BadRefined files) (length xs)) o
-        (λ f h. (h.0, h.1, h.2, get_front xs (x ∷ []) h.0 h.2 h.3, h.4))
-        (λ f h. (h.0, h.1, h.2, elim (get_parts xs (x ∷ []) h.0 h.2 h.3) as (λ _. slice_get xs h.0 ≡ Some h.2) [ inl front ↦ front | inr (j, e, at) ↦ absurd (let n = h.1 in omega (arith, e, n)) ], h.4))
-        old in
+    least_same (BadAmong files xs) (Among all (BadRefined files) (length xs)) o
+    (λ f h. (h.0, h.1, h.2, get_front xs (x ∷ []) h.0 h.2 h.3, h.4))
+    (λ f h. (h.0, h.1, h.2, elim (get_parts xs (x ∷ []) h.0 h.2 h.3) as (λ _. slice_get xs h.0 ≡ Some h.2) [ inl front ↦ front | inr (j, e, at) ↦ absurd (let n = h.1 in omega (arith, e, n)) ], h.4))
+    old in
     let at : slice_get all (length xs) ≡ Some x = ap (slice_get all) (let e : length xs ≡ length xs + 0 = omega arith in e) ∙ get_behind xs (x ∷ []) 0 in
     subst (λ (n : ℕ). IsLeast (Among all (BadRefined files) n) c) (sym (longer xs x)) (least_more all (BadRefined files) (length xs) x o q c at l before new)
 
@@ -216,7 +214,7 @@ meant_is files rows spots table number home n s r steps result asked home_is at 
     let told : IsTable all (number + 1) table = subst (λ (l : List Spot). IsTable l (number + 1) table) asked.spots_are asked.told in
     let here : IsMeant all (target_by files rows s.place (Some r)) (walk table all own (path_of files rows r) number) = reached files rows asked.items asked.all asked.are (number + 1) table told own r.file (steps_of (name_in r)) number s asked.at (inl refl) in
     let result_is : result ≡ walk table all own (path_of files rows r) number =
-        is ∙ ap (λ l. walk table l home steps number) asked.spots_are ∙ ap (λ h. walk table all h steps number) home_is ∙ ap (λ l. walk table all own l number) steps_are in
+    is ∙ ap (λ l. walk table l home steps number) asked.spots_are ∙ ap (λ h. walk table all h steps number) home_is ∙ ap (λ l. walk table all own l number) steps_are in
     subst (λ (l : List Spot). IsMeant l (target files rows s.place n) result) (sym asked.spots_are)
     (subst (λ (o : Option Place). IsMeant all o result) (sym (ap (target_by files rows s.place) at))
     (subst (λ (w : Option ℕ). IsMeant all (target_by files rows s.place (Some r)) w) (sym result_is) here))

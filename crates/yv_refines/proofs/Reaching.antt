@@ -1,22 +1,22 @@
 -- Each path leads from an item to the place at which it ends.
-use Rattle.std.proofs.Common.{◌≡◌, ℕ, ◌+◌, ◌-◌, ◌<◌, ◌≤◌, ◌==◌, ◌&&◌, ◌⊎◌, inl, inr, nat_lt, not, zero, suc, Bool, true, false, cond, if◌then◌else◌, List, [], ◌∷◌, ◌++◌, length, map, drop, Option, Some, None, refl, sym, ◌∙◌, ap, subst, arith}
+use Rattle.std.proofs.Common.{◌≡◌, ℕ, ◌+◌, ◌-◌, ◌<◌, ◌≤◌, ◌==◌, ◌&&◌, ◌⊎◌, inl, inr, nat_lt, not, zero, suc, Bool, true, false, if◌then◌else◌, List, [], ◌∷◌, length, map, drop, Option, Some, None, refl, sym, ◌∙◌, ap, subst, arith}
 use Rattle.std.specs.List.{slice_get, find, position_from}
 use Rattle.std.specs.Option.{option_map, option_and_then, option_or}
 use Rattle.std.specs.Str.{bytes_eq}
 use Rattle.std.proofs.lemmas.Bool.{ne_eqb}
 use Rattle.std.proofs.lemmas.Option.{same_Some, slice_get-map, slice_get_within}
 use Rattle.std.proofs.lemmas.List.Folds.{find-append}
-use Rattle.yv_expansion.specs.Tree.{Tree, count}
+use Rattle.yv_expansion.specs.Tree.{count}
 use Rattle.yv_expansion.specs.declared.item.Item.{Item}
 use Rattle.yv_rows.specs.Rows.{Row, name_in}
 use Rattle.yv_rows.specs.Names.{prefix_of, local_of}
 use Rattle.yv_rows.specs.Files.{Briefs}
 use Rattle.yv_refines.specs.Places.{Place}
 use Rattle.yv_refines.specs.Paths.{is_step, is_of}
-use Rattle.yv_refines.specs.Targets.{passes, is_at, is_uses, nodes, ended}
+use Rattle.yv_refines.specs.Targets.{passes, is_at, is_uses, ended}
 use Rattle.yv_refines.specs.InnerNames.{step_of, first_named}
-use Rattle.yv_refines.specs.InnerSites.{Site, sites, inside, inside_of, AreSites, name_by, spot_of}
-use Rattle.yv_refines.specs.InnerWalk.{Table, is_hit, first_hit, IsTable, within, is_open, step_from, walk}
+use Rattle.yv_refines.specs.InnerSites.{Site, sites, inside_of, AreSites, name_by, spot_of}
+use Rattle.yv_refines.specs.InnerWalk.{Table, is_hit, IsTable, within, step_from, walk}
 use Rattle.yv_refines.specs.InnerDraft.{IsMeant}
 use Rattle.yv_refines.specs.declared.spots.Spot.{Spot}
 use Rattle.yv_refines.proofs.Words.{both_true}
@@ -100,21 +100,20 @@ module _ (files : Briefs) (rows : List Row) (items : List Item) (all : List Site
       let split = are.below i s at in
       let rest : List Site = split.0 in
       let tells : table g a ≡ option_map (λ x. x.place.number) (find q more) =
-          asked i s a at ready
-          ∙ position_find (spot_of files rows) (is_hit g a) q (i + 1) more (λ j x there.
-            let here : slice_get all (i + 1 + j) ≡ Some x = sym (get_drop (i + 1) j all) ∙ there in
-            (ap (λ b. (x.group == g) && (not (is_at is_uses rows x.place.origin) && b)) (same (i + 1 + j) x here), are.numbers (i + 1 + j) x here)) in
+      asked i s a at ready
+      ∙ position_find (spot_of files rows) (is_hit g a) q (i + 1) more (λ j x there.
+      let here : slice_get all (i + 1 + j) ≡ Some x = sym (get_drop (i + 1) j all) ∙ there in
+      (ap (λ b. (x.group == g) && (not (is_at is_uses rows x.place.origin) && b)) (same (i + 1 + j) x here), are.numbers (i + 1 + j) x here)) in
       ap (option_and_then (within last)) (tells ∙ ap (option_map (λ x. x.place.number)) (ap (find q) split.1 ∙ find-append q (inner s) rest))
       ∙ by (find q (inner s)) (find q rest) refl refl
     where
-
       by : (o r : Option Site) → find (is_node_in rows (inside_of rows s) test) (inner s) ≡ o → find (is_node_in rows (inside_of rows s) test) (are.below i s at).0 ≡ r → option_and_then (within (s.place.number + 1 + count s.place.below)) (option_map (λ x. x.place.number) (option_or o r)) ≡ option_map (λ x. x.place.number) o
       by None None e f = refl
       by None (Some y) e f =
           let h = find_hit (is_node_in rows (inside_of rows s) test) (are.below i s at).0 y f in
           let long : length (inner s) ≡ count s.place.below = sites_count rows s.place.below s.place.file (inside_of rows s) (Some s.place.number) (s.place.number + 1) in
           let there : slice_get all (i + 1 + (length (inner s) + h.0)) ≡ Some y =
-              sym (get_drop (i + 1) (length (inner s) + h.0) all) ∙ ap (λ l. slice_get l (length (inner s) + h.0)) (are.below i s at).1 ∙ get_behind (inner s) (are.below i s at).0 h.0 ∙ h.1 in
+          sym (get_drop (i + 1) (length (inner s) + h.0) all) ∙ ap (λ l. slice_get l (length (inner s) + h.0)) (are.below i s at).1 ∙ get_behind (inner s) (are.below i s at).0 h.0 ∙ h.1 in
           let n = are.numbers (i + 1 + (length (inner s) + h.0)) y there in
           let m = are.numbers i s at in
           ap (λ (b : Bool). if b then Some y.place.number else None) (lt_no y.place.number (s.place.number + 1 + count s.place.below) (omega (arith, n, m, long)))
@@ -122,7 +121,7 @@ module _ (files : Briefs) (rows : List Row) (items : List Item) (all : List Site
           let h = find_hit (is_node_in rows (inside_of rows s) test) (inner s) x e in
           let long : length (inner s) ≡ count s.place.below = sites_count rows s.place.below s.place.file (inside_of rows s) (Some s.place.number) (s.place.number + 1) in
           let there : slice_get all (i + 1 + h.0) ≡ Some x =
-              sym (get_drop (i + 1) h.0 all) ∙ ap (λ l. slice_get l h.0) (are.below i s at).1 ∙ get_front (inner s) (are.below i s at).0 h.0 x h.1 in
+          sym (get_drop (i + 1) h.0 all) ∙ ap (λ l. slice_get l h.0) (are.below i s at).1 ∙ get_front (inner s) (are.below i s at).0 h.0 x h.1 in
           let n = are.numbers (i + 1 + h.0) x there in
           let m = are.numbers i s at in
           ap (λ (b : Bool). if b then Some x.place.number else None) (lt_yes x.place.number (s.place.number + 1 + count s.place.below) (omega (arith, n, m, long, slice_get_within (inner s) h.0 x h.1)))
@@ -180,7 +179,7 @@ module _ (files : Briefs) (rows : List Row) (items : List Item) (all : List Site
       by (Some x) e on =
           let h = find_hit (is_node_in rows (inside_of rows s) (is_step files rows home file t)) (inner s) x e in
           let there : slice_get all (i + 1 + h.0) ≡ Some x =
-              sym (get_drop (i + 1) h.0 all) ∙ ap (λ l. slice_get l h.0) (are.below i s at).1 ∙ get_front (inner s) (are.below i s at).0 h.0 x h.1 in
+          sym (get_drop (i + 1) h.0 all) ∙ ap (λ l. slice_get l h.0) (are.below i s at).1 ∙ get_front (inner s) (are.below i s at).0 h.0 x h.1 in
           let number : x.place.number ≡ i + 1 + h.0 = are.numbers (i + 1 + h.0) x there in
           let here : slice_get all x.place.number ≡ Some x = ap (slice_get all) number ∙ there in
           let is_node : is_at is_uses rows x.place.origin ≡ false = is_not (is_at is_uses rows x.place.origin) (both_true (not (is_at is_uses rows x.place.origin)) (is_at (is_step files rows home file t) rows x.place.origin) (both_true (x.group == inside_of rows s) (not (is_at is_uses rows x.place.origin) && is_at (is_step files rows home file t) rows x.place.origin) h.2).1).0 in

@@ -1,16 +1,15 @@
 -- The items of all files at their sites.
-use Rattle.std.proofs.Common.{◌≡◌, ℕ, ◌+◌, ◌<◌, ◌≤◌, ◌⊎◌, inl, inr, zero, suc, List, [], ◌∷◌, ◌++◌, length, map, drop, Option, Some, None, refl, sym, ◌∙◌, ap, subst, arith}
+use Rattle.std.proofs.Common.{◌≡◌, ℕ, ◌+◌, ◌⊎◌, inl, inr, zero, suc, List, [], ◌∷◌, ◌++◌, length, map, drop, Option, Some, None, refl, sym, ◌∙◌, ap, subst, arith}
 use Rattle.std.specs.List.{slice_get}
 use Rattle.std.specs.Option.{option_map}
 use Rattle.std.proofs.lemmas.Option.{slice_get-map}
-use Rattle.yv_expansion.specs.Tree.{Tree, none, item, count, joined, all_of, listed}
+use Rattle.yv_expansion.specs.Tree.{Tree, none, item, count, joined, listed}
 use Rattle.yv_expansion.specs.declared.item.Item.{Item}
 use Rattle.yv_rows.specs.Rows.{Row}
 use Rattle.yv_rows.specs.Files.{Files}
 use Rattle.yv_rows.specs.Listed.{rows_of}
 use Rattle.yv_refines.specs.Listed.{AreOf, IsListed}
-use Rattle.yv_refines.specs.InnerSites.{Site, sites, sites_from, item_of, run, end_at, StandsBelow, AreSites}
-use Rattle.yv_refines.proofs.Ending.{run_no}
+use Rattle.yv_refines.specs.InnerSites.{Site, sites, sites_from, item_of, run, StandsBelow, AreSites}
 use Rattle.yv_refines.proofs.Siting.{Sited, AtTop, Under, sited, standing, moved, under_moved, sites_count, sites_from_items, get_parts, get_behind, get_front, drop_behind, Free}
 
 module _ (rows : List Row) where
@@ -34,7 +33,6 @@ module _ (rows : List Row) where
             (sited_trees ts (file + 1) (first + count t) j s there)
       ]
 
-
   -- a site at the top of its tree
   record Topped (s : Site) : Type 0 where
     no_parent : s.parent ≡ None
@@ -52,23 +50,23 @@ module _ (rows : List Row) where
       let own : AreOf rows file t = subst (λ (n : ℕ). AreOf rows n t) (let e : file + 0 ≡ file = omega arith in e) (tops 0 t refl) in
       elim (get_parts here more i s at) [
         | inl front ↦ elim (standing rows t file 0 None first i s front) [
-            | inl top ↦ inl (topped file first t s own top)
-            | inr under ↦ inr record {
-                above = under.above;
-                before = under.before;
-                upper = under.upper;
-                at = get_front here more under.above under.upper under.at;
-                is_parent = under.is_parent;
-                same_group = under.same_group;
-                same_file = under.same_file;
-              }
-          ]
+          | inl top ↦ inl (topped file first t s own top)
+          | inr under ↦ inr record {
+            above = under.above;
+            before = under.before;
+            upper = under.upper;
+            at = get_front here more under.above under.upper under.at;
+            is_parent = under.is_parent;
+            same_group = under.same_group;
+            same_file = under.same_file;
+          }
+        ]
         | inr (j, e, there) ↦ elim (stand_trees ts (file + 1) (first + count t) j s (λ n u at. subst (λ (m : ℕ). AreOf rows m u) (let e : file + suc n ≡ file + 1 + n = omega arith in e) (tops (suc n) u at)) there) [
-            | inl top ↦ inl top
-            | inr under ↦
-                let long : length here ≡ count t = sites_count rows t file 0 None first in
-                inr (under_moved rows (first + count t) first (length here) j i more (here ++ more) s (omega (arith, long)) e (λ n. get_behind here more n) under)
-          ]
+          | inl top ↦ inl top
+          | inr under ↦
+              let long : length here ≡ count t = sites_count rows t file 0 None first in
+              inr (under_moved rows (first + count t) first (length here) j i more (here ++ more) s (omega (arith, long)) e (λ n. get_behind here more n) under)
+        ]
       ]
 
   stands_below : (all : List Site) (i : ℕ) (s : Site) → s.place.number ≡ i → Topped s ⊎ Under rows 0 all i s → StandsBelow rows all s s.parent
@@ -98,7 +96,7 @@ are_sites files items trees law is =
           let n : s.place.number ≡ i = number i s at in
           let is_run : run s.place.number (map item_of (drop (i + 1) all)) ≡ count s.place.below = (sited_trees rows trees 0 0 i s at).end in
           let other : run i (drop (i + 1) items) ≡ count s.place.below =
-              ap (λ l. run i (drop (i + 1) l)) (sym same) ∙ ap (run i) (drop_map item_of (i + 1) all) ∙ ap (λ m. run m (map item_of (drop (i + 1) all))) (sym n) ∙ is_run in
+          ap (λ l. run i (drop (i + 1) l)) (sym same) ∙ ap (run i) (drop_map item_of (i + 1) all) ∙ ap (λ m. run m (map item_of (drop (i + 1) all))) (sym n) ∙ is_run in
           omega (arith, other, n);
       low = λ i s at. omega (arith, (sited_trees rows trees 0 0 i s at).low);
       below = λ i s at. (sited_trees rows trees 0 0 i s at).below;

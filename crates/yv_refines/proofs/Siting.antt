@@ -227,29 +227,29 @@ module _ (rows : List Row) where
       let head : Site = site file g parent first k below in
       elim (get_parts bs o i s at) [
         | inl here ↦ elim (standing below file (inside rows g first k) (Some first) (first + 1) i s here) [
-            | inl top ↦ inr record {
-                above = zero;
-                before = omega arith;
-                upper = head;
-                at = refl;
-                is_parent = top.same_parent ∙ ap (λ (n : ℕ). Some n) (let f : first ≡ first + 0 = omega arith in f);
-                same_group = top.same_group;
-                same_file = top.same_file;
-              }
-            | inr under ↦ inr record {
-                above = suc under.above;
-                before = omega (arith, under.before);
-                upper = under.upper;
-                at = get_front bs o under.above under.upper under.at;
-                is_parent = under.is_parent ∙ ap (λ (n : ℕ). Some n) (let f : first + 1 + under.above ≡ first + suc under.above = omega arith in f);
-                same_group = under.same_group;
-                same_file = under.same_file;
-              }
-          ]
+          | inl top ↦ inr record {
+            above = zero;
+            before = omega arith;
+            upper = head;
+            at = refl;
+            is_parent = top.same_parent ∙ ap (λ (n : ℕ). Some n) (let f : first ≡ first + 0 = omega arith in f);
+            same_group = top.same_group;
+            same_file = top.same_file;
+          }
+          | inr under ↦ inr record {
+            above = suc under.above;
+            before = omega (arith, under.before);
+            upper = under.upper;
+            at = get_front bs o under.above under.upper under.at;
+            is_parent = under.is_parent ∙ ap (λ (n : ℕ). Some n) (let f : first + 1 + under.above ≡ first + suc under.above = omega arith in f);
+            same_group = under.same_group;
+            same_file = under.same_file;
+          }
+        ]
         | inr (j, e, there) ↦ elim (standing behind file g parent (first + 1 + count below) j s there) [
-            | inl top ↦ inl record { same_parent = top.same_parent; same_group = top.same_group; same_file = top.same_file; is_of = λ are. top.is_of are.1 }
-            | inr under ↦
-                let long : length bs ≡ count below = sites_count rows below file (inside rows g first k) (Some first) (first + 1) in
-                inr (under_moved (first + 1 + count below) first (1 + length bs) j (suc i) o (head ∷ bs ++ o) s (omega (arith, long)) (omega (arith, e)) (λ n. let f : 1 + length bs + n ≡ suc (length bs + n) = omega arith in ap (slice_get (head ∷ bs ++ o)) f ∙ get_behind bs o n) under)
-          ]
+          | inl top ↦ inl record { same_parent = top.same_parent; same_group = top.same_group; same_file = top.same_file; is_of = λ are. top.is_of are.1 }
+          | inr under ↦
+              let long : length bs ≡ count below = sites_count rows below file (inside rows g first k) (Some first) (first + 1) in
+              inr (under_moved (first + 1 + count below) first (1 + length bs) j (suc i) o (head ∷ bs ++ o) s (omega (arith, long)) (omega (arith, e)) (λ n. let f : 1 + length bs + n ≡ suc (length bs + n) = omega arith in ap (slice_get (head ∷ bs ++ o)) f ∙ get_behind bs o n) under)
+        ]
       ]

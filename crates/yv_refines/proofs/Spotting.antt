@@ -43,8 +43,8 @@ module _ (files : Briefs) (rows : List Row) (items : List Item) (sites : List Si
       by None h = none_by (slice_get rows s.place.origin) refl h.0 h.1
       by (Some p) (l, q, there, g, f) =
           let read : slice_get old p ≡ Some (spot_of files rows q) =
-              ap (λ l. slice_get l p) (sym before) ∙ slice_get-map (spot_of files rows) (take i sites) p
-              ∙ ap (option_map (spot_of files rows)) (get_take sites i p (let n = are.numbers i s at in omega (arith, n, l)) ∙ there) in
+          ap (λ l. slice_get l p) (sym before) ∙ slice_get-map (spot_of files rows) (take i sites) p
+          ∙ ap (option_map (spot_of files rows)) (get_take sites i p (let n = are.numbers i s at in omega (arith, n, l)) ∙ there) in
           ap above_spot read ∙ (λ t. (sym g t, home_at files (sym f t)))
 
   named : (o : Option Row) → unwrap_or (option_map (name_number rows) o) 0 ≡ name_by rows o
@@ -56,7 +56,7 @@ module _ (files : Briefs) (rows : List Row) (items : List Item) (sites : List Si
       let same : x ≡ item_of s = same_Some x (item_of s) (sym there ∙ ap (λ l. slice_get l i) (sym are.items_are) ∙ slice_get-map item_of sites i ∙ ap (option_map item_of) at) in
       let above = above_is i s old at before in
       let name : unwrap_or (slice_get numbers s.place.origin) 0 ≡ name_by rows (slice_get rows s.place.origin) =
-          ap (λ l. unwrap_or (slice_get l s.place.origin) 0) (sym names) ∙ ap (λ o. unwrap_or o 0) (slice_get-map (name_number rows) rows s.place.origin) ∙ named (slice_get rows s.place.origin) in
+      ap (λ l. unwrap_or (slice_get l s.place.origin) 0) (sym names) ∙ ap (λ o. unwrap_or o 0) (slice_get-map (name_number rows) rows s.place.origin) ∙ named (slice_get rows s.place.origin) in
       let long : length old ≡ i = ap length (sym before) ∙ length-map (take i sites) (spot_of files rows) ∙ length_take sites i (let w = slice_get_within sites i s at in omega (arith, w)) in
       let number : length old + 1 ≡ s.place.number + 1 = omega (arith, long, are.numbers i s at) in
       let last : end ≡ s.place.number + 1 + count s.place.below = is ∙ fit.at i (slice_get_within items i x there) ∙ are.ends i s at in

@@ -1,22 +1,20 @@
 -- Items, as they are walked from the last to the first.
-use Rattle.std.proofs.Common.{◌≡◌, ℕ, ◌+◌, ◌<◌, ◌≤◌, zero, suc, cond, List, [], ◌∷◌, ◌++◌, length, map, drop, Option, Some, None, Vec, Global, refl, sym, ◌∙◌, ap, subst, arith}
+use Rattle.std.proofs.Common.{◌≡◌, ℕ, ◌+◌, ◌≤◌, zero, suc, cond, List, [], ◌∷◌, ◌++◌, length, map, drop, Option, Some, None, Vec, Global, refl, sym, ◌∙◌, ap, subst, arith}
 use Rattle.std.specs.List.{slice_get, position_from}
 use Rattle.std.specs.Option.{option_map}
 use Rattle.std.proofs.lemmas.List.{drop_all}
-use Rattle.std.proofs.lemmas.Option.{same_Some, slice_get-map, slice_get_within}
+use Rattle.std.proofs.lemmas.Option.{same_Some, slice_get-map}
 use Rattle.yv_statement.specs.Order.{IsLeast}
 use Rattle.yv_statement.specs.declared.refusal.Refusal.{Refusal}
 use Rattle.yv_expansion.specs.Tree.{Tree}
-use Rattle.yv_rows.specs.Files.{Files, Briefs, brief_of}
+use Rattle.yv_rows.specs.Files.{Files, Briefs}
 use Rattle.yv_rows.specs.Rows.{Row}
-use Rattle.yv_rows.specs.Listed.{rows_of}
-use Rattle.yv_refines.specs.Places.{Place}
-use Rattle.yv_refines.specs.Refined.{Refined, refined_at, refined_by}
+use Rattle.yv_refines.specs.Refined.{refined_at, refined_by}
 use Rattle.yv_refines.specs.Faults.{changes_by, refines_of, BadAmong}
 use Rattle.yv_refines.specs.Known.{AreRefines, items_of}
-use Rattle.yv_refines.specs.InnerSites.{Site, AreSites, spot_of, sites_from}
-use Rattle.yv_refines.specs.InnerWalk.{Table, IsTable, is_hit, first_hit, added}
-use Rattle.yv_refines.specs.InnerDraft.{IsDraft, Asked}
+use Rattle.yv_refines.specs.InnerSites.{Site, spot_of}
+use Rattle.yv_refines.specs.InnerWalk.{Table, IsTable, is_hit, added}
+use Rattle.yv_refines.specs.InnerDraft.{IsDraft}
 use Rattle.yv_refines.specs.declared.draft.Draft.{Draft}
 use Rattle.yv_refines.specs.declared.refines.Refines.{Refines}
 use Rattle.yv_refines.specs.declared.spots.Spot.{Spot}

@@ -134,7 +134,7 @@ impl Draft {
             → home ≡ home_at (files_in rows.now) s.place.file → AreRefineNumbers (rows_in rows.now) refines.now
             → IsDraft (lent_in rows.now) (length spots.now) xs self.old
             → OnOk result (IsDraft (lent_in rows.now) (length spots.now)
-                (xs ++ map (refined_of (files_in rows.now) (rows_in rows.now) s.place) refines.now) self.new) }
+            (xs ++ map (refined_of (files_in rows.now) (rows_in rows.now) s.place) refines.now) self.new) }
     {
         for refine in refines {
             let path = plan.path(*refine);
@@ -159,7 +159,7 @@ impl Draft {
             → spot.now ≡ spot_of (files_in rows.now) (rows_in rows.now) s
             → IsDraft (lent_in rows.now) (length spots.now) xs self.old
             → OnOk result (IsDraft (lent_in rows.now) (length spots.now)
-                (xs ++ refined_at (files_in rows.now) (rows_in rows.now) s.place) self.new) }
+            (xs ++ refined_at (files_in rows.now) (rows_in rows.now) s.place) self.new) }
     {
         if spot.is_uses {
             let refines = plan.block(spot.origin);

@@ -34,7 +34,7 @@ fn noted(
     ensures { (items : List Item) (sites : List Site) → AreSites (rows_in rows.now) items sites
         → spots.now ≡ map (spot_of (files_in rows.now) (rows_in rows.now)) sites
         → IfOk result (IsDraft (lent_in rows.now) (length spots.now)
-            (refined_by (files_in rows.now) (rows_in rows.now) (map (λ s. s.place) sites))) }
+        (refined_by (files_in rows.now) (rows_in rows.now) (map (λ s. s.place) sites))) }
 {
     let mut index = Index::new(alloc);
     let mut draft = Draft::new(alloc, spots.len())?;
@@ -59,11 +59,7 @@ impl Refines {
     /// Finds the node that each refine means (RFC 7950, section 7.13.2): below its uses, each step of its path being answered
     /// by the first node of the step's name. Takes time about linear in items, refines and the steps of their paths, a refine
     /// being counted once for each copy of its uses.
-    pub fn read(
-        alloc: Global,
-        rows: &Rows<'_, '_>,
-        items: &[Item],
-    ) -> Result<Refines, AllocError>
+    pub fn read(alloc: Global, rows: &Rows<'_, '_>, items: &[Item]) -> Result<Refines, AllocError>
         ensures { IfOk result (λ refines. (trees : List Tree) → IsListed (lent_in rows.now) items.now trees
             → AreRefines (lent_in rows.now) trees refines) }
     {

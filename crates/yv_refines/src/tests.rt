@@ -80,7 +80,9 @@ fn a_refine_changes_the_node_at_its_path(rt: HostRuntime) -> Result<(), Fail> {
 fn a_path_without_node_is_refused(rt: HostRuntime) -> Result<(), Fail> {
     let refines = read(rt.alloc(), "x", "mandatory", "true")?;
     assert!(rt; refines.of(2).is_empty());
-    assert!(rt; refines.fault().map(|fault| (fault.code, fault.offset)) == Some((Code::RefineTarget, 5)));
+    assert!(rt;
+        refines.fault().map(|fault| (fault.code, fault.offset)) == Some((Code::RefineTarget, 5))
+    );
     Ok(())
 }
 
@@ -88,6 +90,53 @@ fn a_path_without_node_is_refused(rt: HostRuntime) -> Result<(), Fail> {
 fn a_statement_that_does_not_fit_its_node_is_refused(rt: HostRuntime) -> Result<(), Fail> {
     let refines = read(rt.alloc(), "c/x", "presence", "here")?;
     assert!(rt; refines.of(2).is_empty());
-    assert!(rt; refines.fault().map(|fault| (fault.code, fault.offset)) == Some((Code::BadRefine, 5)));
+    assert!(rt;
+        refines.fault().map(|fault| (fault.code, fault.offset)) == Some((Code::BadRefine, 5))
+    );
+    Ok(())
+}
+
+// A module with a grouping of a leaf, a grouping that uses it and refines the leaf, and two uses of that, of which the second
+// refines the leaf too.
+fn nested(alloc: Global) -> Made {
+    let leaf = line(alloc, "leaf", "x", 2)?;
+    let inner = block(alloc, "grouping", "g", 1, vec![in alloc; leaf]?)?;
+    let first = line(alloc, "refine", "x", 5)?;
+    let uses = block(alloc, "uses", "g", 4, vec![in alloc; first]?)?;
+    let outer = block(alloc, "grouping", "h", 3, vec![in alloc; uses]?)?;
+    let plain = line(alloc, "uses", "h", 6)?;
+    let second = line(alloc, "refine", "x", 8)?;
+    let last = block(alloc, "uses", "h", 7, vec![in alloc; second]?)?;
+    block(
+        alloc,
+        "module",
+        "a",
+        0,
+        vec![in alloc; inner, outer, plain, last]?,
+    )
+}
+
+// An item made of a statement, below another item.
+fn item(origin: usize, parent: Option<usize>) -> Item {
+    Item { origin, parent }
+}
+
+#[test]
+fn an_inner_refine_comes_before_an_outer_one(rt: HostRuntime) -> Result<(), Fail> {
+    let alloc = rt.alloc();
+    let items = vec![in alloc;
+        item(6, None),
+        item(4, Some(0)),
+        item(2, Some(1)),
+        item(7, None),
+        item(4, Some(3)),
+        item(2, Some(4)),
+    ]?;
+    let roots = vec![in alloc; nested(alloc)?]?;
+    let rows = Rows::read(alloc, &roots)?;
+    let refines = Refines::read(alloc, &rows, &items)?;
+    assert!(rt; refines.of(2) == [5].as_slice());
+    assert!(rt; refines.of(5) == [5, 8].as_slice());
+    assert!(rt; refines.fault() == None);
     Ok(())
 }

@@ -34,13 +34,7 @@ fn next(index: &Index, home: usize, step: &Step, spot: &Spot) -> Option<usize>
 }
 
 // The item to which a step leads from a numbered one.
-fn next_at(
-    index: &Index,
-    spots: &[Spot],
-    home: usize,
-    step: &Step,
-    from: usize,
-) -> Option<usize>
+fn next_at(index: &Index, spots: &[Spot], home: usize, step: &Step, from: usize) -> Option<usize>
     ensures { result ≡ option_and_then (step_from (table_of index.now) home step.now) (slice_get spots.now from) }
 {
     let spot = spots.get(from).copied()?;

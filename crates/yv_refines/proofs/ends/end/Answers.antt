@@ -5,7 +5,7 @@ use Rattle.yv_refines.proofs.Ending.{end_next, end_here, from_within, end_within
 use Rattle.yv_refines.proofs.ends.end.Goals as goal
 
 pub loop-next-preserved : goal.loop-next-preserved
-loop-next-preserved c = 
+loop-next-preserved c =
     let next : ℕ = c.loop-next.next in
     let there : is_from_at c.args.number (slice_get c.args.items.now next) ≡ true = sym c.is_from.ensures ∙ c.loop-next-test.true in
     let inside : next < length c.args.items.now = from_within c.args.number next c.args.items.now there in

@@ -14,5 +14,5 @@ loop-entry-preserved c =
     let r : Row = row c.entry-item.result in
     let at : slice_get rows c.loop-entry.entry-index ≡ Some r = row_read row _ rows c.loop-entry.entry-index c.entry-item.result c.entries-entry-items.ensures c.loop-entry-test.true c.entry-item.is in
     let is : c.unwrap_or-number.result ≡ name_number rows r =
-        c.unwrap_or-number.ensures ∙ ap (λ o. unwrap_or o 0) (c.get.ensures ∙ c.requires c.as_bytes.result.now ∙ ap (first_named rows) (c.as_bytes.ensures.value ∙ c.name_of-name.ensures)) in
+    c.unwrap_or-number.ensures ∙ ap (λ o. unwrap_or o 0) (c.get.ensures ∙ c.requires c.as_bytes.result.now ∙ ap (first_named rows) (c.as_bytes.ensures.value ∙ c.name_of-name.ensures)) in
     mapped_more (name_number rows) rows c.loop-entry.entry-index r c.unwrap_or-number.result _ _ at is c.in_ok-push.ensures.items c.loop-entry.invariant

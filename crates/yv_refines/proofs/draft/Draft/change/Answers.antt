@@ -1,4 +1,4 @@
-use Rattle.std.proofs.Common.{refl, ap, arith}
+use Rattle.std.proofs.Common.{refl, arith}
 use Rattle.yv_refines.proofs.Noting.{changed_set, changed_none}
 use Rattle.yv_refines.proofs.draft.Draft.change.Goals as goal
 

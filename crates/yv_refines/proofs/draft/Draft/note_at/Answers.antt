@@ -17,7 +17,7 @@ returns-in_ok-note_all c = λ s xs asked spot_is draft.
     let f : ℕ → Refined = refined_of files rows s.place in
     let uses : is_at is_uses rows origin ≡ true = sym (ap (λ z. z.is_uses) spot_is) ∙ c.if-spot.true in
     let block : c.block-refines.result.now ≡ refines_in rows origin =
-        c.block-refines.ensures ∙ ap (λ z. block_by (slice_get c.args.plan.now.blocks.items z.origin)) spot_is ∙ block_is files rows c.args.plan.now origin c.requires (asked.are.origins c.args.number s asked.at) in
+    c.block-refines.ensures ∙ ap (λ z. block_by (slice_get c.args.plan.now.blocks.items z.origin)) spot_is ∙ block_is files rows c.args.plan.now origin c.requires (asked.are.origins c.args.number s asked.at) in
     let numbers : AreRefineNumbers rows c.block-refines.result.now = subst (λ (l : List ℕ). AreRefineNumbers rows l) (sym block) (refines_are rows origin) in
     subst (λ (l : List Refined). IsDraft (lent_in c.args.rows.now) (length c.args.spots.now) l c.note_all.new.self)
     (ap (λ l. xs ++ map f l) block ∙ ap (λ (b : Bool). xs ++ (if b then map f (refines_in rows origin) else [])) (sym uses))
