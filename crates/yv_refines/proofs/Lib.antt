@@ -12,3 +12,4 @@ pub mod Leading
 pub mod Reaching
 pub mod Noting
 pub mod Walked
+pub mod Skipping

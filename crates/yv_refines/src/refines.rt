@@ -1,11 +1,12 @@
 //! What the refines of an expansion change.
 ghost use Rattle.std.specs.Prelude.{◌≡◌, List, map, length, IfOk};
+ghost use Rattle.std.specs.List.{list_any};
 ghost use Rattle.yv_statement.specs.Order.{IsLeast};
 ghost use Rattle.yv_expansion.specs.Tree.{Tree};
 ghost use Rattle.yv_rows.specs.Files.{Files};
 ghost use Rattle.yv_rows.specs.Lent.{lent_in, files_in, rows_in};
 ghost use Rattle.yv_expansion.specs.declared.item.Item.{Item};
-ghost use Rattle.yv_refines.specs.Refined.{refined_by};
+ghost use Rattle.yv_refines.specs.Refined.{is_refine, refined_by};
 ghost use Rattle.yv_refines.specs.InnerSites.{Site, AreSites, spot_of};
 ghost use Rattle.yv_refines.specs.InnerDraft.{IsPlan, IsDraft};
 ghost use Rattle.yv_refines.specs.Faults.{changes, BadRefines};
@@ -16,12 +17,25 @@ use crate::draft::Draft;
 use crate::ends::ends;
 use crate::index::Index;
 use crate::names::{Names, numbers};
+use crate::paths::is_refine;
 use crate::plan::Plan;
 use crate::spots::{Spot, spots};
 use std::alloc::{AllocError, Global};
 use yv_expansion::Item;
 use yv_rows::Rows;
 use yv_statement::Refusal;
+
+// Whether one of the statements is a refine.
+fn has_refines(rows: &Rows<'_, '_>) -> bool
+    ensures { result ≡ list_any is_refine (rows_in rows.now) }
+{
+    for entry in rows.entries() {
+        if is_refine(entry) {
+            return true;
+        }
+    }
+    false
+}
 
 // What is noted of all items, from the last to the first.
 fn noted(
@@ -56,14 +70,21 @@ pub struct Refines {
 }
 
 impl Refines {
-    /// Finds the node that each refine means (RFC 7950, section 7.13.2): below its uses, each step of its path being answered
-    /// by the first node of the step's name. Takes time about linear in items, refines and the steps of their paths, a refine
-    /// being counted once for each copy of its uses.
+    /// Finds the node that each refine means below its uses (RFC 7950, section 7.13.2), where each step of a path is answered
+    /// by the first node of its name. The items must be those of an expansion of these files, with one tree a file. Takes time
+    /// n log n in statements, items and refines, a refine being counted once for each copy of its uses. Err for want of memory
+    /// alone.
     pub fn read(alloc: Global, rows: &Rows<'_, '_>, items: &[Item]) -> Result<Refines, AllocError>
         ensures { IfOk result (λ refines. (trees : List Tree) → IsListed (lent_in rows.now) items.now trees
             → AreRefines (lent_in rows.now) trees refines) }
     {
         yv_expansion::laws::trees_are_listed_in_order();
+        if !has_refines(rows) {
+            return Ok(Refines {
+                changes: Vec::new(alloc),
+                fault: None,
+            });
+        }
         let names = Names::read(alloc, rows)?;
         let numbers = numbers(alloc, rows, &names)?;
         let plan = Plan::read(alloc, rows, &names)?;

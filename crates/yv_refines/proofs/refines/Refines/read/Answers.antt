@@ -1,4 +1,4 @@
-use Rattle.std.proofs.Common.{◌≡◌, List, None, map, refl, ◌∙◌, subst, length}
+use Rattle.std.proofs.Common.{◌≡◌, List, None, map, refl, sym, ◌∙◌, subst, length}
 use Rattle.yv_rows.specs.Files.{Files, Briefs}
 use Rattle.yv_rows.specs.Rows.{Row}
 use Rattle.yv_rows.specs.Lent.{lent_in, files_in, rows_in}
@@ -8,6 +8,7 @@ use Rattle.yv_refines.specs.InnerSites.{Site, AreSites, sites_from, spot_of}
 use Rattle.yv_refines.specs.InnerDraft.{IsDraft}
 use Rattle.yv_refines.proofs.Siting.{sites_from_places}
 use Rattle.yv_refines.proofs.Siteds.{are_sites}
+use Rattle.yv_refines.proofs.Skipping.{nothing_told}
 use Rattle.yv_refines.proofs.Walked.{noted_all}
 use Rattle.yv_refines.proofs.refines.Refines.read.Goals as goal
 
@@ -21,3 +22,6 @@ returns c = λ trees is.
     let seen : c.deref-3.result.now ≡ map (spot_of briefs rows) all = c.deref-3.ensures.value ∙ c.in_ok-spots.ensures all are in
     noted_all files trees (length c.deref-3.result.now) c.in_ok-changes.field-0 _
     (subst (λ (l : List Place). IsDraft files (length c.deref-3.result.now) (refined_by briefs rows l) c.in_ok-changes.field-0) (sites_from_places rows trees 0 0) (c.in_ok-changes.ensures c.args.items.now all are seen)) refl refl
+
+pub returns-then-not-has_refines : goal.returns-then-not-has_refines
+returns-then-not-has_refines c = λ trees is. nothing_told (lent_in c.args.rows.now) trees _ (sym c.has_refines.ensures ∙ c.if-not-has_refines.true) c.new.ensures.items refl
