@@ -1,0 +1,15 @@
+pub mod Words
+pub mod Listing
+pub mod Naming
+pub mod Placing
+pub mod Ending
+pub mod Walking
+pub mod Siting
+pub mod Spotting
+pub mod Siteds
+pub mod Meaning
+pub mod Leading
+pub mod Reaching
+pub mod Noting
+pub mod Walked
+pub mod Skipping

@@ -1,0 +1,6 @@
+use Rattle.std.proofs.Common.{◌≡◌, drop}
+use Rattle.yv_refines.specs.InnerWalk.{table_of, walk}
+use Rattle.yv_refines.proofs.walk.walk.Given as goal
+
+abbrev pub invariant-loop-step : goal.invariant-loop-step
+invariant-loop-step l = walk (table_of l.index) l.spots l.home (drop l.step-index l.steps) l.place ≡ walk (table_of l.index) l.spots l.home l.steps l.from

@@ -1,0 +1,11 @@
+pub mod Places
+pub mod Paths
+pub mod Targets
+pub mod Refined
+pub mod Faults
+pub mod Listed
+pub mod Known
+pub mod InnerNames
+pub mod InnerSites
+pub mod InnerWalk
+pub mod InnerDraft
