@@ -65,9 +65,9 @@ module _ (one : HasOneExpansion) (choice : Choice) (files : Files) (limit : ℕ)
     λ s h. elim h [
       | inl x ↦ p.1 s x
       | inr y ↦ inl (
-        let e : phase_of r.code ≡ 7 = many_phase files (marks_of choice files) limit r p.0 in
-        let l : phase_of s.code ≡ 8 = deep_phase y.deep in
-        omega (arith, e, l))
+          let e : phase_of r.code ≡ 7 = many_phase files (marks_of choice files) limit r p.0 in
+          let l : phase_of s.code ≡ 8 = deep_phase y.deep in
+          omega (arith, e, l))
     ],
   )
 

@@ -31,8 +31,8 @@ fn line(alloc: Global, keyword: &'static str, argument: &str) -> Made {
 }
 
 // A module with a feature, and with two uses of a grouping of two leaves. The first leaf has two conditions, of which
-// the second doesn't hold where the feature is on. The statements: 0 the module, 1 its prefix, 2 the feature, 3 the grouping, 4 the first leaf, 5 and 6 its conditions,
-// 7 the second leaf, 8 the first uses, 9 the second.
+// the second doesn't hold where the feature is on. The statements: 0 the module, 1 its prefix, 2 the feature, 3 the
+// grouping, 4 the first leaf, 5 and 6 its conditions, 7 the second leaf, 8 the first uses, 9 the second.
 fn module(alloc: Global) -> Made {
     let conditions = vec![in alloc;
         line(alloc, "if-feature", "f")?,
