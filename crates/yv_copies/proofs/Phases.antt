@@ -10,9 +10,10 @@ use Rattle.yv_rows.specs.Files.{Briefs, Files, brief_of}
 use Rattle.yv_rows.specs.Rows.{Row}
 use Rattle.yv_rows.specs.Listed.{rows_of}
 use Rattle.yv_units.specs.Limit.{TooMany, given_at}
-use Rattle.yv_expansion.specs.Tree.{Tree, all_of}
+use Rattle.yv_expansion.specs.Tree.{Tree, all_of, listed}
+use Rattle.yv_expansion.specs.declared.item.Item.{Item}
 use Rattle.yv_expand.specs.Expands.{Expands}
-use Rattle.yv_expand.specs.Expanded.{AreTrees}
+use Rattle.yv_expand.specs.Expanded.{AreTrees, IsExpansion}
 use Rattle.yv_expand.specs.TooDeep.{TooDeep, here, below_node, below_uses, beside}
 use Rattle.yv_copies.specs.Given.{marks_of}
 use Rattle.yv_copies.specs.Faults.{BadDepth, BadExpansion}
@@ -59,7 +60,7 @@ module _ (one : HasOneExpansion) (choice : Choice) (files : Files) (limit : ℕ)
       (one_trees one (map brief_of files) (rows_of files) (marks_of choice files) h.trees trees h.are are) h.deep) least
 
   -- what passes the limit comes before what stands too deep
-  pub least_many : (r : Refusal) → IsLeast Many (Some r) → IsLeast (BadExpansion choice files limit) (Some r)
+  least_many : (r : Refusal) → IsLeast Many (Some r) → IsLeast (BadExpansion choice files limit) (Some r)
   least_many r p = (
     inl p.0,
     λ s h. elim h [
@@ -71,7 +72,17 @@ module _ (one : HasOneExpansion) (choice : Choice) (files : Files) (limit : ℕ)
     ],
   )
 
-  -- where the limit is kept, what stands too deep is told
-  pub least_deep : (trees : List Tree) (o : Option Refusal) → AreTrees (map brief_of files) (rows_of files) (marks_of choice files) trees
-      → IsLeast Many None → IsLeast (TooDeep (rows_of files) 1 (all_of trees)) o → IsLeast (BadExpansion choice files limit) o
-  least_deep trees o are none least = least_lesser Many (BadDepth choice files) None o o refl none (depths trees o are least)
+  module _ {marks : List Bool} (are_marks : marks ≡ marks_of choice files) where
+    -- where the files with these marks pass the limit, that is told
+    pub least_passed : (r : Refusal) → IsLeast (TooMany files marks limit) (Some r) → IsLeast (BadExpansion choice files limit) (Some r)
+    least_passed r p = least_many r (subst (λ (ms : List Bool). IsLeast (TooMany files ms limit) (Some r)) are_marks p)
+
+    -- where they don't, what stands too deep in their expansion is told
+    pub least_made : {items : List Item} (o : Option Refusal) → IsExpansion files marks items → IsLeast (TooMany files marks limit) None
+        → ((trees : List Tree) → items ≡ listed None 0 (all_of trees) → IsLeast (TooDeep (rows_of files) 1 (all_of trees)) o)
+        → IsLeast (BadExpansion choice files limit) o
+    least_made o made none deep =
+        let are = subst (λ (ms : List Bool). AreTrees (map brief_of files) (rows_of files) ms made.trees) are_marks made.are in
+        least_lesser Many (BadDepth choice files) None o o refl
+        (subst (λ (ms : List Bool). IsLeast (TooMany files ms limit) None) are_marks none)
+        (depths made.trees o are (deep made.trees made.listed))
