@@ -50,12 +50,13 @@ tops_within first n (g ∷ gs) room = (
 )
 
 -- what was built: the rows of the modules' trees
-pub record IsBuilt (gs : List Group) (nodes : List Row) (tops : List Top) : Type 0 where
+pub record IsBuilt (limit : ℕ) (gs : List Group) (nodes : List Row) (tops : List Top) : Type 0 where
   pub formed : AllByRecursion IsFormed gs
   pub differ : AreDifferent gs
   pub rows : nodes ≡ rows_from 0 (all_nodes gs)
   pub are : tops ≡ tops_from 0 gs
-  pub small : length nodes < 4294967295
+  pub small : length nodes ≤ 4294967295
+  pub limited : length nodes ≤ limit
 
 named_append : (s : Rows) (cs ds : List NodeId) (member : List ℕ) → named s (cs ++ ds) member ≡ either (named s cs member) (named s ds member)
 named_append s [] ds member = refl
@@ -114,7 +115,7 @@ module _ (s : Rows) where
       ∙ ap (λ (o : Option NodeId). either o (named s (all_numbers (tops_from (first + count g.nodes) gs)) member)) other
       ∙ in_none (first + count g.nodes) gs member formed.1 plain (sit_second s.nodes first g.nodes (all_nodes gs) sit)
 
-module _ (gs : List Group) (nodes : List Row) (tops : List Top) (b : IsBuilt gs nodes tops) where
+module _ (limit : ℕ) (gs : List Group) (nodes : List Row) (tops : List Top) (b : IsBuilt limit gs nodes tops) where
   sit : Sits nodes 0 (all_nodes gs)
   sit = subst (λ (rows : List Row). Sits rows 0 (all_nodes gs)) (sym b.rows) (all_sit (all_nodes gs))
 
@@ -181,28 +182,28 @@ module _ (gs : List Group) (nodes : List Row) (tops : List Top) (b : IsBuilt gs 
     none_below = named_below (all_nodes gs) (all_below gs b.formed) none_alike
 
     abbrev made : Rows
-    made = record { nodes = nodes; top = all_numbers tops }
+    made = record { nodes = nodes; top = all_numbers tops; limit = limit }
 
-    same : rows_of (all_nodes gs) ≡ made
-    same = ap (λ (ns : List Row). let r : Rows = record { nodes = ns; top = numbers_from 0 (all_nodes gs) } in r) (sym b.rows)
-        ∙ ap (λ (cs : List NodeId). let r : Rows = record { nodes = nodes; top = cs } in r) (sym (all_numbered 0 gs) ∙ ap all_numbers (sym b.are))
+    same : rows_of limit (all_nodes gs) ≡ made
+    same = ap (λ (ns : List Row). let r : Rows = record { nodes = ns; top = numbers_from 0 (all_nodes gs); limit = limit } in r) (sym b.rows)
+        ∙ ap (λ (cs : List NodeId). let r : Rows = record { nodes = nodes; top = cs; limit = limit } in r) (sym (all_numbered 0 gs) ∙ ap all_numbers (sym b.are))
 
     sound_made : IsSound made
-    sound_made = subst IsSound same (sound_rows (all_nodes gs) none_top none_below (omega (arith, b.small, many)))
+    sound_made = subst IsSound same (sound_rows limit (all_nodes gs) none_top none_below (omega (arith, b.small, many)) (omega (arith, b.limited, many)))
 
-    pub whole_made : whole (record { nodes = nodes; top = all_numbers tops }) ≡ all_nodes gs
-    whole_made = ap whole (sym same) ∙ whole_rows (all_nodes gs)
+    pub whole_made : whole (record { nodes = nodes; top = all_numbers tops; limit = limit }) ≡ all_nodes gs
+    whole_made = ap whole (sym same) ∙ whole_rows limit (all_nodes gs)
 
     below_made : (i : ℕ) (member : List ℕ) → i < length nodes → called nodes (slice_index_or nodes i blank_row).children member ≡ named made (slice_index_or nodes i blank_row).children member
     below_made i member lt =
-        let fronted : AllByRecursion (HasFront (rows_of (all_nodes gs)) []) (get_or (rows_from 0 (all_nodes gs)) i blank_row).children =
-        fronted_rows (all_nodes gs) none_top none_below i (omega (arith, lt, ap length b.rows)) in
+        let fronted : AllByRecursion (HasFront (rows_of limit (all_nodes gs)) []) (get_or (rows_from 0 (all_nodes gs)) i blank_row).children =
+        fronted_rows limit (all_nodes gs) none_top none_below i (omega (arith, lt, ap length b.rows)) in
         let here : AllByRecursion (HasFront made []) (get_or nodes i blank_row).children =
         subst (λ (rows : Rows). AllByRecursion (HasFront rows []) (get_or rows.nodes i blank_row).children) same fronted in
         sym (named_fronted made [] (slice_index_or nodes i blank_row).children member here)
 
     pub kept_made : (modules : ModuleTable) (tables : List Table) → ((name text : List ℕ) → look_up modules name text ≡ called_in nodes tops name text) → AreTables nodes tables
-        → IsKept modules tables (record { nodes = nodes; top = all_numbers tops })
+        → IsKept modules tables (record { nodes = nodes; top = all_numbers tops; limit = limit })
     kept_made modules tables known are = record {
       sound = sound_made;
       each = are.each;

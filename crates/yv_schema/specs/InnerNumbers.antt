@@ -20,6 +20,6 @@ rows_from first no_trees = []
 rows_from first (tree (node l kids) ts) =
     record { label = l; children = numbers_from (first + 1) kids } ∷ rows_from (first + 1) kids ++ rows_from (first + 1 + count kids) ts
 
--- the rows of a schema tree
-abbrev pub rows_of : Forest → Rows
-rows_of ts = record { nodes = rows_from 0 ts; top = numbers_from 0 ts }
+-- the rows of a schema tree, within a limit
+abbrev pub rows_of : (limit : ℕ) → Forest → Rows
+rows_of limit ts = record { nodes = rows_from 0 ts; top = numbers_from 0 ts; limit = limit }

@@ -15,7 +15,8 @@ use Rattle.yv_link.specs.Links.{BadLinks}
 use Rattle.yv_names.specs.Faults.{BadSix}
 use Rattle.yv_copies.specs.Faults.{BadExpansion}
 use Rattle.yv_types.specs.Faults.{BadTypes}
-use Rattle.yv_schema.specs.Truth.{IsTruth, Truth}
+use Rattle.yv_copies.specs.On.{Truth}
+use Rattle.yv_schema.specs.Truth.{IsTruth}
 use Rattle.yv_schema.specs.Tree.{Forest, Label, families, labels}
 use Rattle.yv_schema.specs.Schema.{IsSchema}
 

@@ -1,7 +1,7 @@
 //! The schema of YANG modules: from their statements to numbered nodes with their member names and types.
 #![tactic(auto)]
 
-mod block;
+mod file;
 mod build;
 mod compilation;
 mod conformance;
@@ -20,5 +20,6 @@ mod tests;
 mod tops;
 
 pub use compilation::compile;
-pub use node::{Node, NodeId, NodeKind};
+pub use node::{Node, NodeId};
 pub use schema::Schema;
+pub use yv_definitions::{NodeKind, NodeStatus};
