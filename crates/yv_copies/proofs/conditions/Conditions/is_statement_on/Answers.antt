@@ -3,10 +3,9 @@ use Rattle.std.specs.List.{slice_get, slice_index_or}
 use Rattle.yv_statement.specs.Tree as statement
 use Rattle.yv_rows.specs.Lent.{rows_in, trees_in}
 use Rattle.yv_link.specs.Linked.{truth_in}
-use Rattle.yv_copies.specs.On.{is_on}
-use Rattle.yv_copies.specs.On.{no_row, no_statement}
+use Rattle.yv_copies.specs.On.{is_on, no_row, no_statement}
 use Rattle.yv_copies.proofs.Giving.{not_there}
-use Rattle.yv_copies.proofs.conditions.Conditions.is_on_at.Goals as goal
+use Rattle.yv_copies.proofs.conditions.Conditions.is_statement_on.Goals as goal
 
 pub returns-in-None-statement : goal.returns-in-None-statement
 returns-in-None-statement c =
