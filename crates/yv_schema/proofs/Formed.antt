@@ -9,10 +9,10 @@ use Rattle.yv_expansion.specs.Tree as items
 use Rattle.yv_selection.specs.Choice.{Choice}
 use Rattle.yv_rows.specs.Files.{Files, brief_of, tree_name}
 use Rattle.yv_schema.specs.declared.node.NodeId.{NodeId}
-use Rattle.yv_schema.specs.Tree.{node, Forest, no_trees, tree}
+use Rattle.yv_schema.specs.Tree.{count, node, Forest, no_trees, tree}
 use Rattle.yv_schema.specs.Module.{Basis, file_nodes, is_given, is_part, label_at, labelled, member_name, module_nodes, modules_from, parts_from}
-use Rattle.yv_schema.specs.InnerTemp.{left_in}
-use Rattle.yv_schema.specs.InnerNumbers.{count, numbers_from}
+use Rattle.yv_copies.specs.Left.{left_in}
+use Rattle.yv_schema.specs.InnerNumbers.{numbers_from}
 use Rattle.yv_schema.specs.InnerBuild.{Group, HasNoColon, Top, all_nodes, all_numbers, groups_from, joined, tops_from}
 use Rattle.yv_schema.specs.InnerTables.{DifferInName}
 use Rattle.yv_schema.proofs.Gathering.{numbers_joined}

@@ -10,10 +10,10 @@ use Rattle.yv_statement.specs.Tree as statement
 use Rattle.yv_selection.specs.Choice.{Choice}
 use Rattle.yv_rows.specs.Files.{Files, brief_of, tree_name}
 use Rattle.yv_schema.specs.declared.node.NodeId.{NodeId}
-use Rattle.yv_schema.specs.Tree.{Forest, node, no_trees, tree}
+use Rattle.yv_schema.specs.Tree.{count, Forest, node, no_trees, tree}
 use Rattle.yv_schema.specs.Module.{Basis, file_nodes, is_given, is_part, module_nodes, parts_from}
 use Rattle.yv_schema.specs.Rows.{Row}
-use Rattle.yv_schema.specs.InnerNumbers.{count, numbers_from, rows_from}
+use Rattle.yv_schema.specs.InnerNumbers.{numbers_from, rows_from}
 use Rattle.yv_schema.specs.InnerBuild.{Adds, Group, Top, all_nodes, groups_from, joined, tops_from}
 use Rattle.yv_schema.proofs.Growing.{Rest, added_numbers, added_rows, rest_more}
 use Rattle.yv_schema.proofs.Numbers.{length_rows}
@@ -32,10 +32,10 @@ homes_more f xs k many are n lt = elim (cases_lt n k) [
       ∙ ap (λ (i : ℕ). Some (get_or (xs ++ f k ∷ []) i 0)) last ∙ ap Some (get_or-append_seam xs (f k) [] 0) ∙ ap (λ (i : ℕ). Some (f i)) (sym same)
 ]
 
-module _ (b : Basis) (m : ℕ) (home : List ℕ) (roots : Files) (i : ℕ) (t : statement.Tree) (lt : i < length roots) (is : t ≡ get_or roots i t) (all : Forest → Forest) (old now : List Row) (before mid : List NodeId)
+module _ (b : Basis) (m : ℕ) (home : List ℕ) (roots : Files) (i : ℕ) (t : statement.Tree) (lt : i < length roots) (all : Forest → Forest) (old now : List Row) (before mid : List NodeId)
     (rest : Rest (parts_from b m home i (drop i roots)) all old now before mid) where
-  next_file : drop i roots ≡ t ∷ drop (i + 1) roots
-  next_file = drop-cons roots i t lt ∙ ap (λ (x : statement.Tree). x ∷ drop (suc i) roots) (sym is) ∙ ap (λ (n : ℕ). t ∷ drop n roots) (sym (add-one i))
+  next_file : drop i roots ≡ get_or roots i t ∷ drop (i + 1) roots
+  next_file = drop-cons roots i t lt ∙ ap (λ (n : ℕ). get_or roots i t ∷ drop n roots) (sym (add-one i))
 
   -- a file that is another one of the module
   pub part_more : (next : List Row) (after : List NodeId) → is_part (map brief_of b.files) m i ≡ true → Adds (file_nodes b home i) now next mid after

@@ -10,10 +10,10 @@ use Rattle.yv_statement.specs.declared.refusal.Refusal.{Refusal}
 use Rattle.yv_statement.specs.Order.{Among, IsLeast, IsLesser}
 use Rattle.yv_statement.proofs.Least.{least_lesser, least_same}
 use Rattle.yv_schema.specs.declared.node.NodeId.{NodeId}
-use Rattle.yv_schema.specs.Tree.{Forest, Label, node, no_trees, tree, families, labels}
+use Rattle.yv_schema.specs.Tree.{count, Forest, Label, node, no_trees, tree, families, labels}
 use Rattle.yv_schema.specs.Refuses.{Doubled, Repeated}
 use Rattle.yv_schema.specs.Rows.{Row, Rows, blank_row, IsSound, named, row_at, whole}
-use Rattle.yv_schema.specs.InnerNumbers.{count, numbers_from, rows_from, rows_of}
+use Rattle.yv_schema.specs.InnerNumbers.{numbers_from, rows_from, rows_of}
 use Rattle.yv_schema.specs.InnerBuild.{Group, HasNoColon, Top, all_nodes, all_numbers, joined, tops_from}
 use Rattle.yv_schema.specs.InnerTables.{AreTables, IsKept, ModuleTable, Namesakes, Table, called, called_at, called_in, either, labels_at, look_up}
 use Rattle.yv_schema.proofs.Doubling.{Any, NoneAlike, among_any, any_among, any_family, any_row, any_top, apart_top, all_below, colon_cut, families_sit, family_any, fronted_of, named_below, pair_repeated, pair_top, repeated_pair, row_any, sit_first, sit_second, top_any, top_pair}
@@ -194,6 +194,9 @@ module _ (limit : ℕ) (gs : List Group) (nodes : List Row) (tops : List Top) (b
     pub whole_made : whole (record { nodes = nodes; top = all_numbers tops; limit = limit }) ≡ all_nodes gs
     whole_made = ap whole (sym same) ∙ whole_rows limit (all_nodes gs)
 
+    counted_made : length nodes ≡ count (whole (record { nodes = nodes; top = all_numbers tops; limit = limit }))
+    counted_made = many ∙ sym (ap count whole_made)
+
     below_made : (i : ℕ) (member : List ℕ) → i < length nodes → called nodes (slice_index_or nodes i blank_row).children member ≡ named made (slice_index_or nodes i blank_row).children member
     below_made i member lt =
         let fronted : AllByRecursion (HasFront (rows_of limit (all_nodes gs)) []) (get_or (rows_from 0 (all_nodes gs)) i blank_row).children =
@@ -206,6 +209,7 @@ module _ (limit : ℕ) (gs : List Group) (nodes : List Row) (tops : List Top) (b
         → IsKept modules tables (record { nodes = nodes; top = all_numbers tops; limit = limit })
     kept_made modules tables known are = record {
       sound = sound_made;
+      counted = counted_made;
       each = are.each;
       top = λ home name plain.
           known home name ∙ ap (λ (ts : List Top). called_in nodes ts home name) b.are ∙ sym (in_modules made 0 gs home name b.formed plain sit)

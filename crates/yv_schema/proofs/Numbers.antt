@@ -1,8 +1,8 @@
 -- The rows of a schema tree stand for that tree.
 use Rattle.std.proofs.Common.{◌≡◌, ℕ, ◌+◌, ◌-◌, List, [], ◌∷◌, ◌++◌, length, get_or, refl, sym, ap, ◌∙◌, arith, append_assoc, append-nil, length-append}
-use Rattle.yv_schema.specs.Tree.{Tree, node, Forest, no_trees, tree}
+use Rattle.yv_schema.specs.Tree.{count, Tree, node, Forest, no_trees, tree}
 use Rattle.yv_schema.specs.Rows.{Row, blank, pick, trees_from, whole}
-use Rattle.yv_schema.specs.InnerNumbers.{count, numbers_from, rows_from, rows_of}
+use Rattle.yv_schema.specs.InnerNumbers.{numbers_from, rows_from, rows_of}
 
 pub length_rows : (first : ℕ) (ts : Forest) → length (rows_from first ts) ≡ count ts
 length_rows first no_trees = refl

@@ -7,9 +7,9 @@ use Rattle.std.proofs.lemmas.List.Elements.{All-from_recursion}
 use Rattle.std.proofs.lemmas.Bool.{cases_Bool, cases_lt, false_from_ne_true, false≢true}
 use Rattle.std.proofs.lemmas.Slice.Eq.{bytes_eq-Decides}
 use Rattle.yv_schema.specs.declared.node.NodeId.{NodeId}
-use Rattle.yv_schema.specs.Tree.{Label, node, Forest, no_trees, tree, is_known}
+use Rattle.yv_schema.specs.Tree.{count, Label, node, Forest, no_trees, tree, is_known}
 use Rattle.yv_schema.specs.Rows.{Row, Rows, blank_row, row_at, children_of, rank, is_root, named, IsChild, IsSound}
-use Rattle.yv_schema.specs.InnerNumbers.{count, numbers_from, rows_from, rows_of}
+use Rattle.yv_schema.specs.InnerNumbers.{numbers_from, rows_from, rows_of}
 use Rattle.yv_schema.proofs.Finding.{HasFront}
 use Rattle.yv_schema.proofs.Numbers.{length_rows}
 

@@ -5,11 +5,11 @@ use Rattle.yv_expansion.specs.Tree as items
 use Rattle.yv_expansion.specs.declared.item.Item.{Item}
 use Rattle.yv_pruning.specs.Families as families
 use Rattle.yv_schema.specs.declared.node.NodeId.{NodeId}
-use Rattle.yv_schema.specs.Tree.{Forest, node, no_trees, tree}
+use Rattle.yv_schema.specs.Tree.{count, Forest, node, no_trees, tree}
 use Rattle.yv_schema.specs.Rows.{Row}
 use Rattle.yv_schema.specs.Module.{Basis, label_at, labelled}
 use Rattle.yv_schema.specs.InnerBuild.{Adds, joined}
-use Rattle.yv_schema.specs.InnerNumbers.{count, numbers_from, rows_from}
+use Rattle.yv_schema.specs.InnerNumbers.{numbers_from, rows_from}
 use Rattle.yv_schema.specs.InnerRowing.{above_of, number_behind, numbers_behind, row_of, rows_for}
 use Rattle.yv_schema.proofs.Formed.{labelled_joined}
 use Rattle.yv_schema.proofs.Gathering.{numbers_joined, rows_joined}
@@ -70,7 +70,7 @@ module _ (b : Basis) (home : List ℕ) where
         ap (numbers_behind base) here ∙ numbers_labelled home (first + 1) below ∙ ap (λ (n : ℕ). numbers_from n (inside below)) (omega arith) in
         let long : first + 1 + length (items.listed (Some first) (first + 1) below) ≡ first + 1 + items.count below = omega (arith, length_listed (Some first) (first + 1) below) in
         let rest : rows_for b home base all (first + 1) (items.listed (Some first) (first + 1) below ++ items.listed parent (first + 1 + items.count below) behind)
-            ≡ rows_from (base + first + 1) (inside below) ++ rows_from (base + first + 1 + count (inside below)) (labelled b home (above_of parent home) behind no_trees) =
+        ≡ rows_from (base + first + 1) (inside below) ++ rows_from (base + first + 1 + count (inside below)) (labelled b home (above_of parent home) behind no_trees) =
         rows_both all (first + 1) (items.listed (Some first) (first + 1) below) (items.listed parent (first + 1 + items.count below) behind)
         ∙ ap (λ (n : ℕ). rows_for b home base all (first + 1) (items.listed (Some first) (first + 1) below) ++ rows_for b home base all n (items.listed parent (first + 1 + items.count below) behind)) long
         ∙ ap (λ (rs : List Row). rs ++ rows_for b home base all (first + 1 + items.count below) (items.listed parent (first + 1 + items.count below) behind)) (below_rows ∙ ap (λ (n : ℕ). rows_from n (inside below)) (omega arith))

@@ -5,10 +5,10 @@ use Rattle.yv_statement.specs.Tree as statement
 use Rattle.yv_selection.specs.Choice.{Choice}
 use Rattle.yv_rows.specs.Files.{Files, brief_of, home_at, tree_name}
 use Rattle.yv_schema.specs.declared.node.NodeId.{NodeId}
-use Rattle.yv_schema.specs.Tree.{Forest, no_trees, tree}
+use Rattle.yv_schema.specs.Tree.{count, Forest, no_trees, tree}
 use Rattle.yv_schema.specs.Module.{Basis, is_given, module_nodes}
 use Rattle.yv_schema.specs.Rows.{Row}
-use Rattle.yv_schema.specs.InnerNumbers.{count, numbers_from, rows_from}
+use Rattle.yv_schema.specs.InnerNumbers.{numbers_from, rows_from}
 
 -- rows and numbers were added for these trees: whichever others follow, the rows and numbers are those of both
 pub record Adds (trees : Forest → Forest) (old new : List Row) (before after : List NodeId) : Type 0 where

@@ -1,8 +1,9 @@
 -- Only private clauses cite this: what is known of files before their nodes are built.
 use Rattle.std.specs.Prelude.{◌≡◌}
 use Rattle.yv_selection.specs.Choice.{Choice}
-use Rattle.yv_definitions.specs.Known.{files_in, kinds_in}
 use Rattle.yv_rows.specs.Files.{Files}
+use Rattle.yv_definitions.specs.Known.{files_in, kinds_in}
+use Rattle.yv_copies.specs.Copies.{AreCopies}
 use Rattle.yv_schema.specs.Module.{Basis}
 use Rattle.yv_schema.specs.declared.context.Context.{Context}
 
@@ -10,6 +11,9 @@ use Rattle.yv_schema.specs.declared.context.Context.{Context}
 pub record Tells (b : Basis) (c : Context) : Type 0 where
   pub files : files_in c.definitions.now ≡ b.files
   pub kinds : kinds_in c.definitions.now ≡ b.kinds
+  pub choice : Choice
+  pub copies : AreCopies choice b.files b.truth c.copies.now
+  pub trees : copies.trees ≡ b.trees
 
 -- the context tells of a basis with these files
 pub record TellsOf (files : Files) (c : Context) : Type 0 where

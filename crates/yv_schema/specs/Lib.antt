@@ -1,6 +1,5 @@
 pub mod Truth
 pub mod Tree
-pub mod InnerTemp
 pub mod Module
 pub mod Schema
 pub mod Refuses

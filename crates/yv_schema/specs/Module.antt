@@ -8,7 +8,8 @@ use Rattle.yv_expansion.specs.Tree as items
 use Rattle.yv_refines.specs.Faults.{changes}
 use Rattle.yv_definitions.specs.Kinds.{Kinds}
 use Rattle.yv_definitions.specs.Defined.{Defined, refined}
-use Rattle.yv_schema.specs.InnerTemp.{statement_of, left_in}
+use Rattle.yv_copies.specs.Items.{statement_of}
+use Rattle.yv_copies.specs.Left.{left_in}
 use Rattle.yv_copies.specs.On.{Truth}
 use Rattle.yv_schema.specs.Tree.{Label, node, Forest, no_trees, tree}
 

@@ -1,5 +1,5 @@
 -- The schema as a tree (RFC 7950, section 7).
-use Rattle.std.specs.Prelude.{ℕ, List, [], ◌∷◌, ◌++◌, Bool, false, ◌||◌}
+use Rattle.std.specs.Prelude.{ℕ, ◌+◌, List, [], ◌∷◌, ◌++◌, Bool, false, ◌||◌}
 use Rattle.std.specs.Str.{bytes_eq}
 use Rattle.yv_definitions.specs.declared.definition.NodeKind.{NodeKind}
 use Rattle.yv_definitions.specs.declared.definition.NodeStatus.{NodeStatus}
@@ -30,6 +30,11 @@ mutual
   pub data Forest : Type 0 where
     no_trees : Forest
     tree : Tree → Forest → Forest
+
+-- how many nodes there are, at any depth
+abbrev pub count : Forest → ℕ
+count no_trees = 0
+count (tree (node l kids) ts) = 1 + count kids + count ts
 
 -- these nodes without those below them
 abbrev pub labels : Forest → List Label

@@ -14,7 +14,7 @@ use crate::conformance::first_bad_file;
 use crate::context::Context;
 use crate::schema::Schema;
 use std::alloc::Global;
-use yv_copies::expanded;
+use yv_copies::copies;
 use yv_copies::laws::{files_have_one_expansion, refusals_of_expansions_have_phases};
 use yv_definitions::Definitions;
 use yv_definitions::laws::{files_have_one_kinds, types_tell_kinds};
@@ -67,8 +67,8 @@ pub fn compile(
         Ok(names) => names,
         Err(stop) => return Err(stop),
     };
-    let _expansion = match expanded(alloc, linked.rows(), &names, selection, limit) {
-        Ok(expansion) => expansion,
+    let copies = match copies(alloc, &linked, linked.rows(), &names, selection, limit) {
+        Ok(copies) => copies,
         Err(stop) => return Err(stop),
     };
     let types = match types(alloc, &linked, &names) {
@@ -76,8 +76,6 @@ pub fn compile(
         Err(stop) => return Err(stop),
     };
     let definitions = Definitions::read(alloc, linked.rows(), &types)?;
-    let context = Context {
-        definitions: &definitions,
-    };
+    let context = Context::new(&definitions, &copies);
     build(alloc, linked.rows(), &context, selection, limit)
 }

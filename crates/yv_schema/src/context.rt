@@ -2,28 +2,48 @@
 ghost use Rattle.std.specs.Prelude.{◌≡◌, None, IfOk};
 ghost use Rattle.yv_expansion.specs.Tree.{listed};
 ghost use Rattle.yv_refines.specs.Faults.{changes};
+ghost use Rattle.yv_selection.specs.Choice.{Choice};
 ghost use Rattle.yv_definitions.specs.Defined.{refined};
-ghost use Rattle.yv_schema.specs.InnerTemp.{left_in, statement_of};
+ghost use Rattle.yv_definitions.specs.Known.{files_in, kinds_in};
+ghost use Rattle.yv_copies.specs.Copies.{AreCopies};
+ghost use Rattle.yv_copies.specs.Items.{statement_of};
+ghost use Rattle.yv_copies.specs.Left.{left_in};
 ghost use Rattle.yv_schema.specs.Module.{Basis};
 ghost use Rattle.yv_schema.specs.InnerContext.{Tells};
 
 use std::alloc::{AllocError, Global};
+use yv_copies::Copies;
 use yv_definitions::{Definition, Definitions};
 use yv_expansion::Item;
 
 /// What the statements of files say of nodes, and the copies of these that there are.
 #[derive(Clone, Copy)]
 pub(crate) struct Context<'c, 'a, 'b> {
-    pub(crate) definitions: &'c Definitions<'c, 'a, 'b>,
+    definitions: &'c Definitions<'c, 'a, 'b>,
+    copies: &'c Copies,
 }
 
-impl Context<'_, '_, '_> {
+impl<'c, 'a, 'b> Context<'c, 'a, 'b> {
+    /// What these say.
+    pub(crate) fn new(
+        definitions: &'c Definitions<'c, 'a, 'b>,
+        copies: &'c Copies,
+    ) -> Context<'c, 'a, 'b>
+        ensures { (b : Basis) (choice : Choice) → files_in definitions.now ≡ b.files → kinds_in definitions.now ≡ b.kinds
+            → (k : AreCopies choice b.files b.truth copies.now) → k.trees ≡ b.trees → Tells b result }
+    {
+        Context {
+            definitions,
+            copies,
+        }
+    }
+
     /// What is left of the expansion of a file, by the conditions of its items.
     pub(crate) fn left(&self, alloc: Global, file: u32) -> Result<Vec<Item>, AllocError>
         ensures { (b : Basis) → Tells b self.now → IfOk result (λ items. items.items
             ≡ listed None 0 (left_in b.truth b.files b.trees file)) }
     {
-        Ok(Vec::new(alloc))
+        self.copies.left(alloc, file)
     }
 
     /// What is said of the node of an item.
@@ -31,6 +51,7 @@ impl Context<'_, '_, '_> {
         ensures { (b : Basis) → Tells b self.now → IfOk result (λ d. d
             ≡ refined b.kinds b.files (statement_of b.trees item) (changes b.files b.trees item)) }
     {
-        self.definitions.of(item, &[])
+        self.definitions
+            .of(self.copies.statement(item), self.copies.changes(item))
     }
 }

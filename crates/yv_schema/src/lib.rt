@@ -1,12 +1,12 @@
 //! The schema of YANG modules: from their statements to numbered nodes with their member names and types.
 #![tactic(auto)]
 
-mod file;
 mod build;
 mod compilation;
 mod conformance;
 mod context;
 mod early;
+mod file;
 pub mod laws;
 mod modules;
 mod name;

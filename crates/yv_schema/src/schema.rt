@@ -32,15 +32,16 @@ impl Model for Schema {
 
 impl Schema {
     ghost use Rattle.std.specs.Prelude.{is_some};
-    ghost use Rattle.yv_schema.specs.Tree.{is_known};
-    ghost use Rattle.yv_schema.specs.Rows.{AreTrees, IsSound, IsChild, below, row_at, children_of, named, rank};
+    ghost use Rattle.yv_schema.specs.Tree.{count, is_known};
+    ghost use Rattle.yv_schema.specs.Rows.{AreTrees, IsSound, IsChild, below, row_at, children_of, named, rank, whole};
 
     /// The parent of the nodes at the top.
     pub const ROOT: NodeId = NodeId(u32::MAX);
 
     /// How many nodes there are: never more than the limit.
     pub fn len(&self) -> u32
-        ensures count { result ≡ length self.now.nodes }
+        ensures rows { result ≡ length self.now.nodes }
+        ensures nodes { result ≡ count (whole self.now) }
         ensures within { length self.now.nodes ≤ self.now.limit }
     {
         self.nodes.len()

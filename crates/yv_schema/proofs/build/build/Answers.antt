@@ -1,4 +1,4 @@
-use Rattle.std.proofs.Common.{◌≡◌, List, map, sym, ◌∙◌, length, Option, Some, None, subst, arith}
+use Rattle.std.proofs.Common.{◌≡◌, ◌≤◌, List, map, sym, ◌∙◌, length, Option, Some, None, subst, arith}
 use Rattle.std.proofs.lemmas.List.{length-map}
 use Rattle.yv_selection.specs.Choice.{choice_of}
 use Rattle.yv_statement.specs.declared.refusal.Refusal.{Refusal}
@@ -11,7 +11,7 @@ use Rattle.yv_schema.specs.InnerContext.{Tells}
 use Rattle.yv_schema.specs.InnerBuild.{Group, Top, all_nodes, groups_from}
 use Rattle.yv_schema.specs.InnerTables.{Namesakes, labels_at}
 use Rattle.yv_schema.specs.InnerTops.{top_of}
-use Rattle.yv_schema.specs.Rows.{Row}
+use Rattle.yv_schema.specs.Rows.{Bounded, Row}
 use Rattle.yv_schema.proofs.Formed.{all_modules, groups_different, groups_formed, tops_differ}
 use Rattle.yv_schema.proofs.Kept.{IsBuilt, built_doubled, built_rows, built_tops, kept_made, whole_made}
 use Rattle.yv_schema.proofs.build.build.Goals as goal
@@ -26,6 +26,13 @@ tops c = map top_of c.in_ok-tops.tops.items
 abbrev Told : After-deref-2 → Basis → Type 0
 Told c b = Tells b c.args.context.now × (b.files ≡ lent_in c.args.rows.now)
 
+-- the nodes are within the limit that was given
+bounded : (c : After-deref-2) → length c.add_modules.new.nodes.rows ≤ c.add_modules.new.nodes.limit
+bounded c = subst (λ (v : Bounded). length v.rows ≤ v.limit) c.nodes.view_is c.nodes.invariant
+
+within : (c : After-deref-2) → c.add_modules.new.nodes.limit ≡ c.args.limit
+within c = c.in_ok-tops.ensures.limit ∙ c.new-nodes.ensures.limit
+
 built : (c : After-deref-2) (b : Basis) → Told c b → IsBuilt c.args.limit (groups c b) c.add_modules.new.nodes.rows (tops c)
 built c b told =
     let files = lent_in c.args.rows.now in
@@ -36,8 +43,8 @@ built c b told =
       differ = groups_different b (choice_of c.args.selection.now) 0 files names.differ;
       rows = rw (c.in_ok-parts.ensures, c.new-nodes.ensures.rows) at (c.in_ok-tops.ensures.rows b told.0 of_files);
       are = rw (c.in_ok-parts.ensures, c.new-nodes.ensures.rows) at (c.in_ok-tops.ensures.tops b told.0 of_files);
-      small = omega arith;
-      limited = rw c.nodes.view_is at c.nodes.invariant;
+      small = omega (arith, bounded c, within c);
+      limited = omega (arith, bounded c, within c);
     }
 
 -- some basis is told
@@ -93,9 +100,8 @@ invariant_of-result c =
     let clear : IsLeast (Doubled (all_nodes (groups d b))) None = subst (λ (ts : Forest). IsLeast (Doubled ts) None) (sym (whole_tree d b (known d))) none in
     let known_tables = rw c.deref-2.ensures.value at c.in_ok-at_top.ensures.tables in
     let top = rw c.deref.ensures.value at c.in_ok-top.ensures in
-    let limit = c.in_ok-tops.ensures.limit ∙ c.new-nodes.ensures.limit in
     let kept = kept_made c.args.limit (groups d b) d.add_modules.new.nodes.rows (tops d) (built d b (known d)) clear c.in_ok-at_top.at_top.tables c.in_ok-below.below.tables.items known_tables c.in_ok-below.ensures.tables in
-    rw (top, limit) kept
+    rw (top, within d) kept
 
 pub returns-clause-schema : goal.returns-clause-schema
 returns-clause-schema c = λ b tells files.
@@ -105,9 +111,8 @@ returns-clause-schema c = λ b tells files.
     let none : IsLeast (Doubled (schema d b)) None = least d b told c.in_ok-at_top.at_top.doubled c.in_ok-below.below.doubled None c.in-None.ensures p c.in_ok-below.ensures.doubled in
     let clear : IsLeast (Doubled (all_nodes (groups d b))) None = subst (λ (ts : Forest). IsLeast (Doubled ts) None) (sym (whole_tree d b told)) none in
     let top = rw c.deref.ensures.value at c.in_ok-top.ensures in
-    let limit = c.in_ok-tops.ensures.limit ∙ c.new-nodes.ensures.limit in
     let whole = whole_made c.args.limit (groups d b) d.add_modules.new.nodes.rows (tops d) (built d b told) clear in
-    rw (top, limit) (whole ∙ whole_tree d b told)
+    rw top (whole ∙ whole_tree d b told)
 
 pub returns-clause-clear : goal.returns-clause-clear
 returns-clause-clear c = λ b tells files.
