@@ -1,5 +1,5 @@
 //! Which items of an expansion are on.
-ghost use Rattle.std.specs.Prelude.{◌≡◌, ◌<◌, ◌&&◌, ℕ, Bool, List, true, length, slice_index_or, IfOk};
+ghost use Rattle.std.specs.Prelude.{◌≡◌, ◌<◌, ◌&&◌, ℕ, List, true, length, slice_index_or, IfOk};
 ghost use Rattle.std.specs.List.{list_all};
 ghost use Rattle.yv_statement.specs.Tree.{name_of as name_at};
 ghost use Rattle.yv_conform.specs.Names.{keyword_of};

@@ -1,5 +1,5 @@
 //! Which nodes stand below which.
-ghost use Rattle.std.specs.Prelude.{◌≡◌, ◌<◌, ◌++◌, ◌∷◌, [], List, None, length, slice_index_or, slice_set, IfOk, OnOk};
+ghost use Rattle.std.specs.Prelude.{◌≡◌, ◌<◌, ◌++◌, ◌∷◌, [], None, length, slice_index_or, slice_set, IfOk, OnOk};
 ghost use Rattle.yv_expansion.specs.Tree.{Tree, listed};
 ghost use Rattle.yv_pruning.specs.Families.{below_from, lists_of, numbers_from};
 

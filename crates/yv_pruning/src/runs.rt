@@ -1,8 +1,7 @@
 //! Items gone over one by one.
 ghost use Rattle.std.specs.Prelude.{◌≡◌, ◌≤◌, ◌<◌, ◌+◌, ◌++◌, [], length, IfOk, OnOk};
-ghost use Rattle.std.specs.Option.{option_copied};
 ghost use Rattle.yv_pruning.specs.Listed.{is_marked};
-ghost use Rattle.yv_pruning.specs.InnerRuns.{Runs, above, node_by, one_more, place_by};
+ghost use Rattle.yv_pruning.specs.InnerRuns.{above, node_by, one_more, place_by};
 
 use std::alloc::{AllocError, Global};
 use yv_expansion::Item;
