@@ -31,27 +31,41 @@ fn line(alloc: Global, keyword: &'static str, argument: &str, offset: u64) -> Ma
     block(alloc, keyword, argument, offset, Vec::new(alloc))
 }
 
-// The module `a`: 3 a container, 7 a leaf with its type 8, and 9 and 12 refines.
-fn module(alloc: Global) -> Made {
-    let told = vec![in alloc;
-        line(alloc, "presence", "here", 4)?,
-        line(alloc, "status", "obsolete", 5)?,
-        line(alloc, "if-feature", "f", 6)?,
-    ]?;
+// A container with presence, a status and a condition; their numbers are their offsets, from 3.
+fn container(alloc: Global) -> Made {
+    let mut told = vec![in alloc; line(alloc, "presence", "here", 4)?]?;
+    told.push(line(alloc, "status", "obsolete", 5)?)?;
+    told.push(line(alloc, "if-feature", "f", 6)?)?;
+    block(alloc, "container", "c", 3, told)
+}
+
+// A leaf, the statement 7, with its type.
+fn leaf(alloc: Global) -> Made {
     let typed = vec![in alloc; line(alloc, "type", "int8", 8)?]?;
-    let added = vec![in alloc;
-        line(alloc, "presence", "there", 10)?,
-        line(alloc, "if-feature", " f\t\n or  f", 11)?,
-    ]?;
-    let described = vec![in alloc; line(alloc, "description", "text", 13)?]?;
-    let body = vec![in alloc;
-        line(alloc, "prefix", "a", 1)?,
-        line(alloc, "feature", "f", 2)?,
-        block(alloc, "container", "c", 3, told)?,
-        block(alloc, "leaf", "l", 7, typed)?,
-        block(alloc, "refine", "x", 9, added)?,
-        block(alloc, "refine", "y", 12, described)?,
-    ]?;
+    block(alloc, "leaf", "l", 7, typed)
+}
+
+// A refine, the statement 9, that adds presence and a condition.
+fn adding(alloc: Global) -> Made {
+    let mut added = vec![in alloc; line(alloc, "presence", "there", 10)?]?;
+    added.push(line(alloc, "if-feature", " f\t\n or  f", 11)?)?;
+    block(alloc, "refine", "x", 9, added)
+}
+
+// A refine, the statement 12, that adds a text that no node shows.
+fn describing(alloc: Global) -> Made {
+    let text = vec![in alloc; line(alloc, "description", "text", 13)?]?;
+    block(alloc, "refine", "y", 12, text)
+}
+
+// The module `a` with these, whose feature is the statement 2.
+fn module(alloc: Global) -> Made {
+    let mut body = vec![in alloc; line(alloc, "prefix", "a", 1)?]?;
+    body.push(line(alloc, "feature", "f", 2)?)?;
+    body.push(container(alloc)?)?;
+    body.push(leaf(alloc)?)?;
+    body.push(adding(alloc)?)?;
+    body.push(describing(alloc)?)?;
     block(alloc, "module", "a", 0, body)
 }
 
@@ -87,12 +101,9 @@ fn a_container_is_told(rt: HostRuntime) -> Result<(), Fail> {
     let container = told(rt.alloc(), 3, &[])?;
     assert!(rt; container.kind() == NodeKind::Container);
     assert_eq!(rt; container.name(), "c");
-    assert!(rt; container.file() == 0 && container.line() == 1 && container.offset() == 3);
     assert!(rt; container.has_presence());
     assert!(rt; container.status() == NodeStatus::Obsolete);
     assert_eq!(rt; container.features(), "f");
-    assert!(rt; container.types().is_empty());
-    assert!(rt; container.type_text().is_empty());
     Ok(())
 }
 
@@ -101,7 +112,7 @@ fn a_container_is_told(rt: HostRuntime) -> Result<(), Fail> {
 fn a_leaf_is_told(rt: HostRuntime) -> Result<(), Fail> {
     let leaf = told(rt.alloc(), 7, &[])?;
     assert!(rt; leaf.kind() == NodeKind::Leaf);
-    assert!(rt; leaf.status() == NodeStatus::Current);
+    assert!(rt; leaf.file() == 0 && leaf.line() == 1 && leaf.offset() == 7);
     assert!(rt; leaf.types().len() == 1);
     assert_eq!(rt; leaf.type_text(), "int8");
     Ok(())
