@@ -1,7 +1,7 @@
 -- The expressions of the `if-feature` statements of blocks.
-use Rattle.std.proofs.Common.{◌≡◌, ℕ, Bool, true, false, List, [], ◌∷◌, ◌++◌, cond, is_some, Option, Some, refl, sym, ap, ◌∙◌}
+use Rattle.std.proofs.Common.{◌≡◌, ℕ, Bool, true, false, List, [], ◌∷◌, ◌++◌, cond, is_some, Option, Some, refl, ap, ◌∙◌}
 use Rattle.std.specs.Prelude.{◌||◌, filter, map}
-use Rattle.std.specs.List.{find, list_any}
+use Rattle.std.specs.List.{find}
 use Rattle.yv_statement.specs.Tree.{Tree, Forest, trees, name_of}
 use Rattle.yv_conform.specs.declared.keyword.Keyword.TheVariants as word
 use Rattle.yv_rows.specs.Files.{Files}

@@ -1,6 +1,6 @@
 -- The types of a block, by the first of its `type` statements.
-use Rattle.std.proofs.Common.{◌≡◌, ℕ, List, [], Bool, cond, Option, Some, None, refl}
-use Rattle.yv_statement.specs.Tree.{Head, Tree, Forest, End, Then}
+use Rattle.std.proofs.Common.{◌≡◌, ℕ, List, [], cond, Option, Some, None, refl}
+use Rattle.yv_statement.specs.Tree.{Tree, Forest, End, Then}
 use Rattle.yv_conform.specs.declared.keyword.Keyword.{Keyword}
 use Rattle.yv_conform.specs.declared.keyword.Keyword.TheVariants as word
 use Rattle.yv_conform.specs.Names.{keyword_of, same}

@@ -1,6 +1,6 @@
 -- What the statements of files say of the schema nodes that they define (RFC 7950, sections 7.5, 7.6, 7.13.2, 7.20.2 and
 -- 7.21.2).
-use Rattle.std.specs.Prelude.{ℕ, ◌==◌, Bool, true, false, ◌||◌, List, [], ◌∷◌, ◌++◌, filter, map, Option, Some, None, is_some, slice_index_or, if◌then◌else◌, codes, encode_utf8_all}
+use Rattle.std.specs.Prelude.{ℕ, ◌==◌, Bool, false, ◌||◌, List, [], ◌∷◌, ◌++◌, filter, map, Option, Some, None, is_some, slice_index_or, if◌then◌else◌, codes, encode_utf8_all}
 use Rattle.std.specs.List.{find, list_any}
 use Rattle.std.specs.Str.{bytes_eq, chars}
 use Rattle.yv_statement.specs.Tree.{Head, Tree, Forest, End, Then, trees, name_of}

@@ -1,10 +1,8 @@
-use Rattle.std.proofs.Common.{◌≡◌, ◌++◌, List, ℕ, false, string_bytes, sym, ap, ◌∙◌}
-use Rattle.std.specs.Prelude.{encode_utf8_all}
+use Rattle.std.proofs.Common.{◌≡◌, false, string_bytes, sym, ap, ◌∙◌}
 use Rattle.std.specs.Str.{chars}
 use Rattle.std.proofs.lemmas.Iterator.{YieldsList-from_chars}
 use Rattle.std.proofs.lemmas.List.{map-id}
 use Rattle.std.proofs.lemmas.Iterator.Consumers.{YieldsList-end}
-use Rattle.yv_definitions.specs.Defined.{spaced, spaced_behind}
 use Rattle.yv_definitions.proofs.Spacing.{ends_blank-more, written, written_letter, written_nothing, written_space}
 use Rattle.yv_definitions.proofs.features.push_spaced.Goals as goal
 

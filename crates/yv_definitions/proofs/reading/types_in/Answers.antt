@@ -1,7 +1,6 @@
-use Rattle.std.proofs.Common.{◌≡◌, [], Option, List, map, ap, sym, ◌∙◌}
+use Rattle.std.proofs.Common.{◌≡◌, [], map, ap, sym, ◌∙◌}
 use Rattle.std.proofs.lemmas.Result.{IfOk-weaker}
-use Rattle.yv_statement.specs.Tree.{Tree}
-use Rattle.yv_values.specs.Types.{Plain, plain_of}
+use Rattle.yv_values.specs.Types.{plain_of}
 use Rattle.yv_definitions.specs.Kinds.{kinds_of}
 use Rattle.yv_definitions.specs.Defined.{types_in}
 use Rattle.yv_definitions.proofs.Firsts.{types_found, types_in-first}

@@ -1,5 +1,4 @@
-use Rattle.std.proofs.Common.{◌≡◌, ◌+◌, ◌∷◌, List, ℕ, drop, get_or, string_bytes, sym, ap, ◌∙◌}
-use Rattle.std.specs.Rc.{rc_str_bytes}
+use Rattle.std.proofs.Common.{◌+◌, List, ℕ, drop, get_or, string_bytes, sym, ap, ◌∙◌}
 use Rattle.std.proofs.lemmas.List.{at_drop_more}
 use Rattle.std.proofs.lemmas.Result.{IfOk-weaker}
 use Rattle.yv_statement.specs.Tree.{trees}

@@ -1,4 +1,4 @@
-use Rattle.std.proofs.Common.{◌≡◌, List, Option, sym, subst, arith, rules}
+use Rattle.std.proofs.Common.{List, Option, sym, subst, rules}
 use Rattle.yv_rows.specs.Lent.{lent_in}
 use Rattle.yv_definitions.specs.Defined.{Defined}
 use Rattle.yv_definitions.specs.Kinds.{kinds_of}
