@@ -1,11 +1,13 @@
 //! A schema, and how its nodes are found.
-ghost use Rattle.std.specs.Prelude.{◌≡◌, ◌<◌, ◌≤◌, ◌==◌, length, All, IfSome};
+ghost use Rattle.std.specs.Prelude.{◌≡◌, ◌<◌, ◌≤◌, ◌==◌, ◌+◌, length, All, IfSome};
+ghost use Rattle.yv_values.specs.Count.{counted};
 
 use crate::node::{Node, NodeId};
 use crate::nodes::Nodes;
 use crate::table::Table;
 use std::collections::BTreeMap;
 use std::marker::Model;
+use yv_values::Meter;
 
 /// The schema of modules: nodes with numbers from 0, each behind its parent. Contracts see its rows, and
 /// by them the tree that they stand for.
@@ -85,13 +87,15 @@ impl Schema {
         }
     }
 
-    /// The child of this node, or of the root, that a JSON member of this name writes.
-    pub fn find(&self, parent: NodeId, member: &str) -> Option<NodeId>
+    /// The child of this node, or of the root, that a JSON member of this name writes. The meter counts the look-up.
+    pub fn find(&self, meter: &mut Meter, parent: NodeId, member: &str) -> Option<NodeId>
         requires { rank parent ≤ length self.now.nodes }
         ensures value { result ≡ named self.now (children_of self.now parent) member.now }
         ensures child { IfSome result (IsChild self.now parent) }
         ensures known { is_some result ≡ is_known (below self.now parent) member.now }
+        ensures steps { meter.new ≡ counted (meter.old + 1) }
     {
+        meter.visit();
         if parent == Schema::ROOT {
             self.find_at_top(member)
         } else {

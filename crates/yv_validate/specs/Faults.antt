@@ -2,8 +2,8 @@
 use Rattle.std.specs.Prelude.{ℕ, List, [], ◌∷◌, ◌++◌, Option, Some, None, is_some, if◌then◌else◌}
 use Rattle.serde_json.specs.Data.{Data, object, Members, no_members, member}
 use Rattle.serde_json.specs.Find.{get_member}
-use Rattle.yv_schema.specs.declared.node.NodeKind.{NodeKind}
-use Rattle.yv_schema.specs.declared.node.NodeKind.TheVariants.{Container, Leaf}
+use Rattle.yv_definitions.specs.declared.definition.NodeKind.{NodeKind}
+use Rattle.yv_definitions.specs.declared.definition.NodeKind.TheVariants.{Container, Leaf}
 use Rattle.yv_schema.specs.Tree.{Label, Tree, node, Forest, no_trees, tree, is_known}
 use Rattle.yv_values.specs.Reads.{first_read}
 use Rattle.yv_validate.specs.declared.fault.FaultKind.{FaultKind}

@@ -94,6 +94,7 @@ impl Walk<'_> {
         parent: NodeId,
         members: &'v Map<String, Value>,
         trail: &Trail<'_>,
+        meter: &mut Meter,
         faults: &mut Vec<Fault>,
     ) -> Result<Written<'v>, AllocError>
         requires node { rank parent ≤ length self.now.schema.now.nodes }
@@ -105,7 +106,7 @@ impl Walk<'_> {
     {
         let mut written = Written::new(self.alloc);
         for (key, value) in members.iter() {
-            match self.schema.find(parent, key.as_str()) {
+            match self.schema.find(meter, parent, key.as_str()) {
                 Some(id) => written.keep(id.number(), value)?,
                 None => self.tell_unknown(key.as_str(), trail, faults)?,
             }
@@ -128,7 +129,7 @@ impl Walk<'_> {
             ++ object_faults (places self.now.schema.now trail.now) (below self.now.schema.now parent)
             (members_view members.now.entries)) }
     {
-        let written = self.look_up(parent, members, trail, faults)?;
+        let written = self.look_up(parent, members, trail, meter, faults)?;
         for child in self.schema.children(parent) {
             self.child(*child, &written, trail, meter, faults)?;
         }
