@@ -29,11 +29,13 @@ use Rattle.yv_link.specs.Links.{BadLinks}
 use Rattle.yv_link.proofs.Phases.{ahead, behind}
 use Rattle.yv_names.specs.Faults.{BadSix}
 use Rattle.yv_types.specs.Faults.{BadTypes}
+use Rattle.yv_copies.specs.Faults.{BadExpansion}
 use Rattle.yv_schema.specs.Kinds.{AreKinds, Kinds}
 use Rattle.yv_schema.specs.Truth.{IsTruth, Truth}
 use Rattle.yv_schema.specs.Tree.{Forest, Label, labels}
 use Rattle.yv_schema.specs.Module.{is_given, schema_of}
 use Rattle.yv_schema.specs.Refuses.{BadFile, BadSchema, BadTyping, Doubled, Refuses, RefusesBeforeTypes, Repeated}
+use Rattle.yv_schema.specs.Schema.{IsSchema}
 use Rattle.yv_schema.specs.InnerBuild.{AreNames, HasNoColon}
 use Rattle.yv_schema.proofs.Colons.{is_58}
 use Rattle.yv_schema.proofs.Keeping.{map_get}
@@ -143,77 +145,100 @@ repeated_phase ls f h = ap (λ (r : Refusal). phase_of r.code) h.4.1
 
 schema_phase : (choice : Choice) (files : Files) (f : Refusal) → BadSchema choice files f → phase_of f.code ≡ 10
 schema_phase choice files f h = elim h.doubled [
-  | inl x ↦ repeated_phase (labels (schema_of h.truth h.kinds choice files)) f x
+  | inl x ↦ repeated_phase (labels h.tree) f x
   | inr x ↦ repeated_phase x.2 f x.4
 ]
 
--- what is wrong with the links of files is refused in the phases 3 to 5
-pub record HaveLinksPhases : Type 0 where
+-- what is wrong with the links of files is refused in the phases 3 to 5, and what is wrong with their expansion in 7 and 8
+pub record HavePhases : Type 0 where
   pub first : (files : Files) (f : Refusal) → BadLinks files f → 3 ≤ phase_of f.code
   pub last : (files : Files) (f : Refusal) → BadLinks files f → phase_of f.code ≤ 5
+  pub expansion : (choice : Choice) (files : Files) (limit : ℕ) (f : Refusal) → BadExpansion choice files limit f
+      → (6 < phase_of f.code) × (phase_of f.code ≤ 8)
 
 -- an expression in files has one truth, where nothing is wrong with their features
 abbrev pub HasOneTruth : Type 0
 HasOneTruth = (files : Files) (choice : Choice) (file : ℕ) (text : List ℕ) (a b : Bool) → IsLeast (BadFour files) None
     → Holds files choice file text a → Holds files choice file text b → a ≡ b
 
--- nothing is wrong with files as such, nor with their links, nor with their names, where nothing is before types
-pub files_clear : (files : Files) → IsLeast (RefusesBeforeTypes files) None → IsLeast (Among files BadFile (length files)) None
-files_clear files h = λ f x. h f (inl x)
-
-pub links_clear : (files : Files) → IsLeast (RefusesBeforeTypes files) None → IsLeast (BadLinks files) None
-links_clear files h = λ f x. h f (inr (inl x))
-
-module _ (files : Files) (phases : HaveLinksPhases) where
+module _ (choice : Choice) (files : Files) (limit : ℕ) where
   abbrev Own : Refusal → Type 0
   Own f = Among files BadFile (length files) f
 
-  own_phase : (f : Refusal) → Own f → phase_of f.code ≤ 2
-  own_phase f h = let e : phase_of f.code ≡ 2 = file_phase h.0 h.2 f h.4 in omega (arith, e)
+  abbrev Expansion : Refusal → Type 0
+  Expansion f = BadExpansion choice files limit f
 
-  later_phase : (f : Refusal) → BadLinks files f ⊎ BadSix files f → 2 < phase_of f.code
-  later_phase f (inl h) = let e : 3 ≤ phase_of f.code = phases.first files f h in omega (arith, e)
-  later_phase f (inr h) = let e : phase_of f.code ≡ 6 = names_phase files f h in omega (arith, e)
+  abbrev Names : Refusal → Type 0
+  Names f = BadSix files f ⊎ Expansion f
 
-  last_phase : (f : Refusal) → BadSix files f → 5 < phase_of f.code
-  last_phase f h = let e : phase_of f.code ≡ 6 = names_phase files f h in omega (arith, e)
+  abbrev Before : Refusal → Type 0
+  Before f = RefusesBeforeTypes choice files limit f
 
-  -- the least of the files as such is the least before types
-  pub least_own : (r : Refusal) → IsLeast (Among files BadFile (length files)) (Some r) → IsLeast (RefusesBeforeTypes files) (Some r)
-  least_own r p = ahead Own (λ f. BadLinks files f ⊎ BadSix files f) 2 r own_phase later_phase p
+  abbrev Later : Refusal → Type 0
+  Later f = BadTyping choice files f ⊎ BadSchema choice files f
 
-  -- where nothing is wrong with them, the least of their links is
-  pub least_linked : (r : Refusal) → IsLeast (Among files BadFile (length files)) None → IsLeast (BadLinks files) (Some r) → IsLeast (RefusesBeforeTypes files) (Some r)
-  least_linked r p q =
-      behind Own (λ f. BadLinks files f ⊎ BadSix files f) (Some r) p
-      (ahead (BadLinks files) (BadSix files) 5 r (phases.last files) last_phase q)
+  -- nothing is wrong with files as such, nor with their links, where nothing is before types
+  pub files_clear : IsLeast (RefusesBeforeTypes choice files limit) None → IsLeast (Among files BadFile (length files)) None
+  files_clear h = λ f x. h f (inl x)
 
--- where nothing is wrong with those either, the least of their names is
-pub least_named : (files : Files) (o : Option Refusal) → IsLeast (Among files BadFile (length files)) None → IsLeast (BadLinks files) None → IsLeast (BadSix files) o
-    → IsLeast (RefusesBeforeTypes files) o
-least_named files o p q r =
-    behind (Among files BadFile (length files)) (λ f. BadLinks files f ⊎ BadSix files f) o p (behind (BadLinks files) (BadSix files) o q r)
+  pub links_clear : IsLeast (RefusesBeforeTypes choice files limit) None → IsLeast (BadLinks files) None
+  links_clear h = λ f x. h f (inr (inl x))
 
-module _ (choice : Choice) (files : Files) (phases : HaveLinksPhases) where
-  before_phase : (f : Refusal) → RefusesBeforeTypes files f → phase_of f.code ≤ 6
-  before_phase f (inl h) = let e : phase_of f.code ≡ 2 = file_phase h.0 h.2 f h.4 in omega (arith, e)
-  before_phase f (inr (inl h)) = let e : phase_of f.code ≤ 5 = phases.last files f h in omega (arith, e)
-  before_phase f (inr (inr h)) = let e : phase_of f.code ≡ 6 = names_phase files f h in omega (arith, e)
+  module _ (phases : HavePhases) where
+    own_phase : (f : Refusal) → Own f → phase_of f.code ≤ 2
+    own_phase f h = let e : phase_of f.code ≡ 2 = file_phase h.0 h.2 f h.4 in omega (arith, e)
 
-  typing_phase : (f : Refusal) → BadTyping choice files f → phase_of f.code ≡ 9
-  typing_phase f h = types_phase files h.truth f h.bad
+    six_phase : (f : Refusal) → BadSix files f → phase_of f.code ≤ 6
+    six_phase f h = let e : phase_of f.code ≡ 6 = names_phase files f h in omega (arith, e)
 
-  behind_phase : (f : Refusal) → BadTyping choice files f ⊎ BadSchema choice files f → 6 < phase_of f.code
-  behind_phase f (inl h) = let e : phase_of f.code ≡ 9 = typing_phase f h in omega (arith, e)
-  behind_phase f (inr h) = let e : phase_of f.code ≡ 10 = schema_phase choice files f h in omega (arith, e)
+    names_behind : (f : Refusal) → Names f → 5 < phase_of f.code
+    names_behind f (inl h) = let e : phase_of f.code ≡ 6 = names_phase files f h in omega (arith, e)
+    names_behind f (inr h) = let e : 6 < phase_of f.code = (phases.expansion choice files limit f h).0 in omega (arith, e)
 
-  -- the least before types is the least of all
-  pub least_first : (r : Refusal) → IsLeast (RefusesBeforeTypes files) (Some r) → IsLeast (Refuses choice files) (Some r)
-  least_first r p = ahead (RefusesBeforeTypes files) (λ f. BadTyping choice files f ⊎ BadSchema choice files f) 6 r before_phase behind_phase p
+    links_behind : (f : Refusal) → BadLinks files f ⊎ Names f → 2 < phase_of f.code
+    links_behind f (inl h) = let e : 3 ≤ phase_of f.code = phases.first files f h in omega (arith, e)
+    links_behind f (inr h) = let e : 5 < phase_of f.code = names_behind f h in omega (arith, e)
 
-module _ (choice : Choice) (files : Files) (one : HasOneTruth) (before : IsLeast (RefusesBeforeTypes files) None) where
+    before_phase : (f : Refusal) → Before f → phase_of f.code ≤ 8
+    before_phase f (inl h) = let e : phase_of f.code ≤ 2 = own_phase f h in omega (arith, e)
+    before_phase f (inr (inl h)) = let e : phase_of f.code ≤ 5 = phases.last files f h in omega (arith, e)
+    before_phase f (inr (inr (inl h))) = let e : phase_of f.code ≤ 6 = six_phase f h in omega (arith, e)
+    before_phase f (inr (inr (inr h))) = (phases.expansion choice files limit f h).1
+
+    later_phase : (f : Refusal) → Later f → 8 < phase_of f.code
+    later_phase f (inl h) = let e : phase_of f.code ≡ 9 = types_phase files h.truth f h.bad in omega (arith, e)
+    later_phase f (inr h) = let e : phase_of f.code ≡ 10 = schema_phase choice files f h in omega (arith, e)
+
+    -- the least of the files as such is the least before types
+    pub least_own : (r : Refusal) → IsLeast (Among files BadFile (length files)) (Some r) → IsLeast (RefusesBeforeTypes choice files limit) (Some r)
+    least_own r p = ahead Own (λ f. BadLinks files f ⊎ Names f) 2 r own_phase links_behind p
+
+    -- where nothing is wrong with them, the least of their links is
+    pub least_linked : (r : Refusal) → IsLeast (Among files BadFile (length files)) None → IsLeast (BadLinks files) (Some r) → IsLeast (RefusesBeforeTypes choice files limit) (Some r)
+    least_linked r p q =
+        behind Own (λ f. BadLinks files f ⊎ Names f) (Some r) p
+        (ahead (BadLinks files) Names 5 r (phases.last files) names_behind q)
+
+    -- where nothing is wrong with those either, the least of their names is
+    pub least_named : (r : Refusal) → IsLeast (Among files BadFile (length files)) None → IsLeast (BadLinks files) None → IsLeast (BadSix files) (Some r)
+        → IsLeast (RefusesBeforeTypes choice files limit) (Some r)
+    least_named r p q h =
+        behind Own (λ f. BadLinks files f ⊎ Names f) (Some r) p
+        (behind (BadLinks files) Names (Some r) q
+        (ahead (BadSix files) Expansion 6 r six_phase (λ f x. (phases.expansion choice files limit f x).0) h))
+
+    -- the least before types is the least of all
+    pub least_first : (r : Refusal) → IsLeast (RefusesBeforeTypes choice files limit) (Some r) → IsLeast (Refuses choice files limit) (Some r)
+    least_first r p = ahead Before Later 8 r before_phase later_phase p
+
+  -- where nothing is wrong with files, links and names, the least of their expansion is the least before types
+  pub least_expanded : (o : Option Refusal) → IsLeast (Among files BadFile (length files)) None → IsLeast (BadLinks files) None → IsLeast (BadSix files) None
+      → IsLeast (BadExpansion choice files limit) o → IsLeast (RefusesBeforeTypes choice files limit) o
+  least_expanded o p q h e = behind Own (λ f. BadLinks files f ⊎ Names f) o p (behind (BadLinks files) Names o q (behind (BadSix files) Expansion o h e))
+
+module _ (choice : Choice) (files : Files) (limit : ℕ) (one : HasOneTruth) (before : IsLeast (RefusesBeforeTypes choice files limit) None) where
   pub one_truth : (a b : Truth) → IsTruth files choice a → IsTruth files choice b → a ≡ b
-  one_truth a b p q = same_truth a b (λ n text. one files choice n text (a n text) (b n text) (λ f h. links_clear files before f (inr (inl h))) (p n text) (q n text))
+  one_truth a b p q = same_truth a b (λ n text. one files choice n text (a n text) (b n text) (λ f h. links_clear choice files limit before f (inr (inl h))) (p n text) (q n text))
 
   -- what is wrong with types by one truth is all that is wrong with them
   typed : (truth : Truth) (o : Option Refusal) → IsTruth files choice truth → IsLeast (BadTypes files truth) o → IsLeast (BadTyping choice files) o
@@ -223,28 +248,28 @@ module _ (choice : Choice) (files : Files) (one : HasOneTruth) (before : IsLeast
       (λ f h. subst (λ (t : Truth). BadTypes files t f) (one_truth h.truth truth h.is_truth is) h.bad) r
 
   -- where nothing is refused before types, the least of these is the least of all
-  pub least_typed : (truth : Truth) (r : Refusal) → IsTruth files choice truth → IsLeast (BadTypes files truth) (Some r) → IsLeast (Refuses choice files) (Some r)
+  pub least_typed : (truth : Truth) (r : Refusal) → IsTruth files choice truth → IsLeast (BadTypes files truth) (Some r) → IsLeast (Refuses choice files limit) (Some r)
   least_typed truth r is p =
-      behind (RefusesBeforeTypes files) (λ f. BadTyping choice files f ⊎ BadSchema choice files f) (Some r) before
+      behind (Before choice files limit) (Later choice files limit) (Some r) before
       (ahead (BadTyping choice files) (BadSchema choice files) 9 r
       (λ f h. let e : phase_of f.code ≡ 9 = types_phase files h.truth f h.bad in omega (arith, e))
       (λ f h. let e : phase_of f.code ≡ 10 = schema_phase choice files f h in omega (arith, e)) (typed truth (Some r) is p))
 
-  -- files that give one schema tree: whichever truth and types these are
-  pub one_schema : HasOneSpace → (t u : Truth) (a b : Kinds) → IsTruth files choice t → IsTruth files choice u → AreKinds files choice t a → AreKinds files choice u b
-      → schema_of t a choice files ≡ schema_of u b choice files
-  one_schema space t u a b p q are are' =
-      let same : t ≡ u = one_truth t u p q in
-      let kinds : AreKinds files choice u a = subst (λ (x : Truth). AreKinds files choice x a) same are in
-      ap (λ (x : Truth). schema_of x a choice files) same ∙ ap (λ (x : Kinds). schema_of u x choice files) (one_kinds files choice u space a b kinds are')
+  -- files give one schema tree: whichever truth and types these are
+  pub one_schema : HasOneSpace → (a b : Forest) → IsSchema choice files a → IsSchema choice files b → a ≡ b
+  one_schema space a b p q =
+      let same : p.truth ≡ q.truth = one_truth p.truth q.truth p.is_truth q.is_truth in
+      let kinds : AreKinds files choice q.truth p.kinds = subst (λ (x : Truth). AreKinds files choice x p.kinds) same p.are_kinds in
+      p.is ∙ ap (λ (x : Truth). schema_of x p.kinds choice files) same
+      ∙ ap (λ (x : Kinds). schema_of q.truth x choice files) (one_kinds files choice q.truth space p.kinds q.kinds kinds q.are_kinds) ∙ sym q.is
 
   -- where all this refuses nothing, the least of the schema tree is the least of all
-  pub least_last : HasOneSpace → (truth : Truth) (kinds : Kinds) (o : Option Refusal) → IsTruth files choice truth → AreKinds files choice truth kinds → IsLeast (BadTypes files truth) None
-      → IsLeast (Doubled (schema_of truth kinds choice files)) o → IsLeast (Refuses choice files) o
-  least_last space truth kinds o is are p r =
-      let schema : IsLeast (BadSchema choice files) o =
-      least_same (Doubled (schema_of truth kinds choice files)) (BadSchema choice files) o
-      (λ f h. record { truth = truth; kinds = kinds; is_truth = is; are_kinds = are; doubled = h })
-      (λ f h. subst (λ (ts : Forest). Doubled ts f) (one_schema space h.truth truth h.kinds kinds h.is_truth is h.are_kinds are) h.doubled) r in
-      behind (RefusesBeforeTypes files) (λ f. BadTyping choice files f ⊎ BadSchema choice files f) o before
-      (behind (BadTyping choice files) (BadSchema choice files) o (typed truth None is p) schema)
+  pub least_last : HasOneSpace → (truth : Truth) (o : Option Refusal) (tree : Forest) → IsTruth files choice truth → IsSchema choice files tree → IsLeast (BadTypes files truth) None
+      → IsLeast (Doubled tree) o → IsLeast (Refuses choice files limit) o
+  least_last space truth o tree is schema p r =
+      let least : IsLeast (BadSchema choice files) o =
+      least_same (Doubled tree) (BadSchema choice files) o
+      (λ f h. record { tree = tree; is_schema = schema; doubled = h })
+      (λ f h. subst (λ (ts : Forest). Doubled ts f) (one_schema space h.tree tree h.is_schema schema) h.doubled) r in
+      behind (Before choice files limit) (Later choice files limit) o before
+      (behind (BadTyping choice files) (BadSchema choice files) o (typed truth None is p) least)

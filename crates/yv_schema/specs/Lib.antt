@@ -2,6 +2,7 @@ pub mod Truth
 pub mod Tree
 pub mod Kinds
 pub mod Module
+pub mod Schema
 pub mod Refuses
 pub mod Rows
 pub mod InnerMember

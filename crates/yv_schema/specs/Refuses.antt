@@ -13,11 +13,11 @@ use Rattle.yv_selection.specs.Choice.{Choice}
 use Rattle.yv_rows.specs.Files.{Files}
 use Rattle.yv_link.specs.Links.{BadLinks}
 use Rattle.yv_names.specs.Faults.{BadSix}
+use Rattle.yv_copies.specs.Faults.{BadExpansion}
 use Rattle.yv_types.specs.Faults.{BadTypes}
 use Rattle.yv_schema.specs.Truth.{IsTruth, Truth}
-use Rattle.yv_schema.specs.Kinds.{AreKinds, Kinds}
 use Rattle.yv_schema.specs.Tree.{Forest, Label, families, labels}
-use Rattle.yv_schema.specs.Module.{schema_of}
+use Rattle.yv_schema.specs.Schema.{IsSchema}
 
 -- the statements that are taken so far; one of no keyword of the language is refused as such, and not here
 abbrev pub is_taken : Keyword → Option (List ℕ) → Bool
@@ -109,18 +109,17 @@ pub record BadTyping (choice : Choice) (files : Files) (f : Refusal) : Type 0 wh
 
 -- f stands in the schema tree of the files
 pub record BadSchema (choice : Choice) (files : Files) (f : Refusal) : Type 0 where
-  pub truth : Truth
-  pub kinds : Kinds
-  pub is_truth : IsTruth files choice truth
-  pub are_kinds : AreKinds files choice truth kinds
-  pub doubled : Doubled (schema_of truth kinds choice files) f
+  pub tree : Forest
+  pub is_schema : IsSchema choice files tree
+  pub doubled : Doubled tree f
 
 -- what is refused before types are read: every file is looked at as such, by its links to others, its features and its
--- identities, and by the names of its definitions
-abbrev pub RefusesBeforeTypes : Files → Refusal → Type 0
-RefusesBeforeTypes files f = Among files BadFile (length files) f ⊎ (BadLinks files f ⊎ BadSix files f)
+-- identities, and by the names of its definitions; and then the expansion of the implemented modules within a limit
+abbrev pub RefusesBeforeTypes : Choice → Files → ℕ → Refusal → Type 0
+RefusesBeforeTypes choice files limit f =
+    Among files BadFile (length files) f ⊎ (BadLinks files f ⊎ (BadSix files f ⊎ BadExpansion choice files limit f))
 
 -- the refusals of files; the least of them, by phase, file, offset and code, is answered. The types of every file are looked
 -- at as well, and of the implemented modules the nodes
-abbrev pub Refuses : Choice → Files → Refusal → Type 0
-Refuses choice files f = RefusesBeforeTypes files f ⊎ (BadTyping choice files f ⊎ BadSchema choice files f)
+abbrev pub Refuses : Choice → Files → ℕ → Refusal → Type 0
+Refuses choice files limit f = RefusesBeforeTypes choice files limit f ⊎ (BadTyping choice files f ⊎ BadSchema choice files f)

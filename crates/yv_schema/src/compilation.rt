@@ -5,17 +5,17 @@ ghost use Rattle.yv_statement.specs.declared.refusal.Stop.TheVariants.{Fault, Pa
 ghost use Rattle.yv_statement.specs.Order.{IsLeast};
 ghost use Rattle.yv_selection.specs.Choice.{choice_of};
 ghost use Rattle.yv_faceted.specs.Types.{HasTypePattern};
-ghost use Rattle.yv_schema.specs.Kinds.{AreKinds, Kinds};
-ghost use Rattle.yv_schema.specs.Truth.{IsTruth, Truth};
-ghost use Rattle.yv_schema.specs.Module.{schema_of};
 ghost use Rattle.yv_schema.specs.Refuses.{Refuses, RefusesBeforeTypes};
 ghost use Rattle.yv_schema.specs.Rows.{whole};
+ghost use Rattle.yv_schema.specs.Schema.{IsSchema};
 
 use crate::build::build;
 use crate::conformance::first_bad_file;
 use crate::context::Context;
 use crate::schema::Schema;
 use std::alloc::Global;
+use yv_copies::expanded;
+use yv_copies::laws::refusals_of_expansions_have_phases;
 use yv_features::laws::an_expression_has_one_truth;
 use yv_link::laws::{linked_files_tell_what_holds, links_have_phases};
 use yv_link::link;
@@ -27,26 +27,29 @@ use yv_types::types;
 
 /// The schema of the modules that are implemented, by the statements of the files of all modules (RFC 7950,
 /// sections 5.1 and 7.1), or the least refusal by phase, file, offset and code. Statements that this version doesn't
-/// take are refused as `Unsupported`. `PatternBuild` says that the library of regular expressions doesn't build a
+/// take are refused as `Unsupported`. Where what these modules expand to needs more units than the limit, that is refused
+/// as `TooManyNodes` before anything is built. `PatternBuild` says that the library of regular expressions doesn't build a
 /// pattern of the dialect. A schema of 2^32 - 1 nodes or more is none for want of memory, and so is one of more than
 /// 2^32 files.
 pub fn compile(
     alloc: Global,
     files: &[Statement<'_>],
     selection: &Selection,
+    limit: u32,
 ) -> Result<Schema, Stop>
-    ensures schema { IfOk result (λ s. (truth : Truth) × (kinds : Kinds) × IsTruth files.now (choice_of selection.now) truth
-        × AreKinds files.now (choice_of selection.now) truth kinds
-        × (whole s ≡ schema_of truth kinds (choice_of selection.now) files.now)) }
-    ensures clear { OnOk result (IsLeast (Refuses (choice_of selection.now) files.now) None) }
-    ensures refusal { (r : Refusal) → result ≡ Err (Fault r) → IsLeast (Refuses (choice_of selection.now) files.now) (Some r) }
+    ensures schema { IfOk result (λ s. IsSchema (choice_of selection.now) files.now (whole s)) }
+    ensures clear { OnOk result (IsLeast (Refuses (choice_of selection.now) files.now limit) None) }
+    ensures refusal { (r : Refusal) → result ≡ Err (Fault r)
+        → IsLeast (Refuses (choice_of selection.now) files.now limit) (Some r) }
     ensures built { result ≡ Err PatternBuild → HasTypePattern files.now }
-    ensures before { result ≡ Err PatternBuild → IsLeast (RefusesBeforeTypes files.now) None }
+    ensures before { result ≡ Err PatternBuild
+        → IsLeast (RefusesBeforeTypes (choice_of selection.now) files.now limit) None }
 {
     links_have_phases();
     linked_files_tell_what_holds();
     an_expression_has_one_truth();
     a_type_has_one_space();
+    refusals_of_expansions_have_phases();
     if files.len() > 4_294_967_296 {
         return Err(Stop::NoMemory);
     }
@@ -59,6 +62,10 @@ pub fn compile(
     };
     let names = match names(alloc, linked.rows()) {
         Ok(names) => names,
+        Err(stop) => return Err(stop),
+    };
+    let _expansion = match expanded(alloc, linked.rows(), &names, selection, limit) {
+        Ok(expansion) => expansion,
         Err(stop) => return Err(stop),
     };
     let types = match types(alloc, &linked, &names) {

@@ -56,7 +56,7 @@ fn module(
 
 // The schema of files where each module is implemented, or why there is none.
 fn compiled(alloc: Global, files: &[Statement<'static>]) -> Result<Schema, Stop> {
-    compile(alloc, files, &Selection::everything(alloc))
+    compile(alloc, files, &Selection::everything(alloc), u32::MAX)
 }
 
 #[test]

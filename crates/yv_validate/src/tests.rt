@@ -39,7 +39,7 @@ fn schema(alloc: Global) -> Result<Schema, Stop> {
     module.adopt(statement(alloc, "namespace", "urn:ex", 1)?)?;
     module.adopt(statement(alloc, "prefix", "ex", 2)?)?;
     module.adopt(top)?;
-    compile(alloc, &[module], &Selection::everything(alloc))
+    compile(alloc, &[module], &Selection::everything(alloc), u32::MAX)
 }
 
 // The lines of the faults of a document.
