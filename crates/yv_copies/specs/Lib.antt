@@ -1,4 +1,6 @@
 pub mod Given
 pub mod Faults
+pub mod Items
 pub mod On
-pub mod InnerConditions
+pub mod Left
+pub mod Copies

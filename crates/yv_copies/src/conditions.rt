@@ -1,16 +1,21 @@
 //! Which items of an expansion are on.
-ghost use Rattle.std.specs.Prelude.{◌≡◌, ℕ, Bool, map, true, slice_index_or, IfOk};
+ghost use Rattle.std.specs.Prelude.{◌≡◌, ◌<◌, ◌&&◌, ℕ, Bool, List, true, length, slice_index_or, IfOk};
+ghost use Rattle.std.specs.List.{list_all};
 ghost use Rattle.yv_statement.specs.Tree.{name_of as name_at};
 ghost use Rattle.yv_conform.specs.Names.{keyword_of};
-ghost use Rattle.yv_rows.specs.Lent.{rows_in, trees_in};
+ghost use Rattle.yv_rows.specs.Lent.{lent_in};
 ghost use Rattle.yv_link.specs.Linked.{truth_in};
-ghost use Rattle.yv_copies.specs.On.{holds, is_item_on, is_on};
-ghost use Rattle.yv_copies.specs.InnerConditions.{is_on_at};
+ghost use Rattle.yv_expansion.specs.Tree.{Tree};
+ghost use Rattle.yv_refines.specs.Known.{AreRefines};
+ghost use Rattle.yv_pruning.specs.Listed.{is_marked};
+ghost use Rattle.yv_copies.specs.Items.{items_of};
+ghost use Rattle.yv_copies.specs.On.{holds, is_item_on, is_on, is_statement_on};
 
 use std::alloc::{AllocError, Global};
 use yv_conform::Keyword;
 use yv_expansion::Item;
 use yv_link::Linked;
+use yv_refines::Refines;
 use yv_rows::Rows;
 use yv_statement::Statement;
 
@@ -23,9 +28,30 @@ fn name_of<'s>(statement: &'s Statement<'_>) -> &'s str
 
 // The conditions of numbered statements.
 #[derive(Clone, Copy)]
-struct Conditions<'l, 'a, 'b> {
-    linked: &'l Linked<'a, 'b>,
-    rows: &'l Rows<'a, 'b>,
+pub(crate) struct Conditions<'l, 'a, 'b> {
+    pub(crate) linked: &'l Linked<'a, 'b>,
+    pub(crate) rows: &'l Rows<'a, 'b>,
+}
+
+// Whether a number has a mark; true past the last.
+fn is_on_by(marks: &[bool], number: usize) -> bool
+    ensures { result ≡ slice_index_or marks.now number true }
+{
+    marks.get(number).copied().unwrap_or(true)
+}
+
+// Whether each number has a mark.
+fn are_on_by(marks: &[bool], numbers: &[usize]) -> bool
+    ensures { result ≡ list_all (λ number. slice_index_or marks.now number true) numbers.now }
+{
+    numbers.iter().all(|number| is_on_by(marks, *number))
+}
+
+// Whether a statement has a mark, and each that changes it.
+fn is_item_on_by(marks: &[bool], statement: usize, changes: &[usize]) -> bool
+    ensures { result ≡ (slice_index_or marks.now statement true && list_all (λ number. slice_index_or marks.now number true) changes.now) }
+{
+    is_on_by(marks, statement) && are_on_by(marks, changes)
 }
 
 impl<'a, 'b> Conditions<'_, 'a, 'b> {
@@ -52,8 +78,8 @@ impl<'a, 'b> Conditions<'_, 'a, 'b> {
     }
 
     // Whether each condition of a numbered statement holds; true past the last.
-    fn is_on_at(&self, number: usize) -> bool
-        ensures { result ≡ is_on_at (truth_in self.now.linked.now) (rows_in self.now.rows.now) (trees_in self.now.rows.now) number }
+    fn is_statement_on(&self, number: usize) -> bool
+        ensures { result ≡ is_statement_on (truth_in self.now.linked.now) (lent_in self.now.rows.now) number }
     {
         let file = match self.rows.entries().get(number) {
             Some(entry) => entry.file,
@@ -68,43 +94,33 @@ impl<'a, 'b> Conditions<'_, 'a, 'b> {
     // A mark for each statement that is on.
     fn statements(&self, alloc: Global) -> Result<Vec<bool>, AllocError>
         ensures { IfOk result (λ marks. (number : ℕ) → slice_index_or marks.items number true
-            ≡ is_on_at (truth_in self.now.linked.now) (rows_in self.now.rows.now) (trees_in self.now.rows.now) number) }
+            ≡ is_statement_on (truth_in self.now.linked.now) (lent_in self.now.rows.now) number) }
     {
         yv_rows::laws::statements_have_their_rows();
         let mut marks = Vec::new(alloc);
         for number in 0..self.rows.entries().len() {
-            marks.push(self.is_on_at(number))?;
+            marks.push(self.is_statement_on(number))?;
         }
         Ok(marks)
     }
 
-    // A mark for each item that copies a statement that is on. The conditions of each statement are asked once.
-    fn items(&self, alloc: Global, items: &[Item]) -> Result<Vec<bool>, AllocError>
-        ensures { IfOk result (λ on. on.items
-            ≡ map (is_item_on (truth_in self.now.linked.now) (rows_in self.now.rows.now) (trees_in self.now.rows.now)) items.now) }
+    /// A mark for each item that is on. The conditions of each statement are asked once, however many items copy it and
+    /// however many a refine changes.
+    pub(crate) fn items(
+        &self,
+        alloc: Global,
+        items: &[Item],
+        refines: &Refines,
+    ) -> Result<Vec<bool>, AllocError>
+        ensures { IfOk result (λ on. (trees : List Tree) → items.now ≡ items_of trees
+            → AreRefines (lent_in self.now.rows.now) trees refines.now → (i : ℕ) → i < length items.now
+            → is_marked on.items i ≡ is_item_on (truth_in self.now.linked.now) (lent_in self.now.rows.now) trees i) }
     {
         let marks = self.statements(alloc)?;
         let mut on = Vec::new(alloc);
-        for item in items {
-            on.push(marks.get(item.origin).copied().unwrap_or(true))?;
+        for (number, item) in items.iter().enumerate() {
+            on.push(is_item_on_by(&marks, item.origin, refines.of(number)))?;
         }
         Ok(on)
     }
-}
-
-/// For each item of an expansion of these statements, whether it is on: whether each `if-feature` of the statement that
-/// it copies holds in the file of that statement (RFC 7950, section 7.20.2). Conditions of the items above it aren't
-/// asked. An item that copies no statement has no condition. The conditions of each statement are asked once, however
-/// many items copy it.
-pub fn items_on<'a, 'b>(
-    alloc: Global,
-    linked: &Linked<'a, 'b>,
-    rows: &Rows<'a, 'b>,
-    items: &[Item],
-) -> Result<Vec<bool>, AllocError>
-    ensures { IfOk result (λ on. on.items
-        ≡ map (is_item_on (truth_in linked.now) (rows_in rows.now) (trees_in rows.now)) items.now) }
-{
-    let conditions = Conditions { linked, rows };
-    conditions.items(alloc, items)
 }

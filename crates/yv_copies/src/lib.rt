@@ -1,13 +1,16 @@
 //! What the files of implemented modules define, with copies of what stands in groupings below each uses (RFC 7950,
-//! sections 5.6.5, 7.12 and 7.13), and which of these copies are there by their conditions (section 7.20.2). All takes
-//! time linear in statements and items, but for the names that are looked up, one for each file and each condition.
+//! sections 5.6.5, 7.12 and 7.13), what refines change of these copies (section 7.13.2), and which of them are there by
+//! their conditions (section 7.20.2). All takes time n log n in statements and items, a refine being counted once for each
+//! copy of its uses.
 #![tactic(auto)]
 
 mod conditions;
 mod expansion;
+mod kept;
 pub mod laws;
 #[cfg(test)]
 mod tests;
+mod whole;
 
-pub use conditions::items_on;
-pub use expansion::expanded;
+pub use kept::Copies;
+pub use whole::copies;

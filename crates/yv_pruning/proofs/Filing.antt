@@ -4,8 +4,8 @@ use Rattle.std.proofs.lemmas.List.{replicate-append-replicate}
 use Rattle.yv_rows.specs.Rows.{Row}
 use Rattle.yv_expansion.specs.declared.item.Item.{Item}
 use Rattle.yv_expansion.specs.Tree.{Tree, none, item, count, joined, all_of, listed}
-use Rattle.yv_pruning.specs.Listed.{AreListed, AreOfFile}
-use Rattle.yv_pruning.specs.InnerRuns.{file_below, files_from, files_by}
+use Rattle.yv_pruning.specs.Listed.{AreListed, AreOfFile, files_by, files_of}
+use Rattle.yv_pruning.specs.InnerRuns.{file_below, files_from}
 
 -- one more of the same, and then two lots of it, and then others
 joined_lots : (file a b : ℕ) (xs : List ℕ) → file ∷ (replicate a file ++ (replicate b file ++ xs)) ≡ replicate (1 + a + b) file ++ xs
@@ -58,6 +58,6 @@ module _ (rows : List Row) where
       top.1 ∙ ap (λ (ys : List ℕ). replicate (count t) file ++ ys) (files_all ts (file + 1) top.0 (first + count t) behind)
 
   -- the files of items that are listed by file
-  pub files_listed : (trees : List Tree) (items : List Item) → AreListed rows trees items → files_from rows 0 items ≡ files_by 0 trees
+  pub files_listed : (trees : List Tree) (items : List Item) → AreListed rows trees items → files_from rows 0 items ≡ files_of trees
   files_listed trees items are =
       ap (files_from rows 0) are.is ∙ files_all trees 0 0 0 (λ n t at. subst (λ (k : ℕ). AreOfFile rows k t) (omega arith) (are.files n t at))

@@ -2,5 +2,6 @@ mod Filing
 mod Running
 mod Parting
 mod Cutting
-mod Adding
+mod Counting
+mod Marking
 mod Hanging

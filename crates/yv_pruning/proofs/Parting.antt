@@ -6,7 +6,7 @@ use Rattle.std.proofs.lemmas.Bool.{lt-ltb, le-ltb, ltb-true, ltb-false, false≢
 use Rattle.yv_expansion.specs.Tree.{Tree, count, joined, all_of}
 use Rattle.yv_pruning.specs.Pruned.{start_of}
 use Rattle.std.specs.List.Sorted.{IsPartitionedBy}
-use Rattle.yv_pruning.specs.InnerRuns.{AreFiles, files_by}
+use Rattle.yv_pruning.specs.Listed.{files_by, files_of}
 
 files_joined : (ts us : List Tree) (file : ℕ) → files_by file (ts ++ us) ≡ files_by file ts ++ files_by (file + length ts) us
 files_joined [] us file = ap (λ (n : ℕ). files_by n us) (omega arith)
@@ -142,7 +142,7 @@ files_ascend (t ∷ ts) file i j d le lt = by (λ a b p q. files_ascend ts (file
         omega (arith, in_rest file n rest i p.0 d p.1, in_rest file n rest j q.0 d q.1, later p.0 q.0 (omega (arith, p.1, q.1, le)) (omega (arith, q.1, lt, size)))
 
 -- the items before those of a file stand in front
-pub parted : (trees : List Tree) (xs : List ℕ) (file : ℕ) → AreFiles trees xs → IsPartitionedBy (λ n. ltb n file) xs
+pub parted : (trees : List Tree) (xs : List ℕ) (file : ℕ) → xs ≡ files_of trees → IsPartitionedBy (λ n. ltb n file) xs
 parted trees xs file are = λ i j d le lt h. (
     let inside : j < length (files_by 0 trees) = subst (λ (ys : List ℕ). j < length ys) are lt in
     let up : slice_index_or xs i d ≤ slice_index_or xs j d =

@@ -1,11 +1,12 @@
 -- What going over the items of a tree gives.
-use Rattle.std.proofs.Common.{◌≡◌, ◌≢◌, ℕ, ◌+◌, ◌<◌, ◌≤◌, Bool, true, false, cond, List, [], ◌∷◌, ◌++◌, length, Option, Some, None, slice_index_or, refl, sym, ap, ◌∙◌, arith, append_assoc, append-nil, length-append}
+use Rattle.std.proofs.Common.{◌≡◌, ℕ, ◌+◌, ◌-◌, ◌<◌, ◌≤◌, Bool, true, false, cond, List, [], ◌∷◌, ◌++◌, length, Option, Some, None, slice_index_or, refl, sym, ap, ◌∙◌, arith, append_assoc, append-nil, length-append}
 use Rattle.std.specs.Prelude.{⊤}
-use Rattle.std.proofs.lemmas.List.{get_or-set_same, get_or-set_other, length-set}
+use Rattle.std.proofs.lemmas.List.{get_or-append-add}
+use Rattle.std.proofs.Math.ListN.{get_or-append}
 use Rattle.yv_expansion.specs.declared.item.Item.{Item}
 use Rattle.yv_expansion.specs.Tree.{Tree, none, item, count, joined, listed}
 use Rattle.yv_pruning.specs.Pruned.{pruned}
-use Rattle.yv_pruning.specs.InnerRuns.{Place, Runs, above, place_by, node_by, one_more, run}
+use Rattle.yv_pruning.specs.InnerRuns.{Place, Runs, above, place_by, node_by, more_at, one_more, run}
 
 pub joined_assoc : (t u v : Tree) → joined (joined t u) v ≡ joined t (joined u v)
 joined_assoc none u v = refl
@@ -30,6 +31,31 @@ pub later_before : (parent : Option ℕ) (first n : ℕ) → first ≤ n → IsB
 later_before None first n le lt = lt
 later_before (Some p) first n le lt = omega (arith, le, lt)
 
+-- a parent stands before an item and isn't before the first
+abbrev pub IsWithin : ℕ → Option ℕ → ℕ → Type 0
+IsWithin start None first = ⊤
+IsWithin start (Some p) first = (start ≤ p) × (p < first)
+
+later_within : (parent : Option ℕ) (start same first n : ℕ) → same ≡ start → first ≤ n → IsWithin start parent first → IsWithin same parent n
+later_within None start same first n e le h = tt
+later_within (Some p) start same first n e le h = (omega (arith, e, h.0), omega (arith, le, h.1))
+
+-- these nodes and so many places were added, and no place before was changed
+pub record Ran (before after : Runs) (count : ℕ) (given : List Item) : Type 0 where
+  pub start : after.start ≡ before.start
+  pub nodes : after.nodes ≡ before.nodes ++ given
+  pub places : (k : ℕ) → k < length before.places → slice_index_or after.places k None ≡ slice_index_or before.places k None
+  pub each : length after.places ≡ length before.places + count
+
+same_above : (parent : Option ℕ) (first : ℕ) (before after : Runs) → after.start ≡ before.start → IsWithin before.start parent first
+    → first ≡ before.start + length before.places
+    → ((k : ℕ) → k < length before.places → slice_index_or after.places k None ≡ slice_index_or before.places k None)
+    → above after.start after.places parent ≡ above before.start before.places parent
+same_above None first before after e h at same = refl
+same_above (Some p) first before after e h at same =
+    let inside : p - before.start < length before.places = omega (arith, h.0, h.1, at) in
+    ap (λ (n : ℕ). slice_index_or after.places (p - n) None) e ∙ same (p - before.start) inside
+
 module _ (is_on is_uses : ℕ → Bool) where
   -- other trees are put behind
   pub pruned_joined : (first : ℕ) (t others : Tree) → pruned is_on is_uses first t others ≡ joined (pruned is_on is_uses first t none) others
@@ -48,18 +74,6 @@ module _ (is_on is_uses : ℕ → Bool) where
   abbrev pub shown : Place → ℕ → ℕ → Tree → List Item
   shown None n first t = []
   shown (Some q) n first t = listed q n (pruned is_on is_uses first t none)
-
-  -- these nodes were added, and no place before this one was changed
-  pub record Ran (first : ℕ) (before after : Runs) (given : List Item) : Type 0 where
-    pub nodes : after.nodes ≡ before.nodes ++ given
-    pub places : (p : ℕ) → p < first → slice_index_or after.places p None ≡ slice_index_or before.places p None
-    pub each : length after.places ≡ length before.places
-
-  same_above : (parent : Option ℕ) (first : ℕ) (before after : Runs) → IsBefore parent first
-      → ((p : ℕ) → p < first → slice_index_or after.places p None ≡ slice_index_or before.places p None)
-      → above after.places parent ≡ above before.places parent
-  same_above None first before after lt same = refl
-  same_above (Some p) first before after lt same = same p lt
 
   module _ (lengths : (parent : Option ℕ) (first : ℕ) (t : Tree) → length (listed parent first t) ≡ count t)
       (in_order : (parent : Option ℕ) (first : ℕ) (t u : Tree) → listed parent first (joined t u) ≡ listed parent first t ++ listed parent (first + count t) u) where
@@ -98,47 +112,50 @@ module _ (is_on is_uses : ℕ → Bool) where
         ∙ ap (λ (b : Bool). listed q n (given b (is_uses origin) first inner inside after)) is_o
 
     -- going over the items of a tree adds what it shows
-    pub runs_tree : (t : Tree) (parent : Option ℕ) (first : ℕ) (s : Runs) (rest : List Item) → IsBefore parent first → first + count t ≤ length s.places
-        → (end : Runs) × (run is_on is_uses first (listed parent first t ++ rest) s ≡ run is_on is_uses (first + count t) rest end)
-        × Ran first s end (shown (above s.places parent) (length s.nodes) first t)
-    runs_tree none parent first s rest lt le = (s, ap (λ (k : ℕ). run is_on is_uses k rest s) (omega arith), nothing (above s.places parent))
+    pub runs_tree : (t : Tree) (parent : Option ℕ) (first : ℕ) (s : Runs) (rest : List Item) → IsWithin s.start parent first → first ≡ s.start + length s.places
+        → (end : Runs) × (run is_on is_uses (listed parent first t ++ rest) s ≡ run is_on is_uses rest end)
+        × Ran s end (count t) (shown (above s.start s.places parent) (length s.nodes) first t)
+    runs_tree none parent first s rest h at = (s, refl, nothing (above s.start s.places parent))
       where
-        nothing : (place : Place) → Ran first s s (shown place (length s.nodes) first none)
-        nothing None = record { nodes = sym (append-nil s.nodes); places = λ p h. refl; each = refl }
-        nothing (Some q) = record { nodes = sym (append-nil s.nodes); places = λ p h. refl; each = refl }
-    runs_tree (item origin below behind) parent first s rest lt le =
-        let place : Place = above s.places parent in
+        nothing : (place : Place) → Ran s s 0 (shown place (length s.nodes) first none)
+        nothing None = record { start = refl; nodes = sym (append-nil s.nodes); places = λ k lt. refl; each = omega arith }
+        nothing (Some q) = record { start = refl; nodes = sym (append-nil s.nodes); places = λ k lt. refl; each = omega arith }
+    runs_tree (item origin below behind) parent first s rest h at =
+        let place : Place = above s.start s.places parent in
         let n : ℕ = length s.nodes in
         let node : List Item = node_by (is_on first) (is_uses origin) first place in
         let own : Place = place_by (is_on first) (is_uses origin) n place in
-        let here : Item = record { origin = origin; parent = parent } in
-        let one : Runs = one_more is_on is_uses first here s in
+        let mid : ℕ = first + 1 + count below in
+        let one : Runs = more_at is_on is_uses first origin place s in
+        let step : one_more is_on is_uses (record { origin = origin; parent = parent }) s ≡ one =
+        ap (λ (k : ℕ). more_at is_on is_uses k origin place s) (sym at) in
         let inner : List Item = listed (Some first) (first + 1) below in
-        let after : List Item = listed parent (first + 1 + count below) behind in
-        let size : length one.places ≡ length s.places = length-set s.places first own in
-        let in_below = runs_tree below (Some first) (first + 1) one (after ++ rest) (omega arith) (omega (arith, le, size)) in
+        let after : List Item = listed parent mid behind in
+        let size : length one.places ≡ length s.places + 1 = length-append s.places (own ∷ []) in
+        let in_below = runs_tree below (Some first) (first + 1) one (after ++ rest) (omega (arith, at), omega arith) (omega (arith, at, size)) in
         let two : Runs = in_below.0 in
-        let ran_below : Ran (first + 1) one two (shown (above one.places (Some first)) (length one.nodes) (first + 1) below) = in_below.2 in
-        let in_behind = runs_tree behind parent (first + 1 + count below) two rest (later_before parent first (first + 1 + count below) (omega arith) lt)
-        (omega (arith, le, size, ran_below.each)) in
+        let ran_below : Ran one two (count below) (shown (above one.start one.places (Some first)) (length one.nodes) (first + 1) below) = in_below.2 in
+        let in_behind = runs_tree behind parent mid two rest (later_within parent s.start two.start first mid ran_below.start (omega arith) h)
+        (omega (arith, at, size, ran_below.each, ran_below.start)) in
         let end : Runs = in_behind.0 in
-        let ran_behind : Ran (first + 1 + count below) two end (shown (above two.places parent) (length two.nodes) (first + 1 + count below) behind) = in_behind.2 in
-        let kept_one : (p : ℕ) → p < first → slice_index_or one.places p None ≡ slice_index_or s.places p None =
-        λ p h. get_or-set_other s.places first p own None (other p h) in
-        let kept_two : (p : ℕ) → p < first → slice_index_or two.places p None ≡ slice_index_or s.places p None =
-        λ p h. ran_below.places p (omega (arith, h)) ∙ kept_one p h in
-        let kept_end : (p : ℕ) → p < first → slice_index_or end.places p None ≡ slice_index_or s.places p None =
-        λ p h. ran_behind.places p (omega (arith, h)) ∙ kept_two p h in
-        let own_is : above one.places (Some first) ≡ own = get_or-set_same s.places first own None (omega (arith, le)) in
-        let place_is : above two.places parent ≡ place = same_above parent first s two lt kept_two in
+        let ran_behind : Ran two end (count behind) (shown (above two.start two.places parent) (length two.nodes) mid behind) = in_behind.2 in
+        let kept_one : (k : ℕ) → k < length s.places → slice_index_or one.places k None ≡ slice_index_or s.places k None =
+        λ k lt. get_or-append s.places (own ∷ []) None k lt in
+        let kept_two : (k : ℕ) → k < length s.places → slice_index_or two.places k None ≡ slice_index_or s.places k None =
+        λ k lt. ran_below.places k (omega (arith, lt, size)) ∙ kept_one k lt in
+        let kept_end : (k : ℕ) → k < length s.places → slice_index_or end.places k None ≡ slice_index_or s.places k None =
+        λ k lt. ran_behind.places k (omega (arith, lt, size, ran_below.each)) ∙ kept_two k lt in
+        let own_is : above one.start one.places (Some first) ≡ own =
+        ap (λ (k : ℕ). slice_index_or (s.places ++ own ∷ []) k None) (omega (arith, at)) ∙ get_or-append-add s.places (own ∷ []) 0 None in
+        let place_is : above two.start two.places parent ≡ place = same_above parent first s two ran_below.start h at kept_two in
         let mid_is : length one.nodes ≡ n + length node = length-append s.nodes node in
         let below_nodes : List Item = shown own (length one.nodes) (first + 1) below in
         let two_nodes : two.nodes ≡ one.nodes ++ below_nodes =
         ran_below.nodes ∙ ap (λ (x : Place). one.nodes ++ shown x (length one.nodes) (first + 1) below) own_is in
         let last_is : length two.nodes ≡ length one.nodes + length below_nodes = ap length two_nodes ∙ length-append one.nodes below_nodes in
-        let behind_nodes : List Item = shown place (length two.nodes) (first + 1 + count below) behind in
+        let behind_nodes : List Item = shown place (length two.nodes) mid behind in
         let end_nodes : end.nodes ≡ two.nodes ++ behind_nodes =
-        ran_behind.nodes ∙ ap (λ (x : Place). two.nodes ++ shown x (length two.nodes) (first + 1 + count below) behind) place_is in
+        ran_behind.nodes ∙ ap (λ (x : Place). two.nodes ++ shown x (length two.nodes) mid behind) place_is in
         let two_is : end.nodes ≡ (one.nodes ++ below_nodes) ++ behind_nodes = end_nodes ∙ ap (λ (xs : List Item). xs ++ behind_nodes) two_nodes in
         let one_is : (one.nodes ++ below_nodes) ++ behind_nodes ≡ one.nodes ++ (below_nodes ++ behind_nodes) =
         append_assoc one.nodes below_nodes behind_nodes in
@@ -147,21 +164,23 @@ module _ (is_on is_uses : ℕ → Bool) where
         let all_nodes : end.nodes ≡ s.nodes ++ (node ++ (below_nodes ++ behind_nodes)) = two_is ∙ one_is ∙ s_is in
         let shows : node ++ (below_nodes ++ behind_nodes) ≡ shown place n first (item origin below behind) =
         shown_item (is_on first) (is_uses origin) place n first origin below behind refl refl (length one.nodes) (length two.nodes) mid_is last_is in
-        let flat : (inner ++ after) ++ rest ≡ inner ++ (after ++ rest) = append_assoc inner after rest in
-        let number : first + 1 + count below + count behind ≡ first + (1 + count below + count behind) = omega arith in (
+        let flat : (inner ++ after) ++ rest ≡ inner ++ (after ++ rest) = append_assoc inner after rest in (
           end,
-          ap (λ (xs : List Item). run is_on is_uses (first + 1) xs one) flat ∙ in_below.1 ∙ in_behind.1 ∙ ap (λ (k : ℕ). run is_on is_uses k rest end) number,
+          ap (run is_on is_uses ((inner ++ after) ++ rest)) step ∙ ap (λ (xs : List Item). run is_on is_uses xs one) flat ∙ in_below.1 ∙ in_behind.1,
           record {
+            start = ran_behind.start ∙ ran_below.start;
             nodes = all_nodes ∙ ap (λ (xs : List Item). s.nodes ++ xs) shows;
             places = kept_end;
-            each = ran_behind.each ∙ ran_below.each ∙ size;
+            each = omega (arith, ran_behind.each, ran_below.each, size);
           },
         )
-      where
-        other : (p : ℕ) → p < first → p ≢ first
-        other p h e = omega (arith, h, e)
 
--- no place is lost
-pub run_each : (is_on is_uses : ℕ → Bool) (items : List Item) (i : ℕ) (s : Runs) → length (run is_on is_uses i items s).places ≡ length s.places
-run_each is_on is_uses [] i s = refl
-run_each is_on is_uses (x ∷ items) i s = run_each is_on is_uses items (i + 1) (one_more is_on is_uses i x s) ∙ length-set s.places i _
+    -- going over the items of a file gives its nodes
+    pub runs_file : (t : Tree) (first : ℕ) (items : List Item) (s end : Runs) → s ≡ record { start = first; places = []; nodes = [] } → items ≡ listed None first t
+        → end ≡ run is_on is_uses items s → end.nodes ≡ listed None 0 (pruned is_on is_uses first t none)
+    runs_file t first items s end empty are ran =
+        let fresh : Runs = record { start = first; places = []; nodes = [] } in
+        let went = runs_tree t None first fresh [] tt (omega arith) in
+        let whole : run is_on is_uses items s ≡ run is_on is_uses (listed None first t ++ []) fresh =
+        ap (λ (xs : List Item). run is_on is_uses xs s) (are ∙ sym (append-nil (listed None first t))) ∙ ap (run is_on is_uses (listed None first t ++ [])) empty in
+        ap (λ (r : Runs). r.nodes) (ran ∙ whole ∙ went.1) ∙ went.2.nodes

@@ -1,5 +1,5 @@
 -- What conditions leave of an expansion (RFC 7950, sections 7.13 and 7.20.2).
-use Rattle.std.specs.Prelude.{ℕ, ◌+◌, Bool, List, [], ◌∷◌, take, if◌then◌else◌, slice_index_or}
+use Rattle.std.specs.Prelude.{ℕ, ◌+◌, Bool, List, take, if◌then◌else◌, slice_index_or}
 use Rattle.yv_expansion.specs.Tree.{Tree, none, item, count, all_of}
 
 -- The nodes that items give, in order, and then others: an item that isn't on gives none, and nor does what stands below it; a
@@ -18,9 +18,3 @@ start_of trees file = count (all_of (take file trees))
 
 abbrev pub tree_at : List Tree → ℕ → Tree
 tree_at trees file = slice_index_or trees file none
-
--- the nodes of files in this order
-abbrev pub pruned_in : (is_on is_uses : ℕ → Bool) → List Tree → List ℕ → Tree
-pruned_in is_on is_uses trees [] = none
-pruned_in is_on is_uses trees (file ∷ files) =
-    pruned is_on is_uses (start_of trees file) (tree_at trees file) (pruned_in is_on is_uses trees files)

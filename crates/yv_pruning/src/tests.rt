@@ -1,4 +1,4 @@
-use crate::{families_of, pruned};
+use crate::{Layout, families_of, uses_marks};
 use std::alloc::{AllocError, Global};
 use std::test::Fail;
 use yv_expansion::Item;
@@ -29,7 +29,9 @@ fn left(alloc: Global, on: &[bool]) -> Result<Vec<Item>, AllocError> {
         item(3, Some(1)),
         item(3, None),
     ];
-    pruned(alloc, &rows, &items, &[0], on)
+    let uses = uses_marks(alloc, &rows)?;
+    let layout = Layout::read(alloc, &rows, &items)?;
+    layout.pruned(alloc, &items, on, &uses, 0)
 }
 
 #[test]

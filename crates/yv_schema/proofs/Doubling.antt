@@ -8,10 +8,10 @@ use Rattle.std.proofs.lemmas.Option.{slice_get_within}
 use Rattle.std.proofs.lemmas.Slice.Eq.{bytes_eq-Decides}
 use Rattle.yv_statement.specs.declared.refusal.Refusal.{Refusal}
 use Rattle.yv_statement.specs.Order.{Among}
-use Rattle.yv_schema.specs.Tree.{Label, node, Forest, no_trees, tree, families, is_known, labels}
+use Rattle.yv_schema.specs.Tree.{count, Label, node, Forest, no_trees, tree, families, is_known, labels}
 use Rattle.yv_schema.specs.Refuses.{Repeated, refusal_of}
 use Rattle.yv_schema.specs.Rows.{Row}
-use Rattle.yv_schema.specs.InnerNumbers.{count, numbers_from, rows_from}
+use Rattle.yv_schema.specs.InnerNumbers.{numbers_from, rows_from}
 use Rattle.yv_schema.specs.InnerBuild.{Group, HasNoColon, Top, all_nodes, joined, tops_from}
 use Rattle.yv_schema.specs.InnerTables.{Namesakes, labels_at}
 use Rattle.yv_schema.proofs.Formed.{AreDifferent, AreOf, AreOfBelow, IsFormed, IsNew}

@@ -4,20 +4,15 @@ use Rattle.std.specs.List.{AllByRecursion, slice_get}
 use Rattle.std.specs.Str.{bytes_eq}
 use Rattle.std.proofs.lemmas.Bool.{false_from_ne_true}
 use Rattle.std.proofs.lemmas.Slice.Eq.{bytes_eq-Decides}
-use Rattle.yv_statement.specs.Tree.{Head, End, Then, name_of}
 use Rattle.yv_statement.specs.Tree as statement
-use Rattle.yv_conform.specs.declared.keyword.Keyword.{Keyword}
-use Rattle.yv_conform.specs.declared.keyword.Keyword.TheVariants as word
-use Rattle.yv_conform.specs.Names.{keyword_of}
+use Rattle.yv_expansion.specs.Tree as items
 use Rattle.yv_selection.specs.Choice.{Choice}
-use Rattle.yv_rows.specs.Files.{Briefs, Files, brief_of, tree_name}
-use Rattle.yv_values.specs.Types.{Plain}
+use Rattle.yv_rows.specs.Files.{Files, brief_of, tree_name}
 use Rattle.yv_schema.specs.declared.node.NodeId.{NodeId}
-use Rattle.yv_schema.specs.Kinds.{Kinds}
-use Rattle.yv_schema.specs.Truth.{Truth, is_on}
-use Rattle.yv_schema.specs.Tree.{node, Forest, no_trees, tree}
-use Rattle.yv_schema.specs.Module.{given, is_given, is_part, member_name, module_nodes, modules_from, nodes_of, parts_from, types_in}
-use Rattle.yv_schema.specs.InnerNumbers.{count, numbers_from}
+use Rattle.yv_schema.specs.Tree.{count, node, Forest, no_trees, tree}
+use Rattle.yv_schema.specs.Module.{Basis, file_nodes, is_given, is_part, label_at, labelled, member_name, module_nodes, modules_from, parts_from}
+use Rattle.yv_copies.specs.Left.{left_in}
+use Rattle.yv_schema.specs.InnerNumbers.{numbers_from}
 use Rattle.yv_schema.specs.InnerBuild.{Group, HasNoColon, Top, all_nodes, all_numbers, groups_from, joined, tops_from}
 use Rattle.yv_schema.specs.InnerTables.{DifferInName}
 use Rattle.yv_schema.proofs.Gathering.{numbers_joined}
@@ -56,29 +51,23 @@ AreOfBelow (tree (node l kids) ts) = AreOf l.module_name [] kids × AreOfBelow k
 abbrev pub AreFormed : List ℕ → List ℕ → Forest → Type 0
 AreFormed home front ts = AreOf home front ts × AreOfBelow ts
 
-given_formed : (k : Keyword) (file : ℕ) (home above : List ℕ) (h : Head) (types : List Plain) (inside others : Forest) → AreFormed home [] inside → AreFormed home (front_for above home) others
-    → AreFormed home (front_for above home) (given k file home above h types inside others)
-given_formed word.Container file home above h types inside others kids rest = ((refl, fronted_name above home (name_of h), rest.0), (kids.0, kids.1, rest.1))
-given_formed word.Leaf file home above h types inside others kids rest = ((refl, fronted_name above home (name_of h), rest.0), (tt, tt, rest.1))
-given_formed _ file home above h types inside others kids rest = rest
-
 chosen_formed : (b : Bool) (home front : List ℕ) (ts us : Forest) → AreFormed home front ts → AreFormed home front us → AreFormed home front (cond b ts us)
 chosen_formed true home front ts us p q = p
 chosen_formed false home front ts us p q = q
 
-pub nodes_formed : (truth : Truth) (kinds : Kinds) (file : ℕ) (home above : List ℕ) (f : statement.Forest) (others : Forest) → AreFormed home (front_for above home) others → AreFormed home (front_for above home) (nodes_of truth kinds file home above f others)
-nodes_formed truth kinds file home above End others rest = rest
-nodes_formed truth kinds file home above (Then h c o) others rest =
-    let behind : AreFormed home (front_for above home) (nodes_of truth kinds file home above o others) = nodes_formed truth kinds file home above o others rest in
-    let kids : AreFormed home (front_for home home) (nodes_of truth kinds file home home c no_trees) = nodes_formed truth kinds file home home c no_trees (tt, tt) in
-    let inside : AreFormed home [] (nodes_of truth kinds file home home c no_trees) = subst (λ (front : List ℕ). AreFormed home front (nodes_of truth kinds file home home c no_trees)) (no_front home) kids in
-    chosen_formed (is_on truth file c) home (front_for above home) _ _ (given_formed (keyword_of h.keyword) file home above h (types_in kinds file c) (nodes_of truth kinds file home home c no_trees) (nodes_of truth kinds file home above o others) inside behind) behind
+pub labelled_formed : (b : Basis) (home above : List ℕ) (t : items.Tree) (others : Forest) → AreFormed home (front_for above home) others → AreFormed home (front_for above home) (labelled b home above t others)
+labelled_formed b home above items.none others rest = rest
+labelled_formed b home above (items.item number below behind) others rest =
+    let after : AreFormed home (front_for above home) (labelled b home above behind others) = labelled_formed b home above behind others rest in
+    let kids : AreFormed home (front_for home home) (labelled b home home below no_trees) = labelled_formed b home home below no_trees (tt, tt) in
+    let inside : AreFormed home [] (labelled b home home below no_trees) = subst (λ (front : List ℕ). AreFormed home front (labelled b home home below no_trees)) (no_front home) kids in
+    ((refl, fronted_name above home (label_at b home above number).name, after.0), (inside.0, inside.1, after.1))
 
-parts_formed : (truth : Truth) (kinds : Kinds) (briefs : Briefs) (m : ℕ) (home : List ℕ) (n : ℕ) (ts : Files) (others : Forest) → AreFormed home (front_for [] home) others → AreFormed home (front_for [] home) (parts_from truth kinds briefs m home n ts others)
-parts_formed truth kinds briefs m home n [] others rest = rest
-parts_formed truth kinds briefs m home n (t ∷ ts) others rest =
-    let behind : AreFormed home (front_for [] home) (parts_from truth kinds briefs m home (n + 1) ts others) = parts_formed truth kinds briefs m home (n + 1) ts others rest in
-    chosen_formed (is_part briefs m n) home (front_for [] home) _ _ (nodes_formed truth kinds n home [] t.children (parts_from truth kinds briefs m home (n + 1) ts others) behind) behind
+parts_formed : (b : Basis) (m : ℕ) (home : List ℕ) (n : ℕ) (ts : Files) (others : Forest) → AreFormed home (front_for [] home) others → AreFormed home (front_for [] home) (parts_from b m home n ts others)
+parts_formed b m home n [] others rest = rest
+parts_formed b m home n (t ∷ ts) others rest =
+    let behind : AreFormed home (front_for [] home) (parts_from b m home (n + 1) ts others) = parts_formed b m home (n + 1) ts others rest in
+    chosen_formed (is_part (map brief_of b.files) m n) home (front_for [] home) _ _ (labelled_formed b home [] (left_in b.truth b.files b.trees n) (parts_from b m home (n + 1) ts others) behind) behind
 
 -- a module's nodes
 pub record IsFormed (g : Group) : Type 0 where
@@ -101,40 +90,40 @@ abbrev pub AreDifferent : List Group → Type 0
 AreDifferent [] = Unit {0}
 AreDifferent (g ∷ gs) = IsNew g.name gs × AreDifferent gs
 
-module _ (truth : Truth) (kinds : Kinds) (choice : Choice) (files : Files) where
-  group_formed : (m : ℕ) (t : statement.Tree) → HasNoColon (tree_name t) → tree_name t ≢ [] → IsFormed (record { name = tree_name t; nodes = module_nodes truth kinds files m t no_trees })
+module _ (b : Basis) (choice : Choice) where
+  group_formed : (m : ℕ) (t : statement.Tree) → HasNoColon (tree_name t) → tree_name t ≢ [] → IsFormed (record { name = tree_name t; nodes = module_nodes b m t no_trees })
   group_formed m t plain filled =
       let home : List ℕ = tree_name t in
-      let parts : AreFormed home (front_for [] home) (parts_from truth kinds (map brief_of files) m home 0 files no_trees) = parts_formed truth kinds (map brief_of files) m home 0 files no_trees (tt, tt) in
+      let parts : AreFormed home (front_for [] home) (parts_from b m home 0 b.files no_trees) = parts_formed b m home 0 b.files no_trees (tt, tt) in
       record {
         plain = plain;
-        formed = subst (λ (front : List ℕ). AreFormed home front (module_nodes truth kinds files m t no_trees)) (top_front home filled) (nodes_formed truth kinds m home [] t.children _ parts);
+        formed = subst (λ (front : List ℕ). AreFormed home front (module_nodes b m t no_trees)) (top_front home filled) (labelled_formed b home [] (left_in b.truth b.files b.trees m) _ parts);
       }
 
   chosen_groups : (b : Bool) (P : List Group → Type 0) (g : Group) (gs : List Group) → P gs → (b ≡ true → P gs → P (g ∷ gs)) → P (cond b (g ∷ gs) gs)
   chosen_groups true P g gs rest one = one refl rest
   chosen_groups false P g gs rest one = rest
 
-  pub groups_formed : (m : ℕ) (ts : Files) → NamesIn choice ts → AllByRecursion IsFormed (groups_from truth kinds choice files m ts)
+  pub groups_formed : (m : ℕ) (ts : Files) → NamesIn choice ts → AllByRecursion IsFormed (groups_from b choice m ts)
   groups_formed m [] names = tt
   groups_formed m (t ∷ ts) names =
-      chosen_groups (is_given choice t) (AllByRecursion IsFormed) (record { name = tree_name t; nodes = module_nodes truth kinds files m t no_trees }) (groups_from truth kinds choice files (m + 1) ts)
+      chosen_groups (is_given choice t) (AllByRecursion IsFormed) (record { name = tree_name t; nodes = module_nodes b m t no_trees }) (groups_from b choice (m + 1) ts)
       (groups_formed (m + 1) ts (names_behind choice t ts names))
       (λ given rest. (group_formed m t (names.plain 0 t refl given) (names.filled 0 t refl given), rest))
 
-  groups_new : (name : List ℕ) (m : ℕ) (ts : Files) → ((k : ℕ) (u : statement.Tree) → slice_get ts k ≡ Some u → is_given choice u ≡ true → name ≢ tree_name u) → IsNew name (groups_from truth kinds choice files m ts)
+  groups_new : (name : List ℕ) (m : ℕ) (ts : Files) → ((k : ℕ) (u : statement.Tree) → slice_get ts k ≡ Some u → is_given choice u ≡ true → name ≢ tree_name u) → IsNew name (groups_from b choice m ts)
   groups_new name m [] differ = tt
   groups_new name m (t ∷ ts) differ =
-      chosen_groups (is_given choice t) (IsNew name) (record { name = tree_name t; nodes = module_nodes truth kinds files m t no_trees }) (groups_from truth kinds choice files (m + 1) ts)
+      chosen_groups (is_given choice t) (IsNew name) (record { name = tree_name t; nodes = module_nodes b m t no_trees }) (groups_from b choice (m + 1) ts)
       (groups_new name (m + 1) ts (λ k u at. differ (suc k) u at))
       (λ given rest. (differ 0 t refl given, rest))
 
   pub groups_different : (m : ℕ) (ts : Files)
       → ((i k : ℕ) (t u : statement.Tree) → i < k → slice_get ts i ≡ Some t → slice_get ts k ≡ Some u → is_given choice t ≡ true → is_given choice u ≡ true → tree_name t ≢ tree_name u)
-      → AreDifferent (groups_from truth kinds choice files m ts)
+      → AreDifferent (groups_from b choice m ts)
   groups_different m [] differ = tt
   groups_different m (t ∷ ts) differ =
-      chosen_groups (is_given choice t) AreDifferent (record { name = tree_name t; nodes = module_nodes truth kinds files m t no_trees }) (groups_from truth kinds choice files (m + 1) ts)
+      chosen_groups (is_given choice t) AreDifferent (record { name = tree_name t; nodes = module_nodes b m t no_trees }) (groups_from b choice (m + 1) ts)
       (groups_different (m + 1) ts (λ i k a b lt at_i at_k. differ (suc i) (suc k) a b (omega arith) at_i at_k))
       (λ given rest. (groups_new (tree_name t) (m + 1) ts (λ k u at given_u. differ 0 (suc k) t u (omega arith) refl at given given_u), rest))
 
@@ -160,54 +149,47 @@ joined_assoc : (ts us vs : Forest) → joined (joined ts us) vs ≡ joined ts (j
 joined_assoc no_trees us vs = refl
 joined_assoc (tree t ts) us vs = ap (tree t) (joined_assoc ts us vs)
 
-given_joined : (k : Keyword) (file : ℕ) (home above : List ℕ) (h : Head) (types : List Plain) (inside ts us : Forest)
-    → given k file home above h types inside (joined ts us) ≡ joined (given k file home above h types inside ts) us
-given_joined word.Container file home above h types inside ts us = refl
-given_joined word.Leaf file home above h types inside ts us = refl
-given_joined _ file home above h types inside ts us = refl
-
 chosen_joined : (b : Bool) (a c ts us vs : Forest) → a ≡ joined ts us → c ≡ joined vs us → cond b a c ≡ joined (cond b ts vs) us
 chosen_joined true a c ts us vs p q = p
 chosen_joined false a c ts us vs p q = q
 
-pub nodes_joined : (truth : Truth) (kinds : Kinds) (file : ℕ) (home above : List ℕ) (f : statement.Forest) (others : Forest) → nodes_of truth kinds file home above f others ≡ joined (nodes_of truth kinds file home above f no_trees) others
-nodes_joined truth kinds file home above End others = refl
-nodes_joined truth kinds file home above (Then h c o) others =
-    let kids : Forest = nodes_of truth kinds file home home c no_trees in
-    let behind : Forest = nodes_of truth kinds file home above o no_trees in
-    let later : nodes_of truth kinds file home above o others ≡ joined behind others = nodes_joined truth kinds file home above o others in
-    chosen_joined (is_on truth file c) _ _ (given (keyword_of h.keyword) file home above h (types_in kinds file c) kids behind) others behind
-    (ap (given (keyword_of h.keyword) file home above h (types_in kinds file c) kids) later ∙ given_joined (keyword_of h.keyword) file home above h (types_in kinds file c) kids behind others) later
+pub labelled_joined : (b : Basis) (home above : List ℕ) (t : items.Tree) (others : Forest) → labelled b home above t others ≡ joined (labelled b home above t no_trees) others
+labelled_joined b home above items.none others = refl
+labelled_joined b home above (items.item number below behind) others =
+    ap (tree (node (label_at b home above number) (labelled b home home below no_trees))) (labelled_joined b home above behind others)
 
-parts_joined : (truth : Truth) (kinds : Kinds) (briefs : Briefs) (m : ℕ) (home : List ℕ) (n : ℕ) (ts : Files) (others : Forest) → parts_from truth kinds briefs m home n ts others ≡ joined (parts_from truth kinds briefs m home n ts no_trees) others
-parts_joined truth kinds briefs m home n [] others = refl
-parts_joined truth kinds briefs m home n (t ∷ ts) others =
-    let behind : Forest = parts_from truth kinds briefs m home (n + 1) ts no_trees in
-    let later : parts_from truth kinds briefs m home (n + 1) ts others ≡ joined behind others = parts_joined truth kinds briefs m home (n + 1) ts others in
-    let nodes : Forest → Forest = nodes_of truth kinds n home [] t.children in
-    chosen_joined (is_part briefs m n) _ _ (nodes behind) others behind
-    (ap nodes later ∙ nodes_joined truth kinds n home [] t.children (joined behind others) ∙ sym (joined_assoc (nodes no_trees) behind others) ∙ ap (λ (ts : Forest). joined ts others) (sym (nodes_joined truth kinds n home [] t.children behind)))
+file_joined : (b : Basis) (home : List ℕ) (n : ℕ) (others : Forest) → file_nodes b home n others ≡ joined (file_nodes b home n no_trees) others
+file_joined b home n others = labelled_joined b home [] (left_in b.truth b.files b.trees n) others
+
+parts_joined : (b : Basis) (m : ℕ) (home : List ℕ) (n : ℕ) (ts : Files) (others : Forest) → parts_from b m home n ts others ≡ joined (parts_from b m home n ts no_trees) others
+parts_joined b m home n [] others = refl
+parts_joined b m home n (t ∷ ts) others =
+    let behind : Forest = parts_from b m home (n + 1) ts no_trees in
+    let later : parts_from b m home (n + 1) ts others ≡ joined behind others = parts_joined b m home (n + 1) ts others in
+    let nodes : Forest → Forest = file_nodes b home n in
+    chosen_joined (is_part (map brief_of b.files) m n) _ _ (nodes behind) others behind
+    (ap nodes later ∙ file_joined b home n (joined behind others) ∙ sym (joined_assoc (nodes no_trees) behind others) ∙ ap (λ (ts : Forest). joined ts others) (sym (file_joined b home n behind)))
     later
 
-module_joined : (truth : Truth) (kinds : Kinds) (files : Files) (m : ℕ) (t : statement.Tree) (others : Forest) → module_nodes truth kinds files m t others ≡ joined (module_nodes truth kinds files m t no_trees) others
-module_joined truth kinds files m t others =
+module_joined : (b : Basis) (m : ℕ) (t : statement.Tree) (others : Forest) → module_nodes b m t others ≡ joined (module_nodes b m t no_trees) others
+module_joined b m t others =
     let home : List ℕ = tree_name t in
-    let nodes : Forest → Forest = nodes_of truth kinds m home [] t.children in
-    let parts : Forest → Forest = parts_from truth kinds (map brief_of files) m home 0 files in
-    ap nodes (parts_joined truth kinds (map brief_of files) m home 0 files others) ∙ nodes_joined truth kinds m home [] t.children (joined (parts no_trees) others)
-    ∙ sym (joined_assoc (nodes no_trees) (parts no_trees) others) ∙ ap (λ (ts : Forest). joined ts others) (sym (nodes_joined truth kinds m home [] t.children (parts no_trees)))
+    let nodes : Forest → Forest = file_nodes b home m in
+    let parts : Forest → Forest = parts_from b m home 0 b.files in
+    ap nodes (parts_joined b m home 0 b.files others) ∙ file_joined b home m (joined (parts no_trees) others)
+    ∙ sym (joined_assoc (nodes no_trees) (parts no_trees) others) ∙ ap (λ (ts : Forest). joined ts others) (sym (file_joined b home m (parts no_trees)))
 
 -- the nodes of all modules are the schema tree
-pub all_modules : (truth : Truth) (kinds : Kinds) (choice : Choice) (files : Files) (m : ℕ) (ts : Files) → all_nodes (groups_from truth kinds choice files m ts) ≡ modules_from truth kinds choice files m ts
-all_modules truth kinds choice files m [] = refl
-all_modules truth kinds choice files m (t ∷ ts) =
-    let rest : all_nodes (groups_from truth kinds choice files (m + 1) ts) ≡ modules_from truth kinds choice files (m + 1) ts = all_modules truth kinds choice files (m + 1) ts in
+pub all_modules : (b : Basis) (choice : Choice) (m : ℕ) (ts : Files) → all_nodes (groups_from b choice m ts) ≡ modules_from b choice m ts
+all_modules b choice m [] = refl
+all_modules b choice m (t ∷ ts) =
+    let rest : all_nodes (groups_from b choice (m + 1) ts) ≡ modules_from b choice (m + 1) ts = all_modules b choice (m + 1) ts in
     by (is_given choice t) rest
   where
-    by : (b : Bool) → all_nodes (groups_from truth kinds choice files (m + 1) ts) ≡ modules_from truth kinds choice files (m + 1) ts
-        → all_nodes (cond b (record { name = tree_name t; nodes = module_nodes truth kinds files m t no_trees } ∷ groups_from truth kinds choice files (m + 1) ts) (groups_from truth kinds choice files (m + 1) ts))
-        ≡ cond b (module_nodes truth kinds files m t (modules_from truth kinds choice files (m + 1) ts)) (modules_from truth kinds choice files (m + 1) ts)
-    by true rest = ap (joined (module_nodes truth kinds files m t no_trees)) rest ∙ sym (module_joined truth kinds files m t (modules_from truth kinds choice files (m + 1) ts))
+    by : (given : Bool) → all_nodes (groups_from b choice (m + 1) ts) ≡ modules_from b choice (m + 1) ts
+        → all_nodes (cond given (record { name = tree_name t; nodes = module_nodes b m t no_trees } ∷ groups_from b choice (m + 1) ts) (groups_from b choice (m + 1) ts))
+        ≡ cond given (module_nodes b m t (modules_from b choice (m + 1) ts)) (modules_from b choice (m + 1) ts)
+    by true rest = ap (joined (module_nodes b m t no_trees)) rest ∙ sym (module_joined b m t (modules_from b choice (m + 1) ts))
     by false rest = rest
 
 -- the numbers at the top of all modules are those of all nodes

@@ -1,5 +1,5 @@
 -- How the nodes of modules are gathered, file by file.
-use Rattle.std.proofs.Common.{◌≡◌, ℕ, suc, ◌+◌, ◌<◌, ◌≤◌, List, [], ◌∷◌, ◌++◌, length, drop, get_or, refl, sym, ap, subst, ◌∙◌, arith, append_assoc, append-nil, length-append, true, false, Some, inl, inr, add-one, drop-cons}
+use Rattle.std.proofs.Common.{◌≡◌, ℕ, suc, ◌+◌, ◌<◌, ◌≤◌, List, [], ◌∷◌, ◌++◌, length, map, drop, get_or, refl, sym, ap, subst, ◌∙◌, arith, append_assoc, append-nil, length-append, true, false, Some, inl, inr, add-one, drop-cons}
 use Rattle.std.specs.List.{slice_get}
 use Rattle.std.proofs.lemmas.Bool.{cases_lt}
 use Rattle.std.proofs.lemmas.List.{at_drop_all}
@@ -8,16 +8,13 @@ use Rattle.std.proofs.Math.ListN.{get_or-append}
 use Rattle.std.proofs.Math.Seq.{get_or-append_seam}
 use Rattle.yv_statement.specs.Tree as statement
 use Rattle.yv_selection.specs.Choice.{Choice}
-use Rattle.yv_rows.specs.Files.{Briefs, Files, tree_name}
+use Rattle.yv_rows.specs.Files.{Files, brief_of, tree_name}
 use Rattle.yv_schema.specs.declared.node.NodeId.{NodeId}
-use Rattle.yv_schema.specs.Kinds.{Kinds}
-use Rattle.yv_schema.specs.Truth.{Truth}
-use Rattle.yv_schema.specs.Tree.{Forest, node, no_trees, tree}
-use Rattle.yv_schema.specs.Module.{is_given, is_part, module_nodes, nodes_of, parts_from}
+use Rattle.yv_schema.specs.Tree.{count, Forest, node, no_trees, tree}
+use Rattle.yv_schema.specs.Module.{Basis, file_nodes, is_given, is_part, module_nodes, parts_from}
 use Rattle.yv_schema.specs.Rows.{Row}
-use Rattle.yv_schema.specs.InnerNumbers.{count, numbers_from, rows_from}
-use Rattle.yv_schema.specs.InnerBuild.{Adds, Group, Top, all_nodes, block_trees, groups_from, joined, tops_from}
-use Rattle.yv_schema.proofs.Blocks.{forest-trees}
+use Rattle.yv_schema.specs.InnerNumbers.{numbers_from, rows_from}
+use Rattle.yv_schema.specs.InnerBuild.{Adds, Group, Top, all_nodes, groups_from, joined, tops_from}
 use Rattle.yv_schema.proofs.Growing.{Rest, added_numbers, added_rows, rest_more}
 use Rattle.yv_schema.proofs.Numbers.{length_rows}
 
@@ -35,40 +32,39 @@ homes_more f xs k many are n lt = elim (cases_lt n k) [
       ∙ ap (λ (i : ℕ). Some (get_or (xs ++ f k ∷ []) i 0)) last ∙ ap Some (get_or-append_seam xs (f k) [] 0) ∙ ap (λ (i : ℕ). Some (f i)) (sym same)
 ]
 
-module _ (truth : Truth) (kinds : Kinds) (briefs : Briefs) (m : ℕ) (home : List ℕ) (roots : Files) (i : ℕ) (t : statement.Tree) (lt : i < length roots) (is : t ≡ get_or roots i t) (all : Forest → Forest) (old now : List Row) (before mid : List NodeId)
-    (rest : Rest (parts_from truth kinds briefs m home i (drop i roots)) all old now before mid) where
-  next_file : drop i roots ≡ t ∷ drop (i + 1) roots
-  next_file = drop-cons roots i t lt ∙ ap (λ (x : statement.Tree). x ∷ drop (suc i) roots) (sym is) ∙ ap (λ (n : ℕ). t ∷ drop n roots) (sym (add-one i))
+module _ (b : Basis) (m : ℕ) (home : List ℕ) (roots : Files) (i : ℕ) (t : statement.Tree) (lt : i < length roots) (all : Forest → Forest) (old now : List Row) (before mid : List NodeId)
+    (rest : Rest (parts_from b m home i (drop i roots)) all old now before mid) where
+  next_file : drop i roots ≡ get_or roots i t ∷ drop (i + 1) roots
+  next_file = drop-cons roots i t lt ∙ ap (λ (n : ℕ). get_or roots i t ∷ drop n roots) (sym (add-one i))
 
   -- a file that is another one of the module
-  pub part_more : (ss : List statement.Tree) (next : List Row) (after : List NodeId) → ss ≡ statement.trees t.children → is_part briefs m i ≡ true → Adds (block_trees truth kinds i home true ss) now next mid after
-      → Rest (parts_from truth kinds briefs m home (i + 1) (drop (i + 1) roots)) all old next before after
-  part_more ss next after block part adds =
-      let behind : Forest → Forest = parts_from truth kinds briefs m home (i + 1) (drop (i + 1) roots) in
-      let inside : statement.forest ss ≡ t.children = ap statement.forest block ∙ forest-trees t.children in
-      let first : (others : Forest) → parts_from truth kinds briefs m home i (drop i roots) others ≡ block_trees truth kinds i home true ss (behind others) =
-      λ others. ap (λ (fs : Files). parts_from truth kinds briefs m home i fs others) next_file ∙ rw (part, inside) refl in
-      rest_more (block_trees truth kinds i home true ss) behind all old now next before mid after (record {
+  pub part_more : (next : List Row) (after : List NodeId) → is_part (map brief_of b.files) m i ≡ true → Adds (file_nodes b home i) now next mid after
+      → Rest (parts_from b m home (i + 1) (drop (i + 1) roots)) all old next before after
+  part_more next after part adds =
+      let behind : Forest → Forest = parts_from b m home (i + 1) (drop (i + 1) roots) in
+      let first : (others : Forest) → parts_from b m home i (drop i roots) others ≡ file_nodes b home i (behind others) =
+      λ others. ap (λ (fs : Files). parts_from b m home i fs others) next_file ∙ rw part refl in
+      rest_more (file_nodes b home i) behind all old now next before mid after (record {
         rows = λ others. ap (λ (ts : Forest). now ++ rows_from (length now) ts) (sym (first others)) ∙ rest.rows others;
         are = λ others. ap (λ (ts : Forest). mid ++ numbers_from (length now) ts) (sym (first others)) ∙ rest.are others;
       }) adds
 
   -- a file of another module
-  pub part_other : is_part briefs m i ≡ false → Rest (parts_from truth kinds briefs m home (i + 1) (drop (i + 1) roots)) all old now before mid
+  pub part_other : is_part (map brief_of b.files) m i ≡ false → Rest (parts_from b m home (i + 1) (drop (i + 1) roots)) all old now before mid
   part_other other =
-      let behind : Forest → Forest = parts_from truth kinds briefs m home (i + 1) (drop (i + 1) roots) in
-      let first : (others : Forest) → parts_from truth kinds briefs m home i (drop i roots) others ≡ behind others =
-      λ others. ap (λ (fs : Files). parts_from truth kinds briefs m home i fs others) next_file ∙ rw (other) refl in
+      let behind : Forest → Forest = parts_from b m home (i + 1) (drop (i + 1) roots) in
+      let first : (others : Forest) → parts_from b m home i (drop i roots) others ≡ behind others =
+      λ others. ap (λ (fs : Files). parts_from b m home i fs others) next_file ∙ rw other refl in
       record {
         rows = λ others. ap (λ (ts : Forest). now ++ rows_from (length now) ts) (sym (first others)) ∙ rest.rows others;
         are = λ others. ap (λ (ts : Forest). mid ++ numbers_from (length now) ts) (sym (first others)) ∙ rest.are others;
       }
 
-pub parts_end : (truth : Truth) (kinds : Kinds) (briefs : Briefs) (m : ℕ) (home : List ℕ) (roots : Files) (i : ℕ) (all : Forest → Forest) (old now : List Row) (before after : List NodeId) → length roots ≤ i
-    → Rest (parts_from truth kinds briefs m home i (drop i roots)) all old now before after → Adds all old now before after
-parts_end truth kinds briefs m home roots i all old now before after over rest =
-    let none : (others : Forest) → parts_from truth kinds briefs m home i (drop i roots) others ≡ others =
-    λ others. at_drop_all (λ (fs : Files). parts_from truth kinds briefs m home i fs others) roots i over in
+pub parts_end : (b : Basis) (m : ℕ) (home : List ℕ) (roots : Files) (i : ℕ) (all : Forest → Forest) (old now : List Row) (before after : List NodeId) → length roots ≤ i
+    → Rest (parts_from b m home i (drop i roots)) all old now before after → Adds all old now before after
+parts_end b m home roots i all old now before after over rest =
+    let none : (others : Forest) → parts_from b m home i (drop i roots) others ≡ others =
+    λ others. at_drop_all (λ (fs : Files). parts_from b m home i fs others) roots i over in
     record {
       rows = λ others. ap (λ (ts : Forest). now ++ rows_from (length now) ts) (sym (none others)) ∙ rest.rows others;
       numbers = λ others. ap (λ (ts : Forest). after ++ numbers_from (length now) ts) (sym (none others)) ∙ rest.are others;
@@ -107,32 +103,32 @@ gather_one g behind all old now next tops numbers grew are h =
           ∙ ap (λ (cs : List NodeId). tops ++ record { name = g.name; numbers = cs } ∷ tops_from (length now + count g.nodes) behind) are ∙ h.are;
     }
 
-module _ (truth : Truth) (kinds : Kinds) (choice : Choice) (roots : Files) (i : ℕ) (t : statement.Tree) (lt : i < length roots) (is : t ≡ get_or roots i t) (all : List Group) (old now : List Row) (tops : List Top)
-    (h : Gathers (groups_from truth kinds choice roots i (drop i roots)) all old now tops) where
+module _ (b : Basis) (choice : Choice) (roots : Files) (i : ℕ) (t : statement.Tree) (lt : i < length roots) (is : t ≡ get_or roots i t) (all : List Group) (old now : List Row) (tops : List Top)
+    (h : Gathers (groups_from b choice i (drop i roots)) all old now tops) where
   abbrev behind : List Group
-  behind = groups_from truth kinds choice roots (i + 1) (drop (i + 1) roots)
+  behind = groups_from b choice (i + 1) (drop (i + 1) roots)
 
   next_root : drop i roots ≡ t ∷ drop (i + 1) roots
   next_root = drop-cons roots i t lt ∙ ap (λ (x : statement.Tree). x ∷ drop (suc i) roots) (sym is) ∙ ap (λ (n : ℕ). t ∷ drop n roots) (sym (add-one i))
 
-  pub module_more : (next : List Row) (top : Top) → is_given choice t ≡ true → top.name ≡ tree_name t → Adds (module_nodes truth kinds roots i t) now next [] top.numbers → Gathers behind all old next (tops ++ top ∷ [])
+  pub module_more : (next : List Row) (top : Top) → is_given choice t ≡ true → top.name ≡ tree_name t → Adds (module_nodes b i t) now next [] top.numbers → Gathers behind all old next (tops ++ top ∷ [])
   module_more next top given name adds =
-      let g : Group = record { name = tree_name t; nodes = module_nodes truth kinds roots i t no_trees } in
-      let first : groups_from truth kinds choice roots i (drop i roots) ≡ g ∷ behind = ap (groups_from truth kinds choice roots i) next_root ∙ rw given refl in
+      let g : Group = record { name = tree_name t; nodes = module_nodes b i t no_trees } in
+      let first : groups_from b choice i (drop i roots) ≡ g ∷ behind = ap (groups_from b choice i) next_root ∙ rw given refl in
       let same : record { name = tree_name t; numbers = top.numbers } ≡ top = ap (λ (text : List ℕ). let u : Top = record { name = text; numbers = top.numbers } in u) (sym name) in
       let made : Gathers behind all old next (tops ++ record { name = tree_name t; numbers = top.numbers } ∷ []) =
-      gather_one g behind all old now next tops top.numbers (added_rows (module_nodes truth kinds roots i t) now next [] top.numbers adds) (added_numbers (module_nodes truth kinds roots i t) now next [] top.numbers adds) (rw first at h) in
+      gather_one g behind all old now next tops top.numbers (added_rows (module_nodes b i t) now next [] top.numbers adds) (added_numbers (module_nodes b i t) now next [] top.numbers adds) (rw first at h) in
       rw same at made
 
   pub module_other : is_given choice t ≡ false → Gathers behind all old now tops
   module_other other =
-      let first : groups_from truth kinds choice roots i (drop i roots) ≡ behind = ap (groups_from truth kinds choice roots i) next_root ∙ rw other refl in
+      let first : groups_from b choice i (drop i roots) ≡ behind = ap (groups_from b choice i) next_root ∙ rw other refl in
       rw first at h
 
-pub modules_end : (truth : Truth) (kinds : Kinds) (choice : Choice) (roots : Files) (i : ℕ) (all : List Group) (old now : List Row) (tops : List Top) → length roots ≤ i
-    → Gathers (groups_from truth kinds choice roots i (drop i roots)) all old now tops → (now ≡ old ++ rows_from (length old) (all_nodes all)) × (tops ≡ tops_from (length old) all)
-modules_end truth kinds choice roots i all old now tops over h =
-    let none : groups_from truth kinds choice roots i (drop i roots) ≡ [] = at_drop_all (groups_from truth kinds choice roots i) roots i over in
+pub modules_end : (b : Basis) (choice : Choice) (roots : Files) (i : ℕ) (all : List Group) (old now : List Row) (tops : List Top) → length roots ≤ i
+    → Gathers (groups_from b choice i (drop i roots)) all old now tops → (now ≡ old ++ rows_from (length old) (all_nodes all)) × (tops ≡ tops_from (length old) all)
+modules_end b choice roots i all old now tops over h =
+    let none : groups_from b choice i (drop i roots) ≡ [] = at_drop_all (groups_from b choice i) roots i over in
     let end : Gathers [] all old now tops = rw none at h in
     (sym (append-nil now) ∙ end.rows, sym (append-nil tops) ∙ end.are)
 
@@ -143,9 +139,3 @@ adds_both first second old mid new before between after a b = record {
   rows = λ others. b.rows others ∙ a.rows (second others);
   numbers = λ others. b.numbers others ∙ a.numbers (second others);
 }
-
--- the trees of a file's own block
-pub adds_top : (truth : Truth) (kinds : Kinds) (i : ℕ) (home : List ℕ) (t : statement.Tree) (ss : List statement.Tree) (old new : List Row) (before after : List NodeId) → ss ≡ statement.trees t.children
-    → Adds (block_trees truth kinds i home true ss) old new before after → Adds (nodes_of truth kinds i home [] t.children) old new before after
-adds_top truth kinds i home t ss old new before after block adds =
-    subst (λ (f : statement.Forest). Adds (nodes_of truth kinds i home [] f) old new before after) (ap statement.forest block ∙ forest-trees t.children) adds

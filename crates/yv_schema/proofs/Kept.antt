@@ -10,10 +10,10 @@ use Rattle.yv_statement.specs.declared.refusal.Refusal.{Refusal}
 use Rattle.yv_statement.specs.Order.{Among, IsLeast, IsLesser}
 use Rattle.yv_statement.proofs.Least.{least_lesser, least_same}
 use Rattle.yv_schema.specs.declared.node.NodeId.{NodeId}
-use Rattle.yv_schema.specs.Tree.{Forest, Label, node, no_trees, tree, families, labels}
+use Rattle.yv_schema.specs.Tree.{count, Forest, Label, node, no_trees, tree, families, labels}
 use Rattle.yv_schema.specs.Refuses.{Doubled, Repeated}
 use Rattle.yv_schema.specs.Rows.{Row, Rows, blank_row, IsSound, named, row_at, whole}
-use Rattle.yv_schema.specs.InnerNumbers.{count, numbers_from, rows_from, rows_of}
+use Rattle.yv_schema.specs.InnerNumbers.{numbers_from, rows_from, rows_of}
 use Rattle.yv_schema.specs.InnerBuild.{Group, HasNoColon, Top, all_nodes, all_numbers, joined, tops_from}
 use Rattle.yv_schema.specs.InnerTables.{AreTables, IsKept, ModuleTable, Namesakes, Table, called, called_at, called_in, either, labels_at, look_up}
 use Rattle.yv_schema.proofs.Doubling.{Any, NoneAlike, among_any, any_among, any_family, any_row, any_top, apart_top, all_below, colon_cut, families_sit, family_any, fronted_of, named_below, pair_repeated, pair_top, repeated_pair, row_any, sit_first, sit_second, top_any, top_pair}
@@ -50,12 +50,13 @@ tops_within first n (g ∷ gs) room = (
 )
 
 -- what was built: the rows of the modules' trees
-pub record IsBuilt (gs : List Group) (nodes : List Row) (tops : List Top) : Type 0 where
+pub record IsBuilt (limit : ℕ) (gs : List Group) (nodes : List Row) (tops : List Top) : Type 0 where
   pub formed : AllByRecursion IsFormed gs
   pub differ : AreDifferent gs
   pub rows : nodes ≡ rows_from 0 (all_nodes gs)
   pub are : tops ≡ tops_from 0 gs
-  pub small : length nodes < 4294967295
+  pub small : length nodes ≤ 4294967295
+  pub limited : length nodes ≤ limit
 
 named_append : (s : Rows) (cs ds : List NodeId) (member : List ℕ) → named s (cs ++ ds) member ≡ either (named s cs member) (named s ds member)
 named_append s [] ds member = refl
@@ -114,7 +115,7 @@ module _ (s : Rows) where
       ∙ ap (λ (o : Option NodeId). either o (named s (all_numbers (tops_from (first + count g.nodes) gs)) member)) other
       ∙ in_none (first + count g.nodes) gs member formed.1 plain (sit_second s.nodes first g.nodes (all_nodes gs) sit)
 
-module _ (gs : List Group) (nodes : List Row) (tops : List Top) (b : IsBuilt gs nodes tops) where
+module _ (limit : ℕ) (gs : List Group) (nodes : List Row) (tops : List Top) (b : IsBuilt limit gs nodes tops) where
   sit : Sits nodes 0 (all_nodes gs)
   sit = subst (λ (rows : List Row). Sits rows 0 (all_nodes gs)) (sym b.rows) (all_sit (all_nodes gs))
 
@@ -181,30 +182,34 @@ module _ (gs : List Group) (nodes : List Row) (tops : List Top) (b : IsBuilt gs 
     none_below = named_below (all_nodes gs) (all_below gs b.formed) none_alike
 
     abbrev made : Rows
-    made = record { nodes = nodes; top = all_numbers tops }
+    made = record { nodes = nodes; top = all_numbers tops; limit = limit }
 
-    same : rows_of (all_nodes gs) ≡ made
-    same = ap (λ (ns : List Row). let r : Rows = record { nodes = ns; top = numbers_from 0 (all_nodes gs) } in r) (sym b.rows)
-        ∙ ap (λ (cs : List NodeId). let r : Rows = record { nodes = nodes; top = cs } in r) (sym (all_numbered 0 gs) ∙ ap all_numbers (sym b.are))
+    same : rows_of limit (all_nodes gs) ≡ made
+    same = ap (λ (ns : List Row). let r : Rows = record { nodes = ns; top = numbers_from 0 (all_nodes gs); limit = limit } in r) (sym b.rows)
+        ∙ ap (λ (cs : List NodeId). let r : Rows = record { nodes = nodes; top = cs; limit = limit } in r) (sym (all_numbered 0 gs) ∙ ap all_numbers (sym b.are))
 
     sound_made : IsSound made
-    sound_made = subst IsSound same (sound_rows (all_nodes gs) none_top none_below (omega (arith, b.small, many)))
+    sound_made = subst IsSound same (sound_rows limit (all_nodes gs) none_top none_below (omega (arith, b.small, many)) (omega (arith, b.limited, many)))
 
-    pub whole_made : whole (record { nodes = nodes; top = all_numbers tops }) ≡ all_nodes gs
-    whole_made = ap whole (sym same) ∙ whole_rows (all_nodes gs)
+    pub whole_made : whole (record { nodes = nodes; top = all_numbers tops; limit = limit }) ≡ all_nodes gs
+    whole_made = ap whole (sym same) ∙ whole_rows limit (all_nodes gs)
+
+    counted_made : length nodes ≡ count (whole (record { nodes = nodes; top = all_numbers tops; limit = limit }))
+    counted_made = many ∙ sym (ap count whole_made)
 
     below_made : (i : ℕ) (member : List ℕ) → i < length nodes → called nodes (slice_index_or nodes i blank_row).children member ≡ named made (slice_index_or nodes i blank_row).children member
     below_made i member lt =
-        let fronted : AllByRecursion (HasFront (rows_of (all_nodes gs)) []) (get_or (rows_from 0 (all_nodes gs)) i blank_row).children =
-        fronted_rows (all_nodes gs) none_top none_below i (omega (arith, lt, ap length b.rows)) in
+        let fronted : AllByRecursion (HasFront (rows_of limit (all_nodes gs)) []) (get_or (rows_from 0 (all_nodes gs)) i blank_row).children =
+        fronted_rows limit (all_nodes gs) none_top none_below i (omega (arith, lt, ap length b.rows)) in
         let here : AllByRecursion (HasFront made []) (get_or nodes i blank_row).children =
         subst (λ (rows : Rows). AllByRecursion (HasFront rows []) (get_or rows.nodes i blank_row).children) same fronted in
         sym (named_fronted made [] (slice_index_or nodes i blank_row).children member here)
 
     pub kept_made : (modules : ModuleTable) (tables : List Table) → ((name text : List ℕ) → look_up modules name text ≡ called_in nodes tops name text) → AreTables nodes tables
-        → IsKept modules tables (record { nodes = nodes; top = all_numbers tops })
+        → IsKept modules tables (record { nodes = nodes; top = all_numbers tops; limit = limit })
     kept_made modules tables known are = record {
       sound = sound_made;
+      counted = counted_made;
       each = are.each;
       top = λ home name plain.
           known home name ∙ ap (λ (ts : List Top). called_in nodes ts home name) b.are ∙ sym (in_modules made 0 gs home name b.formed plain sit)

@@ -9,10 +9,10 @@ pub mod Trees
 pub mod Formed
 pub mod Untaken
 pub mod Gathering
+pub mod Rowing
 pub mod Told
 pub mod Doubling
 pub mod Kept
 pub mod Phases
 pub mod Truths
-pub mod TypeKinds
 pub mod TypePhases

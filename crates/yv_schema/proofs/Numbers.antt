@@ -1,8 +1,8 @@
 -- The rows of a schema tree stand for that tree.
 use Rattle.std.proofs.Common.{◌≡◌, ℕ, ◌+◌, ◌-◌, List, [], ◌∷◌, ◌++◌, length, get_or, refl, sym, ap, ◌∙◌, arith, append_assoc, append-nil, length-append}
-use Rattle.yv_schema.specs.Tree.{Tree, node, Forest, no_trees, tree}
+use Rattle.yv_schema.specs.Tree.{count, Tree, node, Forest, no_trees, tree}
 use Rattle.yv_schema.specs.Rows.{Row, blank, pick, trees_from, whole}
-use Rattle.yv_schema.specs.InnerNumbers.{count, numbers_from, rows_from, rows_of}
+use Rattle.yv_schema.specs.InnerNumbers.{numbers_from, rows_from, rows_of}
 
 pub length_rows : (first : ℕ) (ts : Forest) → length (rows_from first ts) ≡ count ts
 length_rows first no_trees = refl
@@ -55,8 +55,8 @@ trees_rows first (tree (node l kids) ts) rest =
     rw (tail, inner, kids_trees, others, end) (ap (λ xs. node l kids ∷ xs) (sym (append_assoc (all_trees kids) (all_trees ts) _)))
 
 -- the rows of a schema tree stand for it
-pub whole_rows : (ts : Forest) → whole (rows_of ts) ≡ ts
-whole_rows ts =
+pub whole_rows : (limit : ℕ) (ts : Forest) → whole (rows_of limit ts) ≡ ts
+whole_rows limit ts =
     let trees : trees_from 0 (rows_from 0 ts) ≡ all_trees ts ++ [] =
     ap (trees_from 0) (sym (append-nil (rows_from 0 ts))) ∙ trees_rows 0 ts [] in
     ap (λ (xs : List Tree). pick 0 xs (numbers_from 0 ts)) trees ∙ pick_all 0 0 [] [] ts (omega arith)

@@ -29,11 +29,17 @@ use Rattle.yv_link.specs.Links.{BadLinks}
 use Rattle.yv_link.proofs.Phases.{ahead, behind}
 use Rattle.yv_names.specs.Faults.{BadSix}
 use Rattle.yv_types.specs.Faults.{BadTypes}
+use Rattle.yv_rows.specs.Rows.{Row}
+use Rattle.yv_rows.specs.Listed.{rows_of}
+use Rattle.yv_expansion.specs.Tree.{Tree as Items}
+use Rattle.yv_expand.specs.Expanded.{AreTrees}
+use Rattle.yv_copies.specs.Given.{marks_of}
 use Rattle.yv_copies.specs.Faults.{BadExpansion}
-use Rattle.yv_schema.specs.Kinds.{AreKinds, Kinds}
-use Rattle.yv_schema.specs.Truth.{IsTruth, Truth}
+use Rattle.yv_copies.specs.On.{Truth}
+use Rattle.yv_definitions.specs.Kinds.{AreKinds, Kinds}
+use Rattle.yv_schema.specs.Truth.{IsTruth}
 use Rattle.yv_schema.specs.Tree.{Forest, Label, labels}
-use Rattle.yv_schema.specs.Module.{is_given, schema_of}
+use Rattle.yv_schema.specs.Module.{Basis, is_given, schema_of}
 use Rattle.yv_schema.specs.Refuses.{BadFile, BadSchema, BadTyping, Doubled, Refuses, RefusesBeforeTypes, Repeated}
 use Rattle.yv_schema.specs.Schema.{IsSchema}
 use Rattle.yv_schema.specs.InnerBuild.{AreNames, HasNoColon}
@@ -41,7 +47,6 @@ use Rattle.yv_schema.proofs.Colons.{is_58}
 use Rattle.yv_schema.proofs.Keeping.{map_get}
 use Rattle.yv_schema.proofs.Told.{is_own}
 use Rattle.yv_schema.proofs.Truths.{same_truth}
-use Rattle.yv_schema.proofs.TypeKinds.{HasOneSpace, one_kinds}
 use Rattle.yv_schema.proofs.TypePhases.{names_phase, types_phase}
 
 and_first : (a b : Bool) → (a && b) ≡ true → a ≡ true
@@ -161,6 +166,14 @@ abbrev pub HasOneTruth : Type 0
 HasOneTruth = (files : Files) (choice : Choice) (file : ℕ) (text : List ℕ) (a b : Bool) → IsLeast (BadFour files) None
     → Holds files choice file text a → Holds files choice file text b → a ≡ b
 
+-- the types of files are told in one way
+abbrev pub HaveOneKinds : Type 0
+HaveOneKinds = (files : Files) (choice : Choice) (truth : Truth) (a b : Kinds) → AreKinds files choice truth a → AreKinds files choice truth b → a ≡ b
+
+-- files have one expansion
+abbrev pub HasOneExpansion : Type 0
+HasOneExpansion = (files : Briefs) (rows : List Row) (marks : List Bool) (a b : List Items) → AreTrees files rows marks a → AreTrees files rows marks b → a ≡ b
+
 module _ (choice : Choice) (files : Files) (limit : ℕ) where
   abbrev Own : Refusal → Type 0
   Own f = Among files BadFile (length files) f
@@ -255,21 +268,38 @@ module _ (choice : Choice) (files : Files) (limit : ℕ) (one : HasOneTruth) (be
       (λ f h. let e : phase_of f.code ≡ 9 = types_phase files h.truth f h.bad in omega (arith, e))
       (λ f h. let e : phase_of f.code ≡ 10 = schema_phase choice files f h in omega (arith, e)) (typed truth (Some r) is p))
 
-  -- files give one schema tree: whichever truth and types these are
-  pub one_schema : HasOneSpace → (a b : Forest) → IsSchema choice files a → IsSchema choice files b → a ≡ b
-  one_schema space a b p q =
-      let same : p.truth ≡ q.truth = one_truth p.truth q.truth p.is_truth q.is_truth in
-      let kinds : AreKinds files choice q.truth p.kinds = subst (λ (x : Truth). AreKinds files choice x p.kinds) same p.are_kinds in
-      p.is ∙ ap (λ (x : Truth). schema_of x p.kinds choice files) same
-      ∙ ap (λ (x : Kinds). schema_of q.truth x choice files) (one_kinds files choice q.truth space p.kinds q.kinds kinds q.are_kinds) ∙ sym q.is
+  -- files give one schema tree: whichever truth, types and expansion these are
+  pub one_schema : HaveOneKinds → HasOneExpansion → (a b : Forest) → IsSchema choice files a → IsSchema choice files b → a ≡ b
+  one_schema one_kinds expansion a b p q =
+      let p_truth : IsTruth files choice p.basis.truth = subst (λ (fs : Files). IsTruth fs choice p.basis.truth) p.of_files p.is_basis.truth in
+      let q_truth : IsTruth files choice q.basis.truth = subst (λ (fs : Files). IsTruth fs choice q.basis.truth) q.of_files q.is_basis.truth in
+      let truth : p.basis.truth ≡ q.basis.truth = one_truth p.basis.truth q.basis.truth p_truth q_truth in
+      let p_kinds : AreKinds files choice q.basis.truth p.basis.kinds =
+      subst (λ (x : Truth). AreKinds files choice x p.basis.kinds) truth (subst (λ (fs : Files). AreKinds fs choice p.basis.truth p.basis.kinds) p.of_files p.is_basis.kinds) in
+      let q_kinds : AreKinds files choice q.basis.truth q.basis.kinds = subst (λ (fs : Files). AreKinds fs choice q.basis.truth q.basis.kinds) q.of_files q.is_basis.kinds in
+      let kinds : p.basis.kinds ≡ q.basis.kinds = one_kinds files choice q.basis.truth p.basis.kinds q.basis.kinds p_kinds q_kinds in
+      let trees : p.basis.trees ≡ q.basis.trees =
+      expansion (map brief_of files) (rows_of files) (marks_of choice files) p.basis.trees q.basis.trees (expanded p.basis.files p.basis.trees p.of_files p.is_basis.trees) (expanded q.basis.files q.basis.trees q.of_files q.is_basis.trees) in
+      let one : p.basis ≡ q.basis =
+      ap (λ (fs : Files). basis fs p.basis.truth p.basis.kinds p.basis.trees) (p.of_files ∙ sym q.of_files)
+      ∙ ap (λ (x : Truth). basis q.basis.files x p.basis.kinds p.basis.trees) truth
+      ∙ ap (λ (x : Kinds). basis q.basis.files q.basis.truth x p.basis.trees) kinds
+      ∙ ap (λ (x : List Items). basis q.basis.files q.basis.truth q.basis.kinds x) trees in
+      p.is ∙ ap (schema_of choice) one ∙ sym q.is
+    where
+      basis : Files → Truth → Kinds → List Items → Basis
+      basis files truth kinds trees = record { files = files; truth = truth; kinds = kinds; trees = trees }
+
+      expanded : (fs : Files) (trees : List Items) → fs ≡ files → AreTrees (map brief_of fs) (rows_of fs) (marks_of choice fs) trees → AreTrees (map brief_of files) (rows_of files) (marks_of choice files) trees
+      expanded fs trees same h = subst (λ (fs : Files). AreTrees (map brief_of fs) (rows_of fs) (marks_of choice fs) trees) same h
 
   -- where all this refuses nothing, the least of the schema tree is the least of all
-  pub least_last : HasOneSpace → (truth : Truth) (o : Option Refusal) (tree : Forest) → IsTruth files choice truth → IsSchema choice files tree → IsLeast (BadTypes files truth) None
+  pub least_last : HaveOneKinds → HasOneExpansion → (truth : Truth) (o : Option Refusal) (tree : Forest) → IsTruth files choice truth → IsSchema choice files tree → IsLeast (BadTypes files truth) None
       → IsLeast (Doubled tree) o → IsLeast (Refuses choice files limit) o
-  least_last space truth o tree is schema p r =
+  least_last one_kinds expansion truth o tree is schema p r =
       let least : IsLeast (BadSchema choice files) o =
       least_same (Doubled tree) (BadSchema choice files) o
       (λ f h. record { tree = tree; is_schema = schema; doubled = h })
-      (λ f h. subst (λ (ts : Forest). Doubled ts f) (one_schema space h.tree tree h.is_schema schema) h.doubled) r in
+      (λ f h. subst (λ (ts : Forest). Doubled ts f) (one_schema one_kinds expansion h.tree tree h.is_schema schema) h.doubled) r in
       behind (Before choice files limit) (Later choice files limit) o before
       (behind (BadTyping choice files) (BadSchema choice files) o (typed truth None is p) least)

@@ -7,9 +7,9 @@ use Rattle.std.proofs.lemmas.List.Elements.{All-from_recursion}
 use Rattle.std.proofs.lemmas.Bool.{cases_Bool, cases_lt, false_from_ne_true, false≢true}
 use Rattle.std.proofs.lemmas.Slice.Eq.{bytes_eq-Decides}
 use Rattle.yv_schema.specs.declared.node.NodeId.{NodeId}
-use Rattle.yv_schema.specs.Tree.{Label, node, Forest, no_trees, tree, is_known}
+use Rattle.yv_schema.specs.Tree.{count, Label, node, Forest, no_trees, tree, is_known}
 use Rattle.yv_schema.specs.Rows.{Row, Rows, blank_row, row_at, children_of, rank, is_root, named, IsChild, IsSound}
-use Rattle.yv_schema.specs.InnerNumbers.{count, numbers_from, rows_from, rows_of}
+use Rattle.yv_schema.specs.InnerNumbers.{numbers_from, rows_from, rows_of}
 use Rattle.yv_schema.proofs.Finding.{HasFront}
 use Rattle.yv_schema.proofs.Numbers.{length_rows}
 
@@ -179,11 +179,11 @@ pub record IsParent (s : Rows) (p : NodeId) : Type 0 where
 pub all_sit : (ts : Forest) → Sits (rows_from 0 ts) 0 ts
 all_sit ts = record { front = []; back = []; split = sym (append-nil (rows_from 0 ts)); before = refl }
 
-module _ (ts : Forest) (top : AreApart ts) (below : AreNamedBelow ts) where
-  parent_at_root : (p : NodeId) → is_root p ≡ true → IsParent (rows_of ts) p
+module _ (limit : ℕ) (ts : Forest) (top : AreApart ts) (below : AreNamedBelow ts) where
+  parent_at_root : (p : NodeId) → is_root p ≡ true → IsParent (rows_of limit ts) p
   parent_at_root p root =
       let first : rank p ≡ 0 = rw root refl in
-      let at_top : children_of (rows_of ts) p ≡ numbers_from 0 ts = rw root refl in
+      let at_top : children_of (rows_of limit ts) p ≡ numbers_from 0 ts = rw root refl in
       record {
         kids = ts;
         are = at_top ∙ ap (λ (n : ℕ). numbers_from n ts) (sym first);
@@ -191,10 +191,10 @@ module _ (ts : Forest) (top : AreApart ts) (below : AreNamedBelow ts) where
         apart = top;
       }
 
-  parent_below : (p : NodeId) → rank p ≤ count ts → is_root p ≡ false → IsParent (rows_of ts) p
+  parent_below : (p : NodeId) → rank p ≤ count ts → is_root p ≡ false → IsParent (rows_of limit ts) p
   parent_below p within other =
       let next : rank p ≡ p.0 + 1 = rw other refl in
-      let own_children : children_of (rows_of ts) p ≡ (get_or (rows_from 0 ts) p.0 blank_row).children = rw other refl in
+      let own_children : children_of (rows_of limit ts) p ≡ (get_or (rows_from 0 ts) p.0 blank_row).children = rw other refl in
       let row : IsRow (rows_from 0 ts) p.0 = row_in (rows_from 0 ts) 0 p.0 p.0 ts (omega (arith, next)) (omega arith) (all_sit ts) below in
       record {
         kids = row.kids;
@@ -203,34 +203,35 @@ module _ (ts : Forest) (top : AreApart ts) (below : AreNamedBelow ts) where
         apart = row.kids_named.apart;
       }
 
-  parent_in : (p : NodeId) → rank p ≤ length (rows_from 0 ts) → IsParent (rows_of ts) p
+  parent_in : (p : NodeId) → rank p ≤ length (rows_from 0 ts) → IsParent (rows_of limit ts) p
   parent_in p within =
       elim (cases_Bool (is_root p)) [ inl root ↦ parent_at_root p root | inr other ↦ parent_below p (omega (arith, length_rows 0 ts)) other ]
 
-  child_each : (p : NodeId) (at n : ℕ) (cs : List NodeId) → rank p ≤ at → n ≤ length (rows_from 0 ts) → AllByRecursion (λ (c : NodeId). (at ≤ c.0) × (c.0 < n)) cs → AllByRecursion (IsChild (rows_of ts) p) cs
+  child_each : (p : NodeId) (at n : ℕ) (cs : List NodeId) → rank p ≤ at → n ≤ length (rows_from 0 ts) → AllByRecursion (λ (c : NodeId). (at ≤ c.0) × (c.0 < n)) cs → AllByRecursion (IsChild (rows_of limit ts) p) cs
   child_each p at n [] le room h = tt
   child_each p at n (c ∷ cs) le room h = (record { behind = omega (arith, h.0); within = omega (arith, h.0) }, child_each p at n cs le room h.1)
 
   -- a fact of each number where the children sit is one of each child
-  of_children : (p : NodeId) (parent : IsParent (rows_of ts) p) (P : List NodeId → NodeId → Type 0) → AllByRecursion (P (numbers_from (rank p) parent.kids)) (numbers_from (rank p) parent.kids) → All (P (children_of (rows_of ts) p)) (children_of (rows_of ts) p)
+  of_children : (p : NodeId) (parent : IsParent (rows_of limit ts) p) (P : List NodeId → NodeId → Type 0) → AllByRecursion (P (numbers_from (rank p) parent.kids)) (numbers_from (rank p) parent.kids) → All (P (children_of (rows_of limit ts) p)) (children_of (rows_of limit ts) p)
   of_children p parent P h =
       subst (λ (cs : List NodeId). All (P cs) cs) (sym parent.are) (All-from_recursion (P (numbers_from (rank p) parent.kids)) (numbers_from (rank p) parent.kids) h)
 
-  pub sound_rows : count ts < 4294967295 → IsSound (rows_of ts)
-  sound_rows small = record {
+  pub sound_rows : count ts ≤ 4294967295 → count ts ≤ limit → IsSound (rows_of limit ts)
+  sound_rows small limited = record {
     small = omega (arith, length_rows 0 ts);
+    limited = omega (arith, length_rows 0 ts);
     children = λ p within.
-        let parent : IsParent (rows_of ts) p = parent_in p within in
-        of_children p parent (λ cs. IsChild (rows_of ts) p)
+        let parent : IsParent (rows_of limit ts) p = parent_in p within in
+        of_children p parent (λ cs. IsChild (rows_of limit ts) p)
         (child_each p (rank p) (rank p + count parent.kids) (numbers_from (rank p) parent.kids) (omega arith) (room_of (rows_from 0 ts) (rank p) parent.kids parent.sit) (numbers_within (rank p) parent.kids));
     found = λ p within.
-        let parent : IsParent (rows_of ts) p = parent_in p within in
-        of_children p parent (λ cs c. named (rows_of ts) cs (member_at (rows_of ts) c) ≡ Some c)
-        (found_each (rows_of ts) (rank p) parent.kids parent.sit parent.apart);
+        let parent : IsParent (rows_of limit ts) p = parent_in p within in
+        of_children p parent (λ cs c. named (rows_of limit ts) cs (member_at (rows_of limit ts) c) ≡ Some c)
+        (found_each (rows_of limit ts) (rank p) parent.kids parent.sit parent.apart);
   }
 
   -- below a node the member of each child is its name
-  pub fronted_rows : (i : ℕ) → i < length (rows_from 0 ts) → AllByRecursion (HasFront (rows_of ts) []) (get_or (rows_from 0 ts) i blank_row).children
+  pub fronted_rows : (i : ℕ) → i < length (rows_from 0 ts) → AllByRecursion (HasFront (rows_of limit ts) []) (get_or (rows_from 0 ts) i blank_row).children
   fronted_rows i lt =
       let row : IsRow (rows_from 0 ts) i = row_in (rows_from 0 ts) 0 i i ts (omega (arith, lt, length_rows 0 ts)) (omega arith) (all_sit ts) below in
-      subst (λ (r : Row). AllByRecursion (HasFront (rows_of ts) []) r.children) (sym row.is) (fronted_each (rows_of ts) [] (i + 1) row.kids row.sit row.kids_named.fronted)
+      subst (λ (r : Row). AllByRecursion (HasFront (rows_of limit ts) []) r.children) (sym row.is) (fronted_each (rows_of limit ts) [] (i + 1) row.kids row.sit row.kids_named.fronted)

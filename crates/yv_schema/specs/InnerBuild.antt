@@ -2,31 +2,13 @@
 use Rattle.std.specs.Prelude.{◌≡◌, ◌≢◌, ◌<◌, ℕ, ◌+◌, ◌==◌, List, [], ◌∷◌, ◌++◌, map, length, Bool, true, false, if◌then◌else◌, slice_get, Some}
 use Rattle.std.specs.List.{list_any}
 use Rattle.yv_statement.specs.Tree as statement
-use Rattle.yv_conform.specs.Names.{keyword_of}
 use Rattle.yv_selection.specs.Choice.{Choice}
 use Rattle.yv_rows.specs.Files.{Files, brief_of, home_at, tree_name}
 use Rattle.yv_schema.specs.declared.node.NodeId.{NodeId}
-use Rattle.yv_schema.specs.Kinds.{Kinds}
-use Rattle.yv_schema.specs.Truth.{Truth, is_on}
-use Rattle.yv_schema.specs.Tree.{Forest, no_trees, tree}
-use Rattle.yv_schema.specs.Module.{given, is_given, module_nodes, nodes_of, types_in}
+use Rattle.yv_schema.specs.Tree.{count, Forest, no_trees, tree}
+use Rattle.yv_schema.specs.Module.{Basis, is_given, module_nodes}
 use Rattle.yv_schema.specs.Rows.{Row}
-use Rattle.yv_schema.specs.InnerNumbers.{count, numbers_from, rows_from}
-
--- the module above: none at the top, else that of the nodes themselves
-abbrev pub above_of : Bool → List ℕ → List ℕ
-above_of is_top home = if is_top then [] else home
-
--- the trees that a block's statements give, before others
-abbrev pub block_trees : Truth → Kinds → ℕ → List ℕ → Bool → List statement.Tree → Forest → Forest
-block_trees truth kinds file home is_top ss others = nodes_of truth kinds file home (above_of is_top home) (statement.forest ss) others
-
--- the trees that a statement gives, before others
-abbrev pub statement_trees : Truth → Kinds → ℕ → List ℕ → Bool → statement.Tree → Forest → Forest
-statement_trees truth kinds file home is_top s others =
-    let inside : Forest = nodes_of truth kinds file home home s.children no_trees in
-    let own : Forest = given (keyword_of s.head.keyword) file home (above_of is_top home) s.head (types_in kinds file s.children) inside others in
-    if is_on truth file s.children then own else others
+use Rattle.yv_schema.specs.InnerNumbers.{numbers_from, rows_from}
 
 -- rows and numbers were added for these trees: whichever others follow, the rows and numbers are those of both
 pub record Adds (trees : Forest → Forest) (old new : List Row) (before after : List NodeId) : Type 0 where
@@ -39,11 +21,11 @@ pub record Group : Type 0 where
   pub nodes : Forest
 
 -- of the files from number m on, the modules that are implemented, each with its nodes
-abbrev pub groups_from : Truth → Kinds → Choice → Files → ℕ → Files → List Group
-groups_from truth kinds choice files m [] = []
-groups_from truth kinds choice files m (t ∷ ts) =
-    let behind : List Group = groups_from truth kinds choice files (m + 1) ts in
-    if is_given choice t then record { name = tree_name t; nodes = module_nodes truth kinds files m t no_trees } ∷ behind else behind
+abbrev pub groups_from : Basis → Choice → ℕ → Files → List Group
+groups_from b choice m [] = []
+groups_from b choice m (t ∷ ts) =
+    let behind : List Group = groups_from b choice (m + 1) ts in
+    if is_given choice t then record { name = tree_name t; nodes = module_nodes b m t no_trees } ∷ behind else behind
 
 -- one list of trees behind the other
 abbrev pub joined : Forest → Forest → Forest

@@ -1,16 +1,22 @@
--- Only private clauses cite this: what is known of conditions and of types.
-use Rattle.std.specs.Prelude.{[]}
-use Rattle.std.specs.Option.{unwrap_or}
-use Rattle.yv_link.specs.Linked.{truth_in}
-use Rattle.yv_types.specs.Known.{space_at}
-use Rattle.yv_schema.specs.Kinds.{Kinds}
-use Rattle.yv_schema.specs.Truth.{Truth}
+-- Only private clauses cite this: what is known of files before their nodes are built.
+use Rattle.std.specs.Prelude.{◌≡◌}
+use Rattle.yv_selection.specs.Choice.{Choice}
+use Rattle.yv_rows.specs.Files.{Files}
+use Rattle.yv_definitions.specs.Known.{files_in, kinds_in}
+use Rattle.yv_copies.specs.Copies.{AreCopies}
+use Rattle.yv_schema.specs.Module.{Basis}
 use Rattle.yv_schema.specs.declared.context.Context.{Context}
 
--- which conditions hold, as the linked files tell
-abbrev pub truth_of : Context → Truth
-truth_of c file text = truth_in c.linked.now file text
+-- the context tells of this basis
+pub record Tells (b : Basis) (c : Context) : Type 0 where
+  pub files : files_in c.definitions.now ≡ b.files
+  pub kinds : kinds_in c.definitions.now ≡ b.kinds
+  pub choice : Choice
+  pub copies : AreCopies choice b.files b.truth c.copies.now
+  pub trees : copies.trees ≡ b.trees
 
--- the types, as these tell; no types, where none are told
-abbrev pub kinds_of : Context → Kinds
-kinds_of c file offset = unwrap_or (space_at c.types.now file offset) []
+-- the context tells of a basis with these files
+pub record TellsOf (files : Files) (c : Context) : Type 0 where
+  pub basis : Basis
+  pub of_files : basis.files ≡ files
+  pub tells : Tells basis c

@@ -1,13 +1,8 @@
 -- Only private clauses cite this: how a schema tree is numbered, each node before those below it.
 use Rattle.std.specs.Prelude.{ℕ, ◌+◌, List, [], ◌∷◌, ◌++◌}
 use Rattle.yv_schema.specs.declared.node.NodeId.{NodeId}
-use Rattle.yv_schema.specs.Tree.{Forest, no_trees, tree, node}
+use Rattle.yv_schema.specs.Tree.{Forest, count, no_trees, tree, node}
 use Rattle.yv_schema.specs.Rows.{Row, Rows}
-
--- how many nodes there are, at any depth
-abbrev pub count : Forest → ℕ
-count no_trees = 0
-count (tree (node l kids) ts) = 1 + count kids + count ts
 
 -- the numbers of the trees' own nodes, where the first has the number `first`
 abbrev pub numbers_from : ℕ → Forest → List NodeId
@@ -20,6 +15,6 @@ rows_from first no_trees = []
 rows_from first (tree (node l kids) ts) =
     record { label = l; children = numbers_from (first + 1) kids } ∷ rows_from (first + 1) kids ++ rows_from (first + 1 + count kids) ts
 
--- the rows of a schema tree
-abbrev pub rows_of : Forest → Rows
-rows_of ts = record { nodes = rows_from 0 ts; top = numbers_from 0 ts }
+-- the rows of a schema tree, within a limit
+abbrev pub rows_of : (limit : ℕ) → Forest → Rows
+rows_of limit ts = record { nodes = rows_from 0 ts; top = numbers_from 0 ts; limit = limit }

@@ -7,9 +7,9 @@ use Rattle.std.specs.declared.alloc.Global.{Global}
 use Rattle.yv_schema.specs.declared.node.NodeId.{NodeId}
 use Rattle.yv_statement.specs.Order.{Among, Stands}
 use Rattle.yv_statement.specs.declared.refusal.Refusal.{Refusal}
-use Rattle.yv_schema.specs.Tree.{Label}
+use Rattle.yv_schema.specs.Tree.{Label, count}
 use Rattle.yv_schema.specs.Refuses.{refusal_of}
-use Rattle.yv_schema.specs.Rows.{Row, Rows, blank_row, named, IsSound}
+use Rattle.yv_schema.specs.Rows.{Row, Rows, blank_row, named, whole, IsSound}
 use Rattle.yv_schema.specs.InnerBuild.{HasNoColon, Top}
 
 -- the first of these nodes that has this name
@@ -84,6 +84,7 @@ look_up tables name text = in_table text (get_by_text tables name)
 -- the tables of the modules and of the nodes give what members name: at the top the module stands before the first colon
 pub record IsKept (modules : ModuleTable) (tables : List Table) (s : Rows) : Type 0 where
   pub sound : IsSound s
+  pub counted : length s.nodes ≡ count (whole s)
   pub each : length tables ≡ length s.nodes
   pub top : (home name : List ℕ) → HasNoColon home → look_up modules home name ≡ named s s.top (home ++ 58 ∷ name)
   pub none : (member : List ℕ) → HasNoColon member → named s s.top member ≡ None

@@ -1,6 +1,5 @@
 pub mod Truth
 pub mod Tree
-pub mod Kinds
 pub mod Module
 pub mod Schema
 pub mod Refuses
@@ -9,6 +8,7 @@ pub mod InnerMember
 pub mod InnerContext
 pub mod InnerNumbers
 pub mod InnerBuild
+pub mod InnerRowing
 pub mod InnerTables
 pub mod InnerTops
 pub mod InnerParts

@@ -15,7 +15,8 @@ use Rattle.yv_link.specs.Links.{BadLinks}
 use Rattle.yv_names.specs.Faults.{BadSix}
 use Rattle.yv_copies.specs.Faults.{BadExpansion}
 use Rattle.yv_types.specs.Faults.{BadTypes}
-use Rattle.yv_schema.specs.Truth.{IsTruth, Truth}
+use Rattle.yv_copies.specs.On.{Truth}
+use Rattle.yv_schema.specs.Truth.{IsTruth}
 use Rattle.yv_schema.specs.Tree.{Forest, Label, families, labels}
 use Rattle.yv_schema.specs.Schema.{IsSchema}
 
@@ -45,6 +46,10 @@ is_taken word.Argument argument = true
 is_taken word.YinElement argument = true
 is_taken word.Container argument = true
 is_taken word.Leaf argument = true
+is_taken word.Presence argument = true
+is_taken word.Grouping argument = true
+is_taken word.Uses argument = true
+is_taken word.Refine argument = true
 is_taken word.Typedef argument = true
 is_taken word.Units argument = true
 is_taken word.Type None = false

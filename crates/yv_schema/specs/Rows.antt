@@ -1,9 +1,10 @@
 -- A schema as numbered rows: what contracts see of a `Schema`, and the tree that it stands for.
-use Rattle.std.specs.Prelude.{◌≡◌, ℕ, ◌+◌, ◌-◌, ◌<◌, ◌≤◌, ◌==◌, List, [], ◌∷◌, length, drop, All, Bool, Option, Some, None, if◌then◌else◌}
+use Rattle.std.specs.Prelude.{◌≡◌, ℕ, ◌+◌, ◌-◌, ◌<◌, ◌≤◌, ◌==◌, List, [], ◌∷◌, length, drop, All, Bool, false, Option, Some, None, if◌then◌else◌}
 use Rattle.std.specs.List.{slice_index_or}
 use Rattle.std.specs.Str.{bytes_eq}
 use Rattle.yv_schema.specs.declared.node.NodeId.{NodeId}
-use Rattle.yv_schema.specs.declared.node.NodeKind.TheVariants.{Leaf}
+use Rattle.yv_definitions.specs.declared.definition.NodeKind.TheVariants.{Leaf}
+use Rattle.yv_definitions.specs.declared.definition.NodeStatus.TheVariants.{Current}
 use Rattle.yv_schema.specs.Tree.{Label, Tree, node, Forest, no_trees, tree}
 
 -- a schema node, and the numbers of the nodes below it, in order
@@ -11,14 +12,36 @@ pub record Row : Type 0 where
   pub label : Label
   pub children : List NodeId
 
--- the rows by number, from 0, and the numbers of the nodes at the top, in order
+-- rows within a limit
+pub record Bounded : Type 0 where
+  pub limit : ℕ
+  pub rows : List Row
+
+-- the rows by number, from 0, the numbers of the nodes at the top, in order, and the most nodes that there may be
 pub record Rows : Type 0 where
   pub nodes : List Row
   pub top : List NodeId
+  pub limit : ℕ
 
 -- what stands where there is no row
 abbrev pub blank_row : Row
-blank_row = record { label = record { file = 0; offset = 0; line = 0; kind = Leaf; module_name = []; name = []; member = []; types = [] }; children = [] }
+blank_row = record {
+  label = record {
+    file = 0;
+    offset = 0;
+    line = 0;
+    kind = Leaf;
+    module_name = [];
+    name = [];
+    member = [];
+    types = [];
+    has_presence = false;
+    status = Current;
+    features = [];
+    type_text = [];
+  };
+  children = [];
+}
 
 -- the row of a node
 abbrev pub row_at : Rows → NodeId → Row
@@ -86,8 +109,9 @@ pub record IsChild (s : Rows) (p c : NodeId) : Type 0 where
 abbrev pub IsFound : Rows → NodeId → NodeId → Type 0
 IsFound s p c = named s (children_of s p) (row_at s c).label.member ≡ Some c
 
--- there are fewer nodes than numbers, children stand behind their parents, and no two of one parent have one member
+-- there are at most as many nodes as the limit and as numbers, children stand behind their parents, and no two of one parent have one member
 pub record IsSound (s : Rows) : Type 0 where
-  pub small : length s.nodes < 4294967295
+  pub small : length s.nodes ≤ 4294967295
+  pub limited : length s.nodes ≤ s.limit
   pub children : (p : NodeId) → rank p ≤ length s.nodes → All (IsChild s p) (children_of s p)
   pub found : (p : NodeId) → rank p ≤ length s.nodes → All (IsFound s p) (children_of s p)

@@ -1,16 +1,25 @@
 -- The schema of files under a choice (RFC 7950, section 5.6.5).
-use Rattle.std.specs.Prelude.{◌≡◌}
+use Rattle.std.specs.Prelude.{◌≡◌, List, map}
 use Rattle.yv_selection.specs.Choice.{Choice}
-use Rattle.yv_rows.specs.Files.{Files}
-use Rattle.yv_schema.specs.Kinds.{AreKinds, Kinds}
-use Rattle.yv_schema.specs.Module.{schema_of}
+use Rattle.yv_rows.specs.Files.{Files, brief_of}
+use Rattle.yv_rows.specs.Listed.{rows_of}
+use Rattle.yv_expand.specs.Expanded.{AreTrees}
+use Rattle.yv_copies.specs.Given.{marks_of}
+use Rattle.yv_definitions.specs.Kinds.{AreKinds}
+use Rattle.yv_schema.specs.Module.{Basis, schema_of}
 use Rattle.yv_schema.specs.Tree.{Forest}
-use Rattle.yv_schema.specs.Truth.{IsTruth, Truth}
+use Rattle.yv_schema.specs.Truth.{IsTruth}
 
--- this is the schema tree of the files, by the truth of their conditions and the plain types of their types
+-- a basis is that of files under a choice: their conditions hold so, these are the types of their `type` statements, and this
+-- is the expansion of the modules that are implemented
+pub record IsBasis (choice : Choice) (b : Basis) : Type 0 where
+  pub truth : IsTruth b.files choice b.truth
+  pub kinds : AreKinds b.files choice b.truth b.kinds
+  pub trees : AreTrees (map brief_of b.files) (rows_of b.files) (marks_of choice b.files) b.trees
+
+-- this is the schema tree of the files
 pub record IsSchema (choice : Choice) (files : Files) (tree : Forest) : Type 0 where
-  pub truth : Truth
-  pub kinds : Kinds
-  pub is_truth : IsTruth files choice truth
-  pub are_kinds : AreKinds files choice truth kinds
-  pub is : tree ≡ schema_of truth kinds choice files
+  pub basis : Basis
+  pub of_files : basis.files ≡ files
+  pub is_basis : IsBasis choice basis
+  pub is : tree ≡ schema_of choice basis

@@ -1,12 +1,13 @@
 -- The schema as a tree (RFC 7950, section 7).
-use Rattle.std.specs.Prelude.{ℕ, List, [], ◌∷◌, ◌++◌, Bool, false, ◌||◌}
+use Rattle.std.specs.Prelude.{ℕ, ◌+◌, List, [], ◌∷◌, ◌++◌, Bool, false, ◌||◌}
 use Rattle.std.specs.Str.{bytes_eq}
-use Rattle.yv_schema.specs.declared.node.NodeKind.{NodeKind}
+use Rattle.yv_definitions.specs.declared.definition.NodeKind.{NodeKind}
+use Rattle.yv_definitions.specs.declared.definition.NodeStatus.{NodeStatus}
 use Rattle.yv_values.specs.Types.{Plain}
 
 -- what a schema node is, without its place in the tree: `member` is what a JSON member that writes it is called
--- (RFC 7951, section 4), `types` are those that its values may have, in order, and `file`, `offset` and `line` say where
--- the statement that defines it stands
+-- (RFC 7951, section 4), `types` are those that its values may have, in order, `features` and `type_text` are shown to readers,
+-- and `file`, `offset` and `line` say where the statement that defines it stands
 pub record Label : Type 0 where
   pub file : ℕ
   pub offset : ℕ
@@ -16,6 +17,10 @@ pub record Label : Type 0 where
   pub name : List ℕ
   pub member : List ℕ
   pub types : List Plain
+  pub has_presence : Bool
+  pub status : NodeStatus
+  pub features : List ℕ
+  pub type_text : List ℕ
 
 -- schema nodes of one parent, in order, each with those below it
 mutual
@@ -25,6 +30,11 @@ mutual
   pub data Forest : Type 0 where
     no_trees : Forest
     tree : Tree → Forest → Forest
+
+-- how many nodes there are, at any depth
+abbrev pub count : Forest → ℕ
+count no_trees = 0
+count (tree (node l kids) ts) = 1 + count kids + count ts
 
 -- these nodes without those below them
 abbrev pub labels : Forest → List Label

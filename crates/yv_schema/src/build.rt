@@ -5,10 +5,10 @@ ghost use Rattle.yv_statement.specs.declared.refusal.Stop.TheVariants.{Fault, Pa
 ghost use Rattle.yv_statement.specs.Order.{IsLeast};
 ghost use Rattle.yv_selection.specs.Choice.{choice_of};
 ghost use Rattle.yv_rows.specs.Lent.{lent_in};
-ghost use Rattle.yv_schema.specs.Module.{schema_of};
+ghost use Rattle.yv_schema.specs.Module.{Basis, schema_of};
 ghost use Rattle.yv_schema.specs.Refuses.{Doubled};
 ghost use Rattle.yv_schema.specs.Rows.{whole};
-ghost use Rattle.yv_schema.specs.InnerContext.{kinds_of, truth_of};
+ghost use Rattle.yv_schema.specs.InnerContext.{Tells, TellsOf};
 ghost use Rattle.yv_schema.specs.InnerBuild.{AreNames};
 
 use crate::context::Context;
@@ -24,26 +24,27 @@ use yv_statement::{Stop, lesser};
 
 /// The schema of the implemented modules, or the least refusal of a node whose parent has an earlier one of its module
 /// and name.
-pub(crate) fn build<'a, 'b>(
+pub(crate) fn build(
     alloc: Global,
-    rows: &Rows<'a, 'b>,
-    context: &Context<'_, 'a, 'b>,
+    rows: &Rows<'_, '_>,
+    context: &Context<'_, '_, '_>,
     selection: &Selection,
+    limit: u32,
 ) -> Result<Schema, Stop>
     requires few { length (lent_in rows.now) ≤ 4294967296 }
     requires names { AreNames (choice_of selection.now) (lent_in rows.now) }
-    ensures schema { IfOk result (λ s. whole s
-        ≡ schema_of (truth_of context.now) (kinds_of context.now) (choice_of selection.now) (lent_in rows.now)) }
-    ensures clear { OnOk result
-        (IsLeast (Doubled (schema_of (truth_of context.now) (kinds_of context.now) (choice_of selection.now) (lent_in rows.now)))
-        None) }
-    ensures refusal { (r : Refusal) → result ≡ Err (Fault r)
-        → IsLeast (Doubled (schema_of (truth_of context.now) (kinds_of context.now) (choice_of selection.now) (lent_in rows.now)))
-        (Some r) }
+    requires basis { TellsOf (lent_in rows.now) context.now }
+    ensures schema { (b : Basis) → Tells b context.now → b.files ≡ lent_in rows.now
+        → IfOk result (λ s. whole s ≡ schema_of (choice_of selection.now) b) }
+    ensures limit { IfOk result (λ s. s.limit ≡ limit) }
+    ensures clear { (b : Basis) → Tells b context.now → b.files ≡ lent_in rows.now
+        → OnOk result (IsLeast (Doubled (schema_of (choice_of selection.now) b)) None) }
+    ensures refusal { (b : Basis) → Tells b context.now → b.files ≡ lent_in rows.now
+        → (r : Refusal) → result ≡ Err (Fault r) → IsLeast (Doubled (schema_of (choice_of selection.now) b)) (Some r) }
     ensures built { result ≢ Err PatternBuild }
 {
     let parts = Parts::read(alloc, rows)?;
-    let mut nodes = Nodes::new(alloc);
+    let mut nodes = Nodes::new(alloc, limit);
     let tops = parts.add_modules(alloc, context, selection, &mut nodes)?;
     let top = all_tops(alloc, &tops)?;
     let at_top = module_tables(alloc, &nodes, &tops)?;

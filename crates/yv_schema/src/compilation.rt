@@ -14,23 +14,23 @@ use crate::conformance::first_bad_file;
 use crate::context::Context;
 use crate::schema::Schema;
 use std::alloc::Global;
-use yv_copies::expanded;
-use yv_copies::laws::refusals_of_expansions_have_phases;
+use yv_copies::copies;
+use yv_copies::laws::{files_have_one_expansion, refusals_of_expansions_have_phases};
+use yv_definitions::Definitions;
+use yv_definitions::laws::{files_have_one_kinds, types_tell_kinds};
 use yv_features::laws::an_expression_has_one_truth;
 use yv_link::laws::{linked_files_tell_what_holds, links_have_phases};
 use yv_link::link;
 use yv_names::names;
 use yv_selection::Selection;
 use yv_statement::{Statement, Stop};
-use yv_types::laws::a_type_has_one_space;
 use yv_types::types;
 
 /// The schema of the modules that are implemented, by the statements of the files of all modules (RFC 7950,
 /// sections 5.1 and 7.1), or the least refusal by phase, file, offset and code. Statements that this version doesn't
 /// take are refused as `Unsupported`. Where what these modules expand to needs more units than the limit, that is refused
 /// as `TooManyNodes` before anything is built. `PatternBuild` says that the library of regular expressions doesn't build a
-/// pattern of the dialect. A schema of 2^32 - 1 nodes or more is none for want of memory, and so is one of more than
-/// 2^32 files.
+/// pattern of the dialect. A schema of more than 2^32 files is none for want of memory.
 pub fn compile(
     alloc: Global,
     files: &[Statement<'_>],
@@ -38,6 +38,7 @@ pub fn compile(
     limit: u32,
 ) -> Result<Schema, Stop>
     ensures schema { IfOk result (λ s. IsSchema (choice_of selection.now) files.now (whole s)) }
+    ensures limit { IfOk result (λ s. s.limit ≡ limit) }
     ensures clear { OnOk result (IsLeast (Refuses (choice_of selection.now) files.now limit) None) }
     ensures refusal { (r : Refusal) → result ≡ Err (Fault r)
         → IsLeast (Refuses (choice_of selection.now) files.now limit) (Some r) }
@@ -48,7 +49,9 @@ pub fn compile(
     links_have_phases();
     linked_files_tell_what_holds();
     an_expression_has_one_truth();
-    a_type_has_one_space();
+    types_tell_kinds();
+    files_have_one_kinds();
+    files_have_one_expansion();
     refusals_of_expansions_have_phases();
     if files.len() > 4_294_967_296 {
         return Err(Stop::NoMemory);
@@ -64,18 +67,15 @@ pub fn compile(
         Ok(names) => names,
         Err(stop) => return Err(stop),
     };
-    let _expansion = match expanded(alloc, linked.rows(), &names, selection, limit) {
-        Ok(expansion) => expansion,
+    let copies = match copies(alloc, &linked, linked.rows(), &names, selection, limit) {
+        Ok(copies) => copies,
         Err(stop) => return Err(stop),
     };
     let types = match types(alloc, &linked, &names) {
         Ok(types) => types,
         Err(stop) => return Err(stop),
     };
-    build(
-        alloc,
-        linked.rows(),
-        &Context::new(&linked, &types),
-        selection,
-    )
+    let definitions = Definitions::read(alloc, linked.rows(), &types)?;
+    let context = Context::new(&definitions, &copies);
+    build(alloc, linked.rows(), &context, selection, limit)
 }

@@ -55,6 +55,10 @@ fn is_taken(keyword: Keyword, argument: Option<&str>) -> bool
             | Keyword::YinElement
             | Keyword::Container
             | Keyword::Leaf
+            | Keyword::Presence
+            | Keyword::Grouping
+            | Keyword::Uses
+            | Keyword::Refine
             | Keyword::Typedef
             | Keyword::Units
             | Keyword::Range

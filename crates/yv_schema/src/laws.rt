@@ -13,5 +13,6 @@ pub fn files_have_one_schema()
         → IsSchema choice files a → IsSchema choice files b → a ≡ b }
 {
     yv_features::laws::an_expression_has_one_truth();
-    yv_types::laws::a_type_has_one_space();
+    yv_definitions::laws::files_have_one_kinds();
+    yv_copies::laws::files_have_one_expansion();
 }

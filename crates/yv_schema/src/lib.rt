@@ -1,12 +1,12 @@
 //! The schema of YANG modules: from their statements to numbered nodes with their member names and types.
 #![tactic(auto)]
 
-mod block;
 mod build;
 mod compilation;
 mod conformance;
 mod context;
 mod early;
+mod file;
 pub mod laws;
 mod modules;
 mod name;
@@ -20,5 +20,6 @@ mod tests;
 mod tops;
 
 pub use compilation::compile;
-pub use node::{Node, NodeId, NodeKind};
+pub use node::{Node, NodeId};
 pub use schema::Schema;
+pub use yv_definitions::{NodeKind, NodeStatus};

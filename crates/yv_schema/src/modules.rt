@@ -5,14 +5,14 @@ ghost use Rattle.yv_statement.specs.declared.refusal.Stop.TheVariants.{NoMemory}
 ghost use Rattle.yv_selection.specs.Choice.{choice_of};
 ghost use Rattle.yv_rows.specs.Files.{brief_of, tree_name};
 ghost use Rattle.yv_rows.specs.Lent.{lent_in};
-ghost use Rattle.yv_schema.specs.Module.{is_given, is_part, module_nodes, parts_from};
-ghost use Rattle.yv_schema.specs.InnerContext.{kinds_of, truth_of};
+ghost use Rattle.yv_schema.specs.Module.{Basis, is_given, is_part, module_nodes, parts_from};
+ghost use Rattle.yv_schema.specs.InnerContext.{Tells};
 ghost use Rattle.yv_schema.specs.InnerNumbers.{rows_from};
 ghost use Rattle.yv_schema.specs.InnerBuild.{Adds, AreHomes, all_nodes, groups_from, tops_from};
 ghost use Rattle.yv_schema.specs.InnerTops.{top_of};
 
-use crate::block::Builder;
 use crate::context::Context;
+use crate::file::Builder;
 use crate::name::name_of;
 use crate::node::NodeId;
 use crate::nodes::Nodes;
@@ -55,16 +55,17 @@ impl<'a, 'b> Parts<'a, 'b> {
     pub(crate) fn add_modules(
         &self,
         alloc: Global,
-        context: &Context<'_, 'a, 'b>,
+        context: &Context<'_, '_, '_>,
         selection: &Selection,
         nodes: &mut Nodes,
     ) -> Result<Vec<ModuleTop>, Stop>
-        ensures rows { OnOk result (nodes.new ≡ nodes.old ++ rows_from (length nodes.old)
-            (all_nodes (groups_from (truth_of context.now) (kinds_of context.now) (choice_of selection.now) (roots_in self.now) 0
-            (roots_in self.now)))) }
-        ensures tops { IfOk result (λ tops. map top_of tops.items ≡ tops_from (length nodes.old)
-            (groups_from (truth_of context.now) (kinds_of context.now) (choice_of selection.now) (roots_in self.now) 0
-            (roots_in self.now))) }
+        ensures rows { (b : Basis) → Tells b context.now → b.files ≡ roots_in self.now
+            → OnOk result (nodes.new.rows ≡ nodes.old.rows ++ rows_from (length nodes.old.rows)
+            (all_nodes (groups_from b (choice_of selection.now) 0 (roots_in self.now)))) }
+        ensures tops { (b : Basis) → Tells b context.now → b.files ≡ roots_in self.now
+            → IfOk result (λ tops. map top_of tops.items
+            ≡ tops_from (length nodes.old.rows) (groups_from b (choice_of selection.now) 0 (roots_in self.now))) }
+        ensures limit { nodes.new.limit ≡ nodes.old.limit }
         ensures memory { IfErr result (λ stop. stop ≡ NoMemory) }
     {
         let mut tops = Vec::new(alloc);
@@ -81,16 +82,16 @@ impl<'a, 'b> Parts<'a, 'b> {
     fn add_module(
         &self,
         alloc: Global,
-        context: &Context<'_, 'a, 'b>,
+        context: &Context<'_, '_, '_>,
         number: usize,
         root: &'a Statement<'b>,
         nodes: &mut Nodes,
     ) -> Result<ModuleTop, Stop>
         requires { number < 4294967296 }
         ensures name { IfOk result (λ top. rc_str_bytes top.name ≡ tree_name root.now) }
-        ensures added { IfOk result (λ top. Adds
-            (module_nodes (truth_of context.now) (kinds_of context.now) (roots_in self.now) number root.now)
-            nodes.old nodes.new [] top.numbers.items) }
+        ensures added { (b : Basis) → Tells b context.now → b.files ≡ roots_in self.now
+            → IfOk result (λ top. Adds (module_nodes b number root.now) nodes.old.rows nodes.new.rows [] top.numbers.items) }
+        ensures limit { nodes.new.limit ≡ nodes.old.limit }
         ensures memory { IfErr result (λ stop. stop ≡ NoMemory) }
     {
         let home = RcStr::from_str(alloc, name_of(root))?;
@@ -101,7 +102,7 @@ impl<'a, 'b> Parts<'a, 'b> {
             file: number as u32,
             home: &home,
         };
-        own.block(root.children(), true, &mut numbers, nodes)?;
+        own.add(&mut numbers, nodes)?;
         self.add_parts(number, own, &mut numbers, nodes)?;
         Ok(ModuleTop {
             name: home,
@@ -113,23 +114,23 @@ impl<'a, 'b> Parts<'a, 'b> {
     fn add_parts(
         &self,
         number: usize,
-        own: Builder<'_, 'a, 'b>,
+        own: Builder<'_, '_, '_>,
         numbers: &mut Vec<NodeId>,
         nodes: &mut Nodes,
     ) -> Result<(), Stop>
-        ensures added { OnOk result (Adds
-            (parts_from (truth_of own.entry.context.now) (kinds_of own.entry.context.now) (map brief_of (roots_in self.now))
-            number (rc_str_bytes own.entry.home.now) 0 (roots_in self.now))
-            nodes.old nodes.new numbers.old.items numbers.new.items) }
+        ensures added { (b : Basis) → Tells b own.entry.context.now → b.files ≡ roots_in self.now
+            → OnOk result (Adds (parts_from b number (rc_str_bytes own.entry.home.now) 0 (roots_in self.now))
+            nodes.old.rows nodes.new.rows numbers.old.items numbers.new.items) }
+        ensures limit { nodes.new.limit ≡ nodes.old.limit }
         ensures memory { IfErr result (λ stop. stop ≡ NoMemory) }
     {
-        for (file, root) in self.roots.iter().enumerate() {
+        for file in 0..self.roots.len() {
             if self.is_part(number, file) {
                 let part = Builder {
                     file: file as u32,
                     ..own
                 };
-                part.block(root.children(), true, numbers, nodes)?;
+                part.add(numbers, nodes)?;
             }
         }
         Ok(())

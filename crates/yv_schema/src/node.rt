@@ -3,7 +3,8 @@ ghost use Rattle.std.specs.Prelude.{◌≡◌, Some, None, IfOk, string_bytes, i
 
 use std::alloc::{AllocError, Global};
 use std::marker::Model;
-use std::rc::{RcSlice, RcStr};
+use std::rc::RcStr;
+use yv_definitions::{Definition, NodeKind, NodeStatus};
 use yv_statement::{Code, Refusal};
 use yv_values::PlainType;
 
@@ -20,41 +21,18 @@ impl NodeId {
     }
 }
 
-/// What a schema node is (RFC 7950, section 1).
-#[derive(Clone, Copy, Debug, PartialEq, Eq)]
-pub enum NodeKind {
-    /// An interior node without a value, an object in JSON (RFC 7950, section 7.5).
-    Container,
-    /// A node with one value (RFC 7950, section 7.6).
-    Leaf,
-}
-
-// Where the statement that defines a node stands.
-#[derive(Clone, Copy)]
-pub(crate) struct Place {
-    pub(crate) file: u32,
-    pub(crate) offset: u64,
-    pub(crate) line: u64,
-}
-
 /// A schema node. Contracts see its label and the numbers of its children.
 #[derive(Drop)]
 pub struct Node {
-    pub(crate) place: Place,
-    pub(crate) kind: NodeKind,
+    pub(crate) definition: Definition,
     pub(crate) module: RcStr,
-    pub(crate) name: String,
     /// Whether a JSON member of the node has the module's name in front.
     pub(crate) is_qualified: bool,
-    /// A list that nodes may share.
-    pub(crate) types: RcSlice<PlainType>,
     pub(crate) children: Vec<NodeId>,
 }
 
 impl Model for Node {
-    ghost use Rattle.std.specs.Prelude.{string_bytes, map};
-    ghost use Rattle.std.specs.Rc.{rc_slice_items, rc_str_bytes};
-    ghost use Rattle.yv_values.specs.Types.{plain_of};
+    ghost use Rattle.std.specs.Rc.{rc_str_bytes};
     ghost use Rattle.yv_schema.specs.Rows.{Row};
     ghost use Rattle.yv_schema.specs.InnerMember.{member_of};
 
@@ -62,14 +40,18 @@ impl Model for Node {
 
     ghost view = { λ n. record {
       label = record {
-        file = n.place.file;
-        offset = n.place.offset;
-        line = n.place.line;
-        kind = n.kind;
+        file = n.definition.file;
+        offset = n.definition.offset;
+        line = n.definition.line;
+        kind = n.definition.kind;
         module_name = rc_str_bytes n.module;
-        name = string_bytes n.name;
-        member = member_of n.is_qualified (rc_str_bytes n.module) (string_bytes n.name);
-        types = map plain_of (rc_slice_items n.types);
+        name = n.definition.name;
+        member = member_of n.is_qualified (rc_str_bytes n.module) n.definition.name;
+        types = n.definition.types;
+        has_presence = n.definition.has_presence;
+        status = n.definition.status;
+        features = n.definition.features;
+        type_text = n.definition.type_text;
       };
       children = n.children.items;
     } };
@@ -84,21 +66,21 @@ impl Node {
     pub fn file(&self) -> u32
         ensures { result ≡ self.now.label.file }
     {
-        self.place.file
+        self.definition.file()
     }
 
     /// The offset in bytes of the keyword of the statement that defines it.
     pub fn offset(&self) -> u64
         ensures { result ≡ self.now.label.offset }
     {
-        self.place.offset
+        self.definition.offset()
     }
 
     /// The line of that keyword, from 1.
     pub fn line(&self) -> u64
         ensures { result ≡ self.now.label.line }
     {
-        self.place.line
+        self.definition.line()
     }
 
     /// The refusal of the node, where its parent has an earlier one of its module and name.
@@ -108,9 +90,9 @@ impl Node {
         if repeated {
             Some(Refusal {
                 code: Code::DuplicateNode,
-                file: self.place.file,
-                offset: self.place.offset,
-                line: self.place.line,
+                file: self.definition.file(),
+                offset: self.definition.offset(),
+                line: self.definition.line(),
             })
         } else {
             None
@@ -121,7 +103,7 @@ impl Node {
     pub fn kind(&self) -> NodeKind
         ensures { result ≡ self.now.label.kind }
     {
-        self.kind
+        self.definition.kind()
     }
 
     /// The name of the module whose namespace the node is in.
@@ -135,7 +117,7 @@ impl Node {
     pub fn name(&self) -> &str
         ensures { result.now ≡ self.now.label.name }
     {
-        self.name.as_str()
+        self.definition.name()
     }
 
     /// What a JSON member that writes the node is called: its name, behind the module's and a colon where
@@ -149,7 +131,7 @@ impl Node {
             text.push_str(self.module.as_str())?;
             text.push(':')?;
         }
-        text.push_str(self.name.as_str())?;
+        text.push_str(self.definition.name())?;
         Ok(text)
     }
 
@@ -157,7 +139,37 @@ impl Node {
     pub fn types(&self) -> &[PlainType]
         ensures { map plain_of result.now ≡ self.now.label.types }
     {
-        self.types.as_slice()
+        self.definition.types()
+    }
+
+    /// Whether the node being there says something by itself, as that of a presence container does, by its own statement
+    /// or by a refine (RFC 7950, sections 7.5.5 and 7.13.2).
+    pub fn has_presence(&self) -> bool
+        ensures { result ≡ self.now.label.has_presence }
+    {
+        self.definition.has_presence()
+    }
+
+    /// Whether the node is still to be used, by its own `status` statement (RFC 7950, section 7.21.2).
+    pub fn status(&self) -> NodeStatus
+        ensures { result ≡ self.now.label.status }
+    {
+        self.definition.status()
+    }
+
+    /// The expressions of its `if-feature` statements and then those of its refines, separated by commas, to be shown to a
+    /// reader. The text is empty without any.
+    pub fn features(&self) -> &str
+        ensures { result.now ≡ self.now.label.features }
+    {
+        self.definition.features()
+    }
+
+    /// The name of its type as it is written. The text is empty without a type.
+    pub fn type_text(&self) -> &str
+        ensures { result.now ≡ self.now.label.type_text }
+    {
+        self.definition.type_text()
     }
 
     /// The numbers of the nodes below it, in the order of their statements.

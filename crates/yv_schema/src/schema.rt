@@ -25,24 +25,33 @@ impl Model for Schema {
 
     ghost Value = { Rows };
 
-    ghost view = { λ s. record { nodes = s.nodes; top = s.top.items } };
+    ghost view = { λ s. record { nodes = s.nodes.rows; top = s.top.items; limit = s.nodes.limit } };
 
-    ghost invariant = { λ s. IsKept s.modules s.tables.items (record { nodes = s.nodes; top = s.top.items }) };
+    ghost invariant = { λ s. IsKept s.modules s.tables.items (record { nodes = s.nodes.rows; top = s.top.items; limit = s.nodes.limit }) };
 }
 
 impl Schema {
     ghost use Rattle.std.specs.Prelude.{is_some};
-    ghost use Rattle.yv_schema.specs.Tree.{is_known};
-    ghost use Rattle.yv_schema.specs.Rows.{AreTrees, IsSound, IsChild, below, row_at, children_of, named, rank};
+    ghost use Rattle.yv_schema.specs.Tree.{count, is_known};
+    ghost use Rattle.yv_schema.specs.Rows.{AreTrees, IsSound, IsChild, below, row_at, children_of, named, rank, whole};
 
     /// The parent of the nodes at the top.
     pub const ROOT: NodeId = NodeId(u32::MAX);
 
-    /// How many nodes there are.
+    /// How many nodes there are: never more than the limit.
     pub fn len(&self) -> u32
-        ensures { result ≡ length self.now.nodes }
+        ensures rows { result ≡ length self.now.nodes }
+        ensures nodes { result ≡ count (whole self.now) }
+        ensures within { length self.now.nodes ≤ self.now.limit }
     {
         self.nodes.len()
+    }
+
+    /// The most nodes that there might have been: the limit on units that was given.
+    pub fn limit(&self) -> u32
+        ensures { result ≡ self.now.limit }
+    {
+        self.nodes.limit()
     }
 
     /// Whether there is no node.

@@ -27,9 +27,9 @@ impl Family {
         nodes: &Nodes,
         children: &[NodeId],
     ) -> Result<Family, AllocError>
-        requires { All (λ c. c.0 < length nodes.now) children.now }
-        ensures table { IfOk result (λ family. IsTable nodes.now children.now family.table) }
-        ensures doubled { IfOk result (λ family. IsLeast (Namesakes (labels_at nodes.now children.now)) family.doubled) }
+        requires { All (λ c. c.0 < length nodes.now.rows) children.now }
+        ensures table { IfOk result (λ family. IsTable nodes.now.rows children.now family.table) }
+        ensures doubled { IfOk result (λ family. IsLeast (Namesakes (labels_at nodes.now.rows children.now)) family.doubled) }
     {
         let mut table = BTreeMap::new(alloc);
         let mut doubled = None;

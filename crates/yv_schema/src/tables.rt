@@ -28,10 +28,10 @@ pub(crate) struct ModuleTables {
 
 /// The tables of the nodes.
 pub(crate) fn node_tables(alloc: Global, nodes: &Nodes) -> Result<NodeTables, AllocError>
-    requires { All (λ row. All (λ c. c.0 < length nodes.now) row.children) nodes.now }
-    ensures tables { IfOk result (λ found. AreTables nodes.now found.tables.items) }
+    requires { All (λ row. All (λ c. c.0 < length nodes.now.rows) row.children) nodes.now.rows }
+    ensures tables { IfOk result (λ found. AreTables nodes.now.rows found.tables.items) }
     ensures doubled { IfOk result (λ found. IsLeast
-        (Among nodes.now (λ k row. Namesakes (labels_at nodes.now row.children)) (length nodes.now)) found.doubled) }
+        (Among nodes.now.rows (λ k row. Namesakes (labels_at nodes.now.rows row.children)) (length nodes.now.rows)) found.doubled) }
 {
     let mut tables = Vec::new(alloc);
     let mut doubled = None;
@@ -49,12 +49,12 @@ pub(crate) fn module_tables(
     nodes: &Nodes,
     tops: &[ModuleTop],
 ) -> Result<ModuleTables, AllocError>
-    requires within { All (λ top. All (λ c. c.0 < length nodes.now) top.numbers) (map top_of tops.now) }
+    requires within { All (λ top. All (λ c. c.0 < length nodes.now.rows) top.numbers) (map top_of tops.now) }
     requires differ { DifferInName (map top_of tops.now) }
     ensures tables { IfOk result (λ found. (name text : List ℕ)
-        → look_up found.tables name text ≡ called_in nodes.now (map top_of tops.now) name text) }
+        → look_up found.tables name text ≡ called_in nodes.now.rows (map top_of tops.now) name text) }
     ensures doubled { IfOk result (λ found. IsLeast
-        (Among (map top_of tops.now) (λ k top. Namesakes (labels_at nodes.now top.numbers)) (length tops.now)) found.doubled) }
+        (Among (map top_of tops.now) (λ k top. Namesakes (labels_at nodes.now.rows top.numbers)) (length tops.now)) found.doubled) }
 {
     let mut tables = BTreeMap::new(alloc);
     let mut doubled = None;

@@ -21,13 +21,13 @@ of-requires c =
     let at = map_get top_of c.args.tops.now i c.top-item.result (slice_get_read c.args.tops.now _ i c.top-item.result refl c.loop-top-test.true c.top-item.is) in
     let many : length tops ≡ length c.args.tops.now = length-map c.args.tops.now top_of in
     let within = c.requires.within i top (omega (arith, many, c.loop-top-test.true)) in
-    let here : All (λ (n : NodeId). n.0 < length c.args.nodes.now) top.numbers =
-    subst (λ (t : Top). All (λ (n : NodeId). n.0 < length c.args.nodes.now) t.numbers) (get_or_from_slice_get tops i top top at) within in
+    let here : All (λ (n : NodeId). n.0 < length c.args.nodes.now.rows) top.numbers =
+    subst (λ (t : Top). All (λ (n : NodeId). n.0 < length c.args.nodes.now.rows) t.numbers) (get_or_from_slice_get tops i top top at) within in
     rw c.deref.ensures.value here
 
 pub loop-top-preserved : goal.loop-top-preserved
 loop-top-preserved c =
-    let rows = c.args.nodes.now in
+    let rows = c.args.nodes.now.rows in
     let tops = map top_of c.args.tops.now in
     let i = c.loop-top.top-index in
     let top = top_of c.top-item.result in

@@ -6,6 +6,6 @@ use Rattle.yv_schema.proofs.tables.module_tables.Given as goal
 
 abbrev pub invariant-loop-top : goal.invariant-loop-top
 invariant-loop-top l = record {
-  known : (name text : List ℕ) → look_up l.tables name text ≡ called_in l.nodes (take l.top-index (map top_of l.tops)) name text;
-  least : IsLeast (Among (map top_of l.tops) (λ k top. Namesakes (labels_at l.nodes top.numbers)) l.top-index) l.doubled;
+  known : (name text : List ℕ) → look_up l.tables name text ≡ called_in l.nodes.rows (take l.top-index (map top_of l.tops)) name text;
+  least : IsLeast (Among (map top_of l.tops) (λ k top. Namesakes (labels_at l.nodes.rows top.numbers)) l.top-index) l.doubled;
 }

@@ -8,7 +8,7 @@ use Rattle.yv_schema.proofs.tables.node_tables.Goals as goal
 
 pub loop-node-preserved : goal.loop-node-preserved
 loop-node-preserved c =
-    let rows = c.args.nodes.now in
+    let rows = c.args.nodes.now.rows in
     let i = c.loop-node.node-index in
     let at_item = slice_get_read c.all-node-items.result.now _ i c.node-item.result refl c.loop-node-test.true c.node-item.is in
     let at = rw c.all-node-items.ensures at at_item in
@@ -21,5 +21,5 @@ loop-node-preserved c =
 
 pub returns-clause-doubled : goal.returns-clause-doubled
 returns-clause-doubled c =
-    let all : c.loop-node.node-index ≡ length c.args.nodes.now = omega (arith, ap length c.all-node-items.ensures) in
+    let all : c.loop-node.node-index ≡ length c.args.nodes.now.rows = omega (arith, ap length c.all-node-items.ensures) in
     rw (← all) c.loop-node.invariant.least

@@ -5,6 +5,6 @@ use Rattle.yv_schema.proofs.tables.node_tables.Given as goal
 
 abbrev pub invariant-loop-node : goal.invariant-loop-node
 invariant-loop-node l = record {
-  built : AreTablesUpTo l.nodes l.tables.items l.node-index;
-  least : IsLeast (Among l.nodes (λ k row. Namesakes (labels_at l.nodes row.children)) l.node-index) l.doubled;
+  built : AreTablesUpTo l.nodes.rows l.tables.items l.node-index;
+  least : IsLeast (Among l.nodes.rows (λ k row. Namesakes (labels_at l.nodes.rows row.children)) l.node-index) l.doubled;
 }

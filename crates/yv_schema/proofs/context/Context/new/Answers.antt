@@ -1,7 +1,9 @@
-use Rattle.yv_types.specs.Known.{space_at}
-use Rattle.yv_schema.proofs.TypeKinds.{told_kinds}
+use Rattle.yv_schema.specs.InnerContext.{Tells}
+use Rattle.yv_schema.specs.declared.context.Context.{Context}
 use Rattle.yv_schema.proofs.context.Context.new.Goals as goal
 
-pub returns-clause-kinds : goal.returns-clause-kinds
-returns-clause-kinds c = λ files choice truth are.
-    told_kinds files choice truth (space_at c.args.types.now) (c.types_tell_spaces.ensures files choice truth c.args.types.now are)
+pub returns : goal.returns
+returns c = λ b choice files kinds k trees.
+    let made : Context = record { definitions = c.args.definitions; copies = c.args.copies } in
+    let told : Tells b made = record { files = files; kinds = kinds; choice = choice; copies = k; trees = trees } in
+    told

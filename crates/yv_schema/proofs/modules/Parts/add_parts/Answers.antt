@@ -1,27 +1,43 @@
-use Rattle.std.proofs.Common.{map, sym, ◌∙◌}
+use Rattle.std.proofs.Common.{◌≡◌, map, sym, subst, ap, ◌∙◌, false, true}
 use Rattle.std.specs.Rc.{rc_str_bytes}
-use Rattle.yv_rows.specs.Files.{brief_of}
-use Rattle.yv_schema.specs.InnerContext.{kinds_of, truth_of}
-use Rattle.yv_schema.specs.Module.{parts_from}
-use Rattle.yv_schema.proofs.Gathering.{part_more, part_other}
+use Rattle.yv_copies.specs.On.{no_statement}
+use Rattle.yv_rows.specs.Files.{Files, brief_of}
+use Rattle.yv_schema.specs.Module.{Basis, is_part, parts_from}
+use Rattle.yv_schema.proofs.Gathering.{part_more, part_other, parts_end}
 use Rattle.yv_schema.proofs.modules.Parts.add_parts.Goals as goal
-use Rattle.yv_schema.proofs.modules.Parts.add_parts.Goals.{then-is_part+in_ok-block, else-is_part}
+use Rattle.yv_schema.proofs.modules.Parts.add_parts.Goals.{then-is_part+in_ok-add, else-is_part}
 
 pub loop-file-preserved : goal.loop-file-preserved
 loop-file-preserved c =
-    let truth = truth_of c.args.own.context.now in
-    let kinds = kinds_of c.args.own.context.now in
     let roots = c.args.self.now.roots.now in
-    let briefs = map brief_of roots in
     let home = rc_str_bytes c.args.own.home.now in
+    let i = c.loop-file.file in
+    let m = c.args.number in
     elim c.if-is_part.branch [
-      | then-is_part+in_ok-block w ↦
-          let more = part_more truth kinds briefs c.args.number home roots c.loop-file.file c.root-item.result c.loop-file-test.true c.root-item.is (parts_from truth kinds briefs c.args.number home 0 roots)
-          c.args.nodes.now c.loop-file.nodes c.args.numbers.now.items c.loop-file.numbers.items c.loop-file.invariant
-          w.children.result.now w.block.new.nodes w.block.new.children.items w.children.ensures (sym c.is_part.ensures ∙ w.if-is_part.true) w.in_ok-block.ensures.added in
-          rw (w.numbers-is, w.nodes-is) more
+      | then-is_part+in_ok-add w ↦
+          record {
+            rest = λ b tells files.
+                let part : is_part (map brief_of b.files) m i ≡ true = ap (λ (fs : Files). is_part (map brief_of fs) m i) files ∙ sym c.is_part.ensures ∙ w.if-is_part.true in
+                let more = part_more b m home roots i no_statement c.loop-file-test.true (parts_from b m home 0 roots)
+                c.args.nodes.now.rows c.loop-file.nodes.rows c.args.numbers.now.items c.loop-file.numbers.items (c.loop-file.invariant.rest b tells files)
+                w.add.new.nodes.rows w.add.new.numbers.items part (w.in_ok-add.ensures.added b tells) in
+                rw (w.numbers-is, w.nodes-is) more;
+            limit = rw w.nodes-is (w.in_ok-add.ensures.limit ∙ c.loop-file.invariant.limit);
+          }
       | else-is_part w ↦
-          let same = part_other truth kinds briefs c.args.number home roots c.loop-file.file c.root-item.result c.loop-file-test.true c.root-item.is (parts_from truth kinds briefs c.args.number home 0 roots)
-          c.args.nodes.now c.loop-file.nodes c.args.numbers.now.items c.loop-file.numbers.items c.loop-file.invariant (sym c.is_part.ensures ∙ w.if-is_part.false) in
-          rw (w.numbers-is, w.nodes-is) same
+          record {
+            rest = λ b tells files.
+                let other : is_part (map brief_of b.files) m i ≡ false = ap (λ (fs : Files). is_part (map brief_of fs) m i) files ∙ sym c.is_part.ensures ∙ w.if-is_part.false in
+                let same = part_other b m home roots i no_statement c.loop-file-test.true (parts_from b m home 0 roots)
+                c.args.nodes.now.rows c.loop-file.nodes.rows c.args.numbers.now.items c.loop-file.numbers.items (c.loop-file.invariant.rest b tells files) other in
+                rw (w.numbers-is, w.nodes-is) same;
+            limit = rw w.nodes-is c.loop-file.invariant.limit;
+          }
     ]
+
+pub returns-clause-added : goal.returns-clause-added
+returns-clause-added c = λ b tells files.
+    let roots = c.args.self.now.roots.now in
+    let home = rc_str_bytes c.args.own.home.now in
+    parts_end b c.args.number home roots c.loop-file.file (parts_from b c.args.number home 0 roots) c.args.nodes.now.rows c.loop-file.nodes.rows
+    c.args.numbers.now.items c.loop-file.numbers.items c.loop-file-test.false (c.loop-file.invariant.rest b tells files)

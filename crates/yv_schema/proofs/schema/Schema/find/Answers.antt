@@ -14,7 +14,7 @@ returns-then-eq-clause-value c =
 
 pub returns-else-eq-clause-value : goal.returns-else-eq-clause-value
 returns-else-eq-clause-value c =
-    let s : Rows = record { nodes = c.self.inside.nodes; top = c.self.inside.top.items } in
+    let s : Rows = record { nodes = c.self.inside.nodes.rows; top = c.self.inside.top.items; limit = c.self.inside.nodes.limit } in
     let inner : is_root c.args.parent ≡ false = sym c.eq.ensures ∙ c.if-eq.false in
     let within : rank c.args.parent ≤ length s.nodes = rw (← c.self.view_is) at c.requires in
     let at = slice_get_read c.self.inside.tables.items (length s.nodes) c.args.parent.0 c.index.result.now (sym c.self.invariant.each) (omega (arith, within, rank_below c.args.parent inner)) c.index.ensures in

@@ -16,7 +16,7 @@ returns-in_err-table c =
     let name = c.in_ok-module.name.now in
     let parts = rw c.in_ok-module.was at (split_once_first 58 c.args.member.now c.split_once.result c.split_once.ensures.cases (omega arith)) in
     let cut = cut_found c.args.member.now home name parts.0 parts.1 parts.2 in
-    let s : Rows = record { nodes = c.self.inside.nodes; top = c.self.inside.top.items } in
+    let s : Rows = record { nodes = c.self.inside.nodes.rows; top = c.self.inside.top.items; limit = c.self.inside.nodes.limit } in
     let found = c.from_residual-in_err-table.ensures ∙ ap (in_table name) c.in_err-table.ensures.value ∙ c.self.invariant.top home name cut.0 ∙ ap (named s s.top) (sym cut.1) in
     subst (λ (s : Rows). c.from_residual-in_err-table.result ≡ named s s.top c.args.member.now) c.self.view_is found
 
@@ -26,6 +26,6 @@ returns c =
     let name = c.in_ok-module.name.now in
     let parts = rw c.in_ok-module.was at (split_once_first 58 c.args.member.now c.split_once.result c.split_once.ensures.cases (omega arith)) in
     let cut = cut_found c.args.member.now home name parts.0 parts.1 parts.2 in
-    let s : Rows = record { nodes = c.self.inside.nodes; top = c.self.inside.top.items } in
+    let s : Rows = record { nodes = c.self.inside.nodes.rows; top = c.self.inside.top.items; limit = c.self.inside.nodes.limit } in
     let found = c.copied.ensures ∙ c.get-2.ensures.value ∙ ap (in_table name) c.in_ok-table.ensures.value ∙ c.self.invariant.top home name cut.0 ∙ ap (named s s.top) (sym cut.1) in
     subst (λ (s : Rows). c.copied.result ≡ named s s.top c.args.member.now) c.self.view_is found

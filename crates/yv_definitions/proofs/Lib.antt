@@ -1,0 +1,5 @@
+pub mod Expressions
+pub mod Firsts
+pub mod Keeping
+pub mod Spacing
+pub mod TypeKinds

@@ -1,0 +1,48 @@
+-- The plain types of the `type` statements of files.
+use Rattle.std.proofs.Common.{◌≡◌, ℕ, List, [], Option, Some, None, inl, inr, codes, refl, sym, ◌∙◌}
+use Rattle.std.specs.Option.{unwrap_or}
+use Rattle.yv_selection.specs.Choice.{Choice}
+use Rattle.yv_rows.specs.Files.{Files}
+use Rattle.yv_rows.specs.Listed.{rows_of}
+use Rattle.yv_names.specs.References.{number_at}
+use Rattle.yv_values.specs.Types.{Plain}
+use Rattle.yv_types.specs.Spaces.{Space}
+use Rattle.yv_types.specs.Known.{IsTold}
+use Rattle.yv_listed.specs.Types.{Truth}
+use Rattle.yv_definitions.specs.Kinds.{AreKinds, IsKind, IsKindOf, Kinds}
+
+-- types that agree everywhere are one
+pub same_kinds : (a b : Kinds) → ((file offset : ℕ) → a file offset ≡ b file offset) → a ≡ b
+same_kinds a b h = λ i file offset. h file offset i
+
+-- a type has one list of plain types
+abbrev pub HasOneSpace : Type 0
+HasOneSpace = (files : Files) (choice : Choice) (truth : Truth) (k : ℕ) (ps qs : List Plain) → Space files truth choice k ps
+    → Space files truth choice k qs → ps ≡ qs
+
+module _ (files : Files) (choice : Choice) (truth : Truth) where
+  -- what is told of a statement's types is so
+  told_kind : (number : Option ℕ) (told : Option (List Plain)) → IsTold files choice truth number told → IsKindOf files choice truth number (unwrap_or told [])
+  told_kind None None h = refl
+  told_kind None (Some ps) h = absurd h
+  told_kind (Some k) None h = inr (h, refl)
+  told_kind (Some k) (Some ps) h = inl h
+
+  pub told_kinds : (told : ℕ → ℕ → Option (List Plain)) → ((file offset : ℕ) → IsTold files choice truth (number_at (rows_of files) (codes "type") file offset) (told file offset))
+      → AreKinds files choice truth (λ file offset. unwrap_or (told file offset) [])
+  told_kinds told h = λ file offset. told_kind (number_at (rows_of files) (codes "type") file offset) (told file offset) (h file offset)
+
+  module _ (one : HasOneSpace) where
+    one_kind : (k : ℕ) (ps qs : List Plain) → IsKind files choice truth k ps → IsKind files choice truth k qs → ps ≡ qs
+    one_kind k ps qs (inl a) (inl b) = one files choice truth k ps qs a b
+    one_kind k ps qs (inl a) (inr b) = absurd (b.0 ps a)
+    one_kind k ps qs (inr a) (inl b) = absurd (a.0 qs b)
+    one_kind k ps qs (inr a) (inr b) = a.1 ∙ sym b.1
+
+    one_kind_of : (number : Option ℕ) (ps qs : List Plain) → IsKindOf files choice truth number ps → IsKindOf files choice truth number qs → ps ≡ qs
+    one_kind_of None ps qs a b = a ∙ sym b
+    one_kind_of (Some k) ps qs a b = one_kind k ps qs a b
+
+    pub one_kinds : (a b : Kinds) → AreKinds files choice truth a → AreKinds files choice truth b → a ≡ b
+    one_kinds a b p q =
+        same_kinds a b (λ file offset. one_kind_of (number_at (rows_of files) (codes "type") file offset) (a file offset) (b file offset) (p file offset) (q file offset))

@@ -1,0 +1,10 @@
+use Rattle.std.proofs.Common.{◌≡◌, drop, string_bytes}
+use Rattle.yv_definitions.specs.Defined.{all_expressions, joined}
+use Rattle.yv_definitions.specs.Known.{files_in}
+use Rattle.yv_definitions.proofs.definitions.Definitions.features.Given as goal
+
+-- with the expressions of the refines behind, the text has all
+abbrev pub invariant-loop-refine : goal.invariant-loop-refine
+invariant-loop-refine l =
+    let all = all_expressions (files_in l.self) in
+    joined (string_bytes l.text) (all (drop l.refine-index l.refines)) ≡ joined l.own.features (all l.refines)

@@ -1,0 +1,35 @@
+-- The plain types that the `type` statements of files stand for (RFC 7950, sections 7.4 and 9).
+use Rattle.std.specs.Prelude.{◌≡◌, ◌⊎◌, ℕ, List, [], Option, Some, None, codes}
+use Rattle.std.specs.Option.{unwrap_or}
+use Rattle.yv_selection.specs.Choice.{Choice}
+use Rattle.yv_rows.specs.Files.{Files}
+use Rattle.yv_rows.specs.Listed.{rows_of}
+use Rattle.yv_names.specs.References.{number_at}
+use Rattle.yv_listed.specs.Types.{Truth}
+use Rattle.yv_values.specs.Types.{Plain}
+use Rattle.yv_types.specs.Known.{space_at}
+use Rattle.yv_types.specs.Spaces.{Space}
+use Rattle.yv_types.specs.declared.known.Types.{Types}
+
+-- the plain types of the `type` statement at an offset of a file
+abbrev pub Kinds : Type 0
+Kinds = ℕ → ℕ → List Plain
+
+-- these are the plain types of the numbered statement; no types, where it has none
+abbrev pub IsKind : Files → Choice → Truth → ℕ → List Plain → Type 0
+IsKind files choice truth k ps =
+    Space files truth choice k ps ⊎ (((qs : List Plain) → Space files truth choice k qs → ⊥) × (ps ≡ []))
+
+-- these are the plain types of the statement of this number; no types, where there is no statement
+abbrev pub IsKindOf : Files → Choice → Truth → Option ℕ → List Plain → Type 0
+IsKindOf files choice truth None ps = ps ≡ []
+IsKindOf files choice truth (Some k) ps = IsKind files choice truth k ps
+
+-- the plain types of all `type` statements of these files, where this is chosen of them and these conditions hold
+abbrev pub AreKinds : Files → Choice → Truth → Kinds → Type 0
+AreKinds files choice truth kinds =
+    (file offset : ℕ) → IsKindOf files choice truth (number_at (rows_of files) (codes "type") file offset) (kinds file offset)
+
+-- the plain types that are told; no types, where none are told
+abbrev pub kinds_of : Types → Kinds
+kinds_of types file offset = unwrap_or (space_at types file offset) []

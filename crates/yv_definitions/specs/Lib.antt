@@ -1,0 +1,4 @@
+pub mod Kinds
+pub mod Defined
+pub mod Known
+pub mod InnerKept

@@ -1,0 +1,59 @@
+//! The texts of conditions.
+ghost use Rattle.std.specs.Prelude.{◌≡◌, ◌++◌, OnOk, IfOk, string_bytes};
+ghost use Rattle.yv_statement.specs.Tree.{trees};
+ghost use Rattle.yv_definitions.specs.Defined.{expressions, is_blank, joined, spaced, with_comma};
+
+use crate::substatements::{is_of, name_of};
+use std::alloc::AllocError;
+use yv_conform::Keyword;
+use yv_statement::Statement;
+
+// A space, a tab, a CR or an LF.
+fn is_blank(character: char) -> bool
+    ensures { result ≡ is_blank character }
+{
+    matches!(character, ' ' | '\t' | '\r' | '\n')
+}
+
+// Adds a text with each run of blanks as one space.
+fn push_spaced(text: &mut String, more: &str) -> Result<(), AllocError>
+    ensures { OnOk result (string_bytes text.new ≡ string_bytes text.old ++ spaced more.now) }
+{
+    let mut is_behind = false;
+    for character in more.chars() {
+        let blank = is_blank(character);
+        if !blank {
+            text.push(character)?;
+        } else if !is_behind {
+            text.push(' ')?;
+        }
+        is_behind = blank;
+    }
+    Ok(())
+}
+
+// Adds a comma, where there is text.
+fn push_comma(text: &mut String) -> Result<(), AllocError>
+    ensures { OnOk result (string_bytes text.new ≡ with_comma (string_bytes text.old)) }
+{
+    if !text.is_empty() {
+        text.push(',')?;
+    }
+    Ok(())
+}
+
+/// Adds the expressions of the `if-feature` statements in a statement's block.
+pub(crate) fn push_expressions(
+    text: &mut String,
+    statement: &Statement<'_>,
+) -> Result<(), AllocError>
+    ensures { OnOk result (string_bytes text.new ≡ joined (string_bytes text.old) (expressions (trees statement.now.children))) }
+{
+    for child in statement.children() {
+        if is_of(Keyword::IfFeature, child) {
+            push_comma(text)?;
+            push_spaced(text, name_of(child))?;
+        }
+    }
+    Ok(())
+}

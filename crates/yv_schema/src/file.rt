@@ -1,0 +1,123 @@
+//! The nodes of a file.
+ghost use Rattle.std.specs.Prelude.{◌≡◌, ◌++◌, [], length, IfOk, IfErr, OnOk, slice_index_or};
+ghost use Rattle.std.specs.Rc.{rc_str_bytes};
+ghost use Rattle.yv_statement.specs.declared.refusal.Stop.TheVariants.{NoMemory};
+ghost use Rattle.yv_pruning.specs.Families.{lists_of};
+ghost use Rattle.yv_schema.specs.Module.{Basis, file_nodes};
+ghost use Rattle.yv_schema.specs.InnerContext.{Tells};
+ghost use Rattle.yv_schema.specs.InnerBuild.{Adds};
+ghost use Rattle.yv_schema.specs.InnerRowing.{number_behind, numbers_behind, row_of, rows_for};
+
+use crate::context::Context;
+use crate::node::{Node, NodeId};
+use crate::nodes::Nodes;
+use std::alloc::{AllocError, Global};
+use std::rc::RcStr;
+use yv_expansion::Item;
+use yv_pruning::families_of;
+use yv_statement::Stop;
+
+/// What the nodes of a file have in common.
+#[derive(Clone, Copy)]
+pub(crate) struct Builder<'c, 'a, 'b> {
+    pub(crate) alloc: Global,
+    pub(crate) context: &'c Context<'c, 'a, 'b>,
+    /// The file's number.
+    pub(crate) file: u32,
+    /// The name of the module to which the file belongs.
+    pub(crate) home: &'c RcStr,
+}
+
+impl Builder<'_, '_, '_> {
+    /// Adds the nodes of the file, each before those below it, and the numbers of those at the top.
+    pub(crate) fn add(&self, numbers: &mut Vec<NodeId>, nodes: &mut Nodes) -> Result<(), Stop>
+        ensures added { (b : Basis) → Tells b self.now.context.now → OnOk result
+            (Adds (file_nodes b (rc_str_bytes self.now.home.now) self.now.file) nodes.old.rows nodes.new.rows
+            numbers.old.items numbers.new.items) }
+        ensures limit { nodes.new.limit ≡ nodes.old.limit }
+        ensures memory { IfErr result (λ stop. stop ≡ NoMemory) }
+    {
+        let left = self.context.left(self.alloc, self.file)?;
+        let families = families_of(self.alloc, &left)?;
+        let base = nodes.len();
+        self.add_nodes(base, &left, &families.below, nodes)?;
+        add_numbers(base, &families.top, numbers)
+    }
+
+    // Adds the nodes of items, below which stand those in these places behind the first.
+    fn add_nodes(
+        &self,
+        base: u32,
+        items: &[Item],
+        below: &[Vec<usize>],
+        nodes: &mut Nodes,
+    ) -> Result<(), Stop>
+        ensures rows { (b : Basis) → Tells b self.now.context.now → OnOk result (nodes.new.rows
+            ≡ nodes.old.rows ++ rows_for b (rc_str_bytes self.now.home.now) base (lists_of below.now) 0 items.now) }
+        ensures limit { nodes.new.limit ≡ nodes.old.limit }
+        ensures memory { IfErr result (λ stop. stop ≡ NoMemory) }
+    {
+        for (place, item) in items.iter().enumerate() {
+            let children = numbered(self.alloc, base, places_at(below, place))?;
+            let node = self.node(item, children)?;
+            nodes.push(node)?;
+        }
+        Ok(())
+    }
+
+    // The node of an item, with these children.
+    fn node(&self, item: &Item, children: Vec<NodeId>) -> Result<Node, AllocError>
+        ensures { (b : Basis) → Tells b self.now.context.now → IfOk result (λ node. node
+            ≡ row_of b (rc_str_bytes self.now.home.now) item.now children.items) }
+    {
+        let definition = self.context.definition(item.origin)?;
+        Ok(Node {
+            definition,
+            module: self.home.clone()?,
+            is_qualified: item.parent.is_none() && !self.home.is_empty(),
+            children,
+        })
+    }
+}
+
+// The places of the nodes below one.
+fn places_at(below: &[Vec<usize>], place: usize) -> &[usize]
+    ensures { result.now ≡ slice_index_or (lists_of below.now) place [] }
+{
+    match below.get(place) {
+        Some(places) => places,
+        None => &[],
+    }
+}
+
+// The number of the node that stands so many places behind another: no memory, where it has more than 32 bits.
+fn number_behind(base: u32, place: usize) -> Result<NodeId, Stop>
+    ensures number { IfOk result (λ id. id ≡ number_behind base place) }
+    ensures memory { IfErr result (λ stop. stop ≡ NoMemory) }
+{
+    if place > (u32::MAX - base) as usize {
+        return Err(Stop::NoMemory);
+    }
+    Ok(NodeId(base + place as u32))
+}
+
+// Adds the numbers of the nodes that stand so many places behind another.
+fn add_numbers(base: u32, places: &[usize], numbers: &mut Vec<NodeId>) -> Result<(), Stop>
+    ensures numbers { OnOk result (numbers.new.items ≡ numbers.old.items ++ numbers_behind base places.now) }
+    ensures memory { IfErr result (λ stop. stop ≡ NoMemory) }
+{
+    for place in places {
+        numbers.push(number_behind(base, *place)?)?;
+    }
+    Ok(())
+}
+
+// The numbers of the nodes that stand so many places behind another.
+fn numbered(alloc: Global, base: u32, places: &[usize]) -> Result<Vec<NodeId>, Stop>
+    ensures numbers { IfOk result (λ numbers. numbers.items ≡ numbers_behind base places.now) }
+    ensures memory { IfErr result (λ stop. stop ≡ NoMemory) }
+{
+    let mut numbers = Vec::new(alloc);
+    add_numbers(base, places, &mut numbers)?;
+    Ok(numbers)
+}
