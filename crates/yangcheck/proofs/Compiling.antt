@@ -10,10 +10,8 @@ use Rattle.yv_source.specs.Answer.{IsBadFile, IsSpelled, IsRefused}
 use Rattle.yv_source.specs.File as source
 use Rattle.yv_selection.specs.Choice.{Choice}
 use Rattle.yv_schema.specs.Rows.{Rows, whole}
-use Rattle.yv_schema.specs.Module.{schema_of}
 use Rattle.yv_schema.specs.Refuses.{Refuses}
-use Rattle.yv_schema.specs.Kinds.{AreKinds, Kinds}
-use Rattle.yv_schema.specs.Truth.{Truth, IsTruth}
+use Rattle.yv_schema.specs.Schema.{IsSchema}
 use Rattle.yangcheck.specs.Compiles.{Built, RefusedAt, FilesCompile, IsRead, IsUnread, in_file, unread, built}
 use Rattle.yangcheck.specs.Files.{File}
 use Rattle.yangcheck.specs.InnerParsed.{IsText, IsNoText, Spells, SpellsNone}
@@ -86,8 +84,8 @@ zip_both (f ∷ fs) (s ∷ ss) [] p q = absurd q
 zip_both (f ∷ fs) (s ∷ ss) (t ∷ ts) p q = ((p.0.0, subst (λ text. IsSpelled text t) p.0.1 q.0), zip_both fs ss ts p.1 q.1)
 
 -- the text of a file spells no statement
-pub none_spelled : (choice : Choice) (files : List File) (ss : List source.File) (r : Refusal) → AllZip IsText (take (length ss) files) ss → SpellsNone ss r → FilesCompile choice files (RefusedAt r)
-none_spelled choice files ss r each none =
+pub none_spelled : (choice : Choice) (limit : ℕ) (files : List File) (ss : List source.File) (r : Refusal) → AllZip IsText (take (length ss) files) ss → SpellsNone ss r → FilesCompile choice limit files (RefusedAt r)
+none_spelled choice limit files ss r each none =
     let m : ℕ = length ss in
     let n : ℕ = none.number in
     let within : n < m = slice_get_within ss n none.source none.at in
@@ -97,13 +95,13 @@ none_spelled choice files ss r each none =
     subst (λ fs. AllZip IsText fs (take n ss)) (take_take n m files (omega (arith, within))) (zip_take IsText n (take m files) ss each) in
     let before : AllZip IsRead (take n files) none.before = zip_both (take n files) (take n ss) none.before front none.spelled in
     let own : IsUnread f.0 none.own = inr (f.2.0, subst (λ text. IsRefused text none.own) f.2.1 none.refused) in
-    subst (λ q. FilesCompile choice files (RefusedAt q)) (sym none.placed) (unread n f.0 none.before before at own)
+    subst (λ q. FilesCompile choice limit files (RefusedAt q)) (sym none.placed) (unread n f.0 none.before before at own)
 
 -- the bytes of a file are no text
-pub no_text : (choice : Choice) (files : List File) (ss : List source.File) (ts : List Tree) (r : Refusal) → AllZip IsText (take (length ss) files) ss → AllZip Spells ss ts → IsNoText files (length ss) r
-    → FilesCompile choice files (RefusedAt r)
-no_text choice files ss ts r each spelled none =
-    subst (λ q. FilesCompile choice files (RefusedAt q)) (sym none.placed)
+pub no_text : (choice : Choice) (limit : ℕ) (files : List File) (ss : List source.File) (ts : List Tree) (r : Refusal) → AllZip IsText (take (length ss) files) ss → AllZip Spells ss ts → IsNoText files (length ss) r
+    → FilesCompile choice limit files (RefusedAt r)
+no_text choice limit files ss ts r each spelled none =
+    subst (λ q. FilesCompile choice limit files (RefusedAt q)) (sym none.placed)
     (unread (length ss) none.file ts (zip_both (take (length ss) files) ss ts each spelled) none.at (inl none.bad))
 
 -- every file is read
@@ -112,12 +110,10 @@ all_read files ss ts whole each spelled =
     subst (λ fs. AllZip IsRead fs ts) (take_all (length ss) files (omega (arith, whole))) (zip_both (take (length ss) files) ss ts each spelled)
 
 -- files of which nothing is refused give their schema tree
-pub gives_schema : (choice : Choice) (files : List File) (ts : List Tree) (answer : Result Rows Stop) → AllZip IsRead files ts
-    → IfOk answer (λ s. (truth : Truth) × (kinds : Kinds) × IsTruth ts choice truth × AreKinds ts choice truth kinds × (whole s ≡ schema_of truth kinds choice ts)) → OnOk answer (IsLeast (Refuses choice ts) None)
-    → IfOk answer (λ s. FilesCompile choice files (Built (whole s)))
-gives_schema choice files ts (Ok s) read is clear =
-    subst (λ tree. FilesCompile choice files (Built tree)) (sym is.4) (built ts is.0 is.1 read clear is.2 is.3)
-gives_schema choice files ts (Err e) read is clear = tt
+pub gives_schema : (choice : Choice) (limit : ℕ) (files : List File) (ts : List Tree) (answer : Result Rows Stop) → AllZip IsRead files ts → IfOk answer (λ s. IsSchema choice ts (whole s))
+    → OnOk answer (IsLeast (Refuses choice ts limit) None) → IfOk answer (λ s. FilesCompile choice limit files (Built (whole s)))
+gives_schema choice limit files ts (Ok s) read is clear = built ts read clear is
+gives_schema choice limit files ts (Err e) read is clear = tt
 
 -- what a view shows at a place
 pub get_view : {X Y : Type 0} (view : X → Y) (xs : List X) (i : ℕ) (x : X) → i < length xs → x ≡ get_or xs i x → slice_get (map view xs) i ≡ Some (view x)

@@ -1,5 +1,5 @@
 -- Files come to one thing, and a run has one output.
-use Rattle.std.proofs.Common.{◌≡◌, ℕ, zero, suc, ◌<◌, List, [], ◌∷◌, take, Some, None, sym, ◌∙◌, ap, subst, refl, arith, inl, inr}
+use Rattle.std.proofs.Common.{◌≡◌, ℕ, zero, suc, ◌<◌, List, [], ◌∷◌, take, Option, Some, None, sym, ◌∙◌, ap, subst, refl, arith, inl, inr}
 use Rattle.std.specs.List.{AllZip, slice_get}
 use Rattle.std.proofs.lemmas.Bool.{cases_lt}
 use Rattle.yv_statement.specs.Tree.{Tree}
@@ -8,10 +8,10 @@ use Rattle.yv_statement.specs.declared.refusal.Refusal.{Refusal}
 use Rattle.yv_source.specs.Answer.{IsBadFile, IsSpelled, IsRefused}
 use Rattle.yv_source.specs.Legal.{IsLegalFile}
 use Rattle.yv_selection.specs.Choice.{Choice}
-use Rattle.yv_schema.specs.Kinds.{AreKinds, Kinds}
-use Rattle.yv_schema.specs.Truth.{Truth, IsTruth}
-use Rattle.yv_schema.specs.Module.{schema_of}
 use Rattle.yv_schema.specs.Refuses.{Refuses}
+use Rattle.yv_schema.specs.Schema.{IsSchema}
+use Rattle.yv_schema.specs.Tree.{Forest}
+use Rattle.yv_job.specs.Jobs.{Task}
 use Rattle.yangcheck.specs.Compiles.{Compiled, RefusedAt, Built, IsRead, IsUnread, in_file, FilesCompile, unread, refused, built}
 use Rattle.yangcheck.specs.Files.{File}
 use Rattle.yangcheck.specs.Output.{Printed, IsOutput, compiled_printed}
@@ -24,12 +24,11 @@ pub record Once : Type 0 where
   pub spelled : (text : List ℕ) (t u : Tree) → IsSpelled text t → IsSpelled text u → t ≡ u
   pub refused : (text : List ℕ) (r s : Refusal) → IsRefused text r → IsRefused text s → r ≡ s
   pub apart : (text : List ℕ) (t : Tree) (r : Refusal) → IsSpelled text t → IsRefused text r → ⊥
-  pub schema : (choice : Choice) (files : List Tree) (t u : Truth) (kinds others : Kinds) → IsLeast (Refuses choice files) None → IsTruth files choice t → IsTruth files choice u
-      → AreKinds files choice t kinds → AreKinds files choice u others → schema_of t kinds choice files ≡ schema_of u others choice files
+  pub schema : (choice : Choice) (files : List Tree) (limit : ℕ) (a b : Forest) → IsLeast (Refuses choice files limit) None → IsSchema choice files a → IsSchema choice files b → a ≡ b
   pub order : (r s : Refusal) → IsUpTo r s → IsUpTo s r → r ≡ s
 
-one_least : Once → (choice : Choice) (ts : List Tree) (r s : Refusal) → IsLeast (Refuses choice ts) (Some r) → IsLeast (Refuses choice ts) (Some s) → r ≡ s
-one_least once choice ts r s p q = once.order r s (p.1 s q.0) (q.1 r p.0)
+one_least : Once → (choice : Choice) (ts : List Tree) (limit : ℕ) (r s : Refusal) → IsLeast (Refuses choice ts limit) (Some r) → IsLeast (Refuses choice ts limit) (Some s) → r ≡ s
+one_least once choice ts limit r s p q = once.order r s (p.1 s q.0) (q.1 r p.0)
 
 -- a file isn't both read and unread, and is unread in one way
 clash : Once → (f : File) (t : Tree) (r : Refusal) → IsRead f t → IsUnread f r → ⊥
@@ -83,23 +82,25 @@ one_place once files ts us n m f g r s p at a q at' b =
       ]
     ]
 
-files_once : Once → (choice : Choice) (files : List File) (c d : Compiled) → FilesCompile choice files c → FilesCompile choice files d → c ≡ d
-files_once once choice files _ _ (unread {r} n f ts p at a) (unread {r = s} m g us q at' b) = ap RefusedAt (one_place once files ts us n m f g r s p at a q at' b)
-files_once once choice files _ _ (unread {r} n f ts p at a) (refused us q b) = absurd (not_read once files us n f r q at a)
-files_once once choice files _ _ (unread {r} n f ts p at a) (built us truth kinds q b is are) = absurd (not_read once files us n f r q at a)
-files_once once choice files _ _ (refused ts p a) (unread {r = s} m g us q at' b) = absurd (not_read once files ts m g s p at' b)
-files_once once choice files _ _ (refused {r} ts p a) (refused {r = s} us q b) =
-    ap RefusedAt (one_least once choice us r s (subst (λ xs. IsLeast (Refuses choice xs) (Some r)) (one_list once files ts us p q) a) b)
-files_once once choice files _ _ (refused {r} ts p a) (built us truth kinds q b is are) =
-    absurd (b r (subst (λ xs. Refuses choice xs r) (one_list once files ts us p q) a.0))
-files_once once choice files _ _ (built ts truth kinds p a is are) (unread {r = s} m g us q at' b) = absurd (not_read once files ts m g s p at' b)
-files_once once choice files _ _ (built ts truth kinds p a is are) (refused {r = s} us q b) =
-    absurd (a s (subst (λ xs. Refuses choice xs s) (sym (one_list once files ts us p q)) b.0))
-files_once once choice files _ _ (built ts t kinds p a is are) (built us u others q b is' are') =
-    let one : ts ≡ us = one_list once files ts us p q in
-    ap (λ xs. Built (schema_of t kinds choice xs)) one
-    ∙ ap Built (once.schema choice us t u kinds others b (subst (λ xs. IsTruth xs choice t) one is) is' (subst (λ xs. AreKinds xs choice t kinds) one are) are')
+files_once : Once → (choice : Choice) (limit : ℕ) (files : List File) (c d : Compiled) → FilesCompile choice limit files c → FilesCompile choice limit files d → c ≡ d
+files_once once choice limit files _ _ (unread {r} n f ts p at a) (unread {r = s} m g us q at' b) = ap RefusedAt (one_place once files ts us n m f g r s p at a q at' b)
+files_once once choice limit files _ _ (unread {r} n f ts p at a) (refused us q b) = absurd (not_read once files us n f r q at a)
+files_once once choice limit files _ _ (unread {r} n f ts p at a) (built us q b is) = absurd (not_read once files us n f r q at a)
+files_once once choice limit files _ _ (refused ts p a) (unread {r = s} m g us q at' b) = absurd (not_read once files ts m g s p at' b)
+files_once once choice limit files _ _ (refused {r} ts p a) (refused {r = s} us q b) =
+    ap RefusedAt (one_least once choice us limit r s (subst (λ xs. IsLeast (Refuses choice xs limit) (Some r)) (one_list once files ts us p q) a) b)
+files_once once choice limit files _ _ (refused {r} ts p a) (built us q b is) =
+    absurd (b r (subst (λ xs. Refuses choice xs limit r) (one_list once files ts us p q) a.0))
+files_once once choice limit files _ _ (built ts p a is) (unread {r = s} m g us q at' b) = absurd (not_read once files ts m g s p at' b)
+files_once once choice limit files _ _ (built ts p a is) (refused {r = s} us q b) =
+    absurd (a s (subst (λ xs. Refuses choice xs limit s) (sym (one_list once files ts us p q)) b.0))
+files_once once choice limit files _ _ (built {schema} ts p a is) (built {schema = other} us q b is') =
+    ap Built (once.schema choice us limit schema other b (subst (λ xs. IsSchema choice xs schema) (one_list once files ts us p q) is) is')
 
-pub one_output : Once → (choice : Choice) (files : List File) (given : List ℕ) (p q : Printed) → IsOutput choice files given p → IsOutput choice files given q → p ≡ q
-one_output once choice files given p q a b =
-    a.2 ∙ ap (λ c. compiled_printed files c given) (files_once once choice files a.0 b.0 a.1 b.1) ∙ sym b.2
+same_some : {A : Type 0} (o : Option A) (p q : A) → o ≡ Some p → o ≡ Some q → p ≡ q
+same_some o p q e f = let g : Some p ≡ Some q = sym e ∙ f in cc
+
+pub one_output : Once → (task : Task) (files : List File) (given : List ℕ) (p q : Printed) → IsOutput task files given p → IsOutput task files given q → p ≡ q
+one_output once task files given p q a b =
+    let one : a.0 ≡ b.0 = files_once once task.choice task.limit files a.0 b.0 a.1 b.1 in
+    same_some (compiled_printed task.asked files b.0 given) p q (ap (λ c. compiled_printed task.asked files c given) (sym one) ∙ a.2) b.2

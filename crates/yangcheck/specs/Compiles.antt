@@ -9,9 +9,7 @@ use Rattle.yv_source.specs.Legal.{IsLegalFile}
 use Rattle.yv_selection.specs.Choice.{Choice}
 use Rattle.yv_faceted.specs.Types.{HasTypePattern}
 use Rattle.yv_schema.specs.Tree.{Forest}
-use Rattle.yv_schema.specs.Kinds.{AreKinds, Kinds}
-use Rattle.yv_schema.specs.Truth.{IsTruth, Truth}
-use Rattle.yv_schema.specs.Module.{schema_of}
+use Rattle.yv_schema.specs.Schema.{IsSchema}
 use Rattle.yv_schema.specs.Refuses.{Refuses, RefusesBeforeTypes}
 use Rattle.yangcheck.specs.Files.{File}
 
@@ -32,21 +30,22 @@ IsUnread f r = IsBadFile f.bytes r ⊎ (IsLegalFile f.bytes × IsRefused f.bytes
 abbrev pub in_file : ℕ → Refusal → Refusal
 in_file n r = record { code = r.code; file = n; offset = r.offset; line = r.line }
 
--- What files come to under a choice: one of them can't be read, though those before it can; or their statements are
--- refused; or they give their schema tree, by the truth of their conditions and the plain types of their types.
-pub data FilesCompile (choice : Choice) (files : List File) : Compiled → Type 0 where
-  unread : {r : Refusal} (n : ℕ) (f : File) (ts : List Tree) → AllZip IsRead (take n files) ts → slice_get files n ≡ Some f → IsUnread f r → FilesCompile choice files (RefusedAt (in_file n r))
-  refused : {r : Refusal} (ts : List Tree) → AllZip IsRead files ts → IsLeast (Refuses choice ts) (Some r) → FilesCompile choice files (RefusedAt r)
-  built : (ts : List Tree) (truth : Truth) (kinds : Kinds) → AllZip IsRead files ts → IsLeast (Refuses choice ts) None → IsTruth ts choice truth → AreKinds ts choice truth kinds
-      → FilesCompile choice files (Built (schema_of truth kinds choice ts))
+-- What files come to under a choice and a limit of what they may expand to: one of them can't be read, though those
+-- before it can; or their statements are refused; or they give their schema tree.
+pub data FilesCompile (choice : Choice) (limit : ℕ) (files : List File) : Compiled → Type 0 where
+  unread : {r : Refusal} (n : ℕ) (f : File) (ts : List Tree) → AllZip IsRead (take n files) ts → slice_get files n ≡ Some f → IsUnread f r
+      → FilesCompile choice limit files (RefusedAt (in_file n r))
+  refused : {r : Refusal} (ts : List Tree) → AllZip IsRead files ts → IsLeast (Refuses choice ts limit) (Some r) → FilesCompile choice limit files (RefusedAt r)
+  built : {schema : Forest} (ts : List Tree) → AllZip IsRead files ts → IsLeast (Refuses choice ts limit) None → IsSchema choice ts schema
+      → FilesCompile choice limit files (Built schema)
 
 -- the files come to some schema tree
-abbrev pub GiveSchema : Choice → List File → Type 0
-GiveSchema choice files = (ts : Forest) × FilesCompile choice files (Built ts)
+abbrev pub GiveSchema : Choice → ℕ → List File → Type 0
+GiveSchema choice limit files = (schema : Forest) × FilesCompile choice limit files (Built schema)
 
 -- the files can be read, nothing of them is refused before their types, and one of these has a pattern
-pub record HavePattern (files : List File) : Type 0 where
+pub record HavePattern (choice : Choice) (limit : ℕ) (files : List File) : Type 0 where
   pub trees : List Tree
   pub read : AllZip IsRead files trees
-  pub clear : IsLeast (RefusesBeforeTypes trees) None
+  pub clear : IsLeast (RefusesBeforeTypes choice trees limit) None
   pub pattern : HasTypePattern trees

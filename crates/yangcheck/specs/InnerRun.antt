@@ -3,7 +3,8 @@ use Rattle.std.specs.Prelude.{◌≡◌, ℕ, List, take}
 use Rattle.std.specs.declared.option.Option.{Option}
 use Rattle.std.specs.Io.KnownBytes.{Appends}
 use Rattle.yv_schema.specs.Tree.{Forest}
-use Rattle.yangcheck.specs.Output.{Gives, data_printed, printed_of}
+use Rattle.yv_job.specs.Jobs.{Asked, Compiles, Draws, Checks}
+use Rattle.yangcheck.specs.Output.{Gives, count_printed, data_printed, printed_of}
 use Rattle.yangcheck.specs.Status.{status_of}
 use Rattle.yangcheck.specs.declared.print.Output.{Output}
 use Rattle.yangcheck.specs.declared.status.Status.{Status}
@@ -19,7 +20,13 @@ pub record AppendsFront (o : Output) (old new : Option (List ℕ)) : Type 0 wher
   pub appended : Appends old new (take count (printed_of o).text)
 
 -- what is said of some bytes, which are those that the reader gives where they are known
-pub record SaysOf (known : Option (List ℕ)) (ts : Forest) (o : Output) : Type 0 where
+pub record SaysOfData (known : Option (List ℕ)) (ts : Forest) (o : Output) : Type 0 where
   pub given : List ℕ
   pub gives : Gives known given
   pub printed : printed_of o ≡ data_printed ts given
+
+-- what is said of the schema, by what was asked
+abbrev pub SaysOf : Option (List ℕ) → Asked → Forest → Output → Type 0
+SaysOf known Compiles ts o = printed_of o ≡ count_printed ts
+SaysOf known (Draws m) ts o = ⊥
+SaysOf known (Checks f) ts o = SaysOfData known ts o

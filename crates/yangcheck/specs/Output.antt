@@ -6,12 +6,12 @@ use Rattle.std.specs.Fmt.{decimal}
 use Rattle.std.specs.Io.KnownBytes.{Appends}
 use Rattle.yv_statement.specs.Codes.{name_of}
 use Rattle.yv_statement.specs.declared.refusal.Refusal.{Refusal}
-use Rattle.yv_selection.specs.Choice.{Choice}
-use Rattle.yv_schema.specs.Tree.{Forest}
+use Rattle.yv_schema.specs.Tree.{Forest, count as node_count}
+use Rattle.yv_job.specs.Jobs.{Asked, Compiles, Draws, Checks, Task}
 use Rattle.yv_validate.specs.Place.{Flaw}
 use Rattle.yv_validate.specs.Faults.{faults}
 use Rattle.yv_validate.specs.Line.{line_text}
-use Rattle.yangcheck.specs.Compiles.{Compiled, RefusedAt, Built, FilesCompile}
+use Rattle.yangcheck.specs.Compiles.{Compiled, RefusedAt, Built, FilesCompile, GiveSchema}
 use Rattle.yangcheck.specs.Document.{Reading, TooLarge, NotJson, Reads, reading}
 use Rattle.yangcheck.specs.Files.{File}
 use Rattle.yangcheck.specs.Status.{status_of}
@@ -63,36 +63,56 @@ reading_printed ts (Reads d) = faults_printed (faults ts d)
 abbrev pub data_printed : Forest → List ℕ → Printed
 data_printed ts given = reading_printed ts (reading given)
 
--- a refusal's line, or what is said of the document
-abbrev pub compiled_printed : List File → Compiled → List ℕ → Printed
-compiled_printed files (RefusedAt r) given = record { text = refusal_line files r; verdict = Refused }
-compiled_printed files (Built ts) given = data_printed ts given
+-- `nodes: N`, for as many nodes as the schema has
+abbrev pub count_printed : Forest → Printed
+count_printed ts = record { text = ended_line (codes "nodes: " ++ decimal (node_count ts)); verdict = Clean }
 
--- what a run over these files prints under a choice, where the document's bytes are `given`
-abbrev pub IsOutput : Choice → List File → List ℕ → Printed → Type 0
-IsOutput choice files given p = (c : Compiled) × FilesCompile choice files c × (p ≡ compiled_printed files c given)
+-- what is said of a schema, by what was asked: so far nothing where that is a diagram
+abbrev pub schema_printed : Asked → Forest → List ℕ → Option Printed
+schema_printed Compiles ts given = Some (count_printed ts)
+schema_printed (Draws m) ts given = None
+schema_printed (Checks f) ts given = Some (data_printed ts given)
+
+-- a refusal's line, or what is said of the schema
+abbrev pub compiled_printed : Asked → List File → Compiled → List ℕ → Option Printed
+compiled_printed asked files (RefusedAt r) given = Some (record { text = refusal_line files r; verdict = Refused })
+compiled_printed asked files (Built ts) given = schema_printed asked ts given
+
+-- what a run prints that is to do this task with these files, where the document's bytes are `given`
+abbrev pub IsOutput : Task → List File → List ℕ → Printed → Type 0
+IsOutput task files given p = (c : Compiled) × FilesCompile task.choice task.limit files c × (compiled_printed task.asked files c given ≡ Some p)
+
+-- a document is read for this
+abbrev pub ReadsData : Asked → Type 0
+ReadsData Compiles = ⊥
+ReadsData (Draws m) = ⊥
+ReadsData (Checks f) = Unit {0}
+
+-- the task is to check a document, and the files give a schema
+abbrev pub WantsData : Task → List File → Type 0
+WantsData task files = ReadsData task.asked × GiveSchema task.choice task.limit files
 
 -- the bytes that a reader gives, up to one more than a document may have, where they are known
 abbrev pub Gives : Option (List ℕ) → List ℕ → Type 0
 Gives known given = IfSome known (λ xs. given ≡ take 16777217 xs)
 
 -- it prints this for some bytes, which are those that the reader gives where they are known
-pub record PrintsFor (known : Option (List ℕ)) (choice : Choice) (files : List File) (p : Printed) : Type 0 where
+pub record PrintsFor (known : Option (List ℕ)) (task : Task) (files : List File) (p : Printed) : Type 0 where
   pub given : List ℕ
   pub gives : Gives known given
-  pub output : IsOutput choice files given p
+  pub output : IsOutput task files given p
 
 -- the whole output was appended to what the writer holds, and the status fits it
-pub record WritesAll (known : Option (List ℕ)) (choice : Choice) (files : List File) (status : Status) (old new : Option (List ℕ)) : Type 0 where
+pub record WritesAll (known : Option (List ℕ)) (task : Task) (files : List File) (status : Status) (old new : Option (List ℕ)) : Type 0 where
   pub printed : Printed
-  pub prints : PrintsFor known choice files printed
+  pub prints : PrintsFor known task files printed
   pub appended : Appends old new printed.text
   pub fits : status ≡ status_of printed.verdict
 
 -- the first bytes of the output were
-pub record WritesFront (known : Option (List ℕ)) (choice : Choice) (files : List File) (old new : Option (List ℕ)) : Type 0 where
+pub record WritesFront (known : Option (List ℕ)) (task : Task) (files : List File) (old new : Option (List ℕ)) : Type 0 where
   pub printed : Printed
-  pub prints : PrintsFor known choice files printed
+  pub prints : PrintsFor known task files printed
   pub count : ℕ
   pub appended : Appends old new (take count printed.text)
 

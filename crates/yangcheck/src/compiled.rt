@@ -15,16 +15,21 @@ use yv_schema::{Schema, compile};
 use yv_selection::Selection;
 use yv_statement::Stop;
 
-/// The schema of these files, or what is refused first. `PatternBuild` says that the library of regular expressions
+/// The schema of these files, or what is refused first, `TooManyNodes` where they expand to more than the limit. `PatternBuild` says that the library of regular expressions
 /// doesn't build a pattern of theirs.
-pub fn compiled(alloc: Global, inputs: &[Input], selection: &Selection) -> Result<Schema, Stop>
+pub fn compiled(
+    alloc: Global,
+    inputs: &[Input],
+    selection: &Selection,
+    limit: u32,
+) -> Result<Schema, Stop>
     requires { length inputs.now ≤ 256 }
-    ensures schema { IfOk result (λ s. FilesCompile (choice_of selection.now) (map file_of inputs.now) (Built (whole s))) }
-    ensures refused { (r : Refusal) → result ≡ Err (Fault r) → FilesCompile (choice_of selection.now) (map file_of inputs.now) (RefusedAt r) }
-    ensures built { result ≡ Err PatternBuild → HavePattern (map file_of inputs.now) }
+    ensures schema { IfOk result (λ s. FilesCompile (choice_of selection.now) limit (map file_of inputs.now) (Built (whole s))) }
+    ensures refused { (r : Refusal) → result ≡ Err (Fault r) → FilesCompile (choice_of selection.now) limit (map file_of inputs.now) (RefusedAt r) }
+    ensures built { result ≡ Err PatternBuild → HavePattern (choice_of selection.now) limit (map file_of inputs.now) }
 {
     let texts = read_texts(alloc, inputs)?;
-    of_texts(alloc, inputs, &texts, selection)
+    of_texts(alloc, inputs, &texts, selection, limit)
 }
 
 // The schema of the texts of files.
@@ -33,17 +38,18 @@ fn of_texts(
     inputs: &[Input],
     texts: &Texts,
     selection: &Selection,
+    limit: u32,
 ) -> Result<Schema, Stop>
     requires few { length inputs.now ≤ 256 }
     requires texts { AreTexts (map file_of inputs.now) texts.now }
-    ensures schema { IfOk result (λ s. FilesCompile (choice_of selection.now) (map file_of inputs.now) (Built (whole s))) }
-    ensures refused { (r : Refusal) → result ≡ Err (Fault r) → FilesCompile (choice_of selection.now) (map file_of inputs.now) (RefusedAt r) }
-    ensures built { result ≡ Err PatternBuild → HavePattern (map file_of inputs.now) }
+    ensures schema { IfOk result (λ s. FilesCompile (choice_of selection.now) limit (map file_of inputs.now) (Built (whole s))) }
+    ensures refused { (r : Refusal) → result ≡ Err (Fault r) → FilesCompile (choice_of selection.now) limit (map file_of inputs.now) (RefusedAt r) }
+    ensures built { result ≡ Err PatternBuild → HavePattern (choice_of selection.now) limit (map file_of inputs.now) }
 {
     match parse_all(alloc, &texts.sources) {
         Ok(statements) => match texts.bad {
             Some(refusal) => Err(Stop::Fault(refusal)),
-            None => compile(alloc, &statements, selection),
+            None => compile(alloc, &statements, selection, limit),
         },
         Err(stop) => Err(stop),
     }

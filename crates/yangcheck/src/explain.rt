@@ -18,12 +18,13 @@ pub fn refusal_of(
     alloc: Global,
     inputs: &[Input],
     selection: &Selection,
+    limit: u32,
 ) -> Result<Option<Refusal>, AllocError>
     requires { length inputs.now ≤ 256 }
-    ensures refused { IfOk result (λ o. IfSome o (λ r. FilesCompile (choice_of selection.now) (map file_of inputs.now) (RefusedAt r))) }
-    ensures none { IfOk result (λ o. IfNone o (GiveSchema (choice_of selection.now) (map file_of inputs.now))) }
+    ensures refused { IfOk result (λ o. IfSome o (λ r. FilesCompile (choice_of selection.now) limit (map file_of inputs.now) (RefusedAt r))) }
+    ensures none { IfOk result (λ o. IfNone o (GiveSchema (choice_of selection.now) limit (map file_of inputs.now))) }
 {
-    match compiled(alloc, inputs, selection) {
+    match compiled(alloc, inputs, selection, limit) {
         Ok(_) => Ok(None),
         Err(Stop::Fault(refusal)) => Ok(Some(refusal)),
         Err(Stop::PatternBuild | Stop::NoMemory) => Err(AllocError),

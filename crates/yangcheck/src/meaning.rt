@@ -52,7 +52,7 @@ pub fn meaning(code: Code) -> &'static str {
         Code::TypeCycle => "The typedef is derived from itself, perhaps through others.",
         Code::UnknownGrouping => "No grouping has this name.",
         Code::GroupingCycle => "The grouping uses itself, perhaps through others.",
-        Code::TooManyNodes => "The modules come to more nodes than the limit.",
+        Code::TooManyNodes => "The modules come to more nodes and uses than the limit.",
         Code::RefineTarget => "The path names no node of the grouping.",
         Code::BadRefine => "A node of this kind has no such property to refine.",
         Code::AugmentTarget => "The path names no node that takes augments.",

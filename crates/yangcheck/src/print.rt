@@ -6,7 +6,7 @@ ghost use Rattle.yv_schema.specs.Rows.{whole};
 ghost use Rattle.yv_validate.specs.Size.{size};
 ghost use Rattle.yv_validate.specs.Faults.{faults as faults_in};
 ghost use Rattle.yangcheck.specs.Files.{file_of};
-ghost use Rattle.yangcheck.specs.Output.{name_of_file, refusal_line, fault_lines, faults_printed, data_printed, bad_input as bad_input_printed, printed_of};
+ghost use Rattle.yangcheck.specs.Output.{name_of_file, refusal_line, fault_lines, faults_printed, data_printed, count_printed, bad_input as bad_input_printed, printed_of};
 
 use crate::document::{Document, read_document};
 use crate::input::Input;
@@ -49,6 +49,18 @@ fn name_at(inputs: &[Input], file: u32) -> &str
         Some(input) => input.name.as_str(),
         None => "",
     }
+}
+
+/// How many nodes a schema has.
+pub fn of_count(alloc: Global, schema: &Schema) -> Result<Output, AllocError>
+    ensures { IfOk result (λ o. printed_of o ≡ count_printed (whole schema.now)) }
+{
+    let count = schema.len();
+    let text = format!(in alloc; "nodes: {count}\n")?;
+    Ok(Output {
+        text,
+        verdict: Verdict::Clean,
+    })
 }
 
 /// What is said of a document of these bytes.

@@ -1,7 +1,7 @@
 //! The program over a runtime: its words, its files, its standard streams and its exit status.
 ghost use Rattle.std.specs.Prelude.{◌≡◌, ◌≤◌, length, IfOk};
 ghost use Rattle.yangcheck.specs.Status.{exit_of};
-ghost use Rattle.yv_job.specs.Jobs.{HasFiles, HasLimit, ChecksADocument};
+ghost use Rattle.yv_job.specs.Jobs.{HasFiles, HasLimit, CompilesOrChecks};
 
 use crate::counted::Counted;
 use crate::explain::{explanation, refusal_of};
@@ -10,11 +10,10 @@ use crate::run::run;
 use crate::status::Status;
 use crate::stream::InputFault;
 use std::fs::File;
-use std::io::ErrorKind;
+use std::io::{ErrorKind, Read};
 use std::rt::{Env, Files};
 use std::{env, io};
 use yv_job::{Command, Job, JobFault, read_job};
-use yv_selection::Selection;
 
 /// Does what the process's arguments ask for, and answers its exit status.
 pub fn program<R: Env + Files + io::Input + Print + Eprint + AllocGlobal>(rt: &R) -> u8 {
@@ -67,53 +66,59 @@ fn told<R: Eprint>(rt: &R, status: Status) -> u8
 fn done<R: Files + io::Input + Print + Eprint + AllocGlobal>(rt: &R, job: &Job) -> Status
     requires files { HasFiles job.now }
     requires limit { HasLimit job.now }
-    requires check { ChecksADocument job.now }
+    requires command { CompilesOrChecks job.now }
 {
     let inputs = match inputs(rt, job) {
         Ok(inputs) => inputs,
         Err(InputFault::Read) => return Status::ReadFault,
         Err(InputFault::NoMemory) => return Status::NoMemory,
     };
-    let status = checked(rt, job, inputs.as_slice());
+    let status = ran(rt, job, inputs.as_slice());
     if status == Status::Refused {
-        explain(rt, inputs.as_slice(), &job.selection);
+        explain(rt, job, inputs.as_slice());
     }
     status
 }
 
-// Runs the job over its files and the document.
-fn checked<R: Files + io::Input + Print + AllocGlobal>(
+// Runs the job over its files, and over the document where it names one.
+fn ran<R: Files + io::Input + Print + AllocGlobal>(rt: &R, job: &Job, inputs: &[Input]) -> Status
+    requires files { HasFiles job.now }
+    requires limit { HasLimit job.now }
+    requires each { length inputs.now ≡ length job.now.files.items }
+    requires command { CompilesOrChecks job.now }
+{
+    match &job.command {
+        Command::Validate(file) if file.as_str() == "-" => run_over(rt, job, inputs, rt.reader()),
+        Command::Validate(file) => match File::open(rt, file.as_str()) {
+            Ok(data) => run_over(rt, job, inputs, data),
+            Err(_) => Status::ReadFault,
+        },
+        Command::Compile | Command::Tree(_) => run_over(rt, job, inputs, io::empty()),
+    }
+}
+
+// Runs the job over its files and what the reader gives.
+fn run_over<R: Print + AllocGlobal, D: Read + Drop>(
     rt: &R,
     job: &Job,
     inputs: &[Input],
+    data: D,
 ) -> Status
     requires files { HasFiles job.now }
     requires limit { HasLimit job.now }
     requires each { length inputs.now ≡ length job.now.files.items }
-    requires check { ChecksADocument job.now }
+    requires command { CompilesOrChecks job.now }
 {
-    let Command::Validate(file) = &job.command else {
-        unreachable!()
-    };
+    let mut reader = Counted::new(data);
     let mut writer = Counted::new(io::writer(rt));
-    if file.as_str() == "-" {
-        let mut reader = Counted::new(rt.reader());
-        return run(rt.alloc(), job, inputs, &mut reader, &mut writer);
-    }
-    match File::open(rt, file.as_str()) {
-        Ok(data) => {
-            let mut reader = Counted::new(data);
-            run(rt.alloc(), job, inputs, &mut reader, &mut writer)
-        }
-        Err(_) => Status::ReadFault,
-    }
+    run(rt.alloc(), job, inputs, &mut reader, &mut writer)
 }
 
 // Says on standard error what a refusal means. Where even that fails, nothing is said.
-fn explain<R: Eprint + AllocGlobal>(rt: &R, inputs: &[Input], selection: &Selection)
+fn explain<R: Eprint + AllocGlobal>(rt: &R, job: &Job, inputs: &[Input])
     requires { length inputs.now ≤ 256 }
 {
-    if let Ok(Some(refusal)) = refusal_of(rt.alloc(), inputs, selection) {
+    if let Ok(Some(refusal)) = refusal_of(rt.alloc(), inputs, &job.selection, job.limit) {
         if let Some(input) = inputs.get(refusal.file as usize) {
             if let Ok(text) = explanation(rt.alloc(), input, &refusal) {
                 let _ = rt.eprint(text.as_str());

@@ -1,18 +1,18 @@
 //! A run over files that were read: what it writes, and how it ends.
 ghost use Rattle.std.specs.Prelude.{◌≡◌, ◌≤◌, ◌↔◌, ◌⊎◌, true, map, length, IfOk, IsErrOf};
-ghost use Rattle.yv_job.specs.Jobs.{HasFiles, HasLimit, ChecksADocument};
+ghost use Rattle.yv_job.specs.Jobs.{HasFiles, HasLimit, CompilesOrChecks, IsCompileOrCheck, asked_of, task_of};
 ghost use Rattle.yv_selection.specs.Choice.{choice_of};
 ghost use Rattle.yv_schema.specs.Rows.{whole};
 ghost use Rattle.yangcheck.specs.Stream.{stream_inner, has_failed, IsFresh};
 ghost use Rattle.yangcheck.specs.Files.{file_of};
-ghost use Rattle.yangcheck.specs.Compiles.{GiveSchema, HavePattern};
-ghost use Rattle.yangcheck.specs.InnerRun.{AppendsAll, AppendsFront, SaysOf};
-ghost use Rattle.yangcheck.specs.Output.{PrintsFor, WritesAll, WritesFront, IsFinished, IsStopped, printed_of};
+ghost use Rattle.yangcheck.specs.Compiles.{HavePattern};
+ghost use Rattle.yangcheck.specs.InnerRun.{AppendsAll, AppendsFront, SaysOf, SaysOfData};
+ghost use Rattle.yangcheck.specs.Output.{PrintsFor, ReadsData, WantsData, WritesAll, WritesFront, IsFinished, IsStopped, printed_of};
 
 use crate::compiled::compiled;
 use crate::counted::Counted;
 use crate::input::Input;
-use crate::print::{Output, of_data, of_refusal};
+use crate::print::{Output, of_count, of_data, of_refusal};
 use crate::status::Status;
 use crate::stream::{InputFault, read_up_to, write_whole};
 use std::alloc::{AllocError, Global};
@@ -20,7 +20,6 @@ use std::io::{Read, Write};
 use thiserror::Error;
 use yv_job::{Command, Job};
 use yv_schema::Schema;
-use yv_selection::Selection;
 use yv_statement::Stop;
 
 /// Why there is nothing to write.
@@ -48,9 +47,9 @@ impl From<AllocError> for Halt {
 /// What is read of a document: one byte more than it may have, so that its being too large shows.
 const DATA_BYTES: usize = 16_777_217;
 
-/// Compiles the files of a job, reads the document where none is refused, and writes the outcome: the
-/// refusal's line, or what is wrong with the document, or that it is valid. After `WriteFault` the writer
-/// holds the front of that text; after `NoMemory`, `PatternBuild` and `ReadFault` nothing was written.
+/// Compiles the files of a job, and writes the outcome: the refusal's line, or how many nodes the schema has, or, where
+/// the job is to check a document, what is wrong with what the reader gives, or that it is valid. After `WriteFault` the
+/// writer holds the front of that text; after `NoMemory`, `PatternBuild` and `ReadFault` nothing was written.
 pub fn run<R: Read, W: Write>(
     alloc: Global,
     job: &Job,
@@ -61,23 +60,20 @@ pub fn run<R: Read, W: Write>(
     requires files { HasFiles job.now }
     requires limit { HasLimit job.now }
     requires each { length inputs.now ≡ length job.now.files.items }
-    requires taken { ChecksADocument job.now }
+    requires command { CompilesOrChecks job.now }
     requires reader { IsFresh reader.old }
     requires writer { IsFresh writer.old }
-    ensures written { IsFinished result → WritesAll (R.remaining (stream_inner reader.old)) (choice_of job.now.selection) (map file_of inputs.now) result
+    ensures written { IsFinished result → WritesAll (R.remaining (stream_inner reader.old)) (task_of job.now) (map file_of inputs.now) result
         (W.contents (stream_inner writer.old)) (W.contents (stream_inner writer.new)) }
-    ensures front { result ≡ Status.WriteFault → WritesFront (R.remaining (stream_inner reader.old)) (choice_of job.now.selection) (map file_of inputs.now)
+    ensures front { result ≡ Status.WriteFault → WritesFront (R.remaining (stream_inner reader.old)) (task_of job.now) (map file_of inputs.now)
         (W.contents (stream_inner writer.old)) (W.contents (stream_inner writer.new)) }
     ensures untouched { IsStopped result → writer.new ≡ writer.old }
-    ensures unread { GiveSchema (choice_of job.now.selection) (map file_of inputs.now) ⊎ (reader.new ≡ reader.old) }
+    ensures unread { WantsData (task_of job.now) (map file_of inputs.now) ⊎ (reader.new ≡ reader.old) }
     ensures read_fault { result ≡ Status.ReadFault ↔ (has_failed reader.new ≡ true) }
     ensures write_fault { result ≡ Status.WriteFault ↔ (has_failed writer.new ≡ true) }
-    ensures built { result ≡ Status.PatternBuild → HavePattern (map file_of inputs.now) }
+    ensures built { result ≡ Status.PatternBuild → HavePattern (choice_of job.now.selection) job.now.limit (map file_of inputs.now) }
 {
-    let Command::Validate(_) = &job.command else {
-        unreachable!()
-    };
-    match outcome(alloc, inputs, &job.selection, reader) {
+    match outcome(alloc, job, inputs, reader) {
         Ok(output) => written(&output, writer),
         Err(Halt::NoMemory) => Status::NoMemory,
         Err(Halt::PatternBuild) => Status::PatternBuild,
@@ -103,22 +99,44 @@ fn written<W: Write>(output: &Output, writer: &mut Counted<W>) -> Status
 // What is to be written.
 fn outcome<R: Read>(
     alloc: Global,
+    job: &Job,
     inputs: &[Input],
-    selection: &Selection,
     reader: &mut Counted<R>,
 ) -> Result<Output, Halt>
     requires few { length inputs.now ≤ 256 }
+    requires command { CompilesOrChecks job.now }
     requires reader { IsFresh reader.old }
-    ensures printed { IfOk result (λ o. PrintsFor (R.remaining (stream_inner reader.old)) (choice_of selection.now) (map file_of inputs.now) (printed_of o)) }
-    ensures unread { GiveSchema (choice_of selection.now) (map file_of inputs.now) ⊎ (reader.new ≡ reader.old) }
+    ensures printed { IfOk result (λ o. PrintsFor (R.remaining (stream_inner reader.old)) (task_of job.now) (map file_of inputs.now) (printed_of o)) }
+    ensures unread { WantsData (task_of job.now) (map file_of inputs.now) ⊎ (reader.new ≡ reader.old) }
     ensures fault { IsErrOf result Halt.Read ↔ (has_failed reader.new ≡ true) }
-    ensures built { IsErrOf result Halt.PatternBuild → HavePattern (map file_of inputs.now) }
+    ensures built { IsErrOf result Halt.PatternBuild → HavePattern (choice_of job.now.selection) job.now.limit (map file_of inputs.now) }
 {
-    match compiled(alloc, inputs, selection) {
-        Ok(schema) => validated(alloc, &schema, reader),
+    match compiled(alloc, inputs, &job.selection, job.limit) {
+        Ok(schema) => answered(alloc, &job.command, &schema, reader),
         Err(Stop::Fault(refusal)) => Ok(of_refusal(alloc, inputs, &refusal)?),
         Err(Stop::PatternBuild) => Err(Halt::PatternBuild),
         Err(Stop::NoMemory) => Err(Halt::NoMemory),
+    }
+}
+
+// What is said of the schema.
+fn answered<R: Read>(
+    alloc: Global,
+    command: &Command,
+    schema: &Schema,
+    reader: &mut Counted<R>,
+) -> Result<Output, Halt>
+    requires command { IsCompileOrCheck (asked_of command.now) }
+    requires reader { IsFresh reader.old }
+    ensures printed { IfOk result (SaysOf (R.remaining (stream_inner reader.old)) (asked_of command.now) (whole schema.now)) }
+    ensures unread { ReadsData (asked_of command.now) ⊎ (reader.new ≡ reader.old) }
+    ensures fault { IsErrOf result Halt.Read ↔ (has_failed reader.new ≡ true) }
+    ensures never_built { IsErrOf result Halt.PatternBuild → ⊥ }
+{
+    match command {
+        Command::Compile => Ok(of_count(alloc, schema)?),
+        Command::Tree(_) => unreachable!(),
+        Command::Validate(_) => validated(alloc, schema, reader),
     }
 }
 
@@ -129,7 +147,7 @@ fn validated<R: Read>(
     reader: &mut Counted<R>,
 ) -> Result<Output, Halt>
     requires { IsFresh reader.old }
-    ensures printed { IfOk result (SaysOf (R.remaining (stream_inner reader.old)) (whole schema.now)) }
+    ensures printed { IfOk result (SaysOfData (R.remaining (stream_inner reader.old)) (whole schema.now)) }
     ensures fault { IsErrOf result Halt.Read ↔ (has_failed reader.new ≡ true) }
     ensures never_built { IsErrOf result Halt.PatternBuild → ⊥ }
 {

@@ -1,5 +1,5 @@
-ghost use Rattle.std.specs.Prelude.{◌≡◌, length, IfOk};
-ghost use Rattle.yv_job.specs.Jobs.{HasFiles, HasLimit, ChecksADocument};
+ghost use Rattle.std.specs.Prelude.{◌≡◌, ◌≤◌, length, IfOk};
+ghost use Rattle.yv_job.specs.Jobs.{HasFiles, HasLimit, CompilesOrChecks};
 
 use crate::counted::Counted;
 use crate::document::{Document, read_document};
@@ -241,7 +241,7 @@ fn job(alloc: Global) -> Result<Job, AllocError>
     ensures files { IfOk result HasFiles }
     ensures one { IfOk result (λ job. length job.files.items ≡ 1) }
     ensures limit { IfOk result HasLimit }
-    ensures check { IfOk result ChecksADocument }
+    ensures command { IfOk result CompilesOrChecks }
 {
     let mut files = Vec::new(alloc);
     files.push(String::from_str(alloc, "ex.yang")?)?;
@@ -359,9 +359,35 @@ fn a_refusal_leaves_the_reader(rt: HostRuntime) -> Result<(), Fail> {
     assert_eq!(rt; taken.as_slice(), b"ex.yang:1: Cardinality\n".as_slice());
     let inputs = [input(alloc, text)?];
     let selection = Selection::everything(alloc);
-    let refusal = refusal_of(alloc, &inputs, &selection)?.ok_or("no refusal")?;
+    let refusal = refusal_of(alloc, &inputs, &selection, 100_000)?.ok_or("no refusal")?;
     let shown = explanation(alloc, &inputs[0], &refusal)?;
     assert!(rt; shown.as_str().starts_with("module ex{\n^\nCardinality: "));
+    Ok(())
+}
+
+// What compiling the module comes to under a limit, where the reader breaks at once.
+fn compiled_under(alloc: Global, limit: u32) -> Result<(Status, Vec<u8>), AllocError>
+    requires low { 1 ≤ limit }
+    requires high { limit ≤ 1000000 }
+{
+    let mut job = job(alloc)?;
+    job.command = Command::Compile;
+    job.limit = limit;
+    let mut reader = Counted::new(reader_of(b"", 0, true));
+    let mut writer = Counted::new(writer_of(alloc, 100, 0, false));
+    let inputs = [input(alloc, MODULE)?];
+    let status = run(alloc, &job, &inputs, &mut reader, &mut writer);
+    Ok((status, writer.into_inner().taken))
+}
+
+#[test]
+fn compiles_within_the_limit(rt: HostRuntime) -> Result<(), Fail> {
+    let (status, taken) = compiled_under(rt.alloc(), 3)?;
+    assert_eq!(rt; status, Status::Clean);
+    assert_eq!(rt; taken.as_slice(), b"nodes: 3\n".as_slice());
+    let (status, taken) = compiled_under(rt.alloc(), 2)?;
+    assert_eq!(rt; status, Status::Refused);
+    assert_eq!(rt; taken.as_slice(), b"ex.yang:1: TooManyNodes\n".as_slice());
     Ok(())
 }
 

@@ -39,12 +39,12 @@ HasFiles j = (1 ≤ length j.files.items) × (length j.files.items ≤ 256)
 abbrev pub HasLimit : Job → Type 0
 HasLimit j = (1 ≤ j.limit) × (j.limit ≤ 1000000)
 
--- a command that checks a document
-abbrev pub IsCheck : Asked → Type 0
-IsCheck Compiles = ⊥
-IsCheck (Draws m) = ⊥
-IsCheck (Checks f) = Unit {0}
+-- a command that compiles, or checks a document
+abbrev pub IsCompileOrCheck : Asked → Type 0
+IsCompileOrCheck Compiles = Unit {0}
+IsCompileOrCheck (Draws m) = ⊥
+IsCompileOrCheck (Checks f) = Unit {0}
 
--- the job checks a document
-abbrev pub ChecksADocument : Job → Type 0
-ChecksADocument j = IsCheck (asked_of j.command)
+-- the job compiles, or checks a document
+abbrev pub CompilesOrChecks : Job → Type 0
+CompilesOrChecks j = IsCompileOrCheck (asked_of j.command)

@@ -9,11 +9,14 @@ Compiles YANG 1.1 modules (RFC 7950) and validates JSON documents (RFC 7951)
 against them.
 
 Modules that are no correct YANG are refused by one line, FILE:LINE: NAME, which
-says what is wrong first. The faults of a document get a line each, KIND PATH.";
+says what is wrong first. Modules that expand to more than 100000 nodes are
+refused too; --max-nodes N allows N, which is from 1 to 1000000. The faults of a
+document get a line each, KIND PATH.";
 
 pub const CLOSING: &str = "\
-Example:
-  yangcheck validate --data config.json example.yang
+Examples:
+  yangcheck compile example.yang types.yang
+  yangcheck validate --data config.json example.yang types.yang
 
 Exit status:
   0  compiled, or valid
@@ -21,15 +24,19 @@ Exit status:
   2  usage, or the document is too large or no JSON
   3  out of memory, pattern not built, cannot read or cannot write";
 
-pub const COMPILE_ABOUT: &str = "Count the nodes of a schema (not in this version)";
+pub const COMPILE_ABOUT: &str = "Compile modules, and count the nodes of their schema";
 
 pub const COMPILE_DETAILS: &str = "\
-Compiles modules and prints `nodes: N`, the number of nodes of their schema.
-This version does not take the command yet.";
+Compiles YANG 1.1 modules (RFC 7950) and prints `nodes: N`, the number of nodes
+of their schema: what the modules define once each `uses` is expanded, without
+what features leave out. If the modules are refused, one line FILE:LINE: NAME
+says what is wrong first. What a module imports or includes has to be among the
+files. No document is read.";
 
 pub const COMPILE_CLOSING: &str = "\
-Example:
+Examples:
   yangcheck compile example.yang types.yang
+  yangcheck compile --max-nodes 5000 example.yang types.yang
 
 Exit status:
   0  compiled
@@ -79,7 +86,8 @@ pub const FILE: &str = "The files of the YANG modules and submodules, at most 25
 
 pub const MODULE: &str = "The module to draw";
 
-pub const MAX_NODES: &str = "The most nodes of the schema, from 1 to 1000000 [default: 100000]";
+pub const MAX_NODES: &str = "\
+The most nodes and `uses` that the modules may expand to, from 1 to 1000000 [default: 100000]";
 
 pub const SUPPORT: &str = "\
 Of the modules named here only these features are supported: MODULE:FEATURE,FEATURE/MODULE:";

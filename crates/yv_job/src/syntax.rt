@@ -28,14 +28,6 @@ fn required<'a>(alloc: Global, id: &'a str, value: &'a str, help: &'a str) -> Ar
     option(alloc, id, value, help).required(true)
 }
 
-// An option that this version doesn't take, and its help doesn't show.
-fn later<'a>(alloc: Global, id: &'a str, value: &'a str, help: &'a str) -> Arg<'a>
-    ensures rule { rule_of result ≡ option_rule id.entry.now }
-    ensures local { result.global ≡ false }
-{
-    option(alloc, id, value, help).hide(true)
-}
-
 fn files<'a>(alloc: Global) -> Arg<'a>
     ensures rule { rule_of result ≡ files_rule }
     ensures local { result.global ≡ false }
@@ -92,7 +84,7 @@ fn shared<'a>(alloc: Global, command: Command<'a>) -> Result<Command<'a>, AllocE
     ensures app { IfOk result (λ c. app_of c ≡ with_shared (app_of command.entry)) }
     ensures local { IfOk result (λ c. (fields_of c).has_globals ≡ false) }
 {
-    let nodes = later(alloc, "max-nodes", "N", help::MAX_NODES);
+    let nodes = option(alloc, "max-nodes", "N", help::MAX_NODES);
     let support = option(alloc, "support", "S", help::SUPPORT);
     let imports = option(alloc, "import-only", "L", help::IMPORT_ONLY);
     let counted = with_arg(command, nodes)?;
@@ -112,7 +104,7 @@ fn compile<'a>(alloc: Global) -> Result<Command<'a>, AllocError>
         help::COMPILE_DETAILS,
         help::COMPILE_CLOSING,
     );
-    shared(alloc, command.hide(true))
+    shared(alloc, command)
 }
 
 fn tree<'a>(alloc: Global) -> Result<Command<'a>, AllocError>

@@ -35,19 +35,39 @@ fn help_of(alloc: Global, line: &str) -> Option<String> {
 #[test]
 fn words_that_are_taken(rt: HostRuntime) -> Result<(), Fail> {
     let cases = [
-        ("yangcheck validate --data d.json ex.yang", "d.json"),
-        ("yangcheck validate ex.yang --data -", "-"),
-        ("y validate --data=validate ex.yang", "validate"),
-        ("yangcheck validate --data d.json -- ex.yang", "d.json"),
+        (
+            "yangcheck validate --data d.json ex.yang",
+            "d.json",
+            100_000,
+        ),
+        ("yangcheck validate ex.yang --data -", "-", 100_000),
+        ("y validate --data=compile ex.yang", "compile", 100_000),
+        ("y validate --max-nodes 1 --data d -- ex.yang", "d", 1),
     ];
-    for (line, document) in cases {
+    for (line, document, limit) in cases {
         let job = read(rt.alloc(), line)?;
         assert!(rt; matches!(&job.command, Command::Validate(f) if f.as_str() == document));
         assert_eq!(rt; job.files.len(), 1, "{line}");
         assert!(rt; job.files[0].as_str() == "ex.yang");
-        assert_eq!(rt; job.limit, 100_000);
+        assert_eq!(rt; job.limit, limit);
         assert!(rt; job.selection.support.is_empty());
         assert!(rt; job.selection.import_only.is_empty());
+    }
+    Ok(())
+}
+
+#[test]
+fn words_that_compile(rt: HostRuntime) -> Result<(), Fail> {
+    let cases = [
+        ("yangcheck compile ex.yang", 100_000),
+        ("yangcheck compile ex.yang --max-nodes=001000000", 1_000_000),
+        ("y compile --max-nodes 5 validate", 5),
+    ];
+    for (line, limit) in cases {
+        let job = read(rt.alloc(), line)?;
+        assert!(rt; matches!(&job.command, Command::Compile), "{line}");
+        assert_eq!(rt; job.files.len(), 1, "{line}");
+        assert_eq!(rt; job.limit, limit);
     }
     Ok(())
 }
@@ -68,9 +88,10 @@ fn several_files_and_a_selection(rt: HostRuntime) -> Result<(), Fail> {
 #[test]
 fn words_without_a_job(rt: HostRuntime) -> Result<(), Fail> {
     let cases = [
-        "yangcheck compile ex.yang",
         "yangcheck tree --module ex ex.yang",
-        "yangcheck validate --data d.json --max-nodes 100000 ex.yang",
+        "yangcheck compile --max-nodes 0 ex.yang",
+        "yangcheck compile --max-nodes 1000001 ex.yang",
+        "yangcheck validate --data d.json --max-nodes +5 ex.yang",
         "yangcheck validate --data d.json --support ex ex.yang",
         "yangcheck validate --data d.json --import-only ,ex ex.yang",
     ];
@@ -93,6 +114,9 @@ fn words_that_clap_refuses(rt: HostRuntime) -> Result<(), Fail> {
         "yangcheck validate --data d.json --data d.json ex.yang",
         "yangcheck validate --data d.json --module ex ex.yang",
         "yangcheck compile --data d.json ex.yang",
+        "yangcheck compile --max-nodes 5 --max-nodes 5 ex.yang",
+        "yangcheck compile --max-nodes -5 ex.yang",
+        "yangcheck compile",
         "yangcheck validate ex.yang --data",
     ];
     for line in cases {
@@ -107,19 +131,22 @@ fn words_that_clap_refuses(rt: HostRuntime) -> Result<(), Fail> {
 fn words_that_ask_for_help(rt: HostRuntime) -> Result<(), Fail> {
     let cases = [
         ("yangcheck --help", "\nExit status:\n  0  "),
+        ("yangcheck --help", " --max-nodes N "),
         ("yangcheck -h", "\nUsage: yangcheck <COMMAND>\n"),
         ("yangcheck --version", "yangcheck 0.1.0\n"),
+        ("yangcheck help", "\n  compile   "),
         ("yangcheck help", "\n  validate  "),
         ("yangcheck help validate", " --data <F>\n"),
         ("yangcheck validate --help", " - for standard input\n"),
         ("yangcheck validate -h", "\n  yangcheck validate --data "),
-        ("yangcheck compile --help", "not take the command yet"),
+        ("yangcheck compile --help", " prints `nodes: N`"),
+        ("yangcheck compile -h", "[default: 100000]"),
+        ("yangcheck validate -h", " from 1 to 1000000 "),
         ("yangcheck tree --help", "not take the command yet"),
     ];
     for (line, part) in cases {
         let text = help_of(rt.alloc(), line).ok_or(line)?;
         assert!(rt; text.as_str().contains(part), "{line}");
-        assert!(rt; !text.as_str().contains("--max-nodes"), "{line}");
     }
     Ok(())
 }

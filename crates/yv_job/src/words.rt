@@ -4,7 +4,7 @@ ghost use Rattle.clap.specs.Words.{fault_of, subcommand_of, subcommand_rows_of, 
 ghost use Rattle.yv_job.specs.Asks.{WordsAsk, AreUnderstood};
 ghost use Rattle.yv_job.specs.CommandLine.{yangcheck_app};
 ghost use Rattle.yv_job.specs.Faults.{IfUsage, OnHelp, AskForNothing, AskForHelp, AreRefused, own_usage};
-ghost use Rattle.yv_job.specs.Jobs.{task_of, HasFiles, HasLimit, ChecksADocument};
+ghost use Rattle.yv_job.specs.Jobs.{task_of, HasFiles, HasLimit, CompilesOrChecks};
 ghost use Rattle.yv_job.specs.Matched.{IsFaultFor};
 ghost use Rattle.yv_job.specs.Taken.{AreTaken};
 
@@ -46,7 +46,7 @@ pub fn read_job(alloc: Global, words: &[String]) -> Result<Job, JobFault>
     ensures taken { OnOk result (AreTaken (map string_bytes words.now)) }
     ensures files { IfOk result HasFiles }
     ensures limit { IfOk result HasLimit }
-    ensures check { IfOk result ChecksADocument }
+    ensures command { IfOk result CompilesOrChecks }
     ensures usage { IfErr result (λ f. IfUsage f (λ _.
         AskForNothing (map string_bytes words.now))) }
     ensures own_text { IfErr result (λ f. IfUsage f (λ text.
