@@ -6,6 +6,7 @@ pub mod Numbers
 pub mod Placed
 pub mod Keeping
 pub mod Trees
+pub mod Measuring
 pub mod Formed
 pub mod Untaken
 pub mod Gathering

@@ -1,14 +1,14 @@
 -- The rows of the items that are left of a file are those of its nodes.
-use Rattle.std.proofs.Common.{◌≡◌, ℕ, ◌+◌, List, [], ◌∷◌, ◌++◌, length, map, get_or, refl, sym, ap, ◌∙◌, arith, append_assoc, append-nil, length-append, Option, Some, None}
+use Rattle.std.proofs.Common.{◌≡◌, ℕ, ◌+◌, List, [], ◌∷◌, ◌++◌, length, get_or, refl, sym, ap, ◌∙◌, arith, append_assoc, append-nil, length-append, Option, Some, None}
 use Rattle.std.proofs.Math.Seq.{get_or-append_seam}
 use Rattle.yv_expansion.specs.Tree as items
 use Rattle.yv_expansion.specs.declared.item.Item.{Item}
 use Rattle.yv_pruning.specs.Families as families
 use Rattle.yv_schema.specs.declared.node.NodeId.{NodeId}
-use Rattle.yv_schema.specs.Tree.{count, Forest, node, no_trees, tree}
+use Rattle.yv_schema.specs.Tree.{count, Forest, no_trees}
 use Rattle.yv_schema.specs.Rows.{Row}
 use Rattle.yv_schema.specs.Module.{Basis, label_at, labelled}
-use Rattle.yv_schema.specs.InnerBuild.{Adds, joined}
+use Rattle.yv_schema.specs.InnerBuild.{Adds}
 use Rattle.yv_schema.specs.InnerNumbers.{numbers_from, rows_from}
 use Rattle.yv_schema.specs.InnerRowing.{above_of, number_behind, numbers_behind, row_of, rows_for}
 use Rattle.yv_schema.proofs.Formed.{labelled_joined}

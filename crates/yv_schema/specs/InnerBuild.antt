@@ -1,5 +1,5 @@
 -- Only private clauses cite this: how the rows grow while statements are gone over.
-use Rattle.std.specs.Prelude.{◌≡◌, ◌≢◌, ◌<◌, ℕ, ◌+◌, ◌==◌, List, [], ◌∷◌, ◌++◌, map, length, Bool, true, false, if◌then◌else◌, slice_get, Some}
+use Rattle.std.specs.Prelude.{◌≡◌, ◌≢◌, ◌<◌, ℕ, ◌+◌, ◌==◌, List, [], ◌∷◌, ◌++◌, map, length, true, false, if◌then◌else◌, slice_get, Some}
 use Rattle.std.specs.List.{list_any}
 use Rattle.yv_statement.specs.Tree as statement
 use Rattle.yv_selection.specs.Choice.{Choice}

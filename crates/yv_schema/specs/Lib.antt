@@ -4,6 +4,7 @@ pub mod Module
 pub mod Schema
 pub mod Refuses
 pub mod Rows
+pub mod Measures
 pub mod InnerMember
 pub mod InnerContext
 pub mod InnerNumbers

@@ -1,5 +1,5 @@
 -- The schema of files under a choice (RFC 7950, section 5.6.5).
-use Rattle.std.specs.Prelude.{◌≡◌, List, map}
+use Rattle.std.specs.Prelude.{◌≡◌, map}
 use Rattle.yv_selection.specs.Choice.{Choice}
 use Rattle.yv_rows.specs.Files.{Files, brief_of}
 use Rattle.yv_rows.specs.Listed.{rows_of}

@@ -8,6 +8,7 @@ mod context;
 mod early;
 mod file;
 pub mod laws;
+mod measures;
 mod modules;
 mod name;
 mod node;
@@ -20,6 +21,7 @@ mod tests;
 mod tops;
 
 pub use compilation::compile;
+pub use measures::Measures;
 pub use node::{Node, NodeId};
 pub use schema::Schema;
 pub use yv_definitions::{NodeKind, NodeStatus};

@@ -5,7 +5,7 @@ use Rattle.yv_rows.specs.Files.{Files}
 use Rattle.yv_refines.specs.Faults.{changes}
 use Rattle.yv_definitions.specs.Defined.{refined}
 use Rattle.yv_definitions.specs.Kinds.{Kinds}
-use Rattle.yv_definitions.specs.Known.{files_in, kinds_in}
+use Rattle.yv_definitions.specs.Known.{files_in}
 use Rattle.yv_copies.specs.Items.{statement_of}
 use Rattle.yv_schema.proofs.context.Context.definition.Goals as goal
 

@@ -1,10 +1,8 @@
-use Rattle.std.proofs.Common.{◌≡◌, ℕ, List, ◌++◌, ap, sym, ◌∙◌}
+use Rattle.std.proofs.Common.{◌∙◌}
 use Rattle.std.proofs.lemmas.Result.{on_ok_weaker}
 use Rattle.std.specs.Rc.{rc_str_bytes}
 use Rattle.yv_pruning.specs.Families.{lists_of}
 use Rattle.yv_copies.specs.Left.{left_in}
-use Rattle.yv_schema.specs.declared.node.NodeId.{NodeId}
-use Rattle.yv_schema.specs.InnerRowing.{numbers_behind, rows_for}
 use Rattle.yv_schema.proofs.Rowing.{adds_file}
 use Rattle.yv_schema.proofs.file.Builder.add.Goals as goal
 

@@ -1,8 +1,8 @@
-use Rattle.std.proofs.Common.{◌≡◌, map, sym, subst, ap, ◌∙◌, false, true}
+use Rattle.std.proofs.Common.{◌≡◌, map, sym, ap, ◌∙◌, false, true}
 use Rattle.std.specs.Rc.{rc_str_bytes}
 use Rattle.yv_copies.specs.On.{no_statement}
 use Rattle.yv_rows.specs.Files.{Files, brief_of}
-use Rattle.yv_schema.specs.Module.{Basis, is_part, parts_from}
+use Rattle.yv_schema.specs.Module.{is_part, parts_from}
 use Rattle.yv_schema.proofs.Gathering.{part_more, part_other, parts_end}
 use Rattle.yv_schema.proofs.modules.Parts.add_parts.Goals as goal
 use Rattle.yv_schema.proofs.modules.Parts.add_parts.Goals.{then-is_part+in_ok-add, else-is_part}
