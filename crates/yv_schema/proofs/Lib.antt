@@ -11,6 +11,7 @@ pub mod Formed
 pub mod Untaken
 pub mod Gathering
 pub mod Rowing
+pub mod Within
 pub mod Told
 pub mod Doubling
 pub mod Kept

@@ -1,8 +1,10 @@
 -- The schema of files under a choice (RFC 7950, section 5.6.5).
-use Rattle.std.specs.Prelude.{◌≡◌, map}
+use Rattle.std.specs.Prelude.{◌≡◌, ℕ, length, map}
 use Rattle.yv_selection.specs.Choice.{Choice}
 use Rattle.yv_rows.specs.Files.{Files, brief_of}
 use Rattle.yv_rows.specs.Listed.{rows_of}
+use Rattle.yv_units.specs.Limit.{given_before}
+use Rattle.yv_units.specs.Weigh.{Weigh}
 use Rattle.yv_expand.specs.Expanded.{AreTrees}
 use Rattle.yv_copies.specs.Given.{marks_of}
 use Rattle.yv_definitions.specs.Kinds.{AreKinds}
@@ -23,3 +25,8 @@ pub record IsSchema (choice : Choice) (files : Files) (tree : Forest) : Type 0 w
   pub of_files : basis.files ≡ files
   pub is_basis : IsBasis choice basis
   pub is : tree ≡ schema_of choice basis
+
+-- the files of the implemented modules take so many units
+abbrev pub TakeUnits : Choice → Files → ℕ → Type 0
+TakeUnits choice files units =
+    Weigh (map brief_of files) (rows_of files) (given_before (map brief_of files) (rows_of files) (marks_of choice files) (length files)) units

@@ -1,11 +1,11 @@
 //! Laws of the definitions alone. These functions do nothing: the contract of each is the law.
-ghost use Rattle.std.specs.Prelude.{◌≡◌, ℕ, None};
+ghost use Rattle.std.specs.Prelude.{◌≡◌, ◌≤◌, ℕ, None};
 ghost use Rattle.yv_statement.specs.Order.{IsLeast};
 ghost use Rattle.yv_selection.specs.Choice.{Choice};
 ghost use Rattle.yv_rows.specs.Files.{Files};
 ghost use Rattle.yv_schema.specs.Refuses.{Refuses};
-ghost use Rattle.yv_schema.specs.Schema.{IsSchema};
-ghost use Rattle.yv_schema.specs.Tree.{Forest};
+ghost use Rattle.yv_schema.specs.Schema.{IsSchema, TakeUnits};
+ghost use Rattle.yv_schema.specs.Tree.{Forest, count};
 
 /// Where nothing is refused, files have one schema tree under a choice.
 pub fn files_have_one_schema()
@@ -15,4 +15,13 @@ pub fn files_have_one_schema()
     yv_features::laws::an_expression_has_one_truth();
     yv_definitions::laws::files_have_one_kinds();
     yv_copies::laws::files_have_one_expansion();
+}
+
+/// A schema tree has no more nodes than the files of the implemented modules take units.
+pub fn nodes_are_within_units()
+    ensures { (choice : Choice) (files : Files) (tree : Forest) (units : ℕ) → IsSchema choice files tree
+        → TakeUnits choice files units → count tree ≤ units }
+{
+    yv_expand::laws::items_are_within_units();
+    yv_pruning::laws::conditions_add_no_nodes();
 }
