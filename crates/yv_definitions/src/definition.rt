@@ -157,6 +157,13 @@ impl Definition {
         })
     }
 
+    /// Its name, over the same text: the time and the memory that it takes don't grow with the name.
+    pub fn shared_name(&self) -> Result<RcStr, AllocError>
+        ensures { IfOk result (λ text. rc_str_bytes text ≡ self.now.name) }
+    {
+        self.name.clone()
+    }
+
     /// Its features, over the same text.
     pub(crate) fn shared_features(&self) -> Result<RcStr, AllocError>
         ensures { IfOk result (λ text. rc_str_bytes text ≡ self.now.features) }

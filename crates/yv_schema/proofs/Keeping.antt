@@ -17,7 +17,7 @@ use Rattle.yv_schema.specs.Tree.{Label}
 use Rattle.yv_schema.specs.Refuses.{refusal_of}
 use Rattle.yv_schema.specs.Rows.{Row, blank_row}
 use Rattle.yv_schema.specs.InnerBuild.{Top}
-use Rattle.yv_schema.specs.InnerTables.{DifferInName, IsNamesake, IsTable, ModuleTable, Namesakes, Table, called, called_at, called_in, either, in_table, kept_first, labels_at, look_up}
+use Rattle.yv_schema.specs.InnerTables.{DifferInName, IsNamesake, IsTable, ModuleTable, Namesakes, Table, called, called_at, called_in, either, get_by_name, in_table, kept_first, labels_at, look_up}
 
 -- where nothing stood at the name, a child that is put there is the first one
 pub kept_new : (old : List ℕ → Option NodeId) (name text : List ℕ) (child : NodeId) → is_some (old name) ≡ false → cond (bytes_eq name text) (Some child) (old text) ≡ kept_first name child (old text) text
@@ -105,11 +105,11 @@ module _ (rows : List Row) where
 
   -- the table of the first children, and the least of what is refused at them
   pub record Keeps (cs : List NodeId) (table : Table) (doubled : Option Refusal) (n : ℕ) : Type 0 where
-    pub met : (text : List ℕ) → get_by_text table text ≡ called rows (take n cs) text
+    pub met : (text : List ℕ) → get_by_name table text ≡ called rows (take n cs) text
     pub least : IsLeast (Among (labels_at rows cs) (λ k l. Stands (IsNamesake (labels_at rows cs) k l) (refusal_of l)) n) doubled
 
   pub keeps_more : (cs : List NodeId) (table new : Table) (doubled here more : Option Refusal) (n : ℕ) (c : NodeId) (l : Label) (repeated : Bool) → Keeps cs table doubled n → slice_get cs n ≡ Some c
-      → l ≡ label_at c → repeated ≡ is_some (get_by_text table l.name) → ((text : List ℕ) → get_by_text new text ≡ kept_first l.name c (get_by_text table text) text)
+      → l ≡ label_at c → repeated ≡ is_some (get_by_name table l.name) → ((text : List ℕ) → get_by_name new text ≡ kept_first l.name c (get_by_name table text) text)
       → here ≡ cond repeated (Some (refusal_of l)) None → IsLesser doubled here more → Keeps cs new more (n + 1)
   keeps_more cs table new doubled here more n c l repeated h at is seen kept made lesser =
       let ls : List Label = labels_at rows cs in

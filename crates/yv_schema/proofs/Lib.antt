@@ -5,6 +5,7 @@ pub mod Growing
 pub mod Numbers
 pub mod Placed
 pub mod Keeping
+pub mod Named
 pub mod Trees
 pub mod Measuring
 pub mod Formed

@@ -2,7 +2,11 @@
 use Rattle.std.specs.Prelude.{◌≡◌, ◌≢◌, ◌<◌, ℕ, List, [], ◌∷◌, ◌++◌, map, length, Option, Some, None, String, if◌then◌else◌}
 use Rattle.std.specs.List.{slice_get, slice_index_or}
 use Rattle.std.specs.Str.{bytes_eq}
-use Rattle.std.specs.BTreeMap.{BTreeMap, get_by_text}
+use Rattle.std.specs.BTreeMap.{BTreeMap, get_by, get_by_text}
+use Rattle.std.specs.Ordering.{nat_cmp}
+use Rattle.std.specs.Cmp.Lexicographic.{slice_cmp}
+use Rattle.std.specs.Rc.{rc_str_bytes}
+use Rattle.std.specs.declared.rc.RcStr.{RcStr}
 use Rattle.std.specs.declared.alloc.Global.{Global}
 use Rattle.yv_schema.specs.declared.node.NodeId.{NodeId}
 use Rattle.yv_statement.specs.Order.{Among, Stands}
@@ -18,7 +22,11 @@ called rows [] name = None
 called rows (c ∷ cs) name = if bytes_eq (slice_index_or rows c.0 blank_row).label.name name then Some c else called rows cs name
 
 abbrev pub Table : Type 0
-Table = BTreeMap (String Global) NodeId
+Table = BTreeMap (RcStr Global) NodeId
+
+-- what a table has at a name
+abbrev pub get_by_name : Table → List ℕ → Option NodeId
+get_by_name table name = get_by (λ k. slice_cmp nat_cmp name (rc_str_bytes k)) table
 
 -- the tables of modules, by their names
 abbrev pub ModuleTable : Type 0
@@ -26,7 +34,7 @@ ModuleTable = BTreeMap (String Global) Table
 
 -- the table has the first of these nodes at each name
 pub record IsTable (rows : List Row) (cs : List NodeId) (table : Table) : Type 0 where
-  pub gives : (name : List ℕ) → get_by_text table name ≡ called rows cs name
+  pub gives : (name : List ℕ) → get_by_name table name ≡ called rows cs name
 
 -- a table for each node
 pub record AreTables (rows : List Row) (tables : List Table) : Type 0 where
@@ -75,7 +83,7 @@ called_in rows (t ∷ ts) name text = either (called_at rows t name text) (calle
 -- what a table has at a text, where there is one
 abbrev pub in_table : List ℕ → Option Table → Option NodeId
 in_table text None = None
-in_table text (Some table) = get_by_text table text
+in_table text (Some table) = get_by_name table text
 
 -- what the table of a module has at a text
 abbrev pub look_up : ModuleTable → List ℕ → List ℕ → Option NodeId
@@ -88,4 +96,4 @@ pub record IsKept (modules : ModuleTable) (tables : List Table) (s : Rows) : Typ
   pub each : length tables ≡ length s.nodes
   pub top : (home name : List ℕ) → HasNoColon home → look_up modules home name ≡ named s s.top (home ++ 58 ∷ name)
   pub none : (member : List ℕ) → HasNoColon member → named s s.top member ≡ None
-  pub below : (i : ℕ) (table : Table) (member : List ℕ) → slice_get tables i ≡ Some table → get_by_text table member ≡ named s (slice_index_or s.nodes i blank_row).children member
+  pub below : (i : ℕ) (table : Table) (member : List ℕ) → slice_get tables i ≡ Some table → get_by_name table member ≡ named s (slice_index_or s.nodes i blank_row).children member

@@ -1,5 +1,6 @@
 //! A schema node, and its number.
 ghost use Rattle.std.specs.Prelude.{◌≡◌, Some, None, IfOk, string_bytes, if◌then◌else◌};
+ghost use Rattle.std.specs.Rc.{rc_str_bytes};
 
 use std::alloc::{AllocError, Global};
 use std::marker::Model;
@@ -118,6 +119,13 @@ impl Node {
         ensures { result.now ≡ self.now.label.name }
     {
         self.definition.name()
+    }
+
+    /// The node's name, over the text that its copies share.
+    pub(crate) fn shared_name(&self) -> Result<RcStr, AllocError>
+        ensures { IfOk result (λ text. rc_str_bytes text ≡ self.now.label.name) }
+    {
+        self.definition.shared_name()
     }
 
     /// What a JSON member that writes the node is called: its name, behind the module's and a colon where

@@ -1,17 +1,18 @@
 //! The table by which the children of a node are found.
 ghost use Rattle.std.specs.Prelude.{◌≡◌, ◌<◌, ℕ, List, All, length, is_some, IfOk, OnOk};
-ghost use Rattle.std.specs.BTreeMap.{get_by_text};
+ghost use Rattle.std.specs.Rc.{rc_str_bytes};
 ghost use Rattle.yv_statement.specs.Order.{IsLeast};
-ghost use Rattle.yv_schema.specs.InnerTables.{IsTable, Namesakes, kept_first, labels_at};
+ghost use Rattle.yv_schema.specs.InnerTables.{IsTable, Namesakes, get_by_name, kept_first, labels_at};
 
 use crate::node::NodeId;
 use crate::nodes::Nodes;
 use std::alloc::{AllocError, Global};
 use std::collections::BTreeMap;
+use std::rc::RcStr;
 use yv_statement::{Refusal, lesser};
 
-/// Children by name: of several with one name the first.
-pub(crate) type Table = BTreeMap<String, NodeId>;
+/// Children by name: of several with one name the first. The names are those that the nodes share.
+pub(crate) type Table = BTreeMap<RcStr, NodeId>;
 
 /// Children by name, and the least refusal of one whose name an earlier one has.
 #[derive(Drop)]
@@ -35,7 +36,7 @@ impl Family {
         let mut doubled = None;
         for child in children {
             let node = nodes.get(*child);
-            let repeated = keep_first(alloc, &mut table, node.name(), *child)?;
+            let repeated = keep_first(&mut table, node.shared_name()?, *child)?;
             let here = node.refused(repeated);
             doubled = lesser(doubled, here);
         }
@@ -44,19 +45,14 @@ impl Family {
 }
 
 // Adds a child at its name, where none has it, and gives whether one has.
-fn keep_first(
-    alloc: Global,
-    table: &mut Table,
-    name: &str,
-    child: NodeId,
-) -> Result<bool, AllocError>
-    ensures repeated { IfOk result (λ repeated. repeated ≡ is_some (get_by_text table.old name.now)) }
-    ensures kept { OnOk result ((text : List ℕ) → get_by_text table.new text
-        ≡ kept_first name.now child (get_by_text table.old text) text) }
+fn keep_first(table: &mut Table, name: RcStr, child: NodeId) -> Result<bool, AllocError>
+    ensures repeated { IfOk result (λ repeated. repeated ≡ is_some (get_by_name table.old (rc_str_bytes name))) }
+    ensures kept { OnOk result ((text : List ℕ) → get_by_name table.new text
+        ≡ kept_first (rc_str_bytes name) child (get_by_name table.old text) text) }
 {
-    if table.contains_key(name) {
+    if table.contains_key(name.as_str()) {
         return Ok(true);
     }
-    table.insert(String::from_str(alloc, name)?, child)?;
+    table.insert(name, child)?;
     Ok(false)
 }

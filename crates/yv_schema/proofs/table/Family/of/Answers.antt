@@ -12,8 +12,8 @@ loop-child-preserved c =
     let child : NodeId = get_or cs c.loop-child.child-index none in
     let at = slice_get-get_or cs c.loop-child.child-index none c.loop-child-test.true in
     let label = ap (λ (r : Row). r.label) c.get-node.ensures in
-    let repeated = rw c.name.ensures at c.in_ok-repeated.ensures.repeated in
-    let kept = rw c.name.ensures at c.in_ok-repeated.ensures.kept in
+    let repeated = rw c.in_ok-shared_name.ensures at c.in_ok-repeated.ensures.repeated in
+    let kept = rw c.in_ok-shared_name.ensures at c.in_ok-repeated.ensures.kept in
     keeps_more c.args.nodes.now.rows cs c.loop-child.table c.keep_first.new.table c.loop-child.doubled c.refused-here.result c.lesser-doubled.result c.loop-child.child-index
     child c.get-node.result.now.label c.in_ok-repeated.repeated c.loop-child.invariant at label repeated kept c.refused-here.ensures c.lesser-doubled.ensures
 
