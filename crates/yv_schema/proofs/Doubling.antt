@@ -8,10 +8,11 @@ use Rattle.std.proofs.lemmas.Option.{slice_get_within}
 use Rattle.std.proofs.lemmas.Slice.Eq.{bytes_eq-Decides}
 use Rattle.yv_statement.specs.declared.refusal.Refusal.{Refusal}
 use Rattle.yv_statement.specs.Order.{Among}
+use Rattle.yv_schema.specs.declared.node.NodeId.{NodeId}
 use Rattle.yv_schema.specs.Tree.{count, Label, node, Forest, no_trees, tree, families, is_known, labels}
 use Rattle.yv_schema.specs.Refuses.{Repeated, refusal_of}
 use Rattle.yv_schema.specs.Rows.{Row}
-use Rattle.yv_schema.specs.InnerNumbers.{numbers_from, rows_from}
+use Rattle.yv_schema.specs.InnerNumbers.{numbers_from, rows_below}
 use Rattle.yv_schema.specs.InnerBuild.{Group, HasNoColon, Top, all_nodes, joined, tops_from}
 use Rattle.yv_schema.specs.InnerTables.{Namesakes, labels_at}
 use Rattle.yv_schema.proofs.Formed.{AreDifferent, AreOf, AreOfBelow, IsFormed, IsNew}
@@ -131,14 +132,15 @@ labels_sit rows at (tree (node l kids) ts) h =
     ap (λ (r : Row). r.label ∷ labels_at rows (numbers_from (at + 1 + count kids) ts)) (row_first rows at l kids ts h)
     ∙ ap (λ (ls : List Label). l ∷ ls) (labels_sit rows (at + 1 + count kids) ts (others_sit rows at l kids ts h))
 
-pub families_sit : (rows : List Row) (at : ℕ) (ts : Forest) → Sits rows at ts → map (λ (row : Row). labels_at rows row.children) (rows_from at ts) ≡ families ts
-families_sit rows at no_trees h = refl
-families_sit rows at (tree (node l kids) ts) h =
+pub families_sit : (rows : List Row) (parent : NodeId) (at : ℕ) (ts : Forest) → Sits rows at ts → map (λ (row : Row). labels_at rows row.children) (rows_below parent at ts) ≡ families ts
+families_sit rows parent at no_trees h = refl
+families_sit rows parent at (tree (node l kids) ts) h =
+    let own : NodeId = record { 0 = at } in
     let F : Row → List Label = λ row. labels_at rows row.children in
-    ap (λ (ls : List Label). ls ∷ map F (rows_from (at + 1) kids ++ rows_from (at + 1 + count kids) ts)) (labels_sit rows (at + 1) kids (kids_sit rows at l kids ts h))
-    ∙ ap (λ (lss : List (List Label)). labels kids ∷ lss) (map-append F (rows_from (at + 1) kids) (rows_from (at + 1 + count kids) ts)
-    ∙ ap (λ (lss : List (List Label)). lss ++ map F (rows_from (at + 1 + count kids) ts)) (families_sit rows (at + 1) kids (kids_sit rows at l kids ts h))
-    ∙ ap (λ (lss : List (List Label)). families kids ++ lss) (families_sit rows (at + 1 + count kids) ts (others_sit rows at l kids ts h)))
+    ap (λ (ls : List Label). ls ∷ map F (rows_below own (at + 1) kids ++ rows_below parent (at + 1 + count kids) ts)) (labels_sit rows (at + 1) kids (kids_sit rows at l kids ts h))
+    ∙ ap (λ (lss : List (List Label)). labels kids ∷ lss) (map-append F (rows_below own (at + 1) kids) (rows_below parent (at + 1 + count kids) ts)
+    ∙ ap (λ (lss : List (List Label)). lss ++ map F (rows_below parent (at + 1 + count kids) ts)) (families_sit rows own (at + 1) kids (kids_sit rows at l kids ts h))
+    ∙ ap (λ (lss : List (List Label)). families kids ++ lss) (families_sit rows parent (at + 1 + count kids) ts (others_sit rows at l kids ts h)))
 
 pub any_row : (rows : List Row) (ts : Forest) (f : Refusal) → map (λ (row : Row). labels_at rows row.children) rows ≡ families ts
     → Any rows (λ row. Namesakes (labels_at rows row.children)) f → Any (families ts) Namesakes f
@@ -165,18 +167,20 @@ all_below (g ∷ gs) h = below_joined g.nodes (all_nodes gs) h.0.formed.1 (all_b
 
 pub sit_first : (rows : List Row) (at : ℕ) (ts us : Forest) → Sits rows at (joined ts us) → Sits rows at ts
 sit_first rows at ts us h = record {
+  parent = h.parent;
   front = h.front;
-  back = rows_from (at + count ts) us ++ h.back;
-  split = h.split ∙ ap (λ (rs : List Row). h.front ++ rs ++ h.back) (rows_joined at ts us) ∙ simp append_assoc;
+  back = rows_below h.parent (at + count ts) us ++ h.back;
+  split = h.split ∙ ap (λ (rs : List Row). h.front ++ rs ++ h.back) (rows_joined h.parent at ts us) ∙ simp append_assoc;
   before = h.before;
 }
 
 pub sit_second : (rows : List Row) (at : ℕ) (ts us : Forest) → Sits rows at (joined ts us) → Sits rows (at + count ts) us
 sit_second rows at ts us h = record {
-  front = h.front ++ rows_from at ts;
+  parent = h.parent;
+  front = h.front ++ rows_below h.parent at ts;
   back = h.back;
-  split = h.split ∙ ap (λ (rs : List Row). h.front ++ rs ++ h.back) (rows_joined at ts us) ∙ simp append_assoc;
-  before = omega (arith, h.before, length-append h.front (rows_from at ts), length_rows at ts);
+  split = h.split ∙ ap (λ (rs : List Row). h.front ++ rs ++ h.back) (rows_joined h.parent at ts us) ∙ simp append_assoc;
+  before = omega (arith, h.before, length-append h.front (rows_below h.parent at ts), length_rows h.parent at ts);
 }
 
 -- two nodes at the top of one module have one name

@@ -12,8 +12,8 @@ use Rattle.yv_rows.specs.Files.{Files, brief_of, tree_name}
 use Rattle.yv_schema.specs.declared.node.NodeId.{NodeId}
 use Rattle.yv_schema.specs.Tree.{count, Forest, node, no_trees, tree}
 use Rattle.yv_schema.specs.Module.{Basis, file_nodes, is_given, is_part, module_nodes, parts_from}
-use Rattle.yv_schema.specs.Rows.{Row}
-use Rattle.yv_schema.specs.InnerNumbers.{numbers_from, rows_from}
+use Rattle.yv_schema.specs.Rows.{Row, root}
+use Rattle.yv_schema.specs.InnerNumbers.{numbers_from, rows_below, rows_from}
 use Rattle.yv_schema.specs.InnerBuild.{Adds, Group, Top, all_nodes, groups_from, joined, tops_from}
 use Rattle.yv_schema.proofs.Growing.{Rest, added_numbers, added_rows, rest_more}
 use Rattle.yv_schema.proofs.Numbers.{length_rows}
@@ -71,12 +71,13 @@ parts_end b m home roots i all old now before after over rest =
     }
 
 -- the numbers and rows of trees of which one list stands behind the other
-pub rows_joined : (first : ℕ) (ts us : Forest) → rows_from first (joined ts us) ≡ rows_from first ts ++ rows_from (first + count ts) us
-rows_joined first no_trees us = ap (λ (n : ℕ). rows_from n us) (omega arith)
-rows_joined first (tree (node l kids) ts) us =
+pub rows_joined : (parent : NodeId) (first : ℕ) (ts us : Forest) → rows_below parent first (joined ts us) ≡ rows_below parent first ts ++ rows_below parent (first + count ts) us
+rows_joined parent first no_trees us = ap (λ (n : ℕ). rows_below parent n us) (omega arith)
+rows_joined parent first (tree (node l kids) ts) us =
+    let own : NodeId = record { 0 = first } in
     let end : first + 1 + count kids + count ts ≡ first + (1 + count kids + count ts) = omega arith in
-    rw (rows_joined (first + 1 + count kids) ts us, end)
-    (ap (λ (rs : List Row). record { label = l; children = numbers_from (first + 1) kids } ∷ rs) (sym (append_assoc (rows_from (first + 1) kids) (rows_from (first + 1 + count kids) ts) _)))
+    rw (rows_joined parent (first + 1 + count kids) ts us, end)
+    (ap (λ (rs : List Row). record { label = l; parent = parent; children = numbers_from (first + 1) kids } ∷ rs) (sym (append_assoc (rows_below own (first + 1) kids) (rows_below parent (first + 1 + count kids) ts) _)))
 
 pub numbers_joined : (first : ℕ) (ts us : Forest) → numbers_from first (joined ts us) ≡ numbers_from first ts ++ numbers_from (first + count ts) us
 numbers_joined first no_trees us = ap (λ (n : ℕ). numbers_from n us) (omega arith)
@@ -93,11 +94,11 @@ pub record Gathers (behind all : List Group) (old now : List Row) (tops : List T
 gather_one : (g : Group) (behind all : List Group) (old now next : List Row) (tops : List Top) (numbers : List NodeId) → next ≡ now ++ rows_from (length now) g.nodes → numbers ≡ numbers_from (length now) g.nodes
     → Gathers (g ∷ behind) all old now tops → Gathers behind all old next (tops ++ record { name = g.name; numbers = numbers } ∷ [])
 gather_one g behind all old now next tops numbers grew are h =
-    let many : length next ≡ length now + count g.nodes = omega (arith, ap length grew, length-append now (rows_from (length now) g.nodes), length_rows (length now) g.nodes) in
+    let many : length next ≡ length now + count g.nodes = omega (arith, ap length grew, length-append now (rows_from (length now) g.nodes), length_rows root (length now) g.nodes) in
     let rest : List Row = rows_from (length now + count g.nodes) (all_nodes behind) in
     record {
       rows = ap (λ (n : ℕ). next ++ rows_from n (all_nodes behind)) many ∙ ap (λ (rs : List Row). rs ++ rest) grew ∙ append_assoc now (rows_from (length now) g.nodes) rest
-          ∙ ap (λ (rs : List Row). now ++ rs) (sym (rows_joined (length now) g.nodes (all_nodes behind))) ∙ h.rows;
+          ∙ ap (λ (rs : List Row). now ++ rs) (sym (rows_joined root (length now) g.nodes (all_nodes behind))) ∙ h.rows;
       are = append_assoc tops (record { name = g.name; numbers = numbers } ∷ []) (tops_from (length next) behind)
           ∙ ap (λ (n : ℕ). tops ++ record { name = g.name; numbers = numbers } ∷ tops_from n behind) many
           ∙ ap (λ (cs : List NodeId). tops ++ record { name = g.name; numbers = cs } ∷ tops_from (length now + count g.nodes) behind) are ∙ h.are;

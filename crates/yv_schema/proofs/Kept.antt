@@ -12,8 +12,8 @@ use Rattle.yv_statement.proofs.Least.{least_lesser, least_same}
 use Rattle.yv_schema.specs.declared.node.NodeId.{NodeId}
 use Rattle.yv_schema.specs.Tree.{count, Forest, Label, node, no_trees, tree, families, labels}
 use Rattle.yv_schema.specs.Refuses.{Doubled, Repeated}
-use Rattle.yv_schema.specs.Rows.{Row, Rows, blank_row, IsSound, named, row_at, whole}
-use Rattle.yv_schema.specs.InnerNumbers.{numbers_from, rows_from, rows_of}
+use Rattle.yv_schema.specs.Rows.{Row, Rows, blank_row, IsSound, named, root, row_at, whole}
+use Rattle.yv_schema.specs.InnerNumbers.{numbers_from, rows_below, rows_from, rows_of}
 use Rattle.yv_schema.specs.InnerBuild.{Group, HasNoColon, Top, all_nodes, all_numbers, joined, tops_from}
 use Rattle.yv_schema.specs.InnerTables.{AreTables, IsKept, ModuleTable, Namesakes, Table, called, called_at, called_in, either, labels_at, look_up}
 use Rattle.yv_schema.proofs.Doubling.{Any, NoneAlike, among_any, any_among, any_family, any_row, any_top, apart_top, all_below, colon_cut, families_sit, family_any, fronted_of, named_below, pair_repeated, pair_top, repeated_pair, row_any, sit_first, sit_second, top_any, top_pair}
@@ -30,12 +30,13 @@ append_all : {X : Type 0} (P : X → Type 0) (xs ys : List X) → AllByRecursion
 append_all P [] ys p q = q
 append_all P (x ∷ xs) ys p q = (p.0, append_all P xs ys p.1 q)
 
-rows_within : (first n : ℕ) (ts : Forest) → first + count ts ≤ n → AllByRecursion (λ (row : Row). All (λ (c : NodeId). c.0 < n) row.children) (rows_from first ts)
-rows_within first n no_trees room = tt
-rows_within first n (tree (node l kids) ts) room =
+rows_within : (parent : NodeId) (first n : ℕ) (ts : Forest) → first + count ts ≤ n → AllByRecursion (λ (row : Row). All (λ (c : NodeId). c.0 < n) row.children) (rows_below parent first ts)
+rows_within parent first n no_trees room = tt
+rows_within parent first n (tree (node l kids) ts) room =
+    let own : NodeId = record { 0 = first } in
     let P : Row → Type 0 = λ row. All (λ (c : NodeId). c.0 < n) row.children in (
       All-from_recursion (λ (c : NodeId). c.0 < n) (numbers_from (first + 1) kids) (numbers_within (first + 1) n kids (omega (arith, room))),
-      append_all P (rows_from (first + 1) kids) (rows_from (first + 1 + count kids) ts) (rows_within (first + 1) n kids (omega (arith, room))) (rows_within (first + 1 + count kids) n ts (omega (arith, room))),
+      append_all P (rows_below own (first + 1) kids) (rows_below parent (first + 1 + count kids) ts) (rows_within own (first + 1) n kids (omega (arith, room))) (rows_within parent (first + 1 + count kids) n ts (omega (arith, room))),
     )
 
 count_joined : (ts us : Forest) → count (joined ts us) ≡ count ts + count us
@@ -120,7 +121,7 @@ module _ (limit : ℕ) (gs : List Group) (nodes : List Row) (tops : List Top) (b
   sit = subst (λ (rows : List Row). Sits rows 0 (all_nodes gs)) (sym b.rows) (all_sit (all_nodes gs))
 
   many : length nodes ≡ count (all_nodes gs)
-  many = ap length b.rows ∙ length_rows 0 (all_nodes gs)
+  many = ap length b.rows ∙ length_rows root 0 (all_nodes gs)
 
   pub built_tops : All (λ (top : Top). All (λ (c : NodeId). c.0 < length nodes) top.numbers) tops
   built_tops =
@@ -130,7 +131,7 @@ module _ (limit : ℕ) (gs : List Group) (nodes : List Row) (tops : List Top) (b
   pub built_rows : All (λ (row : Row). All (λ (c : NodeId). c.0 < length nodes) row.children) nodes
   built_rows =
       subst (λ (rows : List Row). All (λ (row : Row). All (λ (c : NodeId). c.0 < length nodes) row.children) rows) (sym b.rows)
-      (All-from_recursion (λ (row : Row). All (λ (c : NodeId). c.0 < length nodes) row.children) (rows_from 0 (all_nodes gs)) (rows_within 0 (length nodes) (all_nodes gs) (omega (arith, many))))
+      (All-from_recursion (λ (row : Row). All (λ (c : NodeId). c.0 < length nodes) row.children) (rows_from 0 (all_nodes gs)) (rows_within root 0 (length nodes) (all_nodes gs) (omega (arith, many))))
 
   abbrev AtTop : Refusal → Type 0
   AtTop f = Among tops (λ k (top : Top). Namesakes (labels_at nodes top.numbers)) (length tops) f
@@ -142,7 +143,7 @@ module _ (limit : ℕ) (gs : List Group) (nodes : List Row) (tops : List Top) (b
   in_row row = labels_at nodes row.children
 
   families_are : map in_row nodes ≡ families (all_nodes gs)
-  families_are = ap (map in_row) b.rows ∙ families_sit nodes 0 (all_nodes gs) sit
+  families_are = ap (map in_row) b.rows ∙ families_sit nodes root 0 (all_nodes gs) sit
 
   abbrev in_top : Top → Refusal → Type 0
   in_top top = Namesakes (labels_at nodes top.numbers)

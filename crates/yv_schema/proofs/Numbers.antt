@@ -1,13 +1,15 @@
 -- The rows of a schema tree stand for that tree.
 use Rattle.std.proofs.Common.{◌≡◌, ℕ, ◌+◌, ◌-◌, List, [], ◌∷◌, ◌++◌, length, get_or, refl, sym, ap, ◌∙◌, arith, append_assoc, append-nil, length-append}
+use Rattle.yv_schema.specs.declared.node.NodeId.{NodeId}
 use Rattle.yv_schema.specs.Tree.{count, Tree, node, Forest, no_trees, tree}
-use Rattle.yv_schema.specs.Rows.{Row, blank, pick, trees_from, whole}
-use Rattle.yv_schema.specs.InnerNumbers.{numbers_from, rows_from, rows_of}
+use Rattle.yv_schema.specs.Rows.{Row, blank, pick, root, trees_from, whole}
+use Rattle.yv_schema.specs.InnerNumbers.{numbers_from, rows_below, rows_from, rows_of}
 
-pub length_rows : (first : ℕ) (ts : Forest) → length (rows_from first ts) ≡ count ts
-length_rows first no_trees = refl
-length_rows first (tree (node l kids) ts) =
-    omega (arith, length-append (rows_from (first + 1) kids) (rows_from (first + 1 + count kids) ts), length_rows (first + 1) kids, length_rows (first + 1 + count kids) ts)
+pub length_rows : (parent : NodeId) (first : ℕ) (ts : Forest) → length (rows_below parent first ts) ≡ count ts
+length_rows parent first no_trees = refl
+length_rows parent first (tree (node l kids) ts) =
+    let own : NodeId = record { 0 = first } in
+    omega (arith, length-append (rows_below own (first + 1) kids) (rows_below parent (first + 1 + count kids) ts), length_rows own (first + 1) kids, length_rows parent (first + 1 + count kids) ts)
 
 -- all trees, each before those below it
 abbrev pub all_trees : Forest → List Tree
@@ -41,16 +43,17 @@ pick_all first at front rest (tree (node l kids) ts) e =
     ap (λ (t : Tree). tree t (pick first X (numbers_from (at + 1 + count kids) ts))) here ∙ ap (tree (node l kids)) later
 
 -- each row's tree is the one that it was made of
-pub trees_rows : (first : ℕ) (ts : Forest) (rest : List Row) → trees_from first (rows_from first ts ++ rest) ≡ all_trees ts ++ trees_from (first + count ts) rest
-trees_rows first no_trees rest = ap (λ (n : ℕ). trees_from n rest) (omega arith)
-trees_rows first (tree (node l kids) ts) rest =
-    let more : List Row = rows_from (first + 1 + count kids) ts ++ rest in
-    let tail : (rows_from (first + 1) kids ++ rows_from (first + 1 + count kids) ts) ++ rest ≡ rows_from (first + 1) kids ++ more =
-    append_assoc (rows_from (first + 1) kids) (rows_from (first + 1 + count kids) ts) rest in
-    let kids_trees : trees_from (first + 1) (rows_from (first + 1) kids ++ more) ≡ all_trees kids ++ trees_from (first + 1 + count kids) more = trees_rows (first + 1) kids more in
-    let inner : pick (first + 1) (trees_from (first + 1) (rows_from (first + 1) kids ++ more)) (numbers_from (first + 1) kids) ≡ kids =
+pub trees_rows : (parent : NodeId) (first : ℕ) (ts : Forest) (rest : List Row) → trees_from first (rows_below parent first ts ++ rest) ≡ all_trees ts ++ trees_from (first + count ts) rest
+trees_rows parent first no_trees rest = ap (λ (n : ℕ). trees_from n rest) (omega arith)
+trees_rows parent first (tree (node l kids) ts) rest =
+    let own : NodeId = record { 0 = first } in
+    let more : List Row = rows_below parent (first + 1 + count kids) ts ++ rest in
+    let tail : (rows_below own (first + 1) kids ++ rows_below parent (first + 1 + count kids) ts) ++ rest ≡ rows_below own (first + 1) kids ++ more =
+    append_assoc (rows_below own (first + 1) kids) (rows_below parent (first + 1 + count kids) ts) rest in
+    let kids_trees : trees_from (first + 1) (rows_below own (first + 1) kids ++ more) ≡ all_trees kids ++ trees_from (first + 1 + count kids) more = trees_rows own (first + 1) kids more in
+    let inner : pick (first + 1) (trees_from (first + 1) (rows_below own (first + 1) kids ++ more)) (numbers_from (first + 1) kids) ≡ kids =
     ap (λ (xs : List Tree). pick (first + 1) xs (numbers_from (first + 1) kids)) kids_trees ∙ pick_all (first + 1) (first + 1) [] (trees_from (first + 1 + count kids) more) kids (omega arith) in
-    let others : trees_from (first + 1 + count kids) more ≡ all_trees ts ++ trees_from (first + 1 + count kids + count ts) rest = trees_rows (first + 1 + count kids) ts rest in
+    let others : trees_from (first + 1 + count kids) more ≡ all_trees ts ++ trees_from (first + 1 + count kids + count ts) rest = trees_rows parent (first + 1 + count kids) ts rest in
     let end : first + 1 + count kids + count ts ≡ first + (1 + count kids + count ts) = omega arith in
     rw (tail, inner, kids_trees, others, end) (ap (λ xs. node l kids ∷ xs) (sym (append_assoc (all_trees kids) (all_trees ts) _)))
 
@@ -58,5 +61,5 @@ trees_rows first (tree (node l kids) ts) rest =
 pub whole_rows : (limit : ℕ) (ts : Forest) → whole (rows_of limit ts) ≡ ts
 whole_rows limit ts =
     let trees : trees_from 0 (rows_from 0 ts) ≡ all_trees ts ++ [] =
-    ap (trees_from 0) (sym (append-nil (rows_from 0 ts))) ∙ trees_rows 0 ts [] in
+    ap (trees_from 0) (sym (append-nil (rows_from 0 ts))) ∙ trees_rows root 0 ts [] in
     ap (λ (xs : List Tree). pick 0 xs (numbers_from 0 ts)) trees ∙ pick_all 0 0 [] [] ts (omega arith)

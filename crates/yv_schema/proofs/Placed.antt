@@ -5,11 +5,12 @@ use Rattle.std.specs.Str.{bytes_eq}
 use Rattle.std.proofs.Math.Seq.{get_or-append_seam}
 use Rattle.std.proofs.lemmas.List.Elements.{All-from_recursion}
 use Rattle.std.proofs.lemmas.Bool.{cases_Bool, cases_lt, false_from_ne_true, false≢true}
+use Rattle.std.proofs.lemmas.Bool.Decides.{nat_tests}
 use Rattle.std.proofs.lemmas.Slice.Eq.{bytes_eq-Decides}
 use Rattle.yv_schema.specs.declared.node.NodeId.{NodeId}
 use Rattle.yv_schema.specs.Tree.{count, Label, node, Forest, no_trees, tree, is_known}
-use Rattle.yv_schema.specs.Rows.{Row, Rows, blank_row, row_at, children_of, rank, is_root, named, IsChild, IsSound}
-use Rattle.yv_schema.specs.InnerNumbers.{numbers_from, rows_from, rows_of}
+use Rattle.yv_schema.specs.Rows.{Row, Rows, blank_row, root, row_at, children_of, rank, is_root, named, IsChild, IsSound}
+use Rattle.yv_schema.specs.InnerNumbers.{numbers_from, rows_below, rows_from, rows_of}
 use Rattle.yv_schema.proofs.Finding.{HasFront}
 use Rattle.yv_schema.proofs.Numbers.{length_rows}
 
@@ -33,30 +34,31 @@ abbrev pub AreNamedBelow : Forest → Type 0
 AreNamedBelow no_trees = Unit {0}
 AreNamedBelow (tree (node l kids) ts) = AreNamed [] kids × AreNamedBelow kids × AreNamedBelow ts
 
--- the rows of these trees stand among others, the first at this number
+-- the rows of these trees below a parent stand among others, the first at this number
 pub record Sits (rows : List Row) (at : ℕ) (ts : Forest) : Type 0 where
+  pub parent : NodeId
   pub front : List Row
   pub back : List Row
-  pub split : rows ≡ front ++ rows_from at ts ++ back
+  pub split : rows ≡ front ++ rows_below parent at ts ++ back
   pub before : length front ≡ at
 
 -- there is room for all of them
 pub room_of : (rows : List Row) (at : ℕ) (ts : Forest) → Sits rows at ts → at + count ts ≤ length rows
 room_of rows at ts h =
-    omega (arith, ap length h.split, h.before, length-append (h.front ++ rows_from at ts) h.back, length-append h.front (rows_from at ts), length_rows at ts)
+    omega (arith, ap length h.split, h.before, length-append (h.front ++ rows_below h.parent at ts) h.back, length-append h.front (rows_below h.parent at ts), length_rows h.parent at ts)
 
 module _ (rows : List Row) (at : ℕ) (l : Label) (kids ts : Forest) (h : Sits rows at (tree (node l kids) ts)) where
   abbrev own : Row
-  own = record { label = l; children = numbers_from (at + 1) kids }
+  own = record { label = l; parent = h.parent; children = numbers_from (at + 1) kids }
 
   abbrev inner : List Row
-  inner = rows_from (at + 1) kids
+  inner = rows_below (record { 0 = at }) (at + 1) kids
 
   abbrev others : List Row
-  others = rows_from (at + 1 + count kids) ts
+  others = rows_below h.parent (at + 1 + count kids) ts
 
   -- the row of the first tree
-  pub row_first : get_or rows at blank_row ≡ record { label = l; children = numbers_from (at + 1) kids }
+  pub row_first : get_or rows at blank_row ≡ record { label = l; parent = h.parent; children = numbers_from (at + 1) kids }
   row_first =
       let flat : rows ≡ h.front ++ own ∷ (inner ++ others ++ h.back) = h.split ∙ simp append_assoc in
       ap (λ (rs : List Row). get_or rs at blank_row) flat
@@ -66,6 +68,7 @@ module _ (rows : List Row) (at : ℕ) (l : Label) (kids ts : Forest) (h : Sits r
   -- the rows below it
   pub kids_sit : Sits rows (at + 1) kids
   kids_sit = record {
+    parent = record { 0 = at };
     front = h.front ++ own ∷ [];
     back = others ++ h.back;
     split = h.split ∙ simp append_assoc;
@@ -75,18 +78,30 @@ module _ (rows : List Row) (at : ℕ) (l : Label) (kids ts : Forest) (h : Sits r
   -- the rows of the other trees
   pub others_sit : Sits rows (at + 1 + count kids) ts
   others_sit = record {
+    parent = h.parent;
     front = h.front ++ own ∷ inner;
     back = h.back;
     split = h.split ∙ simp append_assoc;
-    before = omega (arith, h.before, length-append h.front (own ∷ inner), length_rows (at + 1) kids);
+    before = omega (arith, h.before, length-append h.front (own ∷ inner), length_rows (record { 0 = at }) (at + 1) kids);
   }
 
--- what is known of a row: its label, the trees below it, and that these stand behind it
+  -- their parents
+  pub kids_parent : kids_sit.parent ≡ record { 0 = at }
+  unfolding kids_sit
+  kids_parent = refl
+
+  pub others_parent : others_sit.parent ≡ h.parent
+  unfolding others_sit
+  others_parent = refl
+
+-- what is known of a row: its label, its parent, the trees below it, and that these stand behind it
 pub record IsRow (rows : List Row) (at : ℕ) : Type 0 where
   pub label : Label
+  pub parent : NodeId
   pub kids : Forest
-  pub is : get_or rows at blank_row ≡ record { label = label; children = numbers_from (at + 1) kids }
+  pub is : get_or rows at blank_row ≡ record { label = label; parent = parent; children = numbers_from (at + 1) kids }
   pub sit : Sits rows (at + 1) kids
+  pub above : sit.parent ≡ record { 0 = at }
   pub room : at + 1 + count kids ≤ length rows
   pub kids_named : AreNamed [] kids
 
@@ -98,9 +113,11 @@ row_in rows at zero place (tree (node l kids) ts) lt e h named_below =
     let sit : Sits rows (at + 1) kids = kids_sit rows at l kids ts h in
     subst (λ (n : ℕ). IsRow rows n) (sym here) (record {
       label = l;
+      parent = h.parent;
       kids = kids;
       is = row_first rows at l kids ts h;
       sit = sit;
+      above = kids_parent rows at l kids ts h;
       room = room_of rows (at + 1) kids sit;
       kids_named = named_below.0;
     })
@@ -168,26 +185,45 @@ fronted_each s front at (tree (node l kids) ts) h fronted =
     let here : (row_at s (record { 0 = at })).label ≡ l = ap (λ (r : Row). r.label) (row_first s.nodes at l kids ts h) in
     (record { joined = rw here fronted.0 }, fronted_each s front (at + 1 + count kids) ts (others_sit s.nodes at l kids ts h) fronted.1)
 
+-- each has its parent's number
+above_each : (s : Rows) (at : ℕ) (ts : Forest) (h : Sits s.nodes at ts) → AllByRecursion (λ (c : NodeId). (row_at s c).parent ≡ h.parent) (numbers_from at ts)
+above_each s at no_trees h = tt
+above_each s at (tree (node l kids) ts) h = (
+  ap (λ (r : Row). r.parent) (row_first s.nodes at l kids ts h),
+  subst (λ (q : NodeId). AllByRecursion (λ (c : NodeId). (row_at s c).parent ≡ q) (numbers_from (at + 1 + count kids) ts)) (others_parent s.nodes at l kids ts h)
+      (above_each s (at + 1 + count kids) ts (others_sit s.nodes at l kids ts h)),
+)
+
 -- what is known of a parent: where its children sit, and that no two have one member
 pub record IsParent (s : Rows) (p : NodeId) : Type 0 where
   pub kids : Forest
   pub are : children_of s p ≡ numbers_from (rank p) kids
   pub sit : Sits s.nodes (rank p) kids
+  pub above : sit.parent ≡ p
   pub apart : AreApart kids
 
 -- all rows of the trees
 pub all_sit : (ts : Forest) → Sits (rows_from 0 ts) 0 ts
-all_sit ts = record { front = []; back = []; split = sym (append-nil (rows_from 0 ts)); before = refl }
+all_sit ts = record { parent = root; front = []; back = []; split = sym (append-nil (rows_from 0 ts)); before = refl }
 
 module _ (limit : ℕ) (ts : Forest) (top : AreApart ts) (below : AreNamedBelow ts) where
   parent_at_root : (p : NodeId) → is_root p ≡ true → IsParent (rows_of limit ts) p
-  parent_at_root p root =
-      let first : rank p ≡ 0 = rw root refl in
-      let at_top : children_of (rows_of limit ts) p ≡ numbers_from 0 ts = rw root refl in
+  parent_at_root p at_root =
+      let first : rank p ≡ 0 = rw at_root refl in
+      let at_top : children_of (rows_of limit ts) p ≡ numbers_from 0 ts = rw at_root refl in
+      let number : 4294967295 ≡ p.0 = grind (arith, nat_tests) in
+      let same : root ≡ p = ap (λ (n : ℕ). let q : NodeId = record { 0 = n } in q) number in
       record {
         kids = ts;
         are = at_top ∙ ap (λ (n : ℕ). numbers_from n ts) (sym first);
-        sit = subst (λ (n : ℕ). Sits (rows_from 0 ts) n ts) (sym first) (all_sit ts);
+        sit = record {
+          parent = p;
+          front = [];
+          back = [];
+          split = sym (append-nil (rows_from 0 ts)) ∙ ap (λ (q : NodeId). rows_below q 0 ts ++ []) same ∙ ap (λ (n : ℕ). rows_below p n ts ++ []) (sym first);
+          before = sym first;
+        };
+        above = refl;
         apart = top;
       }
 
@@ -199,17 +235,25 @@ module _ (limit : ℕ) (ts : Forest) (top : AreApart ts) (below : AreNamedBelow 
       record {
         kids = row.kids;
         are = own_children ∙ ap (λ (r : Row). r.children) row.is ∙ ap (λ (n : ℕ). numbers_from n row.kids) (sym next);
-        sit = subst (λ (n : ℕ). Sits (rows_from 0 ts) n row.kids) (sym next) row.sit;
+        sit = record {
+          parent = row.sit.parent;
+          front = row.sit.front;
+          back = row.sit.back;
+          split = row.sit.split ∙ ap (λ (n : ℕ). row.sit.front ++ rows_below row.sit.parent n row.kids ++ row.sit.back) (sym next);
+          before = row.sit.before ∙ sym next;
+        };
+        above = row.above;
         apart = row.kids_named.apart;
       }
 
   parent_in : (p : NodeId) → rank p ≤ length (rows_from 0 ts) → IsParent (rows_of limit ts) p
   parent_in p within =
-      elim (cases_Bool (is_root p)) [ inl root ↦ parent_at_root p root | inr other ↦ parent_below p (omega (arith, length_rows 0 ts)) other ]
+      elim (cases_Bool (is_root p)) [ inl at_root ↦ parent_at_root p at_root | inr other ↦ parent_below p (omega (arith, length_rows root 0 ts)) other ]
 
-  child_each : (p : NodeId) (at n : ℕ) (cs : List NodeId) → rank p ≤ at → n ≤ length (rows_from 0 ts) → AllByRecursion (λ (c : NodeId). (at ≤ c.0) × (c.0 < n)) cs → AllByRecursion (IsChild (rows_of limit ts) p) cs
-  child_each p at n [] le room h = tt
-  child_each p at n (c ∷ cs) le room h = (record { behind = omega (arith, h.0); within = omega (arith, h.0) }, child_each p at n cs le room h.1)
+  child_each : (p : NodeId) (at n : ℕ) (cs : List NodeId) → rank p ≤ at → n ≤ length (rows_from 0 ts) → AllByRecursion (λ (c : NodeId). (at ≤ c.0) × (c.0 < n)) cs
+      → AllByRecursion (λ (c : NodeId). (row_at (rows_of limit ts) c).parent ≡ p) cs → AllByRecursion (IsChild (rows_of limit ts) p) cs
+  child_each p at n [] le room h k = tt
+  child_each p at n (c ∷ cs) le room h k = (record { behind = omega (arith, h.0); within = omega (arith, h.0); above = k.0 }, child_each p at n cs le room h.1 k.1)
 
   -- a fact of each number where the children sit is one of each child
   of_children : (p : NodeId) (parent : IsParent (rows_of limit ts) p) (P : List NodeId → NodeId → Type 0) → AllByRecursion (P (numbers_from (rank p) parent.kids)) (numbers_from (rank p) parent.kids) → All (P (children_of (rows_of limit ts) p)) (children_of (rows_of limit ts) p)
@@ -218,12 +262,13 @@ module _ (limit : ℕ) (ts : Forest) (top : AreApart ts) (below : AreNamedBelow 
 
   pub sound_rows : count ts ≤ 4294967295 → count ts ≤ limit → IsSound (rows_of limit ts)
   sound_rows small limited = record {
-    small = omega (arith, length_rows 0 ts);
-    limited = omega (arith, length_rows 0 ts);
+    small = omega (arith, length_rows root 0 ts);
+    limited = omega (arith, length_rows root 0 ts);
     children = λ p within.
         let parent : IsParent (rows_of limit ts) p = parent_in p within in
         of_children p parent (λ cs. IsChild (rows_of limit ts) p)
-        (child_each p (rank p) (rank p + count parent.kids) (numbers_from (rank p) parent.kids) (omega arith) (room_of (rows_from 0 ts) (rank p) parent.kids parent.sit) (numbers_within (rank p) parent.kids));
+        (child_each p (rank p) (rank p + count parent.kids) (numbers_from (rank p) parent.kids) (omega arith) (room_of (rows_from 0 ts) (rank p) parent.kids parent.sit) (numbers_within (rank p) parent.kids)
+        (subst (λ (q : NodeId). AllByRecursion (λ (c : NodeId). (row_at (rows_of limit ts) c).parent ≡ q) (numbers_from (rank p) parent.kids)) parent.above (above_each (rows_of limit ts) (rank p) parent.kids parent.sit)));
     found = λ p within.
         let parent : IsParent (rows_of limit ts) p = parent_in p within in
         of_children p parent (λ cs c. named (rows_of limit ts) cs (member_at (rows_of limit ts) c) ≡ Some c)
@@ -233,5 +278,5 @@ module _ (limit : ℕ) (ts : Forest) (top : AreApart ts) (below : AreNamedBelow 
   -- below a node the member of each child is its name
   pub fronted_rows : (i : ℕ) → i < length (rows_from 0 ts) → AllByRecursion (HasFront (rows_of limit ts) []) (get_or (rows_from 0 ts) i blank_row).children
   fronted_rows i lt =
-      let row : IsRow (rows_from 0 ts) i = row_in (rows_from 0 ts) 0 i i ts (omega (arith, lt, length_rows 0 ts)) (omega arith) (all_sit ts) below in
+      let row : IsRow (rows_from 0 ts) i = row_in (rows_from 0 ts) 0 i i ts (omega (arith, lt, length_rows root 0 ts)) (omega arith) (all_sit ts) below in
       subst (λ (r : Row). AllByRecursion (HasFront (rows_of limit ts) []) r.children) (sym row.is) (fronted_each (rows_of limit ts) [] (i + 1) row.kids row.sit row.kids_named.fronted)

@@ -1,16 +1,16 @@
 -- The rows of the items that are left of a file are those of its nodes.
-use Rattle.std.proofs.Common.{◌≡◌, ℕ, ◌+◌, List, [], ◌∷◌, ◌++◌, length, get_or, refl, sym, ap, ◌∙◌, arith, append_assoc, append-nil, length-append, Option, Some, None}
+use Rattle.std.proofs.Common.{◌≡◌, ℕ, ◌+◌, ◌<◌, List, [], ◌∷◌, ◌++◌, length, get_or, drop, drop-cons, add-one, refl, sym, ap, ◌∙◌, arith, append_assoc, append-nil, length-append, Option, Some, None}
 use Rattle.std.proofs.Math.Seq.{get_or-append_seam}
 use Rattle.yv_expansion.specs.Tree as items
 use Rattle.yv_expansion.specs.declared.item.Item.{Item}
 use Rattle.yv_pruning.specs.Families as families
 use Rattle.yv_schema.specs.declared.node.NodeId.{NodeId}
 use Rattle.yv_schema.specs.Tree.{count, Forest, no_trees}
-use Rattle.yv_schema.specs.Rows.{Row}
+use Rattle.yv_schema.specs.Rows.{Row, root}
 use Rattle.yv_schema.specs.Module.{Basis, label_at, labelled}
 use Rattle.yv_schema.specs.InnerBuild.{Adds}
-use Rattle.yv_schema.specs.InnerNumbers.{numbers_from, rows_from}
-use Rattle.yv_schema.specs.InnerRowing.{above_of, number_behind, numbers_behind, row_of, rows_for}
+use Rattle.yv_schema.specs.InnerNumbers.{numbers_from, rows_below, rows_from}
+use Rattle.yv_schema.specs.InnerRowing.{above_of, number_behind, numbers_behind, parent_of, row_of, rows_for}
 use Rattle.yv_schema.proofs.Formed.{labelled_joined}
 use Rattle.yv_schema.proofs.Gathering.{numbers_joined, rows_joined}
 use Rattle.yv_schema.proofs.Numbers.{length_rows}
@@ -38,15 +38,21 @@ module _ (b : Basis) (home : List ℕ) where
         ap (λ (cs : List NodeId). number_behind base first ∷ cs)
         (numbers_labelled above (first + 1 + items.count below) behind ∙ ap (λ (n : ℕ). numbers_from n (labelled b home above behind no_trees)) place)
 
+    -- the row of one item, and those of the items behind
+    pub row_next : (below : List (List ℕ)) (xs : List Item) (i : ℕ) (x : Item) → i < length xs
+        → rows_for b home base below i (drop i xs)
+        ≡ row_of b home (get_or xs i x) (parent_of base (get_or xs i x).parent) (numbers_behind base (get_or below i [])) ∷ rows_for b home base below (i + 1) (drop (i + 1) xs)
+    row_next below xs i x lt = ap (rows_for b home base below i) (drop-cons xs i x lt ∙ ap (λ (n : ℕ). get_or xs i x ∷ drop n xs) (sym (add-one i)))
+
     rows_both : (below : List (List ℕ)) (number : ℕ) (xs ys : List Item) → rows_for b home base below number (xs ++ ys) ≡ rows_for b home base below number xs ++ rows_for b home base below (number + length xs) ys
     rows_both below number [] ys = ap (λ (n : ℕ). rows_for b home base below n ys) (omega arith)
     rows_both below number (x ∷ xs) ys =
         let next : number + 1 + length xs ≡ number + length (x ∷ xs) = omega arith in
-        ap (λ (rs : List Row). row_of b home x (numbers_behind base (get_or below number [])) ∷ rs)
+        ap (λ (rs : List Row). row_of b home x (parent_of base x.parent) (numbers_behind base (get_or below number [])) ∷ rs)
         (rows_both below (number + 1) xs ys ∙ ap (λ (n : ℕ). rows_for b home base below (number + 1) xs ++ rows_for b home base below n ys) next)
 
     pub rows_labelled : (parent : Option ℕ) (first : ℕ) (t : items.Tree) (front back : List (List ℕ)) → length front ≡ first
-        → rows_for b home base (front ++ families.below_from first t ++ back) first (items.listed parent first t) ≡ rows_from (base + first) (labelled b home (above_of parent home) t no_trees)
+        → rows_for b home base (front ++ families.below_from first t ++ back) first (items.listed parent first t) ≡ rows_below (parent_of base parent) (base + first) (labelled b home (above_of parent home) t no_trees)
     rows_labelled parent first items.none front back many = refl
     rows_labelled parent first (items.item number below behind) front back many =
         let own : List ℕ = families.numbers_from (first + 1) below in
@@ -59,24 +65,26 @@ module _ (b : Basis) (home : List ℕ) where
         let here : get_or all first [] ≡ own =
         ap (λ (xs : List (List ℕ)). get_or xs first []) seam ∙ ap (λ (n : ℕ). get_or (front ++ own ∷ (kids ++ others ++ back)) n []) (sym many)
         ∙ get_or-append_seam front own (kids ++ others ++ back) [] in
+        let own_id : NodeId = record { 0 = base + first } in
+        let above_id : NodeId = parent_of base parent in
         let inside : items.Tree → Forest = λ t. labelled b home home t no_trees in
-        let below_rows : rows_for b home base all (first + 1) (items.listed (Some first) (first + 1) below) ≡ rows_from (base + (first + 1)) (inside below) =
+        let below_rows : rows_for b home base all (first + 1) (items.listed (Some first) (first + 1) below) ≡ rows_below own_id (base + (first + 1)) (inside below) =
         ap (λ (xs : List (List ℕ)). rows_for b home base xs (first + 1) (items.listed (Some first) (first + 1) below)) first_split
         ∙ rows_labelled (Some first) (first + 1) below (front ++ own ∷ []) (others ++ back) (omega (arith, many, length-append front (own ∷ []))) in
-        let behind_rows : rows_for b home base all (first + 1 + items.count below) (items.listed parent (first + 1 + items.count below) behind) ≡ rows_from (base + (first + 1 + items.count below)) (labelled b home (above_of parent home) behind no_trees) =
+        let behind_rows : rows_for b home base all (first + 1 + items.count below) (items.listed parent (first + 1 + items.count below) behind) ≡ rows_below above_id (base + (first + 1 + items.count below)) (labelled b home (above_of parent home) behind no_trees) =
         ap (λ (xs : List (List ℕ)). rows_for b home base xs (first + 1 + items.count below) (items.listed parent (first + 1 + items.count below) behind)) second_split
         ∙ rows_labelled parent (first + 1 + items.count below) behind (front ++ own ∷ kids) back (omega (arith, many, length-append front (own ∷ kids), length_below (first + 1) below)) in
         let children : numbers_behind base (get_or all first []) ≡ numbers_from (base + first + 1) (inside below) =
         ap (numbers_behind base) here ∙ numbers_labelled home (first + 1) below ∙ ap (λ (n : ℕ). numbers_from n (inside below)) (omega arith) in
         let long : first + 1 + length (items.listed (Some first) (first + 1) below) ≡ first + 1 + items.count below = omega (arith, length_listed (Some first) (first + 1) below) in
         let rest : rows_for b home base all (first + 1) (items.listed (Some first) (first + 1) below ++ items.listed parent (first + 1 + items.count below) behind)
-        ≡ rows_from (base + first + 1) (inside below) ++ rows_from (base + first + 1 + count (inside below)) (labelled b home (above_of parent home) behind no_trees) =
+        ≡ rows_below own_id (base + first + 1) (inside below) ++ rows_below above_id (base + first + 1 + count (inside below)) (labelled b home (above_of parent home) behind no_trees) =
         rows_both all (first + 1) (items.listed (Some first) (first + 1) below) (items.listed parent (first + 1 + items.count below) behind)
         ∙ ap (λ (n : ℕ). rows_for b home base all (first + 1) (items.listed (Some first) (first + 1) below) ++ rows_for b home base all n (items.listed parent (first + 1 + items.count below) behind)) long
-        ∙ ap (λ (rs : List Row). rs ++ rows_for b home base all (first + 1 + items.count below) (items.listed parent (first + 1 + items.count below) behind)) (below_rows ∙ ap (λ (n : ℕ). rows_from n (inside below)) (omega arith))
-        ∙ ap (λ (rs : List Row). rows_from (base + first + 1) (inside below) ++ rs) (behind_rows ∙ ap (λ (n : ℕ). rows_from n (labelled b home (above_of parent home) behind no_trees)) (omega (arith, count_labelled home below))) in
-        ap (λ (cs : List NodeId). let r : Row = record { label = label_at b home (above_of parent home) number; children = cs } in r ∷ rows_for b home base all (first + 1) (items.listed (Some first) (first + 1) below ++ items.listed parent (first + 1 + items.count below) behind)) children
-        ∙ ap (λ (rs : List Row). let r : Row = record { label = label_at b home (above_of parent home) number; children = numbers_from (base + first + 1) (inside below) } in r ∷ rs) rest
+        ∙ ap (λ (rs : List Row). rs ++ rows_for b home base all (first + 1 + items.count below) (items.listed parent (first + 1 + items.count below) behind)) (below_rows ∙ ap (λ (n : ℕ). rows_below own_id n (inside below)) (omega arith))
+        ∙ ap (λ (rs : List Row). rows_below own_id (base + first + 1) (inside below) ++ rs) (behind_rows ∙ ap (λ (n : ℕ). rows_below above_id n (labelled b home (above_of parent home) behind no_trees)) (omega (arith, count_labelled home below))) in
+        ap (λ (cs : List NodeId). let r : Row = record { label = label_at b home (above_of parent home) number; parent = above_id; children = cs } in r ∷ rows_for b home base all (first + 1) (items.listed (Some first) (first + 1) below ++ items.listed parent (first + 1 + items.count below) behind)) children
+        ∙ ap (λ (rs : List Row). let r : Row = record { label = label_at b home (above_of parent home) number; parent = above_id; children = numbers_from (base + first + 1) (inside below) } in r ∷ rs) rest
 
   -- the nodes of a file are added
   pub adds_file : (t : items.Tree) (xs : List Item) (top : List ℕ) (below : List (List ℕ)) (old new : List Row) (before after : List NodeId) → xs ≡ items.listed None 0 t → top ≡ families.numbers_from 0 t
@@ -92,12 +100,12 @@ module _ (b : Basis) (home : List ℕ) where
       let is : new ≡ old ++ rows_from (length old) own = grew ∙ ap (λ (rs : List Row). old ++ rs) rows in
       let numbers : numbers_behind (length old) top ≡ numbers_from (length old) own =
       ap (numbers_behind (length old)) at_top ∙ numbers_labelled (length old) [] 0 t ∙ ap (λ (n : ℕ). numbers_from n own) base in
-      let many : length new ≡ length old + count own = omega (arith, ap length is, length-append old (rows_from (length old) own), length_rows (length old) own) in
+      let many : length new ≡ length old + count own = omega (arith, ap length is, length-append old (rows_from (length old) own), length_rows root (length old) own) in
       record {
         rows = λ others.
             ap (λ (n : ℕ). new ++ rows_from n others) many ∙ ap (λ (rs : List Row). rs ++ rows_from (length old + count own) others) is
             ∙ append_assoc old (rows_from (length old) own) (rows_from (length old + count own) others)
-            ∙ ap (λ (rs : List Row). old ++ rs) (sym (rows_joined (length old) own others)) ∙ ap (λ (ts : Forest). old ++ rows_from (length old) ts) (sym (labelled_joined b home [] t others));
+            ∙ ap (λ (rs : List Row). old ++ rs) (sym (rows_joined root (length old) own others)) ∙ ap (λ (ts : Forest). old ++ rows_from (length old) ts) (sym (labelled_joined b home [] t others));
         numbers = λ others.
             ap (λ (n : ℕ). after ++ numbers_from n others) many ∙ ap (λ (cs : List NodeId). cs ++ numbers_from (length old + count own) others) (numbered ∙ ap (λ (cs : List NodeId). before ++ cs) numbers)
             ∙ append_assoc before (numbers_from (length old) own) (numbers_from (length old + count own) others)

@@ -7,9 +7,10 @@ use Rattle.yv_definitions.specs.declared.definition.NodeKind.TheVariants.{Leaf}
 use Rattle.yv_definitions.specs.declared.definition.NodeStatus.TheVariants.{Current}
 use Rattle.yv_schema.specs.Tree.{Label, Tree, node, Forest, no_trees, tree}
 
--- a schema node, and the numbers of the nodes below it, in order
+-- a schema node, the number of the node above it, and the numbers of the nodes below it, in order
 pub record Row : Type 0 where
   pub label : Label
+  pub parent : NodeId
   pub children : List NodeId
 
 -- rows within a limit
@@ -22,6 +23,10 @@ pub record Rows : Type 0 where
   pub nodes : List Row
   pub top : List NodeId
   pub limit : ℕ
+
+-- the root, the parent of the nodes at the top, has the last number of 32 bits
+abbrev pub root : NodeId
+root = record { 0 = 4294967295 }
 
 -- what stands where there is no row
 abbrev pub blank_row : Row
@@ -40,6 +45,7 @@ blank_row = record {
     features = [];
     type_text = [];
   };
+  parent = root;
   children = [];
 }
 
@@ -47,7 +53,6 @@ blank_row = record {
 abbrev pub row_at : Rows → NodeId → Row
 row_at s p = slice_index_or s.nodes p.0 blank_row
 
--- the root, the parent of the nodes at the top, has the last number of 32 bits
 abbrev pub is_root : NodeId → Bool
 is_root p = p.0 == 4294967295
 
@@ -100,10 +105,11 @@ abbrev pub named : Rows → List NodeId → List ℕ → Option NodeId
 named s [] member = None
 named s (c ∷ cs) member = if bytes_eq (row_at s c).label.member member then Some c else named s cs member
 
--- a child stands behind its parent
+-- a child stands behind its parent, whose number it has
 pub record IsChild (s : Rows) (p c : NodeId) : Type 0 where
   pub behind : rank p ≤ c.0
   pub within : c.0 < length s.nodes
+  pub above : (row_at s c).parent ≡ p
 
 -- a child is found by its member: no other child of its parent has that member (RFC 7950, section 6.2.1)
 abbrev pub IsFound : Rows → NodeId → NodeId → Type 0

@@ -6,11 +6,12 @@ ghost use Rattle.yv_pruning.specs.Families.{lists_of};
 ghost use Rattle.yv_schema.specs.Module.{Basis, file_nodes};
 ghost use Rattle.yv_schema.specs.InnerContext.{Tells};
 ghost use Rattle.yv_schema.specs.InnerBuild.{Adds};
-ghost use Rattle.yv_schema.specs.InnerRowing.{number_behind, numbers_behind, row_of, rows_for};
+ghost use Rattle.yv_schema.specs.InnerRowing.{number_behind, numbers_behind, parent_of, row_of, rows_for};
 
 use crate::context::Context;
 use crate::node::{Node, NodeId};
 use crate::nodes::Nodes;
+use crate::schema::Schema;
 use std::alloc::{AllocError, Global};
 use std::rc::RcStr;
 use yv_expansion::Item;
@@ -58,23 +59,25 @@ impl Builder<'_, '_, '_> {
         ensures memory { IfErr result (λ stop. stop ≡ NoMemory) }
     {
         for (place, item) in items.iter().enumerate() {
+            let parent = parent_of(base, item.parent)?;
             let children = numbered(self.alloc, base, places_at(below, place))?;
-            let node = self.node(item, children)?;
+            let node = self.node(item, parent, children)?;
             nodes.push(node)?;
         }
         Ok(())
     }
 
-    // The node of an item, with these children.
-    fn node(&self, item: &Item, children: Vec<NodeId>) -> Result<Node, AllocError>
+    // The node of an item, with this parent and these children.
+    fn node(&self, item: &Item, parent: NodeId, children: Vec<NodeId>) -> Result<Node, AllocError>
         ensures { (b : Basis) → Tells b self.now.context.now → IfOk result (λ node. node
-            ≡ row_of b (rc_str_bytes self.now.home.now) item.now children.items) }
+            ≡ row_of b (rc_str_bytes self.now.home.now) item.now parent children.items) }
     {
         let definition = self.context.definition(item.origin)?;
         Ok(Node {
             definition,
             module: self.home.clone()?,
             is_qualified: item.parent.is_none() && !self.home.is_empty(),
+            parent,
             children,
         })
     }
@@ -99,6 +102,17 @@ fn number_behind(base: u32, place: usize) -> Result<NodeId, Stop>
         return Err(Stop::NoMemory);
     }
     Ok(NodeId(base + place as u32))
+}
+
+// The number of the node above one, where that stands so many places behind another: the root's at the top.
+fn parent_of(base: u32, place: Option<usize>) -> Result<NodeId, Stop>
+    ensures number { IfOk result (λ id. id ≡ parent_of base place) }
+    ensures memory { IfErr result (λ stop. stop ≡ NoMemory) }
+{
+    match place {
+        Some(place) => number_behind(base, place),
+        None => Ok(Schema::ROOT),
+    }
 }
 
 // Adds the numbers of the nodes that stand so many places behind another.

@@ -22,13 +22,14 @@ impl NodeId {
     }
 }
 
-/// A schema node. Contracts see its label and the numbers of its children.
+/// A schema node. Contracts see its label and the numbers of its parent and its children.
 #[derive(Drop)]
 pub struct Node {
     pub(crate) definition: Definition,
     pub(crate) module: RcStr,
     /// Whether a JSON member of the node has the module's name in front.
     pub(crate) is_qualified: bool,
+    pub(crate) parent: NodeId,
     pub(crate) children: Vec<NodeId>,
 }
 
@@ -54,6 +55,7 @@ impl Model for Node {
         features = n.definition.features;
         type_text = n.definition.type_text;
       };
+      parent = n.parent;
       children = n.children.items;
     } };
 }
@@ -178,6 +180,13 @@ impl Node {
         ensures { result.now ≡ self.now.label.type_text }
     {
         self.definition.type_text()
+    }
+
+    /// The number of the node above it, or `Schema::ROOT`.
+    pub fn parent(&self) -> NodeId
+        ensures { result ≡ self.now.parent }
+    {
+        self.parent
     }
 
     /// The numbers of the nodes below it, in the order of their statements.
