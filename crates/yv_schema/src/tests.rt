@@ -1,8 +1,9 @@
-use crate::{NodeKind, Schema, compile};
+use crate::{Measures, NodeKind, Schema, compile};
 use std::alloc::{AllocError, Global};
 use std::test::Fail;
 use yv_selection::Selection;
 use yv_statement::{Statement, Stop};
+use yv_values::Meter;
 
 // A statement with an argument, on line 1.
 fn statement(
@@ -68,18 +69,25 @@ fn nodes_stand_in_the_order_of_their_statements(rt: HostRuntime) -> Result<(), F
     let last = leaf(alloc, "c", "boolean", 20)?;
     let root = module(alloc, vec![in alloc; top, last]?)?;
     let schema = compiled(alloc, &root).ok().ok_or("refused")?;
+    let mut meter = Meter::new();
     assert_eq!(rt; schema.len(), 4);
     assert!(rt; !schema.is_empty());
-    let top = schema.find(Schema::ROOT, "ex:top").ok_or("top")?;
-    let c = schema.find(Schema::ROOT, "ex:c").ok_or("c")?;
-    let a = schema.find(top, "a").ok_or("a")?;
-    let b = schema.find(top, "b").ok_or("b")?;
+    let top = schema
+        .find(&mut meter, Schema::ROOT, "ex:top")
+        .ok_or("top")?;
+    let c = schema.find(&mut meter, Schema::ROOT, "ex:c").ok_or("c")?;
+    let a = schema.find(&mut meter, top, "a").ok_or("a")?;
+    let b = schema.find(&mut meter, top, "b").ok_or("b")?;
     assert!(rt; schema.children(Schema::ROOT) == [top, c].as_slice());
     assert!(rt; schema.children(top) == [a, b].as_slice());
     assert!(rt; schema.node(top).children() == [a, b].as_slice());
-    assert!(rt; schema.find(Schema::ROOT, "top") == None);
-    assert!(rt; schema.find(Schema::ROOT, "ex:a") == None);
-    assert!(rt; schema.find(top, "ex:a") == None);
+    assert!(rt; schema.find(&mut meter, Schema::ROOT, "top") == None);
+    assert!(rt; schema.find(&mut meter, Schema::ROOT, "ex:a") == None);
+    assert!(rt; schema.find(&mut meter, top, "ex:a") == None);
+    assert_eq!(rt; meter.steps(), 7);
+    assert!(rt; schema.node(top).parent() == Schema::ROOT);
+    assert!(rt; schema.node(b).parent() == top);
+    assert_eq!(rt; schema.measures(), Measures { m: 4, u: 0, w: 1 });
     Ok(())
 }
 
@@ -90,8 +98,11 @@ fn a_node_has_its_member_and_types(rt: HostRuntime) -> Result<(), Fail> {
     top.adopt(leaf(alloc, "b", "int32", 13)?)?;
     let root = module(alloc, vec![in alloc; top]?)?;
     let schema = compiled(alloc, &root).ok().ok_or("refused")?;
-    let top = schema.find(Schema::ROOT, "ex:top").ok_or("top")?;
-    let b = schema.find(top, "b").ok_or("b")?;
+    let mut meter = Meter::new();
+    let top = schema
+        .find(&mut meter, Schema::ROOT, "ex:top")
+        .ok_or("top")?;
+    let b = schema.find(&mut meter, top, "b").ok_or("b")?;
     let container = schema.node(top);
     assert!(rt; container.kind() == NodeKind::Container);
     assert!(rt; container.module() == "ex");
@@ -110,9 +121,11 @@ fn no_file_has_no_node(rt: HostRuntime) -> Result<(), Fail> {
     let alloc = rt.alloc();
     let files = Vec::new(alloc);
     let schema = compiled(alloc, &files).ok().ok_or("refused")?;
+    let mut meter = Meter::new();
     assert!(rt; schema.is_empty());
-    assert!(rt; schema.find(Schema::ROOT, "ex:a") == None);
-    assert!(rt; schema.find(Schema::ROOT, "a") == None);
+    assert_eq!(rt; schema.measures(), Measures { m: 0, u: 0, w: 1 });
+    assert!(rt; schema.find(&mut meter, Schema::ROOT, "ex:a") == None);
+    assert!(rt; schema.find(&mut meter, Schema::ROOT, "a") == None);
     Ok(())
 }
 
@@ -126,9 +139,12 @@ fn many_leaves_are_found(rt: HostRuntime) -> Result<(), Fail> {
     }
     let root = module(alloc, vec![in alloc; top]?)?;
     let schema = compiled(alloc, &root).ok().ok_or("refused")?;
-    let top = schema.find(Schema::ROOT, "ex:top").ok_or("top")?;
+    let mut meter = Meter::new();
+    let top = schema
+        .find(&mut meter, Schema::ROOT, "ex:top")
+        .ok_or("top")?;
     assert_eq!(rt; schema.children(top).len(), 5000);
-    assert!(rt; schema.find(top, "leaf-4999").is_some());
-    assert!(rt; schema.find(top, "leaf-5000").is_none());
+    assert!(rt; schema.find(&mut meter, top, "leaf-4999").is_some());
+    assert!(rt; schema.find(&mut meter, top, "leaf-5000").is_none());
     Ok(())
 }
