@@ -2,6 +2,7 @@
 pub mod Ending
 pub mod Machine
 pub mod Pairs
+pub mod Plain
 pub mod Place
 pub mod Scan
 pub mod Steps

@@ -1,14 +1,16 @@
 // Statements from tokens, one at a time.
 
 ghost use Rattle.std.specs.Prelude.{◌≡◌, ◌<◌, ◌^◌, IfOk, reverse, MatchResult};
+ghost use Rattle.std.specs.Cow.{cow_str_bytes};
 ghost use Rattle.yv_source.specs.Inner.Machine.{Next, step_at, between_at, start_at, named, argued, said, joined, give_word, give_quoted, close, finish};
 ghost use Rattle.yv_source.specs.Inner.Steps.{Gives, piece_of};
 ghost use Rattle.yv_source.specs.Outcome.{most_deep};
 
 use crate::identifier::is_keyword;
 use crate::place::Place;
-use crate::quoted::quoted;
+use crate::quoted::said;
 use std::alloc::{AllocError, AllocFailed, Global};
+use std::borrow::CowStr;
 use yv_statement::Statement;
 
 /// How deep a statement may stand, the outermost having depth 1.
@@ -89,13 +91,13 @@ pub(crate) fn step<'a>(
     match (phase, token) {
         (Phase::Between, Token::Word(keyword)) => start(alloc, stack, keyword, place),
         (Phase::Between, Token::Close) => close(stack),
-        (Phase::Named, Token::Word(text)) => give_word(alloc, stack, text),
-        (Phase::Named | Phase::Joined, Token::Single(text)) => give_quoted(alloc, stack, text),
-        (Phase::Named | Phase::Joined, Token::Double(text)) => give_quoted(
-            alloc,
-            stack,
-            quoted(alloc, text, place.column)?.as_str(),
-        ),
+        (Phase::Named, Token::Word(text)) => give_word(stack, text),
+        (Phase::Named | Phase::Joined, Token::Single(text)) => {
+            give_quoted(alloc, stack, CowStr::Borrowed(text))
+        }
+        (Phase::Named | Phase::Joined, Token::Double(text)) => {
+            give_quoted(alloc, stack, said(alloc, text, place.column)?)
+        }
         (Phase::Named | Phase::Argued | Phase::Said, Token::Semicolon) => close(stack),
         (Phase::Named | Phase::Argued | Phase::Said, Token::Open) => Ok(Phase::Between),
         (Phase::Said, Token::Plus) => Ok(Phase::Joined),
@@ -123,20 +125,24 @@ fn start<'a>(
 }
 
 // Gives the innermost statement its argument.
-fn give_word<'a>(alloc: Global, stack: &mut Vec<Statement<'a>>, text: &str) -> Result<Phase, Halt>
+fn give_word<'a>(stack: &mut Vec<Statement<'a>>, text: &'a str) -> Result<Phase, Halt>
     ensures { Gives result (reverse stack.new.items) (give_word text.now (reverse stack.old.items)) }
 {
     let Some(mut statement) = stack.pop() else {
         return Err(Halt::Wrong);
     };
-    statement.give(String::from_str(alloc, text)?);
+    statement.lend(text);
     stack.push(statement)?;
     Ok(Phase::Argued)
 }
 
 // Gives the innermost statement more of its argument.
-fn give_quoted<'a>(alloc: Global, stack: &mut Vec<Statement<'a>>, text: &str) -> Result<Phase, Halt>
-    ensures { Gives result (reverse stack.new.items) (give_quoted text.now (reverse stack.old.items)) }
+fn give_quoted<'a>(
+    alloc: Global,
+    stack: &mut Vec<Statement<'a>>,
+    text: CowStr<'a>,
+) -> Result<Phase, Halt>
+    ensures { Gives result (reverse stack.new.items) (give_quoted (cow_str_bytes text.entry) (reverse stack.old.items)) }
 {
     let Some(mut statement) = stack.pop() else {
         return Err(Halt::Wrong);

@@ -2,12 +2,16 @@
 // wait until it is known whether they do.
 
 ghost use Rattle.std.specs.Prelude.{◌≡◌, ◌≤◌, ◌<◌, ◌^◌, ◌+◌, ◌-◌, OnOk, IfOk, string_bytes, true, false, []};
+ghost use Rattle.std.specs.Cow.{cow_str_bytes};
+ghost use Rattle.std.specs.List.{list_all};
 ghost use Rattle.std.specs.Str.{chars};
 ghost use Rattle.yv_source.specs.Escapes.{all_pairs_good};
 ghost use Rattle.yv_source.specs.Quoted.{quoted, stripped};
+ghost use Rattle.yv_source.specs.Inner.Plain.{is_plain};
 ghost use Rattle.yv_source.specs.Inner.Writing.{put, flush, keep, keep_plain, keep_spaces, settle, take_in, trail, all_of, fresh, with_left};
 
 use std::alloc::{AllocError, Global};
+use std::borrow::CowStr;
 use std::marker::Model;
 
 /// What was written of a text so far.
@@ -33,8 +37,44 @@ impl Model for Writer {
     ghost view = { λ w. record { out = string_bytes w.out; gap = string_bytes w.gap; cr = w.cr; escaped = w.escaped; left = w.left } };
 }
 
-/// What a double-quoted text says whose quote stands behind this many columns.
-pub(crate) fn quoted(alloc: Global, text: &str, column: usize) -> Result<String, AllocError>
+/// What a double-quoted text says whose quote stands behind this many columns: the text itself, where stripping and escapes
+/// leave it as it is.
+pub(crate) fn said<'a>(
+    alloc: Global,
+    text: &'a str,
+    column: usize,
+) -> Result<CowStr<'a>, AllocError>
+    requires { column < 2 ^ 40 }
+    ensures { IfOk result (λ said. cow_str_bytes said ≡ quoted column text.now) }
+{
+    if is_plain_text(text) {
+        return Ok(CowStr::Borrowed(text));
+    }
+    let mut said = quoted(alloc, text, column)?;
+    if said.as_str() == text {
+        Ok(CowStr::Borrowed(text))
+    } else {
+        said.shrink_to_fit();
+        Ok(CowStr::Owned(said))
+    }
+}
+
+// Whether all characters are such.
+fn is_plain_text(text: &str) -> bool
+    ensures { result ≡ list_all is_plain (chars text.now) }
+{
+    text.chars().all(is_plain)
+}
+
+// Whether a character neither ends a line nor begins an escape.
+fn is_plain(c: char) -> bool
+    ensures { result ≡ is_plain c }
+{
+    c != '\n' && c != '\\'
+}
+
+// What a double-quoted text says, in a text of its own.
+fn quoted(alloc: Global, text: &str, column: usize) -> Result<String, AllocError>
     requires { column < 2 ^ 40 }
     ensures said { IfOk result (λ said. string_bytes said ≡ quoted column text.now) }
     // What is stripped makes no backslash pair good or bad.

@@ -6,7 +6,10 @@ use Rattle.std.proofs.lemmas.Bool.{cases_lt, cases_eq, false≢true}
 use Rattle.yv_statement.specs.declared.refusal.Refusal.{Refusal}
 use Rattle.yv_statement.specs.Codes.{phase_of, number_of}
 use Rattle.yv_statement.specs.contracts.refusal.Code.{the_type}
+use Rattle.yv_statement.specs.declared.refusal.Code.{Code}
+use Rattle.yv_statement.specs.declared.refusal.Code.TheVariants as code
 use denote.Enum.Bare.{tag_one}
+use denote.Enum.Declared.{tag_of}
 use Rattle.yv_statement.specs.Order.{keys_of, IsUpToBy, IsUpTo, IsLeast, IsLesser, Stands, Among}
 
 up_to_by_trans : (xs ys zs : List ℕ) → IsUpToBy xs ys → IsUpToBy ys zs → IsUpToBy xs zs
@@ -108,10 +111,59 @@ up_to_by_both (x ∷ xs) (y ∷ ys) (inr p) (inr q) = ap (λ n. n ∷ xs) p.0 �
 at_place : ℕ → List ℕ → ℕ
 at_place k xs = get_or xs k 0
 
+-- the codes are kept in their order
+number_is_tag : (c : Code) → number_of c ≡ tag_of the_type c
+number_is_tag code.NotUtf8 = refl
+number_is_tag code.BadCharacter = refl
+number_is_tag code.BadToken = refl
+number_is_tag code.BadEscape = refl
+number_is_tag code.BadSyntax = refl
+number_is_tag code.TooDeep = refl
+number_is_tag code.TooLarge = refl
+number_is_tag code.Unsupported = refl
+number_is_tag code.UnknownStatement = refl
+number_is_tag code.Cardinality = refl
+number_is_tag code.BadArgument = refl
+number_is_tag code.DuplicateModule = refl
+number_is_tag code.MissingModule = refl
+number_is_tag code.Revision = refl
+number_is_tag code.ImportCycle = refl
+number_is_tag code.UnknownPrefix = refl
+number_is_tag code.Submodule = refl
+number_is_tag code.UnknownFeature = refl
+number_is_tag code.FeatureCycle = refl
+number_is_tag code.UnknownIdentity = refl
+number_is_tag code.IdentityCycle = refl
+number_is_tag code.DuplicateName = refl
+number_is_tag code.UnknownType = refl
+number_is_tag code.TypeCycle = refl
+number_is_tag code.UnknownGrouping = refl
+number_is_tag code.GroupingCycle = refl
+number_is_tag code.TooManyNodes = refl
+number_is_tag code.RefineTarget = refl
+number_is_tag code.BadRefine = refl
+number_is_tag code.AugmentTarget = refl
+number_is_tag code.BadAugment = refl
+number_is_tag code.TreeTooDeep = refl
+number_is_tag code.BadRestriction = refl
+number_is_tag code.BadPattern = refl
+number_is_tag code.BadNumbering = refl
+number_is_tag code.BadType = refl
+number_is_tag code.TooManyMembers = refl
+number_is_tag code.DuplicateNode = refl
+number_is_tag code.BadKey = refl
+number_is_tag code.BadUnique = refl
+number_is_tag code.BadConfig = refl
+number_is_tag code.BadDefault = refl
+number_is_tag code.BadMandatory = refl
+number_is_tag code.BadPath = refl
+number_is_tag code.PathCycle = refl
+number_is_tag code.BadOperation = refl
+
 same_keys : (r s : Refusal) → keys_of r ≡ keys_of s → r ≡ s
 unfolding at_place
 same_keys r s e =
-    let code : r.code ≡ s.code = tag_one the_type tt r.code s.code (ap (at_place 3) e) in
+    let code : r.code ≡ s.code = tag_one the_type tt r.code s.code (sym (number_is_tag r.code) ∙ ap (at_place 3) e ∙ number_is_tag s.code) in
     λ i. record { code = code i; file = ap (at_place 1) e i; offset = ap (at_place 2) e i; line = ap (at_place 4) e i }
 
 -- no two refusals are up to each other

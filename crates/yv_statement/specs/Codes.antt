@@ -1,13 +1,57 @@
 -- The codes of refusals: their order, names and phases.
 use Rattle.std.specs.Prelude.{ℕ, List, codes}
-use denote.Enum.Declared.{tag_of}
-use Rattle.yv_statement.specs.contracts.refusal.Code.{the_type}
 use Rattle.yv_statement.specs.declared.refusal.Code.{Code}
 use Rattle.yv_statement.specs.declared.refusal.Code.TheVariants as code
 
--- its place among all codes, which stand in the order in which the refusals of one place come
+-- The order among the refusals of one place, which the statement, its arguments, types and nodes may give together: the text first,
+-- then a statement that is left out before one that is unknown, and so on, in the order in which docs/REFUSALS.md tells the codes.
 abbrev pub number_of : Code → ℕ
-number_of c = tag_of the_type c
+number_of code.NotUtf8 = 0
+number_of code.BadCharacter = 1
+number_of code.BadToken = 2
+number_of code.BadEscape = 3
+number_of code.BadSyntax = 4
+number_of code.TooDeep = 5
+number_of code.TooLarge = 6
+number_of code.Unsupported = 7
+number_of code.UnknownStatement = 8
+number_of code.Cardinality = 9
+number_of code.BadArgument = 10
+number_of code.DuplicateModule = 11
+number_of code.MissingModule = 12
+number_of code.Revision = 13
+number_of code.ImportCycle = 14
+number_of code.UnknownPrefix = 15
+number_of code.Submodule = 16
+number_of code.UnknownFeature = 17
+number_of code.FeatureCycle = 18
+number_of code.UnknownIdentity = 19
+number_of code.IdentityCycle = 20
+number_of code.DuplicateName = 21
+number_of code.UnknownType = 22
+number_of code.TypeCycle = 23
+number_of code.UnknownGrouping = 24
+number_of code.GroupingCycle = 25
+number_of code.TooManyNodes = 26
+number_of code.RefineTarget = 27
+number_of code.BadRefine = 28
+number_of code.AugmentTarget = 29
+number_of code.BadAugment = 30
+number_of code.TreeTooDeep = 31
+number_of code.BadRestriction = 32
+number_of code.BadPattern = 33
+number_of code.BadNumbering = 34
+number_of code.BadType = 35
+number_of code.TooManyMembers = 36
+number_of code.DuplicateNode = 37
+number_of code.BadKey = 38
+number_of code.BadUnique = 39
+number_of code.BadConfig = 40
+number_of code.BadDefault = 41
+number_of code.BadMandatory = 42
+number_of code.BadPath = 43
+number_of code.PathCycle = 44
+number_of code.BadOperation = 45
 
 -- the name that a refusal's line ends with
 abbrev pub name_of : Code → List ℕ

@@ -1,9 +1,11 @@
 ghost use Rattle.std.specs.Prelude.{◌≡◌, OnOk, OnErr, string_bytes};
+ghost use Rattle.std.specs.Cow.{cow_str_bytes};
 ghost use Rattle.std.specs.Option.{option_map};
 ghost use Rattle.yv_statement.specs.Tree.{trees};
 ghost use Rattle.yv_statement.specs.Building.{bare, push_child, with_argument, with_more};
 
 use std::alloc::{AllocError, Global};
+use std::borrow::CowStr;
 use std::marker::Model;
 
 /// A statement of a YANG file: a keyword, perhaps an argument, and the statements of its block
@@ -11,7 +13,7 @@ use std::marker::Model;
 #[derive(Drop)]
 pub struct Statement<'a> {
     keyword: &'a str,
-    argument: Option<String>,
+    argument: Option<CowStr<'a>>,
     children: Vec<Statement<'a>>,
     line: u64,
     offset: u64,
@@ -53,28 +55,48 @@ impl<'a> Statement<'a> {
     pub fn give(&mut self, text: String)
         ensures { self.new ≡ with_argument (string_bytes text) self.old }
     {
-        self.argument = Some(text);
+        self.argument = Some(CowStr::Owned(text));
     }
 
-    /// Gives it more of its argument, or the first part.
-    pub fn extend(&mut self, alloc: Global, text: &str) -> Result<(), AllocError>
-        ensures ok { OnOk result (self.new ≡ with_more text.now self.old) }
+    /// Lends it this argument, a slice of its source, in place of one that it had.
+    pub fn lend(&mut self, text: &'a str)
+        ensures { self.new ≡ with_argument text.now self.old }
+    {
+        self.argument = Some(CowStr::Borrowed(text));
+    }
+
+    /// Gives it more of its argument, or the first part. A first part that is lent isn't copied.
+    pub fn extend(&mut self, alloc: Global, text: CowStr<'a>) -> Result<(), AllocError>
+        ensures ok { OnOk result (self.new ≡ with_more (cow_str_bytes text.entry) self.old) }
         ensures err { OnErr result (self.new ≡ self.old) }
     {
         match &mut self.argument {
-            Some(front) => front.push_str(text)?,
-            None => self.argument = Some(String::from_str(alloc, text)?),
+            None => self.argument = Some(text),
+            Some(CowStr::Owned(front)) => front.push_str(text.as_str())?,
+            Some(CowStr::Borrowed(front)) => {
+                let mut joined = String::from_str(alloc, front)?;
+                joined.push_str(text.as_str())?;
+                self.argument = Some(CowStr::Owned(joined));
+            }
         }
         Ok(())
     }
 
     /// Adds a statement to its block, behind the others.
-    pub fn adopt(&mut self, child: Statement<'a>) -> Result<(), AllocError>
+    pub fn adopt(&mut self, mut child: Statement<'a>) -> Result<(), AllocError>
         ensures ok { OnOk result (self.new ≡ push_child self.old child.entry) }
         ensures err { OnErr result (self.new ≡ self.old) }
     {
+        child.settle();
         self.children.push(child)?;
         Ok(())
+    }
+
+    // Gives back the room that its block doesn't need.
+    fn settle(&mut self)
+        ensures { self.new ≡ self.old }
+    {
+        self.children.shrink_to_fit();
     }
 
     /// The keyword, with its prefix where it has one.

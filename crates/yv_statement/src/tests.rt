@@ -1,4 +1,5 @@
 use crate::{Code, Refusal, Statement, is_legal_text, lesser, refused};
+use std::borrow::CowStr;
 use std::test::Fail;
 
 #[test]
@@ -7,8 +8,8 @@ fn a_statement_grows(rt: HostRuntime) -> Result<(), Fail> {
     let mut module = Statement::new(alloc, "module", 1, 0);
     module.give(String::from_str(alloc, "ex")?);
     let mut leaf = Statement::new(alloc, "leaf", 2, 12);
-    leaf.extend(alloc, "a")?;
-    leaf.extend(alloc, "b")?;
+    leaf.extend(alloc, CowStr::Borrowed("a"))?;
+    leaf.extend(alloc, CowStr::Borrowed("b"))?;
     module.adopt(leaf)?;
     assert!(rt; module.keyword() == "module");
     assert!(rt; module.argument() == Some("ex"));

@@ -6,5 +6,5 @@ use Rattle.yv_statement.proofs.statement.Statement.adopt.Goals as goal
 
 pub returns-clause-ok : goal.returns-clause-ok
 returns-clause-ok c =
-    rw (c.in_ok-push.ensures.items, ← c.self.view_is)
+    rw (c.in_ok-push.ensures.items, c.settle.ensures, ← c.self.view_is)
     (ap (λ (f : Forest). record { head = (seen c.self.inside).head; children = f }) (forest-append c.self.inside.children.items c.args.child))
