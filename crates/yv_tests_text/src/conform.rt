@@ -1,17 +1,27 @@
 //! Files that are as the tables of RFC 7950 say, and what is refused of others.
 use std::alloc::Global;
+use std::process::Abort;
 use std::test::Fail;
 use yv_conform::conform;
 use yv_source::{Code, Source, Stop, parse};
+use yv_statement::Refusal;
 
-// What is refused of a file, its offset and its line.
-fn fault(alloc: Global, text: &str) -> Result<Option<(Code, u64, u64)>, Stop> {
+// What is refused of a file.
+fn fault(alloc: Global, text: &str) -> Result<Option<Refusal>, Stop> {
     let source = Source::new(alloc, "m.yang", text.as_bytes())?;
     let root = parse(alloc, &source)?;
-    match conform(&root) {
-        Ok(()) => Ok(None),
-        Err(refusal) => Ok(Some((refusal.code, refusal.offset, refusal.line))),
-    }
+    Ok(conform(&root).err())
+}
+
+// The same of a file whose module has this statement, by its text before an argument, the argument, and what follows.
+fn fault_of(alloc: Global, parts: (&str, &str, &str)) -> Result<Option<Refusal>, Stop> {
+    let (before, argument, behind) = parts;
+    let text = format!(in alloc; "module m{{namespace n;prefix m;{before}{argument}{behind}}}")?;
+    fault(alloc, text.as_str())
+}
+
+fn is_at(found: Option<Refusal>, code: Code, line: u64) -> bool {
+    matches!(found, Some(refusal) if refusal.code == code && refusal.line == line)
 }
 
 // RFC 7950, section 4.2.2.5.
@@ -84,7 +94,7 @@ const PART: &str = "submodule s { belongs-to m { prefix m; } }";
 #[test]
 fn files_that_fit(rt: HostRuntime) -> Result<(), Fail> {
     for text in [SYSTEM, EACH, PART] {
-        assert!(rt; fault(rt.alloc(), text)? == None, "{text}");
+        assert!(rt; fault(rt.alloc(), text)?.is_none(), "{text}");
     }
     Ok(())
 }
@@ -92,63 +102,60 @@ fn files_that_fit(rt: HostRuntime) -> Result<(), Fail> {
 #[test]
 fn statements_that_do_not_fit(rt: HostRuntime) -> Result<(), Fail> {
     let rows = [
-        ("container c;", Code::Cardinality, 0),
-        ("p:x c;", Code::Cardinality, 0),
-        ("modul c;", Code::UnknownStatement, 0),
-        ("must c;", Code::Unsupported, 0),
-        ("module m{namespace n;}", Code::Cardinality, 0),
+        ("container c;", Code::Cardinality, 1),
+        ("p:x c;", Code::Cardinality, 1),
+        ("modul c;", Code::UnknownStatement, 1),
+        ("must c;", Code::Unsupported, 1),
+        ("module m{\nnamespace n;}", Code::Cardinality, 1),
         (
-            "module m{namespace n;prefix m;prefix n;}",
+            "module m{namespace n;\nprefix m;\nprefix n;}",
             Code::Cardinality,
-            30,
+            3,
         ),
         (
-            "module m{namespace n;prefix m;feature f{leaf l{type t;}}}",
+            "module m{namespace n;prefix m;\nfeature f{\nleaf l{type t;}}}",
             Code::Cardinality,
-            40,
+            3,
         ),
         (
-            "module m{namespace n;prefix m;leaf l{units s;}}",
+            "module m{namespace n;prefix m;\nleaf l{\nunits s;}}",
             Code::Cardinality,
-            30,
+            2,
         ),
         (
-            "module m{namespace n;prefix m;leaf_list l;}",
+            "module m{namespace n;prefix m;\nleaf_list l;}",
             Code::UnknownStatement,
-            30,
+            2,
         ),
         (
-            "module m{namespace n;prefix m;leaf-list l{default 1;type t;}}",
+            "module m{namespace n;prefix m;leaf-list l{\ndefault 1;type t;}}",
             Code::Unsupported,
-            42,
+            2,
         ),
         (
-            "module m{namespace n;prefix m;leaf l{type instance-identifier;}}",
+            "module m{namespace n;prefix m;leaf l{\ntype instance-identifier;}}",
             Code::Unsupported,
-            37,
+            2,
         ),
         (
-            "module m{namespace n;prefix m;container c{path '/a[b = 1]/c';}}",
+            "module m{namespace n;prefix m;container c{\npath '/a[b = 1]/c';}}",
             Code::Unsupported,
-            42,
+            2,
+        ),
+        (
+            "module m{namespace n;prefix m;leaf l{\ntype;}}",
+            Code::BadArgument,
+            2,
         ),
         // The least of several is answered: where a type is missing, the leaf before all that is in it.
         (
-            "module m{namespace n;prefix m;leaf l{status old;when 1;}strange;}",
+            "module m{namespace n;prefix m;\nleaf l{\nstatus old;\nwhen 1;}\nstrange;}",
             Code::Cardinality,
-            30,
-        ),
-        (
-            "module m{namespace n;prefix m;leaf l{type;}}",
-            Code::BadArgument,
-            37,
+            2,
         ),
     ];
-    for (text, code, offset) in rows {
-        assert!(rt;
-            fault(rt.alloc(), text)? == Some((code, offset, 1)),
-            "{text}"
-        );
+    for (text, code, line) in rows {
+        assert!(rt; is_at(fault(rt.alloc(), text)?, code, line), "{text}");
     }
     Ok(())
 }
@@ -274,21 +281,31 @@ const ARGUMENTS: [Row; 12] = [
     ),
 ];
 
+// Each of these arguments is taken, or else refused in line 2.
+fn expect(
+    rt: &impl Abort,
+    alloc: Global,
+    place: (&str, &str),
+    arguments: &[&str],
+    are_right: bool,
+) -> Result<(), Stop> {
+    for argument in arguments {
+        let found = fault_of(alloc, (place.0, argument, place.1))?;
+        let is_right = found.is_none();
+        assert!(rt; is_right == are_right, "{argument}");
+        assert!(rt;
+            is_right || is_at(found, Code::BadArgument, 2),
+            "{argument}"
+        );
+    }
+    Ok(())
+}
+
 #[test]
 fn arguments_are_read(rt: HostRuntime) -> Result<(), Fail> {
     for (before, behind, right, wrong) in ARGUMENTS {
-        let count = right.len();
-        for (number, argument) in right.iter().chain(wrong).enumerate() {
-            let text = format!(in rt.alloc();
-                "module m{{namespace n;prefix m;{before}{argument}{behind}}}"
-            )?;
-            let found = fault(rt.alloc(), text.as_str())?;
-            let is_right = match found {
-                None => number < count,
-                Some((code, _, line)) => number >= count && code == Code::BadArgument && line == 2,
-            };
-            assert!(rt; is_right, "{text}");
-        }
+        expect(&rt, rt.alloc(), (before, behind), right, true)?;
+        expect(&rt, rt.alloc(), (before, behind), wrong, false)?;
     }
     Ok(())
 }

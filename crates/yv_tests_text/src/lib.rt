@@ -8,5 +8,3 @@ mod conform;
 mod graph;
 #[cfg(test)]
 mod order;
-#[cfg(test)]
-mod source;
