@@ -7,8 +7,6 @@ mod frame;
 pub mod laws;
 mod name;
 mod stack;
-#[cfg(test)]
-mod tests;
 mod word;
 
 pub use condition::is_condition;

@@ -9,8 +9,6 @@ mod keyword;
 mod lists;
 mod seen;
 mod table;
-#[cfg(test)]
-mod tests;
 mod text;
 mod words;
 

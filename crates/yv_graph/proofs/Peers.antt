@@ -10,12 +10,9 @@ use Rattle.std.specs.declared.vec.Vec.{Vec}
 use Rattle.std.specs.declared.alloc.Global.{Global}
 use Rattle.yv_graph.specs.Graph.{Graph, IsGraph, HasEdge, IsMarked, AreCircular}
 use Rattle.yv_graph.specs.InnerSearch.{Progress, IsSearched, rank_of}
+use Rattle.yv_graph.specs.InnerPeers.{HasPeer, ArePeers}
 use Rattle.yv_graph.proofs.Ranks.{leads_within}
 use Rattle.yv_graph.proofs.Found.{back_edge, circle_by, length_ranks}
-
--- an edge to a node of the same rank
-abbrev pub HasPeer : Graph → List ℕ → ℕ → Type 0
-HasPeer g ranks a = (c : ℕ) × HasEdge g a c × (get_or ranks c 0 ≡ get_or ranks a 0)
 
 -- so many nodes were asked
 pub record Marking (g : Graph) (ranks : List ℕ) (n : ℕ) (marks : List Bool) : Type 0 where
@@ -72,20 +69,28 @@ marking_more g ranks n rank row marks marks' mark m h e at is more =
       ];
     })
 
-pub marking_end : (g : Graph) (s : Progress) (ranks : List ℕ) (n : ℕ) (marks : List Bool) → IsGraph g → IsSearched g s → ranks ≡ map rank_of s.states → n ≡ length g → Marking g ranks n marks → AreCircular g marks
-marking_end g s ranks n marks is_graph r e whole m = record {
+pub marking_end : (g : Graph) (ranks : List ℕ) (n : ℕ) (marks : List Bool) → n ≡ length g → Marking g ranks n marks → ArePeers g ranks marks
+marking_end g ranks n marks whole m = record {
   each = m.each ∙ whole;
+  peer = m.peer;
+  marked = λ a l p. m.marked a (omega (arith, l, whole)) p;
+}
+
+-- nodes of one rank lead to one another, so a node with such an edge leads to itself
+pub peers_circular : (g : Graph) (s : Progress) (ranks : List ℕ) (marks : List Bool) → IsGraph g → IsSearched g s → ranks ≡ map rank_of s.states → ArePeers g ranks marks → AreCircular g marks
+peers_circular g s ranks marks is_graph r e m = record {
+  each = m.each;
   circle = λ a k. let p = m.peer a k in circle_by g s a p.0 is_graph r p.1 (subst (λ (l : List ℕ). get_or l p.0 0 ≡ get_or l a 0) e p.2);
   marked = λ a w.
       let b = back_edge g s a is_graph r w in
-      m.marked a (omega (arith, leads_within g a a is_graph w, whole)) (b.0, b.1, subst (λ (l : List ℕ). get_or l b.0 0 ≡ get_or l a 0) (sym e) b.2);
+      m.marked a (leads_within g a a is_graph w) (b.0, b.1, subst (λ (l : List ℕ). get_or l b.0 0 ≡ get_or l a 0) (sym e) b.2);
 }
 
 pub ranks_each : (g : Graph) (s : Progress) (ranks : List ℕ) → IsSearched g s → ranks ≡ map rank_of s.states → length ranks ≡ length g
 ranks_each g s ranks r e = ap length e ∙ length_ranks s.states ∙ r.searching.each
 
 -- a step of the loop, as it reads the row and the ranks
-pub marking_step : (g : Graph) (s : Progress) (ranks : List ℕ) (n rank : ℕ) (row : Vec ℕ Global) (items xs : List ℕ) (marks marks' : List Bool) (mark : Bool) → IsSearched g s → ranks ≡ map rank_of s.states → Marking g ranks n marks → n < length g → row ≡ get_or g n row → items ≡ row.items → xs ≡ ranks → rank ≡ get_or ranks n rank → mark ≡ list_any (λ b. get_or xs b 0 == rank) items → marks' ≡ marks ++ mark ∷ [] → Marking g ranks (n + 1) marks'
-marking_step g s ranks n rank row items xs marks marks' mark r e m h at i x k is more =
-    let within : n < length ranks = omega (arith, ranks_each g s ranks r e) in
-    marking_more g ranks n rank row marks marks' mark m h at (k ∙ get_or_default_zero ranks n rank within) (rw (i, x) at is) more
+pub marking_step : (g : Graph) (ranks : List ℕ) (n rank : ℕ) (row : Vec ℕ Global) (items : List ℕ) (marks marks' : List Bool) (mark : Bool) → length ranks ≡ length g → Marking g ranks n marks → n < length g → row ≡ get_or g n row → items ≡ row.items → rank ≡ get_or ranks n rank → mark ≡ list_any (λ b. get_or ranks b 0 == rank) items → marks' ≡ marks ++ mark ∷ [] → Marking g ranks (n + 1) marks'
+marking_step g ranks n rank row items marks marks' mark each m h at i k is more =
+    let within : n < length ranks = omega (arith, each, h) in
+    marking_more g ranks n rank row marks marks' mark m h at (k ∙ get_or_default_zero ranks n rank within) (rw i at is) more

@@ -2,12 +2,13 @@
 ghost use Rattle.std.specs.Prelude.{◌≡◌, ◌==◌, ◌<◌, length, slice_index, IfOk, IfSome, IfNone};
 ghost use Rattle.std.specs.List.{All, list_any};
 ghost use Rattle.yv_graph.specs.Graph.{IsGraph, IsFirstOnCycle, HasNoCircle, AreCircular, Ranking, AreRanks, IsOrder, ArePlaces};
+ghost use Rattle.yv_graph.specs.InnerPeers.{ArePeers};
 ghost use Rattle.yv_graph.specs.Ranked.{IfRanks, IfCircle};
 
 use crate::search::Search;
 use std::alloc::{AllocError, Global};
 
-/// The first node that leads to itself.
+/// The first node that leads to itself, for a caller that needs no order of the nodes, and so not `rank`.
 pub fn first_on_cycle(alloc: Global, graph: &[Vec<usize>]) -> Result<Option<usize>, AllocError>
     requires graph { IsGraph graph.now }
     ensures first { IfOk result (λ found. IfSome found (IsFirstOnCycle graph.now)) }
@@ -31,6 +32,20 @@ fn has_rank(row: &[usize], ranks: &[usize], rank: usize) -> bool
     row.iter().any(|node| ranks[*node] == rank)
 }
 
+// Marks the nodes that have an edge to a node of their own rank.
+fn peers(alloc: Global, graph: &[Vec<usize>], ranks: &[usize]) -> Result<Vec<bool>, AllocError>
+    requires graph { IsGraph graph.now }
+    requires each { length ranks.now ≡ length graph.now }
+    ensures { IfOk result (λ marks. ArePeers graph.now ranks.now marks.items) }
+{
+    let mut marks = Vec::new(alloc);
+    for (node, row) in graph.iter().enumerate() {
+        let mark = has_rank(row, ranks, ranks[node]);
+        marks.push(mark)?;
+    }
+    Ok(marks)
+}
+
 /// Marks exactly the nodes that lead to themselves.
 pub fn circular(alloc: Global, graph: &[Vec<usize>]) -> Result<Vec<bool>, AllocError>
     requires graph { IsGraph graph.now }
@@ -39,11 +54,7 @@ pub fn circular(alloc: Global, graph: &[Vec<usize>]) -> Result<Vec<bool>, AllocE
     let search = Search::run(alloc, graph)?;
     // Nodes of one rank lead to one another, and no rank rises along an edge.
     let ranks = search.ranks(alloc)?;
-    let mut marks = Vec::new(alloc);
-    for (node, row) in graph.iter().enumerate() {
-        let mark = has_rank(row, &ranks, ranks[node]);
-        marks.push(mark)?;
-    }
+    let marks = peers(alloc, graph, &ranks)?;
     Ok(marks)
 }
 

@@ -6,8 +6,6 @@ mod circles;
 pub mod laws;
 mod reach;
 mod search;
-#[cfg(test)]
-mod tests;
 
 pub use circles::{Ranked, circular, first_on_cycle, rank};
 pub use reach::reached;

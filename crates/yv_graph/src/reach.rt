@@ -23,7 +23,7 @@ fn mark_row(row: &[usize], marks: &mut Vec<bool>, found: &mut Vec<usize>) -> Res
 }
 
 /// Marks exactly the nodes that a node leads to by one edge or more: the node itself only where it stands
-/// on a circle.
+/// on a circle. It is for a caller that asks what one node needs, where `circular` and `rank` tell of all nodes.
 pub fn reached(alloc: Global, graph: &[Vec<usize>], from: usize) -> Result<Vec<bool>, AllocError>
     requires graph { IsGraph graph.now }
     requires from { from < length graph.now }

@@ -7,8 +7,6 @@ mod integer;
 mod intervals;
 mod number;
 mod order;
-#[cfg(test)]
-mod tests;
 
 pub use decimal::scaled_of;
 pub use integer::{Integer, is_at_most};

@@ -11,7 +11,5 @@ mod part;
 mod pattern;
 mod place;
 mod reader;
-#[cfg(test)]
-mod tests;
 
 pub use pattern::Pattern;

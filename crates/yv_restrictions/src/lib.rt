@@ -8,8 +8,6 @@ mod order;
 mod parts;
 mod restriction;
 mod seen;
-#[cfg(test)]
-mod tests;
 
 pub use numbering::{Kind, Listed, Numbered, Numbering};
 pub use restriction::restricted;

@@ -2,7 +2,5 @@
 #![tactic(auto)]
 
 mod selection;
-#[cfg(test)]
-mod tests;
 
 pub use selection::Selection;

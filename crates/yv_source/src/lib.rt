@@ -12,8 +12,6 @@ mod quoted;
 mod reader;
 mod scan;
 mod source;
-#[cfg(test)]
-mod tests;
 mod turn;
 
 pub use reader::parse;

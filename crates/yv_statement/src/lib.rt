@@ -6,8 +6,6 @@ pub mod laws;
 mod legal;
 mod refusal;
 mod statement;
-#[cfg(test)]
-mod tests;
 
 pub use legal::{is_legal, is_legal_text};
 pub use refusal::{Code, Refusal, Stop, lesser, refused};

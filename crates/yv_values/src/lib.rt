@@ -17,8 +17,6 @@ mod places;
 mod plain;
 mod reading;
 mod scope;
-#[cfg(test)]
-mod tests;
 mod text;
 mod value;
 mod whole;

@@ -1,9 +1,8 @@
-use Rattle.std.proofs.Common.{arith}
-use Rattle.yv_graph.proofs.Peers.{marking_step, marking_end}
+use Rattle.yv_graph.proofs.Peers.{peers_circular, ranks_each}
 use Rattle.yv_graph.proofs.circles.circular.Goals as goal
 
-pub loop-node-preserved : goal.loop-node-preserved
-loop-node-preserved c = marking_step _ _ _ _ _ _ _ _ _ _ _ c.in_ok-search.ensures c.in_ok-ranks.ensures c.loop-node.invariant c.loop-node-test.true c.index-graph-node.is c.deref.ensures.value c.deref-in-loop-node.ensures.value c.index.ensures c.has_rank-mark.ensures c.in_ok-push.ensures.items
+pub peers-requires-each : goal.peers-requires-each
+peers-requires-each c = ranks_each _ _ _ c.in_ok-search.ensures c.in_ok-ranks.ensures
 
 pub returns : goal.returns
-returns c = record { exact = marking_end _ _ _ _ _ c.requires.graph c.in_ok-search.ensures c.in_ok-ranks.ensures (omega (arith, c.loop-node-test.false, c.loop-node.auto.node-end)) c.loop-node.invariant }
+returns c = record { exact = peers_circular _ _ _ _ c.requires.graph c.in_ok-search.ensures c.in_ok-ranks.ensures c.in_ok-marks.ensures }

@@ -1,0 +1,72 @@
+//! Texts outside the dialect of patterns.
+use std::alloc::Global;
+use std::test::Fail;
+use yv_pattern::Pattern;
+use yv_statement::{Code, Refusal, Stop};
+
+const BAD: Refusal = Refusal {
+    code: Code::BadPattern,
+    file: 0,
+    offset: 0,
+    line: 1,
+};
+
+fn is_bad(alloc: Global, text: &str) -> bool {
+    matches!(Pattern::read(alloc, text), Err(Stop::Fault(refusal)) if refusal == BAD)
+}
+
+#[test]
+fn outside_the_dialect(rt: HostRuntime) {
+    let rows = [
+        "[a",
+        "[",
+        "[]",
+        "[^]",
+        "[]a]",
+        "[a[b]",
+        "[b-a]",
+        "[a--]",
+        "[a-b-c]",
+        "[+--a]",
+        "[a-\\d]",
+        "[\\d-a]",
+        "[\\D]",
+        "[\\S]",
+        "[\\W]",
+        "[\\P{L}]",
+        "\\p{Xx}",
+        "\\p{Cs}",
+        "\\P{Lx}",
+        "[a-\\p{L}]",
+        "\\p{L",
+        "\\pL",
+        "\\p{Lux}",
+        "\\p{}",
+        "a{,2}",
+        "a{2,1}",
+        "a{1001}",
+        "a{1,1001}",
+        "a{ 1}",
+        "a{1, 2}",
+        "a{}",
+        "a{1",
+        "a**",
+        "a+?",
+        "a{1}{2}",
+        "*",
+        "|+",
+        "(*a)",
+        "(a",
+        "a)",
+        "]",
+        "}",
+        "{",
+        "\\i",
+        "\\b",
+        "a\\",
+        "(?i)a",
+    ];
+    for text in rows {
+        assert!(rt; is_bad(rt.alloc(), text), "{text}");
+    }
+}
