@@ -1,8 +1,3 @@
-use Rattle.std.proofs.Common.{None, Option, subst}
-use Rattle.yv_statement.specs.Order.{IsLeast}
-use Rattle.yv_statement.specs.declared.refusal.Refusal.{Refusal}
-use Rattle.yv_rows.specs.Lent.{files_in, rows_in}
-use Rattle.yv_identities.specs.Faults.{BadFive}
 use Rattle.yv_identities.proofs.Faulty.{circles_read, clear_circle, circle_by}
 use Rattle.yv_identities.proofs.read.read_hierarchy.Goals as goal
 

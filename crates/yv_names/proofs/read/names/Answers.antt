@@ -1,8 +1,11 @@
-use Rattle.std.proofs.Common.{None, Some, Option, ℕ, ◌≡◌, ◌↔◌, subst}
+use Rattle.std.proofs.Common.{None, Some, ℕ, ◌≡◌, ◌↔◌, subst}
 use Rattle.std.specs.List.{slice_get}
 use Rattle.std.specs.Option.{option_and_then}
 use Rattle.yv_names.specs.Refers.{RefersTo}
 use Rattle.yv_names.specs.Leads.{IsOrderOf}
+use Rattle.yv_statement.specs.Order.{IsLeast}
+use Rattle.yv_statement.specs.declared.refusal.Stop.TheVariants.{Fault}
+use Rattle.yv_names.specs.Faults.{BadIn}
 use Rattle.yv_rows.specs.declared.rows.Rows.{Rows}
 use Rattle.yv_rows.specs.Lent.{files_in, rows_in}
 use Rattle.yv_names.proofs.read.names.Goals as goal
@@ -16,3 +19,11 @@ returns-clause-made c =
       uses = c.in_ok-uses.ensures;
       order = subst (λ (x : Rows). IsOrderOf (files_in x) (rows_in x) c.in-Ok.order.items) c.in_ok-draft.ensures c.in-Ok.ensures.made;
     }
+
+pub returns-in-Err-clause-refusal : goal.returns-in-Err-clause-refusal
+returns-in-Err-clause-refusal c r e =
+    let same : c.in-Err.stop ≡ Fault r = (let h = e in cc) in
+    subst (λ (x : Rows). IsLeast (BadIn (files_in x) (rows_in x)) (Some r)) c.in_ok-draft.ensures (c.in-Err.ensures.refusal r cc)
+
+pub returns-clause-clear : goal.returns-clause-clear
+returns-clause-clear c = subst (λ (x : Rows). IsLeast (BadIn (files_in x) (rows_in x)) None) c.in_ok-draft.ensures c.in-Ok.ensures.clear
