@@ -18,8 +18,6 @@ mod misfits;
 mod order;
 mod slots;
 mod steps;
-#[cfg(test)]
-mod tests;
 
 pub use inside::types_inside;
 pub use known::Bases;

@@ -8,7 +8,5 @@ mod known;
 pub mod laws;
 mod step;
 mod table;
-#[cfg(test)]
-mod tests;
 
 pub use known::Faceted;

@@ -7,8 +7,6 @@ pub mod laws;
 mod narrowing;
 mod patterns;
 mod restriction;
-#[cfg(test)]
-mod tests;
 mod unrestricted;
 
 pub use facets::narrowed;

@@ -7,8 +7,6 @@ mod faults;
 mod features;
 pub mod laws;
 mod names;
-#[cfg(test)]
-mod tests;
 mod truths;
 
 pub use features::Features;

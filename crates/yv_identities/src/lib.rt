@@ -11,8 +11,6 @@ mod numbers;
 mod pairs;
 mod read;
 mod references;
-#[cfg(test)]
-mod tests;
 
 pub use known::Identities;
 pub use read::identities;

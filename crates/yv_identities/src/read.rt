@@ -5,6 +5,7 @@ ghost use Rattle.yv_statement.specs.declared.refusal.Refusal.{Refusal};
 ghost use Rattle.yv_statement.specs.declared.refusal.Stop.TheVariants.{Fault, PatternBuild};
 ghost use Rattle.yv_rows.specs.Lent.{lent_in, files_in, rows_in};
 ghost use Rattle.yv_identities.specs.Faults.{BadFive};
+ghost use Rattle.yv_identities.specs.InnerPairs.{AreBases};
 ghost use Rattle.yv_identities.specs.Tables.{AreIdentities};
 
 use crate::draft::Draft;
@@ -18,6 +19,29 @@ use yv_graph::{Ranked, circular, rank};
 use yv_rows::Rows;
 use yv_statement::Stop;
 
+// The bases of all identities, and an order in which each stands behind its bases; or the least refusal.
+fn read_hierarchy(alloc: Global, draft: &Draft<'_, '_, '_>) -> Result<Hierarchy, Stop>
+    ensures made { IfOk result (λ h. AreBases (files_in draft.now.rows.now) (rows_in draft.now.rows.now) h.bases.items) }
+    ensures clear { OnOk result (IsLeast (BadFive (files_in draft.now.rows.now) (rows_in draft.now.rows.now)) None) }
+    ensures refusal { (r : Refusal) → result ≡ Err (Fault r)
+        → IsLeast (BadFive (files_in draft.now.rows.now) (rows_in draft.now.rows.now)) (Some r) }
+    ensures built { result ≢ Err PatternBuild }
+{
+    let bases = read_bases(alloc, draft)?;
+    let circles = circular(alloc, &bases)?;
+    if let Some(refusal) = first_fault(draft, &circles) {
+        return Err(Stop::Fault(refusal));
+    }
+    let Ranked::Ranks { ranks, order } = rank(alloc, &bases)? else {
+        unreachable!();
+    };
+    Ok(Hierarchy {
+        bases,
+        ranks,
+        order,
+    })
+}
+
 /// The identities of these statements, or the least refusal of a base whose name means nothing and of an identity
 /// that is derived from itself.
 pub fn identities<'a, 'b>(alloc: Global, rows: &Rows<'a, 'b>) -> Result<Identities<'a>, Stop>
@@ -27,23 +51,15 @@ pub fn identities<'a, 'b>(alloc: Global, rows: &Rows<'a, 'b>) -> Result<Identiti
     ensures built { result ≢ Err PatternBuild }
 {
     let draft = Draft::read(alloc, rows)?;
-    let bases = read_bases(alloc, &draft)?;
-    let circles = circular(alloc, &bases)?;
-    if let Some(refusal) = first_fault(&draft, &circles) {
-        return Err(Stop::Fault(refusal));
-    }
-    let Ranked::Ranks { ranks, order } = rank(alloc, &bases)? else {
-        unreachable!();
+    let hierarchy = match read_hierarchy(alloc, &draft) {
+        Ok(hierarchy) => hierarchy,
+        Err(stop) => return Err(stop),
     };
     let places = References::read(alloc, &draft.numbers.identities)?;
     Ok(Identities {
         names: draft.names,
         identities: draft.numbers.identities,
         places,
-        hierarchy: Hierarchy {
-            bases,
-            ranks,
-            order,
-        },
+        hierarchy,
     })
 }

@@ -7,8 +7,6 @@ mod conditions;
 mod draft;
 pub mod laws;
 mod sets;
-#[cfg(test)]
-mod tests;
 mod values;
 
 pub use values::identities_of;

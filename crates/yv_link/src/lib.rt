@@ -6,8 +6,6 @@ pub mod laws;
 mod linked;
 mod linking;
 mod modules;
-#[cfg(test)]
-mod tests;
 
 pub use linked::Linked;
 pub use linking::link;

@@ -1,9 +1,13 @@
 //! Linking files.
-ghost use Rattle.std.specs.Prelude.{◌≡◌, ◌≢◌, IfOk, OnOk, Some, None, Err};
+ghost use Rattle.std.specs.Prelude.{◌≡◌, ◌≢◌, map, IfOk, OnOk, Some, None, Err};
 ghost use Rattle.yv_statement.specs.declared.refusal.Refusal.{Refusal};
 ghost use Rattle.yv_statement.specs.declared.refusal.Stop.TheVariants.{Fault, PatternBuild};
 ghost use Rattle.yv_statement.specs.Order.{IsLeast};
 ghost use Rattle.yv_selection.specs.Choice.{choice_of};
+ghost use Rattle.yv_rows.specs.Files.{brief_of};
+ghost use Rattle.yv_rows.specs.Listed.{rows_of};
+ghost use Rattle.yv_rows.specs.Lent.{lent_in};
+ghost use Rattle.yv_modules.specs.Modules.{BadModules};
 ghost use Rattle.yv_link.specs.Linked.{AreLinked};
 ghost use Rattle.yv_link.specs.Links.{BadLinks};
 
@@ -17,23 +21,33 @@ use yv_rows::Rows;
 use yv_selection::Selection;
 use yv_statement::{Statement, Stop};
 
-/// The files as a whole, or the least refusal of their modules, features and identities by phase, file, offset and
-/// code. Statements that aren't as the tables of the language say are taken as they are. More than 2^32 files are none
-/// for want of memory.
-pub fn link<'a, 'b>(
-    alloc: Global,
-    files: &'a [Statement<'b>],
-    selection: &Selection,
-) -> Result<Linked<'a, 'b>, Stop>
-    ensures linked { IfOk result (AreLinked files.now (choice_of selection.now)) }
-    ensures clear { OnOk result (IsLeast (BadLinks files.now) None) }
-    ensures refusal { (r : Refusal) → result ≡ Err (Fault r) → IsLeast (BadLinks files.now) (Some r) }
+// The statements of the files, or the least refusal of their modules.
+fn read_rows<'a, 'b>(alloc: Global, files: &'a [Statement<'b>]) -> Result<Rows<'a, 'b>, Stop>
+    ensures lent { IfOk result (λ rows. lent_in rows ≡ files.now) }
+    ensures clear { OnOk result (IsLeast (BadModules (map brief_of files.now) (rows_of files.now)) None) }
+    ensures refusal { (r : Refusal) → result ≡ Err (Fault r)
+        → IsLeast (BadModules (map brief_of files.now) (rows_of files.now)) (Some r) }
     ensures built { result ≢ Err PatternBuild }
 {
     let rows = Rows::read(alloc, files)?;
     if let Some(refusal) = first_bad(alloc, &rows)? {
         return Err(Stop::Fault(refusal));
     }
+    Ok(rows)
+}
+
+// The files of which nothing is wrong with modules, or the least refusal of their features and identities.
+fn linked_rows<'a, 'b>(
+    alloc: Global,
+    rows: Rows<'a, 'b>,
+    selection: &Selection,
+) -> Result<Linked<'a, 'b>, Stop>
+    requires { IsLeast (BadModules (map brief_of (lent_in rows)) (rows_of (lent_in rows))) None }
+    ensures linked { IfOk result (AreLinked (lent_in rows.entry) (choice_of selection.now)) }
+    ensures clear { OnOk result (IsLeast (BadLinks (lent_in rows.entry)) None) }
+    ensures refusal { (r : Refusal) → result ≡ Err (Fault r) → IsLeast (BadLinks (lent_in rows.entry)) (Some r) }
+    ensures built { result ≢ Err PatternBuild }
+{
     let modules = read_modules(alloc, &rows, selection)?;
     let features = match Features::read(alloc, &rows, selection) {
         Ok(features) => features,
@@ -49,4 +63,23 @@ pub fn link<'a, 'b>(
         features,
         identities,
     })
+}
+
+/// The files as a whole, or the least refusal of their modules, features and identities by phase, file, offset and
+/// code. Statements that aren't as the tables of the language say are taken as they are. More than 2^32 files are none
+/// for want of memory.
+pub fn link<'a, 'b>(
+    alloc: Global,
+    files: &'a [Statement<'b>],
+    selection: &Selection,
+) -> Result<Linked<'a, 'b>, Stop>
+    ensures linked { IfOk result (AreLinked files.now (choice_of selection.now)) }
+    ensures clear { OnOk result (IsLeast (BadLinks files.now) None) }
+    ensures refusal { (r : Refusal) → result ≡ Err (Fault r) → IsLeast (BadLinks files.now) (Some r) }
+    ensures built { result ≢ Err PatternBuild }
+{
+    match read_rows(alloc, files) {
+        Ok(rows) => linked_rows(alloc, rows, selection),
+        Err(stop) => Err(stop),
+    }
 }

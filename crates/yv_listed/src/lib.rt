@@ -6,8 +6,6 @@
 mod known;
 mod step;
 mod table;
-#[cfg(test)]
-mod tests;
 
 pub use known::Lists;
 pub use table::TypeNames;

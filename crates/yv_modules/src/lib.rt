@@ -7,7 +7,5 @@ mod first;
 mod imports;
 mod links;
 mod prefixes;
-#[cfg(test)]
-mod tests;
 
 pub use first::first_bad;

@@ -8,8 +8,6 @@ mod kind;
 mod named;
 mod numbers;
 mod shared;
-#[cfg(test)]
-mod tests;
 mod values;
 
 pub use named::{Listing, Named};

@@ -13,8 +13,6 @@ mod pairs;
 mod read;
 mod references;
 mod taken;
-#[cfg(test)]
-mod tests;
 
 pub use known::Names;
 pub use read::names;

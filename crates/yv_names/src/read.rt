@@ -6,8 +6,9 @@ ghost use Rattle.yv_statement.specs.Order.{IsLeast};
 ghost use Rattle.yv_statement.specs.declared.refusal.Refusal.{Refusal};
 ghost use Rattle.yv_statement.specs.declared.refusal.Stop.TheVariants.{Fault, PatternBuild};
 ghost use Rattle.yv_rows.specs.Lent.{lent_in, files_in, rows_in};
-ghost use Rattle.yv_names.specs.Faults.{BadSix};
+ghost use Rattle.yv_names.specs.Faults.{BadIn, BadSix};
 ghost use Rattle.yv_names.specs.Refers.{RefersTo};
+ghost use Rattle.yv_names.specs.Leads.{IsOrderOf};
 ghost use Rattle.yv_names.specs.Known.{AreNames};
 
 use crate::draft::Draft;
@@ -30,6 +31,25 @@ impl Draft<'_, '_, '_> {
         }
         Ok(meanings)
     }
+
+    // The numbers of all statements, each definition behind all to which it leads; or the least refusal.
+    fn order(&self, alloc: Global) -> Result<Vec<usize>, Stop>
+        ensures made { IfOk result (λ order. IsOrderOf (files_in self.now.rows.now) (rows_in self.now.rows.now) order.items) }
+        ensures clear { OnOk result (IsLeast (BadIn (files_in self.now.rows.now) (rows_in self.now.rows.now)) None) }
+        ensures refusal { (r : Refusal) → result ≡ Err (Fault r)
+            → IsLeast (BadIn (files_in self.now.rows.now) (rows_in self.now.rows.now)) (Some r) }
+        ensures built { result ≢ Err PatternBuild }
+    {
+        let steps = self.steps(alloc)?;
+        let circles = circular(alloc, &steps)?;
+        if let Some(refusal) = self.first_fault(&circles) {
+            return Err(Stop::Fault(refusal));
+        }
+        let Ranked::Ranks { order, .. } = rank(alloc, &steps)? else {
+            unreachable!();
+        };
+        Ok(order)
+    }
 }
 
 /// What types and uses mean in files, or the least refusal of these: a definition with a name that is taken, a type or
@@ -41,13 +61,9 @@ pub fn names<'a, 'b>(alloc: Global, rows: &Rows<'a, 'b>) -> Result<Names, Stop>
     ensures built { result ≢ Err PatternBuild }
 {
     let draft = Draft::read(alloc, rows)?;
-    let steps = draft.steps(alloc)?;
-    let circles = circular(alloc, &steps)?;
-    if let Some(refusal) = draft.first_fault(&circles) {
-        return Err(Stop::Fault(refusal));
-    }
-    let Ranked::Ranks { order, .. } = rank(alloc, &steps)? else {
-        unreachable!();
+    let order = match draft.order(alloc) {
+        Ok(order) => order,
+        Err(stop) => return Err(stop),
     };
     let meanings = draft.meanings(alloc)?;
     let refs = read_refs(alloc, rows)?;

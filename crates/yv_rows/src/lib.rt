@@ -12,8 +12,6 @@ mod names;
 mod places;
 mod rows;
 mod scopes;
-#[cfg(test)]
-mod tests;
 
 pub use entries::Entry;
 pub use files::File;

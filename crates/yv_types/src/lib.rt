@@ -12,8 +12,6 @@ mod read;
 mod spaces;
 mod step;
 mod table;
-#[cfg(test)]
-mod tests;
 
 pub use first::first_bad_type;
 pub use known::Types;

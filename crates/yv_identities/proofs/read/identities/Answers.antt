@@ -1,20 +1,9 @@
-use Rattle.std.proofs.Common.{None, Option, subst}
+use Rattle.std.proofs.Common.{None, subst}
 use Rattle.yv_statement.specs.Order.{IsLeast}
-use Rattle.yv_statement.specs.declared.refusal.Refusal.{Refusal}
 use Rattle.yv_rows.specs.declared.rows.Rows.{Rows}
 use Rattle.yv_rows.specs.Lent.{files_in, rows_in}
 use Rattle.yv_identities.specs.Faults.{BadFive}
-use Rattle.yv_identities.proofs.Faulty.{circles_read, clear_circle, circle_by}
 use Rattle.yv_identities.proofs.read.identities.Goals as goal
 
-pub first_fault-requires : goal.first_fault-requires
-first_fault-requires c = circles_read _ _ c.in_ok-bases.bases.items _ c.in_ok-circles.circles.items _ c.in_ok-bases.ensures c.deref.ensures.value c.in_ok-circles.ensures.exact c.deref-2.ensures.value
-
-pub unreachable-requires : goal.unreachable-requires
-unreachable-requires c =
-    clear_circle _ _ c.in_ok-bases.bases.items _ c.in_default-2.field-0 c.first_fault.ensures c.in_default.is c.in_ok-bases.ensures (circle_by _ _ _ _ c.deref-3.ensures.value c.in_default-2.is c.in_ok-ranks.ensures.circle)
-
 pub returns-clause-clear : goal.returns-clause-clear
-returns-clause-clear c =
-    subst (λ (r : Rows). IsLeast (BadFive (files_in r) (rows_in r)) None) c.in_ok-draft.ensures
-    (subst (λ (o : Option Refusal). IsLeast (BadFive (files_in c.in_ok-draft.draft.rows.now) (rows_in c.in_ok-draft.draft.rows.now)) o) c.in_default.is c.first_fault.ensures)
+returns-clause-clear c = subst (λ (r : Rows). IsLeast (BadFive (files_in r) (rows_in r)) None) c.in_ok-draft.ensures c.in-Ok.ensures.clear

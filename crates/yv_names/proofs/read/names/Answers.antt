@@ -1,47 +1,29 @@
-use Rattle.std.proofs.Common.{None, Some, Option, ℕ, ◌≡◌, ◌↔◌, ◌∙◌, ap, subst}
+use Rattle.std.proofs.Common.{None, Some, ℕ, ◌≡◌, ◌↔◌, subst}
 use Rattle.std.specs.List.{slice_get}
 use Rattle.std.specs.Option.{option_and_then}
-use Rattle.yv_graph.specs.Graph.{Graph, IsOrder}
-use Rattle.yv_graph.specs.Ranked.{IfRanks}
-use Rattle.yv_graph.specs.declared.circles.Ranked.{Ranked}
 use Rattle.yv_names.specs.Refers.{RefersTo}
 use Rattle.yv_names.specs.Leads.{IsOrderOf}
 use Rattle.yv_statement.specs.Order.{IsLeast}
-use Rattle.yv_statement.specs.declared.refusal.Refusal.{Refusal}
+use Rattle.yv_statement.specs.declared.refusal.Stop.TheVariants.{Fault}
+use Rattle.yv_names.specs.Faults.{BadIn}
 use Rattle.yv_rows.specs.declared.rows.Rows.{Rows}
 use Rattle.yv_rows.specs.Lent.{files_in, rows_in}
-use Rattle.yv_names.specs.Faults.{BadIn}
-use Rattle.yv_names.proofs.Faulty.{circles_read, clear_circle, circle_by, order_of}
 use Rattle.yv_names.proofs.read.names.Goals as goal
-
-pub first_fault-requires : goal.first_fault-requires
-first_fault-requires c = circles_read _ _ c.in_ok-steps.steps.items _ c.in_ok-circles.circles.items _ c.in_ok-steps.ensures c.deref.ensures.value c.in_ok-circles.ensures.exact c.deref-2.ensures.value
-
-pub unreachable-requires : goal.unreachable-requires
-unreachable-requires c =
-    clear_circle _ _ c.in_ok-steps.steps.items _ c.in_default-2.field-0 c.first_fault.ensures c.in_default.is c.in_ok-steps.ensures (circle_by _ _ _ _ c.deref-3.ensures.value c.in_default-2.is c.in_ok-order.ensures.circle)
-
-pub returns-clause-clear : goal.returns-clause-clear
-returns-clause-clear c =
-    subst (λ (r : Rows). IsLeast (BadIn (files_in r) (rows_in r)) None) c.in_ok-draft.ensures
-    (subst (λ (o : Option Refusal). IsLeast (BadIn (files_in c.in_ok-draft.draft.rows.now) (rows_in c.in_ok-draft.draft.rows.now)) o) c.in_default.is c.first_fault.ensures)
-
-pub returns-in-Some-clause-refusal : goal.returns-in-Some-clause-refusal
-returns-in-Some-clause-refusal c r e =
-    let same : c.in-Some.refusal ≡ r = (let h = e in cc) in
-    subst (λ (x : Rows). IsLeast (BadIn (files_in x) (rows_in x)) (Some r)) c.in_ok-draft.ensures
-    (subst (λ (o : Option Refusal). IsLeast (BadIn (files_in c.in_ok-draft.draft.rows.now) (rows_in c.in_ok-draft.draft.rows.now)) o) (c.in-Some.is ∙ ap Some same) c.first_fault.ensures)
 
 pub returns-clause-made : goal.returns-clause-made
 returns-clause-made c =
-    let own : Rows = c.in_ok-draft.draft.rows.now in
-    let order : IsOrder c.in_ok-steps.steps.items c.in-Ranks.order.items =
-    subst (λ (g : Graph). IsOrder g c.in-Ranks.order.items) c.deref-3.ensures.value (subst (λ (x : Ranked). IfRanks x (λ ranks order. IsOrder c.deref-3.result.now order)) c.in-Ranks.is c.in_ok-order.ensures.order) in
     record {
       meant = subst (λ (x : Rows). (k d : ℕ) → (option_and_then (λ m. m) (slice_get c.in_ok-meanings.meanings.items k) ≡ Some d) ↔ RefersTo (files_in x) (rows_in x) k d) c.in_ok-draft.ensures c.in_ok-meanings.ensures;
       refs = c.in_ok-refs.ensures;
       types = c.in_ok-types.ensures;
       uses = c.in_ok-uses.ensures;
-      order = subst (λ (x : Rows). IsOrderOf (files_in x) (rows_in x) c.in-Ranks.order.items) c.in_ok-draft.ensures
-          (order_of (files_in own) (rows_in own) c.in_ok-steps.steps.items c.in_ok-steps.ensures c.in-Ranks.order.items order);
+      order = subst (λ (x : Rows). IsOrderOf (files_in x) (rows_in x) c.in-Ok.order.items) c.in_ok-draft.ensures c.in-Ok.ensures.made;
     }
+
+pub returns-in-Err-clause-refusal : goal.returns-in-Err-clause-refusal
+returns-in-Err-clause-refusal c r e =
+    let same : c.in-Err.stop ≡ Fault r = (let h = e in cc) in
+    subst (λ (x : Rows). IsLeast (BadIn (files_in x) (rows_in x)) (Some r)) c.in_ok-draft.ensures (c.in-Err.ensures.refusal r cc)
+
+pub returns-clause-clear : goal.returns-clause-clear
+returns-clause-clear c = subst (λ (x : Rows). IsLeast (BadIn (files_in x) (rows_in x)) None) c.in_ok-draft.ensures c.in-Ok.ensures.clear
