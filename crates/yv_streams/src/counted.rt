@@ -34,14 +34,14 @@ impl<T> Counted<T> {
     }
 
     /// The errors other than `Interrupted`, and the writes that took none of the bytes that they
-    /// were given, that were answered so far.
+    /// were given, that were answered so far: what a caller may tell of a stream that was given up.
     pub fn faults(&self) -> u64
         ensures { result ≡ stream_faults self.now }
     {
         self.faults
     }
 
-    /// The errors `Interrupted` that were answered so far.
+    /// The errors `Interrupted` that were answered so far, for the same caller.
     pub fn interrupts(&self) -> u64
         ensures { result ≡ stream_interrupts self.now }
     {
@@ -55,7 +55,7 @@ impl<T> Counted<T> {
         self.faults > 0 || self.interrupts > PATIENCE
     }
 
-    /// What was wrapped.
+    /// What was wrapped, for a caller who goes on with it behind a run.
     pub fn into_inner(self) -> T
         ensures { result ≡ stream_inner self }
     {

@@ -1,5 +1,5 @@
 //! Reading a stream to its end, and writing a text whole.
-ghost use Rattle.std.specs.Prelude.{◌≡◌, ◌≤◌, ◌<◌, ◌+◌, ◌↔◌, ℕ, true, false, Ok, length, take, drop, vec_len, IfOk, IfSome, OnOk, IsErrOf};
+ghost use Rattle.std.specs.Prelude.{◌≡◌, ◌≤◌, ◌<◌, ◌+◌, ◌↔◌, ℕ, true, false, Ok, Err, length, take, drop, vec_len, IfOk, IfSome, OnOk, IsErrOf};
 ghost use Rattle.std.specs.Io.{StartsWith};
 ghost use Rattle.std.specs.Io.KnownBytes.{Appends, Consumes, IsAtEnd};
 ghost use Rattle.yv_streams.specs.Stream.{stream_inner, stream_interrupts, has_failed};
@@ -84,8 +84,19 @@ fn read_some<R: Read>(
             bytes.extend_from_slice(&chunk[..n])?;
             Ok(true)
         }
-        Err(_) if reader.has_failed() => Err(InputFault::Read),
-        Err(_) => Ok(true),
+        Err(_) => goes_on(reader),
+    }
+}
+
+// Whether the reader goes on behind an error, which it does behind an interruption that is borne.
+fn goes_on<R>(reader: &Counted<R>) -> Result<bool, InputFault>
+    ensures on { has_failed reader.now ≡ false → result ≡ Ok true }
+    ensures fault { has_failed reader.now ≡ true → result ≡ Err InputFault.Read }
+{
+    if reader.has_failed() {
+        Err(InputFault::Read)
+    } else {
+        Ok(true)
     }
 }
 
