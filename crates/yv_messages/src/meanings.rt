@@ -6,7 +6,7 @@ pub fn meaning(code: Code) -> &'static str {
     match code {
         Code::NotUtf8 => "The file is not UTF-8 from this byte on.",
         Code::BadCharacter => {
-            "The text has a character that YANG does not allow: a control character other than tab, line feed and carriage return, or a noncharacter."
+            "The text has a character that YANG does not allow: a control character below U+0020 other than tab, line feed and carriage return, or a noncharacter."
         }
         Code::BadToken => {
             "A quoted text or a comment that begins here does not end, or a quote or `*/` stands where none may."
