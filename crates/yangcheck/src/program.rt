@@ -1,19 +1,16 @@
 //! The program over a runtime: its words, its files, its standard streams and its exit status.
 ghost use Rattle.std.specs.Prelude.{◌≡◌, ◌≤◌, length, IfOk};
-ghost use Rattle.yangcheck.specs.Status.{exit_of};
+ghost use Rattle.yv_outcome.specs.Status.{exit_of};
 ghost use Rattle.yv_job.specs.Jobs.{HasFiles, HasLimit, CompilesOrChecks};
 
-use crate::counted::Counted;
-use crate::explain::{explanation, refusal_of};
-use crate::input::{Input, read_input};
-use crate::run::run;
-use crate::status::Status;
-use crate::stream::InputFault;
 use std::fs::File;
 use std::io::{ErrorKind, Read};
 use std::rt::{Env, Files};
 use std::{env, io};
 use yv_job::{Command, Job, JobFault, read_job};
+use yv_outcome::Status;
+use yv_run::{explanation, refusal_of, run};
+use yv_streams::{Counted, Input, InputFault, read_input};
 
 /// Does what the process's arguments ask for, and answers its exit status.
 pub fn program<R: Env + Files + io::Input + Print + Eprint + AllocGlobal>(rt: &R) -> u8 {

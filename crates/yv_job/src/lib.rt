@@ -8,8 +8,6 @@ mod matches;
 mod names;
 mod options;
 mod syntax;
-#[cfg(test)]
-mod tests;
 mod words;
 
 pub use job::{Command, Job, JobFault};

@@ -1,5 +1,0 @@
-pub mod StreamLemmas
-pub mod DocumentLemmas
-pub mod OneOutput
-pub mod Compiling
-pub mod RunLemmas

@@ -1,9 +1,0 @@
-use Rattle.std.proofs.Common.{◌≡◌, length, map, take}
-use Rattle.std.specs.List.{AllZip}
-use Rattle.yangcheck.specs.Files.{file_of}
-use Rattle.yangcheck.specs.InnerParsed.{IsText}
-use Rattle.yangcheck.proofs.parsed.read_texts.Given as goal
-
--- the texts so far
-abbrev pub invariant-loop-number : goal.invariant-loop-number
-invariant-loop-number l = (length l.sources.items ≡ l.number) × AllZip IsText (take l.number (map file_of l.inputs)) l.sources.items

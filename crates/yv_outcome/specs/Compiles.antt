@@ -1,0 +1,51 @@
+-- What the files of a run come to, in the words of the layers below.
+use Rattle.std.specs.Prelude.{◌≡◌, ℕ, List, take, Some, None, slice_get, ◌⊎◌}
+use Rattle.std.specs.List.{AllZip}
+use Rattle.yv_statement.specs.Tree.{Tree}
+use Rattle.yv_statement.specs.Order.{IsLeast}
+use Rattle.yv_statement.specs.declared.refusal.Refusal.{Refusal}
+use Rattle.yv_source.specs.Answer.{IsBadFile, IsSpelled, IsRefused}
+use Rattle.yv_source.specs.Legal.{IsLegalFile}
+use Rattle.yv_selection.specs.Choice.{Choice}
+use Rattle.yv_faceted.specs.Types.{HasTypePattern}
+use Rattle.yv_schema.specs.Tree.{Forest}
+use Rattle.yv_schema.specs.Schema.{IsSchema}
+use Rattle.yv_schema.specs.Refuses.{Refuses, RefusesBeforeTypes}
+use Rattle.yv_streams.specs.Files.{File}
+
+-- files are refused, or give a schema tree
+pub data Compiled : Type 0 where
+  RefusedAt : Refusal → Compiled
+  Built : Forest → Compiled
+
+-- a file's bytes are a legal text that spells this statement
+abbrev pub IsRead : File → Tree → Type 0
+IsRead f t = IsLegalFile f.bytes × IsSpelled f.bytes t
+
+-- a file's bytes are no legal text, or one that spells no statement
+abbrev pub IsUnread : File → Refusal → Type 0
+IsUnread f r = IsBadFile f.bytes r ⊎ (IsLegalFile f.bytes × IsRefused f.bytes r)
+
+-- a refusal of one file, told of the file of this number
+abbrev pub in_file : ℕ → Refusal → Refusal
+in_file n r = record { code = r.code; file = n; offset = r.offset; line = r.line }
+
+-- What files come to under a choice and a limit of what they may expand to: one of them can't be read, though those
+-- before it can; or their statements are refused; or they give their schema tree.
+pub data FilesCompile (choice : Choice) (limit : ℕ) (files : List File) : Compiled → Type 0 where
+  unread : {r : Refusal} (n : ℕ) (f : File) (ts : List Tree) → AllZip IsRead (take n files) ts → slice_get files n ≡ Some f → IsUnread f r
+      → FilesCompile choice limit files (RefusedAt (in_file n r))
+  refused : {r : Refusal} (ts : List Tree) → AllZip IsRead files ts → IsLeast (Refuses choice ts limit) (Some r) → FilesCompile choice limit files (RefusedAt r)
+  built : {schema : Forest} (ts : List Tree) → AllZip IsRead files ts → IsLeast (Refuses choice ts limit) None → IsSchema choice ts schema
+      → FilesCompile choice limit files (Built schema)
+
+-- the files come to some schema tree
+abbrev pub GiveSchema : Choice → ℕ → List File → Type 0
+GiveSchema choice limit files = (schema : Forest) × FilesCompile choice limit files (Built schema)
+
+-- the files can be read, nothing of them is refused before their types, and one of these has a pattern
+pub record HavePattern (choice : Choice) (limit : ℕ) (files : List File) : Type 0 where
+  pub trees : List Tree
+  pub read : AllZip IsRead files trees
+  pub clear : IsLeast (RefusesBeforeTypes choice trees limit) None
+  pub pattern : HasTypePattern trees

@@ -1,0 +1,5 @@
+pub mod Document
+pub mod Status
+pub mod Compiles
+pub mod Output
+pub mod InnerParsed

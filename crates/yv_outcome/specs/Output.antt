@@ -1,0 +1,140 @@
+-- What a run writes, and how it ends.
+use Rattle.std.specs.Prelude.{◌≡◌, ℕ, List, [], ◌∷◌, ◌++◌, length, take, flat_map, codes, IfSome, string_bytes, slice_get}
+use Rattle.std.specs.declared.option.Option.{Option}
+use Rattle.std.specs.declared.option.Option.TheVariants.{Some, None}
+use Rattle.std.specs.Fmt.{decimal}
+use Rattle.std.specs.Io.KnownBytes.{Appends}
+use Rattle.yv_statement.specs.Codes.{name_of}
+use Rattle.yv_statement.specs.declared.refusal.Refusal.{Refusal}
+use Rattle.yv_schema.specs.Tree.{Forest, count as node_count}
+use Rattle.yv_job.specs.Jobs.{Asked, Compiles, Draws, Checks, Task}
+use Rattle.yv_validate.specs.Place.{Flaw}
+use Rattle.yv_validate.specs.Faults.{faults}
+use Rattle.yv_validate.specs.Line.{line_text}
+use Rattle.yv_outcome.specs.Compiles.{Compiled, RefusedAt, Built, FilesCompile, GiveSchema}
+use Rattle.yv_outcome.specs.Document.{Reading, TooLarge, NotJson, Reads, reading}
+use Rattle.yv_streams.specs.Files.{File}
+use Rattle.yv_outcome.specs.Status.{status_of}
+use Rattle.yv_outcome.specs.declared.print.Output.{Output}
+use Rattle.yv_outcome.specs.declared.status.Status.{Status}
+use Rattle.yv_outcome.specs.declared.status.Status.TheVariants as ended
+use Rattle.yv_outcome.specs.declared.status.Verdict.{Verdict}
+use Rattle.yv_outcome.specs.declared.status.Verdict.TheVariants.{Clean, Refused, BadInput}
+
+-- a text, and what was found
+pub record Printed : Type 0 where
+  pub text : List ℕ
+  pub verdict : Verdict
+
+-- a line ends by a line feed
+abbrev pub ended_line : List ℕ → List ℕ
+ended_line text = text ++ 10 ∷ []
+
+-- the name of a file, where there is one
+abbrev pub name_of_file : Option File → List ℕ
+name_of_file None = []
+name_of_file (Some f) = f.name
+
+-- FILE:LINE: NAME
+abbrev pub refusal_line : List File → Refusal → List ℕ
+refusal_line files r = ended_line (name_of_file (slice_get files r.file) ++ (58 ∷ decimal r.line ++ codes ": " ++ name_of r.code))
+
+-- a line for each fault
+abbrev pub fault_lines : List Flaw → List ℕ
+fault_lines flaws = flat_map (λ f. ended_line (line_text f)) flaws
+
+-- `valid`, or the faults' lines and how many they are
+abbrev pub faults_printed : List Flaw → Printed
+faults_printed [] = record { text = ended_line (codes "valid"); verdict = Clean }
+faults_printed (f ∷ fs) = record {
+  text = fault_lines (f ∷ fs) ++ ended_line (codes "faults: " ++ decimal (length (f ∷ fs)));
+  verdict = Refused;
+}
+
+abbrev pub bad_input : List ℕ → Printed
+bad_input text = record { text = ended_line text; verdict = BadInput }
+
+-- what is said of a document, by what its bytes are
+abbrev pub reading_printed : Forest → Reading → Printed
+reading_printed ts TooLarge = bad_input (codes "data: too large")
+reading_printed ts NotJson = bad_input (codes "data: not JSON")
+reading_printed ts (Reads d) = faults_printed (faults ts d)
+
+abbrev pub data_printed : Forest → List ℕ → Printed
+data_printed ts given = reading_printed ts (reading given)
+
+-- `nodes: N`, for as many nodes as the schema has
+abbrev pub count_printed : Forest → Printed
+count_printed ts = record { text = ended_line (codes "nodes: " ++ decimal (node_count ts)); verdict = Clean }
+
+-- what is said of a schema, by what was asked: so far nothing where that is a diagram
+abbrev pub schema_printed : Asked → Forest → List ℕ → Option Printed
+schema_printed Compiles ts given = Some (count_printed ts)
+schema_printed (Draws m) ts given = None
+schema_printed (Checks f) ts given = Some (data_printed ts given)
+
+-- a refusal's line, or what is said of the schema
+abbrev pub compiled_printed : Asked → List File → Compiled → List ℕ → Option Printed
+compiled_printed asked files (RefusedAt r) given = Some (record { text = refusal_line files r; verdict = Refused })
+compiled_printed asked files (Built ts) given = schema_printed asked ts given
+
+-- what a run prints that is to do this task with these files, where the document's bytes are `given`
+abbrev pub IsOutput : Task → List File → List ℕ → Printed → Type 0
+IsOutput task files given p = (c : Compiled) × FilesCompile task.choice task.limit files c × (compiled_printed task.asked files c given ≡ Some p)
+
+-- a document is read for this
+abbrev pub ReadsData : Asked → Type 0
+ReadsData Compiles = ⊥
+ReadsData (Draws m) = ⊥
+ReadsData (Checks f) = Unit {0}
+
+-- the task is to check a document, and the files give a schema
+abbrev pub WantsData : Task → List File → Type 0
+WantsData task files = ReadsData task.asked × GiveSchema task.choice task.limit files
+
+-- the bytes that a reader gives, up to one more than a document may have, where they are known
+abbrev pub Gives : Option (List ℕ) → List ℕ → Type 0
+Gives known given = IfSome known (λ xs. given ≡ take 16777217 xs)
+
+-- it prints this for some bytes, which are those that the reader gives where they are known
+pub record PrintsFor (known : Option (List ℕ)) (task : Task) (files : List File) (p : Printed) : Type 0 where
+  pub given : List ℕ
+  pub gives : Gives known given
+  pub output : IsOutput task files given p
+
+-- the whole output was appended to what the writer holds, and the status fits it
+pub record WritesAll (known : Option (List ℕ)) (task : Task) (files : List File) (status : Status) (old new : Option (List ℕ)) : Type 0 where
+  pub printed : Printed
+  pub prints : PrintsFor known task files printed
+  pub appended : Appends old new printed.text
+  pub fits : status ≡ status_of printed.verdict
+
+-- the first bytes of the output were
+pub record WritesFront (known : Option (List ℕ)) (task : Task) (files : List File) (old new : Option (List ℕ)) : Type 0 where
+  pub printed : Printed
+  pub prints : PrintsFor known task files printed
+  pub count : ℕ
+  pub appended : Appends old new (take count printed.text)
+
+-- nothing stopped the run
+abbrev pub IsFinished : Status → Type 0
+IsFinished ended.Clean = Unit {0}
+IsFinished ended.Refused = Unit {0}
+IsFinished ended.BadInput = Unit {0}
+IsFinished ended.NoMemory = ⊥
+IsFinished ended.PatternBuild = ⊥
+IsFinished ended.ReadFault = ⊥
+IsFinished ended.WriteFault = ⊥
+
+-- want of memory, a pattern's build or the reader stopped the run
+abbrev pub IsStopped : Status → Type 0
+IsStopped ended.Clean = ⊥
+IsStopped ended.Refused = ⊥
+IsStopped ended.BadInput = ⊥
+IsStopped ended.NoMemory = Unit {0}
+IsStopped ended.PatternBuild = Unit {0}
+IsStopped ended.ReadFault = Unit {0}
+IsStopped ended.WriteFault = ⊥
+
+abbrev pub printed_of : Output → Printed
+printed_of o = record { text = string_bytes o.text; verdict = o.verdict }

@@ -1,0 +1,126 @@
+//! The text of an outcome.
+ghost use Rattle.std.specs.Prelude.{◌≡◌, ◌≤◌, map, slice_get, IfOk, string_bytes};
+ghost use Rattle.serde_json.specs.Data.{depth};
+ghost use Rattle.serde_json.specs.View.{view};
+ghost use Rattle.yv_schema.specs.Rows.{whole};
+ghost use Rattle.yv_validate.specs.Size.{size};
+ghost use Rattle.yv_validate.specs.Faults.{faults as faults_in};
+ghost use Rattle.yv_streams.specs.Files.{file_of};
+ghost use Rattle.yv_outcome.specs.Output.{name_of_file, refusal_line, fault_lines, faults_printed, data_printed, count_printed, bad_input as bad_input_printed, printed_of};
+
+use crate::document::{Document, read_document};
+use crate::status::Verdict;
+use serde_json::Value;
+use std::alloc::{AllocError, Global};
+use yv_schema::Schema;
+use yv_statement::Refusal;
+use yv_streams::Input;
+use yv_validate::{Fault, line, validate};
+
+/// What a run writes, and what it found.
+#[derive(Drop)]
+pub struct Output {
+    pub text: String,
+    pub verdict: Verdict,
+}
+
+/// The line of a refusal, with the name of its file.
+pub fn of_refusal(alloc: Global, inputs: &[Input], refusal: &Refusal) -> Result<Output, AllocError>
+    ensures { IfOk result (λ o. printed_of o ≡ record {
+      text = refusal_line (map file_of inputs.now) refusal.now;
+      verdict = Verdict.Refused;
+    }) }
+{
+    let name = name_at(inputs, refusal.file);
+    let line = refusal.line;
+    let code = refusal.code.name();
+    let text = format!(in alloc; "{name}:{line}: {code}\n")?;
+    Ok(Output {
+        text,
+        verdict: Verdict::Refused,
+    })
+}
+
+// The name of the file of this number, where there is one.
+fn name_at(inputs: &[Input], file: u32) -> &str
+    ensures { result.now ≡ name_of_file (slice_get (map file_of inputs.now) file) }
+{
+    match inputs.get(file as usize) {
+        Some(input) => input.name.as_str(),
+        None => "",
+    }
+}
+
+/// How many nodes a schema has.
+pub fn of_count(alloc: Global, schema: &Schema) -> Result<Output, AllocError>
+    ensures { IfOk result (λ o. printed_of o ≡ count_printed (whole schema.now)) }
+{
+    let count = schema.len();
+    let text = format!(in alloc; "nodes: {count}\n")?;
+    Ok(Output {
+        text,
+        verdict: Verdict::Clean,
+    })
+}
+
+/// What is said of a document of these bytes.
+pub fn of_data(alloc: Global, schema: &Schema, bytes: &[u8]) -> Result<Output, AllocError>
+    ensures { IfOk result (λ o. printed_of o ≡ data_printed (whole schema.now) bytes.now) }
+{
+    match read_document(alloc, bytes)? {
+        Document::TooLarge => bad_input(alloc, "data: too large\n"),
+        Document::NotJson => bad_input(alloc, "data: not JSON\n"),
+        Document::Json(json) => of_json(alloc, schema, &json),
+    }
+}
+
+fn bad_input(alloc: Global, text: &str) -> Result<Output, AllocError>
+    ensures { IfOk result (λ o. printed_of o ≡ record { text = text.now; verdict = Verdict.BadInput }) }
+{
+    let text = String::from_str(alloc, text)?;
+    Ok(Output {
+        text,
+        verdict: Verdict::BadInput,
+    })
+}
+
+fn of_json(alloc: Global, schema: &Schema, json: &Value) -> Result<Output, AllocError>
+    requires size { size (view json.now) ≤ 16777216 }
+    requires nests { depth (view json.now) ≤ 127 }
+    ensures { IfOk result (λ o. printed_of o ≡ faults_printed (faults_in (whole schema.now) (view json.now))) }
+{
+    let report = validate(alloc, schema, json)?;
+    of_faults(alloc, &report.faults)
+}
+
+fn of_faults(alloc: Global, faults: &[Fault]) -> Result<Output, AllocError>
+    ensures { IfOk result (λ o. printed_of o ≡ faults_printed faults.now) }
+{
+    if faults.is_empty() {
+        let text = String::from_str(alloc, "valid\n")?;
+        return Ok(Output {
+            text,
+            verdict: Verdict::Clean,
+        });
+    }
+    let mut text = fault_text(alloc, faults)?;
+    let count = faults.len();
+    let last = format!(in alloc; "faults: {count}\n")?;
+    text.push_str(last.as_str())?;
+    Ok(Output {
+        text,
+        verdict: Verdict::Refused,
+    })
+}
+
+fn fault_text(alloc: Global, faults: &[Fault]) -> Result<String, AllocError>
+    ensures { IfOk result (λ s. string_bytes s ≡ fault_lines faults.now) }
+{
+    let mut text = String::new(alloc);
+    for fault in faults {
+        let line = line(alloc, fault)?;
+        text.push_str(line.as_str())?;
+        text.push('\n')?;
+    }
+    Ok(text)
+}

@@ -1,0 +1,40 @@
+-- What a run leaves, by what was to be written.
+use Rattle.std.proofs.Common.{◌≡◌, ℕ, List, [], take, refl, sym, ap}
+use Rattle.std.specs.declared.option.Option.{Option}
+use Rattle.std.specs.declared.option.Option.TheVariants.{None, Some}
+use Rattle.yv_statement.specs.declared.refusal.Refusal.{Refusal}
+use Rattle.yv_job.specs.Jobs.{Asked, Compiles, Draws, Checks, Task}
+use Rattle.yv_schema.specs.Tree.{Forest}
+use Rattle.yv_outcome.specs.declared.print.Output.{Output}
+use Rattle.yv_outcome.specs.declared.status.Verdict.TheVariants.{Refused}
+use Rattle.yv_outcome.specs.Compiles.{FilesCompile, RefusedAt, Built}
+use Rattle.yv_streams.specs.Files.{File}
+use Rattle.yv_run.specs.InnerRun.{SaysOf}
+use Rattle.yv_outcome.specs.Output.{Printed, Gives, PrintsFor, refusal_line, printed_of, schema_printed}
+
+-- some bytes are what a reader gives
+some_given : (known : Option (List ℕ)) → (given : List ℕ) × Gives known given
+some_given None = ([], tt)
+some_given (Some xs) = (take 16777217 xs, refl)
+
+-- a refusal is printed whatever the document is
+pub prints_refusal : (known : Option (List ℕ)) (task : Task) (files : List File) (r : Refusal) (p : Printed) → FilesCompile task.choice task.limit files (RefusedAt r)
+    → p ≡ record { text = refusal_line files r; verdict = Refused } → PrintsFor known task files p
+prints_refusal known task files r p compiles is =
+    let d = some_given known in
+    record { given = d.0; gives = d.1; output = (RefusedAt r, compiles, ap (λ (o : Printed). Some o) (sym is)) }
+
+-- what is said of a schema is said of some bytes: the number of nodes of any
+says_given : (known : Option (List ℕ)) (asked : Asked) (ts : Forest) (o : Output) → SaysOf known asked ts o → (given : List ℕ) × Gives known given × (schema_printed asked ts given ≡ Some (printed_of o))
+says_given known Compiles ts o says =
+    let d = some_given known in
+    (d.0, d.1, ap (λ (p : Printed). Some p) (sym says))
+says_given known (Draws m) ts o says = absurd says
+says_given known (Checks f) ts o says = (says.given, says.gives, ap (λ (p : Printed). Some p) (sym says.printed))
+
+-- where the files give a schema, what is said of it is printed
+pub prints_says : (known : Option (List ℕ)) (task : Task) (files : List File) (ts : Forest) (o : Output) → FilesCompile task.choice task.limit files (Built ts)
+    → SaysOf known task.asked ts o → PrintsFor known task files (printed_of o)
+prints_says known task files ts o compiles says =
+    let d = says_given known task.asked ts o says in
+    record { given = d.0; gives = d.1; output = (Built ts, compiles, d.2) }

@@ -1,0 +1,21 @@
+use Rattle.std.proofs.Common.{ap, map}
+use Rattle.std.proofs.lemmas.Result.{IfOk-weaker}
+use Rattle.yv_statement.specs.declared.refusal.Stop.{Stop}
+use Rattle.yv_job.specs.Jobs.{task_of}
+use Rattle.yv_schema.specs.Rows.{Rows, whole}
+use Rattle.yv_outcome.proofs.Compiling.{failed}
+use Rattle.yv_streams.specs.Files.{file_of}
+use Rattle.yv_outcome.specs.Output.{printed_of}
+use Rattle.yv_run.proofs.RunLemmas.{prints_refusal, prints_says}
+use Rattle.yv_run.proofs.running.outcome.Goals as goal
+
+pub returns-in_ok-of_refusal-in-Err-Fault-clause-printed : goal.returns-in_ok-of_refusal-in-Err-Fault-clause-printed
+returns-in_ok-of_refusal-in-Err-Fault-clause-printed g c =
+    prints_refusal _ _ _ c.in-Err-Fault.refusal (printed_of c.in_ok-of_refusal-in-Err-Fault.field-0)
+    (c.in-Err-Fault.ensures.refused c.in-Err-Fault.refusal (ap (failed Rows Stop) c.in-Err-Fault.field-0-is)) c.in_ok-of_refusal-in-Err-Fault.ensures
+
+pub returns-in-Ok-clause-printed : goal.returns-in-Ok-clause-printed
+returns-in-Ok-clause-printed g c =
+    IfOk-weaker c.answered.result _ _
+    (λ o says. prints_says _ (task_of c.args.job.now) (map file_of c.args.inputs.now) (whole c.in-Ok.schema) o c.in-Ok.ensures.schema says)
+    c.answered.ensures.printed

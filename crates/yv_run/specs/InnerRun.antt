@@ -1,0 +1,32 @@
+-- Only private clauses cite this: what the parts of a run leave.
+use Rattle.std.specs.Prelude.{◌≡◌, ℕ, List, take}
+use Rattle.std.specs.declared.option.Option.{Option}
+use Rattle.std.specs.Io.KnownBytes.{Appends}
+use Rattle.yv_schema.specs.Tree.{Forest}
+use Rattle.yv_job.specs.Jobs.{Asked, Compiles, Draws, Checks}
+use Rattle.yv_outcome.specs.Output.{Gives, count_printed, data_printed, printed_of}
+use Rattle.yv_outcome.specs.Status.{status_of}
+use Rattle.yv_outcome.specs.declared.print.Output.{Output}
+use Rattle.yv_outcome.specs.declared.status.Status.{Status}
+
+-- the text was appended whole, and the status is that of what was found
+pub record AppendsAll (o : Output) (status : Status) (old new : Option (List ℕ)) : Type 0 where
+  pub appended : Appends old new (printed_of o).text
+  pub fits : status ≡ status_of o.verdict
+
+-- its first bytes were
+pub record AppendsFront (o : Output) (old new : Option (List ℕ)) : Type 0 where
+  pub count : ℕ
+  pub appended : Appends old new (take count (printed_of o).text)
+
+-- what is said of some bytes, which are those that the reader gives where they are known
+pub record SaysOfData (known : Option (List ℕ)) (ts : Forest) (o : Output) : Type 0 where
+  pub given : List ℕ
+  pub gives : Gives known given
+  pub printed : printed_of o ≡ data_printed ts given
+
+-- what is said of the schema, by what was asked
+abbrev pub SaysOf : Option (List ℕ) → Asked → Forest → Output → Type 0
+SaysOf known Compiles ts o = printed_of o ≡ count_printed ts
+SaysOf known (Draws m) ts o = ⊥
+SaysOf known (Checks f) ts o = SaysOfData known ts o

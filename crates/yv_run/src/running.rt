@@ -1,0 +1,155 @@
+//! A run over files that were read: what it writes, and how it ends.
+ghost use Rattle.std.specs.Prelude.{◌≡◌, ◌≤◌, ◌↔◌, ◌⊎◌, true, map, length, IfOk, IsErrOf};
+ghost use Rattle.yv_job.specs.Jobs.{HasFiles, HasLimit, CompilesOrChecks, IsCompileOrCheck, asked_of, task_of};
+ghost use Rattle.yv_selection.specs.Choice.{choice_of};
+ghost use Rattle.yv_schema.specs.Rows.{whole};
+ghost use Rattle.yv_streams.specs.Stream.{stream_inner, has_failed, IsFresh};
+ghost use Rattle.yv_streams.specs.Files.{file_of};
+ghost use Rattle.yv_outcome.specs.Compiles.{HavePattern};
+ghost use Rattle.yv_run.specs.InnerRun.{AppendsAll, AppendsFront, SaysOf, SaysOfData};
+ghost use Rattle.yv_outcome.specs.Output.{PrintsFor, ReadsData, WantsData, WritesAll, WritesFront, IsFinished, IsStopped, printed_of};
+
+use std::alloc::{AllocError, Global};
+use std::io::{Read, Write};
+use thiserror::Error;
+use yv_job::{Command, Job};
+use yv_outcome::{Output, Status, compiled, of_count, of_data, of_refusal};
+use yv_schema::Schema;
+use yv_statement::Stop;
+use yv_streams::{Counted, Input, InputFault, read_up_to, write_whole};
+
+/// Why there is nothing to write.
+#[derive(Debug, Drop, Error)]
+pub enum Halt {
+    #[error("out of memory")]
+    NoMemory,
+    #[error("pattern not built")]
+    PatternBuild,
+    #[error("cannot read")]
+    Read,
+}
+
+impl From<AllocError> for Halt {
+    ghost use Rattle.std.specs.Prelude.{◌≡◌};
+    ghost use Rattle.yv_run.specs.declared.running.Halt.TheVariants.{NoMemory};
+
+    ghost from_gives = { λ _ h. h ≡ NoMemory };
+
+    fn from(_error: AllocError) -> Halt {
+        Halt::NoMemory
+    }
+}
+
+/// What is read of a document: one byte more than it may have, so that its being too large shows.
+const DATA_BYTES: usize = 16_777_217;
+
+/// Compiles the files of a job, and writes the outcome: the refusal's line, or how many nodes the schema has, or, where
+/// the job is to check a document, what is wrong with what the reader gives, or that it is valid. After `WriteFault` the
+/// writer holds the front of that text; after `NoMemory`, `PatternBuild` and `ReadFault` nothing was written.
+pub fn run<R: Read, W: Write>(
+    alloc: Global,
+    job: &Job,
+    inputs: &[Input],
+    reader: &mut Counted<R>,
+    writer: &mut Counted<W>,
+) -> Status
+    requires files { HasFiles job.now }
+    requires limit { HasLimit job.now }
+    requires each { length inputs.now ≡ length job.now.files.items }
+    requires command { CompilesOrChecks job.now }
+    requires reader { IsFresh reader.old }
+    requires writer { IsFresh writer.old }
+    ensures written { IsFinished result → WritesAll (R.remaining (stream_inner reader.old)) (task_of job.now) (map file_of inputs.now) result
+        (W.contents (stream_inner writer.old)) (W.contents (stream_inner writer.new)) }
+    ensures front { result ≡ Status.WriteFault → WritesFront (R.remaining (stream_inner reader.old)) (task_of job.now) (map file_of inputs.now)
+        (W.contents (stream_inner writer.old)) (W.contents (stream_inner writer.new)) }
+    ensures untouched { IsStopped result → writer.new ≡ writer.old }
+    ensures unread { WantsData (task_of job.now) (map file_of inputs.now) ⊎ (reader.new ≡ reader.old) }
+    ensures read_fault { result ≡ Status.ReadFault ↔ (has_failed reader.new ≡ true) }
+    ensures write_fault { result ≡ Status.WriteFault ↔ (has_failed writer.new ≡ true) }
+    ensures built { result ≡ Status.PatternBuild → HavePattern (choice_of job.now.selection) job.now.limit (map file_of inputs.now) }
+{
+    match outcome(alloc, job, inputs, reader) {
+        Ok(output) => written(&output, writer),
+        Err(Halt::NoMemory) => Status::NoMemory,
+        Err(Halt::PatternBuild) => Status::PatternBuild,
+        Err(Halt::Read) => Status::ReadFault,
+    }
+}
+
+// Writes what was found.
+fn written<W: Write>(output: &Output, writer: &mut Counted<W>) -> Status
+    requires { IsFresh writer.old }
+    ensures all { IsFinished result → AppendsAll output.now result (W.contents (stream_inner writer.old)) (W.contents (stream_inner writer.new)) }
+    ensures front { AppendsFront output.now (W.contents (stream_inner writer.old)) (W.contents (stream_inner writer.new)) }
+    ensures fault { result ≡ Status.WriteFault ↔ (has_failed writer.new ≡ true) }
+    ensures not_stopped { IsStopped result → ⊥ }
+{
+    if write_whole(writer, output.text.as_bytes()) {
+        output.verdict.status()
+    } else {
+        Status::WriteFault
+    }
+}
+
+// What is to be written.
+fn outcome<R: Read>(
+    alloc: Global,
+    job: &Job,
+    inputs: &[Input],
+    reader: &mut Counted<R>,
+) -> Result<Output, Halt>
+    requires few { length inputs.now ≤ 256 }
+    requires command { CompilesOrChecks job.now }
+    requires reader { IsFresh reader.old }
+    ensures printed { IfOk result (λ o. PrintsFor (R.remaining (stream_inner reader.old)) (task_of job.now) (map file_of inputs.now) (printed_of o)) }
+    ensures unread { WantsData (task_of job.now) (map file_of inputs.now) ⊎ (reader.new ≡ reader.old) }
+    ensures fault { IsErrOf result Halt.Read ↔ (has_failed reader.new ≡ true) }
+    ensures built { IsErrOf result Halt.PatternBuild → HavePattern (choice_of job.now.selection) job.now.limit (map file_of inputs.now) }
+{
+    match compiled(alloc, inputs, &job.selection, job.limit) {
+        Ok(schema) => answered(alloc, &job.command, &schema, reader),
+        Err(Stop::Fault(refusal)) => Ok(of_refusal(alloc, inputs, &refusal)?),
+        Err(Stop::PatternBuild) => Err(Halt::PatternBuild),
+        Err(Stop::NoMemory) => Err(Halt::NoMemory),
+    }
+}
+
+// What is said of the schema.
+fn answered<R: Read>(
+    alloc: Global,
+    command: &Command,
+    schema: &Schema,
+    reader: &mut Counted<R>,
+) -> Result<Output, Halt>
+    requires command { IsCompileOrCheck (asked_of command.now) }
+    requires reader { IsFresh reader.old }
+    ensures printed { IfOk result (SaysOf (R.remaining (stream_inner reader.old)) (asked_of command.now) (whole schema.now)) }
+    ensures unread { ReadsData (asked_of command.now) ⊎ (reader.new ≡ reader.old) }
+    ensures fault { IsErrOf result Halt.Read ↔ (has_failed reader.new ≡ true) }
+    ensures never_built { IsErrOf result Halt.PatternBuild → ⊥ }
+{
+    match command {
+        Command::Compile => Ok(of_count(alloc, schema)?),
+        Command::Tree(_) => unreachable!(),
+        Command::Validate(_) => validated(alloc, schema, reader),
+    }
+}
+
+// What is said of the document.
+fn validated<R: Read>(
+    alloc: Global,
+    schema: &Schema,
+    reader: &mut Counted<R>,
+) -> Result<Output, Halt>
+    requires { IsFresh reader.old }
+    ensures printed { IfOk result (SaysOfData (R.remaining (stream_inner reader.old)) (whole schema.now)) }
+    ensures fault { IsErrOf result Halt.Read ↔ (has_failed reader.new ≡ true) }
+    ensures never_built { IsErrOf result Halt.PatternBuild → ⊥ }
+{
+    match read_up_to(alloc, DATA_BYTES, reader) {
+        Ok(bytes) => Ok(of_data(alloc, schema, bytes.as_slice())?),
+        Err(InputFault::Read) => Err(Halt::Read),
+        Err(InputFault::NoMemory) => Err(Halt::NoMemory),
+    }
+}

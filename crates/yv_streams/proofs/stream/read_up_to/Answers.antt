@@ -1,0 +1,12 @@
+use Rattle.std.proofs.Common.{rules, arith}
+use Rattle.yv_streams.proofs.StreamLemmas.{gave_more}
+use Rattle.yv_streams.proofs.stream.read_up_to.Goals as goal
+
+pub loop-bytes-preserved : goal.loop-bytes-preserved
+loop-bytes-preserved g c =
+    let read = c.in_ok-read_some.ensures in
+    record {
+      works = search rules;
+      within = omega arith;
+      given = gave_more _ _ _ _ _ c.loop-bytes.invariant.given read.front read.given;
+    }

@@ -1,0 +1,41 @@
+//! A file that is read before a run.
+ghost use Rattle.std.specs.Prelude.{◌≡◌, ◌≤◌, ◌+◌, ◌↔◌, true, length, take, IfOk, IfSome, IsErrOf};
+ghost use Rattle.std.specs.Io.KnownBytes.{Consumes};
+ghost use Rattle.yv_streams.specs.Files.{file_of, file_limit};
+ghost use Rattle.yv_streams.specs.Stream.{stream_inner, has_failed, IsFresh};
+
+use crate::counted::Counted;
+use crate::stream::{InputFault, read_up_to};
+use std::alloc::Global;
+use std::io::Read;
+
+/// What is read of a file: one byte more than it may have, so that its being too large shows.
+const FILE_BYTES: usize = 4_194_305;
+
+/// A file's name, and its bytes or the first 4,194,305 of them.
+#[derive(Debug, Drop)]
+pub struct Input {
+    pub name: String,
+    pub bytes: Vec<u8>,
+}
+
+/// Reads a file of this name, to its end or one byte past what a file may have. After `Read` the
+/// reader is to be given up.
+pub fn read_input<R: Read>(
+    alloc: Global,
+    name: &str,
+    reader: &mut Counted<R>,
+) -> Result<Input, InputFault>
+    requires { IsFresh reader.old }
+    ensures name { IfOk result (λ i. (file_of i).name ≡ name.now) }
+    ensures bytes { IfOk result (λ i. IfSome (R.remaining (stream_inner reader.old))
+        (λ xs. (file_of i).bytes ≡ take (file_limit + 1) xs)) }
+    ensures consumed { IfOk result (λ i. Consumes (R.remaining (stream_inner reader.old))
+        (R.remaining (stream_inner reader.new)) (file_of i).bytes) }
+    ensures bound { IfOk result (λ i. length (file_of i).bytes ≤ file_limit + 1) }
+    ensures fault { IsErrOf result InputFault.Read ↔ (has_failed reader.new ≡ true) }
+{
+    let name = String::from_str(alloc, name)?;
+    let bytes = read_up_to(alloc, FILE_BYTES, reader)?;
+    Ok(Input { name, bytes })
+}
