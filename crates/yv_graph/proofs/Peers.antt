@@ -90,7 +90,7 @@ pub ranks_each : (g : Graph) (s : Progress) (ranks : List ℕ) → IsSearched g 
 ranks_each g s ranks r e = ap length e ∙ length_ranks s.states ∙ r.searching.each
 
 -- a step of the loop, as it reads the row and the ranks
-pub marking_step : (g : Graph) (ranks : List ℕ) (n rank : ℕ) (row : Vec ℕ Global) (items : List ℕ) (marks marks' : List Bool) (mark : Bool) → length ranks ≡ length g → Marking g ranks n marks → n < length g → row ≡ get_or g n row → items ≡ row.items → rank ≡ get_or ranks n rank → mark ≡ list_any (λ b. get_or ranks b 0 == rank) items → marks' ≡ marks ++ mark ∷ [] → Marking g ranks (n + 1) marks'
-marking_step g ranks n rank row items marks marks' mark each m h at i k is more =
+pub marking_step : (g : Graph) (ranks : List ℕ) (n rank : ℕ) (row : Vec ℕ Global) (items xs : List ℕ) (marks marks' : List Bool) (mark : Bool) → length ranks ≡ length g → Marking g ranks n marks → n < length g → row ≡ get_or g n row → items ≡ row.items → xs ≡ ranks → rank ≡ get_or ranks n rank → mark ≡ list_any (λ b. get_or xs b 0 == rank) items → marks' ≡ marks ++ mark ∷ [] → Marking g ranks (n + 1) marks'
+marking_step g ranks n rank row items xs marks marks' mark each m h at i x k is more =
     let within : n < length ranks = omega (arith, each, h) in
-    marking_more g ranks n rank row marks marks' mark m h at (k ∙ get_or_default_zero ranks n rank within) (rw i at is) more
+    marking_more g ranks n rank row marks marks' mark m h at (k ∙ get_or_default_zero ranks n rank within) (rw (i, x) at is) more

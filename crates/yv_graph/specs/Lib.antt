@@ -1,4 +1,5 @@
 pub mod Graph
 pub mod Ranked
 pub mod InnerMarks
+pub mod InnerPeers
 pub mod InnerSearch

@@ -33,10 +33,10 @@ fn has_rank(row: &[usize], ranks: &[usize], rank: usize) -> bool
 }
 
 // Marks the nodes that have an edge to a node of their own rank.
-fn peers(alloc: Global, graph: &[Vec<usize>], ranks: &[usize]) -> Result<Vec<bool>, AllocError>
+fn peers(alloc: Global, graph: &[Vec<usize>], ranks: &Vec<usize>) -> Result<Vec<bool>, AllocError>
     requires graph { IsGraph graph.now }
-    requires each { length ranks.now ≡ length graph.now }
-    ensures { IfOk result (λ marks. ArePeers graph.now ranks.now marks.items) }
+    requires each { length ranks.now.items ≡ length graph.now }
+    ensures { IfOk result (λ marks. ArePeers graph.now ranks.now.items marks.items) }
 {
     let mut marks = Vec::new(alloc);
     for (node, row) in graph.iter().enumerate() {

@@ -19,15 +19,12 @@ fn key(alloc: Global, value: Value) -> Result<Tuple, AllocError> {
 }
 
 // Whether an index takes both for one key.
-fn are_same(alloc: Global, one: Option<Value>, other: Option<Value>) -> Result<bool, AllocError> {
-    match (one, other) {
-        (Some(one), Some(other)) => {
-            let mut index = Index::new(alloc);
-            index.keep(key(alloc, one)?, 1)?;
-            Ok(index.within(&mut Meter::new(), &key(alloc, other)?, 1, 1))
-        }
-        _ => Ok(false),
-    }
+fn are_same(alloc: Global, one: Value, other: Value) -> Result<bool, AllocError> {
+    let mut meter = Meter::new();
+    let mut index = Index::new(alloc);
+    let first = index.keep_first(&mut meter, key(alloc, one.copy(alloc)?)?, 1)?;
+    let second = index.keep_first(&mut meter, key(alloc, other)?, 2)?;
+    Ok(first == None && second == Some(1))
 }
 
 // The type of this name.
@@ -50,6 +47,27 @@ fn plain(alloc: Global, name: &str) -> Result<PlainType, Fail> {
 // The value of a default's text.
 fn default_value(alloc: Global, name: &str, text: &str) -> Result<Option<Value>, Fail> {
     Ok(read_text(alloc, &plain(alloc, name)?, text, &scope(alloc)?)?)
+}
+
+// Whether a default's text is the value of that JSON text.
+fn reads_as(alloc: Global, name: &str, text: &str, json: &str) -> Result<bool, Fail> {
+    match (
+        default_value(alloc, name, text)?,
+        value(alloc, plain(alloc, name)?, json)?,
+    ) {
+        (Some(found), Some(wanted)) => Ok(are_same(alloc, found, wanted)?),
+        _ => Ok(false),
+    }
+}
+
+// Whether both types read one value, of these JSON texts.
+fn read_one(alloc: Global, one: (&str, &str), other: (&str, &str)) -> Result<bool, Fail> {
+    let first = value(alloc, plain(alloc, one.0)?, one.1)?;
+    let second = value(alloc, plain(alloc, other.0)?.copy()?, other.1)?;
+    match (first, second) {
+        (Some(found), Some(wanted)) => Ok(are_same(alloc, found, wanted)?),
+        _ => Err(Fail::new("no value")),
+    }
 }
 
 // RFC 7950, section 9.2.1, and what each other type reads.
@@ -78,9 +96,7 @@ fn defaults_read_values(rt: HostRuntime) -> Result<(), Fail> {
         ("identity", "loop", "\"ex:loop\""),
     ];
     for (name, text, json) in rows {
-        let found = default_value(rt.alloc(), name, text)?;
-        let wanted = value(rt.alloc(), plain(rt.alloc(), name)?, json)?;
-        assert!(rt; are_same(rt.alloc(), found, wanted)?, "{name} {text}");
+        assert!(rt; reads_as(rt.alloc(), name, text, json)?, "{name} {text}");
     }
     Ok(())
 }
@@ -119,19 +135,16 @@ fn other_defaults_have_no_value(rt: HostRuntime) -> Result<(), Fail> {
 
 #[test]
 fn values_are_keys(rt: HostRuntime) -> Result<(), Fail> {
-    let alloc = rt.alloc();
     let rows = [
-        ("whole", "\"010\"", "whole", "\"10\"", true),
-        ("cents", "\"1.0\"", "cents", "\"1.00\"", true),
-        ("cents", "\"1\"", "tenths", "\"1\"", false),
-        ("bits", "\"a b\"", "bits given twice", "\"b   a\"", true),
-        ("identity", "\"loop\"", "identity", "\"ex:loop\"", true),
-        ("text", "\"a\"", "enumeration", "\"a\"", false),
+        (("whole", "\"010\""), ("whole", "\"10\""), true),
+        (("cents", "\"1.0\""), ("cents", "\"1.00\""), true),
+        (("cents", "\"1\""), ("tenths", "\"1\""), false),
+        (("bits", "\"a b\""), ("bits given twice", "\"b   a\""), true),
+        (("identity", "\"loop\""), ("identity", "\"ex:loop\""), true),
+        (("text", "\"a\""), ("enumeration", "\"a\""), false),
     ];
-    for (name, json, other, text, is_same) in rows {
-        let one = value(alloc, plain(alloc, name)?, json)?;
-        let two = value(alloc, plain(alloc, other)?.copy()?, text)?;
-        assert!(rt; are_same(alloc, one, two)? == is_same, "{name} {json}");
+    for (one, other, are_same) in rows {
+        assert!(rt; read_one(rt.alloc(), one, other)? == are_same, "{one:?}");
     }
     Ok(())
 }
@@ -155,25 +168,33 @@ fn each_type_that_is_tried_is_a_step(rt: HostRuntime) -> Result<(), Fail> {
     Ok(())
 }
 
+// A key of one value.
+fn truth(alloc: Global) -> Result<Tuple, Fail> {
+    match value(alloc, PlainType::Boolean, "true")? {
+        Some(truth) => Ok(key(alloc, truth)?),
+        None => Err(Fail::new("no truth")),
+    }
+}
+
+// An index of that key, at the places 7 and 4.
+fn index(alloc: Global) -> Result<Index, Fail> {
+    let mut index = Index::new(alloc);
+    index.keep(truth(alloc)?, 7)?;
+    index.keep(truth(alloc)?, 4)?;
+    Ok(index)
+}
+
 #[test]
 fn an_index_keeps_places(rt: HostRuntime) -> Result<(), Fail> {
-    let alloc = rt.alloc();
+    let mut index = index(rt.alloc())?;
+    let key = truth(rt.alloc())?;
     let mut meter = Meter::new();
-    let mut index = Index::new(alloc);
-    let Some(one) = value(alloc, PlainType::Boolean, "true")? else {
-        return Err(Fail::new("no truth"));
-    };
-    for (place, found) in [(7, None), (9, Some(7))] {
-        assert!(rt; index.keep_first(&mut meter, key(alloc, one.copy(alloc)?)?, place)? == found);
+    for (first, last, is_there) in [(4, 4, true), (5, 7, true), (5, 6, false), (0, 3, false)] {
+        assert!(rt; index.within(&mut meter, &key, first, last) == is_there);
     }
-    index.keep(key(alloc, one.copy(alloc)?)?, 4)?;
-    assert!(rt; index.keep_first(&mut meter, key(alloc, one.copy(alloc)?)?, 9)? == Some(4));
-    let sought = key(alloc, one)?;
-    for (first, last, is_there) in [(4, 4, true), (5, 7, true), (5, 6, false)] {
-        assert!(rt; index.within(&mut meter, &sought, first, last) == is_there);
-    }
-    assert!(rt; !index.within(&mut meter, &Tuple::new(alloc), 0, 9));
+    assert!(rt; !index.within(&mut meter, &Tuple::new(rt.alloc()), 0, 9));
+    assert!(rt; index.keep_first(&mut meter, key, 9)? == Some(4));
     meter.visit();
-    assert_eq!(rt; meter.steps(), 8);
+    assert_eq!(rt; meter.steps(), 7);
     Ok(())
 }
