@@ -6,12 +6,12 @@ use denote.Ref.{Bor}
 use Rattle.yv_statement.specs.Order.{refusal_at}
 use Rattle.yv_statement.specs.Tree.{Tree}
 use Rattle.yv_statement.specs.declared.refusal.Code.TheVariants.{BadNumbering}
-use Rattle.yv_restrictions.specs.Numberings.{Pair, IsFirstWrong}
+use Rattle.yv_restrictions.specs.Numberings.{Pair, IsFirstWrong, kept, number_in}
 use Rattle.yv_restrictions.specs.declared.numbering.Kind.{Kind}
 use Rattle.yv_restrictions.specs.declared.numbering.Listed.{Listed}
 use Rattle.yv_named.specs.Entries.{entry_of, listing}
 use Rattle.yv_named.specs.InnerEntries.{fault_at, lent}
-use Rattle.yv_named.specs.Names.{IsFault, is_value_from}
+use Rattle.yv_named.specs.Names.{IsFault, is_value_from, number_from}
 
 line_at : (f : Tree → Listed) (cs : List Tree) (i : ℕ) (e : Listed) → slice_get (map f cs) i ≡ Some e → (c : Tree) × (slice_get cs i ≡ Some c)
 line_at f [] i e h = absurd (cc)
@@ -45,3 +45,8 @@ values_listed base number listed (c ∷ cs) s h = grouped (is_some (number s)) (
 pub lists_some : (ls : List (Bor Tree)) (b : Bool) → b ≡ (length ls == 0) → b ≡ false → lent ls ≡ [] → ⊥
 lists_some [] b e f h = let t : b ≡ true = e in cc
 lists_some (l ∷ ls) b e f h = cc
+
+-- the numbers of a type that lists names
+pub number_listed : (base : List ℕ → Option ℤ) (kind : Kind) (cs : List Tree) (s : List ℕ) → (cs ≡ [] → ⊥) → number_in (kept base (map (entry_of kind) cs)) s ≡ number_from base (map (entry_of kind) cs) s
+number_listed base kind [] s h = absurd (h refl)
+number_listed base kind (c ∷ cs) s h = refl

@@ -1,10 +1,10 @@
 //! The names of a type.
-ghost use Rattle.std.specs.Prelude.{◌≡◌, ℕ, List, ◌&&◌, IfOk};
+ghost use Rattle.std.specs.Prelude.{◌≡◌, ◌≢◌, ℕ, List, [], ◌&&◌, Option, IfOk};
 ghost use Rattle.yv_link.specs.Linked.{truth_in};
-ghost use Rattle.yv_restrictions.specs.Numberings.{is_wrong, is_wrong_in, kept, number_in, numbered, table_of};
+ghost use Rattle.yv_restrictions.specs.Numberings.{IsFirstWrong, is_wrong, is_wrong_in, kept, number_in, numbered, table_of};
 ghost use Rattle.yv_values.specs.Sorted.{Rises, is_named};
 ghost use Rattle.yv_named.specs.Entries.{entries, is_on_among, listing};
-ghost use Rattle.yv_named.specs.InnerEntries.{counts, fault_at, lent};
+ghost use Rattle.yv_named.specs.InnerEntries.{counts, entries_in, fault_at, lent};
 ghost use Rattle.yv_named.specs.Names.{IsFault, is_value, is_value_by, is_value_from, number_from, number_of};
 
 use crate::conditions::Conditions;
@@ -83,9 +83,30 @@ impl<'a> Named<'a> {
                 fault: None,
             });
         }
-        let found = derived_numbers(alloc, &self.shared.numbering, kind, &lines)?;
+        self.fewer(alloc, linked, file, kind, &lines)
+    }
+
+    // The names of a type that is derived from this type and lists these entries, which are some.
+    fn fewer(
+        &self,
+        alloc: Global,
+        linked: &Linked<'a, '_>,
+        file: u32,
+        kind: Kind,
+        lines: &[&'a Statement<'_>],
+    ) -> Result<Listing<'a>, AllocError>
+        requires { lent lines.now ≢ [] }
+        ensures numbers { IfOk result (λ l. (name : List ℕ)
+            → number_of l.names name ≡ number_from (number_of self.now) (entries_in kind lines.now) name) }
+        ensures values { IfOk result (λ l. (name : List ℕ) → is_value l.names name
+            ≡ is_value_from (is_value self.now) (number_of l.names) (is_on_among (truth_in linked.now) file) (lent lines.now) name) }
+        ensures fault { IfOk result (λ l. (first : Option ℕ)
+            × IsFirstWrong (kept (number_of self.now)) (is_wrong_in (number_of self.now)) (entries_in kind lines.now) first
+            × (l.fault ≡ fault_at file (lent lines.now) first)) }
+    {
+        let found = derived_numbers(alloc, &self.shared.numbering, kind, lines)?;
         let conditions = Conditions { linked, file };
-        Named::made(alloc, conditions, found, Some(&self.shared.values), &lines)
+        Named::made(alloc, conditions, found, Some(&self.shared.values), lines)
     }
 
     /// The same names once more, over the same tables. It takes constant time.
