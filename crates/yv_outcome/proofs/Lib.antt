@@ -1,3 +1,3 @@
 pub mod DocumentLemmas
 pub mod OneOutput
-pub mod Compiling
+pub mod FileLemmas

@@ -15,7 +15,7 @@ use Rattle.yv_job.specs.Jobs.{Task}
 use Rattle.yv_outcome.specs.Compiles.{Compiled, RefusedAt, Built, IsRead, IsUnread, in_file, FilesCompile, unread, refused, built}
 use Rattle.yv_streams.specs.Files.{File}
 use Rattle.yv_outcome.specs.Output.{Printed, IsOutput, compiled_printed}
-use Rattle.yv_outcome.proofs.Compiling.{zip_back}
+use Rattle.yv_outcome.proofs.FileLemmas.{zip_back}
 
 -- the laws of the layers below
 pub record Once : Type 0 where
