@@ -1,3 +1,2 @@
 pub mod DocumentLemmas
 pub mod OneOutput
-pub mod Compiling

@@ -15,7 +15,14 @@ use Rattle.yv_job.specs.Jobs.{Task}
 use Rattle.yv_outcome.specs.Compiles.{Compiled, RefusedAt, Built, IsRead, IsUnread, in_file, FilesCompile, unread, refused, built}
 use Rattle.yv_streams.specs.Files.{File}
 use Rattle.yv_outcome.specs.Output.{Printed, IsOutput, compiled_printed}
-use Rattle.yv_outcome.proofs.Compiling.{zip_back}
+
+-- what stands at a place of the first list has its like in the second
+zip_back : {A B : Type 0} (R : A → B → Type 0) (xs : List A) (ys : List B) (n : ℕ) (x : A) → AllZip R xs ys → slice_get xs n ≡ Some x → (y : B) × (slice_get ys n ≡ Some y) × R x y
+zip_back R [] [] n x h at = cc
+zip_back R [] (z ∷ ys) n x h at = absurd h
+zip_back R (z ∷ xs) [] n x h at = absurd h
+zip_back R (z ∷ xs) (y ∷ ys) zero x h at = let same : z ≡ x = cc in (y, refl, subst (λ a. R a y) same h.0)
+zip_back R (z ∷ xs) (y ∷ ys) (suc n) x h at = zip_back R xs ys n x h.1 at
 
 -- the laws of the layers below
 pub record Once : Type 0 where

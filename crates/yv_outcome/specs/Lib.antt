@@ -2,4 +2,3 @@ pub mod Document
 pub mod Status
 pub mod Compiles
 pub mod Output
-pub mod InnerParsed

@@ -1,1 +1,2 @@
+pub mod InnerParsed
 pub mod InnerRun

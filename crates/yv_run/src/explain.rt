@@ -5,9 +5,9 @@ ghost use Rattle.yv_outcome.specs.Compiles.{FilesCompile, RefusedAt, GiveSchema}
 ghost use Rattle.yv_messages.specs.Excerpt.{Explains};
 ghost use Rattle.yv_streams.specs.Files.{file_of};
 
+use crate::compiling::compiled;
 use std::alloc::{AllocError, Global};
 use yv_messages::{excerpt, meaning};
-use yv_outcome::compiled;
 use yv_selection::Selection;
 use yv_statement::{Refusal, Stop};
 use yv_streams::Input;

@@ -1,7 +1,10 @@
-//! A run over files that were read, and what helps a person to mend a file that it refuses.
+//! A run over files that were read: their schema or what is refused of them, the text of it written, and
+//! what helps a person to mend a file that is refused.
 #![tactic(auto)]
 
+mod compiling;
 mod explain;
+mod parsed;
 mod running;
 
 pub use explain::{explanation, refusal_of};

@@ -9,11 +9,12 @@ ghost use Rattle.yv_outcome.specs.Compiles.{HavePattern};
 ghost use Rattle.yv_run.specs.InnerRun.{AppendsAll, AppendsFront, SaysOf, SaysOfData};
 ghost use Rattle.yv_outcome.specs.Output.{PrintsFor, ReadsData, WantsData, WritesAll, WritesFront, IsFinished, IsStopped, printed_of};
 
+use crate::compiling::compiled;
 use std::alloc::{AllocError, Global};
 use std::io::{Read, Write};
 use thiserror::Error;
 use yv_job::{Command, Job};
-use yv_outcome::{Output, Status, compiled, of_count, of_data, of_refusal};
+use yv_outcome::{Output, Status, of_count, of_data, of_refusal};
 use yv_schema::Schema;
 use yv_statement::Stop;
 use yv_streams::{Counted, Input, InputFault, read_up_to, write_whole};

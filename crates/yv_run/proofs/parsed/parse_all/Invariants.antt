@@ -1,7 +1,7 @@
 use Rattle.std.proofs.Common.{take}
 use Rattle.std.specs.List.{AllZip}
-use Rattle.yv_outcome.specs.InnerParsed.{Spells}
-use Rattle.yv_outcome.proofs.parsed.parse_all.Given as goal
+use Rattle.yv_run.specs.InnerParsed.{Spells}
+use Rattle.yv_run.proofs.parsed.parse_all.Given as goal
 
 -- the statements so far
 abbrev pub invariant-loop-number : goal.invariant-loop-number

@@ -6,7 +6,7 @@ ghost use Rattle.yv_selection.specs.Choice.{choice_of};
 ghost use Rattle.yv_schema.specs.Rows.{whole};
 ghost use Rattle.yv_outcome.specs.Compiles.{FilesCompile, RefusedAt, Built, HavePattern};
 ghost use Rattle.yv_streams.specs.Files.{file_of};
-ghost use Rattle.yv_outcome.specs.InnerParsed.{AreTexts};
+ghost use Rattle.yv_run.specs.InnerParsed.{AreTexts};
 
 use crate::parsed::{Texts, parse_all, read_texts};
 use std::alloc::Global;

@@ -3,8 +3,8 @@ use Rattle.std.specs.List.{AllZip}
 use Rattle.yv_selection.specs.Choice.{choice_of}
 use Rattle.yv_outcome.specs.Compiles.{FilesCompile, IsRead, RefusedAt, refused}
 use Rattle.yv_streams.specs.Files.{File, file_of}
-use Rattle.yv_outcome.proofs.Compiling.{all_read, err_again, gives_schema, no_text, none_spelled}
-use Rattle.yv_outcome.proofs.compiling.of_texts.Goals as goal
+use Rattle.yv_run.proofs.FileLemmas.{all_read, err_again, gives_schema, no_text, none_spelled}
+use Rattle.yv_run.proofs.compiling.of_texts.Goals as goal
 
 pub returns-in-Some-clause-refused : goal.returns-in-Some-clause-refused
 returns-in-Some-clause-refused c = λ r e.

@@ -1,8 +1,8 @@
 use Rattle.std.proofs.Common.{◌≡◌, length, map, take}
 use Rattle.std.specs.List.{AllZip}
 use Rattle.yv_streams.specs.Files.{file_of}
-use Rattle.yv_outcome.specs.InnerParsed.{IsText}
-use Rattle.yv_outcome.proofs.parsed.read_texts.Given as goal
+use Rattle.yv_run.specs.InnerParsed.{IsText}
+use Rattle.yv_run.proofs.parsed.read_texts.Given as goal
 
 -- the texts so far
 abbrev pub invariant-loop-number : goal.invariant-loop-number

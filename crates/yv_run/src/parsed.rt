@@ -5,7 +5,7 @@ ghost use Rattle.yv_statement.specs.declared.refusal.Refusal.{Refusal as TheRefu
 ghost use Rattle.yv_statement.specs.declared.refusal.Stop.TheVariants.{Fault, PatternBuild};
 ghost use Rattle.yv_outcome.specs.Compiles.{in_file};
 ghost use Rattle.yv_streams.specs.Files.{file_of};
-ghost use Rattle.yv_outcome.specs.InnerParsed.{AreTexts, Spells, SpellsNone};
+ghost use Rattle.yv_run.specs.InnerParsed.{AreTexts, Spells, SpellsNone};
 
 use std::alloc::{AllocError, Global};
 use yv_source::{Source, parse};

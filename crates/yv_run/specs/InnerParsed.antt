@@ -8,7 +8,7 @@ use Rattle.yv_source.specs.File as source
 use Rattle.yv_source.specs.Legal.{IsLegalFile}
 use Rattle.yv_outcome.specs.Compiles.{in_file}
 use Rattle.yv_streams.specs.Files.{File}
-use Rattle.yv_outcome.specs.declared.parsed.Texts.{Texts}
+use Rattle.yv_run.specs.declared.parsed.Texts.{Texts}
 
 -- the file's bytes are a legal text, which is this one
 abbrev pub IsText : File → source.File → Type 0

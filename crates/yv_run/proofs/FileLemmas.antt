@@ -14,7 +14,7 @@ use Rattle.yv_schema.specs.Refuses.{Refuses}
 use Rattle.yv_schema.specs.Schema.{IsSchema}
 use Rattle.yv_outcome.specs.Compiles.{Built, RefusedAt, FilesCompile, IsRead, IsUnread, in_file, unread, built}
 use Rattle.yv_streams.specs.Files.{File}
-use Rattle.yv_outcome.specs.InnerParsed.{IsText, IsNoText, Spells, SpellsNone}
+use Rattle.yv_run.specs.InnerParsed.{IsText, IsNoText, Spells, SpellsNone}
 
 abbrev pub error_of : {A E : Type 0} → E → Result A E → E
 error_of d (Ok x) = d
@@ -44,14 +44,6 @@ module _ {A B : Type 0} (R : A → B → Type 0) where
   zip_at (x ∷ xs) [] n y h at = absurd h
   zip_at (x ∷ xs) (z ∷ ys) zero y h at = let same : z ≡ y = cc in (x, refl, subst (R x) same h.0)
   zip_at (x ∷ xs) (z ∷ ys) (suc n) y h at = zip_at xs ys n y h.1 at
-
-  -- and the other way
-  pub zip_back : (xs : List A) (ys : List B) (n : ℕ) (x : A) → AllZip R xs ys → slice_get xs n ≡ Some x → (y : B) × (slice_get ys n ≡ Some y) × R x y
-  zip_back [] [] n x h at = cc
-  zip_back [] (z ∷ ys) n x h at = absurd h
-  zip_back (z ∷ xs) [] n x h at = absurd h
-  zip_back (z ∷ xs) (y ∷ ys) zero x h at = let same : z ≡ x = cc in (y, refl, subst (λ a. R a y) same h.0)
-  zip_back (z ∷ xs) (y ∷ ys) (suc n) x h at = zip_back xs ys n x h.1 at
 
   -- one more of each
   pub zip_push : (xs : List A) (ys : List B) (n : ℕ) (x : A) (y : B) → slice_get xs n ≡ Some x → AllZip R (take n xs) ys → R x y → AllZip R (take (suc n) xs) (ys ++ y ∷ [])

@@ -6,8 +6,8 @@ use Rattle.yv_source.specs.File as source
 use Rattle.yv_source.specs.Legal.{IsLegalFile}
 use Rattle.yv_outcome.specs.Compiles.{in_file}
 use Rattle.yv_streams.specs.Files.{File, file_of}
-use Rattle.yv_outcome.proofs.Compiling.{failed, get_view, texts_end, texts_more}
-use Rattle.yv_outcome.proofs.parsed.read_texts.Goals as goal
+use Rattle.yv_run.proofs.FileLemmas.{failed, get_view, texts_end, texts_more}
+use Rattle.yv_run.proofs.parsed.read_texts.Goals as goal
 
 pub returns-in-Err-Fault : goal.returns-in-Err-Fault
 returns-in-Err-Fault c =

@@ -1,8 +1,8 @@
 use Rattle.std.proofs.Common.{◌≡◌, Some, refl}
 use Rattle.std.specs.List.{slice_get}
 use Rattle.std.proofs.lemmas.Option.{slice_get_read}
-use Rattle.yv_outcome.proofs.Compiling.{statements_more}
-use Rattle.yv_outcome.proofs.parsed.parse_all.Goals as goal
+use Rattle.yv_run.proofs.FileLemmas.{statements_more}
+use Rattle.yv_run.proofs.parsed.parse_all.Goals as goal
 
 pub loop-number-preserved : goal.loop-number-preserved
 loop-number-preserved c =
