@@ -1,5 +1,5 @@
 -- What is built of the files of modules is what a schema is made of.
-use Rattle.std.proofs.Common.{◌≡◌, List, ap, ◌∙◌, sym, subst}
+use Rattle.std.proofs.Common.{◌≡◌, List, subst}
 use Rattle.yv_selection.specs.Choice.{Choice}
 use Rattle.yv_rows.specs.Files.{Files}
 use Rattle.yv_nodes.specs.Groups.{AreRowsOf, Top, all_nodes, tops_from}

@@ -10,11 +10,11 @@ use Rattle.yv_statement.specs.Tree as statement
 use Rattle.yv_selection.specs.Choice.{Choice}
 use Rattle.yv_rows.specs.Files.{Files, brief_of, tree_name}
 use Rattle.yv_nodes.specs.declared.node.NodeId.{NodeId}
-use Rattle.yv_nodes.specs.Tree.{count, Forest, node, no_trees, tree}
+use Rattle.yv_nodes.specs.Tree.{count, Forest, no_trees}
 use Rattle.yv_schema.specs.Module.{Basis, file_nodes, is_given, is_part, module_nodes, parts_from}
 use Rattle.yv_nodes.specs.Rows.{Row, root}
-use Rattle.yv_nodes.specs.Numbers.{numbers_from, rows_below, rows_from}
-use Rattle.yv_nodes.specs.Groups.{Group, Top, all_nodes, joined, tops_from}
+use Rattle.yv_nodes.specs.Numbers.{numbers_from, rows_from}
+use Rattle.yv_nodes.specs.Groups.{Group, Top, all_nodes, tops_from}
 use Rattle.yv_schema.specs.InnerBuild.{Adds, groups_from}
 use Rattle.yv_schema.proofs.Growing.{Rest, added_numbers, added_rows, rest_more}
 use Rattle.yv_nodes.proofs.Grouping.{rows_joined}

@@ -1,4 +1,4 @@
-use Rattle.std.proofs.Common.{◌≡◌, List, map, sym, ◌∙◌, IfOk, OnOk, Some, None, subst}
+use Rattle.std.proofs.Common.{◌≡◌, map, sym, ◌∙◌, IfOk, OnOk, Some, None, subst}
 use Rattle.yv_selection.specs.Choice.{choice_of}
 use Rattle.yv_statement.specs.Order.{IsLeast}
 use Rattle.yv_rows.specs.Lent.{lent_in}

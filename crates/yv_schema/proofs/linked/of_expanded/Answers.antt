@@ -1,4 +1,4 @@
-use Rattle.std.proofs.Common.{◌≡◌, Some, None, refl, ◌∙◌}
+use Rattle.std.proofs.Common.{Some, None, refl, ◌∙◌}
 use Rattle.std.proofs.lemmas.Result.{IfOk-weaker, on_ok_weaker}
 use Rattle.yv_statement.specs.Order.{IsLeast}
 use Rattle.yv_selection.specs.Choice.{choice_of}

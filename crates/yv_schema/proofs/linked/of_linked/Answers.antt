@@ -1,10 +1,9 @@
-use Rattle.std.proofs.Common.{◌≡◌, Some, None}
+use Rattle.std.proofs.Common.{Some, None}
 use Rattle.yv_statement.specs.Order.{IsLeast}
 use Rattle.yv_selection.specs.Choice.{choice_of}
 use Rattle.yv_link.proofs.Phases.{err_again}
-use Rattle.yv_rows.specs.Files.{Files}
 use Rattle.yv_schema.specs.Refuses.{RefusesBeforeTypes}
-use Rattle.yv_schema.specs.InnerPhases.{AreClear, AreExpanded}
+use Rattle.yv_schema.specs.InnerPhases.{AreExpanded}
 use Rattle.yv_schema.proofs.Phases.{HavePhases, least_expanded, least_first, least_named}
 use Rattle.yv_schema.proofs.linked.of_linked.Goals as goal
 
