@@ -8,8 +8,6 @@ mod conditions;
 mod expansion;
 mod kept;
 pub mod laws;
-#[cfg(test)]
-mod tests;
 mod whole;
 
 pub use kept::Copies;

@@ -4,7 +4,8 @@ use Rattle.std.specs.List.{slice_get}
 use Rattle.std.specs.Option.{IfSome}
 use Rattle.yv_rows.specs.Files.{Files}
 use Rattle.yv_definitions.specs.Kinds.{Kinds}
-use Rattle.yv_definitions.specs.Defined.{Defined, defined}
+use Rattle.yv_nodes.specs.Defined.{Defined}
+use Rattle.yv_definitions.specs.Defined.{defined}
 use Rattle.yv_definitions.specs.InnerKept.{AreKept}
 
 -- what stands in a list with one more behind: in the list, or as the last

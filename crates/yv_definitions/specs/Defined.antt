@@ -11,24 +11,12 @@ use Rattle.yv_rows.specs.Files.{Files}
 use Rattle.yv_rows.specs.Rows.{Row}
 use Rattle.yv_rows.specs.Listed.{rows_of, statements_of}
 use Rattle.yv_values.specs.Types.{Plain}
-use Rattle.yv_definitions.specs.declared.definition.NodeKind.{NodeKind}
-use Rattle.yv_definitions.specs.declared.definition.NodeKind.TheVariants.{Container, Leaf}
-use Rattle.yv_definitions.specs.declared.definition.NodeStatus.{NodeStatus}
-use Rattle.yv_definitions.specs.declared.definition.NodeStatus.TheVariants.{Current, Deprecated, Obsolete}
+use Rattle.yv_nodes.specs.Defined.{Defined}
+use Rattle.yv_nodes.specs.declared.definition.NodeKind.{NodeKind}
+use Rattle.yv_nodes.specs.declared.definition.NodeKind.TheVariants.{Container, Leaf}
+use Rattle.yv_nodes.specs.declared.definition.NodeStatus.{NodeStatus}
+use Rattle.yv_nodes.specs.declared.definition.NodeStatus.TheVariants.{Current, Deprecated, Obsolete}
 use Rattle.yv_definitions.specs.Kinds.{Kinds}
-
--- what a statement says of the schema node that it defines: `file`, `offset` and `line` say where its keyword stands
-pub record Defined : Type 0 where
-  pub file : ℕ
-  pub offset : ℕ
-  pub line : ℕ
-  pub kind : NodeKind
-  pub name : List ℕ
-  pub types : List Plain
-  pub has_presence : Bool
-  pub status : NodeStatus
-  pub features : List ℕ
-  pub type_text : List ℕ
 
 -- a statement has this keyword
 abbrev pub is_of : Keyword → Tree → Bool

@@ -5,7 +5,8 @@ use Rattle.yv_statement.specs.Tree.{Forest}
 use Rattle.yv_conform.specs.declared.keyword.Keyword.TheVariants as word
 use Rattle.yv_rows.specs.Files.{Files}
 use Rattle.yv_definitions.specs.Kinds.{Kinds}
-use Rattle.yv_definitions.specs.Defined.{Defined, defined, first_of, statement_at}
+use Rattle.yv_nodes.specs.Defined.{Defined}
+use Rattle.yv_definitions.specs.Defined.{defined, first_of, statement_at}
 
 -- what is kept at a place is what the statement of that number says
 abbrev pub AreKept : Kinds → Files → List (Option Defined) → Type 0

@@ -8,13 +8,13 @@ ghost use Rattle.yv_definitions.specs.Kinds.{kinds_of};
 ghost use Rattle.yv_definitions.specs.Defined.{all_expressions, defined, expressions, file_at, gives_presence, is_present, joined, no_statement, refined, statement_at};
 ghost use Rattle.yv_definitions.specs.InnerKept.{AreKept, gives_features, has_features};
 
-use crate::definition::Definition;
 use crate::features::push_expressions;
 use crate::reading::define;
 use crate::substatements::{has, is_of};
 use std::alloc::{AllocError, Global};
 use std::rc::RcStr;
 use yv_conform::Keyword;
+use yv_nodes::Definition;
 use yv_rows::Rows;
 use yv_statement::Statement;
 use yv_types::Types;

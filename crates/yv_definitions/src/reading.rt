@@ -7,12 +7,12 @@ ghost use Rattle.yv_values.specs.Types.{plain_of};
 ghost use Rattle.yv_definitions.specs.Kinds.{kinds_of};
 ghost use Rattle.yv_definitions.specs.Defined.{defined_by, expressions, joined, kind_of, status_of, types_in};
 
-use crate::definition::{Definition, NodeKind, NodeStatus};
 use crate::features::push_expressions;
 use crate::substatements::{argument_of, first_of, has, name_of};
 use std::alloc::{AllocError, Global};
 use std::rc::{RcSlice, RcStr};
 use yv_conform::Keyword;
+use yv_nodes::{Definition, NodeKind, NodeStatus};
 use yv_statement::Statement;
 use yv_types::Types;
 use yv_values::PlainType;

@@ -9,8 +9,6 @@ mod lists;
 mod own;
 mod spread;
 mod stack;
-#[cfg(test)]
-mod tests;
 mod whole;
 
 pub use deep::first_too_deep;

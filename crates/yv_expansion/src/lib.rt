@@ -5,8 +5,6 @@
 mod expansion;
 mod item;
 pub mod laws;
-#[cfg(test)]
-mod tests;
 
 pub use expansion::Expansion;
 pub use item::Item;

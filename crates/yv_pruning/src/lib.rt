@@ -6,8 +6,6 @@ mod families;
 pub mod laws;
 mod layout;
 mod runs;
-#[cfg(test)]
-mod tests;
 mod uses;
 
 pub use families::{Families, families_of};

@@ -13,8 +13,6 @@ mod paths;
 mod plan;
 mod refines;
 mod spots;
-#[cfg(test)]
-mod tests;
 mod walk;
 
 pub use refines::Refines;

@@ -1,5 +1,5 @@
 -- The trees that files' statements give, module by module.
-use Rattle.std.proofs.Common.{◌≡◌, ◌≢◌, ℕ, zero, suc, ◌+◌, ◌<◌, List, [], ◌∷◌, ◌++◌, map, refl, sym, ap, ◌∙◌, subst, arith, append_assoc, Bool, true, false, cond, Some}
+use Rattle.std.proofs.Common.{◌≡◌, ◌≢◌, ℕ, suc, ◌+◌, ◌<◌, List, [], ◌∷◌, ◌++◌, map, refl, sym, ap, ◌∙◌, subst, arith, append_assoc, Bool, true, false, cond, Some}
 use Rattle.std.specs.List.{AllByRecursion, slice_get}
 use Rattle.std.specs.Str.{bytes_eq}
 use Rattle.std.proofs.lemmas.Bool.{false_from_ne_true}
@@ -8,14 +8,12 @@ use Rattle.yv_statement.specs.Tree as statement
 use Rattle.yv_expansion.specs.Tree as items
 use Rattle.yv_selection.specs.Choice.{Choice}
 use Rattle.yv_rows.specs.Files.{Files, brief_of, tree_name}
-use Rattle.yv_schema.specs.declared.node.NodeId.{NodeId}
-use Rattle.yv_schema.specs.Tree.{count, node, Forest, no_trees, tree}
+use Rattle.yv_nodes.specs.Tree.{node, Forest, no_trees, tree}
 use Rattle.yv_schema.specs.Module.{Basis, file_nodes, is_given, is_part, label_at, labelled, member_name, module_nodes, modules_from, parts_from}
 use Rattle.yv_copies.specs.Left.{left_in}
-use Rattle.yv_schema.specs.InnerNumbers.{numbers_from}
-use Rattle.yv_schema.specs.InnerBuild.{Group, HasNoColon, Top, all_nodes, all_numbers, groups_from, joined, tops_from}
-use Rattle.yv_schema.specs.InnerTables.{DifferInName}
-use Rattle.yv_schema.proofs.Gathering.{numbers_joined}
+use Rattle.yv_nodes.specs.Groups.{AreDifferent, AreFormed, Group, HasNoColon, IsFormed, IsNew, all_nodes, joined}
+use Rattle.yv_schema.specs.InnerBuild.{groups_from}
+use Rattle.yv_nodes.proofs.Grouping.{joined_assoc}
 
 -- what stands before a name in its member's, below a node of the module `above`
 abbrev pub front_for : List ℕ → List ℕ → List ℕ
@@ -37,20 +35,6 @@ top_front home filled =
     let differs : bytes_eq [] home ≡ false = false_from_ne_true _ (λ e. filled (sym ((bytes_eq-Decides [] home).0 e))) in
     rw differs refl
 
--- each of these nodes is of this module, and its member is its name behind this text
-abbrev pub AreOf : List ℕ → List ℕ → Forest → Type 0
-AreOf home front no_trees = Unit {0}
-AreOf home front (tree (node l kids) ts) = (l.module_name ≡ home) × (l.member ≡ front ++ l.name) × AreOf home front ts
-
--- below each node the nodes are of its module, and their members are their names
-abbrev pub AreOfBelow : Forest → Type 0
-AreOfBelow no_trees = Unit {0}
-AreOfBelow (tree (node l kids) ts) = AreOf l.module_name [] kids × AreOfBelow kids × AreOfBelow ts
-
--- both
-abbrev pub AreFormed : List ℕ → List ℕ → Forest → Type 0
-AreFormed home front ts = AreOf home front ts × AreOfBelow ts
-
 chosen_formed : (b : Bool) (home front : List ℕ) (ts us : Forest) → AreFormed home front ts → AreFormed home front us → AreFormed home front (cond b ts us)
 chosen_formed true home front ts us p q = p
 chosen_formed false home front ts us p q = q
@@ -69,11 +53,6 @@ parts_formed b m home n (t ∷ ts) others rest =
     let behind : AreFormed home (front_for [] home) (parts_from b m home (n + 1) ts others) = parts_formed b m home (n + 1) ts others rest in
     chosen_formed (is_part (map brief_of b.files) m n) home (front_for [] home) _ _ (labelled_formed b home [] (left_in b.truth b.files b.trees n) (parts_from b m home (n + 1) ts others) behind) behind
 
--- a module's nodes
-pub record IsFormed (g : Group) : Type 0 where
-  pub plain : HasNoColon g.name
-  pub formed : AreFormed g.name (g.name ++ 58 ∷ []) g.nodes
-
 -- the names of modules of these files
 pub record NamesIn (choice : Choice) (ts : Files) : Type 0 where
   pub plain : (n : ℕ) (t : statement.Tree) → slice_get ts n ≡ Some t → is_given choice t ≡ true → HasNoColon (tree_name t)
@@ -81,14 +60,6 @@ pub record NamesIn (choice : Choice) (ts : Files) : Type 0 where
 
 abbrev pub names_behind : (choice : Choice) (t : statement.Tree) (ts : Files) → NamesIn choice (t ∷ ts) → NamesIn choice ts
 names_behind choice t ts h = record { plain = λ n. h.plain (suc n); filled = λ n. h.filled (suc n) }
-
--- no module has this name
-abbrev pub IsNew : List ℕ → List Group → Type 0
-IsNew name gs = AllByRecursion (λ (g : Group). name ≢ g.name) gs
-
-abbrev pub AreDifferent : List Group → Type 0
-AreDifferent [] = Unit {0}
-AreDifferent (g ∷ gs) = IsNew g.name gs × AreDifferent gs
 
 module _ (b : Basis) (choice : Choice) where
   group_formed : (m : ℕ) (t : statement.Tree) → HasNoColon (tree_name t) → tree_name t ≢ [] → IsFormed (record { name = tree_name t; nodes = module_nodes b m t no_trees })
@@ -126,28 +97,6 @@ module _ (b : Basis) (choice : Choice) where
       chosen_groups (is_given choice t) AreDifferent (record { name = tree_name t; nodes = module_nodes b m t no_trees }) (groups_from b choice (m + 1) ts)
       (groups_different (m + 1) ts (λ i k a b lt at_i at_k. differ (suc i) (suc k) a b (omega arith) at_i at_k))
       (λ given rest. (groups_new (tree_name t) (m + 1) ts (λ k u at given_u. differ 0 (suc k) t u (omega arith) refl at given given_u), rest))
-
--- modules that differ in name give nodes at the top by different names
-new_tops : (name : List ℕ) (first : ℕ) (gs : List Group) (k : ℕ) (u : Top) → IsNew name gs → slice_get (tops_from first gs) k ≡ Some u → name ≢ u.name
-new_tops name first [] k u new at = cc
-new_tops name first (g ∷ gs) zero u new at = let same : record { name = g.name; numbers = numbers_from first g.nodes } ≡ u = cc in subst (λ (x : Top). name ≢ x.name) same new.0
-new_tops name first (g ∷ gs) (suc k) u new at = new_tops name (first + count g.nodes) gs k u new.1 at
-
-pub tops_differ : (first : ℕ) (gs : List Group) → AreDifferent gs → DifferInName (tops_from first gs)
-tops_differ first [] differ = λ i k t u lt at_i at_k. cc
-tops_differ first (g ∷ gs) differ = λ i k t u lt at_i at_k. by (tops_differ (first + count g.nodes) gs differ.1) i k t u lt at_i at_k
-  where
-    by : DifferInName (tops_from (first + count g.nodes) gs) → (i k : ℕ) (t u : Top) → i < k → slice_get (tops_from first (g ∷ gs)) i ≡ Some t → slice_get (tops_from first (g ∷ gs)) k ≡ Some u → t.name ≢ u.name
-    by later i zero t u lt at_i at_k = absurd (omega arith)
-    by later zero (suc k) t u lt at_i at_k =
-        let same : record { name = g.name; numbers = numbers_from first g.nodes } ≡ t = cc in
-        subst (λ (x : Top). x.name ≢ u.name) same (new_tops g.name (first + count g.nodes) gs k u differ.0 at_k)
-    by later (suc i) (suc k) t u lt at_i at_k = later i k t u (omega arith) at_i at_k
-
--- what follows stands behind
-joined_assoc : (ts us vs : Forest) → joined (joined ts us) vs ≡ joined ts (joined us vs)
-joined_assoc no_trees us vs = refl
-joined_assoc (tree t ts) us vs = ap (tree t) (joined_assoc ts us vs)
 
 chosen_joined : (b : Bool) (a c ts us vs : Forest) → a ≡ joined ts us → c ≡ joined vs us → cond b a c ≡ joined (cond b ts vs) us
 chosen_joined true a c ts us vs p q = p
@@ -191,8 +140,3 @@ all_modules b choice m (t ∷ ts) =
         ≡ cond given (module_nodes b m t (modules_from b choice (m + 1) ts)) (modules_from b choice (m + 1) ts)
     by true rest = ap (joined (module_nodes b m t no_trees)) rest ∙ sym (module_joined b m t (modules_from b choice (m + 1) ts))
     by false rest = rest
-
--- the numbers at the top of all modules are those of all nodes
-pub all_numbered : (first : ℕ) (gs : List Group) → all_numbers (tops_from first gs) ≡ numbers_from first (all_nodes gs)
-all_numbered first [] = refl
-all_numbered first (g ∷ gs) = ap (λ (ns : List NodeId). numbers_from first g.nodes ++ ns) (all_numbered (first + count g.nodes) gs) ∙ sym (numbers_joined first g.nodes (all_nodes gs))

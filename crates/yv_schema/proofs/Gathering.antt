@@ -9,14 +9,16 @@ use Rattle.std.proofs.Math.Seq.{get_or-append_seam}
 use Rattle.yv_statement.specs.Tree as statement
 use Rattle.yv_selection.specs.Choice.{Choice}
 use Rattle.yv_rows.specs.Files.{Files, brief_of, tree_name}
-use Rattle.yv_schema.specs.declared.node.NodeId.{NodeId}
-use Rattle.yv_schema.specs.Tree.{count, Forest, node, no_trees, tree}
+use Rattle.yv_nodes.specs.declared.node.NodeId.{NodeId}
+use Rattle.yv_nodes.specs.Tree.{count, Forest, no_trees}
 use Rattle.yv_schema.specs.Module.{Basis, file_nodes, is_given, is_part, module_nodes, parts_from}
-use Rattle.yv_schema.specs.Rows.{Row, root}
-use Rattle.yv_schema.specs.InnerNumbers.{numbers_from, rows_below, rows_from}
-use Rattle.yv_schema.specs.InnerBuild.{Adds, Group, Top, all_nodes, groups_from, joined, tops_from}
+use Rattle.yv_nodes.specs.Rows.{Row, root}
+use Rattle.yv_nodes.specs.Numbers.{numbers_from, rows_from}
+use Rattle.yv_nodes.specs.Groups.{Group, Top, all_nodes, tops_from}
+use Rattle.yv_schema.specs.InnerBuild.{Adds, groups_from}
 use Rattle.yv_schema.proofs.Growing.{Rest, added_numbers, added_rows, rest_more}
-use Rattle.yv_schema.proofs.Numbers.{length_rows}
+use Rattle.yv_nodes.proofs.Grouping.{rows_joined}
+use Rattle.yv_nodes.proofs.Numbers.{length_rows}
 
 -- one more number of a file's module
 pub homes_more : (f : ℕ → ℕ) (xs : List ℕ) (k : ℕ) → length xs ≡ k → ((n : ℕ) → n < k → slice_get xs n ≡ Some (f n)) → (n : ℕ) → n < k + 1 → slice_get (xs ++ f k ∷ []) n ≡ Some (f n)
@@ -69,21 +71,6 @@ parts_end b m home roots i all old now before after over rest =
       rows = λ others. ap (λ (ts : Forest). now ++ rows_from (length now) ts) (sym (none others)) ∙ rest.rows others;
       numbers = λ others. ap (λ (ts : Forest). after ++ numbers_from (length now) ts) (sym (none others)) ∙ rest.are others;
     }
-
--- the numbers and rows of trees of which one list stands behind the other
-pub rows_joined : (parent : NodeId) (first : ℕ) (ts us : Forest) → rows_below parent first (joined ts us) ≡ rows_below parent first ts ++ rows_below parent (first + count ts) us
-rows_joined parent first no_trees us = ap (λ (n : ℕ). rows_below parent n us) (omega arith)
-rows_joined parent first (tree (node l kids) ts) us =
-    let own : NodeId = record { 0 = first } in
-    let end : first + 1 + count kids + count ts ≡ first + (1 + count kids + count ts) = omega arith in
-    rw (rows_joined parent (first + 1 + count kids) ts us, end)
-    (ap (λ (rs : List Row). record { label = l; parent = parent; children = numbers_from (first + 1) kids } ∷ rs) (sym (append_assoc (rows_below own (first + 1) kids) (rows_below parent (first + 1 + count kids) ts) _)))
-
-pub numbers_joined : (first : ℕ) (ts us : Forest) → numbers_from first (joined ts us) ≡ numbers_from first ts ++ numbers_from (first + count ts) us
-numbers_joined first no_trees us = ap (λ (n : ℕ). numbers_from n us) (omega arith)
-numbers_joined first (tree (node l kids) ts) us =
-    let end : first + 1 + count kids + count ts ≡ first + (1 + count kids + count ts) = omega arith in
-    rw (numbers_joined (first + 1 + count kids) ts us, end) refl
 
 -- with the modules behind, the rows and the nodes at the top are those of all modules
 pub record Gathers (behind all : List Group) (old now : List Row) (tops : List Top) : Type 0 where

@@ -1,9 +1,9 @@
 -- How the rows of a block grow.
 use Rattle.std.proofs.Common.{◌≡◌, ◌≤◌, List, ◌++◌, length, refl, sym, ap, ◌∙◌, arith, append-nil, length-append}
-use Rattle.yv_schema.specs.declared.node.NodeId.{NodeId}
-use Rattle.yv_schema.specs.Tree.{Forest, no_trees}
-use Rattle.yv_schema.specs.Rows.{Row}
-use Rattle.yv_schema.specs.InnerNumbers.{numbers_from, rows_from}
+use Rattle.yv_nodes.specs.declared.node.NodeId.{NodeId}
+use Rattle.yv_nodes.specs.Tree.{Forest, no_trees}
+use Rattle.yv_nodes.specs.Rows.{Row}
+use Rattle.yv_nodes.specs.Numbers.{numbers_from, rows_from}
 use Rattle.yv_schema.specs.InnerBuild.{Adds}
 
 -- with these trees behind, the rows and numbers so far are those of all trees

@@ -38,13 +38,15 @@ use Rattle.yv_copies.specs.Faults.{BadExpansion}
 use Rattle.yv_copies.specs.On.{Truth}
 use Rattle.yv_definitions.specs.Kinds.{AreKinds, Kinds}
 use Rattle.yv_schema.specs.Truth.{IsTruth}
-use Rattle.yv_schema.specs.Tree.{Forest, Label, labels}
+use Rattle.yv_nodes.specs.Tree.{Forest, Label, labels}
 use Rattle.yv_schema.specs.Module.{Basis, is_given, schema_of}
-use Rattle.yv_schema.specs.Refuses.{BadFile, BadSchema, BadTyping, Doubled, Refuses, RefusesBeforeTypes, Repeated}
+use Rattle.yv_nodes.specs.Doubled.{Doubled, Repeated}
+use Rattle.yv_schema.specs.Refuses.{BadFile, BadSchema, BadTyping, Refuses, RefusesBeforeTypes}
 use Rattle.yv_schema.specs.Schema.{IsSchema}
-use Rattle.yv_schema.specs.InnerBuild.{AreNames, HasNoColon}
-use Rattle.yv_schema.proofs.Colons.{is_58}
-use Rattle.yv_schema.proofs.Keeping.{map_get}
+use Rattle.yv_nodes.specs.Groups.{HasNoColon}
+use Rattle.yv_schema.specs.InnerBuild.{AreNames}
+use Rattle.yv_nodes.proofs.Colons.{is_58}
+use Rattle.yv_nodes.proofs.Keeping.{map_get}
 use Rattle.yv_schema.proofs.Told.{is_own}
 use Rattle.yv_schema.proofs.Truths.{same_truth}
 use Rattle.yv_schema.proofs.TypePhases.{names_phase, types_phase}

@@ -1,19 +1,25 @@
 -- The rows of the items that are left of a file are those of its nodes.
-use Rattle.std.proofs.Common.{◌≡◌, ℕ, ◌+◌, ◌<◌, List, [], ◌∷◌, ◌++◌, length, get_or, drop, drop-cons, add-one, refl, sym, ap, ◌∙◌, arith, append_assoc, append-nil, length-append, Option, Some, None}
+use Rattle.std.proofs.Common.{◌≡◌, ℕ, ◌+◌, ◌<◌, List, [], ◌∷◌, ◌++◌, length, get_or, drop, drop-cons, add-one, refl, sym, ap, ◌∙◌, arith, append_assoc, append-nil, length-append, Option, Some, None, Bool, true, false, not, cond}
+use Rattle.std.specs.Str.{bytes_eq}
 use Rattle.std.proofs.Math.Seq.{get_or-append_seam}
 use Rattle.yv_expansion.specs.Tree as items
 use Rattle.yv_expansion.specs.declared.item.Item.{Item}
 use Rattle.yv_pruning.specs.Families as families
-use Rattle.yv_schema.specs.declared.node.NodeId.{NodeId}
-use Rattle.yv_schema.specs.Tree.{count, Forest, no_trees}
-use Rattle.yv_schema.specs.Rows.{Row, root}
-use Rattle.yv_schema.specs.Module.{Basis, label_at, labelled}
+use Rattle.yv_nodes.specs.declared.node.NodeId.{NodeId}
+use Rattle.yv_nodes.specs.Tree.{count, Forest, no_trees}
+use Rattle.yv_nodes.specs.Rows.{Row, root}
+use Rattle.yv_nodes.specs.Defined.{Defined}
+use Rattle.yv_nodes.specs.Member.{member_of, row_with}
+use Rattle.yv_definitions.specs.Defined.{refined}
+use Rattle.yv_refines.specs.Faults.{changes}
+use Rattle.yv_copies.specs.Items.{statement_of}
+use Rattle.yv_schema.specs.Module.{Basis, label_at, labelled, member_name}
 use Rattle.yv_schema.specs.InnerBuild.{Adds}
-use Rattle.yv_schema.specs.InnerNumbers.{numbers_from, rows_below, rows_from}
+use Rattle.yv_nodes.specs.Numbers.{numbers_from, rows_below, rows_from}
 use Rattle.yv_schema.specs.InnerRowing.{above_of, number_behind, numbers_behind, parent_of, row_of, rows_for}
 use Rattle.yv_schema.proofs.Formed.{labelled_joined}
-use Rattle.yv_schema.proofs.Gathering.{numbers_joined, rows_joined}
-use Rattle.yv_schema.proofs.Numbers.{length_rows}
+use Rattle.yv_nodes.proofs.Grouping.{numbers_joined, rows_joined}
+use Rattle.yv_nodes.proofs.Numbers.{length_rows}
 
 length_listed : (parent : Option ℕ) (first : ℕ) (t : items.Tree) → length (items.listed parent first t) ≡ items.count t
 length_listed parent first items.none = refl
@@ -111,3 +117,35 @@ module _ (b : Basis) (home : List ℕ) where
             ∙ append_assoc before (numbers_from (length old) own) (numbers_from (length old + count own) others)
             ∙ ap (λ (cs : List NodeId). before ++ cs) (sym (numbers_joined (length old) own others)) ∙ ap (λ (ts : Forest). before ++ numbers_from (length old) ts) (sym (labelled_joined b home [] t others));
       }
+
+-- what a member is called where it has its module's name but below a node of that module
+member_is : (same qualified : Bool) (home name : List ℕ) → qualified ≡ not same → member_of qualified home name ≡ cond same name (home ++ 58 ∷ name)
+member_is true qualified home name e = rw e refl
+member_is false qualified home name e = rw e refl
+
+-- the row of a node that is made for an item
+pub row_is : (b : Basis) (home : List ℕ) (x : Item) (parent : NodeId) (children : List NodeId) (d : Defined) (qualified : Bool) → d ≡ refined b.kinds b.files (statement_of b.trees x.origin) (changes b.files b.trees x.origin)
+    → qualified ≡ not (bytes_eq (above_of x.parent home) home) → row_with d home qualified parent children ≡ row_of b home x parent children
+row_is b home x parent children d qualified is e =
+    ap (λ (m : List ℕ). row_called d m) (member_is (bytes_eq (above_of x.parent home) home) qualified home d.name e)
+    ∙ ap (λ (d : Defined). row_called d (member_name (above_of x.parent home) home d.name)) is
+  where
+    row_called : Defined → List ℕ → Row
+    row_called d m = record {
+      label = record {
+        file = d.file;
+        offset = d.offset;
+        line = d.line;
+        kind = d.kind;
+        module_name = home;
+        name = d.name;
+        member = m;
+        types = d.types;
+        has_presence = d.has_presence;
+        status = d.status;
+        features = d.features;
+        type_text = d.type_text;
+      };
+      parent = parent;
+      children = children;
+    }

@@ -19,11 +19,11 @@ use Rattle.yv_pruning.specs.Listed.{is_uses_in}
 use Rattle.yv_rows.specs.Listed.{rows_of}
 use Rattle.yv_copies.specs.On.{is_item_on}
 use Rattle.yv_copies.specs.Left.{left_in}
-use Rattle.yv_schema.specs.Tree.{count, Forest, no_trees}
+use Rattle.yv_nodes.specs.Tree.{count, Forest, no_trees}
 use Rattle.yv_schema.specs.Module.{Basis, file_nodes, is_given, is_part, labelled, module_nodes, modules_from, parts_from}
 use Rattle.yv_schema.specs.Schema.{IsSchema, TakeUnits}
 use Rattle.yv_copies.specs.Given.{marks_of}
-use Rattle.yv_schema.proofs.Keeping.{map_get}
+use Rattle.yv_nodes.proofs.Keeping.{map_get}
 
 -- the sum of the values of the first numbers
 abbrev pub upto : (ℕ → ℕ) → ℕ → ℕ

@@ -1,9 +1,9 @@
 -- Only private clauses cite this: rows made of items, one by one.
 use Rattle.std.specs.Prelude.{ℕ, ◌+◌, List, [], ◌∷◌, map, Option, Some, None, slice_index_or}
 use Rattle.yv_expansion.specs.declared.item.Item.{Item}
-use Rattle.yv_schema.specs.declared.node.NodeId.{NodeId}
+use Rattle.yv_nodes.specs.declared.node.NodeId.{NodeId}
 use Rattle.yv_schema.specs.Module.{Basis, label_at}
-use Rattle.yv_schema.specs.Rows.{Row, root}
+use Rattle.yv_nodes.specs.Rows.{Row, root}
 
 -- the module of the node above: none at the top, else that of the nodes themselves
 abbrev pub above_of : Option ℕ → List ℕ → List ℕ

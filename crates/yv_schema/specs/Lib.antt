@@ -1,15 +1,9 @@
 pub mod Truth
-pub mod Tree
 pub mod Module
 pub mod Schema
 pub mod Refuses
-pub mod Rows
-pub mod Measures
-pub mod InnerMember
 pub mod InnerContext
-pub mod InnerNumbers
 pub mod InnerBuild
 pub mod InnerRowing
-pub mod InnerTables
-pub mod InnerTops
 pub mod InnerParts
+pub mod InnerPhases

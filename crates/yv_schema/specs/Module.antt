@@ -7,11 +7,12 @@ use Rattle.yv_rows.specs.Files.{Briefs, Files, brief_of, home_at, is_module, tre
 use Rattle.yv_expansion.specs.Tree as items
 use Rattle.yv_refines.specs.Faults.{changes}
 use Rattle.yv_definitions.specs.Kinds.{Kinds}
-use Rattle.yv_definitions.specs.Defined.{Defined, refined}
+use Rattle.yv_nodes.specs.Defined.{Defined}
+use Rattle.yv_definitions.specs.Defined.{refined}
 use Rattle.yv_copies.specs.Items.{statement_of}
 use Rattle.yv_copies.specs.Left.{left_in}
 use Rattle.yv_copies.specs.On.{Truth}
-use Rattle.yv_schema.specs.Tree.{Label, node, Forest, no_trees, tree}
+use Rattle.yv_nodes.specs.Tree.{Label, node, Forest, no_trees, tree}
 
 -- what a schema is made of: the statements of files, which of their conditions hold, the plain types of their types, and the
 -- expansion of each file

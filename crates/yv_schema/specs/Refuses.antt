@@ -1,10 +1,10 @@
 -- What the compilation of files refuses.
-use Rattle.std.specs.Prelude.{◌≡◌, ◌≢◌, ◌<◌, ◌⊎◌, ℕ, Bool, true, false, not, List, length, Option, Some, None, codes, slice_get}
+use Rattle.std.specs.Prelude.{◌≡◌, ◌≢◌, ◌⊎◌, ℕ, Bool, true, false, not, List, length, Option, Some, None, codes, slice_get}
 use Rattle.std.specs.Str.{bytes_eq}
 use Rattle.yv_statement.specs.Tree.{Tree, trees}
 use Rattle.yv_statement.specs.declared.refusal.Refusal.{Refusal}
 use Rattle.yv_statement.specs.declared.refusal.Code.TheVariants as code
-use Rattle.yv_statement.specs.Order.{Among, Stands, refusal_at}
+use Rattle.yv_statement.specs.Order.{Among, refusal_at}
 use Rattle.yv_conform.specs.declared.keyword.Keyword.{Keyword}
 use Rattle.yv_conform.specs.declared.keyword.Keyword.TheVariants as word
 use Rattle.yv_conform.specs.Names.{keyword_of}
@@ -17,7 +17,8 @@ use Rattle.yv_copies.specs.Faults.{BadExpansion}
 use Rattle.yv_types.specs.Faults.{BadTypes}
 use Rattle.yv_copies.specs.On.{Truth}
 use Rattle.yv_schema.specs.Truth.{IsTruth}
-use Rattle.yv_schema.specs.Tree.{Forest, Label, families, labels}
+use Rattle.yv_nodes.specs.Doubled.{Doubled}
+use Rattle.yv_nodes.specs.Tree.{Forest}
 use Rattle.yv_schema.specs.Schema.{IsSchema}
 
 -- the statements that are taken so far; one of no keyword of the language is refused as such, and not here
@@ -84,27 +85,6 @@ pub record BadFile (n : ℕ) (t : Tree) (f : Refusal) : Type 0 where
   pub own : Refusal
   pub stands : Bad t own ⊎ Early t own
   pub is : f ≡ in_file n own
-
--- a refusal at the statement that defines a node
-abbrev pub refusal_of : Label → Refusal
-refusal_of l = record { code = code.DuplicateNode; file = l.file; offset = l.offset; line = l.line }
-
--- a node before number k has the module and the name of this one
-pub record IsRepeated (ls : List Label) (k : ℕ) (l : Label) : Type 0 where
-  pub place : ℕ
-  pub first : Label
-  pub before : place < k
-  pub at : slice_get ls place ≡ Some first
-  pub same_module : first.module_name ≡ l.module_name
-  pub same_name : first.name ≡ l.name
-
--- two of these nodes have one module and one name: the later is refused
-abbrev pub Repeated : List Label → Refusal → Type 0
-Repeated ls f = Among ls (λ k l. Stands (IsRepeated ls k l) (refusal_of l)) (length ls) f
-
--- two nodes of one parent have one module and one name (RFC 7950, section 6.2.1): at the top, or below a node
-abbrev pub Doubled : Forest → Refusal → Type 0
-Doubled ts f = Repeated (labels ts) f ⊎ Among (families ts) (λ k. Repeated) (length (families ts)) f
 
 -- f stands at a type of the files, by the truth of their conditions
 pub record BadTyping (choice : Choice) (files : Files) (f : Refusal) : Type 0 where

@@ -9,7 +9,7 @@ use Rattle.yv_expand.specs.Expanded.{AreTrees}
 use Rattle.yv_copies.specs.Given.{marks_of}
 use Rattle.yv_definitions.specs.Kinds.{AreKinds}
 use Rattle.yv_schema.specs.Module.{Basis, schema_of}
-use Rattle.yv_schema.specs.Tree.{Forest}
+use Rattle.yv_nodes.specs.Tree.{Forest}
 use Rattle.yv_schema.specs.Truth.{IsTruth}
 
 -- a basis is that of files under a choice: their conditions hold so, these are the types of their `type` statements, and this

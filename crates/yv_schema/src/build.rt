@@ -6,21 +6,18 @@ ghost use Rattle.yv_statement.specs.Order.{IsLeast};
 ghost use Rattle.yv_selection.specs.Choice.{choice_of};
 ghost use Rattle.yv_rows.specs.Lent.{lent_in};
 ghost use Rattle.yv_schema.specs.Module.{Basis, schema_of};
-ghost use Rattle.yv_schema.specs.Refuses.{Doubled};
-ghost use Rattle.yv_schema.specs.Rows.{whole};
+ghost use Rattle.yv_nodes.specs.Doubled.{Doubled};
+ghost use Rattle.yv_nodes.specs.Rows.{whole};
 ghost use Rattle.yv_schema.specs.InnerContext.{Tells, TellsOf};
 ghost use Rattle.yv_schema.specs.InnerBuild.{AreNames};
 
 use crate::context::Context;
 use crate::modules::Parts;
-use crate::nodes::Nodes;
-use crate::schema::Schema;
-use crate::tables::{module_tables, node_tables};
-use crate::tops::all_tops;
 use std::alloc::Global;
+use yv_nodes::{Nodes, Schema};
 use yv_rows::Rows;
 use yv_selection::Selection;
-use yv_statement::{Stop, lesser};
+use yv_statement::Stop;
 
 /// The schema of the implemented modules, or the least refusal of a node whose parent has an earlier one of its module
 /// and name.
@@ -46,16 +43,5 @@ pub(crate) fn build(
     let parts = Parts::read(alloc, rows)?;
     let mut nodes = Nodes::new(alloc, limit);
     let tops = parts.add_modules(alloc, context, selection, &mut nodes)?;
-    let top = all_tops(alloc, &tops)?;
-    let at_top = module_tables(alloc, &nodes, &tops)?;
-    let below = node_tables(alloc, &nodes)?;
-    match lesser(at_top.doubled, below.doubled) {
-        Some(refusal) => Err(Stop::Fault(refusal)),
-        None => Ok(Schema {
-            nodes,
-            top,
-            modules: at_top.tables,
-            tables: below.tables,
-        }),
-    }
+    Schema::numbered(alloc, nodes, &tops)
 }

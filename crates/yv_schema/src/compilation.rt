@@ -6,25 +6,18 @@ ghost use Rattle.yv_statement.specs.Order.{IsLeast};
 ghost use Rattle.yv_selection.specs.Choice.{choice_of};
 ghost use Rattle.yv_faceted.specs.Types.{HasTypePattern};
 ghost use Rattle.yv_schema.specs.Refuses.{Refuses, RefusesBeforeTypes};
-ghost use Rattle.yv_schema.specs.Rows.{whole};
+ghost use Rattle.yv_nodes.specs.Rows.{whole};
 ghost use Rattle.yv_schema.specs.Schema.{IsSchema};
 
-use crate::build::build;
 use crate::conformance::first_bad_file;
-use crate::context::Context;
-use crate::schema::Schema;
+use crate::linked::of_linked;
 use std::alloc::Global;
-use yv_copies::copies;
-use yv_copies::laws::{files_have_one_expansion, refusals_of_expansions_have_phases};
-use yv_definitions::Definitions;
-use yv_definitions::laws::{files_have_one_kinds, types_tell_kinds};
-use yv_features::laws::an_expression_has_one_truth;
-use yv_link::laws::{linked_files_tell_what_holds, links_have_phases};
+use yv_copies::laws::refusals_of_expansions_have_phases;
+use yv_link::laws::links_have_phases;
 use yv_link::link;
-use yv_names::names;
+use yv_nodes::Schema;
 use yv_selection::Selection;
 use yv_statement::{Statement, Stop};
-use yv_types::types;
 
 /// The schema of the modules that are implemented, by the statements of the files of all modules (RFC 7950,
 /// sections 5.1 and 7.1), or the least refusal by phase, file, offset and code. Statements that this version doesn't
@@ -47,11 +40,6 @@ pub fn compile(
         → IsLeast (RefusesBeforeTypes (choice_of selection.now) files.now limit) None }
 {
     links_have_phases();
-    linked_files_tell_what_holds();
-    an_expression_has_one_truth();
-    types_tell_kinds();
-    files_have_one_kinds();
-    files_have_one_expansion();
     refusals_of_expansions_have_phases();
     if files.len() > 4_294_967_296 {
         return Err(Stop::NoMemory);
@@ -63,19 +51,5 @@ pub fn compile(
         Ok(linked) => linked,
         Err(stop) => return Err(stop),
     };
-    let names = match names(alloc, linked.rows()) {
-        Ok(names) => names,
-        Err(stop) => return Err(stop),
-    };
-    let copies = match copies(alloc, &linked, linked.rows(), &names, selection, limit) {
-        Ok(copies) => copies,
-        Err(stop) => return Err(stop),
-    };
-    let types = match types(alloc, &linked, &names) {
-        Ok(types) => types,
-        Err(stop) => return Err(stop),
-    };
-    let definitions = Definitions::read(alloc, linked.rows(), &types)?;
-    let context = Context::new(&definitions, &copies);
-    build(alloc, linked.rows(), &context, selection, limit)
+    of_linked(alloc, &linked, selection, limit)
 }

@@ -13,8 +13,9 @@ ghost use Rattle.yv_schema.specs.InnerContext.{Tells};
 
 use std::alloc::{AllocError, Global};
 use yv_copies::Copies;
-use yv_definitions::{Definition, Definitions};
+use yv_definitions::Definitions;
 use yv_expansion::Item;
+use yv_nodes::Definition;
 
 /// What the statements of files say of nodes, and the copies of these that there are.
 #[derive(Clone, Copy)]

@@ -1,20 +1,19 @@
 //! The nodes of a file.
-ghost use Rattle.std.specs.Prelude.{◌≡◌, ◌++◌, [], length, IfOk, IfErr, OnOk, slice_index_or};
+ghost use Rattle.std.specs.Prelude.{◌≡◌, ◌++◌, [], length, IfOk, IfErr, OnOk, slice_index_or, not};
+ghost use Rattle.std.specs.Str.{bytes_eq};
 ghost use Rattle.std.specs.Rc.{rc_str_bytes};
 ghost use Rattle.yv_statement.specs.declared.refusal.Stop.TheVariants.{NoMemory};
 ghost use Rattle.yv_pruning.specs.Families.{lists_of};
 ghost use Rattle.yv_schema.specs.Module.{Basis, file_nodes};
 ghost use Rattle.yv_schema.specs.InnerContext.{Tells};
 ghost use Rattle.yv_schema.specs.InnerBuild.{Adds};
-ghost use Rattle.yv_schema.specs.InnerRowing.{number_behind, numbers_behind, parent_of, row_of, rows_for};
+ghost use Rattle.yv_schema.specs.InnerRowing.{above_of, number_behind, numbers_behind, parent_of, row_of, rows_for};
 
 use crate::context::Context;
-use crate::node::{Node, NodeId};
-use crate::nodes::Nodes;
-use crate::schema::Schema;
 use std::alloc::{AllocError, Global};
 use std::rc::RcStr;
 use yv_expansion::Item;
+use yv_nodes::{Node, NodeId, Nodes, Schema};
 use yv_pruning::families_of;
 use yv_statement::Stop;
 
@@ -73,14 +72,24 @@ impl Builder<'_, '_, '_> {
             ≡ row_of b (rc_str_bytes self.now.home.now) item.now parent children.items) }
     {
         let definition = self.context.definition(item.origin)?;
-        Ok(Node {
-            definition,
-            module: self.home.clone()?,
-            is_qualified: item.parent.is_none() && !self.home.is_empty(),
-            parent,
-            children,
-        })
+        let home = shared(self.home)?;
+        let is_qualified = is_qualified(item, &home);
+        Ok(Node::new(definition, home, is_qualified, parent, children))
     }
+}
+
+// Whether a JSON member of an item's node has the name of the module in front: at the top, where no module is above.
+fn is_qualified(item: &Item, home: &RcStr) -> bool
+    ensures { result ≡ not (bytes_eq (above_of item.now.parent (rc_str_bytes home.now)) (rc_str_bytes home.now)) }
+{
+    item.parent.is_none() && !home.is_empty()
+}
+
+// The same text once more.
+fn shared(text: &RcStr) -> Result<RcStr, AllocError>
+    ensures { IfOk result (λ again. rc_str_bytes again ≡ rc_str_bytes text.now) }
+{
+    text.clone()
 }
 
 // The places of the nodes below one.

@@ -5,7 +5,7 @@ ghost use Rattle.yv_selection.specs.Choice.{Choice};
 ghost use Rattle.yv_rows.specs.Files.{Files};
 ghost use Rattle.yv_schema.specs.Refuses.{Refuses};
 ghost use Rattle.yv_schema.specs.Schema.{IsSchema, TakeUnits};
-ghost use Rattle.yv_schema.specs.Tree.{Forest, count};
+ghost use Rattle.yv_nodes.specs.Tree.{Forest, count};
 
 /// Where nothing is refused, files have one schema tree under a choice.
 pub fn files_have_one_schema()

@@ -1,4 +1,4 @@
-//! The schema of YANG modules: from their statements to numbered nodes with their member names and types.
+//! From the statements of YANG modules to their schema.
 #![tactic(auto)]
 
 mod build;
@@ -8,20 +8,9 @@ mod context;
 mod early;
 mod file;
 pub mod laws;
-mod measures;
+mod linked;
 mod modules;
 mod name;
-mod node;
-mod nodes;
-mod schema;
-mod table;
-mod tables;
-#[cfg(test)]
-mod tests;
-mod tops;
 
 pub use compilation::compile;
-pub use measures::Measures;
-pub use node::{Node, NodeId};
-pub use schema::Schema;
-pub use yv_definitions::{NodeKind, NodeStatus};
+pub use yv_nodes::{Measures, Node, NodeId, NodeKind, NodeStatus, Schema};

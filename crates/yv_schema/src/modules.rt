@@ -7,27 +7,20 @@ ghost use Rattle.yv_rows.specs.Files.{brief_of, tree_name};
 ghost use Rattle.yv_rows.specs.Lent.{lent_in};
 ghost use Rattle.yv_schema.specs.Module.{Basis, is_given, is_part, module_nodes, parts_from};
 ghost use Rattle.yv_schema.specs.InnerContext.{Tells};
-ghost use Rattle.yv_schema.specs.InnerNumbers.{rows_from};
-ghost use Rattle.yv_schema.specs.InnerBuild.{Adds, AreHomes, all_nodes, groups_from, tops_from};
-ghost use Rattle.yv_schema.specs.InnerTops.{top_of};
+ghost use Rattle.yv_nodes.specs.Numbers.{rows_from};
+ghost use Rattle.yv_nodes.specs.Groups.{all_nodes, tops_from};
+ghost use Rattle.yv_schema.specs.InnerBuild.{Adds, AreHomes, groups_from};
+ghost use Rattle.yv_nodes.specs.Tops.{top_of};
 
 use crate::context::Context;
 use crate::file::Builder;
 use crate::name::name_of;
-use crate::node::NodeId;
-use crate::nodes::Nodes;
 use std::alloc::{AllocError, Global};
 use std::rc::RcStr;
+use yv_nodes::{ModuleTop, NodeId, Nodes};
 use yv_rows::Rows;
 use yv_selection::Selection;
 use yv_statement::{Statement, Stop};
-
-/// The nodes at the top of a module, in order.
-#[derive(Drop)]
-pub(crate) struct ModuleTop {
-    pub(crate) name: RcStr,
-    pub(crate) numbers: Vec<NodeId>,
-}
 
 /// The files, each with the number of the file of its module.
 #[derive(Drop)]

@@ -8,8 +8,6 @@ mod limit;
 mod lists;
 mod own;
 mod steps;
-#[cfg(test)]
-mod tests;
 mod values;
 mod weights;
 

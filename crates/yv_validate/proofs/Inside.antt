@@ -5,10 +5,10 @@ use Rattle.serde_json.specs.Find.{get_member}
 use Rattle.serde_json.specs.View.{view, members_view}
 use Rattle.serde_json.specs.declared.value.Value.{Value, Object}
 use Rattle.serde_json.proofs.Views.{view-Object}
-use Rattle.yv_schema.specs.declared.node.NodeId.{NodeId}
-use Rattle.yv_definitions.specs.declared.definition.NodeKind.TheVariants.{Container}
-use Rattle.yv_schema.specs.Rows.{Rows, row_at, below, forest, AreTrees}
-use Rattle.yv_schema.specs.Tree.{Forest, is_known}
+use Rattle.yv_nodes.specs.declared.node.NodeId.{NodeId}
+use Rattle.yv_nodes.specs.declared.definition.NodeKind.TheVariants.{Container}
+use Rattle.yv_nodes.specs.Rows.{Rows, row_at, below, forest, AreTrees}
+use Rattle.yv_nodes.specs.Tree.{Forest, is_known}
 use Rattle.yv_validate.specs.declared.fault.FaultKind.TheVariants.{Unknown}
 use Rattle.yv_validate.specs.Place.{Place, Flaw}
 use Rattle.yv_validate.specs.Faults.{under, flaw, unknowns, forest_faults, object_faults, written}

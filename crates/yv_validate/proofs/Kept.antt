@@ -11,8 +11,8 @@ use Rattle.std.proofs.lemmas.Option.{same_Some}
 use Rattle.std.proofs.lemmas.Slice.Eq.{bytes_eq-Decides}
 use Rattle.serde_json.specs.Data.{Members, no_members, member}
 use Rattle.serde_json.specs.Find.{get_member}
-use Rattle.yv_schema.specs.declared.node.NodeId.{NodeId}
-use Rattle.yv_schema.specs.Rows.{Rows, row_at, named, children_of, IsFound}
+use Rattle.yv_nodes.specs.declared.node.NodeId.{NodeId}
+use Rattle.yv_nodes.specs.Rows.{Rows, row_at, named, children_of, IsFound}
 use Rattle.std.specs.Bool.{one_answer}
 use Rattle.std.specs.Ordering.{nat_cmp, is_eq}
 use Rattle.std.specs.declared.cmp.Ordering.TheVariants.{Less, Equal, Greater}

@@ -2,9 +2,9 @@
 use Rattle.std.specs.Prelude.{ℕ, List, [], ◌∷◌, ◌++◌, Option, Some, None, is_some, if◌then◌else◌}
 use Rattle.serde_json.specs.Data.{Data, object, Members, no_members, member}
 use Rattle.serde_json.specs.Find.{get_member}
-use Rattle.yv_definitions.specs.declared.definition.NodeKind.{NodeKind}
-use Rattle.yv_definitions.specs.declared.definition.NodeKind.TheVariants.{Container, Leaf}
-use Rattle.yv_schema.specs.Tree.{Label, Tree, node, Forest, no_trees, tree, is_known}
+use Rattle.yv_nodes.specs.declared.definition.NodeKind.{NodeKind}
+use Rattle.yv_nodes.specs.declared.definition.NodeKind.TheVariants.{Container, Leaf}
+use Rattle.yv_nodes.specs.Tree.{Label, Tree, node, Forest, no_trees, tree, is_known}
 use Rattle.yv_values.specs.Reads.{first_read}
 use Rattle.yv_validate.specs.declared.fault.FaultKind.{FaultKind}
 use Rattle.yv_validate.specs.declared.fault.FaultKind.TheVariants.{Unknown, Shape, Value}

@@ -1,8 +1,8 @@
 -- Only private clauses cite this: the way to a node, as the walk keeps it, and the faults of one child.
 use Rattle.std.specs.Prelude.{◌<◌, List, [], ◌∷◌, ◌++◌, length, Option}
 use Rattle.serde_json.specs.Data.{Data}
-use Rattle.yv_schema.specs.declared.node.NodeId.{NodeId}
-use Rattle.yv_schema.specs.Rows.{Rows, row_at, below}
+use Rattle.yv_nodes.specs.declared.node.NodeId.{NodeId}
+use Rattle.yv_nodes.specs.Rows.{Rows, row_at, below}
 use Rattle.yv_validate.specs.Place.{Place, Flaw}
 use Rattle.yv_validate.specs.Faults.{object_faults, if_written, written, under}
 use Rattle.yv_validate.specs.declared.trail.Trail.{Trail, Root, Below'}

@@ -6,8 +6,8 @@ use Rattle.std.specs.BTreeMap.{get_by}
 use Rattle.serde_json.specs.Data.{Data, Members}
 use Rattle.serde_json.specs.Find.{get_member}
 use Rattle.serde_json.specs.View.{view}
-use Rattle.yv_schema.specs.declared.node.NodeId.{NodeId}
-use Rattle.yv_schema.specs.Rows.{Rows, row_at, IsFound}
+use Rattle.yv_nodes.specs.declared.node.NodeId.{NodeId}
+use Rattle.yv_nodes.specs.Rows.{Rows, row_at, IsFound}
 use Rattle.yv_validate.specs.declared.written.Written.{Written}
 
 -- the value at a number

@@ -4,5 +4,5 @@ pub mod Size
 pub mod Line
 pub mod InnerTrail
 pub mod InnerWritten
-pub use Rattle.yv_schema.specs.Tree
-pub use Rattle.yv_schema.specs.Rows
+pub use Rattle.yv_nodes.specs.Tree
+pub use Rattle.yv_nodes.specs.Rows

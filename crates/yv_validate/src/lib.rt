@@ -3,8 +3,6 @@
 
 mod count;
 mod fault;
-#[cfg(test)]
-mod tests;
 mod text;
 mod trail;
 mod walk;

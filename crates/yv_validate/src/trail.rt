@@ -4,7 +4,7 @@ ghost use Rattle.yv_validate.specs.InnerTrail.{places, IsWithin};
 
 use crate::fault::Step;
 use std::alloc::{AllocError, Global};
-use yv_schema::{NodeId, Schema};
+use yv_nodes::{NodeId, Schema};
 
 /// The way from the top to a node: a chain on the stack, written out only where a fault is told.
 #[derive(Clone, Copy)]

@@ -2,7 +2,7 @@
 ghost use Rattle.std.specs.Prelude.{◌≡◌, ◌∷◌, [], ◌++◌, ◌<◌, ◌≤◌, length, IfOk, OnOk};
 ghost use Rattle.serde_json.specs.Data.{depth as nesting, no_members};
 ghost use Rattle.serde_json.specs.View.{view, members_view};
-ghost use Rattle.yv_schema.specs.Rows.{row_at, rank, below, whole};
+ghost use Rattle.yv_nodes.specs.Rows.{row_at, rank, below, whole};
 ghost use Rattle.yv_validate.specs.Size.{size};
 ghost use Rattle.yv_validate.specs.InnerTrail.{places, IsWithin, child_faults};
 ghost use Rattle.yv_validate.specs.InnerWritten.{value_at, AreWritten};
@@ -13,7 +13,7 @@ use crate::trail::{Trail, steps_of};
 use crate::written::Written;
 use serde_json::{Map, Value};
 use std::alloc::{AllocError, Global};
-use yv_schema::{Node, NodeId, NodeKind, Schema};
+use yv_nodes::{Node, NodeId, NodeKind, Schema};
 use yv_values::{Meter, check};
 
 #[derive(Clone, Copy)]

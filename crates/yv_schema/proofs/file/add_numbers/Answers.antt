@@ -1,6 +1,6 @@
 use Rattle.std.proofs.Common.{◌≡◌, ◌+◌, List, [], ◌∷◌, ◌++◌, drop, get_or, ap, sym, ◌∙◌, append_assoc, append-nil}
 use Rattle.std.proofs.lemmas.List.{at_drop_all, at_drop_more}
-use Rattle.yv_schema.specs.declared.node.NodeId.{NodeId}
+use Rattle.yv_nodes.specs.declared.node.NodeId.{NodeId}
 use Rattle.yv_schema.specs.InnerRowing.{number_behind, numbers_behind}
 use Rattle.yv_schema.proofs.file.add_numbers.Goals as goal
 

@@ -1,6 +1,6 @@
 use Rattle.std.proofs.Common.{List, Option, sym, subst, rules}
 use Rattle.yv_rows.specs.Lent.{lent_in}
-use Rattle.yv_definitions.specs.Defined.{Defined}
+use Rattle.yv_nodes.specs.Defined.{Defined}
 use Rattle.yv_definitions.specs.Kinds.{kinds_of}
 use Rattle.yv_definitions.specs.InnerKept.{AreKept}
 use Rattle.yv_definitions.proofs.Keeping.{kept_more}

@@ -2,9 +2,9 @@ use Rattle.std.proofs.Common.{◌≡◌, ◌+◌, ◌++◌, ◌∷◌, [], List,
 use Rattle.std.specs.Rc.{rc_str_bytes}
 use Rattle.yv_pruning.specs.Families.{lists_of}
 use Rattle.yv_expansion.specs.declared.item.Item.{Item}
-use Rattle.yv_schema.specs.declared.node.NodeId.{NodeId}
+use Rattle.yv_nodes.specs.declared.node.NodeId.{NodeId}
 use Rattle.yv_schema.specs.InnerRowing.{numbers_behind, parent_of, row_of, rows_for}
-use Rattle.yv_schema.specs.Rows.{Row}
+use Rattle.yv_nodes.specs.Rows.{Row}
 use Rattle.yv_schema.proofs.Rowing.{row_next}
 use Rattle.yv_schema.proofs.file.Builder.add_nodes.Goals as goal
 

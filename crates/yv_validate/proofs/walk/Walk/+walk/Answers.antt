@@ -1,7 +1,7 @@
 use Rattle.std.proofs.Common.{All, ◌+◌, drop, slice_index_or, ap, sym, ◌∙◌, subst}
 use Rattle.serde_json.specs.View.{members_view}
-use Rattle.yv_schema.specs.declared.node.NodeId.{NodeId}
-use Rattle.yv_schema.specs.Rows.{forest, IsFound}
+use Rattle.yv_nodes.specs.declared.node.NodeId.{NodeId}
+use Rattle.yv_nodes.specs.Rows.{forest, IsFound}
 use Rattle.yv_validate.specs.InnerTrail.{places, child_faults}
 use Rattle.yv_validate.specs.InnerWritten.{value_at}
 use Rattle.yv_validate.proofs.Kept.{held_at}

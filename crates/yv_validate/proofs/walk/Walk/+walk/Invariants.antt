@@ -1,6 +1,6 @@
 use Rattle.std.proofs.Common.{◌≡◌, ◌++◌, ◌*◌, ◌-◌, length, drop}
 use Rattle.serde_json.specs.View.{members_view}
-use Rattle.yv_schema.specs.Rows.{rank, below, forest}
+use Rattle.yv_nodes.specs.Rows.{rank, below, forest}
 use Rattle.yv_validate.specs.InnerTrail.{places}
 use Rattle.yv_validate.specs.Faults.{forest_faults}
 use Rattle.yv_validate.proofs.walk.Walk.+walk.Given as goal

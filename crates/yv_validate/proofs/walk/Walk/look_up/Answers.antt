@@ -1,8 +1,8 @@
 use Rattle.std.proofs.Common.{◌≡◌, [], ◌∷◌, ◌++◌, string_bytes, ap, sym, ◌∙◌, subst}
 use Rattle.serde_json.specs.Data.{member}
 use Rattle.serde_json.specs.View.{view, members_view}
-use Rattle.yv_schema.specs.Rows.{named, children_of, below}
-use Rattle.yv_schema.specs.Tree.{is_known}
+use Rattle.yv_nodes.specs.Rows.{named, children_of, below}
+use Rattle.yv_nodes.specs.Tree.{is_known}
 use Rattle.yv_validate.specs.declared.fault.FaultKind.TheVariants.{Unknown}
 use Rattle.yv_validate.specs.Faults.{under, flaw, unknowns}
 use Rattle.yv_validate.specs.InnerTrail.{places}

@@ -1,6 +1,6 @@
 use Rattle.std.proofs.Common.{◌≡◌, ◌++◌}
 use Rattle.serde_json.specs.View.{members_view}
-use Rattle.yv_schema.specs.Rows.{below}
+use Rattle.yv_nodes.specs.Rows.{below}
 use Rattle.yv_validate.specs.InnerTrail.{places}
 use Rattle.yv_validate.specs.InnerWritten.{AreWritten}
 use Rattle.yv_validate.specs.Faults.{unknowns}

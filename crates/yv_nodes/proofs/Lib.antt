@@ -1,0 +1,11 @@
+pub mod Colons
+pub mod Finding
+pub mod Numbers
+pub mod Placed
+pub mod Keeping
+pub mod Named
+pub mod Trees
+pub mod Measuring
+pub mod Grouping
+pub mod Doubling
+pub mod Kept

@@ -1,0 +1,10 @@
+pub mod Defined
+pub mod Tree
+pub mod Rows
+pub mod Measures
+pub mod Member
+pub mod Numbers
+pub mod Groups
+pub mod Tops
+pub mod Doubled
+pub mod InnerTables

@@ -1,0 +1,123 @@
+-- A schema as numbered rows: what contracts see of a `Schema`, and the tree that it stands for.
+use Rattle.std.specs.Prelude.{◌≡◌, ℕ, ◌+◌, ◌-◌, ◌<◌, ◌≤◌, ◌==◌, List, [], ◌∷◌, length, drop, All, Bool, false, Option, Some, None, if◌then◌else◌}
+use Rattle.std.specs.List.{slice_index_or}
+use Rattle.std.specs.Str.{bytes_eq}
+use Rattle.yv_nodes.specs.declared.node.NodeId.{NodeId}
+use Rattle.yv_nodes.specs.declared.definition.NodeKind.TheVariants.{Leaf}
+use Rattle.yv_nodes.specs.declared.definition.NodeStatus.TheVariants.{Current}
+use Rattle.yv_nodes.specs.Tree.{Label, Tree, node, Forest, no_trees, tree}
+
+-- a schema node, the number of the node above it, and the numbers of the nodes below it, in order
+pub record Row : Type 0 where
+  pub label : Label
+  pub parent : NodeId
+  pub children : List NodeId
+
+-- rows within a limit
+pub record Bounded : Type 0 where
+  pub limit : ℕ
+  pub rows : List Row
+
+-- the rows by number, from 0, the numbers of the nodes at the top, in order, and the most nodes that there may be
+pub record Rows : Type 0 where
+  pub nodes : List Row
+  pub top : List NodeId
+  pub limit : ℕ
+
+-- the root, the parent of the nodes at the top, has the last number of 32 bits
+abbrev pub root : NodeId
+root = record { 0 = 4294967295 }
+
+-- what stands where there is no row
+abbrev pub blank_row : Row
+blank_row = record {
+  label = record {
+    file = 0;
+    offset = 0;
+    line = 0;
+    kind = Leaf;
+    module_name = [];
+    name = [];
+    member = [];
+    types = [];
+    has_presence = false;
+    status = Current;
+    features = [];
+    type_text = [];
+  };
+  parent = root;
+  children = [];
+}
+
+-- the row of a node
+abbrev pub row_at : Rows → NodeId → Row
+row_at s p = slice_index_or s.nodes p.0 blank_row
+
+abbrev pub is_root : NodeId → Bool
+is_root p = p.0 == 4294967295
+
+-- the numbers of the nodes below a node, or of those at the top
+abbrev pub children_of : Rows → NodeId → List NodeId
+children_of s p = if is_root p then s.top else (row_at s p).children
+
+-- one more than the number, and 0 at the root
+abbrev pub rank : NodeId → ℕ
+rank p = if is_root p then 0 else p.0 + 1
+
+-- what stands where there is no tree
+abbrev pub blank : Tree
+blank = node blank_row.label no_trees
+
+-- the trees of these numbers, where the first of the list has the number `first`
+abbrev pub pick : ℕ → List Tree → List NodeId → Forest
+pick first ts [] = no_trees
+pick first ts (c ∷ cs) = tree (slice_index_or ts (c.0 - first) blank) (pick first ts cs)
+
+-- the tree of each row, where the first has the number `first`: children stand behind their parents
+abbrev pub trees_from : ℕ → List Row → List Tree
+trees_from first [] = []
+trees_from first (r ∷ rs) = node r.label (pick (first + 1) (trees_from (first + 1) rs) r.children) ∷ trees_from (first + 1) rs
+
+-- the trees of these numbers
+abbrev pub forest : Rows → List NodeId → Forest
+forest s cs = pick 0 (trees_from 0 s.nodes) cs
+
+-- the trees below a node
+abbrev pub below : Rows → NodeId → Forest
+below s p = forest s (children_of s p)
+
+-- the tree of a node
+abbrev pub tree_of : Rows → NodeId → Tree
+tree_of s c = node (row_at s c).label (below s c)
+
+-- the trees of these numbers are those of their nodes: from each place on, the tree of the node there, and then
+-- the trees of those behind it
+abbrev pub AreTrees : Rows → List NodeId → Type 0
+AreTrees s cs =
+    (i : ℕ) (d : NodeId) → i < length cs → forest s (drop i cs) ≡ tree (tree_of s (slice_index_or cs i d)) (forest s (drop (i + 1) cs))
+
+-- the schema tree that the rows stand for
+abbrev pub whole : Rows → Forest
+whole s = forest s s.top
+
+-- the first of these nodes whose JSON member is called so
+abbrev pub named : Rows → List NodeId → List ℕ → Option NodeId
+named s [] member = None
+named s (c ∷ cs) member = if bytes_eq (row_at s c).label.member member then Some c else named s cs member
+
+-- a child stands behind its parent, whose number it has
+pub record IsChild (s : Rows) (p c : NodeId) : Type 0 where
+  pub behind : rank p ≤ c.0
+  pub within : c.0 < length s.nodes
+  pub above : (row_at s c).parent ≡ p
+
+-- a child is found by its member: no other child of its parent has that member (RFC 7950, section 6.2.1)
+abbrev pub IsFound : Rows → NodeId → NodeId → Type 0
+IsFound s p c = named s (children_of s p) (row_at s c).label.member ≡ Some c
+
+-- there are at most as many nodes as the limit and as numbers, children stand behind their parents, and no two of one parent have one member
+pub record IsSound (s : Rows) : Type 0 where
+  pub small : length s.nodes ≤ 4294967295
+  pub limited : length s.nodes ≤ s.limit
+  pub children : (p : NodeId) → rank p ≤ length s.nodes → All (IsChild s p) (children_of s p)
+  pub found : (p : NodeId) → rank p ≤ length s.nodes → All (IsFound s p) (children_of s p)

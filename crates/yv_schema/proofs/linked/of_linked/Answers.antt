@@ -1,0 +1,115 @@
+use Rattle.std.proofs.Common.{Some, None}
+use Rattle.yv_statement.specs.Order.{IsLeast}
+use Rattle.yv_selection.specs.Choice.{choice_of}
+use Rattle.yv_link.proofs.Phases.{err_again}
+use Rattle.yv_schema.specs.Refuses.{RefusesBeforeTypes}
+use Rattle.yv_schema.specs.InnerPhases.{AreExpanded}
+use Rattle.yv_schema.proofs.Phases.{HavePhases, least_expanded, least_first, least_named}
+use Rattle.yv_schema.proofs.linked.of_linked.Goals as goal
+
+pub returns-in-Err-clause-refusal : goal.returns-in-Err-clause-refusal
+returns-in-Err-clause-refusal c = λ files clear.
+    let choice = choice_of c.args.selection.now in
+    let limit = c.args.limit in
+    let phases : HavePhases = record { first = c.links_have_phases.ensures.first; last = c.links_have_phases.ensures.last; expansion = c.refusals_of_expansions_have_phases.ensures } in
+    let rows = c.rows.ensures files choice clear.are in
+    let named = rw rows at c.in-Err.ensures.refusal in
+    λ r e. least_first choice files limit phases r (least_named choice files limit phases r clear.own clear.links (named r (err_again _ _ e)))
+
+pub returns-in-Err-copies-clause-refusal : goal.returns-in-Err-copies-clause-refusal
+returns-in-Err-copies-clause-refusal c = λ files clear.
+    let choice = choice_of c.args.selection.now in
+    let limit = c.args.limit in
+    let phases : HavePhases = record { first = c.links_have_phases.ensures.first; last = c.links_have_phases.ensures.last; expansion = c.refusals_of_expansions_have_phases.ensures } in
+    let rows = c.rows.ensures files choice clear.are in
+    let named = rw rows at c.in-Ok.ensures.clear in
+    let names = rw rows at c.in-Ok.ensures.made in
+    let lent = c.rows-2.ensures files choice clear.are in
+    let expanded = rw lent at c.in-Err-copies.ensures.refusal in
+    λ r e. least_first choice files limit phases r (least_expanded choice files limit (Some r) clear.own clear.links named (expanded names r (err_again _ _ e)))
+
+pub of_expanded-requires : goal.of_expanded-requires
+of_expanded-requires c =
+    let choice = choice_of c.args.selection.now in
+    let limit = c.args.limit in
+    let files = c.requires.files in
+    let clear = c.requires.clear in
+    let rows = c.rows.ensures files choice clear.are in
+    let named = rw rows at c.in-Ok.ensures.clear in
+    let names = rw rows at c.in-Ok.ensures.made in
+    let lent = c.rows-2.ensures files choice clear.are in
+    let cleared = rw lent at c.in-Ok-copies.ensures.clear in
+    let copied = rw lent at c.in-Ok-copies.ensures.copied in
+    let before : IsLeast (RefusesBeforeTypes choice files limit) None = least_expanded choice files limit None clear.own clear.links named (cleared names) in
+    let expanded : AreExpanded choice files limit c.args.linked.now c.in-Ok.names c.in-Ok-copies.copies = record { clear = clear; are_names = names; are_copies = copied names; before = before } in
+    record { files = files; expanded = expanded }
+
+pub returns-clause-schema : goal.returns-clause-schema
+returns-clause-schema c = λ files clear.
+    let choice = choice_of c.args.selection.now in
+    let limit = c.args.limit in
+    let rows = c.rows.ensures files choice clear.are in
+    let named = rw rows at c.in-Ok.ensures.clear in
+    let names = rw rows at c.in-Ok.ensures.made in
+    let lent = c.rows-2.ensures files choice clear.are in
+    let cleared = rw lent at c.in-Ok-copies.ensures.clear in
+    let copied = rw lent at c.in-Ok-copies.ensures.copied in
+    let before : IsLeast (RefusesBeforeTypes choice files limit) None = least_expanded choice files limit None clear.own clear.links named (cleared names) in
+    let expanded : AreExpanded choice files limit c.args.linked.now c.in-Ok.names c.in-Ok-copies.copies = record { clear = clear; are_names = names; are_copies = copied names; before = before } in
+    c.of_expanded.ensures.schema files expanded
+
+pub returns-clause-clear : goal.returns-clause-clear
+returns-clause-clear c = λ files clear.
+    let choice = choice_of c.args.selection.now in
+    let limit = c.args.limit in
+    let rows = c.rows.ensures files choice clear.are in
+    let named = rw rows at c.in-Ok.ensures.clear in
+    let names = rw rows at c.in-Ok.ensures.made in
+    let lent = c.rows-2.ensures files choice clear.are in
+    let cleared = rw lent at c.in-Ok-copies.ensures.clear in
+    let copied = rw lent at c.in-Ok-copies.ensures.copied in
+    let before : IsLeast (RefusesBeforeTypes choice files limit) None = least_expanded choice files limit None clear.own clear.links named (cleared names) in
+    let expanded : AreExpanded choice files limit c.args.linked.now c.in-Ok.names c.in-Ok-copies.copies = record { clear = clear; are_names = names; are_copies = copied names; before = before } in
+    c.of_expanded.ensures.clear files expanded
+
+pub returns-clause-refusal : goal.returns-clause-refusal
+returns-clause-refusal c = λ files clear.
+    let choice = choice_of c.args.selection.now in
+    let limit = c.args.limit in
+    let rows = c.rows.ensures files choice clear.are in
+    let named = rw rows at c.in-Ok.ensures.clear in
+    let names = rw rows at c.in-Ok.ensures.made in
+    let lent = c.rows-2.ensures files choice clear.are in
+    let cleared = rw lent at c.in-Ok-copies.ensures.clear in
+    let copied = rw lent at c.in-Ok-copies.ensures.copied in
+    let before : IsLeast (RefusesBeforeTypes choice files limit) None = least_expanded choice files limit None clear.own clear.links named (cleared names) in
+    let expanded : AreExpanded choice files limit c.args.linked.now c.in-Ok.names c.in-Ok-copies.copies = record { clear = clear; are_names = names; are_copies = copied names; before = before } in
+    c.of_expanded.ensures.refusal files expanded
+
+pub returns-clause-built : goal.returns-clause-built
+returns-clause-built c = λ files clear.
+    let choice = choice_of c.args.selection.now in
+    let limit = c.args.limit in
+    let rows = c.rows.ensures files choice clear.are in
+    let named = rw rows at c.in-Ok.ensures.clear in
+    let names = rw rows at c.in-Ok.ensures.made in
+    let lent = c.rows-2.ensures files choice clear.are in
+    let cleared = rw lent at c.in-Ok-copies.ensures.clear in
+    let copied = rw lent at c.in-Ok-copies.ensures.copied in
+    let before : IsLeast (RefusesBeforeTypes choice files limit) None = least_expanded choice files limit None clear.own clear.links named (cleared names) in
+    let expanded : AreExpanded choice files limit c.args.linked.now c.in-Ok.names c.in-Ok-copies.copies = record { clear = clear; are_names = names; are_copies = copied names; before = before } in
+    c.of_expanded.ensures.built files expanded
+
+pub returns-clause-before : goal.returns-clause-before
+returns-clause-before c = λ files clear.
+    let choice = choice_of c.args.selection.now in
+    let limit = c.args.limit in
+    let rows = c.rows.ensures files choice clear.are in
+    let named = rw rows at c.in-Ok.ensures.clear in
+    let names = rw rows at c.in-Ok.ensures.made in
+    let lent = c.rows-2.ensures files choice clear.are in
+    let cleared = rw lent at c.in-Ok-copies.ensures.clear in
+    let copied = rw lent at c.in-Ok-copies.ensures.copied in
+    let before : IsLeast (RefusesBeforeTypes choice files limit) None = least_expanded choice files limit None clear.own clear.links named (cleared names) in
+    let expanded : AreExpanded choice files limit c.args.linked.now c.in-Ok.names c.in-Ok-copies.copies = record { clear = clear; are_names = names; are_copies = copied names; before = before } in
+    λ e. before

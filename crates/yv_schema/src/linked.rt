@@ -1,0 +1,95 @@
+//! The compilation of linked files, phase by phase.
+ghost use Rattle.std.specs.Prelude.{◌≡◌, IfOk, OnOk, Some, None, Err};
+ghost use Rattle.yv_statement.specs.declared.refusal.Refusal.{Refusal};
+ghost use Rattle.yv_statement.specs.declared.refusal.Stop.TheVariants.{Fault, PatternBuild};
+ghost use Rattle.yv_statement.specs.Order.{IsLeast};
+ghost use Rattle.yv_selection.specs.Choice.{choice_of};
+ghost use Rattle.yv_rows.specs.Files.{Files};
+ghost use Rattle.yv_faceted.specs.Types.{HasTypePattern};
+ghost use Rattle.yv_nodes.specs.Rows.{whole};
+ghost use Rattle.yv_schema.specs.Refuses.{Refuses, RefusesBeforeTypes};
+ghost use Rattle.yv_schema.specs.Schema.{IsSchema};
+ghost use Rattle.yv_schema.specs.InnerPhases.{AreClear, AreExpanded, SomeClear, SomeExpanded};
+
+use crate::build::build;
+use crate::context::Context;
+use std::alloc::Global;
+use yv_copies::laws::{files_have_one_expansion, refusals_of_expansions_have_phases};
+use yv_copies::{Copies, copies};
+use yv_definitions::Definitions;
+use yv_definitions::laws::{files_have_one_kinds, types_tell_kinds};
+use yv_features::laws::an_expression_has_one_truth;
+use yv_link::Linked;
+use yv_link::laws::{linked_files_tell_what_holds, links_have_phases};
+use yv_names::{Names, names};
+use yv_nodes::Schema;
+use yv_selection::Selection;
+use yv_statement::Stop;
+use yv_types::types;
+
+/// The schema of linked files in which nothing is refused so far, or the least refusal of what comes behind.
+pub(crate) fn of_linked(
+    alloc: Global,
+    linked: &Linked<'_, '_>,
+    selection: &Selection,
+    limit: u32,
+) -> Result<Schema, Stop>
+    requires { SomeClear (choice_of selection.now) linked.now }
+    ensures schema { (files : Files) → AreClear (choice_of selection.now) files linked.now
+        → IfOk result (λ s. IsSchema (choice_of selection.now) files (whole s)) }
+    ensures limit { IfOk result (λ s. s.limit ≡ limit) }
+    ensures clear { (files : Files) → AreClear (choice_of selection.now) files linked.now
+        → OnOk result (IsLeast (Refuses (choice_of selection.now) files limit) None) }
+    ensures refusal { (files : Files) → AreClear (choice_of selection.now) files linked.now
+        → (r : Refusal) → result ≡ Err (Fault r) → IsLeast (Refuses (choice_of selection.now) files limit) (Some r) }
+    ensures built { (files : Files) → AreClear (choice_of selection.now) files linked.now
+        → result ≡ Err PatternBuild → HasTypePattern files }
+    ensures before { (files : Files) → AreClear (choice_of selection.now) files linked.now
+        → result ≡ Err PatternBuild → IsLeast (RefusesBeforeTypes (choice_of selection.now) files limit) None }
+{
+    links_have_phases();
+    refusals_of_expansions_have_phases();
+    let names = match names(alloc, linked.rows()) {
+        Ok(names) => names,
+        Err(stop) => return Err(stop),
+    };
+    let copies = match copies(alloc, linked, linked.rows(), &names, selection, limit) {
+        Ok(copies) => copies,
+        Err(stop) => return Err(stop),
+    };
+    of_expanded(alloc, linked, &names, &copies, selection, limit)
+}
+
+// The schema of expanded files in which nothing is refused so far, or the least refusal of their types and their nodes.
+fn of_expanded(
+    alloc: Global,
+    linked: &Linked<'_, '_>,
+    names: &Names,
+    copies: &Copies,
+    selection: &Selection,
+    limit: u32,
+) -> Result<Schema, Stop>
+    requires { SomeExpanded (choice_of selection.now) limit linked.now names.now copies.now }
+    ensures schema { (files : Files) → AreExpanded (choice_of selection.now) files limit linked.now names.now copies.now
+        → IfOk result (λ s. IsSchema (choice_of selection.now) files (whole s)) }
+    ensures limit { IfOk result (λ s. s.limit ≡ limit) }
+    ensures clear { (files : Files) → AreExpanded (choice_of selection.now) files limit linked.now names.now copies.now
+        → OnOk result (IsLeast (Refuses (choice_of selection.now) files limit) None) }
+    ensures refusal { (files : Files) → AreExpanded (choice_of selection.now) files limit linked.now names.now copies.now
+        → (r : Refusal) → result ≡ Err (Fault r) → IsLeast (Refuses (choice_of selection.now) files limit) (Some r) }
+    ensures built { (files : Files) → AreExpanded (choice_of selection.now) files limit linked.now names.now copies.now
+        → result ≡ Err PatternBuild → HasTypePattern files }
+{
+    linked_files_tell_what_holds();
+    an_expression_has_one_truth();
+    types_tell_kinds();
+    files_have_one_kinds();
+    files_have_one_expansion();
+    let types = match types(alloc, linked, names) {
+        Ok(types) => types,
+        Err(stop) => return Err(stop),
+    };
+    let definitions = Definitions::read(alloc, linked.rows(), &types)?;
+    let context = Context::new(&definitions, copies);
+    build(alloc, linked.rows(), &context, selection, limit)
+}
