@@ -10,7 +10,7 @@ use Rattle.yv_source.specs.Legal.{IsLegalFile}
 use Rattle.yv_selection.specs.Choice.{Choice}
 use Rattle.yv_schema.specs.Refuses.{Refuses}
 use Rattle.yv_schema.specs.Schema.{IsSchema}
-use Rattle.yv_schema.specs.Tree.{Forest}
+use Rattle.yv_nodes.specs.Tree.{Forest}
 use Rattle.yv_job.specs.Jobs.{Task}
 use Rattle.yv_outcome.specs.Compiles.{Compiled, RefusedAt, Built, IsRead, IsUnread, in_file, FilesCompile, unread, refused, built}
 use Rattle.yv_streams.specs.Files.{File}

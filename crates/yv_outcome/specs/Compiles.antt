@@ -8,7 +8,7 @@ use Rattle.yv_source.specs.Answer.{IsBadFile, IsSpelled, IsRefused}
 use Rattle.yv_source.specs.Legal.{IsLegalFile}
 use Rattle.yv_selection.specs.Choice.{Choice}
 use Rattle.yv_faceted.specs.Types.{HasTypePattern}
-use Rattle.yv_schema.specs.Tree.{Forest}
+use Rattle.yv_nodes.specs.Tree.{Forest}
 use Rattle.yv_schema.specs.Schema.{IsSchema}
 use Rattle.yv_schema.specs.Refuses.{Refuses, RefusesBeforeTypes}
 use Rattle.yv_streams.specs.Files.{File}

@@ -6,7 +6,7 @@ use Rattle.std.specs.Fmt.{decimal}
 use Rattle.std.specs.Io.KnownBytes.{Appends}
 use Rattle.yv_statement.specs.Codes.{name_of}
 use Rattle.yv_statement.specs.declared.refusal.Refusal.{Refusal}
-use Rattle.yv_schema.specs.Tree.{Forest, count as node_count}
+use Rattle.yv_nodes.specs.Tree.{Forest, count as node_count}
 use Rattle.yv_job.specs.Jobs.{Asked, Compiles, Draws, Checks, Task}
 use Rattle.yv_validate.specs.Place.{Flaw}
 use Rattle.yv_validate.specs.Faults.{faults}

@@ -2,7 +2,7 @@
 ghost use Rattle.std.specs.Prelude.{◌≡◌, ◌≤◌, map, slice_get, IfOk, string_bytes};
 ghost use Rattle.serde_json.specs.Data.{depth};
 ghost use Rattle.serde_json.specs.View.{view};
-ghost use Rattle.yv_schema.specs.Rows.{whole};
+ghost use Rattle.yv_nodes.specs.Rows.{whole};
 ghost use Rattle.yv_validate.specs.Size.{size};
 ghost use Rattle.yv_validate.specs.Faults.{faults as faults_in};
 ghost use Rattle.yv_streams.specs.Files.{file_of};

@@ -9,7 +9,7 @@ use Rattle.yv_statement.specs.declared.refusal.Stop.{Stop}
 use Rattle.yv_source.specs.Answer.{IsBadFile, IsSpelled, IsRefused}
 use Rattle.yv_source.specs.File as source
 use Rattle.yv_selection.specs.Choice.{Choice}
-use Rattle.yv_schema.specs.Rows.{Rows, whole}
+use Rattle.yv_nodes.specs.Rows.{Rows, whole}
 use Rattle.yv_schema.specs.Refuses.{Refuses}
 use Rattle.yv_schema.specs.Schema.{IsSchema}
 use Rattle.yv_outcome.specs.Compiles.{Built, RefusedAt, FilesCompile, IsRead, IsUnread, in_file, unread, built}

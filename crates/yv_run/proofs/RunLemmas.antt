@@ -4,7 +4,7 @@ use Rattle.std.specs.declared.option.Option.{Option}
 use Rattle.std.specs.declared.option.Option.TheVariants.{None, Some}
 use Rattle.yv_statement.specs.declared.refusal.Refusal.{Refusal}
 use Rattle.yv_job.specs.Jobs.{Asked, Compiles, Draws, Checks, Task}
-use Rattle.yv_schema.specs.Tree.{Forest}
+use Rattle.yv_nodes.specs.Tree.{Forest}
 use Rattle.yv_outcome.specs.declared.print.Output.{Output}
 use Rattle.yv_outcome.specs.declared.status.Verdict.TheVariants.{Refused}
 use Rattle.yv_outcome.specs.Compiles.{FilesCompile, RefusedAt, Built}

@@ -2,7 +2,7 @@
 use Rattle.std.specs.Prelude.{◌≡◌, ℕ, List, take}
 use Rattle.std.specs.declared.option.Option.{Option}
 use Rattle.std.specs.Io.KnownBytes.{Appends}
-use Rattle.yv_schema.specs.Tree.{Forest}
+use Rattle.yv_nodes.specs.Tree.{Forest}
 use Rattle.yv_job.specs.Jobs.{Asked, Compiles, Draws, Checks}
 use Rattle.yv_outcome.specs.Output.{Gives, count_printed, data_printed, printed_of}
 use Rattle.yv_outcome.specs.Status.{status_of}

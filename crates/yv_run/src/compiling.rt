@@ -3,7 +3,7 @@ ghost use Rattle.std.specs.Prelude.{◌≡◌, ◌≤◌, length, map, IfOk, Err
 ghost use Rattle.yv_statement.specs.declared.refusal.Refusal.{Refusal};
 ghost use Rattle.yv_statement.specs.declared.refusal.Stop.TheVariants.{Fault, PatternBuild};
 ghost use Rattle.yv_selection.specs.Choice.{choice_of};
-ghost use Rattle.yv_schema.specs.Rows.{whole};
+ghost use Rattle.yv_nodes.specs.Rows.{whole};
 ghost use Rattle.yv_outcome.specs.Compiles.{FilesCompile, RefusedAt, Built, HavePattern};
 ghost use Rattle.yv_streams.specs.Files.{file_of};
 ghost use Rattle.yv_run.specs.InnerParsed.{AreTexts};

@@ -2,7 +2,7 @@
 ghost use Rattle.std.specs.Prelude.{◌≡◌, ◌≤◌, ◌↔◌, ◌⊎◌, true, map, length, IfOk, IsErrOf};
 ghost use Rattle.yv_job.specs.Jobs.{HasFiles, HasLimit, CompilesOrChecks, IsCompileOrCheck, asked_of, task_of};
 ghost use Rattle.yv_selection.specs.Choice.{choice_of};
-ghost use Rattle.yv_schema.specs.Rows.{whole};
+ghost use Rattle.yv_nodes.specs.Rows.{whole};
 ghost use Rattle.yv_streams.specs.Stream.{stream_inner, has_failed, IsFresh};
 ghost use Rattle.yv_streams.specs.Files.{file_of};
 ghost use Rattle.yv_outcome.specs.Compiles.{HavePattern};

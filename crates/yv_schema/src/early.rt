@@ -77,6 +77,7 @@ fn is_taken(keyword: Keyword, argument: Option<&str>) -> bool
             _,
         ) => true,
         (Keyword::Type, Some(name)) => name != "leafref",
+        (Keyword::Type, None) => true,
         _ => false,
     }
 }
