@@ -122,3 +122,9 @@ fn wrong_entries_are_left_out(rt: HostRuntime) -> Result<(), Fail> {
     }
     Ok(())
 }
+
+#[test]
+fn no_intervals_ascend(rt: HostRuntime) -> Result<(), Fail> {
+    assert!(rt; Intervals::new(Vec::new(rt.alloc()))?.is_some());
+    Ok(())
+}

@@ -18,12 +18,22 @@ fn key(alloc: Global, value: Value) -> Result<Tuple, AllocError> {
     Ok(key)
 }
 
+// Keeps a value as a key, and tells where it was kept before.
+fn keep(
+    alloc: Global,
+    index: &mut Index,
+    value: Value,
+    place: u64,
+) -> Result<Option<u64>, AllocError> {
+    let key = key(alloc, value)?;
+    index.keep_first(&mut Meter::new(), key, place)
+}
+
 // Whether an index takes both for one key.
-fn are_same(alloc: Global, one: Value, other: Value) -> Result<bool, AllocError> {
-    let mut meter = Meter::new();
+fn are_same(alloc: Global, one: &Value, other: &Value) -> Result<bool, AllocError> {
     let mut index = Index::new(alloc);
-    let first = index.keep_first(&mut meter, key(alloc, one.copy(alloc)?)?, 1)?;
-    let second = index.keep_first(&mut meter, key(alloc, other)?, 2)?;
+    let first = keep(alloc, &mut index, one.copy(alloc)?, 1)?;
+    let second = keep(alloc, &mut index, other.copy(alloc)?, 2)?;
     Ok(first == None && second == Some(1))
 }
 
@@ -49,87 +59,104 @@ fn default_value(alloc: Global, name: &str, text: &str) -> Result<Option<Value>,
     Ok(read_text(alloc, &plain(alloc, name)?, text, &scope(alloc)?)?)
 }
 
-// Whether a default's text is the value of that JSON text.
-fn reads_as(alloc: Global, name: &str, text: &str, json: &str) -> Result<bool, Fail> {
-    match (
-        default_value(alloc, name, text)?,
-        value(alloc, plain(alloc, name)?, json)?,
-    ) {
-        (Some(found), Some(wanted)) => Ok(are_same(alloc, found, wanted)?),
-        _ => Ok(false),
+// The value that a type reads from a JSON text, where it reads one.
+fn read(alloc: Global, name: &str, json: &str) -> Result<Value, Fail> {
+    let plain = plain(alloc, name)?;
+    match value(alloc, plain.copy()?, json)? {
+        Some(value) => Ok(value),
+        None => Err(Fail::new("no value")),
     }
 }
 
-// Whether both types read one value, of these JSON texts.
-fn read_one(alloc: Global, one: (&str, &str), other: (&str, &str)) -> Result<bool, Fail> {
-    let first = value(alloc, plain(alloc, one.0)?, one.1)?;
-    let second = value(alloc, plain(alloc, other.0)?.copy()?, other.1)?;
-    match (first, second) {
-        (Some(found), Some(wanted)) => Ok(are_same(alloc, found, wanted)?),
-        _ => Err(Fail::new("no value")),
+// The value of a default's text, where it has one.
+fn read_default(alloc: Global, name: &str, text: &str) -> Result<Value, Fail> {
+    match default_value(alloc, name, text)? {
+        Some(value) => Ok(value),
+        None => Err(Fail::new("no default")),
     }
 }
 
 // RFC 7950, section 9.2.1, and what each other type reads.
+const DEFAULTS: &[(&str, &str, &str)] = &[
+    ("whole", "0xfF", "\"255\""),
+    ("whole", "017", "\"15\""),
+    ("whole", "-0x10", "\"-16\""),
+    ("whole", "+07", "\"7\""),
+    ("whole", "-010", "\"-8\""),
+    ("whole", "0", "\"0\""),
+    ("whole", "00", "\"0\""),
+    ("whole", "9", "\"9\""),
+    ("tenths", "-1.5", "\"-1.50\""),
+    ("text", "\u{e9}\n", "\"\u{e9}\\n\""),
+    ("boolean", "true", "true"),
+    ("enumeration", "a", "\"a\""),
+    ("bits", "b a", "\"a b\""),
+    ("binary", "YWI=", "\"YWI=\""),
+    (
+        "identity",
+        "ianaift:ethernetCsmacd",
+        "\"iana-if-type:ethernetCsmacd\"",
+    ),
+    ("identity", "loop", "\"ex:loop\""),
+];
+
+// The first text that isn't read as the value of its JSON text.
+fn first_other<'a>(
+    alloc: Global,
+    rows: &[(&'a str, &'a str, &'a str)],
+) -> Result<Option<&'a str>, Fail> {
+    for (name, text, json) in rows {
+        let found = read_default(alloc, name, text)?;
+        let wanted = read(alloc, name, json)?;
+        if !are_same(alloc, &found, &wanted)? {
+            return Ok(Some(*text));
+        }
+    }
+    Ok(None)
+}
+
 #[test]
 fn defaults_read_values(rt: HostRuntime) -> Result<(), Fail> {
-    let rows = [
-        ("whole", "0xfF", "\"255\""),
-        ("whole", "017", "\"15\""),
-        ("whole", "-0x10", "\"-16\""),
-        ("whole", "+07", "\"7\""),
-        ("whole", "-010", "\"-8\""),
-        ("whole", "0", "\"0\""),
-        ("whole", "00", "\"0\""),
-        ("whole", "9", "\"9\""),
-        ("tenths", "-1.5", "\"-1.50\""),
-        ("text", "\u{e9}\n", "\"\u{e9}\\n\""),
-        ("boolean", "true", "true"),
-        ("enumeration", "a", "\"a\""),
-        ("bits", "b a", "\"a b\""),
-        ("binary", "YWI=", "\"YWI=\""),
-        (
-            "identity",
-            "ianaift:ethernetCsmacd",
-            "\"iana-if-type:ethernetCsmacd\"",
-        ),
-        ("identity", "loop", "\"ex:loop\""),
-    ];
-    for (name, text, json) in rows {
-        assert!(rt; reads_as(rt.alloc(), name, text, json)?, "{name} {text}");
-    }
+    assert_eq!(rt; first_other(rt.alloc(), DEFAULTS)?, None);
     Ok(())
+}
+
+const NO_DEFAULTS: &[(&str, &str)] = &[
+    ("whole", "08"),
+    ("whole", "0x"),
+    ("whole", "0X1"),
+    ("whole", "x1"),
+    ("whole", ""),
+    ("whole", "-"),
+    ("whole", "256"),
+    ("whole", "1.0"),
+    ("whole", "0xg"),
+    ("tenths", "-1.55"),
+    ("text", "abc"),
+    ("text", "\u{1}"),
+    ("boolean", "True"),
+    ("enumeration", "b"),
+    ("bits", "c"),
+    ("bits", "A"),
+    ("binary", "YWJj"),
+    ("identity", "iana-if-type:ethernetCsmacd"),
+    ("identity", "ethernetCsmacd"),
+    ("empty", ""),
+];
+
+// The first text that has a value.
+fn first_read<'a>(alloc: Global, rows: &[(&'a str, &'a str)]) -> Result<Option<&'a str>, Fail> {
+    for (name, text) in rows {
+        if default_value(alloc, name, text)?.is_some() {
+            return Ok(Some(*text));
+        }
+    }
+    Ok(None)
 }
 
 #[test]
 fn other_defaults_have_no_value(rt: HostRuntime) -> Result<(), Fail> {
-    let rows = [
-        ("whole", "08"),
-        ("whole", "0x"),
-        ("whole", "0X1"),
-        ("whole", "x1"),
-        ("whole", ""),
-        ("whole", "-"),
-        ("whole", "256"),
-        ("whole", "1.0"),
-        ("whole", "0xg"),
-        ("tenths", "-1.55"),
-        ("text", "abc"),
-        ("text", "\u{1}"),
-        ("boolean", "True"),
-        ("enumeration", "b"),
-        ("bits", "c"),
-        ("binary", "YWJj"),
-        ("identity", "iana-if-type:ethernetCsmacd"),
-        ("identity", "ethernetCsmacd"),
-        ("empty", ""),
-    ];
-    for (name, text) in rows {
-        assert!(rt;
-            default_value(rt.alloc(), name, text)?.is_none(),
-            "{name} {text}"
-        );
-    }
+    assert_eq!(rt; first_read(rt.alloc(), NO_DEFAULTS)?, None);
     Ok(())
 }
 
@@ -143,8 +170,10 @@ fn values_are_keys(rt: HostRuntime) -> Result<(), Fail> {
         (("identity", "\"loop\""), ("identity", "\"ex:loop\""), true),
         (("text", "\"a\""), ("enumeration", "\"a\""), false),
     ];
-    for (one, other, are_same) in rows {
-        assert!(rt; read_one(rt.alloc(), one, other)? == are_same, "{one:?}");
+    for (one, other, is_one) in rows {
+        let first = read(rt.alloc(), one.0, one.1)?;
+        let second = read(rt.alloc(), other.0, other.1)?;
+        assert!(rt; are_same(rt.alloc(), &first, &second)? == is_one, "{one:?}");
     }
     Ok(())
 }
