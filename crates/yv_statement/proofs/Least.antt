@@ -113,6 +113,7 @@ at_place k xs = get_or xs k 0
 
 -- the codes are kept in their order
 number_is_tag : (c : Code) → number_of c ≡ tag_of the_type c
+unfolding number_of
 number_is_tag code.NotUtf8 = refl
 number_is_tag code.BadCharacter = refl
 number_is_tag code.BadToken = refl

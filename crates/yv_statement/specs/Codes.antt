@@ -5,7 +5,7 @@ use Rattle.yv_statement.specs.declared.refusal.Code.TheVariants as code
 
 -- The order among the refusals of one place, which the statement, its arguments, types and nodes may give together: the text first,
 -- then a statement that is left out before one that is unknown, and so on, in the order in which docs/REFUSALS.md tells the codes.
-abbrev pub number_of : Code → ℕ
+unfoldable pub number_of : Code → ℕ
 number_of code.NotUtf8 = 0
 number_of code.BadCharacter = 1
 number_of code.BadToken = 2

@@ -203,6 +203,7 @@ impl Code {
     }
 
     // Its place among all codes.
+    #[tactic(auto, unfolding(crate::specs::Codes::number_of))]
     fn number(self) -> u8
         ensures { result ≡ number_of self }
     {

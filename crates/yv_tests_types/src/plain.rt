@@ -6,39 +6,53 @@ use yv_link::link;
 use yv_names::names;
 use yv_selection::Selection;
 use yv_statement::Stop;
-use yv_types::{Types, types};
+use yv_types::{Types, first_bad_type, types};
 use yv_values::PlainType;
 
-fn read(alloc: Global, text: &str) -> Result<Types, Stop> {
+// The types of a module, or the first that is wrong.
+pub fn read(alloc: Global, text: &str) -> Result<Types, Stop> {
     let text = source(alloc, text)?;
     let files = roots(alloc, &text)?;
     let linked = link(alloc, files.as_slice(), &Selection::everything(alloc))?;
     let known = names(alloc, linked.rows())?;
-    types(alloc, &linked, &known)
+    match first_bad_type(alloc, &linked, &known)? {
+        Some(refusal) => Err(Stop::Fault(refusal)),
+        None => types(alloc, &linked, &known),
+    }
 }
 
 // Whether these are the members of the union, in order.
-fn are_members(found: &[PlainType]) -> bool {
-    matches!(found, [PlainType::Whole(_), PlainType::Enumeration(_)])
+fn are_members(found: Option<&[PlainType]>) -> bool {
+    matches!(
+        found,
+        Some([PlainType::Whole(_), PlainType::Enumeration(_)])
+    )
+}
+
+// Whether there is a list of so many types.
+fn are_so_many(found: Option<&[PlainType]>, count: usize) -> bool {
+    match found {
+        Some(types) => types.len() == count,
+        None => false,
+    }
 }
 
 // 2 and 3 `both` and its type, 4 the first member, 8 the type of `again`, 10 the leafref.
 fn tells_by_number(found: &Types) -> bool {
-    let union = found.plain(3).is_some_and(|types| are_members(types));
-    let again = found.plain(8).is_some_and(|types| are_members(types));
-    let member = found.plain(4).is_some_and(|types| types.len() == 1);
-    let leafref = found.plain(10).is_some_and(|types| types.is_empty());
-    union && again && member && leafref && found.plain(2).is_none()
+    are_members(found.plain(3))
+        && are_members(found.plain(8))
+        && are_so_many(found.plain(4), 1)
+        && are_so_many(found.plain(10), 0)
+        && found.plain(2).is_none()
 }
 
+// The type of `again` stands at 93, the leafref at 111, and `again` itself at 79.
 fn tells_by_place(found: &Types) -> Result<bool, AllocError> {
-    let again = found
-        .at(0, 93)?
-        .is_some_and(|types| are_members(types.as_slice()));
-    let leafref = found
-        .at(0, 111)?
-        .is_some_and(|types| types.as_slice().is_empty());
-    Ok(again && leafref && found.at(0, 79)?.is_none() && found.at(1, 93)?.is_none())
+    let again = found.at(0, 93)?;
+    let leafref = found.at(0, 111)?;
+    let are_told = are_members(again.as_ref().map(|types| types.as_slice()))
+        && are_so_many(leafref.as_ref().map(|types| types.as_slice()), 0);
+    Ok(are_told && found.at(0, 79)?.is_none() && found.at(1, 93)?.is_none())
 }
 
 // RFC 7950, sections 7.3, 9.9 and 9.12.
