@@ -91,7 +91,13 @@ fn writers(rt: HostRuntime) -> Result<(), Fail> {
             piece,
             answers_zero,
         });
-        let by = ended(rt.alloc(), checks(rt.alloc())?, MODULE, &mut reader, &mut writer)?;
+        let by = ended(
+            rt.alloc(),
+            checks(rt.alloc())?,
+            MODULE,
+            &mut reader,
+            &mut writer,
+        )?;
         assert_eq!(rt; by, status);
         assert!(rt; writer.interrupts() == interrupts as u64 && writer.faults() == faults);
         assert_eq!(rt; writer.into_inner().taken.as_slice(), text.as_bytes());
@@ -118,7 +124,13 @@ fn readers(rt: HostRuntime) -> Result<(), Fail> {
             breaks,
         });
         let mut writer = Counted::new(sink(rt.alloc()));
-        let by = ended(rt.alloc(), checks(rt.alloc())?, MODULE, &mut reader, &mut writer)?;
+        let by = ended(
+            rt.alloc(),
+            checks(rt.alloc())?,
+            MODULE,
+            &mut reader,
+            &mut writer,
+        )?;
         assert_eq!(rt; by, status);
         assert_eq!(rt; writer.into_inner().taken.as_slice(), text.as_bytes());
     }
@@ -141,12 +153,26 @@ fn broken() -> Counted<Source<'static>>
 fn documents_that_are_not_read(rt: HostRuntime) -> Result<(), Fail> {
     let mut reader = broken();
     let mut writer = Counted::new(sink(rt.alloc()));
-    let by = ended(rt.alloc(), Command::Compile, MODULE, &mut reader, &mut writer)?;
-    assert!(rt; by == Status::Clean && writer.into_inner().taken.as_slice() == b"nodes: 3\n");
+    let by = ended(
+        rt.alloc(),
+        Command::Compile,
+        MODULE,
+        &mut reader,
+        &mut writer,
+    )?;
+    assert!(rt;
+        by == Status::Clean && writer.into_inner().taken.as_slice() == b"nodes: 3\n".as_slice()
+    );
     let text = "module ex{\nprefix ex;\n leef a;}";
     let mut reader = broken();
     let mut writer = Counted::new(sink(rt.alloc()));
-    let by = ended(rt.alloc(), checks(rt.alloc())?, text, &mut reader, &mut writer)?;
+    let by = ended(
+        rt.alloc(),
+        checks(rt.alloc())?,
+        text,
+        &mut reader,
+        &mut writer,
+    )?;
     assert_eq!(rt; by, Status::Refused);
     assert_eq!(rt;
         writer.into_inner().taken.as_slice(),
@@ -159,7 +185,13 @@ fn documents_that_are_not_read(rt: HostRuntime) -> Result<(), Fail> {
 fn a_document_without_end(rt: HostRuntime) -> Result<(), Fail> {
     let mut reader = Counted::new(Endless { given: 0 });
     let mut writer = Counted::new(sink(rt.alloc()));
-    let by = ended(rt.alloc(), checks(rt.alloc())?, MODULE, &mut reader, &mut writer)?;
+    let by = ended(
+        rt.alloc(),
+        checks(rt.alloc())?,
+        MODULE,
+        &mut reader,
+        &mut writer,
+    )?;
     assert!(rt; by == Status::BadInput && reader.into_inner().given == 16_777_217);
     assert_eq!(rt;
         writer.into_inner().taken.as_slice(),

@@ -97,7 +97,9 @@ fn files(rt: HostRuntime) -> Result<(), Fail> {
         });
         match read_input(rt.alloc(), "ex.json", &mut reader) {
             Ok(input) => {
-                assert!(rt; input.name.as_str() == "ex.json" && Some(input.bytes.as_slice()) == bytes);
+                assert!(rt;
+                    input.name.as_str() == "ex.json" && Some(input.bytes.as_slice()) == bytes
+                );
             }
             Err(InputFault::Read) => assert!(rt; bytes.is_none()),
             Err(InputFault::NoMemory) => return Err(AllocError.into()),

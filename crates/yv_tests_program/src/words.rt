@@ -36,7 +36,10 @@ fn words_that_are_refused(rt: HostRuntime) -> Result<(), Fail> {
     for line in cases {
         let (text, is_help) = answer(rt.alloc(), line)?.ok_or(line)?;
         let text = text.as_str();
-        assert!(rt; !is_help && text.starts_with("error: ") && text.ends_with("\n"), "{line}");
+        assert!(rt;
+            !is_help && text.starts_with("error: ") && text.ends_with("\n"),
+            "{line}"
+        );
     }
     Ok(())
 }

@@ -3,7 +3,7 @@ use Rattle.std.proofs.lemmas.Result.{IfOk-weaker}
 use Rattle.yv_statement.specs.declared.refusal.Stop.{Stop}
 use Rattle.yv_job.specs.Jobs.{task_of}
 use Rattle.yv_nodes.specs.Rows.{Rows, whole}
-use Rattle.yv_outcome.proofs.Compiling.{failed}
+use Rattle.yv_run.proofs.FileLemmas.{failed}
 use Rattle.yv_streams.specs.Files.{file_of}
 use Rattle.yv_outcome.specs.Output.{printed_of}
 use Rattle.yv_run.proofs.RunLemmas.{prints_refusal, prints_says}
