@@ -1,0 +1,68 @@
+//! What a schema measures, how its nodes are found, and the steps of a validation: numbers by which time is bounded.
+use crate::texts::{roots, sources};
+use serde_json::Value;
+use std::alloc::Global;
+use std::test::Fail;
+use yv_nodes::{Measures, Schema};
+use yv_schema::compile;
+use yv_selection::Selection;
+use yv_statement::Stop;
+use yv_validate::{size, validate};
+use yv_values::Meter;
+
+const EX: &str =
+    "module ex{yang-version 1.1;namespace urn:ex;prefix ex;container top{leaf a{type string;}leaf b{type int32;}}leaf c{type boolean;}}";
+
+fn compiled(alloc: Global, texts: &[&str]) -> Result<Schema, Stop> {
+    let sources = sources(alloc, texts)?;
+    let files = roots(alloc, sources.as_slice())?;
+    compile(
+        alloc,
+        files.as_slice(),
+        &Selection::everything(alloc),
+        u32::MAX,
+    )
+}
+
+// A look-up is a step, whether it finds a node or not (RFC 7951, section 4).
+fn tells_nodes(schema: &Schema) -> bool {
+    let mut meter = Meter::new();
+    let Some(top) = schema.find(&mut meter, Schema::ROOT, "ex:top") else {
+        return false;
+    };
+    let Some(b) = schema.find(&mut meter, top, "b") else {
+        return false;
+    };
+    let is_none = schema.find(&mut meter, Schema::ROOT, "top") == None
+        && schema.find(&mut meter, Schema::ROOT, "ex:b") == None
+        && schema.find(&mut meter, top, "ex:b") == None;
+    is_none
+        && meter.steps() == 5
+        && schema.node(b).parent() == top
+        && schema.node(top).parent() == Schema::ROOT
+}
+
+#[test]
+fn nodes_are_found_and_measured(rt: HostRuntime) -> Result<(), Fail> {
+    let alloc = rt.alloc();
+    let schema = compiled(alloc, &[EX])?;
+    let all = Measures { m: 4, u: 0, w: 1 };
+    assert!(rt; schema.measures() == all && tells_nodes(&schema));
+    let empty = compiled(alloc, &[])?;
+    let none = Measures { m: 0, u: 0, w: 1 };
+    assert!(rt; empty.is_empty() && empty.measures() == none && !tells_nodes(&empty));
+    Ok(())
+}
+
+#[test]
+fn look_ups_and_tried_types_are_steps(rt: HostRuntime) -> Result<(), Fail> {
+    let alloc = rt.alloc();
+    let schema = compiled(alloc, &[EX])?;
+    let document = Value::from_str(alloc, "{\"ex:top\":{\"a\":\"x\",\"b\":\"3\",\"z\":1}}")?;
+    assert!(rt; size(&document) == 4);
+    // Four members are looked up, and a type is tried for each of the two leaves.
+    assert!(rt; validate(alloc, &schema, &document)?.steps == 6);
+    let nested = Value::from_str(alloc, "{\"a\":[1,{\"b\":null}],\"c\":{}}")?;
+    assert!(rt; size(&nested) == 5);
+    Ok(())
+}
