@@ -38,6 +38,15 @@ def folder_of(name):
     return os.path.join(TOP, "crates", name)
 
 
+def size_of(name):
+    """The bytes of a crate's code and definitions, by which its proof's time goes."""
+    sizes = 0
+    for part in PARTS:
+        for at, _, files in os.walk(os.path.join(folder_of(name), part)):
+            sizes += sum(os.path.getsize(os.path.join(at, file)) for file in files)
+    return sizes
+
+
 def linked(source, target):
     """A link to a file, or a copy where the file system can't link."""
     try:
