@@ -1,0 +1,14 @@
+use Rattle.std.proofs.Common.{◌≡◌, ◌∙◌, subst, sym}
+use Rattle.yv_augments.specs.Groups.{Groups}
+use Rattle.yv_augments.specs.Tree.{AreRows}
+use Rattle.yv_augments.specs.InnerListing.{StandAtMostOnce, groups_in}
+use Rattle.yv_augments.proofs.Grouped.{are_members}
+use Rattle.yv_augments.proofs.Taking.{stand_at_most_once}
+use Rattle.yv_augments.proofs.grafting.Grafting.into_rows.Goals as goal
+
+pub returns : goal.returns
+returns c = λ labels st is stand.
+    let same : groups_in c.in_ok-lists.lists.items ≡ st.groups =
+    c.in_ok-lists.ensures ∙ are_members labels st.groups c.args.self.places.groups.items is.places.groups_are in
+    subst (λ (gs : Groups). AreRows gs c.in_ok-rows.rows.items) same
+    (c.in_ok-rows.ensures (subst StandAtMostOnce (sym same) (stand_at_most_once _ st.groups stand)))

@@ -1,0 +1,35 @@
+-- Inner definitions, which only private clauses cite: groups with the first node of each name.
+use Rattle.std.specs.Prelude.{◌≡◌, ℕ, ◌==◌, List, length, if◌then◌else◌, Option, Some, slice_get}
+use Rattle.std.specs.Ordering.{nat_cmp}
+use Rattle.std.specs.BTreeMap.{get}
+use Rattle.yv_augments.specs.declared.label.Label.{Label}
+use Rattle.yv_augments.specs.declared.group.Group.{Group}
+use Rattle.yv_augments.specs.declared.places.Places.{Places}
+use Rattle.yv_augments.specs.Labels.{is_named}
+use Rattle.yv_augments.specs.Groups.{Groups, members_of}
+use Rattle.yv_augments.specs.Paths.{least, lesser}
+
+-- the first node of a name
+abbrev pub first_in : Group → ℕ → Option ℕ
+first_in group name = get nat_cmp group.names name
+
+-- a number is kept for its name where none is yet, or a greater one
+abbrev pub kept : (ℕ → Option ℕ) → (name item : ℕ) → ℕ → Option ℕ
+kept first name item n = if n == name then lesser (first n) (Some item) else first n
+
+abbrev pub noted : List Label → (ℕ → Option ℕ) → (item : ℕ) → ℕ → Option ℕ
+noted labels first item n = if is_named labels n item then lesser (first n) (Some item) else first n
+
+-- this group has these items
+pub record IsGroup (labels : List Label) (members : List ℕ) (group : Group) : Type 0 where
+  pub members_are : group.members.items ≡ members
+  pub named : (name : ℕ) → first_in group name ≡ least (is_named labels name) members
+
+pub record AreGroups (labels : List Label) (groups : Groups) (kept : List Group) : Type 0 where
+  pub each : length kept ≡ length groups
+  pub group : (g : ℕ) (x : Group) → slice_get kept g ≡ Some x → IsGroup labels (members_of groups g) x
+
+-- these items stand so
+pub record ArePlaces (labels : List Label) (groups : Groups) (places : Places) : Type 0 where
+  pub labels_are : places.labels.items ≡ labels
+  pub groups_are : AreGroups labels groups places.groups.items

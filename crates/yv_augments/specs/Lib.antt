@@ -1,0 +1,10 @@
+pub mod Labels
+pub mod Groups
+pub mod Paths
+pub mod Turns
+pub mod Rounds
+pub mod Placed
+pub mod Tree
+pub mod InnerGroups
+pub mod InnerState
+pub mod InnerListing

@@ -1,0 +1,46 @@
+-- Where a schema path leads (RFC 7950, section 6.5).
+use Rattle.std.specs.Prelude.{ℕ, ◌+◌, ◌&&◌, not, nat_lt, min, Bool, false, List, [], ◌∷◌, if◌then◌else◌, Option, Some, None, slice_get}
+use Rattle.std.specs.Option.{option_map, option_and_then}
+use Rattle.yv_augments.specs.declared.label.Label.{Label}
+use Rattle.yv_augments.specs.declared.end.End.{End}
+use Rattle.yv_augments.specs.declared.end.End.TheVariants as end
+use Rattle.yv_augments.specs.Labels.{is_choice, is_case, is_named}
+use Rattle.yv_augments.specs.Groups.{Groups, members_of}
+
+abbrev pub lesser : Option ℕ → Option ℕ → Option ℕ
+lesser None b = b
+lesser (Some i) None = Some i
+lesser (Some i) (Some j) = Some (min i j)
+
+-- the least that passes
+abbrev pub least : (ℕ → Bool) → List ℕ → Option ℕ
+least passes [] = None
+least passes (i ∷ is) = lesser (if passes i then Some i else None) (least passes is)
+
+-- what was found, if it stands before the limit
+abbrev pub before : ℕ → Option ℕ → Option ℕ
+before limit None = None
+before limit (Some i) = if nat_lt i limit then Some i else None
+
+-- the first node of a group that answers a step
+abbrev pub answer : List Label → Groups → (limit group name : ℕ) → Option ℕ
+answer labels groups limit g name = before limit (least (is_named labels name) (members_of groups g))
+
+abbrev pub is_shorthand : Option Label → Option Label → Bool
+is_shorthand (Some parent) (Some l) = is_choice parent.kind && not (is_case l.kind)
+is_shorthand _ _ = false
+
+-- a step that node j answers below node i comes to node j, or to the case that is left out above it, where i is a choice
+abbrev pub arrived : List Label → (i j : ℕ) → End
+arrived labels i j = if is_shorthand (slice_get labels i) (slice_get labels j) then end.ShorthandCase j else end.Node j
+
+-- where one step leads
+abbrev pub stepped : List Label → Groups → (limit : ℕ) → End → (name : ℕ) → Option End
+stepped labels groups limit (end.Start g) name = option_map (λ j. end.Node j) (answer labels groups limit g name)
+stepped labels groups limit (end.Node i) name = option_map (arrived labels i) (answer labels groups limit (i + 1) name)
+stepped labels groups limit (end.ShorthandCase j) name = if is_named labels name j then Some (end.Node j) else None
+
+-- where a path leads, step by step
+abbrev pub ended : List Label → Groups → (limit : ℕ) → List ℕ → End → Option End
+ended labels groups limit [] e = Some e
+ended labels groups limit (name ∷ names) e = option_and_then (ended labels groups limit names) (stepped labels groups limit e name)

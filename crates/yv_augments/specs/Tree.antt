@@ -1,0 +1,39 @@
+-- The final tree: where items stand when all augments were applied (RFC 7950, section 7.17).
+use Rattle.std.specs.Prelude.{◌≡◌, ℕ, ◌+◌, List, [], ◌∷◌, ◌++◌, Option, Some, None}
+use Rattle.std.specs.Ordering.{nat_cmp}
+use Rattle.std.specs.List.Sorted.{IsPermutation, IsSorted}
+use Rattle.yv_augments.specs.declared.row.Row.{Row}
+use Rattle.yv_augments.specs.Groups.{Groups, members_of}
+
+-- The items of a group in order, which is that of their numbers: what a block gives comes before what augments of uses give, inner
+-- ones first, and this before what the augments of modules give, by file and statement.
+pub record AreInOrder (groups : Groups) (g : ℕ) (items : List ℕ) : Type 0 where
+  pub permutation : IsPermutation (members_of groups g) items
+  pub sorted : IsSorted nat_cmp items
+
+-- items of one parent, in order: the number of the first, the items below it, and those behind it
+pub data Tree : Type 0 where
+  none : Tree
+  item : (number : ℕ) → (below behind : Tree) → Tree
+
+-- these items, each with all that stands below it, make this tree
+pub data Make (groups : Groups) : List ℕ → Tree → Type 0 where
+  no_items : Make groups [] none
+  one_more : {i : ℕ} {items others : List ℕ} {below behind : Tree} → AreInOrder groups (i + 1) items → Make groups items below
+      → Make groups others behind → Make groups (i ∷ others) (item i below behind)
+
+-- the whole tree: what stands at the top, with all that stands below
+abbrev pub IsTree : Groups → Tree → Type 0
+IsTree groups t = (items : List ℕ) × AreInOrder groups 0 items × Make groups items t
+
+-- the items of a tree as a list, each before those below it, and these before those behind it
+abbrev pub listed : (parent : Option ℕ) → (depth : ℕ) → Tree → List Row
+listed parent depth none = []
+listed parent depth (item i below behind) =
+    record { number = i; parent = parent; depth = depth } ∷ (listed (Some i) (depth + 1) below ++ listed parent depth behind)
+
+-- these are the items of the final tree in order, those at the top having depth 1
+pub record AreRows (groups : Groups) (rows : List Row) : Type 0 where
+  pub tree : Tree
+  pub is_tree : IsTree groups tree
+  pub rows_are : rows ≡ listed None 1 tree

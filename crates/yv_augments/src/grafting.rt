@@ -1,0 +1,136 @@
+//! What augments do to the places of items.
+ghost use Rattle.std.specs.Prelude.{◌≡◌, ◌<◌, ◌≤◌, ◌+◌, ℕ, List, length, map, replicate, None, IfOk, OnOk, if◌then◌else◌, slice_index_or};
+ghost use Rattle.yv_augments.specs.declared.label.Label.{Label};
+
+use crate::end::End;
+use crate::label::Label;
+use crate::places::Places;
+use std::alloc::{AllocError, Global};
+
+// So many augments of which none was applied.
+fn no_ends(alloc: Global, count: usize) -> Result<Vec<Option<End>>, AllocError>
+    ensures { IfOk result (λ ends. ends.items ≡ replicate count None) }
+{
+    let mut ends = Vec::new(alloc);
+    for _ in 0..count {
+        ends.push(None)?;
+    }
+    Ok(ends)
+}
+
+/// Numbered items that come to stand in groups, and numbered augments that give others to nodes among them. An augment that gives
+/// nothing needs no number: it may be asked where its path leads, and changes nothing. After a want of memory it is of no more use.
+#[derive(Drop)]
+pub struct Grafting {
+    pub(crate) places: Places,
+    pub(crate) ends: Vec<Option<End>>,
+    ghost each: { length places.groups.items ≡ length places.labels.items + 1 + length ends.items },
+}
+
+impl Grafting {
+    ghost use Rattle.yv_augments.specs.Groups.{members_of};
+    ghost use Rattle.yv_augments.specs.Paths.{ended};
+    ghost use Rattle.yv_augments.specs.declared.end.End.TheVariants.{Start};
+    ghost use Rattle.yv_augments.specs.Turns.{State, turn, is_taken, target_of};
+    ghost use Rattle.yv_augments.specs.Placed.{nothing, entered};
+    ghost use Rattle.yv_augments.specs.InnerState.{IsGrafting, left};
+
+    /// Items with these labels, of which none stands anywhere, and so many augments, of which none was applied.
+    pub fn new(alloc: Global, labels: Vec<Label>, augments: usize) -> Result<Grafting, AllocError>
+        ensures { IfOk result (IsGrafting labels.items (nothing (length labels.items) augments)) }
+    {
+        let ends = no_ends(alloc, augments)?;
+        let places = Places::new(alloc, labels, augments)?;
+        Ok(Grafting { places, ends })
+    }
+
+    /// Where a path leads from the items of a group, each step to the first node of its name before the limit; a path into a choice
+    /// names cases that are left out, too (RFC 7950, section 6.5).
+    pub fn walk(&self, start: usize, limit: usize, path: &[usize]) -> Option<End>
+        ensures { (labels : List Label) (st : State) → IsGrafting labels st self.now
+            → result ≡ ended labels st.groups limit path.now (Start start) }
+    {
+        self.places.walk(start, limit, path)
+    }
+
+    /// An item enters a group: 0 at the top, i + 1 below item i, and behind these that of a numbered augment in whose block it stands.
+    pub fn enter(&mut self, item: usize, group: usize) -> Result<(), AllocError>
+        ensures { (labels : List Label) (st : State) → IsGrafting labels st self.old
+            → OnOk result (IsGrafting labels (entered item group st) self.new) }
+    {
+        self.places.enter(item, group)?;
+        Ok(())
+    }
+
+    // Applies an augment, if it wasn't yet and its target is there. Tells whether it did.
+    pub(crate) fn try_apply(
+        &mut self,
+        number: usize,
+        start: usize,
+        limit: usize,
+        path: &[usize],
+    ) -> Result<bool, AllocError>
+        requires { number < length self.old.ends.items }
+        ensures state { (labels : List Label) (st : State) → IsGrafting labels st self.old
+            → OnOk result (IsGrafting labels (turn labels number start limit path.now st) self.new) }
+        ensures taken { (labels : List Label) (st : State) → IsGrafting labels st self.old
+            → IfOk result (λ taken. taken ≡ is_taken labels number start limit path.now st) }
+        ensures left { IfOk result (λ taken. left self.new.ends.items + (if taken then 1 else 0) ≡ left self.old.ends.items) }
+        ensures each { length self.new.ends.items ≡ length self.old.ends.items }
+    {
+        if self.ends[number].is_some() {
+            return Ok(false);
+        }
+        let Some(end) = self.places.walk(start, limit, path) else {
+            return Ok(false);
+        };
+        let _groups = self.places.groups.len();
+        let from = self.places.labels.len() + 1 + number;
+        self.places.settle(from, end)?;
+        self.ends[number] = Some(end);
+        Ok(true)
+    }
+
+    /// An augment has its turn: it is applied, if it wasn't yet and its target is there. What it gives goes to the target, if that
+    /// may take nodes (RFC 7950, sections 7.13 and 7.17).
+    pub fn turn(
+        &mut self,
+        number: usize,
+        start: usize,
+        limit: usize,
+        path: &[usize],
+    ) -> Result<(), AllocError>
+        ensures { (labels : List Label) (st : State) → IsGrafting labels st self.old → number < length st.ends
+            → OnOk result (IsGrafting labels (turn labels number start limit path.now st) self.new) }
+    {
+        if number < self.ends.len() {
+            self.try_apply(number, start, limit, path)?;
+        }
+        Ok(())
+    }
+
+    /// The items of a group, as they came there.
+    pub fn members(&self, group: usize) -> &[usize]
+        ensures { (labels : List Label) (st : State) → IsGrafting labels st self.now → result.now ≡ members_of st.groups group }
+    {
+        self.places.members(group)
+    }
+
+    /// Where the path of a numbered augment ended when it was applied, if it was.
+    pub fn end(&self, number: usize) -> Option<End>
+        ensures { (labels : List Label) (st : State) → IsGrafting labels st self.now → result ≡ slice_index_or st.ends number None }
+    {
+        match self.ends.get(number).copied() {
+            Some(end) => end,
+            None => None,
+        }
+    }
+
+    /// The node to which a numbered augment adds, if it was applied and there is one.
+    pub fn target(&self, number: usize) -> Option<usize>
+        ensures { (labels : List Label) (st : State) → IsGrafting labels st self.now → result ≡ target_of labels st.ends number }
+    {
+        let end = self.end(number)?;
+        self.places.target(end)
+    }
+}

@@ -1,0 +1,81 @@
+//! What is known of items before any augment is applied.
+ghost use Rattle.std.specs.Prelude.{◌≡◌};
+ghost use Rattle.yv_augments.specs.Labels.{is_node, is_choice, is_case, may_be_target};
+
+/// The kind of an item.
+#[derive(Clone, Copy, Debug, PartialEq, Eq)]
+pub enum Kind {
+    Container,
+    Leaf,
+    LeafList,
+    List,
+    Choice,
+    Case,
+    Anydata,
+    Anyxml,
+    Rpc,
+    Action,
+    /// The input of an rpc or action, written or not.
+    Input,
+    /// The output of an rpc or action, written or not.
+    Output,
+    Notification,
+    /// No schema node: what it gives stands beside it.
+    Uses,
+}
+
+/// The kind of an item, and the number of its module and name together: two items have the same number exactly where they
+/// have the same module and the same name.
+#[derive(Clone, Copy, Debug, PartialEq, Eq)]
+pub struct Label {
+    pub kind: Kind,
+    pub name: usize,
+}
+
+impl Kind {
+    /// Whether it is a schema node.
+    pub(crate) fn is_node(self) -> bool
+        ensures { result ≡ is_node self }
+    {
+        match self {
+            Kind::Uses => false,
+            _ => true,
+        }
+    }
+
+    /// Whether it is a choice.
+    pub(crate) fn is_choice(self) -> bool
+        ensures { result ≡ is_choice self }
+    {
+        match self {
+            Kind::Choice => true,
+            _ => false,
+        }
+    }
+
+    /// Whether it is a case.
+    pub(crate) fn is_case(self) -> bool
+        ensures { result ≡ is_case self }
+    {
+        match self {
+            Kind::Case => true,
+            _ => false,
+        }
+    }
+
+    /// Whether an augment may add nodes to it.
+    pub(crate) fn may_be_target(self) -> bool
+        ensures { result ≡ may_be_target self }
+    {
+        match self {
+            Kind::Container
+            | Kind::List
+            | Kind::Choice
+            | Kind::Case
+            | Kind::Input
+            | Kind::Output
+            | Kind::Notification => true,
+            _ => false,
+        }
+    }
+}

@@ -1,0 +1,28 @@
+//! Laws of the definitions alone. These functions do nothing: the contract of each is the law.
+ghost use Rattle.std.specs.Prelude.{◌≡◌, ℕ, ◌+◌, ◌≤◌, List, length};
+ghost use Rattle.yv_augments.specs.declared.label.Label.{Label};
+ghost use Rattle.yv_augments.specs.Groups.{times};
+ghost use Rattle.yv_augments.specs.Turns.{State};
+ghost use Rattle.yv_augments.specs.Placed.{HaveEntered, StandOnce};
+ghost use Rattle.yv_augments.specs.Rounds.{AreApplied, LeadsNowhere};
+
+/// An augment of a module that was never applied has no target among what is there at the end: "never applied" can be read without
+/// rounds.
+pub fn what_is_left_leads_nowhere()
+    ensures { (labels : List Label) (first : ℕ) (paths : List (List ℕ)) (old new : State) → AreApplied labels first paths old new
+        → LeadsNowhere labels first paths new }
+{}
+
+/// No round takes an item away or puts one in twice: each stands in groups as often as before.
+pub fn rounds_keep_items()
+    ensures { (labels : List Label) (first : ℕ) (paths : List (List ℕ)) (old new : State) (item : ℕ) → AreApplied labels first paths old new
+        → length old.groups ≡ length labels + 1 + length old.ends → first + length paths ≤ length old.ends
+        → times item new.groups ≡ times item old.groups }
+{}
+
+/// When all items have entered, each stands in one group, and once, and so it is when the augments of modules were applied.
+pub fn each_item_stands_once()
+    ensures entered { (labels : List Label) (augments : ℕ) (st : State) → HaveEntered labels augments 0 st → StandOnce (length labels) st.groups }
+    ensures applied { (labels : List Label) (augments first : ℕ) (paths : List (List ℕ)) (old new : State) → HaveEntered labels augments 0 old
+        → first + length paths ≤ augments → AreApplied labels first paths old new → StandOnce (length labels) new.groups }
+{}

@@ -1,0 +1,111 @@
+//! The final tree as a list.
+ghost use Rattle.std.specs.Prelude.{◌≡◌, ◌+◌, ◌++◌, [], ℕ, List, length, map, reverse, set, IfOk, OnOk};
+ghost use Rattle.yv_augments.specs.declared.label.Label.{Label};
+ghost use Rattle.yv_augments.specs.Turns.{State};
+ghost use Rattle.yv_augments.specs.Placed.{StandOnce};
+ghost use Rattle.yv_augments.specs.Tree.{AreInOrder, AreRows};
+ghost use Rattle.yv_augments.specs.InnerState.{IsGrafting};
+ghost use Rattle.yv_augments.specs.InnerListing.{StandAtMostOnce, groups_in, under};
+
+use crate::grafting::Grafting;
+use crate::group::Group;
+use crate::places::Places;
+use crate::row::Row;
+use std::alloc::{AllocError, Global};
+use std::mem;
+
+// Takes the items of a group out, in order.
+fn take_group(alloc: Global, groups: &mut Vec<Vec<usize>>, group: usize) -> Vec<usize>
+    ensures taken { AreInOrder (groups_in groups.old.items) group result.items }
+    ensures others { groups_in groups.new.items ≡ set (groups_in groups.old.items) group [] }
+{
+    if group >= groups.len() {
+        return Vec::new(alloc);
+    }
+    let mut items = mem::replace(&mut groups[group], Vec::new(alloc));
+    items.sort_unstable();
+    items
+}
+
+// Takes the items below another out, in order.
+fn take_below(alloc: Global, groups: &mut Vec<Vec<usize>>, number: usize) -> Vec<usize>
+    ensures taken { AreInOrder (groups_in groups.old.items) (number + 1) result.items }
+    ensures others { groups_in groups.new.items ≡ set (groups_in groups.old.items) (number + 1) [] }
+{
+    if number >= groups.len() {
+        return Vec::new(alloc);
+    }
+    take_group(alloc, groups, number + 1)
+}
+
+// Puts items of one parent on a stack, the first on top.
+fn put(
+    stack: &mut Vec<Row>,
+    items: &[usize],
+    parent: Option<usize>,
+    depth: usize,
+) -> Result<(), AllocError>
+    ensures { OnOk result (stack.new.items ≡ stack.old.items ++ reverse (under parent depth items.now)) }
+{
+    let mut rest = items;
+    while let Some((last, others)) = rest.split_last() {
+        stack.push(Row {
+            number: *last,
+            parent,
+            depth,
+        })?;
+        rest = others;
+    }
+    Ok(())
+}
+
+// The tree of groups as a list. Each group is taken out when its turn comes.
+fn list(alloc: Global, groups: &mut Vec<Vec<usize>>) -> Result<Vec<Row>, AllocError>
+    ensures { StandAtMostOnce (groups_in groups.old.items) → IfOk result (λ rows. AreRows (groups_in groups.old.items) rows.items) }
+{
+    let mut rows = Vec::new(alloc);
+    let mut stack = Vec::new(alloc);
+    let top = take_group(alloc, groups, 0);
+    put(&mut stack, &top, None, 1)?;
+    while let Some(row) = stack.pop() {
+        rows.push(row)?;
+        let below = take_below(alloc, groups, row.number);
+        // No memory holds a tree so deep.
+        let Some(depth) = row.depth.checked_add(1) else {
+            return Err(AllocError);
+        };
+        put(&mut stack, &below, Some(row.number), depth)?;
+    }
+    Ok(rows)
+}
+
+// The items of each group.
+fn members(alloc: Global, groups: Vec<Group>) -> Result<Vec<Vec<usize>>, AllocError>
+    ensures { IfOk result (λ lists. groups_in lists.items ≡ map (λ g. g.members.items) groups.items) }
+{
+    let mut lists = Vec::new(alloc);
+    for group in groups {
+        let Group { members, names: _ } = group;
+        lists.push(members)?;
+    }
+    Ok(lists)
+}
+
+impl Grafting {
+    /// The final tree in order: each item before those below it, children in the order of their numbers. A uses is among them, with
+    /// nothing below it, where what it gives stands in its own group. Takes no memory for each level, but for the items on the way.
+    pub fn into_rows(self) -> Result<Vec<Row>, AllocError>
+        ensures { (labels : List Label) (st : State) → IsGrafting labels st self → StandOnce (length labels) st.groups
+            → IfOk result (λ rows. AreRows st.groups rows.items) }
+    {
+        let Grafting { places, ends: _ } = self;
+        let Places {
+            alloc,
+            labels: _,
+            groups,
+        } = places;
+        let mut lists = members(alloc, groups)?;
+        let rows = list(alloc, &mut lists)?;
+        Ok(rows)
+    }
+}

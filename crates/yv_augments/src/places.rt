@@ -1,0 +1,231 @@
+//! Which items stand where, and where paths lead among them.
+ghost use Rattle.std.specs.Prelude.{◌≡◌, ◌≢◌, ◌<◌, ◌+◌, ◌++◌, ◌∷◌, [], ℕ, List, length, replicate, set, IfOk, IfSome, OnOk, Some, None, slice_get};
+ghost use Rattle.yv_augments.specs.declared.label.Label.{Label};
+ghost use Rattle.yv_augments.specs.declared.end.End.TheVariants.{Start};
+ghost use Rattle.yv_augments.specs.Labels.{is_named};
+ghost use Rattle.yv_augments.specs.Groups.{Groups, members_of, moved};
+ghost use Rattle.yv_augments.specs.Paths.{is_shorthand, least, before, answer, arrived, stepped, ended};
+ghost use Rattle.yv_augments.specs.Turns.{target, given};
+ghost use Rattle.yv_augments.specs.InnerGroups.{ArePlaces};
+
+use crate::end::End;
+use crate::group::Group;
+use crate::label::Label;
+use std::alloc::{AllocError, Global};
+use std::mem;
+
+/// Items, and for each group those that stand in it.
+#[derive(Drop)]
+pub(crate) struct Places {
+    pub alloc: Global,
+    pub labels: Vec<Label>,
+    pub groups: Vec<Group>,
+}
+
+// What was found, if it stands before the limit.
+fn before(limit: usize, found: Option<usize>) -> Option<usize>
+    ensures { result ≡ before limit found }
+{
+    match found {
+        Some(item) => { if item < limit { Some(item) } else { None } }
+        None => None,
+    }
+}
+
+// Whether an item is a choice and the other one, below it, no case.
+fn is_shorthand(parent: Option<Label>, label: Option<Label>) -> bool
+    ensures { result ≡ is_shorthand parent label }
+{
+    match (parent, label) {
+        (Some(parent), Some(label)) => parent.kind.is_choice() && !label.kind.is_case(),
+        _ => false,
+    }
+}
+
+impl Places {
+    /// So many groups behind those of these items, and no item in any.
+    pub(crate) fn new(
+        alloc: Global,
+        labels: Vec<Label>,
+        others: usize,
+    ) -> Result<Places, AllocError>
+        ensures state { IfOk result (ArePlaces labels.items (replicate (length labels.items + 1 + others) [])) }
+        ensures kept { IfOk result (λ places. places.labels ≡ labels) }
+        ensures count { IfOk result (λ places. length places.groups.items ≡ length labels.items + 1 + others) }
+    {
+        let mut groups = Vec::new(alloc);
+        for _ in 0..labels.len() {
+            groups.push(Group::new(alloc))?;
+        }
+        groups.push(Group::new(alloc))?;
+        for _ in 0..others {
+            groups.push(Group::new(alloc))?;
+        }
+        Ok(Places {
+            alloc,
+            labels,
+            groups,
+        })
+    }
+
+    // The first node of a name in a group.
+    fn first(&self, group: usize, name: usize) -> Option<usize>
+        ensures { (labels : List Label) (groups : Groups) → ArePlaces labels groups self.now
+            → result ≡ least (is_named labels name) (members_of groups group) }
+    {
+        match self.groups.get(group) {
+            Some(group) => group.first(name),
+            None => None,
+        }
+    }
+
+    // The first node of a group that answers a step.
+    fn answer(&self, limit: usize, group: usize, name: usize) -> Option<usize>
+        ensures { (labels : List Label) (groups : Groups) → ArePlaces labels groups self.now
+            → result ≡ answer labels groups limit group name }
+    {
+        before(limit, self.first(group, name))
+    }
+
+    // Whether an item is a node of this name.
+    fn is_named(&self, name: usize, item: usize) -> bool
+        ensures { result ≡ is_named self.now.labels.items name item }
+    {
+        match self.labels.get(item) {
+            Some(label) => label.kind.is_node() && label.name == name,
+            None => false,
+        }
+    }
+
+    // Where a step comes that one node answers below another.
+    fn arrived(&self, parent: usize, item: usize) -> End
+        ensures { result ≡ arrived self.now.labels.items parent item }
+    {
+        if is_shorthand(
+            self.labels.get(parent).copied(),
+            self.labels.get(item).copied(),
+        ) {
+            End::ShorthandCase(item)
+        } else {
+            End::Node(item)
+        }
+    }
+
+    // The first node below another that answers a step.
+    fn below(&self, limit: usize, parent: usize, name: usize) -> Option<usize>
+        ensures { (labels : List Label) (groups : Groups) → ArePlaces labels groups self.now
+            → result ≡ answer labels groups limit (parent + 1) name }
+    {
+        match parent.checked_add(1) {
+            Some(group) => self.answer(limit, group, name),
+            None => None,
+        }
+    }
+
+    // Where one step leads.
+    fn step(&self, limit: usize, end: End, name: usize) -> Option<End>
+        ensures { (labels : List Label) (groups : Groups) → ArePlaces labels groups self.now
+            → result ≡ stepped labels groups limit end name }
+    {
+        match end {
+            End::Start(group) => match self.answer(limit, group, name) {
+                Some(item) => Some(End::Node(item)),
+                None => None,
+            },
+            End::Node(parent) => match self.below(limit, parent, name) {
+                Some(item) => Some(self.arrived(parent, item)),
+                None => None,
+            },
+            End::ShorthandCase(item) => {
+                if self.is_named(name, item) {
+                    Some(End::Node(item))
+                } else {
+                    None
+                }
+            }
+        }
+    }
+
+    /// Where a path leads from the items of a group.
+    pub(crate) fn walk(&self, start: usize, limit: usize, path: &[usize]) -> Option<End>
+        ensures { (labels : List Label) (groups : Groups) → ArePlaces labels groups self.now
+            → result ≡ ended labels groups limit path.now (Start start) }
+    {
+        let mut end = End::Start(start);
+        for name in path {
+            end = self.step(limit, end, *name)?;
+        }
+        Some(end)
+    }
+
+    /// The node to which an augment adds whose path ends there.
+    pub(crate) fn target(&self, end: End) -> Option<usize>
+        ensures value { result ≡ target self.now.labels.items end }
+        ensures within { IfSome result (λ item. item < length self.now.labels.items) }
+    {
+        let End::Node(item) = end else { return None };
+        match self.labels.get(item) {
+            Some(label) => {
+                if label.kind.may_be_target() {
+                    Some(item)
+                } else {
+                    None
+                }
+            }
+            None => None,
+        }
+    }
+
+    // Gives the items of one group to another.
+    fn shift(&mut self, from: usize, to: usize) -> Result<(), AllocError>
+        requires from { from < length self.old.groups.items }
+        requires to { to < length self.old.groups.items }
+        requires other { from ≢ to }
+        ensures state { (labels : List Label) (groups : Groups) → ArePlaces labels groups self.old
+            → OnOk result (ArePlaces labels (moved from to groups) self.new) }
+        ensures labels { self.new.labels ≡ self.old.labels }
+        ensures count { length self.new.groups.items ≡ length self.old.groups.items }
+    {
+        let moving = mem::replace(&mut self.groups[from], Group::new(self.alloc));
+        self.groups[to].join(&self.labels, &moving.members)?;
+        Ok(())
+    }
+
+    /// Gives what stands in a group to the node at which an augment's path ends, if that may take nodes.
+    pub(crate) fn settle(&mut self, from: usize, end: End) -> Result<(), AllocError>
+        requires behind { length self.old.labels.items < from }
+        requires within { from < length self.old.groups.items }
+        ensures state { (labels : List Label) (groups : Groups) → ArePlaces labels groups self.old
+            → OnOk result (ArePlaces labels (given from (target labels end) groups) self.new) }
+        ensures labels { self.new.labels ≡ self.old.labels }
+        ensures count { length self.new.groups.items ≡ length self.old.groups.items }
+    {
+        if let Some(item) = self.target(end) {
+            self.shift(from, item + 1)?;
+        }
+        Ok(())
+    }
+
+    /// An item enters a group.
+    pub(crate) fn enter(&mut self, item: usize, group: usize) -> Result<(), AllocError>
+        ensures state { (labels : List Label) (groups : Groups) → ArePlaces labels groups self.old
+            → OnOk result (ArePlaces labels (set groups group (members_of groups group ++ item ∷ [])) self.new) }
+        ensures labels { self.new.labels ≡ self.old.labels }
+        ensures count { length self.new.groups.items ≡ length self.old.groups.items }
+    {
+        if group < self.groups.len() {
+            self.groups[group].add(&self.labels, item)?;
+        }
+        Ok(())
+    }
+
+    /// The items of a group.
+    pub(crate) fn members(&self, group: usize) -> &[usize]
+        ensures { (labels : List Label) (groups : Groups) → ArePlaces labels groups self.now → result.now ≡ members_of groups group }
+    {
+        match self.groups.get(group) {
+            Some(group) => &group.members,
+            None => &[],
+        }
+    }
+}

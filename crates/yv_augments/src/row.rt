@@ -1,0 +1,9 @@
+//! What is told of an item of the final tree.
+
+/// An item of the final tree: its number, that of the item below which it stands, and its depth, an item at the top having depth 1.
+#[derive(Clone, Copy, Debug, PartialEq, Eq)]
+pub struct Row {
+    pub number: usize,
+    pub parent: Option<usize>,
+    pub depth: usize,
+}
