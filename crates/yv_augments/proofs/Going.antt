@@ -15,7 +15,7 @@ use Rattle.yv_augments.specs.InnerState.{IsGrafting}
 pub rest_of : {A : Type 0} (xs : List A) (i : ℕ) (x : A) → slice_get xs i ≡ Some x → drop i xs ≡ x ∷ drop (i + 1) xs
 rest_of xs i x at = at_drop_more (λ ys. ys) xs i x (slice_get_within xs i x at) ∙ ap (λ y. y ∷ drop (i + 1) xs) (get_or_from_slice_get xs i x x at)
 
-or_assoc : (a b c : Bool) → ((if b then true else a) || c) ≡ (a || (b || c))
+pub or_assoc : (a b c : Bool) → ((if b then true else a) || c) ≡ (a || (b || c))
 or_assoc true true c = refl
 or_assoc true false c = refl
 or_assoc false true c = refl
@@ -60,13 +60,13 @@ pub record Going (labels : List Label) (first : ℕ) (paths : List (List ℕ)) (
   pub goes : round labels (first + i) (drop i paths) now ≡ round labels first paths st
   pub tells : (any || is_any labels (first + i) (drop i paths) now) ≡ is_any labels first paths st
 
-pub going_none : (labels : List Label) (first : ℕ) (paths : List (List ℕ)) (st : State) (grafting : Grafting) → IsGrafting labels st grafting
+abbrev pub going_none : (labels : List Label) (first : ℕ) (paths : List (List ℕ)) (st : State) (grafting : Grafting) → IsGrafting labels st grafting
     → Going labels first paths st 0 false grafting
 going_none labels first paths st grafting is =
     let z : first + 0 ≡ first = omega arith in
     record { now = st; is = is; goes = ap (λ n. round labels n paths st) z; tells = ap (λ n. is_any labels n paths st) z }
 
-pub going_more : (labels : List Label) (first : ℕ) (paths : List (List ℕ)) (st : State) (i : ℕ) (any taken : Bool) (old new : Grafting) (names : List ℕ)
+abbrev pub going_more : (labels : List Label) (first : ℕ) (paths : List (List ℕ)) (st : State) (i : ℕ) (any taken : Bool) (old new : Grafting) (names : List ℕ)
     → (g : Going labels first paths st i any old) → slice_get paths i ≡ Some names → IsGrafting labels (turned labels (first + i) names g.now) new
     → taken ≡ takes labels (first + i) names g.now → Going labels first paths st (i + 1) (if taken then true else any) new
 going_more labels first paths st i any taken old new names g at is tells =
@@ -94,35 +94,11 @@ going_all labels first paths st i any grafting past g =
       sym (or_false any) ∙ ap (λ l. any || is_any labels (first + i) l g.now) (sym done) ∙ g.tells,
     )
 
--- so many rounds were made
-pub record Running (labels : List Label) (first : ℕ) (paths : List (List ℕ)) (st : State) (grafting : Grafting) : Type 0 where
-  pub count : ℕ
-  pub is : IsGrafting labels (rounds labels first paths count st) grafting
-
-pub running_none : (labels : List Label) (first : ℕ) (paths : List (List ℕ)) (st : State) (grafting : Grafting) → IsGrafting labels st grafting
-    → Running labels first paths st grafting
-running_none labels first paths st grafting is = record { count = 0; is = is }
-
-one_more : (labels : List Label) (first : ℕ) (paths : List (List ℕ)) (n : ℕ) (st : State)
+-- one round more
+pub one_more : (labels : List Label) (first : ℕ) (paths : List (List ℕ)) (n : ℕ) (st : State)
     → round labels first paths (rounds labels first paths n st) ≡ rounds labels first paths (suc n) st
 one_more labels first paths zero st = refl
 one_more labels first paths (suc n) st = one_more labels first paths n (round labels first paths st)
-
-pub running_more : (labels : List Label) (first : ℕ) (paths : List (List ℕ)) (st : State) (old new : Grafting) → (r : Running labels first paths st old)
-    → IsGrafting labels (round labels first paths (rounds labels first paths r.count st)) new → Running labels first paths st new
-running_more labels first paths st old new r is = record {
-  count = suc r.count;
-  is = subst (λ (s : State). IsGrafting labels s new) (one_more labels first paths r.count st) is;
-}
-
-pub running_done : (labels : List Label) (first : ℕ) (paths : List (List ℕ)) (st : State) (old new : Grafting) (r : Running labels first paths st old)
-    → IsGrafting labels (round labels first paths (rounds labels first paths r.count st)) new
-    → false ≡ is_any labels first paths (rounds labels first paths r.count st)
-    → (s : State) × AreApplied labels first paths st s × IsGrafting labels s new
-running_done labels first paths st old new r is idle =
-    let now : State = rounds labels first paths r.count st in
-    let still : round labels first paths now ≡ now = idle_round labels first paths now (sym idle) in
-    (now, record { count = r.count; is = refl; last = sym idle }, subst (λ (s : State). IsGrafting labels s new) still is)
 
 -- what waits at the end waits for nothing that is there
 idle_all : (labels : List Label) (k : ℕ) (paths : List (List ℕ)) (i : ℕ) (names : List ℕ) (st : State) → is_any labels k paths st ≡ false

@@ -23,7 +23,7 @@ first_at labels groups all g name x are at = (are.group g x at).named name
 pub joined_more : (members items : List ℕ) (i d : ℕ) → i < length items → (members ++ take i items) ++ get_or items i d ∷ [] ≡ members ++ take (i + 1) items
 joined_more members items i d l = append_assoc members (take i items) (get_or items i d ∷ []) ∙ ap (λ ys. members ++ ys) (sym (take_more items i d l))
 
-set_at : {A : Type 0} (xs : List A) (a k : ℕ) (y v : A) → slice_get (set xs a y) k ≡ Some v → ((k ≡ a) × (v ≡ y)) ⊎ ((k ≢ a) × (slice_get xs k ≡ Some v))
+pub set_at : {A : Type 0} (xs : List A) (a k : ℕ) (y v : A) → slice_get (set xs a y) k ≡ Some v → ((k ≡ a) × (v ≡ y)) ⊎ ((k ≢ a) × (slice_get xs k ≡ Some v))
 set_at [] a k y v h = absurd (let bad : None ≡ Some v = h in cc)
 set_at (x ∷ xs) zero zero y v h = inl (refl, sym (same_Some y v h))
 set_at (x ∷ xs) zero (suc k) y v h = inr (omega arith, h)

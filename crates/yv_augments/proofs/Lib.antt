@@ -6,3 +6,5 @@ pub mod Going
 pub mod Once
 pub mod Stacks
 pub mod Taking
+pub mod Following
+pub mod Resuming

@@ -1,5 +1,5 @@
 -- Inner definitions, which only private clauses cite: groups with the first node of each name.
-use Rattle.std.specs.Prelude.{◌≡◌, ℕ, ◌==◌, List, length, if◌then◌else◌, Option, Some, slice_get}
+use Rattle.std.specs.Prelude.{◌≡◌, ℕ, ◌==◌, nat_lt, Bool, false, List, length, if◌then◌else◌, Option, Some, None, slice_get}
 use Rattle.std.specs.Ordering.{nat_cmp}
 use Rattle.std.specs.BTreeMap.{get}
 use Rattle.yv_augments.specs.declared.label.Label.{Label}
@@ -19,6 +19,15 @@ kept first name item n = if n == name then lesser (first n) (Some item) else fir
 
 abbrev pub noted : List Label → (ℕ → Option ℕ) → (item : ℕ) → ℕ → Option ℕ
 noted labels first item n = if is_named labels n item then lesser (first n) (Some item) else first n
+
+-- a number that comes before the one that is kept
+abbrev pub displaces : Option ℕ → ℕ → Bool
+displaces None item = false
+displaces (Some i) item = nat_lt item i
+
+-- the first node of each name is the first still
+abbrev pub Keep : (old new : ℕ → Option ℕ) → Type 0
+Keep old new = (n i : ℕ) → old n ≡ Some i → new n ≡ Some i
 
 -- this group has these items
 pub record IsGroup (labels : List Label) (members : List ℕ) (group : Group) : Type 0 where

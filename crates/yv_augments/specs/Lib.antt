@@ -8,3 +8,4 @@ pub mod Tree
 pub mod InnerGroups
 pub mod InnerState
 pub mod InnerListing
+pub mod InnerWaiting

@@ -45,9 +45,13 @@ is_some (Some e) = true
 abbrev pub is_applied : State → ℕ → Bool
 is_applied st k = is_some (slice_index_or st.ends k None)
 
--- the turn of the numbered augment, whose path begins in a group: it is applied if it wasn't yet and its target is there
+-- the numbered augment is applied if it wasn't yet and its path ends somewhere
+abbrev pub resolved : List Label → (k : ℕ) → Option End → State → State
+resolved labels k e st = if is_applied st k then st else settled labels k e st
+
+-- the turn of the numbered augment, whose path begins in a group
 abbrev pub turn : List Label → (k start limit : ℕ) → List ℕ → State → State
-turn labels k start limit names st = if is_applied st k then st else settled labels k (ended labels st.groups limit names (end.Start start)) st
+turn labels k start limit names st = resolved labels k (ended labels st.groups limit names (end.Start start)) st
 
 -- this turn applies it
 abbrev pub is_taken : List Label → (k start limit : ℕ) → List ℕ → State → Bool

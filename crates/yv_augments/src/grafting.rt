@@ -1,5 +1,5 @@
 //! What augments do to the places of items.
-ghost use Rattle.std.specs.Prelude.{◌≡◌, ◌<◌, ◌≤◌, ◌+◌, ℕ, List, length, map, replicate, None, IfOk, OnOk, if◌then◌else◌, slice_index_or};
+ghost use Rattle.std.specs.Prelude.{◌≡◌, ◌<◌, ◌+◌, ◌&&◌, not, false, ℕ, List, length, replicate, None, IfOk, OnOk, if◌then◌else◌, slice_index_or};
 ghost use Rattle.yv_augments.specs.declared.label.Label.{Label};
 
 use crate::end::End;
@@ -28,12 +28,13 @@ pub struct Grafting {
 }
 
 impl Grafting {
-    ghost use Rattle.yv_augments.specs.Groups.{members_of};
+    ghost use Rattle.yv_augments.specs.Groups.{group_of_augment, members_of};
     ghost use Rattle.yv_augments.specs.Paths.{ended};
     ghost use Rattle.yv_augments.specs.declared.end.End.TheVariants.{Start};
-    ghost use Rattle.yv_augments.specs.Turns.{State, turn, is_taken, target_of};
+    ghost use Rattle.yv_augments.specs.Turns.{State, is_applied, is_some, resolved, turn, target_of};
     ghost use Rattle.yv_augments.specs.Placed.{nothing, entered};
     ghost use Rattle.yv_augments.specs.InnerState.{IsGrafting, left};
+    ghost use Rattle.yv_augments.specs.InnerWaiting.{KeepFirst};
 
     /// Items with these labels, of which none stands anywhere, and so many augments, of which none was applied.
     pub fn new(alloc: Global, labels: Vec<Label>, augments: usize) -> Result<Grafting, AllocError>
@@ -62,33 +63,35 @@ impl Grafting {
         Ok(())
     }
 
-    // Applies an augment, if it wasn't yet and its target is there. Tells whether it did.
-    pub(crate) fn try_apply(
+    // An augment whose path ends there, or nowhere, is applied, if it wasn't yet and the path does end. Tells whether it was applied
+    // now, and whether an item that moved is the first node of its name now in the place of another.
+    pub(crate) fn settle(
         &mut self,
         number: usize,
-        start: usize,
-        limit: usize,
-        path: &[usize],
-    ) -> Result<bool, AllocError>
+        end: Option<End>,
+    ) -> Result<(bool, bool), AllocError>
         requires { number < length self.old.ends.items }
         ensures state { (labels : List Label) (st : State) → IsGrafting labels st self.old
-            → OnOk result (IsGrafting labels (turn labels number start limit path.now st) self.new) }
+            → OnOk result (IsGrafting labels (resolved labels number end st) self.new) }
         ensures taken { (labels : List Label) (st : State) → IsGrafting labels st self.old
-            → IfOk result (λ taken. taken ≡ is_taken labels number start limit path.now st) }
-        ensures left { IfOk result (λ taken. left self.new.ends.items + (if taken then 1 else 0) ≡ left self.old.ends.items) }
+            → IfOk result (λ told. told.0 ≡ (not (is_applied st number) && is_some end)) }
+        ensures kept { (labels : List Label) (st : State) → IsGrafting labels st self.old
+            → IfOk result (λ told. told.1 ≡ false
+            → KeepFirst labels (group_of_augment labels number) st.groups (resolved labels number end st).groups) }
+        ensures left { IfOk result (λ told. left self.new.ends.items + (if told.0 then 1 else 0) ≡ left self.old.ends.items) }
         ensures each { length self.new.ends.items ≡ length self.old.ends.items }
     {
         if self.ends[number].is_some() {
-            return Ok(false);
+            return Ok((false, false));
         }
-        let Some(end) = self.places.walk(start, limit, path) else {
-            return Ok(false);
+        let Some(place) = end else {
+            return Ok((false, false));
         };
         let _groups = self.places.groups.len();
         let from = self.places.labels.len() + 1 + number;
-        self.places.settle(from, end)?;
-        self.ends[number] = Some(end);
-        Ok(true)
+        let displaced = self.places.settle(from, place)?;
+        self.ends[number] = end;
+        Ok((true, displaced))
     }
 
     /// An augment has its turn: it is applied, if it wasn't yet and its target is there. What it gives goes to the target, if that
@@ -104,7 +107,8 @@ impl Grafting {
             → OnOk result (IsGrafting labels (turn labels number start limit path.now st) self.new) }
     {
         if number < self.ends.len() {
-            self.try_apply(number, start, limit, path)?;
+            let end = self.places.walk(start, limit, path);
+            self.settle(number, end)?;
         }
         Ok(())
     }

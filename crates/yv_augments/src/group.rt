@@ -1,7 +1,7 @@
 //! The items of one place, and the first node of each name.
-ghost use Rattle.std.specs.Prelude.{◌≡◌, ℕ, ◌++◌, ◌∷◌, [], List, Some, OnOk, slice_get};
+ghost use Rattle.std.specs.Prelude.{◌≡◌, ℕ, ◌++◌, ◌∷◌, [], List, Some, false, OnOk, IfOk};
 ghost use Rattle.yv_augments.specs.declared.label.Label.{Label};
-ghost use Rattle.yv_augments.specs.InnerGroups.{IsGroup, first_in, kept, noted};
+ghost use Rattle.yv_augments.specs.InnerGroups.{IsGroup, Keep, displaces, first_in, kept, noted};
 
 use crate::label::Label;
 use std::alloc::{AllocError, Global};
@@ -12,6 +12,16 @@ use std::collections::BTreeMap;
 pub(crate) struct Group {
     pub members: Vec<usize>,
     pub names: BTreeMap<usize, usize>,
+}
+
+// Whether an item comes before the first so far.
+fn displaces(first: Option<usize>, item: usize) -> bool
+    ensures { result ≡ displaces first item }
+{
+    match first {
+        Some(first) => item < first,
+        None => false,
+    }
 }
 
 impl Group {
@@ -32,50 +42,58 @@ impl Group {
         self.names.get(&name).copied()
     }
 
-    // Keeps a number for its name where none is yet, or a greater one.
-    fn keep(&mut self, name: usize, item: usize) -> Result<(), AllocError>
+    // Keeps a number for its name where none is yet, or a greater one. Tells whether it took the place of that.
+    fn keep(&mut self, name: usize, item: usize) -> Result<bool, AllocError>
         ensures named { OnOk result ((n : ℕ) → first_in self.new n ≡ kept (first_in self.old) name item n) }
+        ensures displaced { IfOk result (λ displaced. displaced ≡ displaces (first_in self.old name) item) }
         ensures members { self.new.members ≡ self.old.members }
     {
-        let least = match self.first(name) {
+        let first = self.first(name);
+        let least = match first {
             Some(first) => first.min(item),
             None => item,
         };
         self.names.insert(name, least)?;
-        Ok(())
+        Ok(displaces(first, item))
     }
 
-    // Keeps the number of an item for its name, if it is a node.
-    fn note(&mut self, labels: &[Label], item: usize) -> Result<(), AllocError>
+    // Keeps the number of an item for its name, if it is a node. Tells whether it took the place of another.
+    fn note(&mut self, labels: &[Label], item: usize) -> Result<bool, AllocError>
         ensures named { OnOk result ((n : ℕ) → first_in self.new n ≡ noted labels.now (first_in self.old) item n) }
+        ensures displaced { IfOk result (λ displaced. displaced ≡ false → Keep (first_in self.old) (first_in self.new)) }
         ensures members { self.new.members ≡ self.old.members }
     {
         if let Some(label) = labels.get(item).copied() {
             if label.kind.is_node() {
-                self.keep(label.name, item)?;
+                return self.keep(label.name, item);
             }
         }
-        Ok(())
+        Ok(false)
     }
 
-    /// Adds an item behind the others.
-    pub(crate) fn add(&mut self, labels: &[Label], item: usize) -> Result<(), AllocError>
-        ensures { (members : List ℕ) → IsGroup labels.now members self.old
+    /// Adds an item behind the others. Tells whether it is the first node of its name now, and another was.
+    pub(crate) fn add(&mut self, labels: &[Label], item: usize) -> Result<bool, AllocError>
+        ensures state { (members : List ℕ) → IsGroup labels.now members self.old
             → OnOk result (IsGroup labels.now (members ++ item ∷ []) self.new) }
+        ensures displaced { IfOk result (λ displaced. displaced ≡ false → Keep (first_in self.old) (first_in self.new)) }
     {
-        self.note(labels, item)?;
+        let displaced = self.note(labels, item)?;
         self.members.push(item)?;
-        Ok(())
+        Ok(displaced)
     }
 
-    /// Adds items behind the others.
-    pub(crate) fn join(&mut self, labels: &[Label], items: &[usize]) -> Result<(), AllocError>
-        ensures { (members : List ℕ) → IsGroup labels.now members self.old
+    /// Adds items behind the others. Tells whether one of them is the first node of its name now, and another was.
+    pub(crate) fn join(&mut self, labels: &[Label], items: &[usize]) -> Result<bool, AllocError>
+        ensures state { (members : List ℕ) → IsGroup labels.now members self.old
             → OnOk result (IsGroup labels.now (members ++ items.now) self.new) }
+        ensures displaced { IfOk result (λ displaced. displaced ≡ false → Keep (first_in self.old) (first_in self.new)) }
     {
+        let mut displaced = false;
         for item in items {
-            self.add(labels, *item)?;
+            if self.add(labels, *item)? {
+                displaced = true;
+            }
         }
-        Ok(())
+        Ok(displaced)
     }
 }

@@ -11,6 +11,7 @@ mod label;
 pub mod laws;
 mod listing;
 mod places;
+mod point;
 mod rounds;
 mod row;
 

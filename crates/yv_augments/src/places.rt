@@ -1,5 +1,5 @@
 //! Which items stand where, and where paths lead among them.
-ghost use Rattle.std.specs.Prelude.{◌≡◌, ◌≢◌, ◌<◌, ◌+◌, ◌++◌, ◌∷◌, [], ℕ, List, length, replicate, set, IfOk, IfSome, OnOk, Some, None, slice_get};
+ghost use Rattle.std.specs.Prelude.{◌≡◌, ◌≢◌, ◌<◌, ◌+◌, ◌++◌, ◌∷◌, [], ℕ, false, List, length, replicate, set, IfOk, IfSome, OnOk, Some, None, slice_get};
 ghost use Rattle.yv_augments.specs.declared.label.Label.{Label};
 ghost use Rattle.yv_augments.specs.declared.end.End.TheVariants.{Start};
 ghost use Rattle.yv_augments.specs.Labels.{is_named};
@@ -7,10 +7,12 @@ ghost use Rattle.yv_augments.specs.Groups.{Groups, members_of, moved};
 ghost use Rattle.yv_augments.specs.Paths.{is_shorthand, least, before, answer, arrived, stepped, ended};
 ghost use Rattle.yv_augments.specs.Turns.{target, given};
 ghost use Rattle.yv_augments.specs.InnerGroups.{ArePlaces};
+ghost use Rattle.yv_augments.specs.InnerWaiting.{KeepFirst, IsFollowed};
 
 use crate::end::End;
 use crate::group::Group;
 use crate::label::Label;
+use crate::point::Point;
 use std::alloc::{AllocError, Global};
 use std::mem;
 
@@ -158,6 +160,22 @@ impl Places {
         Some(end)
     }
 
+    /// Follows a path on, as far as it leads.
+    pub(crate) fn follow(&self, limit: usize, path: &[usize], from: Point) -> Point
+        ensures { (labels : List Label) (groups : Groups) → ArePlaces labels groups self.now
+            → IsFollowed labels groups limit path.now from result }
+    {
+        let Point { mut step, mut end } = from;
+        while step < path.len() {
+            let Some(next) = self.step(limit, end, path[step]) else {
+                return Point { step, end };
+            };
+            end = next;
+            step += 1;
+        }
+        Point { step, end }
+    }
+
     /// The node to which an augment adds whose path ends there.
     pub(crate) fn target(&self, end: End) -> Option<usize>
         ensures value { result ≡ target self.now.labels.items end }
@@ -176,34 +194,40 @@ impl Places {
         }
     }
 
-    // Gives the items of one group to another.
-    fn shift(&mut self, from: usize, to: usize) -> Result<(), AllocError>
+    // Gives the items of one group to another. Tells whether one of them is the first node of its name now in the place of another.
+    fn shift(&mut self, from: usize, to: usize) -> Result<bool, AllocError>
         requires from { from < length self.old.groups.items }
         requires to { to < length self.old.groups.items }
         requires other { from ≢ to }
         ensures state { (labels : List Label) (groups : Groups) → ArePlaces labels groups self.old
             → OnOk result (ArePlaces labels (moved from to groups) self.new) }
+        ensures kept { (labels : List Label) (groups : Groups) → ArePlaces labels groups self.old
+            → IfOk result (λ displaced. displaced ≡ false → KeepFirst labels from groups (moved from to groups)) }
         ensures labels { self.new.labels ≡ self.old.labels }
         ensures count { length self.new.groups.items ≡ length self.old.groups.items }
     {
         let moving = mem::replace(&mut self.groups[from], Group::new(self.alloc));
-        self.groups[to].join(&self.labels, &moving.members)?;
-        Ok(())
+        let displaced = self.groups[to].join(&self.labels, &moving.members)?;
+        Ok(displaced)
     }
 
-    /// Gives what stands in a group to the node at which an augment's path ends, if that may take nodes.
-    pub(crate) fn settle(&mut self, from: usize, end: End) -> Result<(), AllocError>
+    /// Gives what stands in a group to the node at which an augment's path ends, if that may take nodes. Tells whether one of these
+    /// is the first node of its name now in the place of another.
+    pub(crate) fn settle(&mut self, from: usize, end: End) -> Result<bool, AllocError>
         requires behind { length self.old.labels.items < from }
         requires within { from < length self.old.groups.items }
         ensures state { (labels : List Label) (groups : Groups) → ArePlaces labels groups self.old
             → OnOk result (ArePlaces labels (given from (target labels end) groups) self.new) }
+        ensures kept { (labels : List Label) (groups : Groups) → ArePlaces labels groups self.old
+            → IfOk result (λ displaced. displaced ≡ false → KeepFirst labels from groups (given from (target labels end) groups)) }
         ensures labels { self.new.labels ≡ self.old.labels }
         ensures count { length self.new.groups.items ≡ length self.old.groups.items }
     {
-        if let Some(item) = self.target(end) {
-            self.shift(from, item + 1)?;
-        }
-        Ok(())
+        let Some(item) = self.target(end) else {
+            return Ok(false);
+        };
+        let displaced = self.shift(from, item + 1)?;
+        Ok(displaced)
     }
 
     /// An item enters a group.
