@@ -5,14 +5,14 @@ use Rattle.yv_augments.specs.Paths.{least, lesser}
 use Rattle.yv_augments.specs.InnerGroups.{noted}
 use Rattle.yv_augments.specs.declared.label.Label.{Label}
 
-lesser_none : (b : Option ℕ) → lesser b None ≡ b
+pub lesser_none : (b : Option ℕ) → lesser b None ≡ b
 lesser_none None = refl
 lesser_none (Some i) = refl
 
 min_assoc : (i j k : ℕ) → min (min i j) k ≡ min i (min j k)
 min_assoc i j k = omega arith
 
-lesser_assoc : (a b c : Option ℕ) → lesser (lesser a b) c ≡ lesser a (lesser b c)
+pub lesser_assoc : (a b c : Option ℕ) → lesser (lesser a b) c ≡ lesser a (lesser b c)
 lesser_assoc None b c = refl
 lesser_assoc (Some i) None c = refl
 lesser_assoc (Some i) (Some j) None = refl

@@ -8,3 +8,5 @@ pub mod Stacks
 pub mod Taking
 pub mod Following
 pub mod Resuming
+pub mod UnplacedLemmas
+pub mod Parents

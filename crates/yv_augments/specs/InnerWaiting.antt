@@ -35,5 +35,6 @@ ArePoints labels groups paths points = (j : ℕ) (names : List ℕ) (p : Point) 
 
 -- a path was followed on, as far as it leads
 pub record IsFollowed (labels : List Label) (groups : Groups) (limit : ℕ) (names : List ℕ) (old new : Point) : Type 0 where
-  pub leads : (s : End) → ended labels groups limit (take old.step names) s ≡ Some old.end → ended labels groups limit (take new.step names) s ≡ Some new.end
+  pub leads : (s : End) → ended labels groups limit (take old.step names) s ≡ Some old.end
+      → ended labels groups limit (take new.step names) s ≡ Some new.end
   pub stops : new.step < length names → ended labels groups limit (drop new.step names) new.end ≡ None

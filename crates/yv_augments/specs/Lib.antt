@@ -5,7 +5,9 @@ pub mod Turns
 pub mod Rounds
 pub mod Placed
 pub mod Tree
+pub mod Unplaced
 pub mod InnerGroups
 pub mod InnerState
 pub mod InnerListing
 pub mod InnerWaiting
+pub mod InnerUnplaced

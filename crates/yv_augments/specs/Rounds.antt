@@ -1,5 +1,5 @@
 -- The augments of modules are applied in rounds (RFC 7950, section 7.17).
-use Rattle.std.specs.Prelude.{◌≡◌, ℕ, zero, suc, ◌+◌, ◌<◌, ◌||◌, Bool, true, false, List, [], ◌∷◌, length, Some, None, slice_get}
+use Rattle.std.specs.Prelude.{◌≡◌, ℕ, zero, suc, ◌+◌, ◌||◌, Bool, false, List, [], ◌∷◌, length, Some, None, slice_get}
 use Rattle.yv_augments.specs.declared.label.Label.{Label}
 use Rattle.yv_augments.specs.declared.end.End.TheVariants as end
 use Rattle.yv_augments.specs.Paths.{ended}
@@ -26,11 +26,6 @@ pub record AreApplied (labels : List Label) (first : ℕ) (paths : List (List �
   pub count : ℕ
   pub is : new ≡ rounds labels first paths count old
   pub last : is_any labels first paths new ≡ false
-
--- the numbered augment is applied in this round, the first being round 1: it was applied after it, and after none before it
-pub record IsAppliedIn (labels : List Label) (first : ℕ) (paths : List (List ℕ)) (old : State) (k r : ℕ) : Type 0 where
-  pub applied : is_applied (rounds labels first paths r old) k ≡ true
-  pub least : (q : ℕ) → q < r → is_applied (rounds labels first paths q old) k ≡ false
 
 -- the path of an augment that was never applied leads nowhere among what is there at the end
 abbrev pub LeadsNowhere : List Label → (first : ℕ) → List (List ℕ) → State → Type 0

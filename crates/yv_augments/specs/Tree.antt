@@ -1,5 +1,5 @@
 -- The final tree: where items stand when all augments were applied (RFC 7950, section 7.17).
-use Rattle.std.specs.Prelude.{◌≡◌, ℕ, ◌+◌, List, [], ◌∷◌, ◌++◌, Option, Some, None}
+use Rattle.std.specs.Prelude.{◌≡◌, ℕ, ◌+◌, ◌<◌, ◌⊎◌, List, [], ◌∷◌, ◌++◌, Option, Some, None, slice_get}
 use Rattle.std.specs.Ordering.{nat_cmp}
 use Rattle.std.specs.List.Sorted.{IsPermutation, IsSorted}
 use Rattle.yv_augments.specs.declared.row.Row.{Row}
@@ -37,3 +37,16 @@ pub record AreRows (groups : Groups) (rows : List Row) : Type 0 where
   pub tree : Tree
   pub is_tree : IsTree groups tree
   pub rows_are : rows ≡ listed None 1 tree
+
+-- an item stands below another, whose row stands before its own, one level deeper
+pub record StandsBelow (rows : List Row) (k : ℕ) (row : Row) : Type 0 where
+  pub above : Row
+  pub place : ℕ
+  pub before : place < k
+  pub at : slice_get rows place ≡ Some above
+  pub parent : row.parent ≡ Some above.number
+  pub depth : row.depth ≡ above.depth + 1
+
+-- an item stands at the top, or below another
+abbrev pub StandsInTree : List Row → (k : ℕ) → Row → Type 0
+StandsInTree rows k row = ((row.parent ≡ None) × (row.depth ≡ 1)) ⊎ StandsBelow rows k row

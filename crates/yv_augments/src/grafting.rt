@@ -95,7 +95,8 @@ impl Grafting {
     }
 
     /// An augment has its turn: it is applied, if it wasn't yet and its target is there. What it gives goes to the target, if that
-    /// may take nodes (RFC 7950, sections 7.13 and 7.17).
+    /// may take nodes (RFC 7950, sections 7.13 and 7.17). The path of one of a uses begins in the group of the uses, and its limit is
+    /// the number of the first item of its block.
     pub fn turn(
         &mut self,
         number: usize,

@@ -72,7 +72,8 @@ impl Grafting {
             → IfOk result (λ any. any ≡ is_any labels first (map (λ p. p.items) paths.now) st) }
         ensures points { (labels : List Label) (st : State) → IsGrafting labels st self.old
             → ArePoints labels st.groups (map (λ p. p.items) paths.now) points.old
-            → OnOk result (ArePoints labels (round labels first (map (λ p. p.items) paths.now) st).groups (map (λ p. p.items) paths.now) points.new) }
+            → OnOk result (ArePoints labels (round labels first (map (λ p. p.items) paths.now) st).groups
+            (map (λ p. p.items) paths.now) points.new) }
         ensures left { IfOk result (λ any. left self.new.ends.items + (if any then 1 else 0) ≤ left self.old.ends.items) }
         ensures each { length self.new.ends.items ≡ length self.old.ends.items }
     {
