@@ -10,3 +10,4 @@ pub mod Following
 pub mod Resuming
 pub mod UnplacedLemmas
 pub mod Parents
+pub mod Unique

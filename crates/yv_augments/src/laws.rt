@@ -37,3 +37,8 @@ pub fn parents_come_first()
     ensures { (groups : Groups) (rows : List Row) (k : ℕ) (row : Row) → AreRows groups rows → slice_get rows k ≡ Some row
         → StandsInTree rows k row }
 {}
+
+/// Groups have one final tree, and one list of it.
+pub fn the_final_tree_is_one()
+    ensures { (groups : Groups) (first second : List Row) → AreRows groups first → AreRows groups second → first ≡ second }
+{}
