@@ -1,1 +1,3 @@
 pub mod Excerpt
+pub mod Quoted
+pub mod Subject
