@@ -1,6 +1,7 @@
 //! What a person is told of a file that is refused: the line of the place, and a sentence on what the refusal means there.
 #![tactic(auto)]
 
+mod explain;
 mod meanings;
 mod place;
 mod quoted;
@@ -8,6 +9,7 @@ mod sentences;
 mod told;
 mod words;
 
+pub use explain::explanation;
 pub use meanings::meaning;
 pub use place::excerpt;
 pub use quoted::push_quoted;

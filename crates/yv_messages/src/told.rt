@@ -36,7 +36,7 @@ fn statement_at<'r, 'a, 'b>(rows: &'r Rows<'a, 'b>, refusal: &Refusal) -> Option
 }
 
 // Adds what is said of a refusal at a statement.
-fn push_told(text: &mut String, code: Code, statement: &Statement<'_>) -> Result<(), AllocError>
+fn push_about(text: &mut String, code: Code, statement: &Statement<'_>) -> Result<(), AllocError>
     ensures grows { OnOk result (Extends (string_bytes text.old) (string_bytes text.new)) }
     ensures names { OnOk result (IfSome (subject code statement.now.head) (λ word. Quotes word (string_bytes text.new))) }
 {
@@ -161,7 +161,7 @@ pub fn push_sentence(
     let Some(entry) = statement_at(rows, refusal) else {
         return text.push_str(meaning(refusal.code));
     };
-    push_told(text, refusal.code, entry.statement)?;
+    push_about(text, refusal.code, entry.statement)?;
     push_first(alloc, text, inputs, rows, refusal.code, entry)?;
     Ok(())
 }
