@@ -1,3 +1,4 @@
+pub mod Document
 pub mod Excerpt
 pub mod Explained
 pub mod Quoted

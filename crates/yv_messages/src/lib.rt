@@ -2,6 +2,7 @@
 #![tactic(auto)]
 
 mod explain;
+mod json;
 mod meanings;
 mod place;
 mod quoted;
@@ -10,6 +11,7 @@ mod told;
 mod words;
 
 pub use explain::explanation;
+pub use json::why_not_json;
 pub use meanings::meaning;
 pub use place::excerpt;
 pub use quoted::push_quoted;

@@ -1,2 +1,1 @@
-pub mod InnerParsed
 pub mod InnerRun
