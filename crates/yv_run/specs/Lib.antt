@@ -1,1 +1,2 @@
 pub mod InnerRun
+pub mod Notes
