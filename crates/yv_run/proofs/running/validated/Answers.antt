@@ -16,4 +16,4 @@ pub returns-in_ok-of_data-in-Ok-clause-note : goal.returns-in_ok-of_data-in-Ok-c
 returns-in_ok-of_data-in-Ok-clause-note g c =
     let read = c.in-Ok.ensures in
     notes_given string_bytes _ c.in-Ok.bytes.items c.note_on.result (gave_up_to _ _ _ 16777217 read.given read.bound read.end)
-    (rw (← c.as_slice-2.ensures.value) c.note_on.ensures)
+    (rw (← c.as_slice-in-Ok.ensures.value) c.note_on.ensures)
