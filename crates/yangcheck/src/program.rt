@@ -3,13 +3,14 @@ ghost use Rattle.std.specs.Prelude.{◌≡◌, ◌≤◌, length, IfOk};
 ghost use Rattle.yv_outcome.specs.Status.{exit_of};
 ghost use Rattle.yv_job.specs.Jobs.{HasFiles, HasLimit, CompilesOrChecks};
 
+use std::fmt::Display;
 use std::fs::File;
 use std::io::{ErrorKind, Read};
 use std::rt::{Env, Files};
 use std::{env, io};
 use yv_job::{Command, Job, JobFault, read_job};
 use yv_outcome::Status;
-use yv_run::{explanation, refusal_of, run};
+use yv_run::{Ended, run_with_note};
 use yv_streams::{Counted, Input, InputFault, read_input};
 
 /// Does what the process's arguments ask for, and answers its exit status.
@@ -22,7 +23,10 @@ pub fn program<R: Env + Files + io::Input + Print + Eprint + AllocGlobal>(rt: &R
         Err(error) => return without_words(rt, error.kind()),
     };
     match read_job(rt.alloc(), words.as_slice()) {
-        Ok(job) => told(rt, done(rt, &job)),
+        Ok(job) => {
+            let ended = done(rt, &job);
+            explained(rt, &ended)
+        }
         Err(JobFault::Help(text)) => {
             let _ = rt.print(text.as_str());
             0
@@ -59,26 +63,51 @@ fn told<R: Eprint>(rt: &R, status: Status) -> u8
     status.exit()
 }
 
-// Does the job, and explains a refusal on standard error.
-fn done<R: Files + io::Input + Print + Eprint + AllocGlobal>(rt: &R, job: &Job) -> Status
+// Prints what stopped a run and what helps a person, and answers the exit status.
+fn explained<R: Eprint>(rt: &R, ended: &Ended) -> u8
+    ensures { result ≡ exit_of ended.now.status }
+{
+    let exit = told(rt, ended.status);
+    if let Some(note) = &ended.note {
+        let _ = rt.eprint(note.as_str());
+    }
+    exit
+}
+
+// Does the job.
+fn done<R: Files + io::Input + Print + AllocGlobal>(rt: &R, job: &Job) -> Ended
     requires files { HasFiles job.now }
     requires limit { HasLimit job.now }
     requires command { CompilesOrChecks job.now }
 {
-    let inputs = match inputs(rt, job) {
-        Ok(inputs) => inputs,
-        Err(InputFault::Read) => return Status::ReadFault,
-        Err(InputFault::NoMemory) => return Status::NoMemory,
-    };
-    let status = ran(rt, job, inputs.as_slice());
-    if status == Status::Refused {
-        explain(rt, job, inputs.as_slice());
+    match inputs(rt, job) {
+        Ok(inputs) => ran(rt, job, inputs.as_slice()),
+        Err(ended) => ended,
     }
-    status
 }
 
+// A run that found no memory.
+fn without_memory() -> Ended {
+    Ended {
+        status: Status::NoMemory,
+        note: None,
+    }
+}
+
+// A run that is stopped by a file that can't be opened or read, with the file's name and the system's reason.
+fn unread<R: AllocGlobal, D: Display + Drop>(rt: &R, name: &str, reason: D) -> Ended {
+    let note = format!(in rt.alloc(); "{name}: {reason}\n");
+    Ended {
+        status: Status::ReadFault,
+        note: note.ok(),
+    }
+}
+
+// What is said of a file that was opened, and whose reading fails.
+const UNREADABLE: &str = "reading failed; is it a directory?";
+
 // Runs the job over its files, and over the document where it names one.
-fn ran<R: Files + io::Input + Print + AllocGlobal>(rt: &R, job: &Job, inputs: &[Input]) -> Status
+fn ran<R: Files + io::Input + Print + AllocGlobal>(rt: &R, job: &Job, inputs: &[Input]) -> Ended
     requires files { HasFiles job.now }
     requires limit { HasLimit job.now }
     requires each { length inputs.now ≡ length job.now.files.items }
@@ -87,10 +116,19 @@ fn ran<R: Files + io::Input + Print + AllocGlobal>(rt: &R, job: &Job, inputs: &[
     match &job.command {
         Command::Validate(file) if file.as_str() == "-" => run_over(rt, job, inputs, rt.reader()),
         Command::Validate(file) => match File::open(rt, file.as_str()) {
-            Ok(data) => run_over(rt, job, inputs, data),
-            Err(_) => Status::ReadFault,
+            Ok(data) => over_document(rt, file.as_str(), run_over(rt, job, inputs, data)),
+            Err(error) => unread(rt, file.as_str(), error.kind()),
         },
         Command::Compile | Command::Tree(_) => run_over(rt, job, inputs, io::empty()),
+    }
+}
+
+// A run over a document of this name, which is told where its reading failed.
+fn over_document<R: AllocGlobal>(rt: &R, name: &str, ended: Ended) -> Ended {
+    if ended.status == Status::ReadFault {
+        unread(rt, name, UNREADABLE)
+    } else {
+        ended
     }
 }
 
@@ -100,7 +138,7 @@ fn run_over<R: Print + AllocGlobal, D: Read + Drop>(
     job: &Job,
     inputs: &[Input],
     data: D,
-) -> Status
+) -> Ended
     requires files { HasFiles job.now }
     requires limit { HasLimit job.now }
     requires each { length inputs.now ≡ length job.now.files.items }
@@ -108,42 +146,34 @@ fn run_over<R: Print + AllocGlobal, D: Read + Drop>(
 {
     let mut reader = Counted::new(data);
     let mut writer = Counted::new(io::writer(rt));
-    run(rt.alloc(), job, inputs, &mut reader, &mut writer)
-}
-
-// Says on standard error what a refusal means. Where even that fails, nothing is said.
-fn explain<R: Eprint + AllocGlobal>(rt: &R, job: &Job, inputs: &[Input])
-    requires { length inputs.now ≤ 256 }
-{
-    if let Ok(Some(refusal)) = refusal_of(rt.alloc(), inputs, &job.selection, job.limit) {
-        if let Some(input) = inputs.get(refusal.file as usize) {
-            if let Ok(text) = explanation(rt.alloc(), input, &refusal) {
-                let _ = rt.eprint(text.as_str());
-            }
-        }
-    }
+    run_with_note(rt.alloc(), job, inputs, &mut reader, &mut writer)
 }
 
 // The job's files, read in order.
-fn inputs<R: Files + AllocGlobal>(rt: &R, job: &Job) -> Result<Vec<Input>, InputFault>
+fn inputs<R: Files + AllocGlobal>(rt: &R, job: &Job) -> Result<Vec<Input>, Ended>
     ensures { IfOk result (λ v. length v.items ≡ length job.now.files.items) }
 {
     let mut inputs = Vec::new(rt.alloc());
     for name in job.files.iter() {
         let input = opened(rt, name.as_str())?;
         if inputs.push(input).is_err() {
-            return Err(InputFault::NoMemory);
+            return Err(without_memory());
         }
     }
     Ok(inputs)
 }
 
-fn opened<R: Files + AllocGlobal>(rt: &R, name: &str) -> Result<Input, InputFault> {
+// The file of this name, read.
+fn opened<R: Files + AllocGlobal>(rt: &R, name: &str) -> Result<Input, Ended> {
     match File::open(rt, name) {
         Ok(file) => {
             let mut reader = Counted::new(file);
-            read_input(rt.alloc(), name, &mut reader)
+            match read_input(rt.alloc(), name, &mut reader) {
+                Ok(input) => Ok(input),
+                Err(InputFault::Read) => Err(unread(rt, name, UNREADABLE)),
+                Err(InputFault::NoMemory) => Err(without_memory()),
+            }
         }
-        Err(_) => Err(InputFault::Read),
+        Err(error) => Err(unread(rt, name, error.kind())),
     }
 }

@@ -1,1 +1,5 @@
+pub mod Document
 pub mod Excerpt
+pub mod Explained
+pub mod Quoted
+pub mod Subject

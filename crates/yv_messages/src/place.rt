@@ -74,16 +74,24 @@ fn shown_char(byte: u8) -> char
     }
 }
 
-// One character of ASCII for each character.
-fn shown(alloc: Global, bytes: &[u8]) -> Result<String, AllocError>
-    ensures { IfOk result (λ s. string_bytes s ≡ shown_bytes bytes.now) }
+/// Adds one character of ASCII for each character that begins in these bytes.
+pub(crate) fn push_shown(text: &mut String, bytes: &[u8]) -> Result<(), AllocError>
+    ensures { OnOk result (string_bytes text.new ≡ string_bytes text.old ++ shown_bytes bytes.now) }
 {
-    let mut text = String::new(alloc);
     for byte in bytes {
         if begins(*byte) {
             text.push(shown_char(*byte))?;
         }
     }
+    Ok(())
+}
+
+// One character of ASCII for each character.
+fn shown(alloc: Global, bytes: &[u8]) -> Result<String, AllocError>
+    ensures { IfOk result (λ s. string_bytes s ≡ shown_bytes bytes.now) }
+{
+    let mut text = String::new(alloc);
+    push_shown(&mut text, bytes)?;
     Ok(text)
 }
 

@@ -12,7 +12,8 @@ use Rattle.yv_schema.specs.Refuses.{Refuses}
 use Rattle.yv_schema.specs.Schema.{IsSchema}
 use Rattle.yv_nodes.specs.Tree.{Forest}
 use Rattle.yv_job.specs.Jobs.{Task}
-use Rattle.yv_outcome.specs.Compiles.{Compiled, RefusedAt, Built, IsRead, IsUnread, in_file, FilesCompile, unread, refused, built}
+use Rattle.yv_files.specs.Read.{IsRead, IsUnread, in_file}
+use Rattle.yv_outcome.specs.Compiles.{Compiled, RefusedAt, Built, FilesCompile, unread, refused, built}
 use Rattle.yv_streams.specs.Files.{File}
 use Rattle.yv_outcome.specs.Output.{Printed, IsOutput, compiled_printed}
 

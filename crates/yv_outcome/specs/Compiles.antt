@@ -1,34 +1,21 @@
 -- What the files of a run come to, in the words of the layers below.
-use Rattle.std.specs.Prelude.{◌≡◌, ℕ, List, take, Some, None, slice_get, ◌⊎◌}
+use Rattle.std.specs.Prelude.{◌≡◌, ℕ, List, take, Some, None, slice_get}
 use Rattle.std.specs.List.{AllZip}
 use Rattle.yv_statement.specs.Tree.{Tree}
 use Rattle.yv_statement.specs.Order.{IsLeast}
 use Rattle.yv_statement.specs.declared.refusal.Refusal.{Refusal}
-use Rattle.yv_source.specs.Answer.{IsBadFile, IsSpelled, IsRefused}
-use Rattle.yv_source.specs.Legal.{IsLegalFile}
 use Rattle.yv_selection.specs.Choice.{Choice}
 use Rattle.yv_faceted.specs.Types.{HasTypePattern}
 use Rattle.yv_nodes.specs.Tree.{Forest}
 use Rattle.yv_schema.specs.Schema.{IsSchema}
 use Rattle.yv_schema.specs.Refuses.{Refuses, RefusesBeforeTypes}
 use Rattle.yv_streams.specs.Files.{File}
+use Rattle.yv_files.specs.Read.{IsRead, IsUnread, in_file}
 
 -- files are refused, or give a schema tree
 pub data Compiled : Type 0 where
   RefusedAt : Refusal → Compiled
   Built : Forest → Compiled
-
--- a file's bytes are a legal text that spells this statement
-abbrev pub IsRead : File → Tree → Type 0
-IsRead f t = IsLegalFile f.bytes × IsSpelled f.bytes t
-
--- a file's bytes are no legal text, or one that spells no statement
-abbrev pub IsUnread : File → Refusal → Type 0
-IsUnread f r = IsBadFile f.bytes r ⊎ (IsLegalFile f.bytes × IsRefused f.bytes r)
-
--- a refusal of one file, told of the file of this number
-abbrev pub in_file : ℕ → Refusal → Refusal
-in_file n r = record { code = r.code; file = n; offset = r.offset; line = r.line }
 
 -- What files come to under a choice and a limit of what they may expand to: one of them can't be read, though those
 -- before it can; or their statements are refused; or they give their schema tree.

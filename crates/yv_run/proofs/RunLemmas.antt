@@ -1,5 +1,5 @@
 -- What a run leaves, by what was to be written.
-use Rattle.std.proofs.Common.{◌≡◌, ℕ, List, [], take, refl, sym, ap}
+use Rattle.std.proofs.Common.{◌≡◌, ℕ, List, [], take, refl, sym, ap, IfSome, slice_get}
 use Rattle.std.specs.declared.option.Option.{Option}
 use Rattle.std.specs.declared.option.Option.TheVariants.{None, Some}
 use Rattle.yv_statement.specs.declared.refusal.Refusal.{Refusal}
@@ -10,6 +10,10 @@ use Rattle.yv_outcome.specs.declared.status.Verdict.TheVariants.{Refused}
 use Rattle.yv_outcome.specs.Compiles.{FilesCompile, RefusedAt, Built}
 use Rattle.yv_streams.specs.Files.{File}
 use Rattle.yv_run.specs.InnerRun.{SaysOf}
+use Rattle.yv_run.specs.Notes.{IsNote, NotesDocument, on_refusal, on_document}
+use Rattle.yv_messages.specs.Excerpt.{Explains}
+use Rattle.yv_messages.specs.Explained.{Speaks, bytes_at}
+use Rattle.yv_messages.specs.Document.{SaysWhy}
 use Rattle.yv_outcome.specs.Output.{Printed, Gives, PrintsFor, refusal_line, printed_of, schema_printed}
 
 -- some bytes are what a reader gives
@@ -38,3 +42,22 @@ pub prints_says : (known : Option (List ℕ)) (task : Task) (files : List File) 
 prints_says known task files ts o compiles says =
     let d = says_given known task.asked ts o says in
     record { given = d.0; gives = d.1; output = (Built ts, compiles, d.2) }
+
+module _ {A : Type 0} (bytes_of : A → List ℕ) (known : Option (List ℕ)) (task : Task) (files : List File) where
+  -- a note on a document is one on what the run found
+  pub notes_document : (o : Option A) → IfSome o (λ s. NotesDocument known (bytes_of s)) → IfSome o (λ s. IsNote known task files (bytes_of s))
+  notes_document None noted = tt
+  notes_document (Some s) noted = on_document noted
+
+  -- and so is one on a refusal
+  pub notes_refusal : (o : Option A) (r : Refusal) → FilesCompile task.choice task.limit files (RefusedAt r)
+      → IfSome o (λ s. Explains (bytes_at (slice_get files r.file)) r (bytes_of s)) → IfSome o (λ s. Speaks files r (bytes_of s))
+      → IfSome o (λ s. IsNote known task files (bytes_of s))
+  notes_refusal None r refused place speaks = tt
+  notes_refusal (Some s) r refused place speaks = on_refusal r refused place speaks
+
+-- what is said of the bytes that were given is said of the document
+pub notes_given : {A : Type 0} (bytes_of : A → List ℕ) (known : Option (List ℕ)) (given : List ℕ) (o : Option A) → Gives known given
+    → IfSome o (λ s. SaysWhy given (bytes_of s)) → IfSome o (λ s. NotesDocument known (bytes_of s))
+notes_given bytes_of known given None gives why = tt
+notes_given bytes_of known given (Some s) gives why = record { given = given; gives = gives; why = why }

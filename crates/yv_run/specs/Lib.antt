@@ -1,2 +1,2 @@
-pub mod InnerParsed
 pub mod InnerRun
+pub mod Notes

@@ -3,9 +3,6 @@
 #![tactic(auto)]
 
 mod compiling;
-mod explain;
-mod parsed;
 mod running;
 
-pub use explain::{explanation, refusal_of};
-pub use running::run;
+pub use running::{Ended, run, run_with_note};

@@ -1,12 +1,16 @@
 //! A run over files that were read: what it writes, and how it ends.
-ghost use Rattle.std.specs.Prelude.{◌≡◌, ◌≤◌, ◌↔◌, ◌⊎◌, true, map, length, IfOk, IsErrOf};
+ghost use Rattle.std.specs.Prelude.{◌≡◌, ◌≤◌, ◌↔◌, ◌⊎◌, true, map, length, IfOk, IfSome, IsErrOf, None, slice_get, string_bytes};
 ghost use Rattle.yv_job.specs.Jobs.{HasFiles, HasLimit, CompilesOrChecks, IsCompileOrCheck, asked_of, task_of};
 ghost use Rattle.yv_selection.specs.Choice.{choice_of};
 ghost use Rattle.yv_nodes.specs.Rows.{whole};
 ghost use Rattle.yv_streams.specs.Stream.{stream_inner, has_failed, IsFresh};
 ghost use Rattle.yv_streams.specs.Files.{file_of};
 ghost use Rattle.yv_outcome.specs.Compiles.{HavePattern};
+ghost use Rattle.yv_messages.specs.Document.{SaysWhy};
+ghost use Rattle.yv_messages.specs.Excerpt.{Explains};
+ghost use Rattle.yv_messages.specs.Explained.{Speaks, bytes_at};
 ghost use Rattle.yv_run.specs.InnerRun.{AppendsAll, AppendsFront, SaysOf, SaysOfData};
+ghost use Rattle.yv_run.specs.Notes.{IsNote, NotesDocument};
 ghost use Rattle.yv_outcome.specs.Output.{PrintsFor, ReadsData, WantsData, WritesAll, WritesFront, IsFinished, IsStopped, printed_of};
 
 use crate::compiling::compiled;
@@ -14,9 +18,10 @@ use std::alloc::{AllocError, Global};
 use std::io::{Read, Write};
 use thiserror::Error;
 use yv_job::{Command, Job};
+use yv_messages::{explanation, why_not_json};
 use yv_outcome::{Output, Status, of_count, of_data, of_refusal};
 use yv_schema::Schema;
-use yv_statement::Stop;
+use yv_statement::{Refusal, Stop};
 use yv_streams::{Counted, Input, InputFault, read_up_to, write_whole};
 
 /// Why there is nothing to write.
@@ -39,6 +44,32 @@ impl From<AllocError> for Halt {
     fn from(_error: AllocError) -> Halt {
         Halt::NoMemory
     }
+}
+
+/// How a run ended, and what helps a person to mend what was found.
+#[derive(Drop)]
+pub struct Ended {
+    pub status: Status,
+    /// Where the files were refused, the place and what the refusal means; where the document is no JSON, the place and why.
+    /// None else, and where there is no memory for it.
+    pub note: Option<String>,
+}
+
+impl Ended {
+    // A run that was stopped, or found nothing of which there is more to say.
+    fn plain(status: Status) -> Ended
+        ensures status { result.status ≡ status }
+        ensures note { result.note ≡ None }
+    {
+        Ended { status, note: None }
+    }
+}
+
+// What a run is to write, and the note on it.
+#[derive(Drop)]
+struct Found {
+    output: Output,
+    note: Option<String>,
 }
 
 /// What is read of a document: one byte more than it may have, so that its being too large shows.
@@ -70,11 +101,42 @@ pub fn run<R: Read, W: Write>(
     ensures write_fault { result ≡ Status.WriteFault ↔ (has_failed writer.new ≡ true) }
     ensures built { result ≡ Status.PatternBuild → HavePattern (choice_of job.now.selection) job.now.limit (map file_of inputs.now) }
 {
+    run_with_note(alloc, job, inputs, reader, writer).status
+}
+
+/// Does what `run` does, and tells besides what helps a person: why the files are refused, or the document is no JSON.
+pub fn run_with_note<R: Read, W: Write>(
+    alloc: Global,
+    job: &Job,
+    inputs: &[Input],
+    reader: &mut Counted<R>,
+    writer: &mut Counted<W>,
+) -> Ended
+    requires files { HasFiles job.now }
+    requires limit { HasLimit job.now }
+    requires each { length inputs.now ≡ length job.now.files.items }
+    requires command { CompilesOrChecks job.now }
+    requires reader { IsFresh reader.old }
+    requires writer { IsFresh writer.old }
+    ensures written { IsFinished result.status → WritesAll (R.remaining (stream_inner reader.old)) (task_of job.now) (map file_of inputs.now) result.status
+        (W.contents (stream_inner writer.old)) (W.contents (stream_inner writer.new)) }
+    ensures front { result.status ≡ Status.WriteFault → WritesFront (R.remaining (stream_inner reader.old)) (task_of job.now) (map file_of inputs.now)
+        (W.contents (stream_inner writer.old)) (W.contents (stream_inner writer.new)) }
+    ensures untouched { IsStopped result.status → writer.new ≡ writer.old }
+    ensures unread { WantsData (task_of job.now) (map file_of inputs.now) ⊎ (reader.new ≡ reader.old) }
+    ensures read_fault { result.status ≡ Status.ReadFault ↔ (has_failed reader.new ≡ true) }
+    ensures write_fault { result.status ≡ Status.WriteFault ↔ (has_failed writer.new ≡ true) }
+    ensures built { result.status ≡ Status.PatternBuild → HavePattern (choice_of job.now.selection) job.now.limit (map file_of inputs.now) }
+    ensures note { IfSome result.note (λ s. IsNote (R.remaining (stream_inner reader.old)) (task_of job.now) (map file_of inputs.now) (string_bytes s)) }
+{
     match outcome(alloc, job, inputs, reader) {
-        Ok(output) => written(&output, writer),
-        Err(Halt::NoMemory) => Status::NoMemory,
-        Err(Halt::PatternBuild) => Status::PatternBuild,
-        Err(Halt::Read) => Status::ReadFault,
+        Ok(found) => Ended {
+            status: written(&found.output, writer),
+            note: found.note,
+        },
+        Err(Halt::NoMemory) => Ended::plain(Status::NoMemory),
+        Err(Halt::PatternBuild) => Ended::plain(Status::PatternBuild),
+        Err(Halt::Read) => Ended::plain(Status::ReadFault),
     }
 }
 
@@ -93,24 +155,27 @@ fn written<W: Write>(output: &Output, writer: &mut Counted<W>) -> Status
     }
 }
 
-// What is to be written.
+// What is to be written, with the note on it.
 fn outcome<R: Read>(
     alloc: Global,
     job: &Job,
     inputs: &[Input],
     reader: &mut Counted<R>,
-) -> Result<Output, Halt>
-    requires few { length inputs.now ≤ 256 }
+) -> Result<Found, Halt>
     requires command { CompilesOrChecks job.now }
     requires reader { IsFresh reader.old }
-    ensures printed { IfOk result (λ o. PrintsFor (R.remaining (stream_inner reader.old)) (task_of job.now) (map file_of inputs.now) (printed_of o)) }
+    ensures printed { IfOk result (λ f. PrintsFor (R.remaining (stream_inner reader.old)) (task_of job.now) (map file_of inputs.now) (printed_of f.output)) }
+    ensures note { IfOk result (λ f. IfSome f.note (λ s. IsNote (R.remaining (stream_inner reader.old)) (task_of job.now) (map file_of inputs.now) (string_bytes s))) }
     ensures unread { WantsData (task_of job.now) (map file_of inputs.now) ⊎ (reader.new ≡ reader.old) }
     ensures fault { IsErrOf result Halt.Read ↔ (has_failed reader.new ≡ true) }
     ensures built { IsErrOf result Halt.PatternBuild → HavePattern (choice_of job.now.selection) job.now.limit (map file_of inputs.now) }
 {
     match compiled(alloc, inputs, &job.selection, job.limit) {
         Ok(schema) => answered(alloc, &job.command, &schema, reader),
-        Err(Stop::Fault(refusal)) => Ok(of_refusal(alloc, inputs, &refusal)?),
+        Err(Stop::Fault(refusal)) => Ok(Found {
+            output: of_refusal(alloc, inputs, &refusal)?,
+            note: note_of(alloc, inputs, &refusal),
+        }),
         Err(Stop::PatternBuild) => Err(Halt::PatternBuild),
         Err(Stop::NoMemory) => Err(Halt::NoMemory),
     }
@@ -122,16 +187,20 @@ fn answered<R: Read>(
     command: &Command,
     schema: &Schema,
     reader: &mut Counted<R>,
-) -> Result<Output, Halt>
+) -> Result<Found, Halt>
     requires command { IsCompileOrCheck (asked_of command.now) }
     requires reader { IsFresh reader.old }
-    ensures printed { IfOk result (SaysOf (R.remaining (stream_inner reader.old)) (asked_of command.now) (whole schema.now)) }
+    ensures printed { IfOk result (λ f. SaysOf (R.remaining (stream_inner reader.old)) (asked_of command.now) (whole schema.now) f.output) }
+    ensures note { IfOk result (λ f. IfSome f.note (λ s. NotesDocument (R.remaining (stream_inner reader.old)) (string_bytes s))) }
     ensures unread { ReadsData (asked_of command.now) ⊎ (reader.new ≡ reader.old) }
     ensures fault { IsErrOf result Halt.Read ↔ (has_failed reader.new ≡ true) }
     ensures never_built { IsErrOf result Halt.PatternBuild → ⊥ }
 {
     match command {
-        Command::Compile => Ok(of_count(alloc, schema)?),
+        Command::Compile => Ok(Found {
+            output: of_count(alloc, schema)?,
+            note: None,
+        }),
         Command::Tree(_) => unreachable!(),
         Command::Validate(_) => validated(alloc, schema, reader),
     }
@@ -142,15 +211,40 @@ fn validated<R: Read>(
     alloc: Global,
     schema: &Schema,
     reader: &mut Counted<R>,
-) -> Result<Output, Halt>
+) -> Result<Found, Halt>
     requires { IsFresh reader.old }
-    ensures printed { IfOk result (SaysOfData (R.remaining (stream_inner reader.old)) (whole schema.now)) }
+    ensures printed { IfOk result (λ f. SaysOfData (R.remaining (stream_inner reader.old)) (whole schema.now) f.output) }
+    ensures note { IfOk result (λ f. IfSome f.note (λ s. NotesDocument (R.remaining (stream_inner reader.old)) (string_bytes s))) }
     ensures fault { IsErrOf result Halt.Read ↔ (has_failed reader.new ≡ true) }
     ensures never_built { IsErrOf result Halt.PatternBuild → ⊥ }
 {
     match read_up_to(alloc, DATA_BYTES, reader) {
-        Ok(bytes) => Ok(of_data(alloc, schema, bytes.as_slice())?),
+        Ok(bytes) => Ok(Found {
+            output: of_data(alloc, schema, bytes.as_slice())?,
+            note: note_on(alloc, bytes.as_slice()),
+        }),
         Err(InputFault::Read) => Err(Halt::Read),
         Err(InputFault::NoMemory) => Err(Halt::NoMemory),
+    }
+}
+
+// Why a document is no JSON, where there is memory to say it.
+fn note_on(alloc: Global, bytes: &[u8]) -> Option<String>
+    ensures { IfSome result (λ s. SaysWhy bytes.now (string_bytes s)) }
+{
+    match why_not_json(alloc, bytes) {
+        Ok(why) => why,
+        Err(_) => None,
+    }
+}
+
+// What helps a person to mend a file that is refused, where there is memory to say it.
+fn note_of(alloc: Global, inputs: &[Input], refusal: &Refusal) -> Option<String>
+    ensures place { IfSome result (λ s. Explains (bytes_at (slice_get (map file_of inputs.now) refusal.now.file)) refusal.now (string_bytes s)) }
+    ensures speaks { IfSome result (λ s. Speaks (map file_of inputs.now) refusal.now (string_bytes s)) }
+{
+    match explanation(alloc, inputs, refusal) {
+        Ok(text) => Some(text),
+        Err(_) => None,
     }
 }

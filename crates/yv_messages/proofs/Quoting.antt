@@ -1,0 +1,18 @@
+use Rattle.std.proofs.Common.{◌≡◌, ◌++◌, ◌∙◌, ap, List, ℕ, Option, Some, None, IfSome}
+use Rattle.std.proofs.lemmas.List.{append_assoc}
+use Rattle.yv_messages.specs.Quoted.{Quotes, Extends, quoted}
+
+-- a text to which a sentence round a word was added quotes the word
+pub quotes_between : (old before after word one two three : List ℕ) → one ≡ old ++ before → two ≡ one ++ quoted word → three ≡ two ++ after
+    → Quotes word three
+quotes_between old before after word one two three is_one is_two is_three =
+    (one, after, is_three ∙ ap (λ front. front ++ after) is_two ∙ append_assoc one (quoted word) after)
+
+-- it does so still where more was added
+pub quotes_longer : (word old new : List ℕ) → Extends old new → Quotes word old → Quotes word new
+quotes_longer word old new (more, is) (before, after, quotes) =
+    (before, after ++ more, is ∙ ap (λ front. front ++ more) quotes ∙ append_assoc before (quoted word ++ after) more ∙ ap (λ rest. before ++ rest) (append_assoc (quoted word) after more))
+
+pub named_longer : (word : Option (List ℕ)) (old new : List ℕ) → Extends old new → IfSome word (λ w. Quotes w old) → IfSome word (λ w. Quotes w new)
+named_longer None old new longer named = tt
+named_longer (Some word) old new longer named = quotes_longer word old new longer named
