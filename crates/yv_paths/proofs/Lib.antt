@@ -1,0 +1,4 @@
+pub mod Placing
+pub mod Keeping
+pub mod Stepping
+pub mod Reading

@@ -1,0 +1,4 @@
+pub mod Names
+pub mod Paths
+pub mod Known
+pub mod InnerNames
