@@ -6,8 +6,9 @@ use Rattle.std.specs.Str.{bytes_eq}
 use Rattle.std.proofs.lemmas.Bool.{ne_eqb}
 use Rattle.std.proofs.lemmas.Option.{same_Some, slice_get-map, slice_get_within}
 use Rattle.std.proofs.lemmas.List.Folds.{find-append}
+use Rattle.yv_expansion.specs.Origin.{number_of}
 use Rattle.yv_expansion.specs.Tree.{count}
-use Rattle.yv_expansion.specs.declared.item.Item.{Item}
+use Rattle.yv_expansion.specs.Tree.{Item}
 use Rattle.yv_rows.specs.Rows.{Row, name_in}
 use Rattle.yv_rows.specs.Names.{prefix_of, local_of}
 use Rattle.yv_rows.specs.Files.{Briefs}
@@ -35,10 +36,10 @@ and_no : (a : Bool) → (a && false) ≡ false
 and_no true = refl
 and_no false = refl
 
-node_not : (rows : List Row) (g : ℕ) (test : Row → Bool) (s : Site) → is_at test rows s.place.origin ≡ false → is_node_in rows g test s ≡ false
+node_not : (rows : List Row) (g : ℕ) (test : Row → Bool) (s : Site) → is_at test rows (number_of s.place.origin) ≡ false → is_node_in rows g test s ≡ false
 node_not rows g test s h =
-    ap (λ b. (s.group == g) && (not (is_at is_uses rows s.place.origin) && b)) h
-    ∙ ap (λ b. (s.group == g) && b) (and_no (not (is_at is_uses rows s.place.origin)))
+    ap (λ b. (s.group == g) && (not (is_at is_uses rows (number_of s.place.origin)) && b)) h
+    ∙ ap (λ b. (s.group == g) && b) (and_no (not (is_at is_uses rows (number_of s.place.origin))))
     ∙ and_no (s.group == g)
 
 is_not : (b : Bool) → not b ≡ true → b ≡ false
@@ -47,7 +48,7 @@ is_not false h = refl
 
 -- an item from which the table may be asked: the one before those in it, or a node among them
 abbrev pub IsReady : List Row → (k i : ℕ) → Site → Type 0
-IsReady rows k i s = (k ≡ i + 1) ⊎ ((k ≤ i) × (is_at is_uses rows s.place.origin ≡ false))
+IsReady rows k i s = (k ≡ i + 1) ⊎ ((k ≤ i) × (is_at is_uses rows (number_of s.place.origin) ≡ false))
 
 pub none_past : {A : Type 0} (xs : List A) (k : ℕ) → slice_get xs k ≡ None → k < length xs → ⊥
 none_past [] k e h = omega (arith, h)
@@ -85,13 +86,13 @@ module _ (files : Briefs) (rows : List Row) (items : List Item) (all : List Site
               let same : spot_of files rows y ≡ x = same_Some (spot_of files rows y) x is in
               let low : y.group ≤ k + j = are.low (k + j) y e in
               ap (is_hit (inside_of rows s) a) (sym same)
-              ∙ ap (λ c. c && (not (is_at is_uses rows y.place.origin) && (name_by rows (slice_get rows y.place.origin) == a))) (ne_eqb y.group (inside_of rows s) (λ e. omega (arith, e, low, own, h)))
+              ∙ ap (λ c. c && (not (is_at is_uses rows (number_of y.place.origin)) && (name_by rows (slice_get rows (number_of y.place.origin)) == a))) (ne_eqb y.group (inside_of rows s) (λ e. omega (arith, e, low, own, h)))
 
   abbrev inner : Site → List Site
   inner s = sites rows s.place.file (inside_of rows s) (Some s.place.number) (s.place.number + 1) s.place.below
 
   -- what the table tells, up to the end of what stands below
-  found : (i : ℕ) (s : Site) (a : ℕ) (test : Row → Bool) → slice_get all i ≡ Some s → IsReady rows k i s → ((j : ℕ) (x : Site) → slice_get all j ≡ Some x → (name_by rows (slice_get rows x.place.origin) == a) ≡ is_at test rows x.place.origin) → option_and_then (within (s.place.number + 1 + count s.place.below)) (table (inside_of rows s) a) ≡ option_map (λ x. x.place.number) (find (is_node_in rows (inside_of rows s) test) (inner s))
+  found : (i : ℕ) (s : Site) (a : ℕ) (test : Row → Bool) → slice_get all i ≡ Some s → IsReady rows k i s → ((j : ℕ) (x : Site) → slice_get all j ≡ Some x → (name_by rows (slice_get rows (number_of x.place.origin)) == a) ≡ is_at test rows (number_of x.place.origin)) → option_and_then (within (s.place.number + 1 + count s.place.below)) (table (inside_of rows s) a) ≡ option_map (λ x. x.place.number) (find (is_node_in rows (inside_of rows s) test) (inner s))
   found i s a test at ready same =
       let g : ℕ = inside_of rows s in
       let q : Site → Bool = is_node_in rows g test in
@@ -103,7 +104,7 @@ module _ (files : Briefs) (rows : List Row) (items : List Item) (all : List Site
       asked i s a at ready
       ∙ position_find (spot_of files rows) (is_hit g a) q (i + 1) more (λ j x there.
       let here : slice_get all (i + 1 + j) ≡ Some x = sym (get_drop (i + 1) j all) ∙ there in
-      (ap (λ b. (x.group == g) && (not (is_at is_uses rows x.place.origin) && b)) (same (i + 1 + j) x here), are.numbers (i + 1 + j) x here)) in
+      (ap (λ b. (x.group == g) && (not (is_at is_uses rows (number_of x.place.origin)) && b)) (same (i + 1 + j) x here), are.numbers (i + 1 + j) x here)) in
       ap (option_and_then (within last)) (tells ∙ ap (option_map (λ x. x.place.number)) (ap (find q) split.1 ∙ find-append q (inner s) rest))
       ∙ by (find q (inner s)) (find q rest) refl refl
     where
@@ -133,18 +134,18 @@ module _ (files : Briefs) (rows : List Row) (items : List Item) (all : List Site
       ∙ by (is_of files rows home file (prefix_of text)) (first_named rows (local_of text)) refl refl
     where
       nowhere : ((r : Row) (o : ℕ) → slice_get rows o ≡ Some r → (is_step files rows home file text) r ≡ false) → None ≡ option_map (λ x. x.place.number) (find (is_node_in rows (inside_of rows s) (is_step files rows home file text)) (inner s))
-      nowhere fails = sym (ap (option_map (λ x. x.place.number)) (find_none (is_node_in rows (inside_of rows s) (is_step files rows home file text)) (inner s) (λ j x there. node_not rows (inside_of rows s) (is_step files rows home file text) x (at_row (slice_get rows x.place.origin) x.place.origin refl))))
+      nowhere fails = sym (ap (option_map (λ x. x.place.number)) (find_none (is_node_in rows (inside_of rows s) (is_step files rows home file text)) (inner s) (λ j x there. node_not rows (inside_of rows s) (is_step files rows home file text) x (at_row (slice_get rows (number_of x.place.origin)) (number_of x.place.origin) refl))))
         where
           at_row : (r : Option Row) (o : ℕ) → slice_get rows o ≡ r → passes (is_step files rows home file text) r ≡ false
           at_row None o e = refl
           at_row (Some r) o e = fails r o e
 
-      named : (a : ℕ) → is_of files rows home file (prefix_of text) ≡ true → first_named rows (local_of text) ≡ Some a → (j : ℕ) (x : Site) → slice_get all j ≡ Some x → (name_by rows (slice_get rows x.place.origin) == a) ≡ is_at (is_step files rows home file text) rows x.place.origin
-      named a opens name j x there = at_row (slice_get rows x.place.origin) refl (are.origins j x there)
+      named : (a : ℕ) → is_of files rows home file (prefix_of text) ≡ true → first_named rows (local_of text) ≡ Some a → (j : ℕ) (x : Site) → slice_get all j ≡ Some x → (name_by rows (slice_get rows (number_of x.place.origin)) == a) ≡ is_at (is_step files rows home file text) rows (number_of x.place.origin)
+      named a opens name j x there = at_row (slice_get rows (number_of x.place.origin)) refl (are.origins j x there)
         where
-          at_row : (r : Option Row) → slice_get rows x.place.origin ≡ r → x.place.origin < length rows → (name_by rows r == a) ≡ passes (is_step files rows home file text) r
-          at_row None e l = absurd (none_past rows x.place.origin e l)
-          at_row (Some r) e l = same_name rows x.place.origin r (local_of text) a e name ∙ sym (ap (λ b. b && bytes_eq (name_in r) (local_of text)) opens)
+          at_row : (r : Option Row) → slice_get rows (number_of x.place.origin) ≡ r → (number_of x.place.origin) < length rows → (name_by rows r == a) ≡ passes (is_step files rows home file text) r
+          at_row None e l = absurd (none_past rows (number_of x.place.origin) e l)
+          at_row (Some r) e l = same_name rows (number_of x.place.origin) r (local_of text) a e name ∙ sym (ap (λ b. b && bytes_eq (name_in r) (local_of text)) opens)
 
       by : (b : Bool) (o : Option ℕ) → is_of files rows home file (prefix_of text) ≡ b → first_named rows (local_of text) ≡ o → (if b then option_and_then (λ name. option_and_then (within (s.place.number + 1 + count s.place.below)) (table (inside_of rows s) name)) o else None) ≡ option_map (λ x. x.place.number) (find (is_node_in rows (inside_of rows s) (is_step files rows home file text)) (inner s))
       by false o opens name = nowhere (λ r n e. ap (λ b. b && bytes_eq (name_in r) (local_of text)) opens)
@@ -160,7 +161,7 @@ module _ (files : Briefs) (rows : List Row) (items : List Item) (all : List Site
   reached home file (t ∷ ts) i s at ready = by (find (is_node_in rows (inside_of rows s) (is_step files rows home file t)) (inner s)) refl (λ j x. reached home file ts j x)
     where
       low : inside_of rows s ≤ s.place.number + 1
-      low = inside_low rows s.group s.place.number s.place.origin (let n = are.numbers i s at in let m = are.low i s at in omega (arith, n, m))
+      low = inside_low rows s.group s.place.number (number_of s.place.origin) (let n = are.numbers i s at in let m = are.low i s at in omega (arith, n, m))
 
       there_is : slice_get spots i ≡ Some (spot_of files rows s)
       there_is = slice_get-map (spot_of files rows) all i ∙ ap (option_map (spot_of files rows)) at
@@ -182,6 +183,6 @@ module _ (files : Briefs) (rows : List Row) (items : List Item) (all : List Site
           sym (get_drop (i + 1) h.0 all) ∙ ap (λ l. slice_get l h.0) (are.below i s at).1 ∙ get_front (inner s) (are.below i s at).0 h.0 x h.1 in
           let number : x.place.number ≡ i + 1 + h.0 = are.numbers (i + 1 + h.0) x there in
           let here : slice_get all x.place.number ≡ Some x = ap (slice_get all) number ∙ there in
-          let is_node : is_at is_uses rows x.place.origin ≡ false = is_not (is_at is_uses rows x.place.origin) (both_true (not (is_at is_uses rows x.place.origin)) (is_at (is_step files rows home file t) rows x.place.origin) (both_true (x.group == inside_of rows s) (not (is_at is_uses rows x.place.origin) && is_at (is_step files rows home file t) rows x.place.origin) h.2).1).0 in
+          let is_node : is_at is_uses rows (number_of x.place.origin) ≡ false = is_not (is_at is_uses rows (number_of x.place.origin)) (both_true (not (is_at is_uses rows (number_of x.place.origin))) (is_at (is_step files rows home file t) rows (number_of x.place.origin)) (both_true (x.group == inside_of rows s) (not (is_at is_uses rows (number_of x.place.origin)) && is_at (is_step files rows home file t) rows (number_of x.place.origin)) h.2).1).0 in
           meant _ (ended rows (is_step files rows home file) ts x.place) _ (walk table spots home (map (step_of files rows file) ts) x.place.number) (ends (Some x) e) (leads (Some x) e)
           (on x.place.number x here (inr (ready_before rows k i h.0 x.place.number s ready number, is_node)))

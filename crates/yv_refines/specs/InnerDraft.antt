@@ -3,7 +3,8 @@
 use Rattle.std.specs.Prelude.{◌≡◌, ℕ, ◌+◌, ◌≤◌, ◌==◌, ◌&&◌, not, Bool, true, false, List, [], ◌∷◌, ◌++◌, map, length, if◌then◌else◌, Option, Some, None, slice_get}
 use Rattle.std.specs.declared.vec.Vec.{Vec}
 use Rattle.std.specs.declared.alloc.Global.{Global}
-use Rattle.yv_expansion.specs.declared.item.Item.{Item}
+use Rattle.yv_expansion.specs.Origin.{number_of}
+use Rattle.yv_expansion.specs.Tree.{Item}
 use Rattle.yv_statement.specs.Order.{IsLeast, refusal_at}
 use Rattle.yv_statement.specs.declared.refusal.Refusal.{Refusal}
 use Rattle.yv_statement.specs.declared.refusal.Code.{Code}
@@ -66,7 +67,7 @@ abbrev pub IsMeant : List Spot → Option Place → Option ℕ → Type 0
 IsMeant spots None None = Unit {0}
 IsMeant spots None (Some i) = ⊥
 IsMeant spots (Some p) None = ⊥
-IsMeant spots (Some p) (Some i) = (p.number ≡ i) × (s : Spot) × (slice_get spots i ≡ Some s) × (s.origin ≡ p.origin)
+IsMeant spots (Some p) (Some i) = (p.number ≡ i) × (s : Spot) × (slice_get spots i ≡ Some s) × (s.origin ≡ number_of p.origin)
 
 -- the item that a refine of this number changes
 abbrev pub fit_item_of : Files → ℕ → Option Place → Option ℕ

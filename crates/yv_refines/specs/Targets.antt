@@ -2,6 +2,7 @@
 use Rattle.std.specs.Prelude.{ℕ, ◌+◌, Bool, false, List, [], ◌∷◌, ◌++◌, if◌then◌else◌, Option, Some, None, codes, slice_get}
 use Rattle.std.specs.List.{find}
 use Rattle.std.specs.Option.{option_and_then}
+use Rattle.yv_expansion.specs.Origin.{number_of}
 use Rattle.yv_expansion.specs.Tree.{Tree, none, item, count}
 use Rattle.yv_rows.specs.Files.{has_word}
 use Rattle.yv_rows.specs.Rows.{Row}
@@ -22,11 +23,11 @@ is_uses r = has_word (codes "uses") r.head
 abbrev pub nodes : List Row → (file first : ℕ) → Tree → List Place
 nodes rows file first none = []
 nodes rows file first (item k below behind) =
-    (if is_at is_uses rows k then nodes rows file (first + 1) below else record { file = file; number = first; origin = k; below = below } ∷ [])
+    (if is_at is_uses rows (number_of k) then nodes rows file (first + 1) below else record { file = file; number = first; origin = k; below = below } ∷ [])
     ++ nodes rows file (first + 1 + count below) behind
 
 -- the place to which steps lead: each to the first node that answers it, among the nodes below the place before
 abbrev pub ended : List Row → (List ℕ → Row → Bool) → List (List ℕ) → Place → Option Place
 ended rows answers [] p = Some p
 ended rows answers (s ∷ ss) p =
-    option_and_then (λ q. ended rows answers ss q) (find (λ q. is_at (answers s) rows q.origin) (nodes rows p.file (p.number + 1) p.below))
+    option_and_then (λ q. ended rows answers ss q) (find (λ q. is_at (answers s) rows (number_of q.origin)) (nodes rows p.file (p.number + 1) p.below))

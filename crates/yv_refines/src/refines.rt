@@ -2,10 +2,9 @@
 ghost use Rattle.std.specs.Prelude.{◌≡◌, List, map, length, IfOk};
 ghost use Rattle.std.specs.List.{list_any};
 ghost use Rattle.yv_statement.specs.Order.{IsLeast};
-ghost use Rattle.yv_expansion.specs.Tree.{Tree};
+ghost use Rattle.yv_expansion.specs.Tree.{Tree, Item};
 ghost use Rattle.yv_rows.specs.Files.{Files};
 ghost use Rattle.yv_rows.specs.Lent.{lent_in, files_in, rows_in};
-ghost use Rattle.yv_expansion.specs.declared.item.Item.{Item};
 ghost use Rattle.yv_refines.specs.Refined.{is_refine, refined_by};
 ghost use Rattle.yv_refines.specs.InnerSites.{Site, AreSites, spot_of};
 ghost use Rattle.yv_refines.specs.InnerDraft.{IsPlan, IsDraft};
@@ -21,7 +20,7 @@ use crate::paths::is_refine;
 use crate::plan::Plan;
 use crate::spots::{Spot, spots};
 use std::alloc::{AllocError, Global};
-use yv_expansion::Item;
+use yv_expansion::{Item, Origin};
 use yv_rows::Rows;
 use yv_statement::Refusal;
 
@@ -78,7 +77,7 @@ impl Refines {
         ensures { IfOk result (λ refines. (trees : List Tree) → IsListed (lent_in rows.now) items.now trees
             → AreRefines (lent_in rows.now) trees refines) }
     {
-        yv_expansion::laws::trees_are_listed_in_order();
+        yv_expansion::laws::trees_are_listed_in_order::<Origin>();
         if !has_refines(rows) {
             return Ok(Refines {
                 changes: Vec::new(alloc),

@@ -65,7 +65,7 @@ fn above(rows: &Rows<'_, '_>, homes: &[usize], spots: &[Spot], item: &Item) -> (
     ensures { (files : Briefs) → AreHomes files homes.now → result ≡ above_by files (rows_in rows.now) spots.now item.now }
 {
     match item.parent {
-        None => (0, home(rows, homes, item.origin)),
+        None => (0, home(rows, homes, item.origin.number())),
         Some(parent) => match spots.get(parent) {
             Some(spot) => (spot.inside, spot.home),
             None => (0, 0),
@@ -86,11 +86,11 @@ fn next_spot(
         → result ≡ next_spot files (rows_in rows.now) numbers.now spots.now item.now end }
 {
     let (group, home) = above(rows, homes, spots, item);
-    let is_uses = is_uses(rows, item.origin);
-    let name = numbers.get(item.origin).copied().unwrap_or(0);
+    let is_uses = is_uses(rows, item.origin.number());
+    let name = numbers.get(item.origin.number()).copied().unwrap_or(0);
     let inside = if is_uses { group } else { spots.len() + 1 };
     Spot {
-        origin: item.origin,
+        origin: item.origin.number(),
         home,
         is_uses,
         name,

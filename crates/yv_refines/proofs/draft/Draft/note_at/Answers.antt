@@ -1,5 +1,6 @@
 use Rattle.std.proofs.Common.{◌≡◌, ℕ, List, [], ◌++◌, Bool, true, map, if◌then◌else◌, sym, ◌∙◌, ap, subst, length}
 use Rattle.std.specs.List.{slice_get}
+use Rattle.yv_expansion.specs.Origin.{number_of}
 use Rattle.yv_rows.specs.Files.{Briefs}
 use Rattle.yv_rows.specs.Rows.{Row}
 use Rattle.yv_rows.specs.Lent.{lent_in, files_in, rows_in}
@@ -13,7 +14,7 @@ pub returns-in_ok-note_all : goal.returns-in_ok-note_all
 returns-in_ok-note_all c = λ s xs asked spot_is draft.
     let files : Briefs = files_in c.args.rows.now in
     let rows : List Row = rows_in c.args.rows.now in
-    let origin : ℕ = s.place.origin in
+    let origin : ℕ = (number_of s.place.origin) in
     let f : ℕ → Refined = refined_of files rows s.place in
     let uses : is_at is_uses rows origin ≡ true = sym (ap (λ z. z.is_uses) spot_is) ∙ c.if-spot.true in
     let block : c.block-refines.result.now ≡ refines_in rows origin =

@@ -7,8 +7,8 @@ use Rattle.yv_expand.specs.Expands.{is_item}
 use Rattle.yv_expand.specs.InnerItems.{AreHomes, top_place}
 use Rattle.yv_expand.proofs.Words.{row_read, rows_count}
 use Rattle.yv_expand.proofs.Placing.{place_is, placing_all, placing_none, placing_other, placing_place}
-use Rattle.yv_expand.proofs.lists.items_of_files.Goals as goal
-use Rattle.yv_expand.proofs.lists.items_of_files.Goals.{in-Some+in_ok-push, in_default}
+use Rattle.yv_expand.proofs.lists.of_files.Goals as goal
+use Rattle.yv_expand.proofs.lists.of_files.Goals.{in-Some+in_ok-push, in_default}
 
 pub loop-number-init : goal.loop-number-init
 loop-number-init c = placing_none (top_place (files_in c.args.rows.now)) (rows_in c.args.rows.now) _ _ (c.in_ok-lists.ensures.0 ∙ rows_count brief _ (files_in c.args.rows.now) c.files.ensures.each) c.in_ok-lists.ensures.1
