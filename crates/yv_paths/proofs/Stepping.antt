@@ -20,6 +20,16 @@ number_within rows name n h =
     let others : List (List ℕ) = codes "input" ∷ codes "output" ∷ [] in
     omega (arith, (place_hit (own_names rows ++ others) name n h).0, length-append (own_names rows) others, length-map rows (λ r. node_name r.head))
 
+behind : (names others : List (List ℕ)) (i : ℕ) → slice_get (names ++ others) (length names + i) ≡ slice_get others i
+behind [] others i = ap (slice_get others) (let e : 0 + i ≡ i = omega arith in e)
+behind (n ∷ names) others i = ap (slice_get (n ∷ names ++ others)) (let e : suc (length names) + i ≡ suc (length names + i) = omega arith in e) ∙ behind names others i
+
+pub input_there : (rows : List Row) → (n : ℕ) × (number_of rows (codes "input") ≡ Some n)
+input_there rows = place_there _ (codes "input") (length (own_names rows) + 0) (behind (own_names rows) (codes "input" ∷ codes "output" ∷ []) 0)
+
+pub output_there : (rows : List Row) → (n : ℕ) × (number_of rows (codes "output") ≡ Some n)
+output_there rows = place_there _ (codes "output") (length (own_names rows) + 1) (behind (own_names rows) (codes "input" ∷ codes "output" ∷ []) 1)
+
 pub number_there : (rows : List Row) (k : ℕ) → k < length rows → (n : ℕ) × (number_at rows k ≡ Some n)
 number_there rows k l = by (slice_get rows k) refl
   where

@@ -1,5 +1,5 @@
 //! Laws of the definitions alone.
-ghost use Rattle.std.specs.Prelude.{◌≡◌, ◌<◌, ◌≤◌, ◌+◌, ◌↔◌, ℕ, List, Some, length, slice_get};
+ghost use Rattle.std.specs.Prelude.{◌≡◌, ◌<◌, ◌≤◌, ◌+◌, ◌↔◌, ℕ, List, Some, codes, length, slice_get};
 ghost use Rattle.std.specs.Option.{option_map};
 ghost use Rattle.yv_rows.specs.Files.{Briefs};
 ghost use Rattle.yv_rows.specs.Names.{local_of};
@@ -12,9 +12,11 @@ pub fn a_number_has_one_name()
     ensures { (rows : List Row) (a b : List ℕ) (number : ℕ) → number_of rows a ≡ Some number → number_of rows b ≡ Some number → a ≡ b }
 {}
 
-/// The node of each statement has a numbered name.
+/// The node of each statement has a numbered name, and so have an operation's input and output.
 pub fn names_are_numbered()
     ensures numbers { (rows : List Row) (statement : ℕ) → statement < length rows → (number : ℕ) × (number_at rows statement ≡ Some number) }
+    ensures input { (rows : List Row) → (number : ℕ) × (number_of rows (codes "input") ≡ Some number) }
+    ensures output { (rows : List Row) → (number : ℕ) × (number_of rows (codes "output") ≡ Some number) }
     ensures within { (rows : List Row) (name : List ℕ) (number : ℕ) → number_of rows name ≡ Some number → number < length rows + 2 }
 {}
 
