@@ -2,3 +2,4 @@ pub mod Placing
 pub mod Keeping
 pub mod Stepping
 pub mod Reading
+pub mod Homing

@@ -27,7 +27,7 @@ module _ {X : Type 0} (p : X → Bool) where
       by true e f on = ap (λ b. cond b (Some k) (position_from p (k + 1) (xs ++ ys))) e ∙ f
       by false e f on = ap (λ b. cond b (Some k) (position_from p (k + 1) (xs ++ ys))) e ∙ on f
 
-  position_hit : (k : ℕ) (xs : List X) (a : ℕ) → position_from p k xs ≡ Some a → (j : ℕ) × (x : X) × (a ≡ k + j) × (j < length xs) × (slice_get xs j ≡ Some x) × (p x ≡ true)
+  pub position_hit : (k : ℕ) (xs : List X) (a : ℕ) → position_from p k xs ≡ Some a → (j : ℕ) × (x : X) × (a ≡ k + j) × (j < length xs) × (slice_get xs j ≡ Some x) × (p x ≡ true)
   position_hit k [] a h = absurd (let bad : None ≡ Some a = h in cc)
   position_hit k (x ∷ xs) a h = by (p x) refl h (position_hit (k + 1) xs a)
     where

@@ -2,6 +2,7 @@
 //! for each of its copies (RFC 7950, section 6.5).
 #![tactic(auto)]
 
+mod homes;
 pub mod laws;
 mod names;
 mod paths;

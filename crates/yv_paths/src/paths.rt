@@ -1,54 +1,45 @@
 //! The schema paths of refines and augments.
-ghost use Rattle.std.specs.Prelude.{◌≡◌, List, map, slice_get, IfOk};
+ghost use Rattle.std.specs.Prelude.{◌≡◌, List, Some, map, slice_get, IfOk};
 ghost use Rattle.std.specs.Option.{option_map};
 ghost use Rattle.yv_rows.specs.Files.{Briefs};
 ghost use Rattle.yv_rows.specs.Rows.{Row, row};
 ghost use Rattle.yv_rows.specs.Lent.{files_in, rows_in};
-ghost use Rattle.yv_rows.specs.Scopes.{module_of};
 ghost use Rattle.yv_paths.specs.Paths.{behind_root, steps_of, step_by, step_of, has_path, path_of, path_at};
 ghost use Rattle.yv_paths.specs.Known.{AreNames};
+ghost use Rattle.yv_paths.specs.InnerKnown.{AreHomes};
 
+use crate::homes::Homes;
 use crate::names::Names;
 use crate::step::Step;
 use std::alloc::{AllocError, Global};
 use yv_rows::{Entry, Rows, local, name_of, prefix_of};
 
-// The file of the module that a prefix stands for.
-fn home<'a>(rows: &Rows<'a, '_>, file: usize, prefix: &'a str) -> Option<u32>
-    ensures { result ≡ module_of (files_in rows.now) (rows_in rows.now) file prefix.now }
-{
-    yv_rows::laws::modules_are_files();
-    let home = rows.module_of(file, prefix)?;
-    let is_file = home < rows.files().len();
-    prove!(is_file);
-    Some(home as u32)
-}
-
 // A step whose name has this number.
 fn named_step<'a>(
-    rows: &Rows<'a, '_>,
+    homes: &Homes<'a>,
     file: usize,
     prefix: Option<&'a str>,
     name: u32,
 ) -> Option<Step>
-    ensures { result ≡ step_by (files_in rows.now) (rows_in rows.now) file (option_map (λ p. p.now) prefix.entry) name }
+    ensures { (files : Briefs) (rows : List Row) → AreHomes files rows homes.now
+        → result ≡ step_by files rows file (option_map (λ p. p.now) prefix.entry) name }
 {
     match prefix {
         None => Some(Step { home: None, name }),
         Some(prefix) => Some(Step {
-            home: Some(home(rows, file, prefix)?),
+            home: Some(homes.get(file, prefix)?),
             name,
         }),
     }
 }
 
 // The step of a path in a file that is written so.
-fn read_step<'a>(rows: &Rows<'a, '_>, names: &Names<'a>, file: usize, text: &'a str) -> Option<Step>
-    requires { AreNames (rows_in rows.now) names.now }
-    ensures { result ≡ step_of (files_in rows.now) (rows_in rows.now) file text.now }
+fn read_step<'a>(homes: &Homes<'a>, names: &Names<'a>, file: usize, text: &'a str) -> Option<Step>
+    ensures { (files : Briefs) (rows : List Row) → AreHomes files rows homes.now → AreNames rows names.now
+        → result ≡ step_of files rows file text.now }
 {
     let name = names.get(local(text))?;
-    named_step(rows, file, prefix_of(text), name)
+    named_step(homes, file, prefix_of(text), name)
 }
 
 // A path without the '/' at the start of an absolute one.
@@ -79,20 +70,37 @@ fn has_path(entry: &Entry<'_, '_>) -> bool
 // The steps of a statement's path.
 fn path<'a>(
     alloc: Global,
-    rows: &Rows<'a, '_>,
+    homes: &Homes<'a>,
     names: &Names<'a>,
     entry: &Entry<'a, '_>,
 ) -> Result<Vec<Option<Step>>, AllocError>
-    requires { AreNames (rows_in rows.now) names.now }
-    ensures { IfOk result (λ path. path.items ≡ path_of (files_in rows.now) (rows_in rows.now) (row entry.now)) }
+    ensures { IfOk result (λ path. (files : Briefs) (rows : List Row) → AreHomes files rows homes.now → AreNames rows names.now
+        → path.items ≡ path_of files rows (row entry.now)) }
 {
     let file = entry.file as usize;
     let texts = steps(alloc, name_of(entry.statement))?;
     let mut path = Vec::new(alloc);
     for text in &texts {
-        path.push(read_step(rows, names, file, text))?;
+        path.push(read_step(homes, names, file, text))?;
     }
     Ok(path)
+}
+
+// The path of a statement, if it is a refine or an augment.
+fn path_at<'a>(
+    alloc: Global,
+    homes: &Homes<'a>,
+    names: &Names<'a>,
+    entry: &Entry<'a, '_>,
+) -> Result<Vec<Option<Step>>, AllocError>
+    ensures { IfOk result (λ path. (files : Briefs) (rows : List Row) → AreHomes files rows homes.now → AreNames rows names.now
+        → path.items ≡ path_at files rows (Some (row entry.now))) }
+{
+    if has_path(entry) {
+        path(alloc, homes, names, entry)
+    } else {
+        Ok(Vec::new(alloc))
+    }
 }
 
 /// The schema paths of statements, each read once.
@@ -114,14 +122,10 @@ impl Paths {
         requires { AreNames (rows_in rows.now) names.now }
         ensures { IfOk result (ArePaths (files_in rows.now) (rows_in rows.now)) }
     {
+        let homes = Homes::read(alloc, rows)?;
         let mut paths = Vec::new(alloc);
         for entry in rows.entries() {
-            let path = if has_path(entry) {
-                path(alloc, rows, names, entry)?
-            } else {
-                Vec::new(alloc)
-            };
-            paths.push(path)?;
+            paths.push(path_at(alloc, &homes, names, entry)?)?;
         }
         Ok(Paths { paths })
     }
