@@ -1,7 +1,7 @@
 //! The modules for which prefixes stand.
-ghost use Rattle.std.specs.Prelude.{◌≡◌, ℕ, List, true, map, codes, slice_get, IfOk};
+ghost use Rattle.std.specs.Prelude.{◌≡◌, List, map, slice_get, IfOk};
 ghost use Rattle.std.specs.Option.{option_and_then};
-ghost use Rattle.yv_rows.specs.Files.{Briefs, has_word};
+ghost use Rattle.yv_rows.specs.Files.{Briefs};
 ghost use Rattle.yv_rows.specs.Rows.{Row, row};
 ghost use Rattle.yv_rows.specs.Lent.{files_in, rows_in};
 ghost use Rattle.yv_rows.specs.Scopes.{module_of};

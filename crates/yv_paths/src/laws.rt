@@ -1,10 +1,10 @@
 //! Laws of the definitions alone.
-ghost use Rattle.std.specs.Prelude.{◌≡◌, ◌<◌, ◌≤◌, ◌+◌, ◌↔◌, ℕ, List, Some, codes, length, slice_get};
+ghost use Rattle.std.specs.Prelude.{◌≡◌, ◌<◌, ◌≤◌, ◌+◌, ◌↔◌, ℕ, List, Some, codes, length};
 ghost use Rattle.std.specs.Option.{option_map};
 ghost use Rattle.yv_rows.specs.Files.{Briefs};
 ghost use Rattle.yv_rows.specs.Names.{local_of};
 ghost use Rattle.yv_rows.specs.Rows.{Row};
-ghost use Rattle.yv_paths.specs.Names.{node_name, number_of, number_at, qualified};
+ghost use Rattle.yv_paths.specs.Names.{number_of, number_at, qualified};
 ghost use Rattle.yv_paths.specs.Paths.{home_of, step_of, step_number};
 
 /// Two names have one number only if they are one.
@@ -14,7 +14,8 @@ pub fn a_number_has_one_name()
 
 /// The node of each statement has a numbered name, and so have an operation's input and output.
 pub fn names_are_numbered()
-    ensures numbers { (rows : List Row) (statement : ℕ) → statement < length rows → (number : ℕ) × (number_at rows statement ≡ Some number) }
+    ensures numbers { (rows : List Row) (statement : ℕ) → statement < length rows
+        → (number : ℕ) × (number_at rows statement ≡ Some number) }
     ensures input { (rows : List Row) → (number : ℕ) × (number_of rows (codes "input") ≡ Some number) }
     ensures output { (rows : List Row) → (number : ℕ) × (number_of rows (codes "output") ≡ Some number) }
     ensures within { (rows : List Row) (name : List ℕ) (number : ℕ) → number_of rows name ≡ Some number → number < length rows + 2 }

@@ -1,5 +1,5 @@
 //! Names of schema nodes as numbers.
-ghost use Rattle.std.specs.Prelude.{◌≡◌, ◌≤◌, ◌+◌, ℕ, List, None, Some, map, codes, length, slice_get, IfOk, OnOk};
+ghost use Rattle.std.specs.Prelude.{◌≡◌, ◌≤◌, ℕ, List, None, Some, map, codes, length, slice_get, IfOk, OnOk};
 ghost use Rattle.yv_rows.specs.Rows.{Row};
 ghost use Rattle.yv_rows.specs.Lent.{rows_in};
 ghost use Rattle.yv_paths.specs.Names.{node_name, own_names, place_of, number_of, number_at};

@@ -1,5 +1,5 @@
 //! A step of a schema path.
-ghost use Rattle.std.specs.Prelude.{◌≡◌, ℕ, List};
+ghost use Rattle.std.specs.Prelude.{◌≡◌};
 ghost use Rattle.yv_paths.specs.Names.{qualified};
 
 /// A step of a schema path as numbers (RFC 7950, section 6.5).

@@ -56,7 +56,7 @@ fit_by None t = false
 fit_by (Some r) None = false
 fit_by (Some r) (Some t) = is_fit r.head.keyword t
 
--- the numbered refine is fit for the node at a place
+-- the numbered refine is fit for the node at a place; an operation's part that isn't written takes what its operation takes
 abbrev pub is_fit_for : Files → (refine : ℕ) → Place → Bool
 is_fit_for files n p = fit_by (slice_get (rows_of files) (number_of p.origin)) (slice_get (statements_of files) n)
 

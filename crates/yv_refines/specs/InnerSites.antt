@@ -31,7 +31,8 @@ abbrev pub sites : List Row → (file group : ℕ) → Option ℕ → (first : �
 sites rows file g parent first none = []
 sites rows file g parent first (item k below behind) =
     record { group = g; parent = parent; place = record { file = file; number = first; origin = k; below = below } }
-    ∷ sites rows file (inside rows g first (number_of k)) (Some first) (first + 1) below ++ sites rows file g parent (first + 1 + count below) behind
+    ∷ sites rows file (inside rows g first (number_of k)) (Some first) (first + 1) below
+    ++ sites rows file g parent (first + 1 + count below) behind
 
 abbrev pub sites_from : List Row → (file first : ℕ) → List Tree → List Site
 sites_from rows file first [] = []

@@ -41,7 +41,9 @@ target files rows p n = target_by files rows p (slice_get rows n)
 -- what the refines of one place mean, in the order of their statements; there are none but at a uses
 abbrev pub refined_at : Briefs → List Row → Place → List Refined
 refined_at files rows p =
-    if is_at is_uses rows (number_of p.origin) then map (λ n. record { refine = n; target = target files rows p n }) (refines_in rows (number_of p.origin)) else []
+    if is_at is_uses rows (number_of p.origin)
+    then map (λ n. record { refine = n; target = target files rows p n }) (refines_in rows (number_of p.origin))
+    else []
 
 -- what those of all places mean, from the last place to the first, so that those of an inner uses come before those of an outer one
 abbrev pub refined_by : Briefs → List Row → List Place → List Refined

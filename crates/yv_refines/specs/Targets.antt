@@ -26,7 +26,9 @@ is_uses r = has_word (codes "uses") r.head
 abbrev pub nodes : List Row → (file first : ℕ) → Tree → List Place
 nodes rows file first none = []
 nodes rows file first (item k below behind) =
-    (if is_at is_uses rows (number_of k) then nodes rows file (first + 1) below else record { file = file; number = first; origin = k; below = below } ∷ [])
+    (if is_at is_uses rows (number_of k)
+    then nodes rows file (first + 1) below
+    else record { file = file; number = first; origin = k; below = below } ∷ [])
     ++ nodes rows file (first + 1 + count below) behind
 
 -- the name of the node that an item is; an operation's part that isn't written has one, too (RFC 7950, section 7.14)
@@ -47,4 +49,5 @@ is_named test rows origin = is_name test (name_at rows origin)
 abbrev pub ended : List Row → ((step name : List ℕ) → Bool) → List (List ℕ) → Place → Option Place
 ended rows answers [] p = Some p
 ended rows answers (s ∷ ss) p =
-    option_and_then (λ q. ended rows answers ss q) (find (λ q. is_named (answers s) rows q.origin) (nodes rows p.file (p.number + 1) p.below))
+    option_and_then (λ q. ended rows answers ss q)
+    (find (λ q. is_named (answers s) rows q.origin) (nodes rows p.file (p.number + 1) p.below))

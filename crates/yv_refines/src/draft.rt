@@ -1,5 +1,5 @@
 //! What has been noted of refines.
-ghost use Rattle.std.specs.Prelude.{◌≡◌, ℕ, ◌++◌, [], ◌∷◌, List, Option, Some, map, length, slice_get, OnOk, IfOk};
+ghost use Rattle.std.specs.Prelude.{◌≡◌, ◌++◌, [], ◌∷◌, List, Option, Some, map, length, slice_get, OnOk, IfOk};
 ghost use Rattle.yv_statement.specs.Order.{IsLesser};
 ghost use Rattle.yv_rows.specs.Files.{Files, home_at};
 ghost use Rattle.yv_rows.specs.Rows.{Row};

@@ -71,8 +71,8 @@ pub struct Refines {
 impl Refines {
     /// Finds the node that each refine means below its uses (RFC 7950, section 7.13.2), where each step of a path is answered
     /// by the first node of its name. The items must be those of an expansion of these files, with one tree a file. Takes time
-    /// n log n in statements, items and refines, a refine being counted once for each copy of its uses. Err for want of memory
-    /// alone.
+    /// n log n in statements, items and refines, a refine being counted once for each copy of its uses. Err for want of memory,
+    /// and where there are more than 2 to the 32 less 3 statements.
     pub fn read(alloc: Global, rows: &Rows<'_, '_>, items: &[Item]) -> Result<Refines, AllocError>
         ensures { IfOk result (λ refines. (trees : List Tree) → IsListed (lent_in rows.now) items.now trees
             → AreRefines (lent_in rows.now) trees refines) }

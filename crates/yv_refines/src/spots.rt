@@ -1,5 +1,5 @@
 //! What is kept of each item.
-ghost use Rattle.std.specs.Prelude.{◌≡◌, ℕ, List, map, IfOk, slice_get};
+ghost use Rattle.std.specs.Prelude.{◌≡◌, List, map, IfOk, slice_get};
 ghost use Rattle.std.specs.Option.{unwrap_or};
 ghost use Rattle.yv_rows.specs.Files.{Briefs};
 ghost use Rattle.yv_rows.specs.Lent.{files_in, rows_in};
