@@ -1,16 +1,16 @@
 -- Items that are filed are those of a block or of a file.
-use Rattle.std.proofs.Common.{◌≡◌, ℕ, ◌+◌, ◌<◌, ◌≤◌, ◌==◌, inl, inr, zero, suc, Bool, true, false, not, ◌&&◌, if◌then◌else◌, List, [], ◌++◌, length, refl, sym, ◌∙◌, ap, subst, arith, Option, Some, None, eq-eqb}
-use Rattle.std.specs.List.{slice_get, slice_index_or}
+use Rattle.std.proofs.Common.{◌≡◌, ℕ, ◌+◌, ◌<◌, ◌≤◌, ◌==◌, inl, inr, zero, suc, Bool, true, false, not, ◌&&◌, cond, if◌then◌else◌, List, [], ◌∷◌, ◌++◌, length, refl, sym, ◌∙◌, ap, arith, Option, Some, None, eq-eqb}
+use Rattle.std.specs.List.{slice_get, slice_index_or, filter, flat_map}
+use Rattle.std.specs.Option.{option_map, unwrap_or}
 use Rattle.std.proofs.lemmas.Bool.{eqb-true}
-use Rattle.std.proofs.lemmas.Option.{slice_get_cases}
+use Rattle.std.proofs.lemmas.Option.{slice_get_cases, slice_get_within}
 use Rattle.yv_rows.specs.Files.{Briefs, home_at}
 use Rattle.yv_rows.specs.Rows.{Row}
-use Rattle.yv_units.specs.Weigh.{block_of, top_of, stands_in}
+use Rattle.yv_units.specs.Weigh.{block_of, top_of, stands_in, numbers_from}
 use Rattle.yv_units.specs.Limit.{given_at, given_before}
-use Rattle.yv_expansion.specs.Tree.{Tree}
-use Rattle.yv_expand.specs.Expands.{Expands, is_item}
-use Rattle.yv_expand.specs.InnerItems.{Lists, ArePlaced, Give, no_more, is_place, item_place, top_place, placed_from, numbers_at, numbers_in, top_at, tops_before}
-use Rattle.yv_expand.proofs.Giving.{give_both, halves, items_give, none_whole}
+use Rattle.yv_expand.specs.Expands.{is_item, is_augment, is_at, those, augmented}
+use Rattle.yv_expand.specs.InnerItems.{Lists, ArePlaced, is_place, block_place, top_place, placed_from, numbers_at, numbers_in, top_at, tops_before}
+use Rattle.yv_expand.proofs.Giving.{passing}
 
 both_false : (b : Bool) → false ≡ (b && false)
 both_false true = refl
@@ -20,9 +20,9 @@ both_same : (b : Bool) → b ≡ (b && true)
 both_same true = refl
 both_same false = refl
 
--- an item's place is its block
-block_same : (b k : ℕ) (r : Row) → is_place b (item_place k r) ≡ (is_item r && stands_in b k r)
-block_same b k r = by (is_item r) (not (r.scope == k))
+-- the place of a statement that passes is its block
+block_same : (test : Row → Bool) (b k : ℕ) (r : Row) → is_place b (block_place test k r) ≡ (test r && stands_in b k r)
+block_same test b k r = by (test r) (not (r.scope == k))
   where
     by : (i n : Bool) → is_place b (if i && n then Some r.scope else None) ≡ (i && ((r.scope == b) && n))
     by false n = refl
@@ -58,33 +58,81 @@ placed_at place rows count p lists placed within = elim (slice_get_cases lists p
   | inr (past, none) ↦ absurd (omega (arith, past, within, placed.each))
 ]
 
+-- those of several lists
+those_both : (test : Row → Bool) (rows : List Row) (xs ys : List ℕ) → those test rows (xs ++ ys) ≡ those test rows xs ++ those test rows ys
+those_both test rows [] ys = refl
+those_both test rows (x ∷ xs) ys = by (is_at test rows x) (those_both test rows xs ys)
+  where
+    by : (b : Bool) → those test rows (xs ++ ys) ≡ those test rows xs ++ those test rows ys
+        → cond b (x ∷ those test rows (xs ++ ys)) (those test rows (xs ++ ys)) ≡ cond b (x ∷ those test rows xs) (those test rows xs) ++ those test rows ys
+    by true e = ap (λ (l : List ℕ). x ∷ l) e
+    by false e = e
+
 module _ (files : Briefs) (rows : List Row) where
   whole_stands : (i : ℕ) (r : Row) → slice_get rows i ≡ Some r → slice_get rows (0 + i) ≡ Some r
   whole_stands i r h = let place : i ≡ 0 + i = omega arith in ap (slice_get rows) (sym place) ∙ h
 
-  -- the items of a block give what its statements give
-  pub block_gives : (lists : Lists) (b : ℕ) (t : Tree) → ArePlaced item_place rows (length rows) lists → b < length rows → Expands files rows (block_of rows b) t → Give files rows (numbers_at lists b) t
-  block_gives lists b t placed within e =
-      subst (λ (l : List ℕ). Give files rows l t) (sym (placed_at item_place rows (length rows) b lists placed within))
-      (items_give files rows (stands_in b) (λ k r. is_place b (item_place k r)) (block_same b) 0 rows whole_stands t e)
+  -- the first statement, if it passes both tests
+  one_passes : (t : ℕ → Bool) (n : ℕ) (a b : Bool) (passing others : List ℕ) → t n ≡ a → passing ≡ filter t others
+      → (if a && b then n ∷ passing else passing) ≡ filter t (if b then n ∷ others else others)
+  one_passes t n a false passing others is same = ap (λ (c : Bool). if c then n ∷ passing else passing) (sym (both_false a)) ∙ same
+  one_passes t n true true passing others is same = ap (λ (l : List ℕ). n ∷ l) same ∙ ap (λ (c : Bool). cond c (n ∷ filter t others) (filter t others)) (sym is)
+  one_passes t n false true passing others is same = same ∙ ap (λ (c : Bool). cond c (n ∷ filter t others) (filter t others)) (sym is)
 
-  -- and those at the top of a file
-  top_gives : (lists : Lists) (marks : List Bool) (file : ℕ) (t : Tree) → ArePlaced (top_place files) rows (length files) lists → file < length files
-      → Expands files rows (given_at files rows marks file) t → Give files rows (top_at lists marks file) t
-  top_gives lists marks file t placed within e = by (slice_index_or marks file false) e
+  -- the statements that pass two tests are those that pass the one among those that pass the other
+  pub those_numbers : (test : Row → Bool) (p q : ℕ → Row → Bool) → ((k : ℕ) (r : Row) → q k r ≡ (test r && p k r)) → (n : ℕ) (rs : List Row)
+      → ((i : ℕ) (r : Row) → slice_get rs i ≡ Some r → slice_get rows (n + i) ≡ Some r) → numbers_from q n rs ≡ those test rows (numbers_from p n rs)
+  those_numbers test p q same n [] stand = refl
+  those_numbers test p q same n (s ∷ rs) stand =
+      let here : n + 0 ≡ n = omega arith in
+      let at : slice_get rows n ≡ Some s = ap (slice_get rows) (sym here) ∙ stand 0 s refl in
+      let later : (i : ℕ) (r : Row) → slice_get rs i ≡ Some r → slice_get rows (n + 1 + i) ≡ Some r =
+      λ i r h. (let place : n + 1 + i ≡ n + suc i = omega arith in ap (slice_get rows) place ∙ stand (suc i) r h) in
+      ap (λ (b : Bool). if b then n ∷ numbers_from q (n + 1) rs else numbers_from q (n + 1) rs) (same n s)
+      ∙ one_passes (is_at test rows) n (test s) (p n s) (numbers_from q (n + 1) rs) (numbers_from p (n + 1) rs)
+      (ap (λ (o : Option Row). unwrap_or (option_map test o) false) at) (those_numbers test p q same (n + 1) rs later)
+
+  -- what is filed by block is those of the block
+  pub block_lists : (test : Row → Bool) (lists : Lists) (k : ℕ) → ArePlaced (block_place test) rows (length rows) lists → k < length rows
+      → numbers_at lists k ≡ those test rows (block_of rows k)
+  block_lists test lists k placed within =
+      placed_at (block_place test) rows (length rows) k lists placed within
+      ∙ those_numbers test (stands_in k) (λ j r. is_place k (block_place test j r)) (block_same test k) 0 rows whole_stands
+
+  -- what augments give is gathered from their blocks
+  pub given_lists : (own : Lists) → ((b : ℕ) → b < length rows → numbers_at own b ≡ those is_item rows (block_of rows b)) → (numbers : List ℕ)
+      → flat_map (numbers_at own) (those is_augment rows numbers) ≡ those is_item rows (augmented rows numbers)
+  given_lists own are [] = refl
+  given_lists own are (k ∷ ks) = by (is_at is_augment rows k) refl (given_lists own are ks)
     where
-      by : (b : Bool) → Expands files rows (if b then top_of files rows file else []) t → Give files rows (if b then numbers_at lists file else []) t
-      by true f =
-          subst (λ (l : List ℕ). Give files rows l t) (sym (placed_at (top_place files) rows (length files) file lists placed within))
-          (items_give files rows (λ k r. stands_in (home_at files file) k r && (r.file == file)) (λ k r. is_place file (top_place files k r)) (top_same files file) 0 rows whole_stands t f)
-      by false f = rw (none_whole files rows t f) no_more
+      by : (b : Bool) → is_at is_augment rows k ≡ b
+          → flat_map (numbers_at own) (those is_augment rows ks) ≡ those is_item rows (augmented rows ks)
+          → flat_map (numbers_at own) (cond b (k ∷ those is_augment rows ks) (those is_augment rows ks))
+          ≡ those is_item rows (flat_map (block_of rows) (cond b (k ∷ those is_augment rows ks) (those is_augment rows ks)))
+      by true is e =
+          let (r, at, passes) = passing files rows is_augment k is in
+          ap (λ (l : List ℕ). l ++ flat_map (numbers_at own) (those is_augment rows ks)) (are k (slice_get_within rows k r at))
+          ∙ ap (λ (l : List ℕ). those is_item rows (block_of rows k) ++ l) e
+          ∙ sym (those_both is_item rows (block_of rows k) (augmented rows ks))
+      by false isnt e = e
 
-  pub tops_give : (lists : Lists) (marks : List Bool) (n : ℕ) (t : Tree) → ArePlaced (top_place files) rows (length files) lists → n ≤ length files
-      → Expands files rows (given_before files rows marks n) t → Give files rows (tops_before lists marks n) t
-  tops_give lists marks zero t placed within e = rw (none_whole files rows t e) no_more
-  tops_give lists marks (suc n) t placed within e =
-      let (a, b, first, last, same) = halves files rows (given_before files rows marks n) (given_at files rows marks n) t e in
+  -- what is filed by file is the items at its top
+  top_list : (lists : Lists) (marks : List Bool) (file : ℕ) → ArePlaced (top_place files) rows (length files) lists → file < length files
+      → top_at lists marks file ≡ those is_item rows (given_at files rows marks file)
+  top_list lists marks file placed within = by (slice_index_or marks file false)
+    where
+      by : (b : Bool) → (if b then numbers_at lists file else []) ≡ those is_item rows (if b then top_of files rows file else [])
+      by true =
+          placed_at (top_place files) rows (length files) file lists placed within
+          ∙ those_numbers is_item (λ k r. stands_in (home_at files file) k r && (r.file == file)) (λ k r. is_place file (top_place files k r)) (top_same files file) 0 rows whole_stands
+      by false = refl
+
+  pub top_lists : (lists : Lists) (marks : List Bool) (n : ℕ) → ArePlaced (top_place files) rows (length files) lists → n ≤ length files
+      → tops_before lists marks n ≡ those is_item rows (given_before files rows marks n)
+  top_lists lists marks zero placed within = refl
+  top_lists lists marks (suc n) placed within =
       let before : n ≤ length files = omega (arith, within) in
       let here : n < length files = omega (arith, within) in
-      subst (λ (u : Tree). Give files rows (tops_before lists marks n ++ top_at lists marks n) u) (sym same)
-      (give_both files rows (tops_before lists marks n) (top_at lists marks n) a b (tops_give lists marks n a placed before first) (top_gives lists marks n b placed here last))
+      ap (λ (l : List ℕ). l ++ top_at lists marks n) (top_lists lists marks n placed before)
+      ∙ ap (λ (l : List ℕ). those is_item rows (given_before files rows marks n) ++ l) (top_list lists marks n placed here)
+      ∙ sym (those_both is_item rows (given_before files rows marks n) (given_at files rows marks n))

@@ -1,34 +1,39 @@
--- What statements give, their items alone, and those of several lists.
-use Rattle.std.proofs.Common.{◌≡◌, ℕ, ◌+◌, ◌⊎◌, inl, inr, zero, suc, Bool, true, false, ◌&&◌, if◌then◌else◌, List, [], ◌∷◌, ◌++◌, length, refl, sym, ◌∙◌, ap, subst, arith, Some}
+-- What statements give as items, and what several lists give.
+use Rattle.std.proofs.Common.{◌≡◌, ℕ, inl, inr, zero, suc, Bool, true, false, cond, List, [], ◌∷◌, ◌++◌, length, refl, sym, ◌∙◌, ap, subst, arith, Option, Some, None}
 use Rattle.std.specs.List.{slice_get}
+use Rattle.std.specs.Option.{option_map, unwrap_or}
 use Rattle.std.proofs.lemmas.Option.{same_Some}
 use Rattle.yv_rows.specs.Files.{Briefs}
 use Rattle.yv_rows.specs.Rows.{Row}
-use Rattle.yv_units.specs.Weigh.{numbers_from}
+use Rattle.yv_names.specs.Refers.{RefersTo}
+use Rattle.yv_units.specs.Weigh.{block_of}
 use Rattle.yv_units.specs.Limit.{given_at, given_before}
+use Rattle.yv_expansion.specs.declared.item.Origin.{Origin}
+use Rattle.yv_expansion.specs.declared.item.Origin.TheVariants.{Statement, Input, Output}
 use Rattle.yv_expansion.specs.Tree.{Tree, none, item, joined, all_of}
-use Rattle.yv_expand.specs.Expands.{Expands, nothing, other, node, uses, is_item}
-use Rattle.yv_expand.specs.InnerItems.{Give, no_more, one_more, StandsAbove}
+use Rattle.yv_expand.specs.Expands.{Expands, nothing, other, node, operation, uses, is_item, is_operation, is_input, is_output, is_at, those, first_of, part, part_block, input_of, output_of}
+use Rattle.yv_expand.specs.InnerItems.{Give, no_more, one_more, StandBelow, below_node, below_operation, below_uses, below_input, below_output, items_among, origins}
 use Rattle.yv_expand.proofs.Listing.{longer, pushed_at}
+use Rattle.yv_expand.proofs.Words.{false_true, operation_item, input_no_item, output_no_item, no_item_no_operation, input_not_named, output_not_named, named_no_operation}
+use Rattle.yv_expand.proofs.Referring.{refers_word}
 
 joined_none : (t : Tree) → joined t none ≡ t
 joined_none none = refl
-joined_none (item k below behind) = ap (item k below) (joined_none behind)
+joined_none (item o below behind) = ap (item o below) (joined_none behind)
 
 joined_assoc : (a b c : Tree) → joined (joined a b) c ≡ joined a (joined b c)
 joined_assoc none b c = refl
-joined_assoc (item k below behind) b c = ap (item k below) (joined_assoc behind b c)
+joined_assoc (item o below behind) b c = ap (item o below) (joined_assoc behind b c)
 
 all_pushed : (ts : List Tree) (t : Tree) → all_of (ts ++ t ∷ []) ≡ joined (all_of ts) t
 all_pushed [] t = joined_none t
 all_pushed (u ∷ ts) t = ap (joined u) (all_pushed ts t) ∙ sym (joined_assoc u (all_of ts) t)
 
-both_false : (b : Bool) → (b && false) ≡ false
-both_false true = refl
-both_false false = refl
-
 none_there : {u : Tree} (k : ℕ) → slice_get [] k ≡ Some u → ⊥
 none_there k at = cc
+
+none_some : {i : ℕ} → None ≡ Some i → ⊥
+none_some e = cc
 
 module _ (files : Briefs) (rows : List Row) where
   -- what two lists give
@@ -38,14 +43,20 @@ module _ (files : Briefs) (rows : List Row) where
   pub halves : (xs ys : List ℕ) (t : Tree) → Expands files rows (xs ++ ys) t → Halves xs ys t
   halves [] ys t e = (none, t, nothing, e, refl)
   halves (k ∷ xs) ys t (other at isnt e) = let (a, b, first, last, is) = halves xs ys t e in (a, b, other at isnt first, last, is)
-  halves (k ∷ xs) ys t (node {below = below} {behind = behind} at is without inner e) =
-      let (a, b, first, last, same) = halves xs ys behind e in (item k below a, b, node at is without inner first, last, ap (item k below) same)
-  halves (k ∷ xs) ys t (uses {below = below} {behind = behind} at is refers inner e) =
-      let (a, b, first, last, same) = halves xs ys behind e in (item k below a, b, uses at is refers inner first, last, ap (item k below) same)
+  halves (k ∷ xs) ys t (node {below = below} {behind = behind} at is simple without inner e) =
+      let (a, b, first, last, same) = halves xs ys behind e in
+      (item (Statement k) below a, b, node at is simple without inner first, last, ap (item (Statement k) below) same)
+  halves (k ∷ xs) ys t (operation {input = input} {output = output} {behind = behind} at is i o e) =
+      let (a, b, first, last, same) = halves xs ys behind e in
+      let parts : Tree = item (part (Input k) (input_of rows k)) input (item (part (Output k) (output_of rows k)) output none) in
+      (item (Statement k) parts a, b, operation at is i o first, last, ap (item (Statement k) parts) same)
+  halves (k ∷ xs) ys t (uses {copies = copies} {given = given} {behind = behind} at is refers inner more e) =
+      let (a, b, first, last, same) = halves xs ys behind e in
+      (item (Statement k) (joined copies given) a, b, uses at is refers inner more first, last, ap (item (Statement k) (joined copies given)) same)
 
-  pub give_both : (xs ys : List ℕ) (a b : Tree) → Give files rows xs a → Give files rows ys b → Give files rows (xs ++ ys) (joined a b)
+  pub give_both : (xs ys : List Origin) (a b : Tree) → Give files rows xs a → Give files rows ys b → Give files rows (xs ++ ys) (joined a b)
   give_both [] ys a b no_more h = h
-  give_both (k ∷ xs) ys a b (one_more {behind = behind} s g) h = one_more s (give_both xs ys behind b g h)
+  give_both (k ∷ xs) ys a b (one_more {behind = behind} s inner g) h = one_more s inner (give_both xs ys behind b g h)
 
   -- the trees of the first files
   abbrev pub TreesBefore : List Bool → ℕ → Tree → Type 0
@@ -71,52 +82,76 @@ module _ (files : Briefs) (rows : List Row) where
         same ∙ ap (λ (x : Tree). joined x b) whole ∙ sym (all_pushed trees b),
       )
 
-  -- the first of several statements: it gives nothing, or it is an item
-  abbrev IsFirst : ℕ → Row → List ℕ → Tree → Type 0
-  IsFirst k r others t =
-      ((is_item r ≡ false) × Expands files rows others t)
-      ⊎ ((is_item r ≡ true) × (below : Tree) × (behind : Tree) × (t ≡ item k below behind) × StandsAbove files rows k below × Expands files rows others behind)
+  -- a numbered statement that passes a test is one
+  abbrev pub Passing : (Row → Bool) → ℕ → Type 0
+  Passing test k = (r : Row) × (slice_get rows k ≡ Some r) × (test r ≡ true)
 
-  first_of_them : (k : ℕ) (r : Row) (others : List ℕ) (t : Tree) → slice_get rows k ≡ Some r → Expands files rows (k ∷ others) t → IsFirst k r others t
-  first_of_them k r others t at (other {r = s} at' isnt e) = inl (ap is_item (same_Some r s (sym at ∙ at')) ∙ isnt, e)
-  first_of_them k r others t at (node {r = s} {below = below} {behind = behind} at' is without inner e) =
-      inr (
-        ap is_item (same_Some r s (sym at ∙ at')) ∙ is,
-        below,
-        behind,
-        refl,
-        record { statement = s; at = at'; is = is; block = k; is_block = inr (without, refl); expands = inner },
-        e,
-      )
-  first_of_them k r others t at (uses {d = d} {r = s} {below = below} {behind = behind} at' is refers inner e) =
-      inr (
-        ap is_item (same_Some r s (sym at ∙ at')) ∙ is,
-        below,
-        behind,
-        refl,
-        record { statement = s; at = at'; is = is; block = d; is_block = inl refers; expands = inner },
-        e,
-      )
+  pub passing : (test : Row → Bool) (k : ℕ) → is_at test rows k ≡ true → Passing test k
+  passing test k h = by (slice_get rows k) refl
+    where
+      by : (o : Option Row) → slice_get rows k ≡ o → Passing test k
+      by None at = absurd (false_true (ap (λ (p : Option Row). unwrap_or (option_map test p) false) (sym at) ∙ h))
+      by (Some r) at = (r, at, ap (λ (p : Option Row). unwrap_or (option_map test p) false) (sym at) ∙ h)
 
-  -- the first statement, if it passes, and what the others give
-  one_gives : (q : Bool) (n : ℕ) (r : Row) (others passing : List ℕ) (t : Tree) → slice_get rows n ≡ Some r
-      → ((u : Tree) → Expands files rows others u → Give files rows passing u) → Expands files rows (if q then n ∷ others else others) t
-      → Give files rows (if is_item r && q then n ∷ passing else passing) t
-  one_gives true n r others passing t at give e = elim (first_of_them n r others t at e) [
-    | inl (isnt, more) ↦ rw isnt (give t more)
-    | inr (is, below, behind, tree, above, more) ↦ rw (is, tree) (one_more above (give behind more))
-  ]
-  one_gives false n r others passing t at give e = rw (both_false (is_item r)) (give t e)
+  pub first_passes : (test : Row → Bool) (numbers : List ℕ) (i : ℕ) → first_of test rows numbers ≡ Some i → Passing test i
+  first_passes test [] i e = absurd (none_some e)
+  first_passes test (k ∷ ks) i e = by (is_at test rows k) refl e (first_passes test ks i)
+    where
+      by : (b : Bool) → is_at test rows k ≡ b → slice_get (cond b (k ∷ those test rows ks) (those test rows ks)) 0 ≡ Some i
+          → (slice_get (those test rows ks) 0 ≡ Some i → Passing test i) → Passing test i
+      by true is f later = subst (Passing test) (same_Some k i f) (passing test k is)
+      by false isnt f later = later f
 
-  -- the items among the statements that pass give what these give
-  pub items_give : (p q : ℕ → Row → Bool) → ((k : ℕ) (r : Row) → q k r ≡ (is_item r && p k r)) → (n : ℕ) (rs : List Row)
-      → ((i : ℕ) (r : Row) → slice_get rs i ≡ Some r → slice_get rows (n + i) ≡ Some r) → (t : Tree)
-      → Expands files rows (numbers_from p n rs) t → Give files rows (numbers_from q n rs) t
-  items_give p q same n [] stand t e = rw (none_whole t e) no_more
-  items_give p q same n (s ∷ rs) stand t e =
-      let here : n + 0 ≡ n = omega arith in
-      let at : slice_get rows n ≡ Some s = ap (slice_get rows) (sym here) ∙ stand 0 s refl in
-      let later : (i : ℕ) (r : Row) → slice_get rs i ≡ Some r → slice_get rows (n + 1 + i) ≡ Some r =
-      λ i r h. (let place : n + 1 + i ≡ n + suc i = omega arith in ap (slice_get rows) place ∙ stand (suc i) r h) in
-      subst (λ (b : Bool). Give files rows (if b then n ∷ numbers_from q (n + 1) rs else numbers_from q (n + 1) rs) t) (sym (same n s))
-      (one_gives (p n s) n s (numbers_from p (n + 1) rs) (numbers_from q (n + 1) rs) t at (λ u f. items_give p q same (n + 1) rs later u f) e)
+  at_is : (test : Row → Bool) (k : ℕ) (r : Row) (b : Bool) → slice_get rows k ≡ Some r → test r ≡ b → is_at test rows k ≡ b
+  at_is test k r b at is = ap (λ (o : Option Row). unwrap_or (option_map test o) false) at ∙ is
+
+  item_past : (k : ℕ) (r : Row) (others : List ℕ) → slice_get rows k ≡ Some r → is_item r ≡ false → items_among rows (k ∷ others) ≡ items_among rows others
+  item_past k r others at isnt =
+      ap (λ (b : Bool). origins (cond b (k ∷ those is_item rows others) (those is_item rows others))) (at_is is_item k r false at isnt)
+
+  item_here : (k : ℕ) (r : Row) (others : List ℕ) → slice_get rows k ≡ Some r → is_item r ≡ true
+      → items_among rows (k ∷ others) ≡ Statement k ∷ items_among rows others
+  item_here k r others at is =
+      ap (λ (b : Bool). origins (cond b (k ∷ those is_item rows others) (those is_item rows others))) (at_is is_item k r true at is)
+
+  -- a part of an operation gives what stands in it
+  abbrev IsPart : ℕ → Type 0
+  IsPart i = (r : Row) × (slice_get rows i ≡ Some r) × (is_operation r ≡ false) × ((d : ℕ) → RefersTo files rows i d → ⊥)
+
+  abbrev PartGives : Origin → Tree → Type 0
+  PartGives origin t = (inner : List Origin) × StandBelow files rows origin inner × Give files rows inner t
+
+  part_gives : (unwritten : Origin) (o : Option ℕ) (t : Tree) → StandBelow files rows unwritten [] → ((i : ℕ) → o ≡ Some i → IsPart i)
+      → Give files rows (items_among rows (part_block rows o)) t → PartGives (part unwritten o) t
+  part_gives unwritten None t empty is g = ([], empty, g)
+  part_gives unwritten (Some i) t empty is g =
+      let (r, at, simple, without) = is i refl in (items_among rows (block_of rows i), below_node at simple without, g)
+
+  input_part : (k i : ℕ) → input_of rows k ≡ Some i → IsPart i
+  input_part k i e =
+      let (r, at, is) = first_passes is_input (block_of rows k) i e in
+      (r, at, no_item_no_operation r (input_no_item r is), λ d refers. input_not_named r is (refers_word files rows i d r at refers))
+
+  output_part : (k i : ℕ) → output_of rows k ≡ Some i → IsPart i
+  output_part k i e =
+      let (r, at, is) = first_passes is_output (block_of rows k) i e in
+      (r, at, no_item_no_operation r (output_no_item r is), λ d refers. output_not_named r is (refers_word files rows i d r at refers))
+
+  -- the items among statements give what these give
+  pub gives : {numbers : List ℕ} {t : Tree} → Expands files rows numbers t → Give files rows (items_among rows numbers) t
+  gives nothing = no_more
+  gives (other {k = k} {r = r} {others = others} {t = t} at isnt e) =
+      subst (λ (l : List Origin). Give files rows l t) (sym (item_past k r others at isnt)) (gives e)
+  gives (node {k = k} {r = r} {others = others} {below = below} {behind = behind} at is simple without b e) =
+      subst (λ (l : List Origin). Give files rows l (item (Statement k) below behind)) (sym (item_here k r others at is))
+      (one_more (below_node at simple without) (gives b) (gives e))
+  gives (operation {k = k} {r = r} {others = others} {input = input} {output = output} {behind = behind} at is i o e) =
+      let (inner, stand, given) = part_gives (Input k) (input_of rows k) input below_input (input_part k) (gives i) in
+      let (outer, stand_out, given_out) = part_gives (Output k) (output_of rows k) output below_output (output_part k) (gives o) in
+      let parts : Tree = item (part (Input k) (input_of rows k)) input (item (part (Output k) (output_of rows k)) output none) in
+      subst (λ (l : List Origin). Give files rows l (item (Statement k) parts behind)) (sym (item_here k r others at (operation_item r is)))
+      (one_more (below_operation at is) (one_more stand given (one_more stand_out given_out no_more)) (gives e))
+  gives (uses {k = k} {d = d} {r = r} {others = others} {copies = copies} {given = given} {behind = behind} at is refers b g e) =
+      let simple : is_operation r ≡ false = named_no_operation r (refers_word files rows k d r at refers) in
+      subst (λ (l : List Origin). Give files rows l (item (Statement k) (joined copies given) behind)) (sym (item_here k r others at is))
+      (one_more (below_uses at simple refers) (give_both _ _ copies given (gives b) (gives g)) (gives e))

@@ -5,6 +5,7 @@ pub mod Referring
 pub mod Once
 pub mod Giving
 pub mod Filing
+pub mod Standing
 pub mod Pending
 pub mod Stacking
 pub mod Expanding

@@ -10,8 +10,9 @@ use Rattle.yv_statement.specs.declared.refusal.Code.TheVariants as code
 use Rattle.yv_statement.proofs.Least.{up_to_trans}
 use Rattle.yv_rows.specs.Rows.{Row}
 use Rattle.yv_names.specs.Refers.{is_uses}
-use Rattle.yv_expansion.specs.Tree.{Tree, none, item, count, listed}
-use Rattle.yv_expansion.specs.declared.item.Item.{Item}
+use Rattle.yv_expansion.specs.declared.item.Origin.{Origin}
+use Rattle.yv_expansion.specs.Origin.{number_of}
+use Rattle.yv_expansion.specs.Tree.{Tree, Item, none, item, count, listed}
 use Rattle.yv_expand.specs.TooDeep.{TooDeep, here, below_node, below_uses, beside}
 use Rattle.yv_expand.specs.InnerLevels.{HasDepth, deeper, depth_below, fault_at}
 use Rattle.yv_expand.proofs.Listing.{longer, rest_of}
@@ -54,14 +55,15 @@ module _ (rows : List Row) where
   deep_back depth false t f d = absurd (past_deep 130 t f (omega arith) d)
 
   -- at an item, below it, or behind it
-  abbrev AtItem : ℕ → ℕ → Tree → Tree → Refusal → Type 0
+  abbrev AtItem : ℕ → Origin → Tree → Tree → Refusal → Type 0
   AtItem depth k below behind f =
-      (fault_at (slice_get rows k) depth ≡ Some f) ⊎ (TooDeep rows (depth_below (slice_get rows k) depth) below f ⊎ TooDeep rows depth behind f)
+      (fault_at (slice_get rows (number_of k)) depth ≡ Some f)
+      ⊎ (TooDeep rows (depth_below (slice_get rows (number_of k)) depth) below f ⊎ TooDeep rows depth behind f)
 
   fault_here : (r : Row) (depth : ℕ) (f : Refusal) → is_uses r ≡ false → depth ≡ 129 → f ≡ refusal_at code.TreeTooDeep r.file r.head → fault_at (Some r) depth ≡ Some f
   fault_here r depth f isnt is e = rw (isnt, is) (ap Some (sym e))
 
-  at_item : (depth k : ℕ) (below behind : Tree) (f : Refusal) → TooDeep rows depth (item k below behind) f → AtItem depth k below behind f
+  at_item : (depth : ℕ) (k : Origin) (below behind : Tree) (f : Refusal) → TooDeep rows depth (item k below behind) f → AtItem depth k below behind f
   at_item depth k below behind f (here r at isnt is e) = inl (ap (λ (o : Option Row). fault_at o depth) at ∙ fault_here r depth f isnt is e)
   at_item depth k below behind f (below_node r at isnt d) =
       let told : TooDeep rows (depth_below (Some r) depth) below f = rw isnt (deep_further depth (nat_lt depth 129) below f refl d) in
@@ -79,7 +81,7 @@ module _ (rows : List Row) where
   not_true true h = absurd (false_true h)
   not_true false h = refl
 
-  deep_here : (depth k : ℕ) (below behind : Tree) (f : Refusal) (o : Option Row) → slice_get rows k ≡ o → fault_at o depth ≡ Some f → TooDeep rows depth (item k below behind) f
+  deep_here : (depth : ℕ) (k : Origin) (below behind : Tree) (f : Refusal) (o : Option Row) → slice_get rows (number_of k) ≡ o → fault_at o depth ≡ Some f → TooDeep rows depth (item k below behind) f
   deep_here depth k below behind f None at e = absurd (let bad : None ≡ Some f = e in cc)
   deep_here depth k below behind f (Some r) at e = by ((depth == 129) && not (is_uses r)) refl e
     where
@@ -89,7 +91,7 @@ module _ (rows : List Row) where
           here r at (not_true (is_uses r) node) (eqb-true depth 129 level) (sym (same_Some (refusal_at code.TreeTooDeep r.file r.head) f g))
       by false is g = absurd (let bad : None ≡ Some f = g in cc)
 
-  deep_inside : (depth k : ℕ) (below behind : Tree) (f : Refusal) (o : Option Row) → slice_get rows k ≡ o → TooDeep rows (depth_below o depth) below f → TooDeep rows depth (item k below behind) f
+  deep_inside : (depth : ℕ) (k : Origin) (below behind : Tree) (f : Refusal) (o : Option Row) → slice_get rows (number_of k) ≡ o → TooDeep rows (depth_below o depth) below f → TooDeep rows depth (item k below behind) f
   deep_inside depth k below behind f None at d = absurd (past_deep 130 below f (omega arith) d)
   deep_inside depth k below behind f (Some r) at d = by (is_uses r) refl d
     where
@@ -97,9 +99,9 @@ module _ (rows : List Row) where
       by true is e = below_uses r at is e
       by false is e = below_node r at is (deep_back depth (nat_lt depth 129) below f e)
 
-  from_item : (depth k : ℕ) (below behind : Tree) (f : Refusal) → AtItem depth k below behind f → TooDeep rows depth (item k below behind) f
-  from_item depth k below behind f (inl e) = deep_here depth k below behind f (slice_get rows k) refl e
-  from_item depth k below behind f (inr (inl d)) = deep_inside depth k below behind f (slice_get rows k) refl d
+  from_item : (depth : ℕ) (k : Origin) (below behind : Tree) (f : Refusal) → AtItem depth k below behind f → TooDeep rows depth (item k below behind) f
+  from_item depth k below behind f (inl e) = deep_here depth k below behind f (slice_get rows (number_of k)) refl e
+  from_item depth k below behind f (inr (inl d)) = deep_inside depth k below behind f (slice_get rows (number_of k)) refl d
   from_item depth k below behind f (inr (inr d)) = beside d
 
   none_deep : (depth : ℕ) (f : Refusal) → TooDeep rows depth none f → ⊥
@@ -109,7 +111,7 @@ module _ (rows : List Row) where
   record Front (depths : List ℕ) (i : ℕ) (x : Item) (xs : List Item) (parts : Parts) : Type 0 where
     pub parent : Option ℕ
     pub depth : ℕ
-    pub origin : ℕ
+    pub origin : Origin
     pub below : Tree
     pub behind : Tree
     pub others : Parts
@@ -239,8 +241,8 @@ module _ (rows : List Row) where
   by_itself (x ∷ xs) = inr (refl, by_itself xs)
 
   pub looking_next : (items : List Item) (whole : Tree) (i : ℕ) (x : Item) (depth level : ℕ) (least fault next : Option Refusal) (depths depths' : List ℕ)
-      → slice_get items i ≡ Some x → ((d : ℕ) → HasDepth depths x.parent d → depth ≡ d) → fault ≡ fault_at (slice_get rows x.origin) depth
-      → level ≡ depth_below (slice_get rows x.origin) depth → IsLesser least fault next → depths' ≡ depths ++ level ∷ []
+      → slice_get items i ≡ Some x → ((d : ℕ) → HasDepth depths x.parent d → depth ≡ d) → fault ≡ fault_at (slice_get rows (number_of x.origin)) depth
+      → level ≡ depth_below (slice_get rows (number_of x.origin)) depth → IsLesser least fault next → depths' ≡ depths ++ level ∷ []
       → Looking items whole i depths least → Looking items whole (i + 1) depths' next
   looking_next items whole i x depth level least fault next depths depths' at told fault_is level_is lesser more old =
       let r : Front depths i x (drop (i + 1) items) old.parts = front depths i x (drop (i + 1) items) old.parts (sym (rest_of items i x at) ∙ old.rest) in
@@ -248,10 +250,10 @@ module _ (rows : List Row) where
       let parent : x.parent ≡ r.parent = ap (λ (y : Item). y.parent) r.first in
       let origin : x.origin ≡ r.origin = ap (λ (y : Item). y.origin) r.first in
       let here : depth ≡ r.depth = told r.depth (subst (λ (p : Option ℕ). HasDepth depths p r.depth) (sym parent) known.0) in
-      let fault_so : fault ≡ fault_at (slice_get rows r.origin) r.depth =
-      fault_is ∙ ap (λ (n : ℕ). fault_at (slice_get rows n) depth) origin ∙ ap (λ (n : ℕ). fault_at (slice_get rows r.origin) n) here in
-      let level_so : level ≡ depth_below (slice_get rows r.origin) r.depth =
-      level_is ∙ ap (λ (n : ℕ). depth_below (slice_get rows n) depth) origin ∙ ap (λ (n : ℕ). depth_below (slice_get rows r.origin) n) here in
+      let fault_so : fault ≡ fault_at (slice_get rows (number_of r.origin)) r.depth =
+      fault_is ∙ ap (λ (o : Origin). fault_at (slice_get rows (number_of o)) depth) origin ∙ ap (λ (n : ℕ). fault_at (slice_get rows (number_of r.origin)) n) here in
+      let level_so : level ≡ depth_below (slice_get rows (number_of r.origin)) r.depth =
+      level_is ∙ ap (λ (o : Origin). depth_below (slice_get rows (number_of o)) depth) origin ∙ ap (λ (n : ℕ). depth_below (slice_get rows (number_of r.origin)) n) here in
       let parts : Parts = part (Some i) level r.below (part r.parent r.depth r.behind r.others) in
       let up : (f : Refusal) → AtItem r.depth r.origin r.below r.behind f → TooDeep rows 1 whole f =
       λ f a. old.within f (r.from f (inl (from_item r.depth r.origin r.below r.behind f a))) in

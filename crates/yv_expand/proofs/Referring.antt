@@ -1,27 +1,21 @@
 -- A statement refers to one definition, which is a statement too.
 use Rattle.std.proofs.Common.{◌≡◌, ℕ, ◌<◌, ◌⊎◌, inl, inr, Bool, true, false, ◌&&◌, not, List, length, refl, sym, ◌∙◌, ap, codes, Option, Some, None}
+use Rattle.std.specs.List.{slice_get}
 use Rattle.std.specs.Str.{bytes_eq}
 use Rattle.std.proofs.lemmas.Option.{same_Some, slice_get_within}
-use Rattle.std.proofs.lemmas.Slice.Eq.{bytes_eq-Decides}
-use Rattle.yv_statement.specs.Tree.{Head}
 use Rattle.yv_rows.specs.Names.{local_of}
-use Rattle.yv_rows.specs.Files.{Briefs, has_word}
+use Rattle.yv_rows.specs.Files.{Briefs}
 use Rattle.yv_rows.specs.Rows.{Row, name_in}
 use Rattle.yv_rows.specs.Scopes.{MeansFrom, MeansIn, start_of}
 use Rattle.yv_rows.specs.declared.kind.Kind.{Kind}
 use Rattle.yv_rows.specs.declared.kind.Kind.TheVariants.{Prefix, Include, Typedef, Grouping, Feature, Identity, Extension}
 use Rattle.yv_names.specs.BuiltIn.{is_built_in}
 use Rattle.yv_names.specs.Refers.{RefersTo, is_type, is_uses, names_one}
+use Rattle.yv_expand.specs.Expands.{is_operation}
+use Rattle.yv_expand.proofs.Words.{word_is, false_true, named_no_operation}
 
 abbrev pub MeansOne : Type 0
 MeansOne = (files : Briefs) (rows : List Row) (kind : Kind) (number : ℕ) (name : List ℕ) (d e : Option ℕ) → MeansIn files rows kind number name d → MeansIn files rows kind number name e → d ≡ e
-
--- a statement has one keyword
-word_is : (head : Head) (u : List ℕ) → has_word u head ≡ true → head.keyword ≡ u
-word_is head u h = (bytes_eq-Decides head.keyword u).0 h
-
-false_true : false ≡ true → ⊥
-false_true h = cc
 
 type_or_uses : (r : Row) → is_type r ≡ true → is_uses r ≡ true → ⊥
 type_or_uses r t u = false_true (ap (λ (w : List ℕ). bytes_eq w (codes "uses")) (sym (word_is r.head (codes "type") t)) ∙ u)
@@ -61,3 +55,17 @@ meant_within files rows k d (kind, h) = by (start_of files rows k (name_in h.sta
     by : (o : Option ℕ) → MeansFrom kind rows (local_of (name_in h.statement)) o (Some d) → d < length rows
     by None e = absurd (let bad : Some d ≡ None = e in cc)
     by (Some block) m = slice_get_within rows d m.0.2.0 m.0.2.1
+
+-- what refers to a definition is a type or a uses
+pub refers_word : (files : Briefs) (rows : List Row) (k d : ℕ) (r : Row) → slice_get rows k ≡ Some r → RefersTo files rows k d → (is_type r ≡ true) ⊎ (is_uses r ≡ true)
+refers_word files rows k d r at (kind, h) =
+    let same : h.statement ≡ r = same_Some h.statement r (sym h.at ∙ at) in
+    elim (named_kind kind h.statement h.names) [
+      | inl (e, t) ↦ inl (ap is_type (sym same) ∙ t)
+      | inr (e, u) ↦ inr (ap is_uses (sym same) ∙ u)
+    ]
+
+-- so no operation does
+pub operation_refers : (files : Briefs) (rows : List Row) (k d : ℕ) (r : Row) → slice_get rows k ≡ Some r → is_operation r ≡ true → RefersTo files rows k d → ⊥
+operation_refers files rows k d r at is refers =
+    false_true (sym (named_no_operation r (refers_word files rows k d r at refers)) ∙ is)

@@ -4,8 +4,7 @@ use Rattle.yv_rows.specs.Files.{Files, Briefs, brief_of}
 use Rattle.yv_rows.specs.Rows.{Row}
 use Rattle.yv_rows.specs.Listed.{rows_of}
 use Rattle.yv_units.specs.Limit.{given_at}
-use Rattle.yv_expansion.specs.Tree.{Tree, all_of, listed}
-use Rattle.yv_expansion.specs.declared.item.Item.{Item}
+use Rattle.yv_expansion.specs.Tree.{Tree, Item, all_of, listed}
 use Rattle.yv_expand.specs.Expands.{Expands}
 
 -- a tree for each file: what the statements at its top give; a file that isn't given has none

@@ -5,23 +5,24 @@ ghost use Rattle.yv_statement.specs.Order.{IsLeast};
 ghost use Rattle.yv_rows.specs.Rows.{row};
 ghost use Rattle.yv_rows.specs.Lent.{rows_in};
 ghost use Rattle.yv_names.specs.Refers.{is_uses};
+ghost use Rattle.yv_expansion.specs.Origin.{number_of};
 ghost use Rattle.yv_expansion.specs.Tree.{Tree, all_of, listed};
 ghost use Rattle.yv_expand.specs.TooDeep.{TooDeep};
 ghost use Rattle.yv_expand.specs.InnerLevels.{HasDepth, deeper, depth_below, fault_at};
 
 use std::alloc::{AllocError, Global};
-use yv_expansion::{Expansion, Item};
+use yv_expansion::{Expansion, Origin};
 use yv_rows::{Entry, Rows};
 use yv_statement::{Code, Refusal, lesser, refused};
 
 // The least depth that is refused.
 const TOO_DEEP: u32 = 129;
 
-// The statement of a number.
-fn entry_at<'r, 'a, 'b>(rows: &'r Rows<'a, 'b>, number: usize) -> Option<&'r Entry<'a, 'b>>
-    ensures { option_map (λ e. row e.now) result ≡ slice_get (rows_in rows.now) number }
+// The statement that gives an item.
+fn entry_of<'r, 'a, 'b>(rows: &'r Rows<'a, 'b>, origin: Origin) -> Option<&'r Entry<'a, 'b>>
+    ensures { option_map (λ e. row e.now) result ≡ slice_get (rows_in rows.now) (number_of origin) }
 {
-    rows.entries().get(number)
+    rows.entries().get(origin.number())
 }
 
 // Whether a statement is a uses.
@@ -84,7 +85,7 @@ pub fn first_too_deep(
     let mut depths = Vec::new(alloc);
     let mut least = None;
     for item in expansion.items() {
-        let entry = entry_at(rows, item.origin);
+        let entry = entry_of(rows, item.origin);
         let depth = depth_of(&depths, item.parent);
         least = lesser(least, fault_at(entry, depth));
         depths.push(depth_below(entry, depth))?;

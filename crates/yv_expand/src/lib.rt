@@ -1,8 +1,9 @@
 //! The expansion of files within a limit: each schema node that their statements give, with copies of what stands in
-//! groupings below each uses, as one list (RFC 7950, sections 7.12 and 7.13), and the schema nodes that stand too deep
-//! in it. All takes time linear in statements and items, but for one look-up of a name for each file.
+//! groupings and what augments give below each uses, as one list (RFC 7950, sections 7.12, 7.13 and 7.17), and the schema
+//! nodes that stand too deep in it. All takes time linear in statements and items, but for one look-up of a name for each file.
 #![tactic(auto)]
 
+mod blocks;
 mod deep;
 pub mod laws;
 mod lists;

@@ -1,9 +1,9 @@
-//! Items by the block or by the file in which they stand.
+//! Statements by the block or by the file in which they stand.
 ghost use Rattle.std.specs.Prelude.{◌≡◌, false, length, if◌then◌else◌, slice_index_or, IfOk};
 ghost use Rattle.yv_rows.specs.Files.{Briefs};
 ghost use Rattle.yv_rows.specs.Rows.{row};
 ghost use Rattle.yv_rows.specs.Lent.{files_in, rows_in};
-ghost use Rattle.yv_expand.specs.InnerItems.{AreEmpty, AreHomes, ArePlaced, item_place, top_place, numbers_at, top_at, tops_before};
+ghost use Rattle.yv_expand.specs.InnerItems.{AreEmpty, AreHomes, ArePlaced, block_place, is_wanted, top_place, numbers_at, top_at, tops_before};
 
 use crate::own::is_item;
 use std::alloc::{AllocError, Global};
@@ -20,11 +20,33 @@ fn no_lists(alloc: Global, count: usize) -> Result<Vec<Vec<usize>>, AllocError>
     Ok(lists)
 }
 
-// The block in which an item stands.
-fn item_place(number: usize, entry: &Entry<'_, '_>) -> Option<usize>
-    ensures { result ≡ item_place number (row entry.now) }
+/// Which statements are listed.
+#[derive(Clone, Copy)]
+pub(crate) enum Wanted {
+    /// Those that are items.
+    Items,
+    Inputs,
+    Outputs,
+    Augments,
+}
+
+// Whether a statement is one of those that are wanted.
+fn is_wanted(wanted: Wanted, entry: &Entry<'_, '_>) -> bool
+    ensures { result ≡ is_wanted wanted (row entry.now) }
 {
-    if is_item(entry) && entry.scope != number {
+    match wanted {
+        Wanted::Items => is_item(entry),
+        Wanted::Inputs => entry.statement.keyword() == "input",
+        Wanted::Outputs => entry.statement.keyword() == "output",
+        Wanted::Augments => entry.statement.keyword() == "augment",
+    }
+}
+
+// The block in which a statement stands that is wanted.
+fn block_place(wanted: Wanted, number: usize, entry: &Entry<'_, '_>) -> Option<usize>
+    ensures { result ≡ block_place (is_wanted wanted) number (row entry.now) }
+{
+    if is_wanted(wanted, entry) && entry.scope != number {
         Some(entry.scope)
     } else {
         None
@@ -56,18 +78,19 @@ fn top_place(homes: &[usize], number: usize, entry: &Entry<'_, '_>) -> Option<us
     }
 }
 
-/// For each statement the items in its block.
-pub(crate) fn items_of_blocks(
+/// For each statement those in its block that are wanted.
+pub(crate) fn of_blocks(
     alloc: Global,
     rows: &Rows<'_, '_>,
+    wanted: Wanted,
 ) -> Result<Vec<Vec<usize>>, AllocError>
-    ensures { IfOk result (λ lists. ArePlaced item_place (rows_in rows.now) (length (rows_in rows.now)) lists.items) }
+    ensures { IfOk result (λ lists. ArePlaced (block_place (is_wanted wanted)) (rows_in rows.now) (length (rows_in rows.now)) lists.items) }
 {
     yv_rows::laws::blocks_are_nested();
     let entries = rows.entries();
     let mut lists = no_lists(alloc, entries.len())?;
     for (number, entry) in entries.iter().enumerate() {
-        if let Some(place) = item_place(number, entry) {
+        if let Some(place) = block_place(wanted, number, entry) {
             lists[place].push(number)?;
         }
     }
@@ -75,10 +98,7 @@ pub(crate) fn items_of_blocks(
 }
 
 /// For each file the items at its top.
-pub(crate) fn items_of_files(
-    alloc: Global,
-    rows: &Rows<'_, '_>,
-) -> Result<Vec<Vec<usize>>, AllocError>
+pub(crate) fn of_files(alloc: Global, rows: &Rows<'_, '_>) -> Result<Vec<Vec<usize>>, AllocError>
     ensures { IfOk result (λ lists. ArePlaced (top_place (files_in rows.now)) (rows_in rows.now) (length (files_in rows.now)) lists.items) }
 {
     yv_rows::laws::roots_come_first();

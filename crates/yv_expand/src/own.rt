@@ -2,8 +2,8 @@
 ghost use Rattle.std.specs.Prelude.{◌≡◌, map};
 ghost use Rattle.yv_rows.specs.Rows.{row};
 ghost use Rattle.yv_names.specs.BuiltIn.{is_among};
-ghost use Rattle.yv_units.specs.Units.{nodes};
-ghost use Rattle.yv_expand.specs.Expands.{is_item};
+ghost use Rattle.yv_units.specs.Units.{nodes, operations};
+ghost use Rattle.yv_expand.specs.Expands.{is_item, is_operation};
 
 use yv_rows::Entry;
 
@@ -20,6 +20,8 @@ static NODES: [&str; 10] = [
     "uses",
 ];
 
+static OPERATIONS: [&str; 2] = ["rpc", "action"];
+
 // Whether one of the words is the name.
 fn is_among(words: &[&str], name: &str) -> bool
     ensures { result ≡ is_among (map (λ w. w.now) words.now) name.now }
@@ -32,11 +34,12 @@ fn is_among(words: &[&str], name: &str) -> bool
     false
 }
 
-// Whether a keyword is that of an item.
-fn is_node(keyword: &str) -> bool
-    ensures { result ≡ is_among nodes keyword.now }
+/// Whether a statement is an rpc or an action.
+#[tactic(auto, unfolding(crate::specs::Expands::is_operation))]
+pub(crate) fn is_operation(entry: &Entry<'_, '_>) -> bool
+    ensures { result ≡ is_operation (row entry.now) }
 {
-    is_among(&NODES, keyword)
+    is_among(&OPERATIONS, entry.statement.keyword())
 }
 
 /// Whether a statement is an item: one that gives a schema node, or a uses.
@@ -44,5 +47,6 @@ fn is_node(keyword: &str) -> bool
 pub(crate) fn is_item(entry: &Entry<'_, '_>) -> bool
     ensures { result ≡ is_item (row entry.now) }
 {
-    is_node(entry.statement.keyword())
+    let keyword = entry.statement.keyword();
+    is_among(&NODES, keyword) || is_among(&OPERATIONS, keyword)
 }

@@ -1,30 +1,22 @@
-//! The statements that are still to be expanded.
+//! The items that are still to be expanded.
 ghost use Rattle.std.specs.Prelude.{◌≡◌, ◌++◌, reverse, OnOk};
-ghost use Rattle.yv_expand.specs.InnerItems.{tasks};
+ghost use Rattle.yv_expand.specs.InnerItems.{items_below, origins};
 
 use std::alloc::AllocError;
+use yv_expansion::{Item, Origin};
 
-/// An item that is still to be listed, with all that stands below it.
-#[derive(Clone, Copy)]
-pub(crate) struct Task {
-    /// The number of its statement.
-    pub(crate) statement: usize,
-    /// The number of the item below which it stands.
-    pub(crate) parent: Option<usize>,
-}
-
-/// Puts items of one parent on a stack, the first on top.
+/// Puts the items of statements of one parent on a stack, the first on top.
 pub(crate) fn put(
-    stack: &mut Vec<Task>,
+    stack: &mut Vec<Item>,
     numbers: &[usize],
     parent: Option<usize>,
 ) -> Result<(), AllocError>
-    ensures { OnOk result (stack.new.items ≡ stack.old.items ++ reverse (tasks parent numbers.now)) }
+    ensures { OnOk result (stack.new.items ≡ stack.old.items ++ reverse (items_below parent (origins numbers.now))) }
 {
     let mut rest = numbers;
     while let Some((last, others)) = rest.split_last() {
-        stack.push(Task {
-            statement: *last,
+        stack.push(Item {
+            origin: Origin::Statement(*last),
             parent,
         })?;
         rest = others;

@@ -8,7 +8,8 @@ ghost use Rattle.yv_names.specs.Known.{AreNames};
 ghost use Rattle.yv_units.specs.Limit.{Fits, TooMany};
 ghost use Rattle.yv_expand.specs.Expanded.{IsExpansion};
 
-use crate::lists::{firsts, items_of_blocks, items_of_files};
+use crate::blocks::Blocks;
+use crate::lists::{firsts, of_files};
 use crate::spread::spread;
 use std::alloc::{AllocError, Global};
 use yv_expansion::Expansion;
@@ -29,10 +30,10 @@ fn within(
     ensures expanded { AreNames (lent_in rows.now) names.now → Fits (lent_in rows.now) given.now limit
         → IfOk result (λ e. IsExpansion (lent_in rows.now) given.now e.items) }
 {
-    let blocks = items_of_blocks(alloc, rows)?;
-    let tops = items_of_files(alloc, rows)?;
+    let blocks = Blocks::read(alloc, rows)?;
+    let tops = of_files(alloc, rows)?;
     let firsts = firsts(alloc, &tops, given)?;
-    spread(alloc, names, &blocks, &firsts, limit)
+    spread(alloc, rows, names, &blocks, &firsts, limit)
 }
 
 /// The expansion of the files that are marked as given, one file behind the other and each item before those below it

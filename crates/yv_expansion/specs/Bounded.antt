@@ -1,6 +1,6 @@
 -- A list of items that keeps to a limit.
 use Rattle.std.specs.Prelude.{◌≡◌, ◌<◌, ℕ, List, Some, slice_get}
-use Rattle.yv_expansion.specs.declared.item.Item.{Item}
+use Rattle.yv_expansion.specs.Tree.{Item}
 
 -- what contracts see of an `Expansion`
 pub record Bounded : Type 0 where

@@ -1,2 +1,3 @@
+pub mod Origin
 pub mod Tree
 pub mod Bounded

@@ -7,4 +7,4 @@ mod item;
 pub mod laws;
 
 pub use expansion::Expansion;
-pub use item::Item;
+pub use item::{Item, Node, Origin, Placed};

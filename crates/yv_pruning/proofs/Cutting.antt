@@ -3,8 +3,7 @@ use Rattle.std.proofs.Common.{◌≡◌, ◌⊎◌, ℕ, suc, ◌+◌, ◌-◌, 
 use Rattle.std.proofs.lemmas.List.{take-append-drop, take_more}
 use Rattle.std.proofs.Math.ListN.{drop_of_length-le, get_or-eq_default}
 use Rattle.std.proofs.Math.Seq.{drop-append_seam, take-append_seam, drop-cons}
-use Rattle.yv_expansion.specs.declared.item.Item.{Item}
-use Rattle.yv_expansion.specs.Tree.{Tree, none, count, joined, all_of, listed}
+use Rattle.yv_expansion.specs.Tree.{Tree, Item, none, count, joined, all_of, listed}
 use Rattle.yv_pruning.specs.Pruned.{start_of, tree_at}
 use Rattle.yv_pruning.proofs.Parting.{below_or}
 use Rattle.yv_pruning.proofs.Running.{joined_assoc}

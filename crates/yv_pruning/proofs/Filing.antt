@@ -2,8 +2,8 @@
 use Rattle.std.proofs.Common.{◌≡◌, ℕ, suc, ◌+◌, List, [], ◌∷◌, ◌++◌, replicate, Option, Some, None, slice_get, refl, sym, ap, ◌∙◌, arith, append_assoc, subst}
 use Rattle.std.proofs.lemmas.List.{replicate-append-replicate}
 use Rattle.yv_rows.specs.Rows.{Row}
-use Rattle.yv_expansion.specs.declared.item.Item.{Item}
-use Rattle.yv_expansion.specs.Tree.{Tree, none, item, count, joined, all_of, listed}
+use Rattle.yv_expansion.specs.Origin.{number_of}
+use Rattle.yv_expansion.specs.Tree.{Tree, Item, none, item, count, joined, all_of, listed}
 use Rattle.yv_pruning.specs.Listed.{AreListed, AreOfFile, files_by, files_of}
 use Rattle.yv_pruning.specs.InnerRuns.{file_below, files_from}
 
@@ -33,7 +33,7 @@ module _ (rows : List Row) where
       → (last : ℕ) × (files_from rows before (listed None first (joined t u)) ≡ replicate (count t) file ++ files_from rows last (listed None (first + count t) u))
   files_top none u file before first of = (before, ap (λ (n : ℕ). files_from rows before (listed None n u)) (omega arith))
   files_top (item origin below behind) u file before first of =
-      let same : file_below (slice_get rows origin) before None ≡ file = ap (λ (o : Option Row). file_below o before None) of.1 ∙ of.2 in
+      let same : file_below (slice_get rows (number_of origin)) before None ≡ file = ap (λ (o : Option Row). file_below o before None) of.1 ∙ of.2 in
       let inner : List Item = listed (Some first) (first + 1) below in
       let after : List Item = listed None (first + 1 + count below) (joined behind u) in
       let later = files_top behind u file file (first + 1 + count below) of.3 in

@@ -3,8 +3,8 @@ use Rattle.std.proofs.Common.{◌≡◌, ◌≢◌, ◌⊎◌, ℕ, zero, suc, �
 use Rattle.std.proofs.lemmas.Bool.{ne_eqb, eqb-true, false≢true}
 use Rattle.std.proofs.lemmas.List.{get_or-set_same, get_or-set_other, get_or-append-add, get_or-map, get_or-replicate, get_or_past, length-replicate, length-set, map-set, ext_get_or}
 use Rattle.std.proofs.Math.ListN.{get_or-append}
-use Rattle.yv_expansion.specs.declared.item.Item.{Item}
-use Rattle.yv_expansion.specs.Tree.{Tree, none, item, count, listed}
+use Rattle.yv_expansion.specs.Tree.{Node}
+use Rattle.yv_expansion.specs.Tree.{Nodes, none, item, count, listed}
 use Rattle.std.specs.declared.alloc.Global.{Global}
 use Rattle.std.specs.declared.vec.Vec.{Vec}
 use Rattle.yv_pruning.specs.Families.{below_from, lists_of, numbers_from}
@@ -83,19 +83,19 @@ top_more : (parent : Option ℕ) (n : ℕ) (ns : List ℕ) → at_top parent (n 
 top_more None n ns = refl
 top_more (Some p) n ns = refl
 
-length_below : (first : ℕ) (t : Tree) → length (below_from first t) ≡ count t
+length_below : (first : ℕ) (t : Nodes) → length (below_from first t) ≡ count t
 length_below first none = refl
 length_below first (item origin below behind) =
     omega (arith, length-append (below_from (first + 1) below) (below_from (first + 1 + count below) behind), length_below (first + 1) below, length_below (first + 1 + count below) behind)
 
 -- the nodes of a tree were put below their parents
-pub record Hung (parent : Option ℕ) (first : ℕ) (t : Tree) (s e : Lists) : Type 0 where
+pub record Hung (parent : Option ℕ) (first : ℕ) (t : Nodes) (s e : Lists) : Type 0 where
   pub top : e.top ≡ s.top ++ at_top parent (numbers_from first t)
   pub each : length e.below ≡ length s.below
   pub outside : (k : ℕ) → (k < first) ⊎ (first + count t ≤ k) → slice_index_or e.below k [] ≡ slice_index_or s.below k [] ++ given parent k (numbers_from first t)
   pub own : (k : ℕ) → k < count t → slice_index_or e.below (first + k) [] ≡ slice_index_or (below_from first t) k []
 
-pub hangs_tree : (t : Tree) (parent : Option ℕ) (first : ℕ) (s : Lists) (rest : List Item) → IsBefore parent first → first + count t ≤ length s.below
+pub hangs_tree : (t : Nodes) (parent : Option ℕ) (first : ℕ) (s : Lists) (rest : List Node) → IsBefore parent first → first + count t ≤ length s.below
     → ((k : ℕ) → k < count t → slice_index_or s.below (first + k) [] ≡ [])
     → (e : Lists) × (hung first (listed parent first t ++ rest) s ≡ hung (first + count t) rest e) × Hung parent first t s e
 hangs_tree none parent first s rest lt le empty = (
@@ -109,8 +109,8 @@ hangs_tree none parent first s rest lt le empty = (
   },
 )
 hangs_tree (item origin below behind) parent first s rest lt le empty =
-    let inner : List Item = listed (Some first) (first + 1) below in
-    let after : List Item = listed parent (first + 1 + count below) behind in
+    let inner : List Node = listed (Some first) (first + 1) below in
+    let after : List Node = listed parent (first + 1 + count below) behind in
     let mid : ℕ = first + 1 + count below in
     let one : Lists = hang first parent s in
     let room : IsBefore parent (length s.below) = later_before parent first (length s.below) (omega (arith, le)) lt in
@@ -155,7 +155,7 @@ hangs_tree (item origin below behind) parent first s rest lt le empty =
     let inner_is : (k : ℕ) → k < count below → slice_index_or e.below (first + 1 + k) [] ≡ slice_index_or b_lists k [] =
     λ k h. end_same (first + 1 + k) (omega arith) (omega (arith, h)) ∙ hung_below.own k h in (
       e,
-      ap (λ (xs : List Item). hung (first + 1) xs one) flat ∙ in_below.1 ∙ in_behind.1 ∙ ap (λ (k : ℕ). hung k rest e) number,
+      ap (λ (xs : List Node). hung (first + 1) xs one) flat ∙ in_below.1 ∙ in_behind.1 ∙ ap (λ (k : ℕ). hung k rest e) number,
       record {
         top = top_is;
         each = hung_behind.each ∙ hung_below.each ∙ size;
@@ -226,12 +226,12 @@ empty_lists n lists are k = ap (λ (ls : List (List ℕ)). slice_index_or ls k n
     by (inr p) = get_or_past none k nil (omega (arith, p.1, length-replicate n nil))
 
 -- the whole of a tree
-pub hung_all : (t : Tree) (s : Lists) → s.top ≡ [] → length s.below ≡ count t → AreEmpty s.below
+pub hung_all : (t : Nodes) (s : Lists) → s.top ≡ [] → length s.below ≡ count t → AreEmpty s.below
     → ((hung 0 (listed None 0 t) s).top ≡ numbers_from 0 t) × ((hung 0 (listed None 0 t) s).below ≡ below_from 0 t)
 hung_all t s top each empty =
     let went = hangs_tree t None 0 s [] tt (omega (arith, each)) (λ k h. empty (0 + k)) in
     let e : Lists = went.0 in
-    let is : hung 0 (listed None 0 t) s ≡ e = ap (λ (xs : List Item). hung 0 xs s) (sym (append-nil (listed None 0 t))) ∙ went.1 in
+    let is : hung 0 (listed None 0 t) s ≡ e = ap (λ (xs : List Node). hung 0 xs s) (sym (append-nil (listed None 0 t))) ∙ went.1 in
     let done : Hung None 0 t s e = went.2 in
     let size : length e.below ≡ length (below_from 0 t) = done.each ∙ each ∙ sym (length_below 0 t) in (
       ap (λ (l : Lists). l.top) is ∙ done.top ∙ ap (λ (ns : List ℕ). ns ++ numbers_from 0 t) top,

@@ -3,20 +3,21 @@ use Rattle.std.proofs.Common.{◌≡◌, ℕ, ◌+◌, ◌-◌, ◌<◌, ◌≤�
 use Rattle.std.specs.Prelude.{⊤}
 use Rattle.std.proofs.lemmas.List.{get_or-append-add}
 use Rattle.std.proofs.Math.ListN.{get_or-append}
-use Rattle.yv_expansion.specs.declared.item.Item.{Item}
-use Rattle.yv_expansion.specs.Tree.{Tree, none, item, count, joined, listed}
+use Rattle.yv_expansion.specs.Origin.{number_of}
+use Rattle.yv_expansion.specs.declared.item.Origin.{Origin}
+use Rattle.yv_expansion.specs.Tree.{Forest, Tree, Nodes, Item, Node, none, item, count, joined, listed}
 use Rattle.yv_pruning.specs.Pruned.{pruned}
 use Rattle.yv_pruning.specs.InnerRuns.{Place, Runs, above, place_by, node_by, more_at, one_more, run}
 
-pub joined_assoc : (t u v : Tree) → joined (joined t u) v ≡ joined t (joined u v)
+pub joined_assoc : {A : Type 0} (t u v : Forest A) → joined (joined t u) v ≡ joined t (joined u v)
 joined_assoc none u v = refl
 joined_assoc (item origin below behind) u v = ap (item origin below) (joined_assoc behind u v)
 
 -- what an item gives, whether it is on, and whether it is a uses, before what follows it
-abbrev pub given : Bool → Bool → ℕ → Tree → Tree → Tree → Tree
+abbrev pub given : Bool → Bool → ℕ → Nodes → Nodes → Nodes → Nodes
 given on uses first inner inside after = cond on (cond uses inner (item first inside after)) after
 
-given_joined : (on uses : Bool) (first : ℕ) (inner inside mid after others : Tree) → inner ≡ joined inside mid → mid ≡ joined after others
+given_joined : (on uses : Bool) (first : ℕ) (inner inside mid after others : Nodes) → inner ≡ joined inside mid → mid ≡ joined after others
     → given on uses first inner inside mid ≡ joined (given on uses first (joined inside after) inside after) others
 given_joined true true first inner inside mid after others p q = p ∙ ap (joined inside) q ∙ sym (joined_assoc inside after others)
 given_joined true false first inner inside mid after others p q = ap (item first inside) q
@@ -41,7 +42,7 @@ later_within None start same first n e le h = tt
 later_within (Some p) start same first n e le h = (omega (arith, e, h.0), omega (arith, le, h.1))
 
 -- these nodes and so many places were added, and no place before was changed
-pub record Ran (before after : Runs) (count : ℕ) (given : List Item) : Type 0 where
+pub record Ran (before after : Runs) (count : ℕ) (given : List Node) : Type 0 where
   pub start : after.start ≡ before.start
   pub nodes : after.nodes ≡ before.nodes ++ given
   pub places : (k : ℕ) → k < length before.places → slice_index_or after.places k None ≡ slice_index_or before.places k None
@@ -58,58 +59,58 @@ same_above (Some p) first before after e h at same =
 
 module _ (is_on is_uses : ℕ → Bool) where
   -- other trees are put behind
-  pub pruned_joined : (first : ℕ) (t others : Tree) → pruned is_on is_uses first t others ≡ joined (pruned is_on is_uses first t none) others
+  pub pruned_joined : (first : ℕ) (t : Tree) (others : Nodes) → pruned is_on is_uses first t others ≡ joined (pruned is_on is_uses first t none) others
   pruned_joined first none others = refl
   pruned_joined first (item origin below behind) others =
-      let inside : Tree = pruned is_on is_uses (first + 1) below none in
-      let after : Tree = pruned is_on is_uses (first + 1 + count below) behind none in
-      let mid : Tree = pruned is_on is_uses (first + 1 + count below) behind others in
+      let inside : Nodes = pruned is_on is_uses (first + 1) below none in
+      let after : Nodes = pruned is_on is_uses (first + 1 + count below) behind none in
+      let mid : Nodes = pruned is_on is_uses (first + 1 + count below) behind others in
       let later : mid ≡ joined after others = pruned_joined (first + 1 + count below) behind others in
       let inner : pruned is_on is_uses (first + 1) below mid ≡ joined inside mid = pruned_joined (first + 1) below mid in
       let own : pruned is_on is_uses (first + 1) below after ≡ joined inside after = pruned_joined (first + 1) below after in
-      given_joined (is_on first) (is_uses origin) first _ inside mid after others inner later
-      ∙ ap (λ (x : Tree). joined (given (is_on first) (is_uses origin) first x inside after) others) (sym own)
+      given_joined (is_on first) (is_uses (number_of origin)) first _ inside mid after others inner later
+      ∙ ap (λ (x : Nodes). joined (given (is_on first) (is_uses (number_of origin)) first x inside after) others) (sym own)
 
   -- the nodes of a tree whose items go to this place, where the next node has the number n
-  abbrev pub shown : Place → ℕ → ℕ → Tree → List Item
+  abbrev pub shown : Place → ℕ → ℕ → Tree → List Node
   shown None n first t = []
   shown (Some q) n first t = listed q n (pruned is_on is_uses first t none)
 
-  module _ (lengths : (parent : Option ℕ) (first : ℕ) (t : Tree) → length (listed parent first t) ≡ count t)
-      (in_order : (parent : Option ℕ) (first : ℕ) (t u : Tree) → listed parent first (joined t u) ≡ listed parent first t ++ listed parent (first + count t) u) where
+  module _ (lengths : (parent : Option ℕ) (first : ℕ) (t : Nodes) → length (listed parent first t) ≡ count t)
+      (in_order : (parent : Option ℕ) (first : ℕ) (t u : Nodes) → listed parent first (joined t u) ≡ listed parent first t ++ listed parent (first + count t) u) where
     -- an item's node, what stands below it, and what follows it, is what its tree shows
-    shown_item : (on uses : Bool) (place : Place) (n first origin : ℕ) (below behind : Tree) → on ≡ is_on first → uses ≡ is_uses origin
+    shown_item : (on uses : Bool) (place : Place) (n first : ℕ) (origin : Origin) (below behind : Tree) → on ≡ is_on first → uses ≡ is_uses (number_of origin)
         → (mid last : ℕ) → mid ≡ n + length (node_by on uses first place) → last ≡ mid + length (shown (place_by on uses n place) mid (first + 1) below)
         → node_by on uses first place ++ (shown (place_by on uses n place) mid (first + 1) below ++ shown place last (first + 1 + count below) behind)
         ≡ shown place n first (item origin below behind)
     shown_item on uses None n first origin below behind is_o is_u mid last at_mid at_last = refl
     shown_item false uses (Some q) n first origin below behind is_o is_u mid last at_mid at_last =
         let at : last ≡ n = omega (arith, at_mid, at_last) in
-        let after : Tree = pruned is_on is_uses (first + 1 + count below) behind none in
-        let inner : Tree = pruned is_on is_uses (first + 1) below after in
-        let inside : Tree = pruned is_on is_uses (first + 1) below none in
-        ap (λ (k : ℕ). listed q k after) at ∙ ap (λ (b : Bool). listed q n (given b (is_uses origin) first inner inside after)) is_o
+        let after : Nodes = pruned is_on is_uses (first + 1 + count below) behind none in
+        let inner : Nodes = pruned is_on is_uses (first + 1) below after in
+        let inside : Nodes = pruned is_on is_uses (first + 1) below none in
+        ap (λ (k : ℕ). listed q k after) at ∙ ap (λ (b : Bool). listed q n (given b (is_uses (number_of origin)) first inner inside after)) is_o
     shown_item true true (Some q) n first origin below behind is_o is_u mid last at_mid at_last =
-        let after : Tree = pruned is_on is_uses (first + 1 + count below) behind none in
-        let inner : Tree = pruned is_on is_uses (first + 1) below after in
-        let inside : Tree = pruned is_on is_uses (first + 1) below none in
+        let after : Nodes = pruned is_on is_uses (first + 1 + count below) behind none in
+        let inner : Nodes = pruned is_on is_uses (first + 1) below after in
+        let inside : Nodes = pruned is_on is_uses (first + 1) below none in
         let here : mid ≡ n = omega (arith, at_mid) in
         let there : last ≡ n + count inside = omega (arith, at_last, here, lengths q mid inside) in
         let both : listed q mid inside ++ listed q last after ≡ listed q n (joined inside after) =
         ap (λ (k : ℕ). listed q k inside ++ listed q last after) here ∙ ap (λ (k : ℕ). listed q n inside ++ listed q k after) there ∙ sym (in_order q n inside after) in
         let own : inner ≡ joined inside after = pruned_joined (first + 1) below after in
         both ∙ ap (listed q n) (sym own) ∙ ap (λ (b : Bool). listed q n (given true b first inner inside after)) is_u
-        ∙ ap (λ (b : Bool). listed q n (given b (is_uses origin) first inner inside after)) is_o
+        ∙ ap (λ (b : Bool). listed q n (given b (is_uses (number_of origin)) first inner inside after)) is_o
     shown_item true false (Some q) n first origin below behind is_o is_u mid last at_mid at_last =
-        let after : Tree = pruned is_on is_uses (first + 1 + count below) behind none in
-        let inner : Tree = pruned is_on is_uses (first + 1) below after in
-        let inside : Tree = pruned is_on is_uses (first + 1) below none in
+        let after : Nodes = pruned is_on is_uses (first + 1 + count below) behind none in
+        let inner : Nodes = pruned is_on is_uses (first + 1) below after in
+        let inside : Nodes = pruned is_on is_uses (first + 1) below none in
         let here : mid ≡ n + 1 = omega (arith, at_mid) in
         let there : last ≡ n + 1 + count inside = omega (arith, at_last, here, lengths (Some n) mid inside) in
-        let node : Item = record { origin = first; parent = q } in
+        let node : Node = record { origin = first; parent = q } in
         ap (λ (k : ℕ). node ∷ listed (Some n) k inside ++ listed q last after) here ∙ ap (λ (k : ℕ). node ∷ listed (Some n) (n + 1) inside ++ listed q k after) there
         ∙ ap (λ (b : Bool). listed q n (given true b first inner inside after)) is_u
-        ∙ ap (λ (b : Bool). listed q n (given b (is_uses origin) first inner inside after)) is_o
+        ∙ ap (λ (b : Bool). listed q n (given b (is_uses (number_of origin)) first inner inside after)) is_o
 
     -- going over the items of a tree adds what it shows
     pub runs_tree : (t : Tree) (parent : Option ℕ) (first : ℕ) (s : Runs) (rest : List Item) → IsWithin s.start parent first → first ≡ s.start + length s.places
@@ -123,12 +124,12 @@ module _ (is_on is_uses : ℕ → Bool) where
     runs_tree (item origin below behind) parent first s rest h at =
         let place : Place = above s.start s.places parent in
         let n : ℕ = length s.nodes in
-        let node : List Item = node_by (is_on first) (is_uses origin) first place in
-        let own : Place = place_by (is_on first) (is_uses origin) n place in
+        let node : List Node = node_by (is_on first) (is_uses (number_of origin)) first place in
+        let own : Place = place_by (is_on first) (is_uses (number_of origin)) n place in
         let mid : ℕ = first + 1 + count below in
-        let one : Runs = more_at is_on is_uses first origin place s in
+        let one : Runs = more_at is_on is_uses first (number_of origin) place s in
         let step : one_more is_on is_uses (record { origin = origin; parent = parent }) s ≡ one =
-        ap (λ (k : ℕ). more_at is_on is_uses k origin place s) (sym at) in
+        ap (λ (k : ℕ). more_at is_on is_uses k (number_of origin) place s) (sym at) in
         let inner : List Item = listed (Some first) (first + 1) below in
         let after : List Item = listed parent mid behind in
         let size : length one.places ≡ length s.places + 1 = length-append s.places (own ∷ []) in
@@ -149,27 +150,27 @@ module _ (is_on is_uses : ℕ → Bool) where
         ap (λ (k : ℕ). slice_index_or (s.places ++ own ∷ []) k None) (omega (arith, at)) ∙ get_or-append-add s.places (own ∷ []) 0 None in
         let place_is : above two.start two.places parent ≡ place = same_above parent first s two ran_below.start h at kept_two in
         let mid_is : length one.nodes ≡ n + length node = length-append s.nodes node in
-        let below_nodes : List Item = shown own (length one.nodes) (first + 1) below in
+        let below_nodes : List Node = shown own (length one.nodes) (first + 1) below in
         let two_nodes : two.nodes ≡ one.nodes ++ below_nodes =
         ran_below.nodes ∙ ap (λ (x : Place). one.nodes ++ shown x (length one.nodes) (first + 1) below) own_is in
         let last_is : length two.nodes ≡ length one.nodes + length below_nodes = ap length two_nodes ∙ length-append one.nodes below_nodes in
-        let behind_nodes : List Item = shown place (length two.nodes) mid behind in
+        let behind_nodes : List Node = shown place (length two.nodes) mid behind in
         let end_nodes : end.nodes ≡ two.nodes ++ behind_nodes =
         ran_behind.nodes ∙ ap (λ (x : Place). two.nodes ++ shown x (length two.nodes) mid behind) place_is in
-        let two_is : end.nodes ≡ (one.nodes ++ below_nodes) ++ behind_nodes = end_nodes ∙ ap (λ (xs : List Item). xs ++ behind_nodes) two_nodes in
+        let two_is : end.nodes ≡ (one.nodes ++ below_nodes) ++ behind_nodes = end_nodes ∙ ap (λ (xs : List Node). xs ++ behind_nodes) two_nodes in
         let one_is : (one.nodes ++ below_nodes) ++ behind_nodes ≡ one.nodes ++ (below_nodes ++ behind_nodes) =
         append_assoc one.nodes below_nodes behind_nodes in
         let s_is : (s.nodes ++ node) ++ (below_nodes ++ behind_nodes) ≡ s.nodes ++ (node ++ (below_nodes ++ behind_nodes)) =
         append_assoc s.nodes node (below_nodes ++ behind_nodes) in
         let all_nodes : end.nodes ≡ s.nodes ++ (node ++ (below_nodes ++ behind_nodes)) = two_is ∙ one_is ∙ s_is in
         let shows : node ++ (below_nodes ++ behind_nodes) ≡ shown place n first (item origin below behind) =
-        shown_item (is_on first) (is_uses origin) place n first origin below behind refl refl (length one.nodes) (length two.nodes) mid_is last_is in
+        shown_item (is_on first) (is_uses (number_of origin)) place n first origin below behind refl refl (length one.nodes) (length two.nodes) mid_is last_is in
         let flat : (inner ++ after) ++ rest ≡ inner ++ (after ++ rest) = append_assoc inner after rest in (
           end,
           ap (run is_on is_uses ((inner ++ after) ++ rest)) step ∙ ap (λ (xs : List Item). run is_on is_uses xs one) flat ∙ in_below.1 ∙ in_behind.1,
           record {
             start = ran_behind.start ∙ ran_below.start;
-            nodes = all_nodes ∙ ap (λ (xs : List Item). s.nodes ++ xs) shows;
+            nodes = all_nodes ∙ ap (λ (xs : List Node). s.nodes ++ xs) shows;
             places = kept_end;
             each = omega (arith, ran_behind.each, ran_below.each, size);
           },

@@ -2,15 +2,15 @@
 use Rattle.std.specs.Prelude.{ℕ, ◌+◌, List, [], ◌∷◌, ◌++◌, map}
 use Rattle.std.specs.declared.alloc.Global.{Global}
 use Rattle.std.specs.declared.vec.Vec.{Vec}
-use Rattle.yv_expansion.specs.Tree.{Tree, none, item, count}
+use Rattle.yv_expansion.specs.Tree.{Nodes, none, item, count}
 
 -- the numbers of the nodes of one parent, where the first has the number `first`
-abbrev pub numbers_from : ℕ → Tree → List ℕ
+abbrev pub numbers_from : ℕ → Nodes → List ℕ
 numbers_from first none = []
 numbers_from first (item origin below behind) = first ∷ numbers_from (first + 1 + count below) behind
 
 -- for each node, in order, the numbers of the nodes below it
-abbrev pub below_from : ℕ → Tree → List (List ℕ)
+abbrev pub below_from : ℕ → Nodes → List (List ℕ)
 below_from first none = []
 below_from first (item origin below behind) =
     numbers_from (first + 1) below ∷ (below_from (first + 1) below ++ below_from (first + 1 + count below) behind)

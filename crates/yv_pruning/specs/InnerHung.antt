@@ -1,6 +1,6 @@
 -- Inner definitions, which only private clauses cite: nodes put below their parents one by one.
 use Rattle.std.specs.Prelude.{◌≡◌, ℕ, ◌+◌, List, [], ◌∷◌, ◌++◌, Option, Some, None, slice_set, slice_index_or}
-use Rattle.yv_expansion.specs.declared.item.Item.{Item}
+use Rattle.yv_expansion.specs.Tree.{Node}
 use Rattle.yv_pruning.specs.Families.{lists_of}
 use Rattle.yv_pruning.specs.declared.families.Families.{Families}
 
@@ -18,7 +18,7 @@ hang number None s = record { top = s.top ++ number ∷ []; below = s.below }
 hang number (Some p) s = record { top = s.top; below = slice_set s.below p (slice_index_or s.below p [] ++ number ∷ []) }
 
 -- nodes from this number on
-abbrev pub hung : ℕ → List Item → Lists → Lists
+abbrev pub hung : ℕ → List Node → Lists → Lists
 hung number [] s = s
 hung number (x ∷ xs) s = hung (number + 1) xs (hang number x.parent s)
 

@@ -1,7 +1,8 @@
 -- Inner definitions, which only private clauses cite: items gone over one by one.
 use Rattle.std.specs.Prelude.{ℕ, ◌+◌, ◌-◌, Bool, List, [], ◌∷◌, ◌++◌, length, Option, Some, None, if◌then◌else◌, slice_get, slice_index_or}
 use Rattle.yv_rows.specs.Rows.{Row}
-use Rattle.yv_expansion.specs.declared.item.Item.{Item}
+use Rattle.yv_expansion.specs.Origin.{number_of}
+use Rattle.yv_expansion.specs.Tree.{Item, Node}
 
 -- where the nodes go that stand below an item: below a node, at the top, or nowhere, since it isn't on
 abbrev pub Place : Type 0
@@ -11,7 +12,7 @@ Place = Option (Option ℕ)
 pub record Runs : Type 0 where
   pub start : ℕ
   pub places : List Place
-  pub nodes : List Item
+  pub nodes : List Node
 
 -- where an item with this parent goes, the first place being that of the item of this number
 abbrev pub above : ℕ → List Place → Option ℕ → Place
@@ -24,7 +25,7 @@ place_by on uses number None = None
 place_by on uses number (Some q) = if on then (if uses then Some q else Some (Some number)) else None
 
 -- the node of such an item
-abbrev pub node_by : Bool → Bool → ℕ → Place → List Item
+abbrev pub node_by : Bool → Bool → ℕ → Place → List Node
 node_by on uses origin None = []
 node_by on uses origin (Some q) = if on then (if uses then [] else record { origin = origin; parent = q } ∷ []) else []
 
@@ -38,7 +39,7 @@ more_at is_on is_uses number origin place s = record {
 
 -- one item more
 abbrev pub one_more : (is_on is_uses : ℕ → Bool) → Item → Runs → Runs
-one_more is_on is_uses item s = more_at is_on is_uses (s.start + length s.places) item.origin (above s.start s.places item.parent) s
+one_more is_on is_uses item s = more_at is_on is_uses (s.start + length s.places) (number_of item.origin) (above s.start s.places item.parent) s
 
 -- items one after the other
 abbrev pub run : (is_on is_uses : ℕ → Bool) → List Item → Runs → Runs
@@ -52,7 +53,7 @@ file_below None before None = before
 file_below (Some r) before None = r.file
 
 abbrev pub file_by : List Row → ℕ → Item → ℕ
-file_by rows before item = file_below (slice_get rows item.origin) before item.parent
+file_by rows before item = file_below (slice_get rows (number_of item.origin)) before item.parent
 
 abbrev pub files_from : List Row → ℕ → List Item → List ℕ
 files_from rows before [] = []

@@ -3,13 +3,13 @@ use Rattle.std.specs.Prelude.{◌≡◌, ℕ, ◌+◌, Bool, false, List, [], �
 use Rattle.std.specs.Option.{option_map, unwrap_or}
 use Rattle.yv_rows.specs.Files.{has_word}
 use Rattle.yv_rows.specs.Rows.{Row}
-use Rattle.yv_expansion.specs.Tree.{Tree, none, item, count, all_of, listed}
-use Rattle.yv_expansion.specs.declared.item.Item.{Item}
+use Rattle.yv_expansion.specs.Origin.{number_of}
+use Rattle.yv_expansion.specs.Tree.{Tree, Item, none, item, count, all_of, listed}
 
 -- the items at the top of a tree are made of statements of this file
 abbrev pub AreOfFile : List Row → ℕ → Tree → Type 0
 AreOfFile rows file none = ⊤
-AreOfFile rows file (item origin below behind) = (r : Row) × (slice_get rows origin ≡ Some r) × (r.file ≡ file) × AreOfFile rows file behind
+AreOfFile rows file (item origin below behind) = (r : Row) × (slice_get rows (number_of origin) ≡ Some r) × (r.file ≡ file) × AreOfFile rows file behind
 
 -- each file has a tree, and these are the items of the trees, one behind the other
 pub record AreListed (rows : List Row) (trees : List Tree) (items : List Item) : Type 0 where

@@ -1,10 +1,10 @@
 //! Which nodes stand below which.
 ghost use Rattle.std.specs.Prelude.{◌≡◌, ◌<◌, ◌++◌, ◌∷◌, [], None, length, slice_index_or, slice_set, IfOk, OnOk};
-ghost use Rattle.yv_expansion.specs.Tree.{Tree, listed};
+ghost use Rattle.yv_expansion.specs.Tree.{Nodes, listed};
 ghost use Rattle.yv_pruning.specs.Families.{below_from, lists_of, numbers_from};
 
 use std::alloc::{AllocError, Global};
-use yv_expansion::Item;
+use yv_expansion::Node;
 
 /// The numbers of the nodes at the top, and of those below each node, in order.
 #[derive(Drop)]
@@ -56,11 +56,11 @@ impl Families {
 }
 
 /// The families of nodes that stand in order, each before those below it. Numbers begin at 0.
-pub fn families_of(alloc: Global, nodes: &[Item]) -> Result<Families, AllocError>
-    ensures top { IfOk result (λ f. (t : Tree) → nodes.now ≡ listed None 0 t → f.top.items ≡ numbers_from 0 t) }
-    ensures below { IfOk result (λ f. (t : Tree) → nodes.now ≡ listed None 0 t → lists_of f.below.items ≡ below_from 0 t) }
+pub fn families_of(alloc: Global, nodes: &[Node]) -> Result<Families, AllocError>
+    ensures top { IfOk result (λ f. (t : Nodes) → nodes.now ≡ listed None 0 t → f.top.items ≡ numbers_from 0 t) }
+    ensures below { IfOk result (λ f. (t : Nodes) → nodes.now ≡ listed None 0 t → lists_of f.below.items ≡ below_from 0 t) }
 {
-    yv_expansion::laws::a_tree_is_listed_whole();
+    yv_expansion::laws::a_tree_is_listed_whole::<usize>();
     let mut families = Families::new(alloc, nodes.len())?;
     for (number, node) in nodes.iter().enumerate() {
         families.hang(number, node.parent)?;

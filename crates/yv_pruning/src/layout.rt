@@ -1,6 +1,7 @@
 //! The items of each file, and what conditions leave of them.
 ghost use Rattle.std.specs.Prelude.{◌≡◌, ◌≤◌, ◌+◌, ℕ, List, None, length, slice_get, IfOk};
 ghost use Rattle.yv_rows.specs.Lent.{rows_in};
+ghost use Rattle.yv_expansion.specs.Origin.{number_of};
 ghost use Rattle.yv_expansion.specs.Tree.{Tree, none, all_of, listed};
 ghost use Rattle.yv_pruning.specs.Listed.{AreListed, files_of, is_marked};
 ghost use Rattle.yv_pruning.specs.Pruned.{pruned, start_of, tree_at};
@@ -9,14 +10,14 @@ ghost use Rattle.yv_pruning.specs.InnerRuns.{file_below};
 use crate::runs::Pruning;
 use std::alloc::{AllocError, Global};
 use std::marker::Model;
-use yv_expansion::Item;
+use yv_expansion::{Item, Node, Origin};
 use yv_rows::Rows;
 
 // The file of an item, where the one before has this file: below an item it is that of the item.
 fn file_of(rows: &Rows<'_, '_>, before: u32, item: &Item) -> u32
-    ensures { result ≡ file_below (slice_get (rows_in rows.now) item.now.origin) before item.now.parent }
+    ensures { result ≡ file_below (slice_get (rows_in rows.now) (number_of item.now.origin)) before item.now.parent }
 {
-    match (item.parent, rows.entries().get(item.origin)) {
+    match (item.parent, rows.entries().get(item.origin.number())) {
         (None, Some(entry)) => entry.file,
         _ => before,
     }
@@ -54,7 +55,7 @@ impl Layout {
     fn start(&self, file: u64) -> usize
         ensures { (trees : List Tree) → self.now ≡ files_of trees → result ≡ start_of trees file }
     {
-        yv_expansion::laws::trees_are_listed_in_order();
+        yv_expansion::laws::trees_are_listed_in_order::<Origin>();
         self.files.partition_point(|other| (*other as u64) < file)
     }
 
@@ -64,8 +65,8 @@ impl Layout {
         ensures own { (trees : List Tree) → self.now ≡ files_of trees → items.now ≡ listed None 0 (all_of trees)
             → (result.0 ≡ start_of trees file) × (result.1.now ≡ listed None (start_of trees file) (tree_at trees file)) }
     {
-        yv_expansion::laws::a_tree_is_listed_whole();
-        yv_expansion::laws::trees_are_listed_in_order();
+        yv_expansion::laws::a_tree_is_listed_whole::<Origin>();
+        yv_expansion::laws::trees_are_listed_in_order::<Origin>();
         let start = self.start(file as u64);
         let next = self.start(file as u64 + 1);
         let to = next.min(items.len());
@@ -84,12 +85,12 @@ impl Layout {
         on: &[bool],
         uses: &[bool],
         file: u32,
-    ) -> Result<Vec<Item>, AllocError>
+    ) -> Result<Vec<Node>, AllocError>
         ensures { IfOk result (λ nodes. (trees : List Tree) → self.now ≡ files_of trees → items.now ≡ listed None 0 (all_of trees)
             → nodes.items ≡ listed None 0 (pruned (is_marked on.now) (is_marked uses.now) (start_of trees file) (tree_at trees file) none)) }
     {
-        yv_expansion::laws::a_tree_is_listed_whole();
-        yv_expansion::laws::trees_are_listed_in_order();
+        yv_expansion::laws::a_tree_is_listed_whole::<usize>();
+        yv_expansion::laws::trees_are_listed_in_order::<usize>();
         let (start, own) = self.own_items(items, file);
         let mut pruning = Pruning::new(alloc, start);
         for item in own {

@@ -4,7 +4,7 @@ ghost use Rattle.yv_pruning.specs.Listed.{is_marked};
 ghost use Rattle.yv_pruning.specs.InnerRuns.{above, node_by, one_more, place_by};
 
 use std::alloc::{AllocError, Global};
-use yv_expansion::Item;
+use yv_expansion::{Item, Node};
 
 /// Where the nodes go that stand below an item: below a node, at the top, or nowhere.
 type Place = Option<Option<usize>>;
@@ -14,7 +14,7 @@ type Place = Option<Option<usize>>;
 pub(crate) struct Pruning {
     start: usize,
     places: Vec<Place>,
-    pub(crate) nodes: Vec<Item>,
+    pub(crate) nodes: Vec<Node>,
 }
 
 // Whether a number has a mark.
@@ -74,7 +74,7 @@ impl Pruning {
             return Ok(above);
         }
         let node = self.nodes.len();
-        self.nodes.push(Item {
+        self.nodes.push(Node {
             origin: number,
             parent,
         })?;
@@ -88,7 +88,7 @@ impl Pruning {
     {
         let number = self.start + self.places.len();
         let above = self.above(item.parent);
-        let is_uses = is_marked(uses, item.origin);
+        let is_uses = is_marked(uses, item.origin.number());
         let place = self.place(is_marked(on, number), is_uses, number, above)?;
         self.places.push(place)?;
         Ok(())

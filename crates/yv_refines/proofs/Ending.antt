@@ -2,7 +2,7 @@
 use Rattle.std.proofs.Common.{◌≡◌, ℕ, ◌+◌, ◌<◌, ◌≤◌, zero, suc, Bool, true, false, if◌then◌else◌, List, [], ◌∷◌, length, drop, Option, Some, None, refl, sym, ◌∙◌, ap, arith, length-drop}
 use Rattle.std.specs.List.{slice_get}
 use Rattle.std.proofs.lemmas.Option.{slice_get_within}
-use Rattle.yv_expansion.specs.declared.item.Item.{Item}
+use Rattle.yv_expansion.specs.Tree.{Item}
 use Rattle.yv_refines.specs.InnerSites.{is_above, is_from, is_from_at, run, end_at}
 use Rattle.yv_refines.proofs.Listing.{rest_of}
 

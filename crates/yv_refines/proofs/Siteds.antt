@@ -3,8 +3,9 @@ use Rattle.std.proofs.Common.{◌≡◌, ℕ, ◌+◌, ◌⊎◌, inl, inr, zero
 use Rattle.std.specs.List.{slice_get}
 use Rattle.std.specs.Option.{option_map}
 use Rattle.std.proofs.lemmas.Option.{slice_get-map}
+use Rattle.yv_expansion.specs.Origin.{number_of}
 use Rattle.yv_expansion.specs.Tree.{Tree, none, item, count, joined, listed}
-use Rattle.yv_expansion.specs.declared.item.Item.{Item}
+use Rattle.yv_expansion.specs.Tree.{Item}
 use Rattle.yv_rows.specs.Rows.{Row}
 use Rattle.yv_rows.specs.Files.{Files}
 use Rattle.yv_rows.specs.Listed.{rows_of}
@@ -15,7 +16,7 @@ use Rattle.yv_refines.proofs.Siting.{Sited, AtTop, Under, sited, standing, moved
 module _ (rows : List Row) where
   free_trees : (trees : List Tree) (file first from : ℕ) → Free from (sites_from rows file first trees)
   free_trees [] file first from = λ i l. refl
-  free_trees (none ∷ ts) file first from = free_trees ts (file + 1) (first + count none) from
+  free_trees (none ∷ ts) file first from = free_trees ts (file + 1) (first + 0) from
   free_trees (item k below behind ∷ ts) file first from = λ i l. refl
 
   sited_trees : (trees : List Tree) (file first i : ℕ) (s : Site) → slice_get (sites_from rows file first trees) i ≡ Some s → Sited rows first (sites_from rows file first trees) i s
@@ -37,7 +38,7 @@ module _ (rows : List Row) where
   record Topped (s : Site) : Type 0 where
     no_parent : s.parent ≡ None
     no_group : s.group ≡ 0
-    is_of : (r : Row) → slice_get rows s.place.origin ≡ Some r → r.file ≡ s.place.file
+    is_of : (r : Row) → slice_get rows (number_of s.place.origin) ≡ Some r → r.file ≡ s.place.file
 
   topped : (file first : ℕ) (t : Tree) (s : Site) → AreOf rows file t → AtTop rows file 0 None t s → Topped s
   topped file first t s are top = record { no_parent = top.same_parent; no_group = top.same_group; is_of = λ r at. top.is_of are r at ∙ sym top.same_file }

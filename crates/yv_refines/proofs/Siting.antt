@@ -3,6 +3,8 @@ use Rattle.std.proofs.Common.{◌≡◌, ℕ, ◌+◌, ◌<◌, ◌≤◌, ◌�
 use Rattle.std.specs.List.{slice_get}
 use Rattle.std.proofs.lemmas.List.{map-append}
 use Rattle.std.proofs.lemmas.Option.{same_Some}
+use Rattle.yv_expansion.specs.declared.item.Origin.{Origin}
+use Rattle.yv_expansion.specs.Origin.{number_of}
 use Rattle.yv_expansion.specs.Tree.{Tree, none, item, count, joined, all_of, listed}
 use Rattle.yv_rows.specs.Rows.{Row}
 use Rattle.yv_refines.specs.Places.{places, places_from}
@@ -11,7 +13,7 @@ use Rattle.yv_refines.specs.Listed.{AreOf}
 use Rattle.yv_refines.specs.InnerSites.{Site, sites, sites_from, inside, inside_of, item_of, is_above, run}
 use Rattle.yv_refines.proofs.Ending.{run_yes, run_no}
 
-abbrev site : (file g : ℕ) → Option ℕ → (first k : ℕ) → Tree → Site
+abbrev site : (file g : ℕ) → Option ℕ → (first : ℕ) → Origin → Tree → Site
 site file g parent first k below = record { group = g; parent = parent; place = record { file = file; number = first; origin = k; below = below } }
 
 append_same : {A : Type 0} (x : A) (xs ys zs ws : List A) → xs ++ ys ≡ zs ++ ws → (x ∷ xs) ++ ys ≡ (x ∷ zs) ++ ws
@@ -22,30 +24,30 @@ module _ (rows : List Row) where
   pub sites_count : (t : Tree) (file g : ℕ) (parent : Option ℕ) (first : ℕ) → length (sites rows file g parent first t) ≡ count t
   sites_count none file g parent first = refl
   sites_count (item k below behind) file g parent first =
-      let b : List Site = sites rows file (inside rows g first k) (Some first) (first + 1) below in
+      let b : List Site = sites rows file (inside rows g first (number_of k)) (Some first) (first + 1) below in
       let o : List Site = sites rows file g parent (first + 1 + count below) behind in
       let e : length (b ++ o) ≡ length b + length o = grind (arith, length-append) in
-      omega (arith, e, sites_count below file (inside rows g first k) (Some first) (first + 1), sites_count behind file g parent (first + 1 + count below))
+      omega (arith, e, sites_count below file (inside rows g first (number_of k)) (Some first) (first + 1), sites_count behind file g parent (first + 1 + count below))
 
   pub sites_items : (t : Tree) (file g : ℕ) (parent : Option ℕ) (first : ℕ) → map item_of (sites rows file g parent first t) ≡ listed parent first t
   sites_items none file g parent first = refl
   sites_items (item k below behind) file g parent first =
-      let b : List Site = sites rows file (inside rows g first k) (Some first) (first + 1) below in
+      let b : List Site = sites rows file (inside rows g first (number_of k)) (Some first) (first + 1) below in
       let o : List Site = sites rows file g parent (first + 1 + count below) behind in
       ap (λ l. record { origin = k; parent = parent } ∷ l) (
       map-append item_of b o
-      ∙ ap (λ l. l ++ map item_of o) (sites_items below file (inside rows g first k) (Some first) (first + 1))
+      ∙ ap (λ l. l ++ map item_of o) (sites_items below file (inside rows g first (number_of k)) (Some first) (first + 1))
       ∙ ap (λ l. listed (Some first) (first + 1) below ++ l) (sites_items behind file g parent (first + 1 + count below))
       )
 
   pub sites_places : (t : Tree) (file g : ℕ) (parent : Option ℕ) (first : ℕ) → map (λ s. s.place) (sites rows file g parent first t) ≡ places file first t
   sites_places none file g parent first = refl
   sites_places (item k below behind) file g parent first =
-      let b : List Site = sites rows file (inside rows g first k) (Some first) (first + 1) below in
+      let b : List Site = sites rows file (inside rows g first (number_of k)) (Some first) (first + 1) below in
       let o : List Site = sites rows file g parent (first + 1 + count below) behind in
       ap (λ l. record { file = file; number = first; origin = k; below = below } ∷ l) (
       map-append (λ s. s.place) b o
-      ∙ ap (λ l. l ++ map (λ s. s.place) o) (sites_places below file (inside rows g first k) (Some first) (first + 1))
+      ∙ ap (λ l. l ++ map (λ s. s.place) o) (sites_places below file (inside rows g first (number_of k)) (Some first) (first + 1))
       ∙ ap (λ l. places file (first + 1) below ++ l) (sites_places behind file g parent (first + 1 + count below))
       )
 
@@ -130,16 +132,16 @@ module _ (rows : List Row) where
   run_all : (t : Tree) (file g q first i : ℕ) (rest : List Site) → i ≤ q → i < first → run i (map item_of (sites rows file g (Some q) first t ++ rest)) ≡ count t + run i (map item_of rest)
   run_all none file g q first i rest l m = omega arith
   run_all (item k below behind) file g q first i rest l m =
-      let b : List Site = sites rows file (inside rows g first k) (Some first) (first + 1) below in
+      let b : List Site = sites rows file (inside rows g first (number_of k)) (Some first) (first + 1) below in
       let o : List Site = sites rows file g (Some q) (first + 1 + count below) behind in
       let here : run i (map item_of (site file g (Some q) first k below ∷ (b ++ o) ++ rest)) ≡ 1 + run i (map item_of ((b ++ o) ++ rest)) = run_yes i (item_of (site file g (Some q) first k below)) (map item_of ((b ++ o) ++ rest)) (yes_above i q l) in
       let split : run i (map item_of ((b ++ o) ++ rest)) ≡ run i (map item_of (b ++ (o ++ rest))) = ap (λ l. run i (map item_of l)) (append_assoc b o rest) in
-      omega (arith, here, split, run_all below file (inside rows g first k) first (first + 1) i (o ++ rest) (omega (arith, m)) (omega (arith, m)), run_all behind file g q (first + 1 + count below) i rest l (omega (arith, m)))
+      omega (arith, here, split, run_all below file (inside rows g first (number_of k)) first (first + 1) i (o ++ rest) (omega (arith, m)) (omega (arith, m)), run_all behind file g q (first + 1 + count below) i rest l (omega (arith, m)))
 
   free_behind : (t : Tree) (file g : ℕ) (parent : Option ℕ) (from first : ℕ) (rest : List Site) → IsBefore from parent → Free from rest → Free from (sites rows file g parent first t ++ rest)
   free_behind none file g parent from first rest b f = f
   free_behind (item k below behind) file g parent from first rest b f = λ i l.
-      let bs : List Site = sites rows file (inside rows g first k) (Some first) (first + 1) below in
+      let bs : List Site = sites rows file (inside rows g first (number_of k)) (Some first) (first + 1) below in
       let o : List Site = sites rows file g parent (first + 1 + count below) behind in
       run_no i (item_of (site file g parent first k below)) (map item_of ((bs ++ o) ++ rest)) (not_above from i parent b l)
 
@@ -154,11 +156,11 @@ module _ (rows : List Row) where
   pub sited : (t : Tree) (file g : ℕ) (parent : Option ℕ) (first : ℕ) (rest : List Site) (i : ℕ) (s : Site) → g ≤ first → IsBefore first parent → Free first rest → slice_get (sites rows file g parent first t) i ≡ Some s → Sited rows first (sites rows file g parent first t ++ rest) i s
   sited none file g parent first rest i s l b f at = absurd (let bad : None ≡ Some s = at in cc)
   sited (item k below behind) file g parent first rest zero s l b f at =
-      let bs : List Site = sites rows file (inside rows g first k) (Some first) (first + 1) below in
+      let bs : List Site = sites rows file (inside rows g first (number_of k)) (Some first) (first + 1) below in
       let o : List Site = sites rows file g parent (first + 1 + count below) behind in
       let head : Site = site file g parent first k below in
       let split : (bs ++ o) ++ rest ≡ bs ++ (o ++ rest) = append_assoc bs o rest in
-      let all : run first (map item_of (bs ++ (o ++ rest))) ≡ count below + run first (map item_of (o ++ rest)) = run_all below file (inside rows g first k) first (first + 1) first (o ++ rest) (omega arith) (omega arith) in
+      let all : run first (map item_of (bs ++ (o ++ rest))) ≡ count below + run first (map item_of (o ++ rest)) = run_all below file (inside rows g first (number_of k)) first (first + 1) first (o ++ rest) (omega arith) (omega arith) in
       let free : run first (map item_of (o ++ rest)) ≡ 0 = free_behind behind file g parent first (first + 1 + count below) rest b f first (omega arith) in
       let same : run first (map item_of ((bs ++ o) ++ rest)) ≡ run first (map item_of (bs ++ (o ++ rest))) = ap (λ l. run first (map item_of l)) split in
       let here : Sited rows first (head ∷ (bs ++ o) ++ rest) zero head = record {
@@ -169,7 +171,7 @@ module _ (rows : List Row) where
       } in
       subst (λ (x : Site). Sited rows first (head ∷ (bs ++ o) ++ rest) zero x) (same_Some head s at) here
   sited (item k below behind) file g parent first rest (suc i) s l b f at =
-      let bs : List Site = sites rows file (inside rows g first k) (Some first) (first + 1) below in
+      let bs : List Site = sites rows file (inside rows g first (number_of k)) (Some first) (first + 1) below in
       let o : List Site = sites rows file g parent (first + 1 + count below) behind in
       let head : Site = site file g parent first k below in
       let split : (bs ++ o) ++ rest ≡ bs ++ (o ++ rest) = append_assoc bs o rest in
@@ -177,9 +179,9 @@ module _ (rows : List Row) where
       elim (get_parts bs o i s at) [
         | inl here ↦ moved (first + 1) first i (suc i) (bs ++ (o ++ rest)) (head ∷ (bs ++ o) ++ rest) s (omega arith)
             (ap (drop (i + 1)) (sym split) ∙ ap (λ n. drop n (head ∷ (bs ++ o) ++ rest)) (sym one))
-            (sited below file (inside rows g first k) (Some first) (first + 1) (o ++ rest) i s (inside_low rows g first k l) (omega arith) (free_behind behind file g parent (first + 1) (first + 1 + count below) rest (later first (first + 1) parent b (omega arith)) (free_later first (first + 1) rest (omega arith) f)) here)
+            (sited below file (inside rows g first (number_of k)) (Some first) (first + 1) (o ++ rest) i s (inside_low rows g first (number_of k) l) (omega arith) (free_behind behind file g parent (first + 1) (first + 1 + count below) rest (later first (first + 1) parent b (omega arith)) (free_later first (first + 1) rest (omega arith) f)) here)
         | inr (j, e, there) ↦
-            let long : length bs ≡ count below = sites_count rows below file (inside rows g first k) (Some first) (first + 1) in
+            let long : length bs ≡ count below = sites_count rows below file (inside rows g first (number_of k)) (Some first) (first + 1) in
             let far : suc i + 1 ≡ suc (length bs + (j + 1)) = omega (arith, e) in
             moved (first + 1 + count below) first j (suc i) (o ++ rest) (head ∷ (bs ++ o) ++ rest) s (omega (arith, e, long))
             (sym (drop_behind bs (o ++ rest) (j + 1)) ∙ ap (drop (length bs + (j + 1))) (sym split) ∙ ap (λ n. drop n (head ∷ (bs ++ o) ++ rest)) (sym far))
@@ -191,7 +193,7 @@ pub record AtTop (rows : List Row) (file g : ℕ) (parent : Option ℕ) (t : Tre
   pub same_parent : s.parent ≡ parent
   pub same_group : s.group ≡ g
   pub same_file : s.place.file ≡ file
-  pub is_of : AreOf rows file t → (r : Row) → slice_get rows s.place.origin ≡ Some r → r.file ≡ file
+  pub is_of : AreOf rows file t → (r : Row) → slice_get rows (number_of s.place.origin) ≡ Some r → r.file ≡ file
 
 pub record Under (rows : List Row) (first : ℕ) (all : List Site) (i : ℕ) (s : Site) : Type 0 where
   pub above : ℕ
@@ -222,11 +224,11 @@ module _ (rows : List Row) where
       let here : AtTop rows file g parent t head = record { same_parent = refl; same_group = refl; same_file = refl; is_of = λ are r there. are.0 r there } in
       inl (subst (λ (x : Site). AtTop rows file g parent t x) (same_Some head s at) here)
   standing (item k below behind) file g parent first (suc i) s at =
-      let bs : List Site = sites rows file (inside rows g first k) (Some first) (first + 1) below in
+      let bs : List Site = sites rows file (inside rows g first (number_of k)) (Some first) (first + 1) below in
       let o : List Site = sites rows file g parent (first + 1 + count below) behind in
       let head : Site = site file g parent first k below in
       elim (get_parts bs o i s at) [
-        | inl here ↦ elim (standing below file (inside rows g first k) (Some first) (first + 1) i s here) [
+        | inl here ↦ elim (standing below file (inside rows g first (number_of k)) (Some first) (first + 1) i s here) [
           | inl top ↦ inr record {
             above = zero;
             before = omega arith;
@@ -249,7 +251,7 @@ module _ (rows : List Row) where
         | inr (j, e, there) ↦ elim (standing behind file g parent (first + 1 + count below) j s there) [
           | inl top ↦ inl record { same_parent = top.same_parent; same_group = top.same_group; same_file = top.same_file; is_of = λ are. top.is_of are.1 }
           | inr under ↦
-              let long : length bs ≡ count below = sites_count rows below file (inside rows g first k) (Some first) (first + 1) in
+              let long : length bs ≡ count below = sites_count rows below file (inside rows g first (number_of k)) (Some first) (first + 1) in
               inr (under_moved (first + 1 + count below) first (1 + length bs) j (suc i) o (head ∷ bs ++ o) s (omega (arith, long)) (omega (arith, e)) (λ n. let f : 1 + length bs + n ≡ suc (length bs + n) = omega arith in ap (slice_get (head ∷ bs ++ o)) f ∙ get_behind bs o n) under)
         ]
       ]

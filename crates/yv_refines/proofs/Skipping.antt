@@ -3,6 +3,7 @@ use Rattle.std.proofs.Common.{◌≡◌, ℕ, ◌+◌, ◌&&◌, ◌||◌, not, 
 use Rattle.std.specs.List.{slice_get, list_any}
 use Rattle.yv_statement.specs.Order.{IsLeast}
 use Rattle.yv_statement.specs.declared.refusal.Refusal.{Refusal}
+use Rattle.yv_expansion.specs.Origin.{number_of}
 use Rattle.yv_expansion.specs.Tree.{Tree}
 use Rattle.yv_rows.specs.Rows.{Row}
 use Rattle.yv_rows.specs.Files.{Files, Briefs, brief_of}
@@ -33,8 +34,8 @@ none_by : (files : Briefs) (rows : List Row) (ps : List Place) → list_any is_r
 none_by files rows [] h = refl
 none_by files rows (p ∷ ps) h =
     ap (λ l. l ++ refined_at files rows p) (none_by files rows ps h)
-    ∙ ap (λ l. if is_at is_uses rows p.origin then map (λ n. record { refine = n; target = target files rows p n }) l else []) (no_numbers p.origin 0 rows h)
-    ∙ if_none (is_at is_uses rows p.origin)
+    ∙ ap (λ l. if is_at is_uses rows (number_of p.origin) then map (λ n. record { refine = n; target = target files rows p n }) l else []) (no_numbers (number_of p.origin) 0 rows h)
+    ∙ if_none (is_at is_uses rows (number_of p.origin))
 
 -- nothing is changed, and nothing is wrong
 pub nothing_told : (files : Files) (trees : List Tree) (refines : Refines) → list_any is_refine (rows_of files) ≡ false → refines.changes.items ≡ [] → refines.fault ≡ None → AreRefines files trees refines

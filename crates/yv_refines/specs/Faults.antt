@@ -2,6 +2,7 @@
 use Rattle.std.specs.Prelude.{◌≡◌, ℕ, ◌==◌, ◌&&◌, ◌||◌, ◌⊎◌, nat_le, Bool, false, List, [], ◌∷◌, map, length, if◌then◌else◌, Option, Some, None, codes, slice_get, count_by}
 use Rattle.std.specs.List.{list_any, list_all, filter}
 use Rattle.std.specs.Str.{bytes_eq}
+use Rattle.yv_expansion.specs.Origin.{number_of}
 use Rattle.yv_expansion.specs.Tree.{Tree as Items}
 use Rattle.yv_statement.specs.Tree.{Tree, trees}
 use Rattle.yv_statement.specs.Order.{Stands, Among, refusal_at}
@@ -55,9 +56,9 @@ fit_by None t = false
 fit_by (Some r) None = false
 fit_by (Some r) (Some t) = is_fit r.head.keyword t
 
--- the numbered refine is fit for the node at a place
+-- the numbered refine is fit for the node at a place; an operation's part that isn't written takes what its operation takes
 abbrev pub is_fit_for : Files → (refine : ℕ) → Place → Bool
-is_fit_for files n p = fit_by (slice_get (rows_of files) p.origin) (slice_get (statements_of files) n)
+is_fit_for files n p = fit_by (slice_get (rows_of files) (number_of p.origin)) (slice_get (statements_of files) n)
 
 abbrev pub is_change_by : Files → (item refine : ℕ) → Option Place → Bool
 is_change_by files item n None = false

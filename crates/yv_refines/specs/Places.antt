@@ -1,12 +1,13 @@
 -- The items of an expansion, each with what stands below it.
 use Rattle.std.specs.Prelude.{ℕ, ◌+◌, List, [], ◌∷◌, ◌++◌}
+use Rattle.yv_expansion.specs.declared.item.Origin.{Origin}
 use Rattle.yv_expansion.specs.Tree.{Tree, none, item, count}
 
--- an item: the file in whose tree it stands, its number, that of the statement of which it is made, and the items below it
+-- an item: the file in whose tree it stands, its number, what it is made of, and the items below it
 pub record Place : Type 0 where
   pub file : ℕ
   pub number : ℕ
-  pub origin : ℕ
+  pub origin : Origin
   pub below : Tree
 
 -- all items of a tree in order, each before those below it, the first having this number

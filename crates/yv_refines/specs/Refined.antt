@@ -1,10 +1,12 @@
 -- What the refines of an expansion mean (RFC 7950, section 7.13.2).
 use Rattle.std.specs.Prelude.{ℕ, ◌+◌, ◌==◌, ◌&&◌, not, Bool, List, [], ◌∷◌, ◌++◌, map, if◌then◌else◌, Option, Some, None, codes, slice_get}
+use Rattle.yv_expansion.specs.Origin.{number_of}
 use Rattle.yv_expansion.specs.Tree.{Tree}
 use Rattle.yv_rows.specs.Files.{Briefs, home_at, has_word}
 use Rattle.yv_rows.specs.Rows.{Row, name_in}
 use Rattle.yv_refines.specs.Places.{Place, places_in}
-use Rattle.yv_refines.specs.Paths.{steps_of, is_step}
+use Rattle.yv_paths.specs.Paths.{steps_of}
+use Rattle.yv_refines.specs.Paths.{is_step}
 use Rattle.yv_refines.specs.Targets.{is_at, is_uses, ended}
 
 -- a refine, and the item that it means, if there is one
@@ -39,7 +41,9 @@ target files rows p n = target_by files rows p (slice_get rows n)
 -- what the refines of one place mean, in the order of their statements; there are none but at a uses
 abbrev pub refined_at : Briefs → List Row → Place → List Refined
 refined_at files rows p =
-    if is_at is_uses rows p.origin then map (λ n. record { refine = n; target = target files rows p n }) (refines_in rows p.origin) else []
+    if is_at is_uses rows (number_of p.origin)
+    then map (λ n. record { refine = n; target = target files rows p n }) (refines_in rows (number_of p.origin))
+    else []
 
 -- what those of all places mean, from the last place to the first, so that those of an inner uses come before those of an outer one
 abbrev pub refined_by : Briefs → List Row → List Place → List Refined

@@ -2,13 +2,13 @@
 ghost use Rattle.std.specs.Prelude.{◌≡◌, List, map, length, IfOk};
 ghost use Rattle.std.specs.List.{list_any};
 ghost use Rattle.yv_statement.specs.Order.{IsLeast};
-ghost use Rattle.yv_expansion.specs.Tree.{Tree};
+ghost use Rattle.yv_expansion.specs.Tree.{Tree, Item};
 ghost use Rattle.yv_rows.specs.Files.{Files};
 ghost use Rattle.yv_rows.specs.Lent.{lent_in, files_in, rows_in};
-ghost use Rattle.yv_expansion.specs.declared.item.Item.{Item};
 ghost use Rattle.yv_refines.specs.Refined.{is_refine, refined_by};
 ghost use Rattle.yv_refines.specs.InnerSites.{Site, AreSites, spot_of};
-ghost use Rattle.yv_refines.specs.InnerDraft.{IsPlan, IsDraft};
+ghost use Rattle.yv_refines.specs.InnerDraft.{IsDraft};
+ghost use Rattle.yv_refines.specs.InnerPlan.{IsPlan};
 ghost use Rattle.yv_refines.specs.Faults.{changes, BadRefines};
 ghost use Rattle.yv_refines.specs.Listed.{IsListed};
 ghost use Rattle.yv_refines.specs.Known.{AreRefines};
@@ -16,12 +16,11 @@ ghost use Rattle.yv_refines.specs.Known.{AreRefines};
 use crate::draft::Draft;
 use crate::ends::ends;
 use crate::index::Index;
-use crate::names::{Names, numbers};
-use crate::paths::is_refine;
-use crate::plan::Plan;
+use crate::plan::{Plan, is_refine};
 use crate::spots::{Spot, spots};
 use std::alloc::{AllocError, Global};
-use yv_expansion::Item;
+use yv_expansion::{Item, Origin};
+use yv_paths::Names;
 use yv_rows::Rows;
 use yv_statement::Refusal;
 
@@ -72,13 +71,13 @@ pub struct Refines {
 impl Refines {
     /// Finds the node that each refine means below its uses (RFC 7950, section 7.13.2), where each step of a path is answered
     /// by the first node of its name. The items must be those of an expansion of these files, with one tree a file. Takes time
-    /// n log n in statements, items and refines, a refine being counted once for each copy of its uses. Err for want of memory
-    /// alone.
+    /// n log n in statements, items and refines, a refine being counted once for each copy of its uses. Err for want of memory,
+    /// and where there are more than 2 to the 32 less 3 statements.
     pub fn read(alloc: Global, rows: &Rows<'_, '_>, items: &[Item]) -> Result<Refines, AllocError>
         ensures { IfOk result (λ refines. (trees : List Tree) → IsListed (lent_in rows.now) items.now trees
             → AreRefines (lent_in rows.now) trees refines) }
     {
-        yv_expansion::laws::trees_are_listed_in_order();
+        yv_expansion::laws::trees_are_listed_in_order::<Origin>();
         if !has_refines(rows) {
             return Ok(Refines {
                 changes: Vec::new(alloc),
@@ -86,10 +85,9 @@ impl Refines {
             });
         }
         let names = Names::read(alloc, rows)?;
-        let numbers = numbers(alloc, rows, &names)?;
         let plan = Plan::read(alloc, rows, &names)?;
         let ends = ends(alloc, items)?;
-        let spots = spots(alloc, rows, &numbers, items, &ends)?;
+        let spots = spots(alloc, rows, &names, items, &ends)?;
         let Draft { changes, fault } = noted(alloc, rows, &plan, &spots)?;
         Ok(Refines { changes, fault })
     }

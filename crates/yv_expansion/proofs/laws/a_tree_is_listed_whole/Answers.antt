@@ -3,4 +3,4 @@ use Rattle.yv_expansion.proofs.laws.a_tree_is_listed_whole.Goals as goal
 
 -- src/laws.rt:6:1
 pub returns : goal.returns
-returns c = length_listed
+returns g c = length_listed

@@ -1,5 +1,5 @@
 use Rattle.std.proofs.Common.{◌≡◌, ◌≤◌, List, length, map, drop}
-use Rattle.yv_expansion.specs.declared.item.Item.{Item}
+use Rattle.yv_expansion.specs.Tree.{Item}
 use Rattle.yv_rows.specs.Lent.{lent_in, files_in, rows_in}
 use Rattle.yv_refines.specs.Refined.{refined_by}
 use Rattle.yv_refines.specs.InnerSites.{Site, AreSites, spot_of}

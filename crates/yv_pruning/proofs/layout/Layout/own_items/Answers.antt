@@ -1,5 +1,5 @@
 use Rattle.std.proofs.Common.{◌≡◌, ◌+◌, ◌-◌, ℕ, List, take, drop, length, ap, ◌∙◌, arith}
-use Rattle.yv_expansion.specs.declared.item.Item.{Item}
+use Rattle.yv_expansion.specs.Tree.{Item}
 use Rattle.yv_pruning.proofs.Cutting.{inside, own_part}
 use Rattle.yv_pruning.proofs.layout.Layout.own_items.Goals as goal
 

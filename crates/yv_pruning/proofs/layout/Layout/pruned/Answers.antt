@@ -1,6 +1,6 @@
 use Rattle.std.proofs.Common.{◌≡◌, ℕ, Bool, List, [], ap, sym, ◌∙◌, arith}
 use Rattle.std.proofs.lemmas.List.{drop_all}
-use Rattle.yv_expansion.specs.declared.item.Item.{Item}
+use Rattle.yv_expansion.specs.Tree.{Item}
 use Rattle.yv_pruning.specs.Listed.{is_marked}
 use Rattle.yv_pruning.specs.Pruned.{start_of, tree_at}
 use Rattle.yv_pruning.specs.InnerRuns.{Runs, run}

@@ -1,7 +1,7 @@
 use Rattle.std.proofs.Common.{◌++◌, List, ap, sym, ◌∙◌, arith, append-nil}
 use Rattle.std.proofs.lemmas.List.{drop_all}
 use Rattle.yv_rows.specs.Lent.{rows_in}
-use Rattle.yv_expansion.specs.declared.item.Item.{Item}
+use Rattle.yv_expansion.specs.Tree.{Item}
 use Rattle.yv_pruning.specs.InnerRuns.{files_from}
 use Rattle.yv_pruning.proofs.Filing.{files_listed}
 use Rattle.yv_pruning.proofs.layout.Layout.read.Goals as goal

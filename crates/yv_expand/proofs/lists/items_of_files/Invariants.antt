@@ -1,8 +1,0 @@
-use Rattle.std.proofs.Common.{length}
-use Rattle.yv_rows.specs.Lent.{files_in, rows_in}
-use Rattle.yv_expand.specs.InnerItems.{top_place}
-use Rattle.yv_expand.proofs.Placing.{Placing}
-use Rattle.yv_expand.proofs.lists.items_of_files.Given as goal
-
-abbrev pub invariant-loop-number : goal.invariant-loop-number
-invariant-loop-number l = Placing (top_place (files_in l.rows)) (rows_in l.rows) (length (files_in l.rows)) l.number l.lists.items
