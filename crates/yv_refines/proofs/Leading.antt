@@ -1,37 +1,26 @@
--- A path leads by the table of nodes to where it ends.
-use Rattle.std.proofs.Common.{◌≡◌, ℕ, ◌+◌, ◌<◌, ◌==◌, ◌||◌, zero, suc, Bool, true, false, cond, List, [], ◌∷◌, map, drop, Option, Some, None, refl, sym, ◌∙◌, ap, arith, eqb-true, eq-eqb}
+-- A path leads by the table of nodes to where it ends, and steps by their numbers to nodes.
+use Rattle.std.proofs.Common.{◌≡◌, ℕ, ◌+◌, ◌<◌, ◌==◌, ◌&&◌, ◌↔◌, zero, suc, Bool, true, false, cond, List, [], ◌∷◌, length, codes, map, drop, Option, Some, None, refl, sym, ◌∙◌, ap, arith, eqb-true, eq-eqb}
 use Rattle.std.specs.Bool.{one_answer}
 use Rattle.std.specs.List.{slice_get, find, position_from}
-use Rattle.std.specs.Option.{option_map, option_and_then, unwrap_or, is_none}
+use Rattle.std.specs.Option.{option_map, option_and_then}
 use Rattle.std.specs.Str.{bytes_eq}
 use Rattle.std.proofs.lemmas.Slice.Eq.{bytes_eq-Decides}
 use Rattle.std.proofs.lemmas.Option.{same_Some}
-use Rattle.yv_rows.specs.Rows.{Row, name_in}
-use Rattle.yv_rows.specs.Names.{prefix_of}
+use Rattle.yv_expansion.specs.declared.item.Origin.{Origin}
+use Rattle.yv_expansion.specs.declared.item.Origin.TheVariants.{Statement, Input, Output}
+use Rattle.yv_expansion.specs.Origin.{number_of}
+use Rattle.yv_rows.specs.Rows.{Row}
+use Rattle.yv_rows.specs.Names.{prefix_of, local_of}
 use Rattle.yv_rows.specs.Files.{Briefs}
 use Rattle.yv_rows.specs.Scopes.{module_of}
-use Rattle.yv_refines.specs.Paths.{is_of, is_home}
-use Rattle.yv_refines.specs.InnerNames.{step_of, first_named, name_number}
+use Rattle.yv_paths.specs.Names.{node_name, number_at, qualified}
+use Rattle.yv_paths.specs.Names.{number_of as number_of_name}
+use Rattle.yv_paths.specs.Paths.{home_by, home_of, step_of, step_number}
+use Rattle.yv_refines.specs.Paths.{is_of, is_home, is_step}
+use Rattle.yv_refines.specs.Targets.{name_at}
 use Rattle.yv_refines.specs.InnerSites.{Site}
-use Rattle.yv_refines.specs.InnerWalk.{is_open}
 use Rattle.yv_refines.specs.declared.spots.Spot.{Spot}
-
-pub position_hit : {A : Type 0} (p : A → Bool) (k : ℕ) (xs : List A) (a : ℕ) → position_from p k xs ≡ Some a → (j : ℕ) × (x : A) × (a ≡ k + j) × (slice_get xs j ≡ Some x) × (p x ≡ true)
-position_hit p k [] a h = absurd (let bad : None ≡ Some a = h in cc)
-position_hit {A = A} p k (x ∷ xs) a h = by (p x) refl h (position_hit p (k + 1) xs a)
-  where
-    by : (b : Bool) → p x ≡ b → cond b (Some k) (position_from p (k + 1) xs) ≡ Some a → (position_from p (k + 1) xs ≡ Some a → (j : ℕ) × (y : A) × (a ≡ k + 1 + j) × (slice_get xs j ≡ Some y) × (p y ≡ true)) → (j : ℕ) × (y : A) × (a ≡ k + j) × (slice_get (x ∷ xs) j ≡ Some y) × (p y ≡ true)
-    by true e f rest = (zero, x, (let s : k ≡ a = same_Some k a f in omega (arith, s)), refl, e)
-    by false e f rest = let r = rest f in (suc r.0, r.1, omega (arith, r.2), r.3, r.4)
-
-pub position_miss : {A : Type 0} (p : A → Bool) (k : ℕ) (xs : List A) (i : ℕ) (x : A) → position_from p k xs ≡ None → slice_get xs i ≡ Some x → p x ≡ false
-position_miss p k [] i x h at = absurd (let bad : None ≡ Some x = at in cc)
-position_miss p k (y ∷ xs) i x h at = by (p y) refl h (position_miss p (k + 1) xs) i at
-  where
-    by : (b : Bool) → p y ≡ b → cond b (Some k) (position_from p (k + 1) xs) ≡ None → ((j : ℕ) (z : _) → position_from p (k + 1) xs ≡ None → slice_get xs j ≡ Some z → p z ≡ false) → (j : ℕ) → slice_get (y ∷ xs) j ≡ Some x → p x ≡ false
-    by true e f rest j at = absurd (let bad : Some k ≡ None = f in cc)
-    by false e f rest zero at = ap p (sym (same_Some y x at)) ∙ e
-    by false e f rest (suc j) at = rest j x f at
+use Rattle.yv_refines.proofs.Words.{both_true}
 
 pub find_hit : {A : Type 0} (p : A → Bool) (xs : List A) (x : A) → find p xs ≡ Some x → (j : ℕ) × (slice_get xs j ≡ Some x) × (p x ≡ true)
 find_hit p [] x h = absurd (let bad : None ≡ Some x = h in cc)
@@ -79,27 +68,59 @@ position_find f p q k (x ∷ xs) h =
     mapped true = refl
     mapped false = refl
 
-pub same_name : (rows : List Row) (o : ℕ) (r : Row) (n : List ℕ) (a : ℕ) → slice_get rows o ≡ Some r → first_named rows n ≡ Some a → (name_number rows r == a) ≡ bytes_eq (name_in r) n
-same_name rows o r n a at named = by (first_named rows (name_in r)) refl
-  where
-    by : (c : Option ℕ) → first_named rows (name_in r) ≡ c → (unwrap_or c 0 == a) ≡ bytes_eq (name_in r) n
-    by None e = absurd (let own : bytes_eq (name_in r) (name_in r) ≡ true = (bytes_eq-Decides (name_in r) (name_in r)).1 refl in let miss : bytes_eq (name_in r) (name_in r) ≡ false = position_miss (λ (x : Row). bytes_eq (name_in x) (name_in r)) 0 rows o r e at in let bad : true ≡ false = sym own ∙ miss in cc)
-    by (Some b) e =
-        one_answer (b == a) (bytes_eq (name_in r) n)
-        (λ h. eqb-true b a h, λ h. eq-eqb b a h) (
-          λ h. let same : name_in r ≡ n = (bytes_eq-Decides (name_in r) n).0 h in same_Some b a (sym e ∙ ap (first_named rows) same ∙ named),
-          λ h.
-              let x = position_hit (λ (x : Row). bytes_eq (name_in x) (name_in r)) 0 rows b e in
-              let y = position_hit (λ (x : Row). bytes_eq (name_in x) n) 0 rows a named in
-              let one : x.1 ≡ y.1 = same_Some x.1 y.1 (sym x.3 ∙ ap (slice_get rows) (omega (arith, x.2, y.2, h)) ∙ y.3) in
-              let left : name_in x.1 ≡ name_in r = (bytes_eq-Decides (name_in x.1) (name_in r)).0 x.4 in
-              let right : name_in y.1 ≡ n = (bytes_eq-Decides (name_in y.1) n).0 y.4 in
-              (bytes_eq-Decides (name_in r) n).1 (sym left ∙ ap name_in one ∙ right),
-        )
+-- the same test on the items of a list
+pub find_same : {A : Type 0} (p q : A → Bool) (xs : List A) → ((j : ℕ) (x : A) → slice_get xs j ≡ Some x → p x ≡ q x) → find p xs ≡ find q xs
+find_same p q [] h = refl
+find_same p q (x ∷ xs) h = ap (λ b. cond b (Some x) (find p xs)) (h zero x refl) ∙ ap (λ o. cond (q x) (Some x) o) (find_same p q xs (λ j y at. h (suc j) y at))
 
-pub open_is : (files : Briefs) (rows : List Row) (home file : ℕ) (text : List ℕ) → is_open home (step_of files rows file text) ≡ is_of files rows home file (prefix_of text)
-open_is files rows home file text = by (prefix_of text)
-  where
-    by : (o : Option (List ℕ)) → (is_none o || is_home home (option_and_then (λ prefix. module_of files rows file prefix) o)) ≡ is_of files rows home file o
-    by None = refl
-    by (Some p) = refl
+-- what the numbers of names and of steps say
+pub record Numbered (files : Briefs) (rows : List Row) : Type 0 where
+  pub statement : (k : ℕ) → k < length rows → (n : ℕ) × (number_at rows k ≡ Some n)
+  pub input : (n : ℕ) × (number_of_name rows (codes "input") ≡ Some n)
+  pub output : (n : ℕ) × (number_of_name rows (codes "output") ≡ Some n)
+  pub step : (file own home : ℕ) (text name : List ℕ) (n : ℕ) → number_of_name rows name ≡ Some n → (option_map (step_number own) (step_of files rows file text) ≡ Some (qualified home n)) ↔ ((home_of files rows file own text ≡ Some home) × (local_of text ≡ name))
+
+module _ (files : Briefs) (rows : List Row) (numbered : Numbered files rows) where
+  -- the name of an item, and its number
+  pub item_name : (origin : Origin) → number_of origin < length rows → (name : List ℕ) × (n : ℕ) × (name_at rows origin ≡ Some name) × (number_of_name rows name ≡ Some n)
+  item_name (Statement k) l = by (slice_get rows k) (numbered.statement k l).1
+    where
+      by : (o : Option Row) → option_and_then (λ r. number_of_name rows (node_name r.head)) o ≡ Some (numbered.statement k l).0 → (name : List ℕ) × (n : ℕ) × (option_map (λ r. node_name r.head) o ≡ Some name) × (number_of_name rows name ≡ Some n)
+      by None e = absurd (let bad : None ≡ Some (numbered.statement k l).0 = e in cc)
+      by (Some r) e = (node_name r.head, (numbered.statement k l).0, refl, e)
+  item_name (Input k) l = (codes "input", numbered.input.0, refl, numbered.input.1)
+  item_name (Output k) l = (codes "output", numbered.output.0, refl, numbered.output.1)
+
+  home_is : (home file : ℕ) (o : Option (List ℕ)) → (is_of files rows home file o ≡ true → home_by files rows file home o ≡ Some home) × (home_by files rows file home o ≡ Some home → is_of files rows home file o ≡ true)
+  home_is home file None = (λ h. refl, λ h. refl)
+  home_is home file (Some p) = by (module_of files rows file p)
+    where
+      by : (m : Option ℕ) → (is_home home m ≡ true → m ≡ Some home) × (m ≡ Some home → is_home home m ≡ true)
+      by None = (λ h. absurd (let bad : false ≡ true = h in cc), λ h. absurd (let bad : None ≡ Some home = h in cc))
+      by (Some m) = (λ h. ap Some (eqb-true m home h), λ h. eq-eqb m home (same_Some m home h))
+
+  both : (a b : Bool) → a ≡ true → b ≡ true → (a && b) ≡ true
+  both a b h g = ap (λ c. c && b) h ∙ g
+
+  -- a step names a name exactly where it has its number
+  pub named_is : (home file : ℕ) (text name : List ℕ) (n : ℕ) → number_of_name rows name ≡ Some n → (is_step files rows home file text name ≡ true → option_map (step_number home) (step_of files rows file text) ≡ Some (qualified home n)) × (option_map (step_number home) (step_of files rows file text) ≡ Some (qualified home n) → is_step files rows home file text name ≡ true)
+  named_is home file text name n h =
+      let law = numbered.step file home home text name n h in
+      let of = home_is home file (prefix_of text) in (
+        λ t. let parts = both_true (is_of files rows home file (prefix_of text)) (bytes_eq name (local_of text)) t in law.1 (of.0 parts.0, sym ((bytes_eq-Decides name (local_of text)).0 parts.1)),
+        λ e. let parts = law.0 e in both (is_of files rows home file (prefix_of text)) (bytes_eq name (local_of text)) (of.1 parts.0) ((bytes_eq-Decides name (local_of text)).1 (sym parts.1)),
+      )
+
+  pub not_named : (home file : ℕ) (text name : List ℕ) (n : ℕ) → number_of_name rows name ≡ Some n → option_map (step_number home) (step_of files rows file text) ≡ None → is_step files rows home file text name ≡ false
+  not_named home file text name n h none = by (is_step files rows home file text name) refl
+    where
+      by : (b : Bool) → is_step files rows home file text name ≡ b → is_step files rows home file text name ≡ false
+      by true e = absurd (let bad : None ≡ Some (qualified home n) = sym none ∙ (named_is home file text name n h).0 e in cc)
+      by false e = e
+
+  pub same_number : (home file : ℕ) (text name : List ℕ) (n a : ℕ) → number_of_name rows name ≡ Some n → option_map (step_number home) (step_of files rows file text) ≡ Some a → (qualified home n == a) ≡ is_step files rows home file text name
+  same_number home file text name n a h some =
+      let is = named_is home file text name n h in
+      one_answer (qualified home n == a) (is_step files rows home file text name)
+      (λ t. some ∙ ap Some (sym (eqb-true (qualified home n) a t)), λ e. eq-eqb (qualified home n) a (sym (same_Some a (qualified home n) (sym some ∙ e))))
+      is

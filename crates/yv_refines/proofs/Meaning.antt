@@ -9,13 +9,13 @@ use Rattle.yv_expansion.specs.Origin.{number_of}
 use Rattle.yv_expansion.specs.Tree.{Tree, none, item, count}
 use Rattle.yv_rows.specs.Rows.{Row}
 use Rattle.yv_refines.specs.Places.{Place}
-use Rattle.yv_refines.specs.Targets.{is_at, is_uses, nodes}
+use Rattle.yv_refines.specs.Targets.{is_at, is_uses, is_named, nodes}
 use Rattle.yv_refines.specs.InnerSites.{Site, sites, inside}
 use Rattle.yv_refines.proofs.Siting.{inside_low, get_parts}
 
 -- a node of the group, whose statement passes
-abbrev pub is_node_in : List Row → ℕ → (Row → Bool) → Site → Bool
-is_node_in rows g test s = (s.group == g) && (not (is_at is_uses rows (number_of s.place.origin)) && is_at test rows (number_of s.place.origin))
+abbrev pub is_node_in : List Row → ℕ → (List ℕ → Bool) → Site → Bool
+is_node_in rows g test s = (s.group == g) && (not (is_at is_uses rows (number_of s.place.origin)) && is_named test rows s.place.origin)
 
 pub find_none : {A : Type 0} (p : A → Bool) (xs : List A) → ((i : ℕ) (x : A) → slice_get xs i ≡ Some x → p x ≡ false) → find p xs ≡ None
 find_none p [] h = refl
@@ -88,17 +88,17 @@ module _ (rows : List Row) where
       ]
 
   -- the first node of a group among the sites of a tree is the first of the tree's nodes
-  pub first_node : (t : Tree) (file g : ℕ) (parent : Option ℕ) (first : ℕ) (test : Row → Bool) → g ≤ first → option_map (λ s. s.place) (find (is_node_in rows g test) (sites rows file g parent first t)) ≡ find (λ p. is_at test rows (number_of p.origin)) (nodes rows file first t)
+  pub first_node : (t : Tree) (file g : ℕ) (parent : Option ℕ) (first : ℕ) (test : List ℕ → Bool) → g ≤ first → option_map (λ s. s.place) (find (is_node_in rows g test) (sites rows file g parent first t)) ≡ find (λ p. is_named test rows p.origin) (nodes rows file first t)
   first_node none file g parent first test l = refl
   first_node (item k below behind) file g parent first test l =
       let head : Site = record { group = g; parent = parent; place = record { file = file; number = first; origin = k; below = below } } in
-      let v : Bool = is_at test rows (number_of k) in
+      let v : Bool = is_named test rows k in
       let own : (g == g) ≡ true = eq-eqb g g refl in
-      either (is_at is_uses rows (number_of k)) (λ h. sites rows file h (Some first) (first + 1) below) (sites rows file g parent (first + 1 + count below) behind) (is_node_in rows g test) head (nodes rows file (first + 1) below) (nodes rows file (first + 1 + count below) behind) (λ p. is_at test rows (number_of p.origin)) g (first + 1)
+      either (is_at is_uses rows (number_of k)) (λ h. sites rows file h (Some first) (first + 1) below) (sites rows file g parent (first + 1 + count below) behind) (is_node_in rows g test) head (nodes rows file (first + 1) below) (nodes rows file (first + 1 + count below) behind) (λ p. is_named test rows p.origin) g (first + 1)
       (λ u. ap (λ b. (g == g) && (not b && v)) u ∙ and_no (g == g))
       (λ u. first_node below file g (Some first) (first + 1) test (omega (arith, l)))
       (λ u. find_none (is_node_in rows g test) (sites rows file (first + 1) (Some first) (first + 1) below) (λ i s at.
       let far : first + 1 ≤ s.group = group_from below file (first + 1) (first + 1) (Some first) (first + 1) i s (omega arith) (omega arith) at in
-      ap (λ c. c && (not (is_at is_uses rows (number_of s.place.origin)) && is_at test rows (number_of s.place.origin))) (ne_eqb s.group g (λ e. omega (arith, e, far, l)))))
+      ap (λ c. c && (not (is_at is_uses rows (number_of s.place.origin)) && is_named test rows s.place.origin)) (ne_eqb s.group g (λ e. omega (arith, e, far, l)))))
       (λ u. ap (λ b. (g == g) && (not b && v)) u ∙ ap (λ b. b && v) own)
       (first_node behind file g parent (first + 1 + count below) test (omega (arith, l)))

@@ -1,24 +1,15 @@
--- One more name, and one more node, in a table.
-use Rattle.std.proofs.Common.{◌≡◌, ℕ, ◌+◌, ◌==◌, ◌&&◌, not, Bool, true, false, cond, List, ◌++◌, ◌∷◌, [], map, take, Option, None, Some, refl, sym, ◌∙◌, ap, eqb-true, eq-eqb}
+-- One more value of a list, and one more node in a table.
+use Rattle.std.proofs.Common.{◌≡◌, ℕ, ◌+◌, ◌==◌, ◌&&◌, not, Bool, true, false, cond, List, ◌++◌, ◌∷◌, [], map, take, Option, Some, refl, sym, ◌∙◌, ap, eqb-true, eq-eqb}
 use Rattle.std.specs.Bool.{one_answer}
 use Rattle.std.specs.Ordering.{nat_cmp, ordering_then, is_eq}
 use Rattle.std.specs.declared.cmp.Ordering.{Ordering}
 use Rattle.std.specs.declared.cmp.Ordering.TheVariants.{Less, Equal, Greater}
 use Rattle.std.specs.Cmp.{Equal-is, nat_cmp_is}
-use Rattle.std.specs.Cmp.Lexicographic.{slice_cmp}
-use Rattle.std.specs.Str.{bytes_eq}
 use Rattle.std.specs.List.{slice_get}
 use Rattle.std.specs.BTreeMap.{BTreeMap, UpdatesBy}
 use Rattle.std.proofs.lemmas.List.{map-append}
 use Rattle.std.proofs.lemmas.Map.Lookups.{exact_unsigned}
-use Rattle.std.proofs.lemmas.Map.Text.{is_eq-slice_cmp}
-use Rattle.std.proofs.lemmas.Slice.Eq.{bytes_eq-Decides}
-use denote.Ref.{Bor}
-use Rattle.yv_rows.specs.Rows.{Row, name_in}
-use Rattle.yv_rows.specs.InnerPlaces.{first_some}
-use Rattle.yv_rows.proofs.Firsts.{first_more, take_next}
-use Rattle.yv_refines.specs.InnerNames as names
-use Rattle.yv_refines.specs.InnerNames.{kept, first_named}
+use Rattle.yv_rows.proofs.Firsts.{take_next}
 use Rattle.yv_refines.specs.InnerWalk.{lookup_in, added}
 use Rattle.yv_refines.specs.declared.spots.Spot.{Spot}
 
@@ -31,37 +22,6 @@ is_eq_nat : (a b : ℕ) → is_eq (nat_cmp a b) ≡ (a == b)
 is_eq_nat a b = one_answer (is_eq (nat_cmp a b)) (a == b)
     (λ h. exact_unsigned a b ((Equal-is (nat_cmp a b)).0 h), λ e. (Equal-is (nat_cmp a b)).1 (sym (nat_cmp_is a b Equal e)))
     (λ h. eqb-true a b h, λ e. eq-eqb a b e)
-
-chosen : (b : Bool) (old : Option ℕ) (number : ℕ) → (b ≡ true → old ≡ None) → cond b (Some number) old ≡ first_some old (cond b (Some number) None)
-chosen true old number h = ap (λ o. first_some o (Some number)) (sym (h refl))
-chosen false None number h = refl
-chosen false (Some x) number h = refl
-
--- a name that is new
-pub kept_new : (old new : BTreeMap (Bor (List ℕ)) ℕ) (name : Bor (List ℕ)) (number : ℕ) → names.lookup_in old name.now ≡ None → UpdatesBy (λ x y. slice_cmp nat_cmp x.now y.now) (λ y. slice_cmp nat_cmp name.now y.now) old new (Some number) → (n : List ℕ) → names.lookup_in new n ≡ kept (names.lookup_in old) name.now number n
-kept_new old new name number none u n =
-    u.0 (record { ref_ptr = (0, 0); now = n })
-    ∙ ap (λ b. cond b (Some number) (names.lookup_in old n)) (is_eq-slice_cmp name.now n)
-    ∙ chosen (bytes_eq name.now n) (names.lookup_in old n) number (λ h. ap (names.lookup_in old) (sym ((bytes_eq-Decides name.now n).0 h)) ∙ none)
-
--- a name that is there stays
-pub kept_old : (table : List ℕ → Option ℕ) (name : List ℕ) (number x : ℕ) → table name ≡ Some x → (n : List ℕ) → table n ≡ kept table name number n
-kept_old table name number x some n = stays (bytes_eq name n) (table n) (λ h. (x, ap table (sym ((bytes_eq-Decides name n).0 h)) ∙ some))
-  where
-    stays : (b : Bool) (old : Option ℕ) → (b ≡ true → (y : ℕ) × (old ≡ Some y)) → old ≡ first_some old (cond b (Some number) None)
-    stays true None h = absurd (let e = (h refl).1 in cc)
-    stays true (Some y) h = refl
-    stays false None h = refl
-    stays false (Some y) h = refl
-
--- one more statement's name
-pub names_more : (rows : List Row) (i : ℕ) (r : Row) (name : List ℕ) (old new : List ℕ → Option ℕ) → slice_get rows i ≡ Some r → name ≡ name_in r → ((n : List ℕ) → old n ≡ first_named (take i rows) n) → ((n : List ℕ) → new n ≡ kept old name i n) → (n : List ℕ) → new n ≡ first_named (take (i + 1) rows) n
-names_more rows i r name old new at is before now n =
-    let p : Row → Bool = λ x. bytes_eq (name_in x) n in
-    now n
-    ∙ ap (λ o. first_some o (cond (bytes_eq name n) (Some i) None)) (before n)
-    ∙ ap (λ m. first_some (first_named (take i rows) n) (cond (bytes_eq m n) (Some i) None)) is
-    ∙ sym (first_more p i rows r at)
 
 -- one more value of a list
 pub mapped_more : {A B : Type 0} (f : A → B) (xs : List A) (i : ℕ) (x : A) (y : B) (old new : List B) → slice_get xs i ≡ Some x → y ≡ f x → new ≡ old ++ y ∷ [] → map f (take i xs) ≡ old → map f (take (i + 1) xs) ≡ new

@@ -14,21 +14,20 @@ use Rattle.yv_rows.specs.Rows.{Row, name_in}
 use Rattle.yv_rows.specs.Listed.{rows_of}
 use Rattle.yv_rows.proofs.Firsts.{take_next}
 use Rattle.yv_refines.specs.Places.{Place}
-use Rattle.yv_refines.specs.Paths.{steps_of}
 use Rattle.yv_refines.specs.Refined.{Refined, is_refine, is_refine_of, refines_in, target, target_by}
 use Rattle.yv_refines.specs.Faults.{is_fit_for, is_change, is_change_by, changes_by, BadRefined, BadAmong}
-use Rattle.yv_refines.specs.InnerNames.{path_of}
+use Rattle.yv_paths.specs.Paths.{steps_of, path_of}
+use Rattle.yv_paths.specs.declared.step.Step.{Step}
 use Rattle.yv_refines.specs.InnerSites.{Site, spot_of}
 use Rattle.yv_refines.specs.InnerWalk.{Table, IsTable, walk}
-use Rattle.yv_refines.specs.InnerDraft.{Lists, IsDraft, IsMeant, IsPlan, Asked, Changed, AreRefineNumbers, code_of, fit_item_of, path_by, block_by}
+use Rattle.yv_refines.specs.InnerDraft.{Lists, IsDraft, IsMeant, Asked, Changed, AreRefineNumbers, code_of, fit_item_of}
 use Rattle.yv_refines.specs.declared.draft.Draft.{Draft}
-use Rattle.yv_refines.specs.declared.plan.Plan.{Plan}
-use Rattle.yv_refines.specs.declared.paths.Step.{Step}
 use Rattle.yv_refines.specs.declared.spots.Spot.{Spot}
 use Rattle.yv_refines.proofs.Words.{both_true}
 use Rattle.yv_refines.proofs.Listing.{set_at, longer, numbers_are}
 use Rattle.yv_refines.proofs.Siting.{get_parts, get_front, get_behind}
-use Rattle.yv_refines.proofs.Reaching.{none_past, reached}
+use Rattle.yv_refines.proofs.Leading.{Numbered}
+use Rattle.yv_refines.proofs.Reaching.{reached}
 
 -- one number more in a list
 pub changed_set : (old new : Lists) (item number : ℕ) (w w' : Vec ℕ Global) → item < length old → w ≡ get_or old item w → w'.items ≡ w.items ++ number ∷ [] → new ≡ set old item w' → Changed item number old new
@@ -184,21 +183,6 @@ meant_within spots (Some q) (Some i) p h e =
     let n = h.0 in
     omega (arith, number, w, n)
 
--- the path of a refine
-pub path_is : (files : Briefs) (rows : List Row) (plan : Plan) (n : ℕ) (r : Row) → IsPlan files rows plan → slice_get rows n ≡ Some r → is_refine r ≡ true → path_by (slice_get plan.paths.items n) ≡ path_of files rows r
-path_is files rows plan n r is at refines = by (slice_get plan.paths.items n) refl
-  where
-    by : (o : Option (Vec Step Global)) → slice_get plan.paths.items n ≡ o → path_by o ≡ path_of files rows r
-    by None e = absurd (none_past plan.paths.items n e (let w = slice_get_within rows n r at in let l = is.paths.each in omega (arith, w, l)))
-    by (Some v) e = is.paths.steps n v r e at refines
-
-pub block_is : (files : Briefs) (rows : List Row) (plan : Plan) (k : ℕ) → IsPlan files rows plan → k < length rows → block_by (slice_get plan.blocks.items k) ≡ refines_in rows k
-block_is files rows plan k is w = by (slice_get plan.blocks.items k) refl
-  where
-    by : (o : Option (Vec ℕ Global)) → slice_get plan.blocks.items k ≡ o → block_by o ≡ refines_in rows k
-    by None e = absurd (none_past plan.blocks.items k e (let l = is.blocks.each in omega (arith, w, l)))
-    by (Some v) e = is.blocks.items k v e
-
 pub refines_are : (rows : List Row) (k : ℕ) → AreRefineNumbers rows (refines_in rows k)
 refines_are rows k j n at =
     let w = slice_get_within (refines_in rows k) j n at in
@@ -207,12 +191,12 @@ refines_are rows k j n at =
     (h.1, ap (slice_get rows) same ∙ h.2, (both_true (is_refine h.1) _ h.4).0)
 
 -- what a refine means
-pub meant_is : (files : Briefs) (rows : List Row) (spots : List Spot) (table : Table) (number home n : ℕ) (s : Site) (r : Row) (steps : List Step) (result : Option ℕ) → Asked files rows spots table number s → home ≡ home_at files s.place.file → slice_get rows n ≡ Some r → steps ≡ path_of files rows r → result ≡ walk table spots home steps number → IsMeant spots (target files rows s.place n) result
-meant_is files rows spots table number home n s r steps result asked home_is at steps_are is =
+pub meant_is : (files : Briefs) (rows : List Row) (spots : List Spot) (table : Table) (number home n : ℕ) (s : Site) (r : Row) (steps : List (Option Step)) (result : Option ℕ) → Numbered files rows → Asked files rows spots table number s → home ≡ home_at files s.place.file → slice_get rows n ≡ Some r → steps ≡ path_of files rows r → result ≡ walk table spots home steps number → IsMeant spots (target files rows s.place n) result
+meant_is files rows spots table number home n s r steps result numbered asked home_is at steps_are is =
     let own : ℕ = home_at files s.place.file in
     let all = map (spot_of files rows) asked.all in
     let told : IsTable all (number + 1) table = subst (λ (l : List Spot). IsTable l (number + 1) table) asked.spots_are asked.told in
-    let here : IsMeant all (target_by files rows s.place (Some r)) (walk table all own (path_of files rows r) number) = reached files rows asked.items asked.all asked.are (number + 1) table told own r.file (steps_of (name_in r)) number s asked.at (inl refl) in
+    let here : IsMeant all (target_by files rows s.place (Some r)) (walk table all own (path_of files rows r) number) = reached files rows numbered asked.items asked.all asked.are (number + 1) table told own r.file (steps_of (name_in r)) number s refl asked.at (inl refl) in
     let result_is : result ≡ walk table all own (path_of files rows r) number =
     is ∙ ap (λ l. walk table l home steps number) asked.spots_are ∙ ap (λ h. walk table all h steps number) home_is ∙ ap (λ l. walk table all own l number) steps_are in
     subst (λ (l : List Spot). IsMeant l (target files rows s.place n) result) (sym asked.spots_are)

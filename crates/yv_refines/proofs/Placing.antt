@@ -1,15 +1,16 @@
--- The statements by place, as they are filed.
-use Rattle.std.proofs.Common.{◌≡◌, ℕ, ◌+◌, ◌<◌, ◌≤◌, inl, inr, Bool, true, false, not, ◌&&◌, ◌==◌, if◌then◌else◌, List, [], ◌∷◌, ◌++◌, length, set, get_or, drop, refl, sym, ◌∙◌, ap, Option, Some, None, length-set, eq-eqb, append_assoc}
-use Rattle.std.proofs.lemmas.Bool.{ne_eqb}
+-- Refines by place.
+use Rattle.std.proofs.Common.{◌≡◌, ℕ, ◌+◌, ◌≤◌, suc, inl, inr, Bool, true, false, not, ◌&&◌, ◌==◌, if◌then◌else◌, List, [], ◌∷◌, ◌++◌, length, drop, refl, sym, ◌∙◌, ap, Option, Some, None, append_assoc}
 use Rattle.std.proofs.lemmas.List.{append-nil, drop_all}
-use Rattle.std.proofs.lemmas.Option.{slice_get-get_or, same_Some}
 use Rattle.std.specs.List.{slice_get}
 use Rattle.std.specs.declared.vec.Vec.{Vec}
 use Rattle.std.specs.declared.alloc.Global.{Global}
 use Rattle.yv_rows.specs.Rows.{Row}
-use Rattle.yv_refines.specs.InnerDraft.{Lists, AreEmptyLists, refine_place, is_place, placed_from}
+use Rattle.yv_families.specs.Families.{is_place}
+use Rattle.yv_families.specs.Families.{numbers_from as place_numbers}
+use Rattle.yv_refines.specs.InnerPlaces.{refine_place, refine_places}
+use Rattle.yv_refines.specs.InnerDraft.{Lists, AreEmptyLists}
 use Rattle.yv_refines.specs.Refined.{is_refine, is_refine_of, refines_in, numbers_from}
-use Rattle.yv_refines.proofs.Listing.{pushed_at, rest_of, set_at}
+use Rattle.yv_refines.proofs.Listing.{pushed_at, rest_of}
 
 -- so many empty lists, one by one
 pub empty_none : (lists : Lists) → lists ≡ [] → AreEmptyLists lists
@@ -20,53 +21,6 @@ empty_more lists lists' v old none e p w at = elim (pushed_at lists v w p (ap (�
   | inl before ↦ old p w before
   | inr (here, same) ↦ ap (λ (x : Vec ℕ Global). x.items) (sym same) ∙ none
 ]
-
--- those of the first statements are filed
-pub record Placing (place : ℕ → Row → Option ℕ) (rows : List Row) (count i : ℕ) (lists : Lists) : Type 0 where
-  pub each : length lists ≡ count
-  pub items : (p : ℕ) (v : Vec ℕ Global) → slice_get lists p ≡ Some v → v.items ++ placed_from place p i (drop i rows) ≡ placed_from place p 0 rows
-
-module _ (place : ℕ → Row → Option ℕ) (rows : List Row) (count : ℕ) where
-  pub placing_none : (lists : Lists) → length lists ≡ count → AreEmptyLists lists → Placing place rows count 0 lists
-  placing_none lists each none = record { each = each; items = λ p v at. rw (none p v at) refl }
-
-  -- one more statement, which has no place
-  pub placing_other : (i : ℕ) (lists : Lists) (r : Row) (o : Option ℕ) → Placing place rows count i lists → slice_get rows i ≡ Some r → o ≡ place i r → o ≡ None → Placing place rows count (i + 1) lists
-  placing_other i lists r o old at is none = record {
-    each = old.each;
-    items = λ p v here.
-        let without : place i r ≡ None = sym is ∙ none in
-        let rest : placed_from place p i (drop i rows) ≡ placed_from place p i (r ∷ drop (i + 1) rows) = ap (placed_from place p i) (rest_of rows i r at) in
-        let same : placed_from place p i (r ∷ drop (i + 1) rows) ≡ placed_from place p (i + 1) (drop (i + 1) rows) = rw without refl in
-        ap (λ l. v.items ++ l) (sym same ∙ sym rest) ∙ old.items p v here;
-  }
-
-  -- one more statement, which has this place
-  pub placing_place : (i q : ℕ) (lists lists' : Lists) (r : Row) (row row' : Vec ℕ Global) (o : Option ℕ) → Placing place rows count i lists → slice_get rows i ≡ Some r → o ≡ place i r → o ≡ Some q → q < length lists → row ≡ get_or lists q row → row'.items ≡ row.items ++ i ∷ [] → lists' ≡ set lists q row' → Placing place rows count (i + 1) lists'
-  placing_place i q lists lists' r row row' o old at is some within read more now = record {
-    each = ap length now ∙ (let l : length (set lists q row') ≡ length lists = length-set lists q row' in l) ∙ old.each;
-    items = λ p v here.
-        let with : place i r ≡ Some q = sym is ∙ some in
-        let rest : placed_from place p i (drop i rows) ≡ placed_from place p i (r ∷ drop (i + 1) rows) = ap (placed_from place p i) (rest_of rows i r at) in
-        elim (set_at lists q p row' v (ap (λ l. slice_get l p) (sym now) ∙ here)) [
-          | inl (same, v_is) ↦
-              let head : is_place p (place i r) ≡ true = rw with (eq-eqb q p (sym same)) in
-              let split : placed_from place p i (r ∷ drop (i + 1) rows) ≡ i ∷ placed_from place p (i + 1) (drop (i + 1) rows) = rw head refl in
-              let was : slice_get lists p ≡ Some row = ap (slice_get lists) same ∙ slice_get-get_or lists q row within ∙ ap Some (sym read) in
-              ap (λ (x : Vec ℕ Global). x.items ++ placed_from place p (i + 1) (drop (i + 1) rows)) v_is
-              ∙ ap (λ l. l ++ placed_from place p (i + 1) (drop (i + 1) rows)) more
-              ∙ append_assoc row.items (i ∷ []) (placed_from place p (i + 1) (drop (i + 1) rows))
-              ∙ ap (λ l. row.items ++ l) (sym split ∙ sym rest)
-              ∙ old.items p row was
-          | inr (ne, was) ↦
-              let head : is_place p (place i r) ≡ false = rw with (ne_eqb q p (λ e. ne (sym e))) in
-              let same : placed_from place p i (r ∷ drop (i + 1) rows) ≡ placed_from place p (i + 1) (drop (i + 1) rows) = rw head refl in
-              ap (λ l. v.items ++ l) (sym same ∙ sym rest) ∙ old.items p v was
-        ];
-  }
-
-  pub placing_all : (i : ℕ) (lists : Lists) → length rows ≤ i → Placing place rows count i lists → (p : ℕ) (v : Vec ℕ Global) → slice_get lists p ≡ Some v → v.items ≡ placed_from place p 0 rows
-  placing_all i lists past all p v at = sym (append-nil v.items) ∙ (let e : v.items ++ placed_from place p i [] ≡ placed_from place p 0 rows = ap (λ l. v.items ++ placed_from place p i l) (sym (drop_all i rows past)) ∙ all.items p v at in e)
 
 same_test : (b c : Bool) (x p : ℕ) → is_place p (if b && c then Some x else None) ≡ (b && ((x == p) && c))
 same_test true true x p = sym (and_true (x == p))
@@ -81,17 +35,28 @@ same_test true false x p = sym (and_false (x == p))
     and_false false = refl
 same_test false c x p = refl
 
-numbers_same : (f g : ℕ → Row → Bool) (n : ℕ) (rows : List Row) → ((k : ℕ) (r : Row) → f k r ≡ g k r) → numbers_from f n rows ≡ numbers_from g n rows
-numbers_same f g n [] h = refl
-numbers_same f g n (r ∷ rs) h =
-    ap (λ l. if f n r then n ∷ l else l) (numbers_same f g (n + 1) rs h)
-    ∙ ap (λ (b : Bool). if b then n ∷ numbers_from g (n + 1) rs else numbers_from g (n + 1) rs) (h n r)
+-- the refines at a place
+refines_from : (p n : ℕ) (rows : List Row) → place_numbers p n (refine_places n rows) ≡ numbers_from (is_refine_of p) n rows
+refines_from p n [] = refl
+refines_from p n (r ∷ rs) =
+    ap (λ l. if is_place p (refine_place n r) then n ∷ l else l) (refines_from p (n + 1) rs)
+    ∙ ap (λ (b : Bool). if b then n ∷ numbers_from (is_refine_of p) (n + 1) rs else numbers_from (is_refine_of p) (n + 1) rs) (same_test (is_refine r) (not (r.scope == n)) r.scope p)
 
--- what is filed of refines
-pub refines_placed : (rows : List Row) (p : ℕ) → placed_from refine_place p 0 rows ≡ refines_in rows p
-refines_placed rows p = numbers_same (λ k r. is_place p (refine_place k r)) (is_refine_of p) 0 rows (λ k r. same_test (is_refine r) (not (r.scope == k)) r.scope p)
+pub refines_placed : (rows : List Row) (p : ℕ) → place_numbers p 0 (refine_places 0 rows) ≡ refines_in rows p
+refines_placed rows p = refines_from p 0 rows
 
--- the place that a test leaves
-pub place_is : (b : Bool) (x q : ℕ) → Some q ≡ (if b then Some x else None) → q ≡ x
-place_is true x q e = same_Some q x e
-place_is false x q e = absurd (let bad : Some q ≡ None = e in cc)
+pub places_count : (n : ℕ) (rows : List Row) → length (refine_places n rows) ≡ length rows
+places_count n [] = refl
+places_count n (r ∷ rs) = ap suc (places_count (n + 1) rs)
+
+-- one more of them
+pub places_more : (rows : List Row) (i : ℕ) (r : Row) (o : Option ℕ) (old new : List (Option ℕ)) → slice_get rows i ≡ Some r → o ≡ refine_place i r → new ≡ old ++ o ∷ [] → old ++ refine_places i (drop i rows) ≡ refine_places 0 rows → new ++ refine_places (i + 1) (drop (i + 1) rows) ≡ refine_places 0 rows
+places_more rows i r o old new at is now before =
+    ap (λ l. l ++ refine_places (i + 1) (drop (i + 1) rows)) now
+    ∙ append_assoc old (o ∷ []) (refine_places (i + 1) (drop (i + 1) rows))
+    ∙ ap (λ z. old ++ z ∷ refine_places (i + 1) (drop (i + 1) rows)) is
+    ∙ ap (λ l. old ++ refine_places i l) (sym (rest_of rows i r at))
+    ∙ before
+
+pub places_all : (rows : List Row) (i : ℕ) (all : List (Option ℕ)) → length rows ≤ i → all ++ refine_places i (drop i rows) ≡ refine_places 0 rows → all ≡ refine_places 0 rows
+places_all rows i all past h = sym (append-nil all) ∙ (let e : all ++ [] ≡ all ++ refine_places i (drop i rows) = ap (λ l. all ++ refine_places i l) (sym (drop_all i rows past)) in e) ∙ h

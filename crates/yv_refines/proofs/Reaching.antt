@@ -1,21 +1,21 @@
 -- Each path leads from an item to the place at which it ends.
-use Rattle.std.proofs.Common.{◌≡◌, ℕ, ◌+◌, ◌-◌, ◌<◌, ◌≤◌, ◌==◌, ◌&&◌, ◌⊎◌, inl, inr, nat_lt, not, zero, suc, Bool, true, false, if◌then◌else◌, List, [], ◌∷◌, length, map, drop, Option, Some, None, refl, sym, ◌∙◌, ap, subst, arith}
+use Rattle.std.proofs.Common.{◌≡◌, ℕ, ◌+◌, ◌-◌, ◌<◌, ◌≤◌, ◌==◌, ◌&&◌, ◌⊎◌, inl, inr, nat_lt, not, Bool, true, false, if◌then◌else◌, List, [], ◌∷◌, length, map, drop, Option, Some, None, refl, sym, ◌∙◌, ap, subst, arith}
 use Rattle.std.specs.List.{slice_get, find, position_from}
-use Rattle.std.specs.Option.{option_map, option_and_then, option_or}
-use Rattle.std.specs.Str.{bytes_eq}
+use Rattle.std.specs.Option.{option_map, option_and_then, option_or, unwrap_or}
 use Rattle.std.proofs.lemmas.Bool.{ne_eqb}
 use Rattle.std.proofs.lemmas.Option.{same_Some, slice_get-map, slice_get_within}
 use Rattle.std.proofs.lemmas.List.Folds.{find-append}
 use Rattle.yv_expansion.specs.Origin.{number_of}
 use Rattle.yv_expansion.specs.Tree.{count}
 use Rattle.yv_expansion.specs.Tree.{Item}
-use Rattle.yv_rows.specs.Rows.{Row, name_in}
-use Rattle.yv_rows.specs.Names.{prefix_of, local_of}
-use Rattle.yv_rows.specs.Files.{Briefs}
+use Rattle.yv_rows.specs.Rows.{Row}
+use Rattle.yv_rows.specs.Files.{Briefs, home_at}
 use Rattle.yv_refines.specs.Places.{Place}
-use Rattle.yv_refines.specs.Paths.{is_step, is_of}
-use Rattle.yv_refines.specs.Targets.{passes, is_at, is_uses, ended}
-use Rattle.yv_refines.specs.InnerNames.{step_of, first_named}
+use Rattle.yv_refines.specs.Paths.{is_step}
+use Rattle.yv_refines.specs.Targets.{is_at, is_uses, name_at, is_name, is_named, ended}
+use Rattle.yv_paths.specs.Names.{qualified}
+use Rattle.yv_paths.specs.Names.{number_of as number_of_name}
+use Rattle.yv_paths.specs.Paths.{step_of, step_number}
 use Rattle.yv_refines.specs.InnerSites.{Site, sites, inside_of, AreSites, name_by, spot_of}
 use Rattle.yv_refines.specs.InnerWalk.{Table, is_hit, IsTable, within, step_from, walk}
 use Rattle.yv_refines.specs.InnerDraft.{IsMeant}
@@ -23,8 +23,8 @@ use Rattle.yv_refines.specs.declared.spots.Spot.{Spot}
 use Rattle.yv_refines.proofs.Words.{both_true}
 use Rattle.yv_refines.proofs.Siting.{sites_count, inside_low, get_front, get_behind}
 use Rattle.yv_refines.proofs.Siteds.{drop_map}
-use Rattle.yv_refines.proofs.Meaning.{is_node_in, first_node, find_none}
-use Rattle.yv_refines.proofs.Leading.{skip, get_drop, drop_drop, position_find, same_name, find_hit, position_miss, open_is}
+use Rattle.yv_refines.proofs.Meaning.{is_node_in, first_node, file_same, find_none}
+use Rattle.yv_refines.proofs.Leading.{skip, get_drop, drop_drop, position_find, find_hit, find_same, Numbered, item_name, not_named, same_number}
 
 lt_yes : (a b : ℕ) → a < b → nat_lt a b ≡ true
 lt_yes a b h = grind arith
@@ -36,7 +36,7 @@ and_no : (a : Bool) → (a && false) ≡ false
 and_no true = refl
 and_no false = refl
 
-node_not : (rows : List Row) (g : ℕ) (test : Row → Bool) (s : Site) → is_at test rows (number_of s.place.origin) ≡ false → is_node_in rows g test s ≡ false
+node_not : (rows : List Row) (g : ℕ) (test : List ℕ → Bool) (s : Site) → is_named test rows s.place.origin ≡ false → is_node_in rows g test s ≡ false
 node_not rows g test s h =
     ap (λ b. (s.group == g) && (not (is_at is_uses rows (number_of s.place.origin)) && b)) h
     ∙ ap (λ b. (s.group == g) && b) (and_no (not (is_at is_uses rows (number_of s.place.origin))))
@@ -50,16 +50,11 @@ is_not false h = refl
 abbrev pub IsReady : List Row → (k i : ℕ) → Site → Type 0
 IsReady rows k i s = (k ≡ i + 1) ⊎ ((k ≤ i) × (is_at is_uses rows (number_of s.place.origin) ≡ false))
 
-pub none_past : {A : Type 0} (xs : List A) (k : ℕ) → slice_get xs k ≡ None → k < length xs → ⊥
-none_past [] k e h = omega (arith, h)
-none_past (x ∷ xs) zero e h = cc
-none_past (x ∷ xs) (suc k) e h = none_past xs k e (omega (arith, h))
-
 ready_before : (rows : List Row) (k i h n : ℕ) (s : Site) → IsReady rows k i s → n ≡ i + 1 + h → k ≤ n
 ready_before rows k i h n s (inl e) f = omega (arith, e, f)
 ready_before rows k i h n s (inr l) f = let m = l.0 in omega (arith, m, f)
 
-module _ (files : Briefs) (rows : List Row) (items : List Item) (all : List Site) (are : AreSites rows items all) (k : ℕ) (table : Table) (told : IsTable (map (spot_of files rows) all) k table) where
+module _ (files : Briefs) (rows : List Row) (numbered : Numbered files rows) (items : List Item) (all : List Site) (are : AreSites rows items all) (k : ℕ) (table : Table) (told : IsTable (map (spot_of files rows) all) k table) where
   -- the table is asked from the item on
   asked : (i : ℕ) (s : Site) (a : ℕ) → slice_get all i ≡ Some s → IsReady rows k i s → table (inside_of rows s) a ≡ position_from (is_hit (inside_of rows s) a) (i + 1) (map (spot_of files rows) (drop (i + 1) all))
   asked i s a at (inl e) =
@@ -86,32 +81,40 @@ module _ (files : Briefs) (rows : List Row) (items : List Item) (all : List Site
               let same : spot_of files rows y ≡ x = same_Some (spot_of files rows y) x is in
               let low : y.group ≤ k + j = are.low (k + j) y e in
               ap (is_hit (inside_of rows s) a) (sym same)
-              ∙ ap (λ c. c && (not (is_at is_uses rows (number_of y.place.origin)) && (name_by rows (slice_get rows (number_of y.place.origin)) == a))) (ne_eqb y.group (inside_of rows s) (λ e. omega (arith, e, low, own, h)))
+              ∙ ap (λ c. c && (not (is_at is_uses rows (number_of y.place.origin)) && (name_by rows (home_at files y.place.file) y.place.origin == a))) (ne_eqb y.group (inside_of rows s) (λ e. omega (arith, e, low, own, h)))
 
   abbrev inner : Site → List Site
   inner s = sites rows s.place.file (inside_of rows s) (Some s.place.number) (s.place.number + 1) s.place.below
 
+  -- an item below another one stands behind it, and belongs to the same file
+  below_at : (i : ℕ) (s : Site) (j : ℕ) (x : Site) → slice_get all i ≡ Some s → slice_get (inner s) j ≡ Some x → slice_get all (i + 1 + j) ≡ Some x
+  below_at i s j x at there = sym (get_drop (i + 1) j all) ∙ ap (λ l. slice_get l j) (are.below i s at).1 ∙ get_front (inner s) (are.below i s at).0 j x there
+
+  below_file : (s : Site) (j : ℕ) (x : Site) → slice_get (inner s) j ≡ Some x → x.place.file ≡ s.place.file
+  below_file s j x there = file_same rows s.place.below s.place.file (inside_of rows s) (Some s.place.number) (s.place.number + 1) j x there
+
+  -- a node of this number in the group
+  abbrev hits : ℕ → ℕ → Site → Bool
+  hits g a x = is_hit g a (spot_of files rows x)
+
   -- what the table tells, up to the end of what stands below
-  found : (i : ℕ) (s : Site) (a : ℕ) (test : Row → Bool) → slice_get all i ≡ Some s → IsReady rows k i s → ((j : ℕ) (x : Site) → slice_get all j ≡ Some x → (name_by rows (slice_get rows (number_of x.place.origin)) == a) ≡ is_at test rows (number_of x.place.origin)) → option_and_then (within (s.place.number + 1 + count s.place.below)) (table (inside_of rows s) a) ≡ option_map (λ x. x.place.number) (find (is_node_in rows (inside_of rows s) test) (inner s))
-  found i s a test at ready same =
+  hit : (i : ℕ) (s : Site) (a : ℕ) → slice_get all i ≡ Some s → IsReady rows k i s → option_and_then (within (s.place.number + 1 + count s.place.below)) (table (inside_of rows s) a) ≡ option_map (λ x. x.place.number) (find (hits (inside_of rows s) a) (inner s))
+  hit i s a at ready =
       let g : ℕ = inside_of rows s in
-      let q : Site → Bool = is_node_in rows g test in
       let last : ℕ = s.place.number + 1 + count s.place.below in
       let more : List Site = drop (i + 1) all in
       let split = are.below i s at in
       let rest : List Site = split.0 in
-      let tells : table g a ≡ option_map (λ x. x.place.number) (find q more) =
+      let tells : table g a ≡ option_map (λ x. x.place.number) (find (hits g a) more) =
       asked i s a at ready
-      ∙ position_find (spot_of files rows) (is_hit g a) q (i + 1) more (λ j x there.
-      let here : slice_get all (i + 1 + j) ≡ Some x = sym (get_drop (i + 1) j all) ∙ there in
-      (ap (λ b. (x.group == g) && (not (is_at is_uses rows (number_of x.place.origin)) && b)) (same (i + 1 + j) x here), are.numbers (i + 1 + j) x here)) in
-      ap (option_and_then (within last)) (tells ∙ ap (option_map (λ x. x.place.number)) (ap (find q) split.1 ∙ find-append q (inner s) rest))
-      ∙ by (find q (inner s)) (find q rest) refl refl
+      ∙ position_find (spot_of files rows) (is_hit g a) (hits g a) (i + 1) more (λ j x there. (refl, are.numbers (i + 1 + j) x (sym (get_drop (i + 1) j all) ∙ there))) in
+      ap (option_and_then (within last)) (tells ∙ ap (option_map (λ x. x.place.number)) (ap (find (hits g a)) split.1 ∙ find-append (hits g a) (inner s) rest))
+      ∙ by (find (hits g a) (inner s)) (find (hits g a) rest) refl refl
     where
-      by : (o r : Option Site) → find (is_node_in rows (inside_of rows s) test) (inner s) ≡ o → find (is_node_in rows (inside_of rows s) test) (are.below i s at).0 ≡ r → option_and_then (within (s.place.number + 1 + count s.place.below)) (option_map (λ x. x.place.number) (option_or o r)) ≡ option_map (λ x. x.place.number) o
+      by : (o r : Option Site) → find (hits (inside_of rows s) a) (inner s) ≡ o → find (hits (inside_of rows s) a) (are.below i s at).0 ≡ r → option_and_then (within (s.place.number + 1 + count s.place.below)) (option_map (λ x. x.place.number) (option_or o r)) ≡ option_map (λ x. x.place.number) o
       by None None e f = refl
       by None (Some y) e f =
-          let h = find_hit (is_node_in rows (inside_of rows s) test) (are.below i s at).0 y f in
+          let h = find_hit (hits (inside_of rows s) a) (are.below i s at).0 y f in
           let long : length (inner s) ≡ count s.place.below = sites_count rows s.place.below s.place.file (inside_of rows s) (Some s.place.number) (s.place.number + 1) in
           let there : slice_get all (i + 1 + (length (inner s) + h.0)) ≡ Some y =
           sym (get_drop (i + 1) (length (inner s) + h.0) all) ∙ ap (λ l. slice_get l (length (inner s) + h.0)) (are.below i s at).1 ∙ get_behind (inner s) (are.below i s at).0 h.0 ∙ h.1 in
@@ -119,46 +122,52 @@ module _ (files : Briefs) (rows : List Row) (items : List Item) (all : List Site
           let m = are.numbers i s at in
           ap (λ (b : Bool). if b then Some y.place.number else None) (lt_no y.place.number (s.place.number + 1 + count s.place.below) (omega (arith, n, m, long)))
       by (Some x) r e f =
-          let h = find_hit (is_node_in rows (inside_of rows s) test) (inner s) x e in
+          let h = find_hit (hits (inside_of rows s) a) (inner s) x e in
           let long : length (inner s) ≡ count s.place.below = sites_count rows s.place.below s.place.file (inside_of rows s) (Some s.place.number) (s.place.number + 1) in
-          let there : slice_get all (i + 1 + h.0) ≡ Some x =
-          sym (get_drop (i + 1) h.0 all) ∙ ap (λ l. slice_get l h.0) (are.below i s at).1 ∙ get_front (inner s) (are.below i s at).0 h.0 x h.1 in
-          let n = are.numbers (i + 1 + h.0) x there in
+          let n = are.numbers (i + 1 + h.0) x (below_at i s h.0 x at h.1) in
           let m = are.numbers i s at in
           ap (λ (b : Bool). if b then Some x.place.number else None) (lt_yes x.place.number (s.place.number + 1 + count s.place.below) (omega (arith, n, m, long, slice_get_within (inner s) h.0 x h.1)))
 
   -- where a step leads
-  steps : (home file : ℕ) (text : List ℕ) (i : ℕ) (s : Site) → slice_get all i ≡ Some s → IsReady rows k i s → step_from table home (step_of files rows file text) (spot_of files rows s) ≡ option_map (λ x. x.place.number) (find (is_node_in rows (inside_of rows s) (is_step files rows home file text)) (inner s))
-  steps home file text i s at ready =
-      ap (λ (b : Bool). if b then option_and_then (λ name. option_and_then (within (s.place.number + 1 + count s.place.below)) (table (inside_of rows s) name)) (first_named rows (local_of text)) else None) (open_is files rows home file text)
-      ∙ by (is_of files rows home file (prefix_of text)) (first_named rows (local_of text)) refl refl
+  steps : (home file : ℕ) (text : List ℕ) (i : ℕ) (s : Site) → home ≡ home_at files s.place.file → slice_get all i ≡ Some s → IsReady rows k i s → step_from table home (step_of files rows file text) (spot_of files rows s) ≡ option_map (λ x. x.place.number) (find (is_node_in rows (inside_of rows s) (is_step files rows home file text)) (inner s))
+  steps home file text i s own at ready = by (option_map (step_number home) (step_of files rows file text)) refl
     where
-      nowhere : ((r : Row) (o : ℕ) → slice_get rows o ≡ Some r → (is_step files rows home file text) r ≡ false) → None ≡ option_map (λ x. x.place.number) (find (is_node_in rows (inside_of rows s) (is_step files rows home file text)) (inner s))
-      nowhere fails = sym (ap (option_map (λ x. x.place.number)) (find_none (is_node_in rows (inside_of rows s) (is_step files rows home file text)) (inner s) (λ j x there. node_not rows (inside_of rows s) (is_step files rows home file text) x (at_row (slice_get rows (number_of x.place.origin)) (number_of x.place.origin) refl))))
-        where
-          at_row : (r : Option Row) (o : ℕ) → slice_get rows o ≡ r → passes (is_step files rows home file text) r ≡ false
-          at_row None o e = refl
-          at_row (Some r) o e = fails r o e
+      -- the name of an item below
+      inner_name : (j : ℕ) (x : Site) → slice_get (inner s) j ≡ Some x → (name : List ℕ) × (n : ℕ) × (name_at rows x.place.origin ≡ Some name) × (number_of_name rows name ≡ Some n)
+      inner_name j x there = item_name files rows numbered x.place.origin (are.origins (i + 1 + j) x (below_at i s j x at there))
 
-      named : (a : ℕ) → is_of files rows home file (prefix_of text) ≡ true → first_named rows (local_of text) ≡ Some a → (j : ℕ) (x : Site) → slice_get all j ≡ Some x → (name_by rows (slice_get rows (number_of x.place.origin)) == a) ≡ is_at (is_step files rows home file text) rows (number_of x.place.origin)
-      named a opens name j x there = at_row (slice_get rows (number_of x.place.origin)) refl (are.origins j x there)
-        where
-          at_row : (r : Option Row) → slice_get rows (number_of x.place.origin) ≡ r → (number_of x.place.origin) < length rows → (name_by rows r == a) ≡ passes (is_step files rows home file text) r
-          at_row None e l = absurd (none_past rows (number_of x.place.origin) e l)
-          at_row (Some r) e l = same_name rows (number_of x.place.origin) r (local_of text) a e name ∙ sym (ap (λ b. b && bytes_eq (name_in r) (local_of text)) opens)
+      named : (j : ℕ) (x : Site) → slice_get (inner s) j ≡ Some x → (a : ℕ) → option_map (step_number home) (step_of files rows file text) ≡ Some a → hits (inside_of rows s) a x ≡ is_node_in rows (inside_of rows s) (is_step files rows home file text) x
+      named j x there a some =
+          let found = inner_name j x there in
+          let name : List ℕ = found.0 in
+          let n : ℕ = found.1 in
+          let module_is : home_at files x.place.file ≡ home = ap (home_at files) (below_file s j x there) ∙ sym own in
+          let number : name_by rows (home_at files x.place.file) x.place.origin ≡ qualified home n =
+          ap (λ o. qualified (home_at files x.place.file) (unwrap_or (option_and_then (number_of_name rows) o) 0)) found.2
+          ∙ ap (λ o. qualified (home_at files x.place.file) (unwrap_or o 0)) found.3
+          ∙ ap (λ h. qualified h n) module_is in
+          let test : (name_by rows (home_at files x.place.file) x.place.origin == a) ≡ is_named (is_step files rows home file text) rows x.place.origin =
+          ap (λ m. m == a) number
+          ∙ same_number files rows numbered home file text name n a found.3 some
+          ∙ sym (ap (is_name (is_step files rows home file text)) found.2) in
+          ap (λ b. (x.group == inside_of rows s) && (not (is_at is_uses rows (number_of x.place.origin)) && b)) test
 
-      by : (b : Bool) (o : Option ℕ) → is_of files rows home file (prefix_of text) ≡ b → first_named rows (local_of text) ≡ o → (if b then option_and_then (λ name. option_and_then (within (s.place.number + 1 + count s.place.below)) (table (inside_of rows s) name)) o else None) ≡ option_map (λ x. x.place.number) (find (is_node_in rows (inside_of rows s) (is_step files rows home file text)) (inner s))
-      by false o opens name = nowhere (λ r n e. ap (λ b. b && bytes_eq (name_in r) (local_of text)) opens)
-      by true None opens name = nowhere (λ r n e. ap (λ b. b && bytes_eq (name_in r) (local_of text)) opens ∙ position_miss (λ (x : Row). bytes_eq (name_in x) (local_of text)) 0 rows n r name e)
-      by true (Some a) opens name = found i s a (is_step files rows home file text) at ready (named a opens name)
+      nowhere : (j : ℕ) (x : Site) → slice_get (inner s) j ≡ Some x → option_map (step_number home) (step_of files rows file text) ≡ None → is_node_in rows (inside_of rows s) (is_step files rows home file text) x ≡ false
+      nowhere j x there none =
+          let found = inner_name j x there in
+          node_not rows (inside_of rows s) (is_step files rows home file text) x (ap (is_name (is_step files rows home file text)) found.2 ∙ not_named files rows numbered home file text found.0 found.1 found.3 none)
+
+      by : (o : Option ℕ) → option_map (step_number home) (step_of files rows file text) ≡ o → option_and_then (λ name. option_and_then (within (s.place.number + 1 + count s.place.below)) (table (inside_of rows s) name)) o ≡ option_map (λ x. x.place.number) (find (is_node_in rows (inside_of rows s) (is_step files rows home file text)) (inner s))
+      by None none = sym (ap (option_map (λ x. x.place.number)) (find_none (is_node_in rows (inside_of rows s) (is_step files rows home file text)) (inner s) (λ j x there. nowhere j x there none)))
+      by (Some a) some = hit i s a at ready ∙ ap (option_map (λ x. x.place.number)) (find_same (hits (inside_of rows s) a) (is_node_in rows (inside_of rows s) (is_step files rows home file text)) (inner s) (λ j x there. named j x there a some))
 
   abbrev spots : List Spot
   spots = map (spot_of files rows) all
 
   -- where a path leads
-  pub reached : (home file : ℕ) (texts : List (List ℕ)) (i : ℕ) (s : Site) → slice_get all i ≡ Some s → IsReady rows k i s → IsMeant spots (ended rows (is_step files rows home file) texts s.place) (walk table spots home (map (step_of files rows file) texts) i)
-  reached home file [] i s at ready = (are.numbers i s at, spot_of files rows s, slice_get-map (spot_of files rows) all i ∙ ap (option_map (spot_of files rows)) at, refl)
-  reached home file (t ∷ ts) i s at ready = by (find (is_node_in rows (inside_of rows s) (is_step files rows home file t)) (inner s)) refl (λ j x. reached home file ts j x)
+  pub reached : (home file : ℕ) (texts : List (List ℕ)) (i : ℕ) (s : Site) → home ≡ home_at files s.place.file → slice_get all i ≡ Some s → IsReady rows k i s → IsMeant spots (ended rows (is_step files rows home file) texts s.place) (walk table spots home (map (step_of files rows file) texts) i)
+  reached home file [] i s own at ready = (are.numbers i s at, spot_of files rows s, slice_get-map (spot_of files rows) all i ∙ ap (option_map (spot_of files rows)) at, refl)
+  reached home file (t ∷ ts) i s own at ready = by (find (is_node_in rows (inside_of rows s) (is_step files rows home file t)) (inner s)) refl (λ j x. reached home file ts j x)
     where
       low : inside_of rows s ≤ s.place.number + 1
       low = inside_low rows s.group s.place.number (number_of s.place.origin) (let n = are.numbers i s at in let m = are.low i s at in omega (arith, n, m))
@@ -170,19 +179,18 @@ module _ (files : Briefs) (rows : List Row) (items : List Item) (all : List Site
       ends o e = ap (option_and_then (λ q. ended rows (is_step files rows home file) ts q)) (sym (first_node rows s.place.below s.place.file (inside_of rows s) (Some s.place.number) (s.place.number + 1) (is_step files rows home file t) low) ∙ ap (option_map (λ x. x.place)) e)
 
       leads : (o : Option Site) → find (is_node_in rows (inside_of rows s) (is_step files rows home file t)) (inner s) ≡ o → walk table spots home (map (step_of files rows file) (t ∷ ts)) i ≡ option_and_then (λ j. walk table spots home (map (step_of files rows file) ts) j) (option_map (λ x. x.place.number) o)
-      leads o e = ap (option_and_then (λ j. walk table spots home (map (step_of files rows file) ts) j)) (ap (option_and_then (step_from table home (step_of files rows file t))) there_is ∙ steps home file t i s at ready ∙ ap (option_map (λ x. x.place.number)) e)
+      leads o e = ap (option_and_then (λ j. walk table spots home (map (step_of files rows file) ts) j)) (ap (option_and_then (step_from table home (step_of files rows file t))) there_is ∙ steps home file t i s own at ready ∙ ap (option_map (λ x. x.place.number)) e)
 
       meant : (o o' : Option Place) (w w' : Option ℕ) → o ≡ o' → w ≡ w' → IsMeant spots o' w' → IsMeant spots o w
       meant o o' w w' e f h = subst (λ (x : Option Place). IsMeant spots x w) (sym e) (subst (λ (y : Option ℕ). IsMeant spots o' y) (sym f) h)
 
-      by : (o : Option Site) → find (is_node_in rows (inside_of rows s) (is_step files rows home file t)) (inner s) ≡ o → ((j : ℕ) (x : Site) → slice_get all j ≡ Some x → IsReady rows k j x → IsMeant spots (ended rows (is_step files rows home file) ts x.place) (walk table spots home (map (step_of files rows file) ts) j)) → IsMeant spots (ended rows (is_step files rows home file) (t ∷ ts) s.place) (walk table spots home (map (step_of files rows file) (t ∷ ts)) i)
+      by : (o : Option Site) → find (is_node_in rows (inside_of rows s) (is_step files rows home file t)) (inner s) ≡ o → ((j : ℕ) (x : Site) → home ≡ home_at files x.place.file → slice_get all j ≡ Some x → IsReady rows k j x → IsMeant spots (ended rows (is_step files rows home file) ts x.place) (walk table spots home (map (step_of files rows file) ts) j)) → IsMeant spots (ended rows (is_step files rows home file) (t ∷ ts) s.place) (walk table spots home (map (step_of files rows file) (t ∷ ts)) i)
       by None e on = meant _ None _ None (ends None e) (leads None e) tt
       by (Some x) e on =
           let h = find_hit (is_node_in rows (inside_of rows s) (is_step files rows home file t)) (inner s) x e in
-          let there : slice_get all (i + 1 + h.0) ≡ Some x =
-          sym (get_drop (i + 1) h.0 all) ∙ ap (λ l. slice_get l h.0) (are.below i s at).1 ∙ get_front (inner s) (are.below i s at).0 h.0 x h.1 in
+          let there : slice_get all (i + 1 + h.0) ≡ Some x = below_at i s h.0 x at h.1 in
           let number : x.place.number ≡ i + 1 + h.0 = are.numbers (i + 1 + h.0) x there in
           let here : slice_get all x.place.number ≡ Some x = ap (slice_get all) number ∙ there in
-          let is_node : is_at is_uses rows (number_of x.place.origin) ≡ false = is_not (is_at is_uses rows (number_of x.place.origin)) (both_true (not (is_at is_uses rows (number_of x.place.origin))) (is_at (is_step files rows home file t) rows (number_of x.place.origin)) (both_true (x.group == inside_of rows s) (not (is_at is_uses rows (number_of x.place.origin)) && is_at (is_step files rows home file t) rows (number_of x.place.origin)) h.2).1).0 in
+          let is_node : is_at is_uses rows (number_of x.place.origin) ≡ false = is_not (is_at is_uses rows (number_of x.place.origin)) (both_true (not (is_at is_uses rows (number_of x.place.origin))) (is_named (is_step files rows home file t) rows x.place.origin) (both_true (x.group == inside_of rows s) (not (is_at is_uses rows (number_of x.place.origin)) && is_named (is_step files rows home file t) rows x.place.origin) h.2).1).0 in
           meant _ (ended rows (is_step files rows home file) ts x.place) _ (walk table spots home (map (step_of files rows file) ts) x.place.number) (ends (Some x) e) (leads (Some x) e)
-          (on x.place.number x here (inr (ready_before rows k i h.0 x.place.number s ready number, is_node)))
+          (on x.place.number x (own ∙ ap (home_at files) (sym (below_file s h.0 x h.1))) here (inr (ready_before rows k i h.0 x.place.number s ready number, is_node)))

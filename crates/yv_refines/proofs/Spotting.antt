@@ -1,7 +1,7 @@
 -- What is kept of items, one by one.
 use Rattle.std.proofs.Common.{◌≡◌, ℕ, ◌+◌, ◌<◌, ◌≤◌, zero, suc, if◌then◌else◌, List, [], ◌∷◌, ◌++◌, length, map, take, get_or, Option, Some, None, refl, sym, ◌∙◌, ap, arith}
 use Rattle.std.specs.List.{slice_get}
-use Rattle.std.specs.Option.{option_map, unwrap_or}
+use Rattle.std.specs.Option.{option_map}
 use Rattle.std.proofs.lemmas.List.{length-map, take_all}
 use Rattle.std.proofs.lemmas.Option.{same_Some, slice_get-map, slice_get_within}
 use Rattle.yv_expansion.specs.Origin.{number_of}
@@ -10,7 +10,6 @@ use Rattle.yv_expansion.specs.Tree.{count}
 use Rattle.yv_rows.specs.Rows.{Row}
 use Rattle.yv_rows.specs.Files.{Briefs, home_at}
 use Rattle.yv_refines.specs.Targets.{is_at, is_uses}
-use Rattle.yv_refines.specs.InnerNames.{name_number}
 use Rattle.yv_refines.specs.InnerSites.{Site, AreSites, AreEnds, StandsBelow, item_of, name_by, spot_of, home_by, above_spot, above_at, next_spot}
 use Rattle.yv_refines.specs.declared.spots.Spot.{Spot}
 use Rattle.yv_refines.proofs.Naming.{mapped_more}
@@ -48,25 +47,19 @@ module _ (files : Briefs) (rows : List Row) (items : List Item) (sites : List Si
           ∙ ap (option_map (spot_of files rows)) (get_take sites i p (let n = are.numbers i s at in omega (arith, n, l)) ∙ there) in
           ap above_spot read ∙ (λ t. (sym g t, home_at files (sym f t)))
 
-  named : (o : Option Row) → unwrap_or (option_map (name_number rows) o) 0 ≡ name_by rows o
-  named None = refl
-  named (Some r) = refl
-
-  spot_is : (i : ℕ) (s : Site) (numbers ends : List ℕ) (old : List Spot) (x : Item) (end : ℕ) → map (name_number rows) rows ≡ numbers → AreEnds items ends → slice_get sites i ≡ Some s → slice_get items i ≡ Some x → end ≡ get_or ends i 0 → map (spot_of files rows) (take i sites) ≡ old → next_spot files rows numbers old x end ≡ spot_of files rows s
-  spot_is i s numbers ends old x end names fit at there is before =
+  spot_is : (i : ℕ) (s : Site) (ends : List ℕ) (old : List Spot) (x : Item) (end : ℕ) → AreEnds items ends → slice_get sites i ≡ Some s → slice_get items i ≡ Some x → end ≡ get_or ends i 0 → map (spot_of files rows) (take i sites) ≡ old → next_spot files rows old x end ≡ spot_of files rows s
+  spot_is i s ends old x end fit at there is before =
       let same : x ≡ item_of s = same_Some x (item_of s) (sym there ∙ ap (λ l. slice_get l i) (sym are.items_are) ∙ slice_get-map item_of sites i ∙ ap (option_map item_of) at) in
       let above = above_is i s old at before in
-      let name : unwrap_or (slice_get numbers (number_of s.place.origin)) 0 ≡ name_by rows (slice_get rows (number_of s.place.origin)) =
-      ap (λ l. unwrap_or (slice_get l (number_of s.place.origin)) 0) (sym names) ∙ ap (λ o. unwrap_or o 0) (slice_get-map (name_number rows) rows (number_of s.place.origin)) ∙ named (slice_get rows (number_of s.place.origin)) in
       let long : length old ≡ i = ap length (sym before) ∙ length-map (take i sites) (spot_of files rows) ∙ length_take sites i (let w = slice_get_within sites i s at in omega (arith, w)) in
       let number : length old + 1 ≡ s.place.number + 1 = omega (arith, long, are.numbers i s at) in
       let last : end ≡ s.place.number + 1 + count s.place.below = is ∙ fit.at i (slice_get_within items i x there) ∙ are.ends i s at in
-      ap (λ y. next_spot files rows numbers old y end) same
+      ap (λ y. next_spot files rows old y end) same
       ∙ (λ t. record {
         origin = (number_of s.place.origin);
         home = (above t).1;
         is_uses = is_at is_uses rows (number_of s.place.origin);
-        name = name t;
+        name = name_by rows (above t).1 s.place.origin;
         group = (above t).0;
         inside = if is_at is_uses rows (number_of s.place.origin) then (above t).0 else number t;
         end = last t;
@@ -79,10 +72,10 @@ module _ (files : Briefs) (rows : List Row) (items : List Item) (sites : List Si
       by None e = absurd (past sites i e (omega (arith, slice_get_within items i x at, rows_count item_of sites items are.items_are)))
       by (Some s) e = (s, e)
 
-  pub spots_more : (i : ℕ) (numbers ends : List ℕ) (old seen new : List Spot) (x : Item) (end : ℕ) (y : Spot) → map (name_number rows) rows ≡ numbers → AreEnds items ends → y ≡ next_spot files rows numbers seen x end → seen ≡ old → slice_get items i ≡ Some x → end ≡ get_or ends i 0 → new ≡ old ++ y ∷ [] → map (spot_of files rows) (take i sites) ≡ old → map (spot_of files rows) (take (i + 1) sites) ≡ new
-  spots_more i numbers ends old seen new x end y names fit made same at is now before =
+  pub spots_more : (i : ℕ) (ends : List ℕ) (old seen new : List Spot) (x : Item) (end : ℕ) (y : Spot) → AreEnds items ends → y ≡ next_spot files rows seen x end → seen ≡ old → slice_get items i ≡ Some x → end ≡ get_or ends i 0 → new ≡ old ++ y ∷ [] → map (spot_of files rows) (take i sites) ≡ old → map (spot_of files rows) (take (i + 1) sites) ≡ new
+  spots_more i ends old seen new x end y fit made same at is now before =
       let found = site_at i x at in
-      mapped_more (spot_of files rows) sites i found.0 y old new found.1 (made ∙ ap (λ l. next_spot files rows numbers l x end) same ∙ spot_is i found.0 numbers ends old x end names fit found.1 at is before) now before
+      mapped_more (spot_of files rows) sites i found.0 y old new found.1 (made ∙ ap (λ l. next_spot files rows l x end) same ∙ spot_is i found.0 ends old x end fit found.1 at is before) now before
 
   pub spots_all : (i : ℕ) (all : List Spot) → length items ≤ i → map (spot_of files rows) (take i sites) ≡ all → all ≡ map (spot_of files rows) sites
   spots_all i all h e = sym e ∙ ap (map (spot_of files rows)) (take_all i sites (omega (arith, h, rows_count item_of sites items are.items_are)))

@@ -1,14 +1,16 @@
 -- Inner definitions, which only private clauses cite: each item with the block of nodes in which it stands.
 use Rattle.std.specs.Prelude.{◌≡◌, ℕ, ◌+◌, ◌≤◌, ◌<◌, nat_le, Bool, false, List, [], ◌∷◌, ◌++◌, map, length, drop, if◌then◌else◌, Option, Some, None, slice_get, slice_index_or}
-use Rattle.std.specs.Option.{unwrap_or}
+use Rattle.std.specs.Option.{option_and_then, unwrap_or}
 use Rattle.yv_expansion.specs.Origin.{number_of}
+use Rattle.yv_expansion.specs.declared.item.Origin.{Origin}
 use Rattle.yv_expansion.specs.Tree.{Tree, none, item, count}
 use Rattle.yv_expansion.specs.Tree.{Item}
 use Rattle.yv_rows.specs.Files.{Briefs, home_at}
 use Rattle.yv_rows.specs.Rows.{Row}
 use Rattle.yv_refines.specs.Places.{Place}
-use Rattle.yv_refines.specs.Targets.{is_at, is_uses}
-use Rattle.yv_refines.specs.InnerNames.{name_number}
+use Rattle.yv_refines.specs.Targets.{is_at, is_uses, name_at}
+use Rattle.yv_paths.specs.Names.{qualified}
+use Rattle.yv_paths.specs.Names.{number_of as number_of_name}
 use Rattle.yv_refines.specs.declared.spots.Spot.{Spot}
 
 -- a place, the item above it, and the group in which it stands: 0 at the top of a tree, else by the nearest node above, one
@@ -84,17 +86,21 @@ pub record AreSites (rows : List Row) (items : List Item) (all : List Site) : Ty
   pub below : (i : ℕ) (s : Site) → slice_get all i ≡ Some s
       → (rest : List Site) × (drop (i + 1) all ≡ sites rows s.place.file (inside_of rows s) (Some s.place.number) (s.place.number + 1) s.place.below ++ rest)
 
-abbrev pub name_by : List Row → Option Row → ℕ
-name_by rows None = 0
-name_by rows (Some r) = name_number rows r
+-- the number of the name of the node that an item is
+abbrev pub number_in : List Row → Origin → Option ℕ
+number_in rows origin = option_and_then (number_of_name rows) (name_at rows origin)
+
+-- one number for it and the module of a file
+abbrev pub name_by : List Row → (home : ℕ) → Origin → ℕ
+name_by rows home origin = qualified home (unwrap_or (number_in rows origin) 0)
 
 -- what is kept of an item
 abbrev pub spot_of : Briefs → List Row → Site → Spot
 spot_of files rows s = record {
-  origin = (number_of s.place.origin);
+  origin = number_of s.place.origin;
   home = home_at files s.place.file;
   is_uses = is_at is_uses rows (number_of s.place.origin);
-  name = name_by rows (slice_get rows (number_of s.place.origin));
+  name = name_by rows (home_at files s.place.file) s.place.origin;
   group = s.group;
   inside = inside_of rows s;
   end = s.place.number + 1 + count s.place.below;
@@ -116,12 +122,12 @@ above_at files rows spots origin (Some p) = above_spot (slice_get spots p)
 abbrev pub above_by : Briefs → List Row → List Spot → Item → ℕ × ℕ
 above_by files rows spots x = above_at files rows spots (number_of x.origin) x.parent
 
-abbrev pub next_spot : Briefs → List Row → List ℕ → List Spot → Item → ℕ → Spot
-next_spot files rows numbers spots x end = record {
-  origin = (number_of x.origin);
+abbrev pub next_spot : Briefs → List Row → List Spot → Item → ℕ → Spot
+next_spot files rows spots x end = record {
+  origin = number_of x.origin;
   home = (above_by files rows spots x).1;
   is_uses = is_at is_uses rows (number_of x.origin);
-  name = unwrap_or (slice_get numbers (number_of x.origin)) 0;
+  name = name_by rows (above_by files rows spots x).1 x.origin;
   group = (above_by files rows spots x).0;
   inside = if is_at is_uses rows (number_of x.origin) then (above_by files rows spots x).0 else length spots + 1;
   end = end;

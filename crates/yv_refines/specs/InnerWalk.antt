@@ -1,12 +1,12 @@
 -- Inner definitions, which only private clauses cite: a path walked by a table of items.
-use Rattle.std.specs.Prelude.{◌≡◌, ℕ, ◌==◌, ◌&&◌, ◌||◌, nat_lt, not, Bool, List, [], ◌∷◌, drop, if◌then◌else◌, Option, Some, None, slice_get}
+use Rattle.std.specs.Prelude.{◌≡◌, ℕ, ◌==◌, ◌&&◌, nat_lt, not, Bool, List, [], ◌∷◌, drop, if◌then◌else◌, Option, Some, None, slice_get}
 use Rattle.std.specs.Ordering.{nat_cmp, ordering_then}
 use Rattle.std.specs.BTreeMap.{BTreeMap, get_by}
 use Rattle.std.specs.List.{position_from}
-use Rattle.std.specs.Option.{option_and_then}
-use Rattle.yv_refines.specs.Paths.{is_home}
+use Rattle.std.specs.Option.{option_map, option_and_then}
+use Rattle.yv_paths.specs.Paths.{step_number}
+use Rattle.yv_paths.specs.declared.step.Step.{Step}
 use Rattle.yv_refines.specs.declared.index.Index.{Index}
-use Rattle.yv_refines.specs.declared.paths.Step.{Step}
 use Rattle.yv_refines.specs.declared.spots.Spot.{Spot}
 
 -- an item for each name in a group
@@ -37,17 +37,13 @@ added table number s group name = if is_hit group name s then Some number else t
 abbrev pub within : ℕ → ℕ → Option ℕ
 within end found = if nat_lt found end then Some found else None
 
--- a step may name nodes of the module whose file is `home`
-abbrev pub is_open : ℕ → Step → Bool
-is_open home step = step.is_plain || is_home home step.module_number
-
 -- where a step leads from an item
-abbrev pub step_from : Table → ℕ → Step → Spot → Option ℕ
+abbrev pub step_from : Table → ℕ → Option Step → Spot → Option ℕ
 step_from table home step s =
-    if is_open home step then option_and_then (λ name. option_and_then (within s.end) (table s.inside name)) step.name else None
+    option_and_then (λ name. option_and_then (within s.end) (table s.inside name)) (option_map (step_number home) step)
 
 -- where steps lead from a numbered item
-abbrev pub walk : Table → List Spot → ℕ → List Step → ℕ → Option ℕ
+abbrev pub walk : Table → List Spot → ℕ → List (Option Step) → ℕ → Option ℕ
 walk table spots home [] i = Some i
 walk table spots home (step ∷ steps) i =
     option_and_then (λ j. walk table spots home steps j) (option_and_then (step_from table home step) (slice_get spots i))

@@ -5,7 +5,8 @@ pub mod Refined
 pub mod Faults
 pub mod Listed
 pub mod Known
-pub mod InnerNames
+pub mod InnerPlaces
+pub mod InnerPlan
 pub mod InnerSites
 pub mod InnerWalk
 pub mod InnerDraft

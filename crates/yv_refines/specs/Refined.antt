@@ -5,7 +5,8 @@ use Rattle.yv_expansion.specs.Tree.{Tree}
 use Rattle.yv_rows.specs.Files.{Briefs, home_at, has_word}
 use Rattle.yv_rows.specs.Rows.{Row, name_in}
 use Rattle.yv_refines.specs.Places.{Place, places_in}
-use Rattle.yv_refines.specs.Paths.{steps_of, is_step}
+use Rattle.yv_paths.specs.Paths.{steps_of}
+use Rattle.yv_refines.specs.Paths.{is_step}
 use Rattle.yv_refines.specs.Targets.{is_at, is_uses, ended}
 
 -- a refine, and the item that it means, if there is one

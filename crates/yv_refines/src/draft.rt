@@ -4,14 +4,14 @@ ghost use Rattle.yv_statement.specs.Order.{IsLesser};
 ghost use Rattle.yv_rows.specs.Files.{Files, home_at};
 ghost use Rattle.yv_rows.specs.Rows.{Row};
 ghost use Rattle.yv_rows.specs.Lent.{lent_in, files_in, rows_in};
+ghost use Rattle.yv_refines.specs.InnerPlan.{IsPlan};
 ghost use Rattle.yv_refines.specs.Places.{Place};
 ghost use Rattle.yv_refines.specs.Refined.{Refined, refined_at};
 ghost use Rattle.yv_refines.specs.InnerSites.{Site, spot_of};
 ghost use Rattle.yv_refines.specs.InnerWalk.{table_of};
 ghost use Rattle.yv_refines.specs.declared.spots.Spot.{Spot};
-ghost use Rattle.yv_refines.specs.InnerDraft.{IsDraft, IsMeant, IsPlan, Asked, Changed, AreRefineNumbers, code_of, fit_item_of, refusal_by, refined_of};
+ghost use Rattle.yv_refines.specs.InnerDraft.{AreEmptyLists, IsDraft, IsMeant, Asked, Changed, AreRefineNumbers, code_of, fit_item_of, refusal_by, refined_of};
 
-use crate::blocks::no_lists;
 use crate::fit::is_fit_for;
 use crate::index::Index;
 use crate::plan::Plan;
@@ -64,6 +64,17 @@ fn fit_item(
     } else {
         None
     }
+}
+
+// So many empty lists.
+fn no_lists(alloc: Global, count: usize) -> Result<Vec<Vec<usize>>, AllocError>
+    ensures { IfOk result (λ lists. (length lists.items ≡ count) × AreEmptyLists lists.items) }
+{
+    let mut lists = Vec::new(alloc);
+    for _ in 0..count {
+        lists.push(Vec::new(alloc))?;
+    }
+    Ok(lists)
 }
 
 impl Draft {
@@ -126,7 +137,7 @@ impl Draft {
         spots: &[Spot],
         index: &Index,
         number: usize,
-        home: usize,
+        home: u32,
         refines: &[usize],
     ) -> Result<(), AllocError>
         requires { IsPlan (files_in rows.now) (rows_in rows.now) plan.now }
@@ -136,6 +147,8 @@ impl Draft {
             → OnOk result (IsDraft (lent_in rows.now) (length spots.now)
             (xs ++ map (refined_of (files_in rows.now) (rows_in rows.now) s.place) refines.now) self.new) }
     {
+        yv_paths::laws::names_are_numbered();
+        yv_paths::laws::a_step_has_its_nodes_number();
         for refine in refines {
             let path = plan.path(*refine);
             let target = walk(index, spots, home, path, number);

@@ -3,13 +3,10 @@
 //! The items are walked from the last to the first, with a table of the first node of each name in each block of nodes.
 #![tactic(auto)]
 
-mod blocks;
 mod draft;
 mod ends;
 mod fit;
 mod index;
-mod names;
-mod paths;
 mod plan;
 mod refines;
 mod spots;

@@ -7,7 +7,8 @@ ghost use Rattle.yv_rows.specs.Files.{Files};
 ghost use Rattle.yv_rows.specs.Lent.{lent_in, files_in, rows_in};
 ghost use Rattle.yv_refines.specs.Refined.{is_refine, refined_by};
 ghost use Rattle.yv_refines.specs.InnerSites.{Site, AreSites, spot_of};
-ghost use Rattle.yv_refines.specs.InnerDraft.{IsPlan, IsDraft};
+ghost use Rattle.yv_refines.specs.InnerDraft.{IsDraft};
+ghost use Rattle.yv_refines.specs.InnerPlan.{IsPlan};
 ghost use Rattle.yv_refines.specs.Faults.{changes, BadRefines};
 ghost use Rattle.yv_refines.specs.Listed.{IsListed};
 ghost use Rattle.yv_refines.specs.Known.{AreRefines};
@@ -15,12 +16,11 @@ ghost use Rattle.yv_refines.specs.Known.{AreRefines};
 use crate::draft::Draft;
 use crate::ends::ends;
 use crate::index::Index;
-use crate::names::{Names, numbers};
-use crate::paths::is_refine;
-use crate::plan::Plan;
+use crate::plan::{Plan, is_refine};
 use crate::spots::{Spot, spots};
 use std::alloc::{AllocError, Global};
 use yv_expansion::{Item, Origin};
+use yv_paths::Names;
 use yv_rows::Rows;
 use yv_statement::Refusal;
 
@@ -85,10 +85,9 @@ impl Refines {
             });
         }
         let names = Names::read(alloc, rows)?;
-        let numbers = numbers(alloc, rows, &names)?;
         let plan = Plan::read(alloc, rows, &names)?;
         let ends = ends(alloc, items)?;
-        let spots = spots(alloc, rows, &numbers, items, &ends)?;
+        let spots = spots(alloc, rows, &names, items, &ends)?;
         let Draft { changes, fault } = noted(alloc, rows, &plan, &spots)?;
         Ok(Refines { changes, fault })
     }

@@ -3,21 +3,23 @@ ghost use Rattle.std.specs.Prelude.{◌≡◌, ℕ, List, map, IfOk, slice_get};
 ghost use Rattle.std.specs.Option.{unwrap_or};
 ghost use Rattle.yv_rows.specs.Files.{Briefs};
 ghost use Rattle.yv_rows.specs.Lent.{files_in, rows_in};
+ghost use Rattle.yv_rows.specs.Rows.{Row};
+ghost use Rattle.yv_paths.specs.Known.{AreNames};
 ghost use Rattle.yv_refines.specs.Targets.{is_at, is_uses};
-ghost use Rattle.yv_refines.specs.InnerNames.{name_number};
-ghost use Rattle.yv_refines.specs.InnerSites.{AreHomes, AreEnds, AreSites, Site, spot_of, home_by, above_by, next_spot};
+ghost use Rattle.yv_refines.specs.InnerSites.{AreHomes, AreEnds, AreSites, Site, number_in, spot_of, home_by, above_by, next_spot};
 
 use std::alloc::{AllocError, Global};
-use yv_expansion::Item;
+use yv_expansion::{Item, Origin};
+use yv_paths::{Names, qualified};
 use yv_rows::Rows;
 
 /// An item: the number of the statement of which it is made, the file of the module to which it belongs, whether it is a
-/// uses, the number of its name, the group of nodes in which it stands, that of the nodes below it, and the number behind
+/// uses, the number of its module and name, the group of nodes in which it stands, that of the nodes below it, and the number behind
 /// the last item below it. A group has the number of the node above it and one, and that at the top of a file is 0.
 #[derive(Clone, Copy)]
 pub(crate) struct Spot {
     pub origin: usize,
-    pub home: usize,
+    pub home: u32,
     pub is_uses: bool,
     pub name: usize,
     pub group: usize,
@@ -27,12 +29,14 @@ pub(crate) struct Spot {
 
 // For each file that of its module. A name is looked up once for a file, and not for each item at its top: the names may be
 // long.
-fn homes(alloc: Global, rows: &Rows<'_, '_>) -> Result<Vec<usize>, AllocError>
+fn homes(alloc: Global, rows: &Rows<'_, '_>) -> Result<Vec<u32>, AllocError>
     ensures { IfOk result (λ homes. AreHomes (files_in rows.now) homes.items) }
 {
+    yv_rows::laws::modules_are_files();
+    let count = rows.files().len();
     let mut homes = Vec::new(alloc);
-    for number in 0..rows.files().len() {
-        homes.push(rows.home(number))?;
+    for number in 0..count {
+        homes.push(rows.home(number) as u32)?;
     }
     Ok(homes)
 }
@@ -48,20 +52,20 @@ fn is_uses(rows: &Rows<'_, '_>, number: usize) -> bool
 }
 
 // The file of the module of a statement's file.
-fn home(rows: &Rows<'_, '_>, homes: &[usize], number: usize) -> usize
+fn home(rows: &Rows<'_, '_>, homes: &[u32], number: usize) -> u32
     ensures { (files : Briefs) → AreHomes files homes.now → result ≡ home_by files (slice_get (rows_in rows.now) number) }
 {
     match rows.entries().get(number) {
         Some(entry) => {
-            let file = entry.file as usize;
-            homes.get(file).copied().unwrap_or(file)
+            let file = entry.file;
+            homes.get(file as usize).copied().unwrap_or(file)
         }
         None => 0,
     }
 }
 
 // The group in which an item stands, and the file of its module, by the item above it.
-fn above(rows: &Rows<'_, '_>, homes: &[usize], spots: &[Spot], item: &Item) -> (usize, usize)
+fn above(rows: &Rows<'_, '_>, homes: &[u32], spots: &[Spot], item: &Item) -> (usize, u32)
     ensures { (files : Briefs) → AreHomes files homes.now → result ≡ above_by files (rows_in rows.now) spots.now item.now }
 {
     match item.parent {
@@ -73,21 +77,33 @@ fn above(rows: &Rows<'_, '_>, homes: &[usize], spots: &[Spot], item: &Item) -> (
     }
 }
 
+// The number of the name of the node that an item is.
+fn number(names: &Names<'_>, origin: Origin) -> Option<u32>
+    ensures { (rows : List Row) → AreNames rows names.now → result ≡ number_in rows origin }
+{
+    match origin {
+        Origin::Statement(statement) => names.of(statement),
+        Origin::Input(_) => Some(names.input()),
+        Origin::Output(_) => Some(names.output()),
+    }
+}
+
 // What is kept of one more item.
 fn next_spot(
     rows: &Rows<'_, '_>,
-    homes: &[usize],
-    numbers: &[usize],
+    names: &Names<'_>,
+    homes: &[u32],
     spots: &[Spot],
     item: &Item,
     end: usize,
 ) -> Spot
+    requires { AreNames (rows_in rows.now) names.now }
     ensures { (files : Briefs) → AreHomes files homes.now
-        → result ≡ next_spot files (rows_in rows.now) numbers.now spots.now item.now end }
+        → result ≡ next_spot files (rows_in rows.now) spots.now item.now end }
 {
     let (group, home) = above(rows, homes, spots, item);
     let is_uses = is_uses(rows, item.origin.number());
-    let name = numbers.get(item.origin.number()).copied().unwrap_or(0);
+    let name = qualified(home, number(names, item.origin).unwrap_or(0));
     let inside = if is_uses { group } else { spots.len() + 1 };
     Spot {
         origin: item.origin.number(),
@@ -100,23 +116,23 @@ fn next_spot(
     }
 }
 
-/// What is kept of each of these items, the names of statements having these numbers, and the items below ending there.
+/// What is kept of each of these items, names having these numbers, and the items below ending there.
 pub(crate) fn spots(
     alloc: Global,
     rows: &Rows<'_, '_>,
-    numbers: &[usize],
+    names: &Names<'_>,
     items: &[Item],
     ends: &[usize],
 ) -> Result<Vec<Spot>, AllocError>
     requires ends { AreEnds items.now ends.now }
-    requires names { map (name_number (rows_in rows.now)) (rows_in rows.now) ≡ numbers.now }
+    requires names { AreNames (rows_in rows.now) names.now }
     ensures { (sites : List Site) → AreSites (rows_in rows.now) items.now sites
         → IfOk result (λ spots. spots.items ≡ map (spot_of (files_in rows.now) (rows_in rows.now)) sites) }
 {
     let homes = homes(alloc, rows)?;
     let mut spots = Vec::new(alloc);
     for (number, item) in items.iter().enumerate() {
-        let spot = next_spot(rows, &homes, numbers, &spots, item, ends[number]);
+        let spot = next_spot(rows, names, &homes, &spots, item, ends[number]);
         spots.push(spot)?;
     }
     Ok(spots)

@@ -12,7 +12,7 @@ loop-number-preserved c = λ sites are.
     let files : Briefs = files_in c.args.rows.now in
     let rows : List Row = rows_in c.args.rows.now in
     let homes : AreHomes files c.deref.result.now = rw c.deref.ensures.value c.in_ok-homes.ensures in
-    spots_more files rows c.args.items.now sites are c.loop-number.number c.args.numbers.now c.args.ends.now c.loop-number.spots.items _ c.push.new.self.items _ _ c.next_spot-spot.result c.requires.names c.requires.ends
+    spots_more files rows c.args.items.now sites are c.loop-number.number c.args.ends.now c.loop-number.spots.items _ c.push.new.self.items _ _ c.next_spot-spot.result c.requires.ends
     (c.next_spot-spot.ensures files homes) c.deref-in-loop-number.ensures.value
     (slice_get-get_or c.args.items.now c.loop-number.number _ c.loop-number-test.true) refl
     c.in_ok-push.ensures.items (c.loop-number.invariant sites are)

@@ -1,0 +1,5 @@
+pub mod Placing
+pub mod Keeping
+pub mod Stepping
+pub mod Reading
+pub mod Homing
