@@ -3,8 +3,7 @@ use Rattle.std.specs.Prelude.{◌≡◌, ℕ, ◌<◌, Bool, List, length, map}
 use Rattle.yv_selection.specs.Choice.{Choice}
 use Rattle.yv_rows.specs.Files.{Files, brief_of}
 use Rattle.yv_rows.specs.Listed.{rows_of}
-use Rattle.yv_expansion.specs.Tree.{Tree}
-use Rattle.yv_expansion.specs.declared.item.Item.{Item}
+use Rattle.yv_expansion.specs.Tree.{Tree, Item}
 use Rattle.yv_expand.specs.Expanded.{AreTrees}
 use Rattle.yv_refines.specs.Known.{AreRefines}
 use Rattle.yv_refines.specs.declared.refines.Refines.{Refines}

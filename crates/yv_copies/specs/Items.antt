@@ -1,7 +1,8 @@
 -- The items of an expansion by their numbers.
 use Rattle.std.specs.Prelude.{ℕ, List, None, slice_index_or}
-use Rattle.yv_expansion.specs.Tree.{Tree, all_of, listed}
-use Rattle.yv_expansion.specs.declared.item.Item.{Item}
+use Rattle.yv_expansion.specs.declared.item.Origin.TheVariants.{Statement}
+use Rattle.yv_expansion.specs.Origin.{number_of}
+use Rattle.yv_expansion.specs.Tree.{Tree, Item, all_of, listed}
 
 -- the items of files that have one tree each, those of a file behind those of the file before
 abbrev pub items_of : List Tree → List Item
@@ -9,8 +10,8 @@ items_of trees = listed None 0 (all_of trees)
 
 -- what stands where there is no item
 abbrev pub no_item : Item
-no_item = record { origin = 0; parent = None }
+no_item = record { origin = Statement 0; parent = None }
 
--- the number of the statement that an item copies
+-- the number of the statement that gives an item: the one that it copies, or the operation that doesn't write it
 abbrev pub statement_of : List Tree → (item : ℕ) → ℕ
-statement_of trees item = (slice_index_or (items_of trees) item no_item).origin
+statement_of trees item = number_of (slice_index_or (items_of trees) item no_item).origin

@@ -119,7 +119,7 @@ impl<'a, 'b> Conditions<'_, 'a, 'b> {
         let marks = self.statements(alloc)?;
         let mut on = Vec::new(alloc);
         for (number, item) in items.iter().enumerate() {
-            on.push(is_item_on_by(&marks, item.origin, refines.of(number)))?;
+            on.push(is_item_on_by(&marks, item.origin.number(), refines.of(number)))?;
         }
         Ok(on)
     }

@@ -18,7 +18,7 @@ ghost use Rattle.yv_copies.specs.Copies.{AreCopies};
 use crate::conditions::Conditions;
 use std::alloc::{AllocError, Global};
 use std::marker::Model;
-use yv_expansion::{Expansion, Item};
+use yv_expansion::{Expansion, Node, Origin};
 use yv_link::Linked;
 use yv_pruning::{Layout, uses_marks};
 use yv_refines::Refines;
@@ -84,13 +84,14 @@ impl Copies {
         self.expansion.len()
     }
 
-    /// The number of the statement that an item copies; 0 past the last item.
+    /// The number of the statement that gives an item: the one that it copies, or the operation that doesn't write it; 0 past the last
+    /// item.
     pub fn statement(&self, item: usize) -> usize
         ensures { (choice : Choice) (files : Files) (truth : Truth) (k : AreCopies choice files truth self.now)
             → result ≡ statement_of k.trees item }
     {
         match self.expansion.items().get(item) {
-            Some(item) => item.origin,
+            Some(item) => item.origin.number(),
             None => 0,
         }
     }
@@ -106,12 +107,12 @@ impl Copies {
 
     /// The nodes that conditions leave of the items of a file, each with the number of its item as its origin and the number
     /// of the node above it. Takes time and memory linear in the items of the file, and a binary search among all items.
-    pub fn left(&self, alloc: Global, file: u32) -> Result<Vec<Item>, AllocError>
+    pub fn left(&self, alloc: Global, file: u32) -> Result<Vec<Node>, AllocError>
         ensures { IfOk result (λ nodes. (choice : Choice) (files : Files) (truth : Truth) (k : AreCopies choice files truth self.now)
             → nodes.items ≡ listed None 0 (left_in truth files k.trees file)) }
     {
-        yv_expansion::laws::a_tree_is_listed_whole();
-        yv_expansion::laws::trees_are_listed_in_order();
+        yv_expansion::laws::a_tree_is_listed_whole::<Origin>();
+        yv_expansion::laws::trees_are_listed_in_order::<Origin>();
         self.layout
             .pruned(alloc, self.expansion.items(), &self.on, &self.uses, file)
     }

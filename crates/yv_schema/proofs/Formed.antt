@@ -39,7 +39,7 @@ chosen_formed : (b : Bool) (home front : List ℕ) (ts us : Forest) → AreForme
 chosen_formed true home front ts us p q = p
 chosen_formed false home front ts us p q = q
 
-pub labelled_formed : (b : Basis) (home above : List ℕ) (t : items.Tree) (others : Forest) → AreFormed home (front_for above home) others → AreFormed home (front_for above home) (labelled b home above t others)
+pub labelled_formed : (b : Basis) (home above : List ℕ) (t : items.Nodes) (others : Forest) → AreFormed home (front_for above home) others → AreFormed home (front_for above home) (labelled b home above t others)
 labelled_formed b home above items.none others rest = rest
 labelled_formed b home above (items.item number below behind) others rest =
     let after : AreFormed home (front_for above home) (labelled b home above behind others) = labelled_formed b home above behind others rest in
@@ -102,7 +102,7 @@ chosen_joined : (b : Bool) (a c ts us vs : Forest) → a ≡ joined ts us → c 
 chosen_joined true a c ts us vs p q = p
 chosen_joined false a c ts us vs p q = q
 
-pub labelled_joined : (b : Basis) (home above : List ℕ) (t : items.Tree) (others : Forest) → labelled b home above t others ≡ joined (labelled b home above t no_trees) others
+pub labelled_joined : (b : Basis) (home above : List ℕ) (t : items.Nodes) (others : Forest) → labelled b home above t others ≡ joined (labelled b home above t no_trees) others
 labelled_joined b home above items.none others = refl
 labelled_joined b home above (items.item number below behind) others =
     ap (tree (node (label_at b home above number) (labelled b home home below no_trees))) (labelled_joined b home above behind others)

@@ -3,7 +3,7 @@ use Rattle.std.proofs.Common.{◌≡◌, ℕ, ◌+◌, ◌<◌, List, [], ◌∷
 use Rattle.std.specs.Str.{bytes_eq}
 use Rattle.std.proofs.Math.Seq.{get_or-append_seam}
 use Rattle.yv_expansion.specs.Tree as items
-use Rattle.yv_expansion.specs.declared.item.Item.{Item}
+use Rattle.yv_expansion.specs.Tree.{Node}
 use Rattle.yv_pruning.specs.Families as families
 use Rattle.yv_nodes.specs.declared.node.NodeId.{NodeId}
 use Rattle.yv_nodes.specs.Tree.{count, Forest, no_trees}
@@ -21,23 +21,23 @@ use Rattle.yv_schema.proofs.Formed.{labelled_joined}
 use Rattle.yv_nodes.proofs.Grouping.{numbers_joined, rows_joined}
 use Rattle.yv_nodes.proofs.Numbers.{length_rows}
 
-length_listed : (parent : Option ℕ) (first : ℕ) (t : items.Tree) → length (items.listed parent first t) ≡ items.count t
+length_listed : (parent : Option ℕ) (first : ℕ) (t : items.Nodes) → length (items.listed parent first t) ≡ items.count t
 length_listed parent first items.none = refl
 length_listed parent first (items.item origin below behind) =
     omega (arith, length-append (items.listed (Some first) (first + 1) below) (items.listed parent (first + 1 + items.count below) behind), length_listed (Some first) (first + 1) below, length_listed parent (first + 1 + items.count below) behind)
 
-length_below : (first : ℕ) (t : items.Tree) → length (families.below_from first t) ≡ items.count t
+length_below : (first : ℕ) (t : items.Nodes) → length (families.below_from first t) ≡ items.count t
 length_below first items.none = refl
 length_below first (items.item origin below behind) =
     omega (arith, length-append (families.below_from (first + 1) below) (families.below_from (first + 1 + items.count below) behind), length_below (first + 1) below, length_below (first + 1 + items.count below) behind)
 
 module _ (b : Basis) (home : List ℕ) where
-  pub count_labelled : (above : List ℕ) (t : items.Tree) → count (labelled b home above t no_trees) ≡ items.count t
+  pub count_labelled : (above : List ℕ) (t : items.Nodes) → count (labelled b home above t no_trees) ≡ items.count t
   count_labelled above items.none = refl
   count_labelled above (items.item number below behind) = omega (arith, count_labelled home below, count_labelled above behind)
 
   module _ (base : ℕ) where
-    pub numbers_labelled : (above : List ℕ) (first : ℕ) (t : items.Tree) → numbers_behind base (families.numbers_from first t) ≡ numbers_from (base + first) (labelled b home above t no_trees)
+    pub numbers_labelled : (above : List ℕ) (first : ℕ) (t : items.Nodes) → numbers_behind base (families.numbers_from first t) ≡ numbers_from (base + first) (labelled b home above t no_trees)
     numbers_labelled above first items.none = refl
     numbers_labelled above first (items.item number below behind) =
         let place : base + (first + 1 + items.count below) ≡ base + first + 1 + count (labelled b home home below no_trees) = omega (arith, count_labelled home below) in
@@ -45,19 +45,19 @@ module _ (b : Basis) (home : List ℕ) where
         (numbers_labelled above (first + 1 + items.count below) behind ∙ ap (λ (n : ℕ). numbers_from n (labelled b home above behind no_trees)) place)
 
     -- the row of one item, and those of the items behind
-    pub row_next : (below : List (List ℕ)) (xs : List Item) (i : ℕ) (x : Item) → i < length xs
+    pub row_next : (below : List (List ℕ)) (xs : List Node) (i : ℕ) (x : Node) → i < length xs
         → rows_for b home base below i (drop i xs)
         ≡ row_of b home (get_or xs i x) (parent_of base (get_or xs i x).parent) (numbers_behind base (get_or below i [])) ∷ rows_for b home base below (i + 1) (drop (i + 1) xs)
     row_next below xs i x lt = ap (rows_for b home base below i) (drop-cons xs i x lt ∙ ap (λ (n : ℕ). get_or xs i x ∷ drop n xs) (sym (add-one i)))
 
-    rows_both : (below : List (List ℕ)) (number : ℕ) (xs ys : List Item) → rows_for b home base below number (xs ++ ys) ≡ rows_for b home base below number xs ++ rows_for b home base below (number + length xs) ys
+    rows_both : (below : List (List ℕ)) (number : ℕ) (xs ys : List Node) → rows_for b home base below number (xs ++ ys) ≡ rows_for b home base below number xs ++ rows_for b home base below (number + length xs) ys
     rows_both below number [] ys = ap (λ (n : ℕ). rows_for b home base below n ys) (omega arith)
     rows_both below number (x ∷ xs) ys =
         let next : number + 1 + length xs ≡ number + length (x ∷ xs) = omega arith in
         ap (λ (rs : List Row). row_of b home x (parent_of base x.parent) (numbers_behind base (get_or below number [])) ∷ rs)
         (rows_both below (number + 1) xs ys ∙ ap (λ (n : ℕ). rows_for b home base below (number + 1) xs ++ rows_for b home base below n ys) next)
 
-    pub rows_labelled : (parent : Option ℕ) (first : ℕ) (t : items.Tree) (front back : List (List ℕ)) → length front ≡ first
+    pub rows_labelled : (parent : Option ℕ) (first : ℕ) (t : items.Nodes) (front back : List (List ℕ)) → length front ≡ first
         → rows_for b home base (front ++ families.below_from first t ++ back) first (items.listed parent first t) ≡ rows_below (parent_of base parent) (base + first) (labelled b home (above_of parent home) t no_trees)
     rows_labelled parent first items.none front back many = refl
     rows_labelled parent first (items.item number below behind) front back many =
@@ -73,7 +73,7 @@ module _ (b : Basis) (home : List ℕ) where
         ∙ get_or-append_seam front own (kids ++ others ++ back) [] in
         let own_id : NodeId = record { 0 = base + first } in
         let above_id : NodeId = parent_of base parent in
-        let inside : items.Tree → Forest = λ t. labelled b home home t no_trees in
+        let inside : items.Nodes → Forest = λ t. labelled b home home t no_trees in
         let below_rows : rows_for b home base all (first + 1) (items.listed (Some first) (first + 1) below) ≡ rows_below own_id (base + (first + 1)) (inside below) =
         ap (λ (xs : List (List ℕ)). rows_for b home base xs (first + 1) (items.listed (Some first) (first + 1) below)) first_split
         ∙ rows_labelled (Some first) (first + 1) below (front ++ own ∷ []) (others ++ back) (omega (arith, many, length-append front (own ∷ []))) in
@@ -93,7 +93,7 @@ module _ (b : Basis) (home : List ℕ) where
         ∙ ap (λ (rs : List Row). let r : Row = record { label = label_at b home (above_of parent home) number; parent = above_id; children = numbers_from (base + first + 1) (inside below) } in r ∷ rs) rest
 
   -- the nodes of a file are added
-  pub adds_file : (t : items.Tree) (xs : List Item) (top : List ℕ) (below : List (List ℕ)) (old new : List Row) (before after : List NodeId) → xs ≡ items.listed None 0 t → top ≡ families.numbers_from 0 t
+  pub adds_file : (t : items.Nodes) (xs : List Node) (top : List ℕ) (below : List (List ℕ)) (old new : List Row) (before after : List NodeId) → xs ≡ items.listed None 0 t → top ≡ families.numbers_from 0 t
       → below ≡ families.below_from 0 t → new ≡ old ++ rows_for b home (length old) below 0 xs → after ≡ before ++ numbers_behind (length old) top → Adds (labelled b home [] t) old new before after
   adds_file t xs top below old new before after are at_top are_below grew numbered =
       let own : Forest = labelled b home [] t no_trees in
@@ -101,7 +101,7 @@ module _ (b : Basis) (home : List ℕ) where
       let base : length old + 0 ≡ length old = omega arith in
       let rows : rows_for b home (length old) below 0 xs ≡ rows_from (length old) own =
       ap (λ (bs : List (List ℕ)). rows_for b home (length old) bs 0 xs) flat
-      ∙ ap (λ (ys : List Item). rows_for b home (length old) ([] ++ families.below_from 0 t ++ []) 0 ys) are
+      ∙ ap (λ (ys : List Node). rows_for b home (length old) ([] ++ families.below_from 0 t ++ []) 0 ys) are
       ∙ rows_labelled (length old) None 0 t [] [] refl ∙ ap (λ (n : ℕ). rows_from n own) base in
       let is : new ≡ old ++ rows_from (length old) own = grew ∙ ap (λ (rs : List Row). old ++ rs) rows in
       let numbers : numbers_behind (length old) top ≡ numbers_from (length old) own =
@@ -124,7 +124,7 @@ member_is true qualified home name e = rw e refl
 member_is false qualified home name e = rw e refl
 
 -- the row of a node that is made for an item
-pub row_is : (b : Basis) (home : List ℕ) (x : Item) (parent : NodeId) (children : List NodeId) (d : Defined) (qualified : Bool) → d ≡ refined b.kinds b.files (statement_of b.trees x.origin) (changes b.files b.trees x.origin)
+pub row_is : (b : Basis) (home : List ℕ) (x : Node) (parent : NodeId) (children : List NodeId) (d : Defined) (qualified : Bool) → d ≡ refined b.kinds b.files (statement_of b.trees x.origin) (changes b.files b.trees x.origin)
     → qualified ≡ not (bytes_eq (above_of x.parent home) home) → row_with d home qualified parent children ≡ row_of b home x parent children
 row_is b home x parent children d qualified is e =
     ap (λ (m : List ℕ). row_called d m) (member_is (bytes_eq (above_of x.parent home) home) qualified home d.name e)

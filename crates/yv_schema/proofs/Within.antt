@@ -78,7 +78,7 @@ before_less home size m n = grind (arith, nat_tests)
 
 -- what conditions leave is no more than there was
 abbrev pub AddNone : Type 0
-AddNone = (is_on is_uses : ℕ → Bool) (first : ℕ) (t others : items.Tree) → items.count (pruned is_on is_uses first t others) ≤ items.count t + items.count others
+AddNone = (is_on is_uses : ℕ → Bool) (first : ℕ) (t : items.Tree) (others : items.Nodes) → items.count (pruned is_on is_uses first t others) ≤ items.count t + items.count others
 
 -- an expansion is no more than the units of what it expands
 abbrev pub AreWithin : Type 0
@@ -103,7 +103,7 @@ module _ (b : Basis) (add_none : AddNone) where
   abbrev home : ℕ → ℕ
   home = home_at (map brief_of b.files)
 
-  count_all : (name above : List ℕ) (t : items.Tree) (others : Forest) → count (labelled b name above t others) ≡ items.count t + count others
+  count_all : (name above : List ℕ) (t : items.Nodes) (others : Forest) → count (labelled b name above t others) ≡ items.count t + count others
   count_all name above items.none others = omega arith
   count_all name above (items.item number below behind) others =
       omega (arith, count_all name name below no_trees, count_all name above behind others)

@@ -1,6 +1,6 @@
 -- Only private clauses cite this: rows made of items, one by one.
 use Rattle.std.specs.Prelude.{ℕ, ◌+◌, List, [], ◌∷◌, map, Option, Some, None, slice_index_or}
-use Rattle.yv_expansion.specs.declared.item.Item.{Item}
+use Rattle.yv_expansion.specs.Tree.{Node}
 use Rattle.yv_nodes.specs.declared.node.NodeId.{NodeId}
 use Rattle.yv_schema.specs.Module.{Basis, label_at}
 use Rattle.yv_nodes.specs.Rows.{Row, root}
@@ -23,7 +23,7 @@ parent_of base None = root
 parent_of base (Some place) = number_behind base place
 
 -- the row of an item below this node, where these nodes stand below it
-abbrev pub row_of : Basis → List ℕ → Item → (parent : NodeId) → (children : List NodeId) → Row
+abbrev pub row_of : Basis → List ℕ → Node → (parent : NodeId) → (children : List NodeId) → Row
 row_of b home x parent children = record {
   label = label_at b home (above_of x.parent home) x.origin;
   parent = parent;
@@ -31,7 +31,7 @@ row_of b home x parent children = record {
 }
 
 -- the rows of items, the first having this number among those of its file, where the first of these has the number `base`
-abbrev pub rows_for : Basis → List ℕ → ℕ → List (List ℕ) → ℕ → List Item → List Row
+abbrev pub rows_for : Basis → List ℕ → ℕ → List (List ℕ) → ℕ → List Node → List Row
 rows_for b home base below number [] = []
 rows_for b home base below number (x ∷ xs) =
     row_of b home x (parent_of base x.parent) (numbers_behind base (slice_index_or below number []))

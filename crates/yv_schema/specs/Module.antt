@@ -50,7 +50,7 @@ label_at b home above item = label_of (refined b.kinds b.files (statement_of b.t
 
 -- the schema nodes that items left of an expansion give, in order, below a node of the module `above`, and then others: all
 -- that a `uses` gives is of the module of the file in which it stands outside groupings (RFC 7950, section 7.13)
-abbrev pub labelled : Basis → (home above : List ℕ) → items.Tree → Forest → Forest
+abbrev pub labelled : Basis → (home above : List ℕ) → items.Nodes → Forest → Forest
 labelled b home above items.none others = others
 labelled b home above (items.item number below behind) others =
     let after : Forest = labelled b home above behind others in

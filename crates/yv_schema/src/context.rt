@@ -14,7 +14,7 @@ ghost use Rattle.yv_schema.specs.InnerContext.{Tells};
 use std::alloc::{AllocError, Global};
 use yv_copies::Copies;
 use yv_definitions::Definitions;
-use yv_expansion::Item;
+use yv_expansion::Node;
 use yv_nodes::Definition;
 
 /// What the statements of files say of nodes, and the copies of these that there are.
@@ -40,7 +40,7 @@ impl<'c, 'a, 'b> Context<'c, 'a, 'b> {
     }
 
     /// What is left of the expansion of a file, by the conditions of its items.
-    pub(crate) fn left(&self, alloc: Global, file: u32) -> Result<Vec<Item>, AllocError>
+    pub(crate) fn left(&self, alloc: Global, file: u32) -> Result<Vec<Node>, AllocError>
         ensures { (b : Basis) → Tells b self.now → IfOk result (λ items. items.items
             ≡ listed None 0 (left_in b.truth b.files b.trees file)) }
     {

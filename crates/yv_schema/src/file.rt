@@ -12,7 +12,7 @@ ghost use Rattle.yv_schema.specs.InnerRowing.{above_of, number_behind, numbers_b
 use crate::context::Context;
 use std::alloc::{AllocError, Global};
 use std::rc::RcStr;
-use yv_expansion::Item;
+use yv_expansion::Node as LeftNode;
 use yv_nodes::{Node, NodeId, Nodes, Schema};
 use yv_pruning::families_of;
 use yv_statement::Stop;
@@ -48,7 +48,7 @@ impl Builder<'_, '_, '_> {
     fn add_nodes(
         &self,
         base: u32,
-        items: &[Item],
+        items: &[LeftNode],
         below: &[Vec<usize>],
         nodes: &mut Nodes,
     ) -> Result<(), Stop>
@@ -67,7 +67,12 @@ impl Builder<'_, '_, '_> {
     }
 
     // The node of an item, with this parent and these children.
-    fn node(&self, item: &Item, parent: NodeId, children: Vec<NodeId>) -> Result<Node, AllocError>
+    fn node(
+        &self,
+        item: &LeftNode,
+        parent: NodeId,
+        children: Vec<NodeId>,
+    ) -> Result<Node, AllocError>
         ensures { (b : Basis) → Tells b self.now.context.now → IfOk result (λ node. node
             ≡ row_of b (rc_str_bytes self.now.home.now) item.now parent children.items) }
     {
@@ -79,7 +84,7 @@ impl Builder<'_, '_, '_> {
 }
 
 // Whether a JSON member of an item's node has the name of the module in front: at the top, where no module is above.
-fn is_qualified(item: &Item, home: &RcStr) -> bool
+fn is_qualified(item: &LeftNode, home: &RcStr) -> bool
     ensures { result ≡ not (bytes_eq (above_of item.now.parent (rc_str_bytes home.now)) (rc_str_bytes home.now)) }
 {
     item.parent.is_none() && !home.is_empty()

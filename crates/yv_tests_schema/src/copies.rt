@@ -2,7 +2,7 @@
 use crate::texts::{roots, sources};
 use std::alloc::Global;
 use std::test::Fail;
-use yv_expansion::Item;
+use yv_expansion::{Item, Origin};
 use yv_names::names;
 use yv_refines::Refines;
 use yv_rows::Rows;
@@ -42,15 +42,15 @@ const REFINED: &str =
 
 static ITEMS: [Item; 3] = [
     Item {
-        origin: 4,
+        origin: Origin::Statement(4),
         parent: None,
     },
     Item {
-        origin: 2,
+        origin: Origin::Statement(2),
         parent: Some(0),
     },
     Item {
-        origin: 3,
+        origin: Origin::Statement(3),
         parent: Some(1),
     },
 ];

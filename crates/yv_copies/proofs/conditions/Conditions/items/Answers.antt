@@ -2,7 +2,8 @@ use Rattle.std.proofs.Common.{◌≡◌, ℕ, Bool, true, List, [], ◌∷◌, l
 use Rattle.std.specs.List.{slice_index_or}
 use Rattle.yv_rows.specs.Lent.{lent_in}
 use Rattle.yv_link.specs.Linked.{truth_in}
-use Rattle.yv_expansion.specs.declared.item.Item.{Item}
+use Rattle.yv_expansion.specs.Origin.{number_of}
+use Rattle.yv_expansion.specs.Tree.{Item}
 use Rattle.yv_copies.specs.Items.{no_item}
 use Rattle.yv_copies.specs.On.{is_item_on, is_statement_on}
 use Rattle.yv_pruning.specs.Listed.{is_marked}
@@ -20,7 +21,7 @@ loop-number-preserved c =
     record {
       each = omega (arith, ap length c.in_ok-push.ensures.items, length-append c.loop-number.on.items (c.is_item_on_by.result ∷ []), c.loop-number.invariant.each);
       marks = λ trees is refined k lt.
-          let origin = ap (λ (xs : List Item). (slice_index_or xs number no_item).origin) is in
+          let origin = c.number.ensures ∙ ap (λ (xs : List Item). number_of (slice_index_or xs number no_item).origin) is in
           let here : c.is_item_on_by.result ≡ is_item_on truth files trees number =
           item_on truth files trees marks number _ c.of.result.now c.is_item_on_by.result told origin (c.of.ensures files trees refined) c.is_item_on_by.ensures in
           ap (λ (ms : List Bool). is_marked ms k) c.in_ok-push.ensures.items

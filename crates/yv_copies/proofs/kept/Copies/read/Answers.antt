@@ -1,6 +1,6 @@
 use Rattle.std.proofs.Common.{◌≡◌, ◌<◌, ◌∙◌, sym, subst, List, length}
 use Rattle.yv_rows.specs.Lent.{lent_in}
-use Rattle.yv_expansion.specs.declared.item.Item.{Item}
+use Rattle.yv_expansion.specs.Tree.{Item}
 use Rattle.yv_copies.specs.Given.{marks_of}
 use Rattle.yv_copies.specs.Items.{items_of}
 use Rattle.yv_copies.proofs.Tops.{items_by_file}

@@ -1,7 +1,7 @@
 use Rattle.std.proofs.Common.{◌≡◌, ◌+◌, ◌++◌, ◌∷◌, [], List, drop, get_or, ap, sym, ◌∙◌, append_assoc, None}
 use Rattle.std.specs.Rc.{rc_str_bytes}
 use Rattle.yv_pruning.specs.Families.{lists_of}
-use Rattle.yv_expansion.specs.declared.item.Item.{Item}
+use Rattle.yv_expansion.specs.Tree.{Node}
 use Rattle.yv_nodes.specs.declared.node.NodeId.{NodeId}
 use Rattle.yv_schema.specs.InnerRowing.{numbers_behind, parent_of, row_of, rows_for}
 use Rattle.yv_nodes.specs.Rows.{Row}
@@ -16,8 +16,8 @@ loop-place-preserved c = record {
       let below = lists_of c.args.below.now in
       let i = c.loop-place.place in
       let old = c.loop-place.nodes.rows in
-      let blank : Item = record { origin = 0; parent = None } in
-      let x : Item = get_or c.args.items.now i blank in
+      let blank : Node = record { origin = 0; parent = None } in
+      let x : Node = get_or c.args.items.now i blank in
       let parent : NodeId = parent_of base x.parent in
       let children : List NodeId = numbers_behind base (get_or below i []) in
       let rest : List Row = rows_for b home base below (i + 1) (drop (i + 1) c.args.items.now) in
