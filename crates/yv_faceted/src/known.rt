@@ -12,6 +12,7 @@ use crate::step::type_at;
 use crate::table::{get, no_types, put};
 use std::alloc::Global;
 use yv_bases::Bases;
+use yv_pattern::Patterns;
 use yv_rows::Rows;
 use yv_statement::{Refusal, Stop, lesser};
 use yv_values::PlainType;
@@ -31,9 +32,8 @@ impl Faceted {
     ghost use Rattle.yv_faceted.specs.InnerSteps.{StopsWhere};
 
     /// Reads the types of these statements, the bases being theirs. `PatternBuild` says that `regex` doesn't build the
-    /// translation of a pattern of the dialect; no refusal is an error here. It takes time linear in the statements but
-    /// for what `narrowed` says of each type. Since a type with patterns has a list of its own of all patterns on its
-    /// way, a chain of such types takes time and memory quadratic in its length.
+    /// translation of a pattern of the dialect; no refusal is an error here. Equal patterns are built once, and the types
+    /// share them. It takes time linear in the statements but for what `narrowed` says of each type.
     pub fn read(alloc: Global, rows: &Rows<'_, '_>, bases: &Bases) -> Result<Faceted, Stop>
         ensures made { IfOk result (λ faceted. (files : Files) → lent_in rows.now ≡ files → AreBases files bases.now → AreFaceted files faceted) }
         ensures faultless { (r : Refusal) → result ≢ Err (Fault r) }
@@ -43,8 +43,9 @@ impl Faceted {
         let order = bases.order();
         let mut types = no_types(alloc, rows.entries().len())?;
         let mut fault = None;
+        let mut patterns = Patterns::new(alloc);
         for number in order {
-            let step = match type_at(alloc, rows, bases, &types, *number) {
+            let step = match type_at(alloc, &mut patterns, rows, bases, &types, *number) {
                 Ok(step) => step,
                 Err(stop) => return Err(stop),
             };

@@ -16,6 +16,7 @@ use crate::table::get;
 use std::alloc::Global;
 use yv_bases::Bases;
 use yv_facets::{built_in, narrowed};
+use yv_pattern::Patterns;
 use yv_rows::{Rows, name_of};
 use yv_statement::{Refusal, Statement, Stop};
 use yv_values::PlainType;
@@ -48,6 +49,7 @@ fn is_type(statement: &Statement<'_>) -> bool
 // What a type statement leaves of the type that it narrows.
 fn left_of(
     alloc: Global,
+    patterns: &mut Patterns,
     file: u32,
     statement: &Statement<'_>,
     base: Option<&PlainType>,
@@ -58,7 +60,7 @@ fn left_of(
 {
     yv_facets::laws::one_type_is_left();
     match base {
-        Some(base) => match narrowed(alloc, file, statement, base) {
+        Some(base) => match narrowed(alloc, patterns, file, statement, base) {
             Ok(left) => Ok(Step {
                 plain: Some(left.plain),
                 fault: left.fault,
@@ -70,18 +72,24 @@ fn left_of(
 }
 
 // What a type statement leaves of the built-in type that it names.
-fn named(alloc: Global, file: u32, statement: &Statement<'_>) -> Result<Step, Stop>
+fn named(
+    alloc: Global,
+    patterns: &mut Patterns,
+    file: u32,
+    statement: &Statement<'_>,
+) -> Result<Step, Stop>
     ensures left { IfOk result (λ s.
         IsLeft file statement.now (built_in (name_at statement.now.head) (digits_of statement.now)) (option_map plain_of s.plain) s.fault) }
     ensures stops { IfErr result (StopsWhere (HasPattern (trees statement.now.children))) }
 {
     let base = built_in(alloc, name_of(statement), digits_of(statement))?;
-    left_of(alloc, file, statement, base.as_ref())
+    left_of(alloc, patterns, file, statement, base.as_ref())
 }
 
 /// The plain type of the numbered statement, the table having that of the type that it follows.
 pub(crate) fn type_at(
     alloc: Global,
+    patterns: &mut Patterns,
     rows: &Rows<'_, '_>,
     bases: &Bases,
     types: &[Option<PlainType>],
@@ -103,7 +111,7 @@ pub(crate) fn type_at(
         return Ok(nothing());
     }
     match bases.follows(number) {
-        Some(followed) => left_of(alloc, entry.file, statement, get(types, followed)),
-        None => named(alloc, entry.file, statement),
+        Some(followed) => left_of(alloc, patterns, entry.file, statement, get(types, followed)),
+        None => named(alloc, patterns, entry.file, statement),
     }
 }

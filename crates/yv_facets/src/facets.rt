@@ -9,16 +9,18 @@ ghost use Rattle.yv_facets.specs.Faults.{BadFacets, HasPattern};
 
 use crate::narrowing::{Narrowed, binary, decimal, text, whole};
 use std::alloc::Global;
+use yv_pattern::Patterns;
 use yv_statement::{Refusal, Statement, Stop};
 use yv_values::PlainType;
 
 /// What a type statement's `range`, `length` and `pattern` leave of the type that it names, and the least that is wrong
 /// with them (RFC 7950, sections 9.2.4, 9.3.4, 9.4.4 to 9.4.6 and 9.8.1). A type that none of them restricts passes
 /// unchanged. `PatternBuild` says that `regex` doesn't build the translation of a pattern of the dialect; no refusal is
-/// an error here. It takes time linear in the statement but for what `restricted` and `Pattern::read` say, and where
-/// there is a pattern linear in those of the type.
+/// an error here. Patterns that were read before are shared. It takes time linear in the statement but for what `restricted`
+/// and `Patterns::read` say, and where there is a pattern logarithmic in the types behind.
 pub fn narrowed(
     alloc: Global,
+    patterns: &mut Patterns,
     file: u32,
     statement: &Statement<'_>,
     base: &PlainType,
@@ -31,7 +33,7 @@ pub fn narrowed(
     match base {
         PlainType::Whole(base) => Ok(whole(alloc, file, statement, base)?),
         PlainType::Decimal(base) => Ok(decimal(alloc, file, statement, base)?),
-        PlainType::Text(base) => text(alloc, file, statement, base),
+        PlainType::Text(base) => text(alloc, patterns, file, statement, base),
         PlainType::Binary(base) => Ok(binary(alloc, file, statement, base)?),
         PlainType::Boolean
         | PlainType::Enumeration(_)

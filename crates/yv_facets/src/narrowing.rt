@@ -1,17 +1,17 @@
 //! What is left of each kind of type.
-ghost use Rattle.std.specs.Prelude.{◌≡◌, map, IfOk, IfErr};
-ghost use Rattle.std.specs.Rc.{rc_slice_items};
+ghost use Rattle.std.specs.Prelude.{◌≡◌, IfOk, IfErr};
 ghost use Rattle.yv_statement.specs.Order.{IsLeast};
 ghost use Rattle.yv_statement.specs.Tree.{trees};
-ghost use Rattle.yv_values.specs.Types.{plain_of, test_of, wholes, decimals, strings, octets};
+ghost use Rattle.yv_values.specs.Types.{plain_of, wholes, decimals, strings, octets};
 ghost use Rattle.yv_facets.specs.Facets.{Narrows};
 ghost use Rattle.yv_facets.specs.Faults.{BadFacets, HasPattern};
 ghost use Rattle.yv_facets.specs.InnerStops.{StopsWhere};
 
-use crate::patterns::{joined, read_tests};
+use crate::patterns::read_tests;
 use crate::restriction::{child, left_by};
 use std::alloc::{AllocError, Global};
 use yv_numbers::Intervals;
+use yv_pattern::Patterns;
 use yv_statement::{Refusal, Statement, Stop, lesser};
 use yv_values::{DecimalType, PlainType, TextType, WholeType};
 
@@ -87,24 +87,25 @@ pub(crate) fn binary(
 /// A `length` of texts, and their patterns.
 pub(crate) fn text(
     alloc: Global,
+    patterns: &mut Patterns,
     file: u32,
     statement: &Statement<'_>,
     base: &TextType,
 ) -> Result<Narrowed, Stop>
     ensures narrows { IfOk result (λ n. Narrows statement.now
-        (strings base.now.lengths (map test_of (rc_slice_items base.now.patterns))) (plain_of n.plain)) }
+        (strings base.now.lengths base.now.patterns) (plain_of n.plain)) }
     ensures fault { IfOk result (λ n. IsLeast (BadFacets file statement.now
-        (strings base.now.lengths (map test_of (rc_slice_items base.now.patterns)))) n.fault) }
+        (strings base.now.lengths base.now.patterns)) n.fault) }
     ensures stops { IfErr result (StopsWhere (HasPattern (trees statement.now.children))) }
 {
     let length = child("length", statement);
     let left = left_by(alloc, file, length, &base.lengths, None)?;
-    let read = match read_tests(alloc, file, statement.children()) {
+    let read = match read_tests(alloc, patterns, file, statement.children()) {
         Ok(read) => read,
         Err(stop) => return Err(stop),
     };
     let lengths = left.spans;
-    let patterns = joined(alloc, &base.patterns, read.tests)?;
+    let patterns = base.patterns.with(alloc, read.tests)?;
     Ok(Narrowed {
         plain: PlainType::Text(TextType { lengths, patterns }),
         fault: lesser(left.fault, read.fault),

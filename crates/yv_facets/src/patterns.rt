@@ -1,7 +1,6 @@
 //! The tests that the patterns of a type statement are.
 ghost use Rattle.std.specs.Prelude.{◌≡◌, ◌++◌, map, option_to_list, IfOk, IfErr, OnOk};
 ghost use Rattle.std.specs.Option.{option_map};
-ghost use Rattle.std.specs.Rc.{rc_slice_items};
 ghost use Rattle.yv_statement.specs.Order.{IsLeast};
 ghost use Rattle.yv_values.specs.Types.{test_of};
 ghost use Rattle.yv_facets.specs.Facets.{AreTests, IsTest};
@@ -10,8 +9,7 @@ ghost use Rattle.yv_facets.specs.InnerStops.{StopsWhere};
 
 use crate::restriction::{child, text_of};
 use std::alloc::{AllocError, Global};
-use std::rc::{Rc, RcSlice};
-use yv_pattern::Pattern;
+use yv_pattern::Patterns;
 use yv_statement::{Code, Refusal, Statement, Stop, lesser, refused};
 use yv_values::PatternTest;
 
@@ -30,7 +28,12 @@ pub struct Readings {
 }
 
 /// The tests that the patterns among some statements are, in order.
-pub fn read_tests(alloc: Global, file: u32, statements: &[Statement<'_>]) -> Result<Readings, Stop>
+pub fn read_tests(
+    alloc: Global,
+    patterns: &mut Patterns,
+    file: u32,
+    statements: &[Statement<'_>],
+) -> Result<Readings, Stop>
     ensures tests { IfOk result (λ r. AreTests statements.now (map test_of r.tests.items)) }
     ensures fault { IfOk result (λ r. IsLeast (BadPatterns file statements.now) r.fault) }
     ensures stops { IfErr result (StopsWhere (HasPattern statements.now)) }
@@ -38,7 +41,7 @@ pub fn read_tests(alloc: Global, file: u32, statements: &[Statement<'_>]) -> Res
     let mut tests = Vec::new(alloc);
     let mut fault = None;
     for statement in statements {
-        let reading = match read_test(alloc, file, statement) {
+        let reading = match read_test(alloc, patterns, file, statement) {
             Ok(reading) => reading,
             Err(stop) => return Err(stop),
         };
@@ -58,7 +61,12 @@ fn keep(tests: &mut Vec<PatternTest>, test: Option<PatternTest>) -> Result<(), A
     Ok(())
 }
 
-fn read_test(alloc: Global, file: u32, statement: &Statement<'_>) -> Result<Reading, Stop>
+fn read_test(
+    alloc: Global,
+    patterns: &mut Patterns,
+    file: u32,
+    statement: &Statement<'_>,
+) -> Result<Reading, Stop>
     ensures test { IfOk result (λ r. IsTest statement.now (option_map test_of r.test)) }
     ensures fault { IfOk result (λ r. IsLeast (BadPattern file statement.now) r.fault) }
     ensures stops { IfErr result (StopsWhere (IsPattern statement.now)) }
@@ -69,10 +77,10 @@ fn read_test(alloc: Global, file: u32, statement: &Statement<'_>) -> Result<Read
             fault: None,
         });
     }
-    match Pattern::read(alloc, text_of(statement)) {
+    match patterns.read(alloc, text_of(statement)) {
         Ok(pattern) => Ok(Reading {
             test: Some(PatternTest {
-                pattern: Rc::new(alloc, pattern)?,
+                pattern,
                 is_inverted: child("modifier", statement).is_some(),
             }),
             fault: None,
@@ -83,36 +91,4 @@ fn read_test(alloc: Global, file: u32, statement: &Statement<'_>) -> Result<Read
         }),
         Err(stop) => Err(stop),
     }
-}
-
-/// Tests behind those of a type. The type's list is shared where there are none.
-pub fn joined(
-    alloc: Global,
-    base: &RcSlice<PatternTest>,
-    tests: Vec<PatternTest>,
-) -> Result<RcSlice<PatternTest>, AllocError>
-    ensures { IfOk result (λ all. map test_of (rc_slice_items all)
-        ≡ map test_of (rc_slice_items base.now) ++ map test_of tests.items) }
-{
-    if tests.is_empty() {
-        return base.clone();
-    }
-    let mut tests = tests;
-    let mut all = copies(alloc, base)?;
-    all.append(&mut tests)?;
-    RcSlice::from_vec(all)
-}
-
-// The same tests once more, over the same patterns.
-fn copies(alloc: Global, tests: &[PatternTest]) -> Result<Vec<PatternTest>, AllocError>
-    ensures { IfOk result (λ v. map test_of v.items ≡ map test_of tests.now) }
-{
-    let mut copies = Vec::new(alloc);
-    for test in tests {
-        copies.push(PatternTest {
-            pattern: test.pattern.clone()?,
-            is_inverted: test.is_inverted,
-        })?;
-    }
-    Ok(copies)
 }

@@ -6,9 +6,8 @@ ghost use Rattle.yv_values.specs.Types.{plain_of, wholes};
 ghost use Rattle.yv_facets.specs.BuiltIn.{built_in, signed, unsigned, whole_type};
 
 use std::alloc::{AllocError, Global};
-use std::rc::RcSlice;
 use yv_numbers::{Integer, Intervals, Span};
-use yv_values::{DecimalType, PlainType, TextType, WholeType};
+use yv_values::{DecimalType, PatternTests, PlainType, TextType, WholeType};
 
 /// The built-in type of a name before any restriction, decimal64 with so many digits behind the point (RFC 7950,
 /// sections 9.2 to 9.5, 9.8 and 9.11). Of the other built-in types, whose values their own statements give, there is
@@ -21,7 +20,7 @@ pub fn built_in(alloc: Global, name: &str, digits: u32) -> Result<Option<PlainTy
         Ok(Some(PlainType::Decimal(DecimalType { digits, spans })))
     } else if name == "string" {
         let lengths = unsigned(alloc, u64::MAX)?;
-        let patterns = RcSlice::from_vec(Vec::new(alloc))?;
+        let patterns = PatternTests::none(alloc)?;
         Ok(Some(PlainType::Text(TextType { lengths, patterns })))
     } else if name == "binary" {
         Ok(Some(PlainType::Binary(unsigned(alloc, u64::MAX)?)))

@@ -1,16 +1,16 @@
--- What is derived from the bases of a type.
-use Rattle.std.proofs.Common.{◌≡◌, ℕ, ◌+◌, ◌<◌, ◌==◌, ◌&&◌, ◌↔◌, inl, inr, Bool, true, false, IsTrue, cond, List, length, map, Option, None, Some, refl, sym, ◌∙◌, ap, subst, arith, eqb-true, eq-eqb}
+-- What is derived from all bases of a key.
+use Rattle.std.proofs.Common.{◌≡◌, ℕ, ◌+◌, ◌<◌, ◌≤◌, ◌==◌, ◌&&◌, ◌↔◌, inl, inr, Bool, true, IsTrue, List, length, map, Option, Some, refl, sym, ◌∙◌, ap, subst, arith, eq-eqb}
 use Rattle.std.proofs.lemmas.Bool.{cases_eq}
 use Rattle.std.proofs.lemmas.Option.{same_Some, slice_get_read, slice_get_within, slice_get-map, get_or_from_slice_get}
 use Rattle.std.specs.List.{slice_get, list_any, Contains}
 use Rattle.std.specs.Option.{option_map}
 use Rattle.yv_rows.specs.Files.{Briefs}
-use Rattle.yv_rows.specs.Rows.{Row, name_in}
-use Rattle.yv_identities.specs.Names.{is_base}
-use Rattle.yv_identities.specs.References.{AreDescendants, is_at, ref_of, reference_of, refs_of}
+use Rattle.yv_rows.specs.Rows.{Row}
+use Rattle.yv_identities.specs.References.{AreDescendants, is_at, ref_of, refs_of}
 use Rattle.yv_identities.specs.declared.references.IdentityRef.{IdentityRef}
-use Rattle.yv_identityref.specs.Bases.{IsBelow, IsBelowAll, NamesBase}
-use Rattle.yv_identityref.specs.InnerDraft.{base_by}
+use Rattle.yv_identityref.specs.Bases.{IsBelow}
+use Rattle.yv_identityref.specs.InnerBases.{IsBelowKey}
+use Rattle.yv_identityref.specs.InnerSets.{is_key}
 use Rattle.yv_identityref.proofs.Placing.{same_at}
 use Rattle.yv_identityref.proofs.Reading.{both, both_true, found, finds, mapped}
 
@@ -19,6 +19,16 @@ same_place place ref e =
     both_true (ref.file == place.file) (ref.offset == place.offset)
     (eq-eqb ref.file place.file (ap (λ (r : IdentityRef). r.file) (sym e)))
     (eq-eqb ref.offset place.offset (ap (λ (r : IdentityRef). r.offset) (sym e)))
+
+-- the place that a file and an offset are
+abbrev pub ref_at : ℕ × ℕ → IdentityRef
+ref_at k = record { file = k.0; offset = k.1 }
+
+named : (base : IdentityRef) (k : ℕ × ℕ) → is_key base k ≡ true → base ≡ ref_at k
+named base k h = sym (same_at (ref_at k) base h)
+
+names_itself : (k : ℕ × ℕ) → is_key (ref_at k) k ≡ true
+names_itself k = same_place (ref_at k) (ref_at k) refl
 
 module _ (files : Briefs) (rows : List Row) where
   abbrev referred : ℕ → Option IdentityRef
@@ -52,67 +62,39 @@ module _ (files : Briefs) (rows : List Row) where
       let same : ref.0 ≡ ref_of b.statement = same_Some ref.0 (ref_of b.statement) ref.2 in
       finds (is_at place) refs has.0 ref.0 ref.1 (same_place place ref.0 (sym b.is_there ∙ sym same))
 
-  module _ (kind : ℕ) where
+  module _ (key : List (ℕ × ℕ)) where
     abbrev BelowFirst : ℕ → IdentityRef → Type 0
-    BelowFirst n place = (c : ℕ) (s : Row) (base : IdentityRef) → c < n → slice_get rows c ≡ Some s → base_by files rows kind s ≡ Some base → IsBelow files rows place base
+    BelowFirst n place = (c : ℕ) (k : ℕ × ℕ) (base : IdentityRef) → c < n → slice_get key c ≡ Some k → is_key base k ≡ true → IsBelow files rows place base
 
-    -- those are left that are derived from the bases among the first statements
+    -- those are left that are derived from the first bases of the key
     abbrev pub Leaving : ℕ → (IdentityRef → Bool) → Type 0
     Leaving n left = (place : IdentityRef) → IsTrue (left place) ↔ BelowFirst n place
 
     pub leaving_none : (left : IdentityRef → Bool) → ((place : IdentityRef) → left place ≡ true) → Leaving 0 left
-    leaving_none left all place = (λ h c s base l. absurd (omega (arith, l)), λ h. all place)
+    leaving_none left all place = (λ h c k base l. absurd (omega (arith, l)), λ h. all place)
 
-    pub leaving_base : (n : ℕ) (s : Row) (base : IdentityRef) (refs : List IdentityRef) (old new : IdentityRef → Bool) → slice_get rows n ≡ Some s → base_by files rows kind s ≡ Some base → AreDescendants files rows base refs → ((place : IdentityRef) → new place ≡ (old place && list_any (is_at place) refs)) → Leaving n old → Leaving (n + 1) new
-    leaving_base n s base refs old new at is d now before place = (
-      λ h c t b l stands gives.
+    pub leaving_base : (n : ℕ) (k : ℕ × ℕ) (base : IdentityRef) (refs : List IdentityRef) (old new : IdentityRef → Bool) → slice_get key n ≡ Some k → base ≡ ref_at k → AreDescendants files rows base refs → ((place : IdentityRef) → new place ≡ (old place && list_any (is_at place) refs)) → Leaving n old → Leaving (n + 1) new
+    leaving_base n k base refs old new at is d now before place = (
+      λ h c j b l stands names.
           let p = both (old place) (list_any (is_at place) refs) (sym (now place) ∙ h) in
           elim (cases_eq c n) [
             | inl e ↦
-                let same : t ≡ s = same_Some t s (sym stands ∙ ap (slice_get rows) e ∙ at) in
-                let one : b ≡ base = same_Some b base (sym gives ∙ ap (base_by files rows kind) same ∙ is) in
+                let same : j ≡ k = same_Some j k (sym stands ∙ ap (slice_get key) e ∙ at) in
+                let one : b ≡ base = named b j names ∙ ap ref_at same ∙ sym is in
                 subst (IsBelow files rows place) (sym one) (below_found base place refs d p.1)
-            | inr ne ↦ (before place).0 p.0 c t b (omega (arith, l, ne)) stands gives
+            | inr ne ↦ (before place).0 p.0 c j b (omega (arith, l, ne)) stands names
           ],
       λ h.
           now place
           ∙ both_true (old place) (list_any (is_at place) refs)
-          ((before place).1 (λ c t b l stands gives. h c t b (omega (arith, l)) stands gives))
-          (found_below base place refs d (h n s base (omega arith) at is)),
+          ((before place).1 (λ c j b l stands names. h c j b (omega (arith, l)) stands names))
+          (found_below base place refs d (h n k base (omega arith) at (ap (λ (r : IdentityRef). is_key r k) is ∙ names_itself k))),
     )
 
-    pub leaving_same : (n : ℕ) (s : Row) (old : IdentityRef → Bool) → slice_get rows n ≡ Some s → base_by files rows kind s ≡ None → Leaving n old → Leaving (n + 1) old
-    leaving_same n s old at is before place = (
-      λ h c t b l stands gives. elim (cases_eq c n) [
-        | inl e ↦
-            let same : t ≡ s = same_Some t s (sym stands ∙ ap (slice_get rows) e ∙ at) in
-            let none : Some b ≡ None = sym gives ∙ ap (base_by files rows kind) same ∙ is in
-            cc
-        | inr ne ↦ (before place).0 h c t b (omega (arith, l, ne)) stands gives
-      ],
-      λ h. (before place).1 (λ c t b l stands gives. h c t b (omega (arith, l)) stands gives),
-    )
-
-    named : (c : ℕ) (s : Row) (base : IdentityRef) (t : Bool) → (is_base s && (s.scope == kind)) ≡ t → slice_get rows c ≡ Some s → cond t (reference_of files rows s.file (name_in s)) None ≡ Some base → NamesBase files rows kind base
-    named c s base true test stands gives =
-        let p = both (is_base s) (s.scope == kind) test in
-        record {
-          number = c;
-          statement = s;
-          stands = stands;
-          names = p.0;
-          inside = eqb-true s.scope kind p.1;
-          means = gives;
-        }
-    named c s base false test stands gives = cc
-
-    given : (base : IdentityRef) (b : NamesBase files rows kind base) → base_by files rows kind b.statement ≡ Some base
-    given base b =
-        let test : (is_base b.statement && (b.statement.scope == kind)) ≡ true = both_true (is_base b.statement) (b.statement.scope == kind) b.names (eq-eqb b.statement.scope kind b.inside) in
-        ap (λ t. cond t (reference_of files rows b.statement.file (name_in b.statement)) None) test ∙ b.means
-
-    pub leaving_all : (n : ℕ) (left : IdentityRef → Bool) → n ≡ length rows → Leaving n left → (place : IdentityRef) → IsTrue (left place) ↔ IsBelowAll files rows kind place
+    pub leaving_all : (n : ℕ) (left : IdentityRef → Bool) → length key ≤ n → Leaving n left → (place : IdentityRef) → IsTrue (left place) ↔ IsBelowKey files rows key place
     leaving_all n left e before place = (
-      λ h base b. (before place).0 h b.number b.statement base (omega (arith, e, slice_get_within rows b.number b.statement b.stands)) b.stands (given base b),
-      λ h. (before place).1 (λ c s base l stands gives. h base (named c s base (is_base s && (s.scope == kind)) refl stands gives)),
+      λ h base some.
+          let f = found (is_key base) key some in
+          (before place).0 h f.0 f.1 base (omega (arith, e, slice_get_within key f.0 f.1 f.2)) f.2 f.3,
+      λ h. (before place).1 (λ c k base l stands names. h base (finds (is_key base) key c k stands names)),
     )

@@ -1,5 +1,5 @@
--- The members that a loop over the statements gathers.
-use Rattle.std.proofs.Common.{◌≡◌, ℕ, ◌+◌, ◌<◌, ◌||◌, ◌↔◌, ◌⊎◌, inl, inr, Bool, true, false, IsTrue, List, [], ◌∷◌, ◌++◌, length, map, Some, refl, sym, ◌∙◌, ap, arith}
+-- The members that a loop over a list gathers.
+use Rattle.std.proofs.Common.{◌≡◌, ℕ, ◌+◌, ◌<◌, ◌||◌, ◌↔◌, ◌⊎◌, inl, inr, Bool, true, false, IsTrue, cond, List, [], ◌∷◌, ◌++◌, length, map, None, Some, refl, sym, ◌∙◌, ap, arith}
 use Rattle.std.proofs.lemmas.Bool.{cases_Bool, cases_eq}
 use Rattle.std.proofs.lemmas.List.{map-append}
 use Rattle.std.proofs.lemmas.List.Folds.{list_any-append}
@@ -7,8 +7,8 @@ use Rattle.std.proofs.lemmas.Option.{same_Some, slice_get_within}
 use Rattle.std.proofs.lemmas.Slice.Eq.{bytes_eq-Decides}
 use Rattle.std.specs.List.{slice_get, list_any}
 use Rattle.std.specs.Str.{bytes_eq}
-use Rattle.yv_rows.specs.Rows.{Row}
 use Rattle.yv_values.specs.Identities.{Id, id_of, is_identity}
+use Rattle.yv_values.specs.Values.{Val}
 use Rattle.yv_values.specs.declared.members.Member.{Member}
 use Rattle.yv_identityref.proofs.Reading.{both, both_true}
 
@@ -24,29 +24,29 @@ id_same home called i e =
     ((bytes_eq-Decides i.home home).1 (ap (λ (x : Id). x.home) e))
     ((bytes_eq-Decides i.name called).1 (ap (λ (x : Id). x.name) e))
 
-any_one : {X : Type 0} (p : X → Bool) (x : X) → list_any p (x ∷ []) ≡ p x
+pub any_one : {X : Type 0} (p : X → Bool) (x : X) → list_any p (x ∷ []) ≡ p x
 any_one p x = elim (cases_Bool (p x)) [
   | inl t ↦ ap (λ b. b || false) t ∙ sym t
   | inr f ↦ ap (λ b. b || false) f ∙ sym f
 ]
 
-split : (a b : Bool) → (a || b) ≡ true → (a ≡ true) ⊎ (b ≡ true)
+pub split : (a b : Bool) → (a || b) ≡ true → (a ≡ true) ⊎ (b ≡ true)
 split true b h = inl refl
 split false b h = inr h
 
-left_true : (a b : Bool) → a ≡ true → (a || b) ≡ true
+pub left_true : (a b : Bool) → a ≡ true → (a || b) ≡ true
 left_true true b h = refl
 left_true false b h = cc
 
-right_true : (a b : Bool) → b ≡ true → (a || b) ≡ true
+pub right_true : (a b : Bool) → b ≡ true → (a || b) ≡ true
 right_true true b h = refl
 right_true false b h = h
 
-module _ (rows : List Row) (passes : ℕ → Row → Bool) (id : Row → Id) where
+module _ {R : Type 0} (rows : List R) (passes : ℕ → R → Bool) (id : R → Id) where
   abbrev PassesFirst : ℕ → List ℕ → List ℕ → Type 0
-  PassesFirst n home called = (i : ℕ) × (r : Row) × (i < n) × (slice_get rows i ≡ Some r) × (passes i r ≡ true) × (id r ≡ record { home = home; name = called })
+  PassesFirst n home called = (i : ℕ) × (r : R) × (i < n) × (slice_get rows i ≡ Some r) × (passes i r ≡ true) × (id r ≡ record { home = home; name = called })
 
-  -- the members are the identities of those of the first statements that pass
+  -- the members are the identities of those of the first elements that pass
   abbrev pub Gathering : ℕ → List Member → Type 0
   Gathering n members = (home called : List ℕ) → IsTrue (list_any (is_identity home called) (map id_of members)) ↔ PassesFirst n home called
 
@@ -59,7 +59,7 @@ module _ (rows : List Row) (passes : ℕ → Row → Bool) (id : Row → Id) whe
     λ h. absurd (omega (arith, h.2)),
   )
 
-  pub gathering_more : (n : ℕ) (r : Row) (m : Member) (old new : List Member) → slice_get rows n ≡ Some r → passes n r ≡ true → id_of m ≡ id r → new ≡ old ++ m ∷ [] → Gathering n old → Gathering (n + 1) new
+  pub gathering_more : (n : ℕ) (r : R) (m : Member) (old new : List Member) → slice_get rows n ≡ Some r → passes n r ≡ true → id_of m ≡ id r → new ≡ old ++ m ∷ [] → Gathering n old → Gathering (n + 1) new
   gathering_more n r m old new at is named more before home called =
       let test : Id → Bool = is_identity home called in
       let sum : list_any test (map id_of new) ≡ (list_any test (map id_of old) || test (id_of m)) =
@@ -79,7 +79,7 @@ module _ (rows : List Row) (passes : ℕ → Row → Bool) (id : Row → Id) whe
         ],
       )
 
-  pub gathering_same : (n : ℕ) (r : Row) (old : List Member) → slice_get rows n ≡ Some r → passes n r ≡ false → Gathering n old → Gathering (n + 1) old
+  pub gathering_same : (n : ℕ) (r : R) (old : List Member) → slice_get rows n ≡ Some r → passes n r ≡ false → Gathering n old → Gathering (n + 1) old
   gathering_same n r old at isnt before home called = (
     λ h. let p = (before home called).0 h in (p.0, p.1, let l : p.0 < n + 1 = omega (arith, p.2) in l, p.3, p.4, p.5),
     λ h. elim (cases_eq h.0 n) [
@@ -92,8 +92,15 @@ module _ (rows : List Row) (passes : ℕ → Row → Bool) (id : Row → Id) whe
   )
 
   pub gathered : (n : ℕ) (members : List Member) → n ≡ length rows → Gathering n members → (home called : List ℕ)
-      → IsTrue (list_any (is_identity home called) (map id_of members)) ↔ ((i : ℕ) × (r : Row) × (slice_get rows i ≡ Some r) × (passes i r ≡ true) × (id r ≡ record { home = home; name = called }))
+      → IsTrue (list_any (is_identity home called) (map id_of members)) ↔ ((i : ℕ) × (r : R) × (slice_get rows i ≡ Some r) × (passes i r ≡ true) × (id r ≡ record { home = home; name = called }))
   gathered n members e before home called = (
     λ h. let p = (before home called).0 h in (p.0, p.1, p.3, p.4, p.5),
     λ h. (before home called).1 (h.0, h.1, let l : h.0 < n = omega (arith, e, slice_get_within rows h.0 h.1 h.2) in l, h.2, h.3, h.4),
   )
+
+-- an identity is found in both lists or in neither
+pub told_alike : (b c : Bool) (v : Val) → cond b (Some v) None ≡ cond c (Some v) None → b ≡ c
+told_alike true true v e = refl
+told_alike false false v e = refl
+told_alike true false v e = absurd (cc)
+told_alike false true v e = absurd (cc)

@@ -1,6 +1,10 @@
 pub mod Apart
 pub mod Below
+pub mod Blocks
+pub mod Gathered
 pub mod Gathering
+pub mod Kept
+pub mod Keyed
 pub mod Numbers
 pub mod Placing
 pub mod Reading

@@ -1,5 +1,5 @@
 -- Sets of places.
-use Rattle.std.proofs.Common.{◌≡◌, ℕ, ◌+◌, ◌<◌, ◌==◌, ◌&&◌, ◌||◌, Bool, true, false, cond, List, length, get_or, take, refl, sym, ◌∙◌, ap, eqb-true}
+use Rattle.std.proofs.Common.{◌≡◌, ℕ, ◌+◌, ◌<◌, ◌==◌, ◌&&◌, ◌||◌, Bool, true, false, cond, List, [], ◌∷◌, length, get_or, take, refl, sym, ◌∙◌, ap, eqb-true}
 use Rattle.std.specs.Ordering.{nat_cmp, ordering_then, is_eq}
 use Rattle.std.specs.declared.cmp.Ordering.{Ordering}
 use Rattle.std.specs.declared.cmp.Ordering.TheVariants.{Less, Equal, Greater}
@@ -8,7 +8,7 @@ use Rattle.std.specs.List.{list_any}
 use Rattle.std.proofs.lemmas.List.Folds.{list_any_more}
 use Rattle.yv_identities.specs.References.{is_at}
 use Rattle.yv_identities.specs.declared.references.IdentityRef.{IdentityRef}
-use Rattle.yv_identityref.specs.InnerSets.{has_key}
+use Rattle.yv_identityref.specs.InnerSets.{has_key, is_key}
 use Rattle.yv_identityref.proofs.Numbers.{is_eq_nat, either}
 use Rattle.yv_identityref.proofs.Reading.{both}
 
@@ -65,3 +65,21 @@ narrowing_out left refs n ref old within at is_out before place =
     ∙ dropped (left place) (list_any (is_at place) (take n refs)) (is_at place ref) (λ h. ap left (same_at place ref h) ∙ is_out)
     ∙ ap (λ r. left place && (list_any (is_at place) (take n refs) || is_at place r)) at
     ∙ sym (ap (λ b. left place && b) (list_any_more (is_at place) refs n ref within))
+
+-- one more identity
+pub more_in : (refs : List IdentityRef) (n : ℕ) (ref : IdentityRef) (old new : IdentityRef → Bool) → n < length refs → ref ≡ get_or refs n ref → ((place : IdentityRef) → old place ≡ list_any (is_at place) (take n refs)) → ((place : IdentityRef) → new place ≡ (old place || is_at place ref)) → (place : IdentityRef) → new place ≡ list_any (is_at place) (take (n + 1) refs)
+more_in refs n ref old new within at before now place =
+    now place
+    ∙ ap (λ b. b || is_at place ref) (before place)
+    ∙ ap (λ r. list_any (is_at place) (take n refs) || is_at place r) at
+    ∙ sym (list_any_more (is_at place) refs n ref within)
+
+key_is : (place : IdentityRef) (k : ℕ × ℕ) → is_key place k ≡ is_eq (ordering_then (nat_cmp place.file k.0) (nat_cmp place.offset k.1))
+key_is place k = sym (test_is place.file k.0 place.offset k.1)
+
+-- the files and offsets in a set, one by one
+pub keys_in : (place : IdentityRef) (keys : List (ℕ × ℕ)) → list_any (is_key place) keys ≡ list_any (λ k. is_eq (ordering_then (nat_cmp place.file k.0) (nat_cmp place.offset k.1))) keys
+keys_in place [] = refl
+keys_in place (k ∷ keys) =
+    ap (λ b. b || list_any (is_key place) keys) (key_is place k)
+    ∙ ap (λ b. is_eq (ordering_then (nat_cmp place.file k.0) (nat_cmp place.offset k.1)) || b) (keys_in place keys)

@@ -7,7 +7,7 @@ use Rattle.std.specs.Ordering.{nat_cmp}
 use Rattle.yv_rows.specs.Rows.{Row, name_in}
 use Rattle.yv_features.specs.Meaning.{is_condition}
 use Rattle.yv_identityref.specs.Values.{Truth}
-use Rattle.yv_identityref.specs.InnerDraft.{fails}
+use Rattle.yv_identityref.specs.InnerCandidates.{fails}
 use Rattle.yv_identityref.proofs.Numbers.{number_added}
 use Rattle.yv_identityref.proofs.Reading.{any_more, all_taken}
 

@@ -1,9 +1,9 @@
--- What passes is a value.
+-- What passes is a candidate.
 use Rattle.std.proofs.Common.{◌≡◌, ℕ, ◌↔◌, inl, inr, Bool, true, false, IsTrue, List, map, refl, sym, ◌∙◌}
 use Rattle.std.specs.Prelude.{not}
 use Rattle.std.proofs.lemmas.Bool.{cases_Bool}
 use Rattle.std.specs.List.{list_any}
-use Rattle.std.specs.BTreeSet.{contains}
+use Rattle.std.specs.BTreeSet.{BTreeSet, contains}
 use Rattle.std.specs.Ordering.{nat_cmp}
 use Rattle.yv_selection.specs.Choice.{Choice}
 use Rattle.yv_rows.specs.Files.{Files, brief_of}
@@ -11,13 +11,8 @@ use Rattle.yv_rows.specs.Listed.{rows_of}
 use Rattle.yv_rows.specs.Rows.{Row, name_in}
 use Rattle.yv_features.specs.On.{is_condition_of}
 use Rattle.yv_identities.specs.Names.{is_identity}
-use Rattle.yv_identities.specs.References.{ref_of}
-use Rattle.yv_identities.specs.declared.references.IdentityRef.{IdentityRef}
-use Rattle.yv_identityref.specs.Bases.{IsBelowAll}
-use Rattle.yv_identityref.specs.Values.{Truth, IsOn, IsValue, is_implemented, id_at}
-use Rattle.yv_identityref.specs.InnerSets.{is_left}
-use Rattle.yv_identityref.specs.InnerDraft.{fails, passes}
-use Rattle.yv_identityref.specs.declared.draft.Draft.{Draft}
+use Rattle.yv_identityref.specs.Values.{Truth, IsOn, is_implemented, id_at}
+use Rattle.yv_identityref.specs.InnerCandidates.{IsCandidate, fails, passes}
 use Rattle.yv_identityref.proofs.Reading.{both, both_true, found, finds}
 
 not_false : (b : Bool) → not b ≡ true → b ≡ false
@@ -48,24 +43,23 @@ module _ (truth : Truth) (rows : List Row) (number : ℕ) where
     | inr f ↦ f
   ]
 
-module _ (truth : Truth) (choice : Choice) (files : Files) (kind : ℕ) (d : Draft)
-    (left : (place : IdentityRef) → IsTrue (is_left d.left place) ↔ IsBelowAll (map brief_of files) (rows_of files) kind place)
-    (off : (number : ℕ) → contains nat_cmp d.off number ≡ list_any (fails truth number) (rows_of files)) where
-  pub value_passes : (number : ℕ) (r : Row) → IsValue truth choice files kind number r → passes choice (map brief_of files) d number r ≡ true
-  value_passes number r v =
-      both_true (is_identity r) _ v.identity
-      (both_true (is_left d.left (ref_of r)) _ ((left (ref_of r)).1 v.derived)
-      (both_true (is_implemented choice (map brief_of files) (id_at (map brief_of files) r).home) _ v.implemented
-      (false_not (contains nat_cmp d.off number) (off number ∙ false_on truth (rows_of files) number v.on))))
+-- what is known of the numbers of statements that aren't on
+abbrev pub AreOff : Truth → List Row → BTreeSet ℕ → Type 0
+AreOff truth rows off = (number : ℕ) → contains nat_cmp off number ≡ list_any (fails truth number) rows
 
-  pub passes_value : (number : ℕ) (r : Row) → passes choice (map brief_of files) d number r ≡ true → IsValue truth choice files kind number r
-  passes_value number r h =
+module _ (truth : Truth) (choice : Choice) (files : Files) (off : BTreeSet ℕ) (are : AreOff truth (rows_of files) off) where
+  pub candidate_passes : (number : ℕ) (r : Row) → IsCandidate truth choice files number r → passes choice (map brief_of files) off number r ≡ true
+  candidate_passes number r v =
+      both_true (is_identity r) _ v.identity
+      (both_true (is_implemented choice (map brief_of files) (id_at (map brief_of files) r).home) _ v.implemented
+      (false_not (contains nat_cmp off number) (are number ∙ false_on truth (rows_of files) number v.on)))
+
+  pub passes_candidate : (number : ℕ) (r : Row) → passes choice (map brief_of files) off number r ≡ true → IsCandidate truth choice files number r
+  passes_candidate number r h =
       let a = both (is_identity r) _ h in
-      let b = both (is_left d.left (ref_of r)) _ a.1 in
-      let c = both (is_implemented choice (map brief_of files) (id_at (map brief_of files) r).home) _ b.1 in
+      let c = both (is_implemented choice (map brief_of files) (id_at (map brief_of files) r).home) _ a.1 in
       record {
         identity = a.0;
-        derived = (left (ref_of r)).0 b.0;
         implemented = c.0;
-        on = on_false truth (rows_of files) number (sym (off number) ∙ not_false (contains nat_cmp d.off number) c.1);
+        on = on_false truth (rows_of files) number (sym (are number) ∙ not_false (contains nat_cmp off number) c.1);
       }

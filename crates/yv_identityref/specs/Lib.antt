@@ -1,4 +1,6 @@
 pub mod Bases
 pub mod Values
+pub mod Known
 pub mod InnerSets
-pub mod InnerDraft
+pub mod InnerBases
+pub mod InnerCandidates

@@ -9,7 +9,7 @@ ghost use Rattle.yv_rows.specs.Listed.{rows_of};
 ghost use Rattle.yv_rows.specs.Rows.{row, name_in};
 ghost use Rattle.yv_features.specs.Meaning.{is_condition};
 ghost use Rattle.yv_link.specs.Linked.{AreLinked, truth_in};
-ghost use Rattle.yv_identityref.specs.InnerDraft.{fails};
+ghost use Rattle.yv_identityref.specs.InnerCandidates.{fails};
 
 use std::alloc::{AllocError, Global};
 use std::collections::BTreeSet;

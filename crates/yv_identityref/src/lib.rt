@@ -3,10 +3,13 @@
 #![tactic(auto)]
 
 mod bases;
+mod candidates;
 mod conditions;
-mod draft;
+mod identities;
+mod inside;
+mod keys;
 pub mod laws;
+mod lists;
 mod sets;
-mod values;
 
-pub use values::identities_of;
+pub use identities::Identities;

@@ -3,7 +3,7 @@ ghost use Rattle.std.specs.Prelude.{◌≡◌, ◌||◌, ◌&&◌, false, OnOk, 
 ghost use Rattle.std.specs.List.{list_any};
 ghost use Rattle.yv_identities.specs.References.{is_at};
 ghost use Rattle.yv_identities.specs.declared.references.IdentityRef.{IdentityRef};
-ghost use Rattle.yv_identityref.specs.InnerSets.{has, is_left};
+ghost use Rattle.yv_identityref.specs.InnerSets.{has, is_key, is_left};
 
 use std::alloc::{AllocError, Global};
 use std::collections::BTreeSet;
@@ -30,6 +30,19 @@ impl References {
         ensures { result ≡ has self.now identity }
     {
         self.set.contains(&(identity.file, identity.offset))
+    }
+
+    /// The files and offsets of the identities, each once and in their order.
+    pub(crate) fn key(&self, alloc: Global) -> Result<Vec<(u32, u64)>, AllocError>
+        ensures { IfOk result (λ key. (place : IdentityRef) → list_any (is_key place) key.items ≡ has self.now place) }
+    {
+        self.pairs(alloc)
+    }
+
+    fn pairs(&self, alloc: Global) -> Result<Vec<(u32, u64)>, AllocError>
+        ensures { IfOk result (λ pairs. pairs.items ≡ self.now.set.keys) }
+    {
+        self.set.iter().copied().collect(alloc)
     }
 
     /// Adds an identity.

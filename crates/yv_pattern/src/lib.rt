@@ -9,7 +9,9 @@ mod count;
 mod mark;
 mod part;
 mod pattern;
+mod patterns;
 mod place;
 mod reader;
 
 pub use pattern::Pattern;
+pub use patterns::Patterns;

@@ -3,10 +3,10 @@ ghost use Rattle.std.specs.Prelude.{◌≡◌, ◌≢◌, ℕ, List, IfOk, IfErr
 ghost use Rattle.std.specs.Str.{chars};
 ghost use Rattle.yv_statement.specs.declared.refusal.Stop.TheVariants.{NoMemory};
 ghost use Rattle.yv_pattern.specs.Meaning.{verdict};
-ghost use Rattle.yv_pattern.specs.Spells.{Translates, IsRefusedAs, anchored, bad_pattern};
+ghost use Rattle.yv_pattern.specs.Spells.{Translates, anchored, bad_pattern};
 
 use crate::reader::translate;
-use regex::{Error, Regex};
+use regex::{Error, Regex, RegexBuilder};
 use std::alloc::{AllocError, Global};
 use std::marker::Model;
 use yv_statement::{Code, Refusal, Stop};
@@ -31,19 +31,6 @@ impl Model for Pattern {
 }
 
 impl Pattern {
-    /// Reads the argument of a `pattern` statement. A text outside the dialect is `BadPattern`, with file and
-    /// offset 0 and line 1, since the text's place isn't known here. `PatternBuild` says that `regex` doesn't build
-    /// the translation of a text of the dialect, as where it would take too much room.
-    pub fn read(alloc: Global, text: &str) -> Result<Pattern, Stop>
-        ensures read { IfOk result (Translates text.now) }
-        ensures refused { IfErr result (IsRefusedAs text.now) }
-    {
-        match source_of(alloc, text)? {
-            Some(source) => Pattern::build(alloc, source.as_str()),
-            None => Err(Stop::Fault(bad_pattern())),
-        }
-    }
-
     /// Whether the whole text matches (RFC 7950, section 9.4.5).
     pub fn is_match(&self, alloc: Global, text: &str) -> Result<bool, AllocError>
         ensures { IfOk result (λ found. found ≡ verdict self.now text.now) }
@@ -52,19 +39,27 @@ impl Pattern {
         Ok(matcher.is_match(text))
     }
 
-    fn build(alloc: Global, source: &str) -> Result<Pattern, Stop>
+    /// The pattern of a source, where `regex` builds it with a limit on the bytes of its tables.
+    pub(crate) fn within(alloc: Global, source: &str, limit: usize) -> Result<Pattern, Stop>
         ensures source { IfOk result (λ p. p ≡ source.now) }
         ensures kind { IfErr result (λ stop. (refusal : Refusal) → stop ≢ Stop.Fault refusal) }
     {
-        match Regex::new(alloc, source) {
+        match RegexBuilder::new(source).size_limit(limit).build(alloc) {
             Ok(regex) => Ok(Pattern { regex }),
             Err(Error::OutOfMemory) => Err(Stop::NoMemory),
             Err(_) => Err(Stop::PatternBuild),
         }
     }
+
+    /// What `regex` was given.
+    pub(crate) fn source(&self) -> &str
+        ensures { result.now ≡ self.now }
+    {
+        self.regex.as_str()
+    }
 }
 
-fn bad_pattern() -> Refusal
+pub(crate) fn bad_pattern() -> Refusal
     ensures { result ≡ bad_pattern }
 {
     Refusal {
@@ -82,7 +77,7 @@ fn characters_of(alloc: Global, text: &str) -> Result<Vec<char>, AllocError>
 }
 
 // What `regex` is to match for a text, where it is a pattern.
-fn source_of(alloc: Global, text: &str) -> Result<Option<String>, AllocError>
+pub(crate) fn source_of(alloc: Global, text: &str) -> Result<Option<String>, AllocError>
     ensures { IfOk result (λ found. MatchOption found ((source : List ℕ) → Translates text.now source → ⊥) (λ s. Translates text.now (string_bytes s))) }
 {
     let characters = characters_of(alloc, text)?;

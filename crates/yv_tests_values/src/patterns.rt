@@ -1,6 +1,6 @@
 //! Texts outside the dialect of patterns.
 use std::alloc::Global;
-use yv_pattern::Pattern;
+use yv_pattern::Patterns;
 use yv_statement::{Code, Refusal, Stop};
 
 const BAD: Refusal = Refusal {
@@ -11,7 +11,7 @@ const BAD: Refusal = Refusal {
 };
 
 fn is_bad(alloc: Global, text: &str) -> bool {
-    matches!(Pattern::read(alloc, text), Err(Stop::Fault(refusal)) if refusal == BAD)
+    matches!(Patterns::new(alloc).read(alloc, text), Err(Stop::Fault(refusal)) if refusal == BAD)
 }
 
 const OUTSIDE: &[&str] = &[

@@ -1,9 +1,9 @@
 //! Types for the tests of values.
 use std::alloc::{AllocError, Global};
-use std::rc::RcSlice;
+use std::rc::RcStr;
 use std::test::Fail;
 use yv_values::{
-    DecimalType, Integer, Intervals, Member, Members, Names, PlainType, Scope, Span, TextType,
+    DecimalType, Integer, Intervals, Member, Members, Names, PatternTests, PlainType, Scope, Span, TextType,
     WholeType,
 };
 
@@ -56,7 +56,7 @@ pub fn binary(alloc: Global) -> Result<PlainType, Fail> {
 pub fn text(alloc: Global) -> Result<PlainType, Fail> {
     Ok(PlainType::Text(TextType {
         lengths: spans(alloc, Integer::Natural(0), Integer::Natural(2))?,
-        patterns: RcSlice::from_vec(Vec::new(alloc))?,
+        patterns: PatternTests::none(alloc)?,
     }))
 }
 
@@ -68,8 +68,8 @@ pub fn identity(alloc: Global) -> Result<PlainType, AllocError> {
         (MODULE, "loop"),
         (MODULE, "loop"),
     ] {
-        let module = String::from_str(alloc, module)?;
-        let name = String::from_str(alloc, name)?;
+        let module = RcStr::from_str(alloc, module)?;
+        let name = RcStr::from_str(alloc, name)?;
         members.push(Member { module, name })?;
     }
     Ok(PlainType::Identity(Members::new(members)?))

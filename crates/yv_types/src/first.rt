@@ -22,8 +22,7 @@ use yv_statement::{Refusal, Stop};
 /// nothing is wrong. `PatternBuild` says that `regex` doesn't build the translation of a pattern of the dialect; no
 /// refusal is an error here.
 ///
-/// It takes time n log n in statements but for chains of typedefs with patterns, each of which has a list of its own of
-/// all patterns on its way. Nothing recurses along typedefs.
+/// It takes time n log n in statements but for what `Patterns::read` says of patterns. Nothing recurses along typedefs.
 pub fn first_bad_type(
     alloc: Global,
     linked: &Linked<'_, '_>,

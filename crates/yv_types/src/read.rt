@@ -21,8 +21,8 @@ use yv_statement::Stop;
 
 /// The plain types of the types of linked files, the names being theirs, or the least refusal of these (RFC 7950, section
 /// 9). `PatternBuild` says that `regex` doesn't build the translation of a pattern of the dialect. Types that are derived
-/// from unions and identityrefs share the lists of these; each identityref with bases of its own takes the time that
-/// `identities_of` names.
+/// from unions and identityrefs share the lists of these, and so do identityrefs with the same bases; each with bases of its own
+/// takes the time that `Identities::of` names.
 pub fn types(alloc: Global, linked: &Linked<'_, '_>, names: &Names) -> Result<Types, Stop>
     ensures made { IfOk result (λ types. (files : Files) (choice : Choice) → AreLinked files choice linked.now → AreNames files names.now
         → AreTypes files choice (truth_in linked.now) types) }

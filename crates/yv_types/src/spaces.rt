@@ -10,6 +10,7 @@ use crate::layers::Layers;
 use crate::table::{Shared, no_spaces, put};
 use std::alloc::{AllocError, Global};
 use yv_bases::types_inside;
+use yv_identityref::Identities;
 use yv_link::Linked;
 
 impl Layers<'_> {
@@ -24,9 +25,10 @@ impl Layers<'_> {
     {
         let rows = linked.rows();
         let inside = types_inside(alloc, rows)?;
+        let mut identities = Identities::new(alloc, linked)?;
         let mut spaces = no_spaces(alloc, rows.entries().len())?;
         for number in self.bases.order() {
-            let space = self.types_at(alloc, linked, &inside, &spaces, *number)?;
+            let space = self.types_at(alloc, linked, &mut identities, &inside, &spaces, *number)?;
             put(&mut spaces, *number, space);
         }
         Ok(spaces)

@@ -10,6 +10,7 @@ ghost use Rattle.yv_listed.specs.Told.{told_of};
 ghost use Rattle.yv_link.specs.Linked.{AreLinked, truth_in};
 ghost use Rattle.yv_values.specs.Types.{plain_of};
 ghost use Rattle.yv_bases.specs.InnerTables.{items_at};
+ghost use Rattle.yv_identityref.specs.Known.{AreIdentities};
 ghost use Rattle.yv_types.specs.Known.{AreLayers};
 ghost use Rattle.yv_types.specs.InnerTables.{AreKnown, FollowsNone, IsBare, IsListed, IsSpace, plains};
 
@@ -17,7 +18,7 @@ use crate::layers::Layers;
 use crate::table::{Shared, joined, list_at, one};
 use std::alloc::{AllocError, Global};
 use std::rc::RcSlice;
-use yv_identityref::identities_of;
+use yv_identityref::Identities;
 use yv_link::Linked;
 use yv_listed::TypeNames;
 use yv_named::Kind;
@@ -54,23 +55,25 @@ fn nothing(alloc: Global) -> Result<Shared, AllocError>
 fn built_in(
     alloc: Global,
     linked: &Linked<'_, '_>,
+    identities: &mut Identities,
     spaces: &[Option<Shared>],
     members: &[usize],
     number: usize,
     entry: &Entry<'_, '_>,
 ) -> Result<Option<Shared>, AllocError>
-    ensures { IfOk result (λ s. (files : Files) (choice : Choice) → AreLinked files choice linked.now
+    ensures space { AreIdentities linked.now identities.old → IfOk result (λ s. (files : Files) (choice : Choice) → AreLinked files choice linked.now
         → slice_get (rows_of files) number ≡ Some (row entry.now) → members.now ≡ types_in (rows_of files) number
         → IsBare files (truth_in linked.now) number → FollowsNone files number
         → AreKnown files (truth_in linked.now) choice (RestsOn (map brief_of files) (rows_of files) number) spaces.now
         → IsSpace files (truth_in linked.now) choice number (option_map plains s)) }
+    ensures keeps { AreIdentities linked.now identities.old → AreIdentities linked.now identities.new }
 {
     if is_kind("leafref", entry) {
         return Ok(Some(nothing(alloc)?));
     }
     if is_kind("identityref", entry) {
-        let identities = identities_of(alloc, linked, number)?;
-        return Ok(Some(one(alloc, PlainType::Identity(identities))?));
+        let values = identities.of(alloc, linked, number)?;
+        return Ok(Some(one(alloc, PlainType::Identity(values))?));
     }
     if is_kind("union", entry) {
         joined(alloc, spaces, members)
@@ -95,15 +98,17 @@ impl Layers<'_> {
         &self,
         alloc: Global,
         linked: &Linked<'_, '_>,
+        identities: &mut Identities,
         inside: &[Vec<usize>],
         spaces: &[Option<Shared>],
         number: usize,
     ) -> Result<Option<Shared>, AllocError>
-        ensures { IfOk result (λ s. (files : Files) (choice : Choice) → AreLinked files choice linked.now
+        ensures space { AreIdentities linked.now identities.old → IfOk result (λ s. (files : Files) (choice : Choice) → AreLinked files choice linked.now
             → AreLayers files (truth_in linked.now) self.now
             → ((block : ℕ) → items_at inside.now block ≡ types_in (rows_of files) block)
             → AreKnown files (truth_in linked.now) choice (RestsOn (map brief_of files) (rows_of files) number) spaces.now
             → IsSpace files (truth_in linked.now) choice number (option_map plains s)) }
+        ensures keeps { AreIdentities linked.now identities.old → AreIdentities linked.now identities.new }
     {
         if let Some(plain) = self.faceted.plain(number) {
             return Ok(Some(one(alloc, plain.copy()?)?));
@@ -116,7 +121,7 @@ impl Layers<'_> {
         }
         let members = members_of(inside, number);
         match linked.rows().entries().get(number) {
-            Some(entry) => built_in(alloc, linked, spaces, members, number, entry),
+            Some(entry) => built_in(alloc, linked, identities, spaces, members, number, entry),
             None => Ok(None),
         }
     }

@@ -1,5 +1,6 @@
 pub mod Ascending
 pub mod Chosen
+pub mod Fewer
 pub mod Found
 pub mod Keys
 pub mod Mapped

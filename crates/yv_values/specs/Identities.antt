@@ -1,9 +1,10 @@
 -- Identities (RFC 7950, section 7.18).
-use Rattle.std.specs.Prelude.{ℕ, List, Bool, ◌&&◌, Option, Some, None, string_bytes, if◌then◌else◌}
+use Rattle.std.specs.Prelude.{ℕ, List, Bool, ◌&&◌, Option, Some, None, if◌then◌else◌}
 use Rattle.std.specs.Cmp.Lexicographic.{slice_cmp}
 use Rattle.std.specs.List.{list_any}
 use Rattle.std.specs.List.Sorted.{IsStrictlySortedBy}
 use Rattle.std.specs.Ordering.{nat_cmp, ordering_then}
+use Rattle.std.specs.Rc.{rc_str_bytes}
 use Rattle.std.specs.Str.{bytes_eq}
 use Rattle.std.specs.declared.cmp.Ordering.{Ordering}
 use Rattle.yv_values.specs.declared.members.Member.{Member}
@@ -15,7 +16,7 @@ pub record Id : Type 0 where
   pub name : List ℕ
 
 abbrev pub id_of : Member → Id
-id_of m = record { home = string_bytes m.module; name = string_bytes m.name }
+id_of m = record { home = rc_str_bytes m.module; name = rc_str_bytes m.name }
 
 -- by module, and then by name
 abbrev pub id_cmp : Id → Id → Ordering

@@ -2,8 +2,10 @@ pub mod Count
 pub mod Identities
 pub mod InnerBits
 pub mod InnerNames
+pub mod InnerPatterns
 pub mod InnerPlaces
 pub mod Pairs
+pub mod Patterns
 pub mod Reads
 pub mod Scopes
 pub mod Sorted

@@ -1,16 +1,10 @@
 -- Plain types as data: what is left of a type when typedefs, unions and leafrefs are followed.
-use Rattle.std.specs.Prelude.{ℕ, List, Bool, map}
-use Rattle.std.specs.Rc.{rc_slice_items}
+use Rattle.std.specs.Prelude.{ℕ, List, Bool}
 use Rattle.yv_numbers.specs.Intervals.{Interval}
-use Rattle.yv_values.specs.declared.plain.PatternTest.{PatternTest}
 use Rattle.yv_values.specs.declared.plain.PlainType.{PlainType}
 use Rattle.yv_values.specs.declared.plain.PlainType.TheVariants.{Whole, Decimal, Text, Boolean, Enumeration, Bits, Binary, Identity, Empty}
 pub use Rattle.yv_values.specs.Identities.{Id, id_of}
-
--- a pattern, as the source of its translation, and whether it is to match or not to
-pub record Test : Type 0 where
-  pub source : List ℕ
-  pub inverted : Bool
+pub use Rattle.yv_values.specs.Patterns.{Test, test_of}
 
 -- The whole numbers of intervals, and whether JSON writes them as texts; decimals by digits and intervals of the
 -- scaled number; texts by lengths and patterns; the truth values; the names of an enumeration; the bits' names;
@@ -26,14 +20,11 @@ pub data Plain : Type 0 where
   identities : List Id → Plain
   empties : Plain
 
-abbrev pub test_of : PatternTest → Test
-test_of t = record { source = t.pattern.value; inverted = t.is_inverted }
-
 -- the type that the program keeps
 abbrev pub plain_of : PlainType → Plain
 plain_of (Whole t) = wholes t.is_text t.spans
 plain_of (Decimal t) = decimals t.digits t.spans
-plain_of (Text t) = strings t.lengths (map test_of (rc_slice_items t.patterns))
+plain_of (Text t) = strings t.lengths t.patterns
 plain_of Boolean = booleans
 plain_of (Enumeration ns) = names ns
 plain_of (Bits ns) = flags ns

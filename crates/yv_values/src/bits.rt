@@ -1,5 +1,5 @@
 //! Values of bits types.
-ghost use Rattle.std.specs.Prelude.{◌≡◌, ◌-◌, ◌==◌, ◌++◌, ◌∷◌, [], IfOk, OnOk, map, length, slice_index, true, if◌then◌else◌};
+ghost use Rattle.std.specs.Prelude.{◌≡◌, ◌<◌, IsTrue, ◌-◌, ◌==◌, ◌++◌, ◌∷◌, [], IfOk, OnOk, map, length, slice_index, take, true, if◌then◌else◌};
 ghost use Rattle.std.specs.List.{list_all};
 ghost use Rattle.yv_values.specs.InnerBits.{bits_of};
 ghost use Rattle.yv_values.specs.InnerNames.{NoneBelow, Ascends, Arranges};
@@ -15,8 +15,29 @@ use std::alloc::{AllocError, Global};
 pub fn bits_in(alloc: Global, names: &Names, text: &str) -> Result<Option<Value>, AllocError>
     ensures { IfOk result (λ found. found ≡ bits_in names.now text.now) }
 {
+    if has_more_words(text, names.len()) {
+        return Ok(None);
+    }
     let words = sorted_words(alloc, text)?;
     bits_of(alloc, names, text, &words)
+}
+
+// Whether a text has more words than so many. It looks no further than to the first that is one too many, so that long
+// texts, of which one word must stand twice or be no name, are refused without being cut and sorted.
+fn has_more_words(text: &str, most: usize) -> bool
+    ensures { IsTrue result → most < length (words text.now) }
+{
+    count_up_to(text, most.saturating_add(1)) > most
+}
+
+// How many words a text has, up to so many.
+fn count_up_to(text: &str, most: usize) -> usize
+    ensures { result ≡ length (take most (words text.now)) }
+{
+    text.split(' ')
+        .filter(|piece| !piece.is_empty())
+        .take(most)
+        .count()
 }
 
 // The same, of the text's words in their order.

@@ -1,9 +1,10 @@
 //! Values of identityref types.
-ghost use Rattle.std.specs.Prelude.{◌≡◌, ◌==◌, ◌<◌, IfOk, IfSome, length, position, string_bytes};
+ghost use Rattle.std.specs.Prelude.{◌≡◌, ◌==◌, ◌<◌, IfOk, IfSome, length, position};
+ghost use Rattle.std.specs.Rc.{rc_str_bytes};
 ghost use Rattle.yv_values.specs.Texts.{identity_in, identity_at};
 
 use crate::members::{Member, Members};
-use crate::value::{Value, copied};
+use crate::value::Value;
 use std::alloc::{AllocError, Global};
 
 /// The identity that the text names, where it is one of these: `module:name`, or the plain name of one of the
@@ -50,9 +51,9 @@ ghost use Rattle.yv_values.specs.Values.{identity};
 
 fn value_of(alloc: Global, member: &Member) -> Result<Value, AllocError>
     ensures { IfOk result (λ value.
-        value ≡ identity (string_bytes member.now.module) (string_bytes member.now.name)) }
+        value ≡ identity (rc_str_bytes member.now.module) (rc_str_bytes member.now.name)) }
 {
-    let module = copied(alloc, &member.module)?;
-    let name = copied(alloc, &member.name)?;
+    let module = String::from_str(alloc, member.module.as_str())?;
+    let name = String::from_str(alloc, member.name.as_str())?;
     Ok(Value::identity(module, name))
 }

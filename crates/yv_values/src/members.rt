@@ -7,13 +7,13 @@ use crate::names::compare;
 use std::alloc::AllocError;
 use std::cmp::Ordering;
 use std::marker::Model;
-use std::rc::RcSlice;
+use std::rc::{RcSlice, RcStr};
 
-/// An identity: the module that defines it, and its name.
+/// An identity: the module that defines it, and its name. Texts are shared by its copies.
 #[derive(PartialEq, Eq, PartialOrd, Ord, Drop)]
 pub struct Member {
-    pub module: String,
-    pub name: String,
+    pub module: RcStr,
+    pub name: RcStr,
 }
 
 /// The identities of an identityref type, in the order of their modules and then of their names and each once, so that
@@ -72,8 +72,10 @@ impl Members {
         let _count = self.members.len();
     }
 
-    pub(crate) fn copy(&self) -> Result<Members, AllocError>
-        ensures { IfOk result (λ copy. copy ≡ self.now) }
+    /// The same identities once more, over the same list.
+    pub fn copy(&self) -> Result<Members, AllocError>
+        ensures same { IfOk result (λ copy. copy ≡ self.now) }
+        ensures rises { IfOk result (λ copy. RiseById copy) }
     {
         Ok(Members {
             members: self.members.clone()?,
@@ -82,9 +84,22 @@ impl Members {
 }
 
 impl Member {
+    /// The same identity once more, over the same texts.
+    pub fn copy(&self) -> Result<Member, AllocError>
+        ensures { IfOk result (λ copy. id_of copy ≡ id_of self.now) }
+    {
+        Ok(Member {
+            module: self.module.clone()?,
+            name: self.name.clone()?,
+        })
+    }
+
     fn compare(&self, module: &[u8], name: &[u8]) -> Ordering
         ensures { result ≡ id_cmp (id_of self.now) record { home = module.now; name = name.now } }
     {
-        compare(self.module.as_bytes(), module).then(compare(self.name.as_bytes(), name))
+        compare(self.module.as_str().as_bytes(), module).then(compare(
+            self.name.as_str().as_bytes(),
+            name,
+        ))
     }
 }

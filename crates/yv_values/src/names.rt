@@ -1,5 +1,5 @@
 //! The names of an enumeration or of a bits type, in one order.
-ghost use Rattle.std.specs.Prelude.{◌≡◌, ℕ, List, IfOk};
+ghost use Rattle.std.specs.Prelude.{◌≡◌, ℕ, List, IfOk, length};
 ghost use Rattle.std.specs.Cmp.Lexicographic.{slice_cmp};
 ghost use Rattle.std.specs.List.{filter};
 ghost use Rattle.std.specs.Ordering.{nat_cmp};
@@ -45,6 +45,13 @@ impl Names {
         Ok(Names {
             names: RcSlice::from_vec(names)?,
         })
+    }
+
+    /// How many there are.
+    pub(crate) fn len(&self) -> usize
+        ensures { result ≡ length self.now }
+    {
+        self.names.len()
     }
 
     pub(crate) fn has(&self, text: &[u8]) -> bool

@@ -4,10 +4,9 @@ ghost use Rattle.yv_values.specs.Types.{plain_of};
 
 use crate::members::Members;
 use crate::names::Names;
+use crate::patterns::PatternTests;
 use std::alloc::AllocError;
-use std::rc::{Rc, RcSlice};
 use yv_numbers::Intervals;
-use yv_pattern::Pattern;
 
 /// A type of whole numbers: whether JSON writes them as texts, as it does those of 64 bits (RFC 7951, section
 /// 6.1), and the intervals of its range.
@@ -24,18 +23,11 @@ pub struct DecimalType {
     pub spans: Intervals,
 }
 
-/// A pattern that a string is to match, or not to match where it is inverted (`invert-match`).
-#[derive(Drop)]
-pub struct PatternTest {
-    pub pattern: Rc<Pattern>,
-    pub is_inverted: bool,
-}
-
 /// A string type: the intervals of its lengths in characters, and its patterns, all of which must pass.
 #[derive(Drop)]
 pub struct TextType {
     pub lengths: Intervals,
-    pub patterns: RcSlice<PatternTest>,
+    pub patterns: PatternTests,
 }
 
 /// A type with typedefs, unions and leafrefs followed, so that its values are told by one test. Its lists are shared
@@ -81,15 +73,13 @@ impl PlainType {
     }
 }
 
-ghost use Rattle.std.specs.Rc.{rc_slice_items};
-
 impl TextType {
     fn copy(&self) -> Result<TextType, AllocError>
         ensures lengths { IfOk result (λ copy. copy.lengths ≡ self.now.lengths) }
-        ensures patterns { IfOk result (λ copy. rc_slice_items copy.patterns ≡ rc_slice_items self.now.patterns) }
+        ensures patterns { IfOk result (λ copy. copy.patterns ≡ self.now.patterns) }
     {
         let lengths = self.lengths.copy()?;
-        let patterns = self.patterns.clone()?;
+        let patterns = self.patterns.copy()?;
         Ok(TextType { lengths, patterns })
     }
 }

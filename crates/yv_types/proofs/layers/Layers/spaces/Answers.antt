@@ -29,7 +29,7 @@ loop-number-preserved c =
     λ block. ap (λ l. items_at l block) c.deref.ensures.value ∙ c.in_ok-inside.ensures.1 block ∙ ap (λ (fs : Files). types_in (rows_of fs) block) (c.rows-rows.ensures files choice linked) in
     let known : AreKnown files truth choice (RestsOn (map brief_of files) (rows_of files) n) c.loop-number.spaces.items =
     λ j rest. c.loop-number.invariant.told files choice linked layers j (behind.behind i j c.loop-number-test.true rest) in
-    c.in_ok-space.ensures files choice linked layers inside (subst (AreKnown files truth choice (RestsOn (map brief_of files) (rows_of files) n)) (sym c.deref-in-loop-number.ensures.value) known) in
+    c.in_ok-space.ensures.space c.loop-number.invariant.kept files choice linked layers inside (subst (AreKnown files truth choice (RestsOn (map brief_of files) (rows_of files) n)) (sym c.deref-in-loop-number.ensures.value) known) in
     let here : (files : Files) (choice : Choice) → AreLinked files choice c.args.linked.now → AreLayers files truth c.args.self.now → plains_at c.put.new.spaces.items n ≡ option_map plains c.in_ok-space.space = λ files choice linked layers.
     let behind : IsOrderOfTypes (map brief_of files) (rows_of files) order = c.order-number-items.ensures files layers.based in
     let type : IsTypeAt (rows_of files) n = (behind.exact n).0 (item_in order i c.loop-number-test.true) in
@@ -38,6 +38,7 @@ loop-number-preserved c =
     let within : n < length c.loop-number.spaces.items = let w = slice_get_within (rows_of files) n type.0 type.1 in omega (arith, w, rows, count, c.loop-number.invariant.each) in
     c.put.ensures.here within in
     record {
+      kept = c.types_at.ensures.keeps c.loop-number.invariant.kept;
       each = c.put.ensures.each ∙ c.loop-number.invariant.each;
       told = λ files choice linked layers. walk_more (IsSpace files truth choice) order i n (plains_at c.loop-number.spaces.items) (plains_at c.put.new.spaces.items) c.loop-number-test.true refl
           (subst (IsSpace files truth choice n) (sym (here files choice linked layers)) (step files choice linked layers)) c.put.ensures.elsewhere (c.loop-number.invariant.told files choice linked layers);

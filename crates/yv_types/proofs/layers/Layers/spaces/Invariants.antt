@@ -3,6 +3,7 @@ use Rattle.std.specs.List.{Contains}
 use Rattle.yv_selection.specs.Choice.{Choice}
 use Rattle.yv_rows.specs.Files.{Files}
 use Rattle.yv_link.specs.Linked.{AreLinked, truth_in}
+use Rattle.yv_identityref.specs.Known.{AreIdentities}
 use Rattle.yv_values.specs.Types.{Plain}
 use Rattle.yv_types.specs.Spaces.{Space}
 use Rattle.yv_types.specs.Known.{AreLayers}
@@ -11,6 +12,7 @@ use Rattle.yv_types.proofs.layers.Layers.spaces.Given as goal
 
 abbrev pub invariant-loop-number : goal.invariant-loop-number
 invariant-loop-number l = record {
+  kept : AreIdentities l.linked l.identities;
   each : length l.spaces.items ≡ length l.inside.items;
   told : (files : Files) (choice : Choice) → AreLinked files choice l.linked → AreLayers files (truth_in l.linked) l.self
       → AreKnown files (truth_in l.linked) choice (Contains (take l.number-index l.number-items)) l.spaces.items;

@@ -16,22 +16,22 @@ use Rattle.yv_types.specs.InnerTables.{FollowsNone, IsBare, IsListed, IsSpace, p
 use Rattle.yv_types.proofs.Stepping.{bare_by, has_followed, has_out, has_some, if_ok, no_number, row_past, row_read}
 use Rattle.yv_types.proofs.layers.Layers.types_at.Goals as goal
 
-pub returns-in-Some : goal.returns-in-Some
-returns-in-Some c = λ files choice linked layers inside known.
+pub returns-in-Some-clause-space : goal.returns-in-Some-clause-space
+returns-in-Some-clause-space c = λ kept files choice linked layers inside known.
     has_some files (truth_in c.args.linked.now) choice c.args.number (Some (plains c.in_ok-one.field-0)) (plain_of c.in-Some.plain.now ∷ [])
     (ap Some (c.in_ok-one.ensures ∙ ap (λ p. p ∷ []) c.in_ok-copy.ensures))
     (faceted ((c.in-Some.ensures files layers.faceted (plain_of c.in-Some.plain.now)).0 refl))
 
-pub returns-in-Some-names : goal.returns-in-Some-names
-returns-in-Some-names c = λ files choice linked layers inside known.
+pub returns-in-Some-names-clause-space : goal.returns-in-Some-names-clause-space
+returns-in-Some-names-clause-space c = λ kept files choice linked layers inside known.
     let told : Told = told_of c.in-Some-names.names.now in
     let is : IsListed told (plain_of c.in_ok-listed.field-0) = c.in_ok-listed.ensures in
     has_some files (truth_in c.args.linked.now) choice c.args.number (Some (plains c.in_ok-one-2.field-0)) (of_kind told.kind is.0 ∷ [])
     (ap Some (c.in_ok-one-2.ensures ∙ ap (λ p. p ∷ []) is.1))
     (listed told is.0 ((c.in-Some-names.ensures files (truth_in c.args.linked.now) layers.listed told).0 refl) is.2 is.3)
 
-pub returns-in-Some-follows : goal.returns-in-Some-follows
-returns-in-Some-follows c = if_ok _ _ c.list_at.result
+pub returns-in-Some-follows-clause-space : goal.returns-in-Some-follows-clause-space
+returns-in-Some-follows-clause-space c = λ kept. if_ok _ _ c.list_at.result
     (λ s e files choice linked layers inside known.
     let truth : Truth = truth_in c.args.linked.now in
     let k : ℕ = c.args.number in
@@ -43,8 +43,8 @@ returns-in-Some-follows c = if_ok _ _ c.list_at.result
     (subst (IsSpace files truth choice j) (sym e) (known j (inl f))))
     c.list_at.ensures
 
-pub returns-in-Some-get : goal.returns-in-Some-get
-returns-in-Some-get c = if_ok _ _ c.built_in.result
+pub returns-in-Some-get-clause-space : goal.returns-in-Some-get-clause-space
+returns-in-Some-get-clause-space c = λ kept. if_ok _ _ c.built_in.result
     (λ s e files choice linked layers inside known.
     let truth : Truth = truth_in c.args.linked.now in
     let k : ℕ = c.args.number in
@@ -53,10 +53,10 @@ returns-in-Some-get c = if_ok _ _ c.built_in.result
     let own : slice_get (rows_in c.rows.result.now) k ≡ Some (row c.in-Some-get.entry.now) = row_read row c.entries.result.now (rows_in c.rows.result.now) k c.in-Some-get.entry.now c.entries.ensures c.in-Some-get.ensures.lookup.3.0 c.in-Some-get.ensures.lookup.1 in
     let at : slice_get (rows_of files) k ≡ Some (row c.in-Some-get.entry.now) = subst (λ (fs : Files). slice_get (rows_of fs) k ≡ Some (row c.in-Some-get.entry.now)) (c.rows.ensures files choice linked) own in
     e files choice linked at (c.members_of-members.ensures ∙ inside k) bare alone known)
-    c.built_in.ensures
+    (c.built_in.ensures.space kept)
 
-pub returns-in-None : goal.returns-in-None
-returns-in-None c = λ files choice linked layers inside known.
+pub returns-in-None-clause-space : goal.returns-in-None-clause-space
+returns-in-None-clause-space c = λ kept files choice linked layers inside known.
     let truth : Truth = truth_in c.args.linked.now in
     let k : ℕ = c.args.number in
     let bare : IsBare files truth k = bare_by files truth k (c.in_default.ensures files layers.faceted) (c.in_default-names.ensures files truth layers.listed) in

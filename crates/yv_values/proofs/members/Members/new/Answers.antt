@@ -1,8 +1,9 @@
-use Rattle.std.proofs.Common.{◌≡◌, ◌∙◌, sym, ap, subst, List, Bool, Some, None, cond, map, string_bytes, ◌&&◌}
+use Rattle.std.proofs.Common.{◌≡◌, ◌∙◌, sym, ap, subst, List, Bool, Some, None, cond, map, ◌&&◌}
 use Rattle.std.specs.Cmp.{Equal-is}
 use Rattle.std.specs.List.{dedup}
 use Rattle.std.specs.List.Sorted.{IsSortedByKey}
 use Rattle.std.specs.Ordering.{is_eq}
+use Rattle.std.specs.Rc.{rc_str_bytes}
 use Rattle.std.specs.Str.{bytes_eq}
 use Rattle.std.proofs.lemmas.Cmp.{on_total}
 use Rattle.std.proofs.lemmas.List.Filters.{dedup_is}
@@ -14,10 +15,10 @@ use Rattle.yv_values.proofs.Rising.{left_rises, left_same}
 use Rattle.yv_values.proofs.members.Members.new.Goals as goal
 
 abbrev same : Member → Member → Bool
-same x y = bytes_eq (string_bytes x.«module») (string_bytes y.«module») && bytes_eq (string_bytes x.name) (string_bytes y.name)
+same x y = bytes_eq (rc_str_bytes x.«module») (rc_str_bytes y.«module») && bytes_eq (rc_str_bytes x.name) (rc_str_bytes y.name)
 
 ties : (x y : Member) → same x y ≡ is_eq (id_cmp (id_of x) (id_of y))
-ties x y = compared (string_bytes y.«module») (string_bytes y.name) (id_of x)
+ties x y = compared (rc_str_bytes y.«module») (rc_str_bytes y.name) (id_of x)
 
 -- what is left of sorted identities
 rises_left : (xs ys : List Member) → ys ≡ dedup same xs → IsSortedByKey id_of id_cmp xs → RiseById (map id_of ys)
@@ -34,4 +35,4 @@ returns-clause-same c = λ home called.
     let left = dedup_is same _ _ c.dedup.ensures.filtered in
     ap (λ (xs : List Member). identity_in (map id_of xs) home called) (c.in_ok-from_vec.ensures ∙ left)
     ∙ ap (λ (b : Bool). cond b (Some (identity home called)) None)
-    (left_same id_of id_cmp same (λ x y h. same_id (string_bytes y.«module») (string_bytes y.name) (id_of x) ((Equal-is (id_cmp (id_of x) (id_of y))).0 (sym (ties x y) ∙ h))) (is_identity home called) _ _ c.in_ok-sort.ensures.permutation)
+    (left_same id_of id_cmp same (λ x y h. same_id (rc_str_bytes y.«module») (rc_str_bytes y.name) (id_of x) ((Equal-is (id_cmp (id_of x) (id_of y))).0 (sym (ties x y) ∙ h))) (is_identity home called) _ _ c.in_ok-sort.ensures.permutation)

@@ -1,0 +1,55 @@
+-- Inner definitions, which only private clauses cite: the identities that are values wherever they are derived from the bases.
+use Rattle.std.specs.Prelude.{◌≡◌, ℕ, Bool, true, ◌&&◌, not, List, map, Some, slice_get}
+use Rattle.std.specs.BTreeSet.{BTreeSet, contains}
+use Rattle.std.specs.Ordering.{nat_cmp}
+use Rattle.std.specs.Rc.{rc_str_bytes}
+use Rattle.std.specs.declared.alloc.Global.{Global}
+use Rattle.std.specs.declared.rc.RcStr.{RcStr}
+use Rattle.yv_selection.specs.Choice.{Choice}
+use Rattle.yv_rows.specs.Files.{Files, Briefs, brief_of}
+use Rattle.yv_rows.specs.Listed.{rows_of}
+use Rattle.yv_rows.specs.Rows.{Row, name_in}
+use Rattle.yv_features.specs.On.{home_in, is_condition_of}
+use Rattle.yv_identities.specs.Names.{is_identity}
+use Rattle.yv_identities.specs.References.{ref_of}
+use Rattle.yv_values.specs.Identities.{id_of}
+use Rattle.yv_identityref.specs.Values.{Truth, IsOn, is_implemented, id_at}
+use Rattle.yv_identityref.specs.InnerBases.{IsBelowKey}
+use Rattle.yv_identityref.specs.declared.candidates.Candidate.{Candidate}
+
+-- a statement is a condition of the numbered one, and it doesn't hold
+abbrev pub fails : Truth → ℕ → Row → Bool
+fails truth number s = is_condition_of number s && not (truth s.file (name_in s))
+
+-- the names of the modules to which files belong
+abbrev pub AreHomes : Briefs → List (RcStr Global) → Type 0
+AreHomes files homes = (k : ℕ) (h : RcStr Global) → slice_get homes k ≡ Some h → rc_str_bytes h ≡ home_in (slice_get files k)
+
+-- all that is asked of a numbered statement
+abbrev pub passes : Choice → Briefs → BTreeSet ℕ → ℕ → Row → Bool
+passes choice files off number r =
+    is_identity r && (is_implemented choice files (id_at files r).home && not (contains nat_cmp off number))
+
+-- the numbered statement r is an identity of an implemented module, and on
+pub record IsCandidate (truth : Truth) (choice : Choice) (files : Files) (number : ℕ) (r : Row) : Type 0 where
+  pub identity : is_identity r ≡ true
+  pub implemented : is_implemented choice (map brief_of files) (id_at (map brief_of files) r).home ≡ true
+  pub on : IsOn truth (rows_of files) number
+
+-- a candidate is the statement
+pub record IsOf (files : Briefs) (r : Row) (c : Candidate) : Type 0 where
+  pub place : c.identity ≡ ref_of r
+  pub name : id_of c.member ≡ id_at files r
+
+-- these are all such statements
+pub record AreCandidates (truth : Truth) (choice : Choice) (files : Files) (cs : List Candidate) : Type 0 where
+  pub sound : (k : ℕ) (c : Candidate) → slice_get cs k ≡ Some c
+      → (number : ℕ) × (r : Row) × (slice_get (rows_of files) number ≡ Some r) × IsCandidate truth choice files number r × IsOf (map brief_of files) r c
+  pub full : (number : ℕ) (r : Row) → slice_get (rows_of files) number ≡ Some r → IsCandidate truth choice files number r
+      → (k : ℕ) × (c : Candidate) × (slice_get cs k ≡ Some c) × IsOf (map brief_of files) r c
+
+-- this module has an identity of this name that is a value of a type with these bases
+abbrev pub HasKeyValue : Truth → Choice → Files → List (ℕ × ℕ) → List ℕ → List ℕ → Type 0
+HasKeyValue truth choice files key home called =
+    (number : ℕ) × (r : Row) × (slice_get (rows_of files) number ≡ Some r) × IsCandidate truth choice files number r
+    × IsBelowKey (map brief_of files) (rows_of files) key (ref_of r) × (id_at (map brief_of files) r ≡ record { home = home; name = called })

@@ -1,0 +1,29 @@
+-- What is known of what was read for identityref types.
+use Rattle.std.specs.Prelude.{◌≡◌, ◌↔◌, ℕ, List, IsTrue, Some, map, slice_get}
+use Rattle.std.specs.List.{list_any}
+use Rattle.yv_selection.specs.Choice.{Choice}
+use Rattle.yv_rows.specs.Files.{Files, brief_of}
+use Rattle.yv_rows.specs.Listed.{rows_of}
+use Rattle.yv_identities.specs.References.{is_at}
+use Rattle.yv_identities.specs.declared.references.IdentityRef.{IdentityRef}
+use Rattle.yv_link.specs.Linked.{AreLinked, truth_in}
+use Rattle.yv_link.specs.declared.linked.Linked.{Linked}
+use Rattle.yv_values.specs.Identities.{Id, is_identity}
+use Rattle.yv_identityref.specs.Bases.{NamesBase}
+use Rattle.yv_identityref.specs.InnerBases.{bases_at}
+use Rattle.yv_identityref.specs.InnerCandidates.{AreCandidates, HasKeyValue}
+use Rattle.yv_identityref.specs.declared.identities.Found.{Found}
+use Rattle.yv_identityref.specs.declared.identities.Identities.{Identities}
+
+-- these are the identities that are values of a type with these bases
+abbrev pub IsFound : Linked → List (ℕ × ℕ) → List Id → Type 0
+IsFound linked key members = (files : Files) (choice : Choice) → AreLinked files choice linked
+    → (home called : List ℕ) → IsTrue (list_any (is_identity home called) members) ↔ HasKeyValue (truth_in linked) choice files key home called
+
+-- this was read of these linked files; how, only the readers ask
+pub record AreIdentities (linked : Linked) (identities : Identities) : Type 0 where
+  pub bases : (files : Files) (choice : Choice) → AreLinked files choice linked → (block : ℕ) (base : IdentityRef)
+      → IsTrue (list_any (is_at base) (bases_at identities.bases.items block)) ↔ NamesBase (map brief_of files) (rows_of files) block base
+  pub candidates : (files : Files) (choice : Choice) → AreLinked files choice linked
+      → AreCandidates (truth_in linked) choice files identities.candidates.items
+  pub found : (k : ℕ) (f : Found) → slice_get identities.found.items k ≡ Some f → IsFound linked f.key.items f.members

@@ -1,0 +1,107 @@
+//! The patterns of one compilation: equal ones are built once, and all of them have one allowance of room.
+ghost use Rattle.std.specs.Prelude.{◌≡◌, ◌≢◌, ◌≤◌, IfOk, IfErr, IfSome, string_bytes};
+ghost use Rattle.yv_pattern.specs.Spells.{Translates, IsRefusedAs};
+
+use crate::pattern::{Pattern, bad_pattern, source_of};
+use std::alloc::{AllocError, Global};
+use std::collections::BTreeMap;
+use std::rc::Rc;
+use yv_statement::{Refusal, Stop};
+
+// How many bytes of tables `regex` may build for the patterns of one compilation, all together.
+const ROOM: usize = 268_435_456;
+
+// The limits on these bytes that are tried for a pattern, one after another. The last is `regex`'s own.
+const LIMITS: [usize; 12] = [
+    8_192, 16_384, 32_768, 65_536, 131_072, 262_144, 524_288, 1_048_576, 2_097_152, 4_194_304, 8_388_608, 10_485_760,
+];
+
+/// The patterns that a compilation has built, each once, and how much room is left to build others. Each is charged the
+/// limit under which `regex` built it, so that what strangers' patterns take together is bounded.
+#[derive(Drop)]
+pub struct Patterns {
+    built: BTreeMap<String, Rc<Pattern>>,
+    room: usize,
+}
+
+impl Patterns {
+    /// None yet.
+    pub fn new(alloc: Global) -> Patterns {
+        Patterns {
+            built: BTreeMap::new(alloc),
+            room: ROOM,
+        }
+    }
+
+    /// Reads the argument of a `pattern` statement; where one with the same translation was read before, it is that. A text
+    /// outside the dialect is `BadPattern`, with file and offset 0 and line 1, since the text's place isn't known here.
+    /// `PatternBuild` says that `regex` doesn't build the translation of a text of the dialect in the room that is left,
+    /// which is 256 MiB for all patterns together, each taking 8 KiB at least. What was read before can be read again.
+    pub fn read(&mut self, alloc: Global, text: &str) -> Result<Rc<Pattern>, Stop>
+        ensures read { IfOk result (λ p. Translates text.now p.value) }
+        ensures refused { IfErr result (IsRefusedAs text.now) }
+    {
+        match source_of(alloc, text)? {
+            Some(source) => self.of_source(alloc, source),
+            None => Err(Stop::Fault(bad_pattern())),
+        }
+    }
+
+    fn of_source(&mut self, alloc: Global, source: String) -> Result<Rc<Pattern>, Stop>
+        ensures source { IfOk result (λ p. p.value ≡ string_bytes source) }
+        ensures kind { IfErr result (λ stop. (refusal : Refusal) → stop ≢ Stop.Fault refusal) }
+    {
+        if let Some(pattern) = self.known(source.as_str())? {
+            return Ok(pattern);
+        }
+        let (pattern, taken) = built(alloc, source.as_str(), self.room)?;
+        let pattern = Rc::new(alloc, pattern)?;
+        self.room -= taken;
+        let copy = pattern.clone()?;
+        self.built.insert(source, copy)?;
+        Ok(pattern)
+    }
+
+    // The pattern that was built of a source. That it is the one of this source is looked at, and not kept as a fact.
+    fn known(&self, source: &str) -> Result<Option<Rc<Pattern>>, AllocError>
+        ensures { IfOk result (λ found. IfSome found (λ p. p.value ≡ source.now)) }
+    {
+        match self.built.get(source) {
+            Some(pattern) => {
+                if pattern.source() == source {
+                    Ok(Some(pattern.clone()?))
+                } else {
+                    Ok(None)
+                }
+            }
+            None => Ok(None),
+        }
+    }
+}
+
+// The pattern of a source, and the room that it has been given: the least limit with which `regex` builds it.
+fn built(alloc: Global, source: &str, room: usize) -> Result<(Pattern, usize), Stop>
+    ensures source { IfOk result (λ p. p.0 ≡ source.now) }
+    ensures room { IfOk result (λ p. p.1 ≤ room) }
+    ensures kind { IfErr result (λ stop. (refusal : Refusal) → stop ≢ Stop.Fault refusal) }
+{
+    for limit in limits_for(source) {
+        let given = (*limit).min(room);
+        match Pattern::within(alloc, source, given) {
+            Ok(pattern) => return Ok((pattern, given)),
+            Err(Stop::PatternBuild) => {}
+            Err(stop) => return Err(stop),
+        }
+        if given == room {
+            return Err(Stop::PatternBuild);
+        }
+    }
+    Err(Stop::PatternBuild)
+}
+
+// The limits that are worth trying: tables aren't much smaller than what they are of, and each try reads it anew.
+fn limits_for(source: &str) -> &'static [usize] {
+    let least = source.len();
+    let skipped = LIMITS.partition_point(|limit| *limit < least).min(LIMITS.len() - 1);
+    &LIMITS[skipped..]
+}
