@@ -13,7 +13,8 @@ const ROOM: usize = 268_435_456;
 
 // The limits on these bytes that are tried for a pattern, one after another. The last is `regex`'s own.
 const LIMITS: [usize; 12] = [
-    8_192, 16_384, 32_768, 65_536, 131_072, 262_144, 524_288, 1_048_576, 2_097_152, 4_194_304, 8_388_608, 10_485_760,
+    8_192, 16_384, 32_768, 65_536, 131_072, 262_144, 524_288, 1_048_576, 2_097_152, 4_194_304,
+    8_388_608, 10_485_760,
 ];
 
 /// The patterns that a compilation has built, each once, and how much room is left to build others. Each is charged the
@@ -102,6 +103,8 @@ fn built(alloc: Global, source: &str, room: usize) -> Result<(Pattern, usize), S
 // The limits that are worth trying: tables aren't much smaller than what they are of, and each try reads it anew.
 fn limits_for(source: &str) -> &'static [usize] {
     let least = source.len();
-    let skipped = LIMITS.partition_point(|limit| *limit < least).min(LIMITS.len() - 1);
+    let skipped = LIMITS
+        .partition_point(|limit| *limit < least)
+        .min(LIMITS.len() - 1);
     &LIMITS[skipped..]
 }

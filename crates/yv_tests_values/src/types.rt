@@ -3,8 +3,8 @@ use std::alloc::{AllocError, Global};
 use std::rc::RcStr;
 use std::test::Fail;
 use yv_values::{
-    DecimalType, Integer, Intervals, Member, Members, Names, PatternTests, PlainType, Scope, Span, TextType,
-    WholeType,
+    DecimalType, Integer, Intervals, Member, Members, Names, PatternTests, PlainType, Scope, Span,
+    TextType, WholeType,
 };
 
 pub const MODULE: &str = "ex";
