@@ -3,7 +3,7 @@ ghost use Rattle.std.specs.Prelude.{◌≡◌, ◌≢◌, ℕ, List, IfOk, IfErr
 ghost use Rattle.std.specs.Str.{chars};
 ghost use Rattle.yv_statement.specs.declared.refusal.Stop.TheVariants.{NoMemory};
 ghost use Rattle.yv_pattern.specs.Meaning.{verdict};
-ghost use Rattle.yv_pattern.specs.Spells.{Translates, anchored, bad_pattern};
+ghost use Rattle.yv_pattern.specs.Spells.{Translates, IsRefusedAs, anchored, bad_pattern};
 
 use crate::reader::translate;
 use regex::{Error, Regex, RegexBuilder};
@@ -30,7 +30,24 @@ impl Model for Pattern {
     ghost invariant = { λ p. (regex_config p.regex ≡ default_config) × IsReadFromSource p.regex };
 }
 
+// How many bytes of tables `regex` builds for a pattern by itself.
+const MOST_TABLES: usize = 10_485_760;
+
 impl Pattern {
+    /// Reads the argument of a `pattern` statement by itself, as a caller of this library may; a compilation reads all of its
+    /// patterns by `Patterns`. A text outside the dialect is `BadPattern`, with file and offset 0 and line 1, since the text's
+    /// place isn't known here. `PatternBuild` says that `regex` doesn't build the translation of a text of the dialect, as where
+    /// it would take too much room.
+    pub fn read(alloc: Global, text: &str) -> Result<Pattern, Stop>
+        ensures read { IfOk result (Translates text.now) }
+        ensures refused { IfErr result (IsRefusedAs text.now) }
+    {
+        match source_of(alloc, text)? {
+            Some(source) => Pattern::within(alloc, source.as_str(), MOST_TABLES),
+            None => Err(Stop::Fault(bad_pattern())),
+        }
+    }
+
     /// Whether the whole text matches (RFC 7950, section 9.4.5).
     pub fn is_match(&self, alloc: Global, text: &str) -> Result<bool, AllocError>
         ensures { IfOk result (λ found. found ≡ verdict self.now text.now) }
