@@ -10,7 +10,7 @@ ghost use Rattle.yv_expand.specs.Expanded.{AreTrees};
 ghost use Rattle.yv_refines.specs.Faults.{changes};
 ghost use Rattle.yv_refines.specs.Known.{AreRefines};
 ghost use Rattle.yv_copies.specs.Given.{marks_of};
-ghost use Rattle.yv_copies.specs.Items.{items_of, statement_of};
+ghost use Rattle.yv_copies.specs.Items.{items_of, origin_of};
 ghost use Rattle.yv_copies.specs.On.{Truth};
 ghost use Rattle.yv_copies.specs.Left.{left_in};
 ghost use Rattle.yv_copies.specs.Copies.{AreCopies};
@@ -84,15 +84,14 @@ impl Copies {
         self.expansion.len()
     }
 
-    /// The number of the statement that gives an item: the one that it copies, or the operation that doesn't write it; 0 past the last
-    /// item.
-    pub fn statement(&self, item: usize) -> usize
+    /// What an item is made of: the statement that it copies, or the operation that doesn't write it; statement 0 past the last item.
+    pub fn origin(&self, item: usize) -> Origin
         ensures { (choice : Choice) (files : Files) (truth : Truth) (k : AreCopies choice files truth self.now)
-            → result ≡ statement_of k.trees item }
+            → result ≡ origin_of k.trees item }
     {
         match self.expansion.items().get(item) {
-            Some(item) => item.origin.number(),
-            None => 0,
+            Some(item) => item.origin,
+            None => Origin::Statement(0),
         }
     }
 

@@ -1,5 +1,7 @@
+pub mod AllKept
+pub mod Cuts
 pub mod Expressions
 pub mod Firsts
-pub mod Keeping
+pub mod Later
 pub mod Spacing
 pub mod TypeKinds

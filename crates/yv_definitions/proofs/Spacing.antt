@@ -2,7 +2,7 @@
 use Rattle.std.proofs.Common.{◌≡◌, ℕ, Bool, true, false, List, [], ◌∷◌, ◌++◌, refl, sym, ap, ◌∙◌, append_assoc, append-nil}
 use Rattle.std.specs.Prelude.{encode_utf8, encode_utf8_all, if◌then◌else◌}
 use Rattle.std.proofs.lemmas.Str.{encodes-append}
-use Rattle.yv_definitions.specs.Defined.{is_blank, spaced_behind, spaced_character}
+use Rattle.yv_definitions.specs.Features.{is_blank, spaced_behind, spaced_character}
 
 -- the last of these characters, or the one before them, is a blank
 abbrev pub ends_blank : Bool → List ℕ → Bool

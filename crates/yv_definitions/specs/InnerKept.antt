@@ -1,17 +1,24 @@
--- Only private clauses cite this: the definitions that are kept, and whether refines change features.
-use Rattle.std.specs.Prelude.{◌≡◌, ℕ, Bool, List, Option, Some, is_some, slice_get}
+-- Only private clauses cite this: what is kept of statements, and whether refines change features.
+use Rattle.std.specs.Prelude.{◌≡◌, ℕ, Bool, List, Some, is_some, slice_get}
 use Rattle.std.specs.List.{list_any}
 use Rattle.yv_statement.specs.Tree.{Forest}
 use Rattle.yv_conform.specs.declared.keyword.Keyword.TheVariants as word
 use Rattle.yv_rows.specs.Files.{Files}
+use Rattle.yv_properties.specs.Defined.{Defined}
+use Rattle.yv_definitions.specs.declared.keeping.Kept.{Kept}
+use Rattle.yv_definitions.specs.declared.keeping.Kept.TheVariants.{Node, Refine}
 use Rattle.yv_definitions.specs.Kinds.{Kinds}
-use Rattle.yv_nodes.specs.Defined.{Defined}
-use Rattle.yv_definitions.specs.Defined.{defined, first_of, statement_at}
+use Rattle.yv_definitions.specs.Defined.{defined_at}
+use Rattle.yv_definitions.specs.Properties.{Properties, properties_of, said_at}
+use Rattle.yv_definitions.specs.Statements.{first_of, statement_at}
 
--- what is kept at a place is what the statement of that number says
-abbrev pub AreKept : Kinds → Files → List (Option Defined) → Type 0
-AreKept kinds files kept =
-    (number : ℕ) (d : Defined) → slice_get kept number ≡ Some (Some d) → d ≡ defined kinds files number
+-- what is kept of the statement of this number is what it says
+abbrev pub IsKept : Kinds → Files → ℕ → Kept → Type 0
+IsKept kinds files number kept =
+    ((d : Defined) → kept ≡ Node d → d ≡ defined_at kinds files number) × ((p : Properties) → kept ≡ Refine p → p ≡ properties_of (said_at files number))
+
+abbrev pub AreKept : Kinds → Files → List Kept → Type 0
+AreKept kinds files all = (number : ℕ) (kept : Kept) → slice_get all number ≡ Some kept → IsKept kinds files number kept
 
 -- a block has an `if-feature` statement
 abbrev pub has_features : Forest → Bool

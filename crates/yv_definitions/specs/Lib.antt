@@ -1,4 +1,9 @@
 pub mod Kinds
+pub mod Statements
+pub mod Features
+pub mod Properties
 pub mod Defined
 pub mod Known
 pub mod InnerKept
+pub mod InnerChanged
+pub mod InnerCut

@@ -1,22 +1,27 @@
 //! What the numbered statements of files say of the nodes that they define.
-ghost use Rattle.std.specs.Prelude.{◌≡◌, [], false, IfOk, IfSome, OnOk, string_bytes};
-ghost use Rattle.std.specs.Option.{option_map, unwrap_or};
+ghost use Rattle.std.specs.Prelude.{◌≡◌, slice_get, IfOk, OnOk, string_bytes};
+ghost use Rattle.std.specs.Option.{option_map};
 ghost use Rattle.std.specs.Rc.{rc_str_bytes};
 ghost use Rattle.yv_statement.specs.Tree.{trees};
 ghost use Rattle.yv_rows.specs.Lent.{lent_in};
 ghost use Rattle.yv_definitions.specs.Kinds.{kinds_of};
-ghost use Rattle.yv_definitions.specs.Defined.{all_expressions, defined, expressions, file_at, gives_presence, is_present, joined, no_statement, refined, statement_at};
+ghost use Rattle.yv_definitions.specs.Statements.{statement_at};
+ghost use Rattle.yv_definitions.specs.Features.{all_expressions, expressions, joined};
+ghost use Rattle.yv_definitions.specs.Properties.{properties_of, said_at};
+ghost use Rattle.yv_definitions.specs.Defined.{defined, defined_at, refined};
 ghost use Rattle.yv_definitions.specs.InnerKept.{AreKept, gives_features, has_features};
+ghost use Rattle.yv_definitions.specs.InnerChanged.{changed, changed_by};
 
 use crate::features::push_expressions;
-use crate::reading::define;
-use crate::substatements::{has, is_of};
+use crate::keeping::{Kept, changes_at, define_at, kept_at, unwritten_at};
+use crate::numbered::statement_at;
+use crate::substatements::has;
 use std::alloc::{AllocError, Global};
 use std::rc::RcStr;
 use yv_conform::Keyword;
-use yv_nodes::Definition;
+use yv_expansion::Origin;
+use yv_properties::{Definition, NodeKind};
 use yv_rows::Rows;
-use yv_statement::Statement;
 use yv_types::Types;
 
 /// What the numbered statements of files say of the nodes that they define, each read once. Contracts see the files, and
@@ -26,8 +31,8 @@ pub struct Definitions<'r, 'a, 'b> {
     alloc: Global,
     rows: &'r Rows<'a, 'b>,
     types: &'r Types,
-    // Those of the statements that define nodes.
-    kept: Vec<Option<Definition>>,
+    // Of each statement, by its number.
+    kept: Vec<Kept>,
     ghost kept_so: { AreKept (kinds_of types.now) (lent_in rows.now) kept.items },
 }
 
@@ -55,42 +60,68 @@ impl<'r, 'a, 'b> Definitions<'r, 'a, 'b> {
         })
     }
 
-    /// What the numbered statement says, as these refines, which are numbered statements too, change it (RFC 7950, section
-    /// 7.13.2). The texts and the list of types are those of all nodes that the statement defines, but for the features
-    /// where a refine adds to them.
-    pub fn of(&self, number: usize, refines: &[usize]) -> Result<Definition, AllocError>
-        ensures { IfOk result (λ d. d ≡ refined (kinds_in self.now) (files_in self.now) number refines.now) }
+    /// What is said of a node of this origin, as these refines, which are numbered statements, change it in order (RFC 7950,
+    /// section 7.13.2). Its texts and lists are those of the other nodes that the same statements define and change, but for
+    /// the features where a refine adds to them, and the texts of an input or output that isn't written.
+    pub fn of(&self, origin: Origin, refines: &[usize]) -> Result<Definition, AllocError>
+        ensures { IfOk result (λ d. d ≡ refined (kinds_in self.now) (files_in self.now) origin refines.now) }
     {
-        let own = self.own(number)?;
-        let features = self.features(&own, refines)?;
-        Ok(own.refined(self.gives_presence(refines), features))
+        let mut definition = self.own(origin)?;
+        definition.features = self.features(&definition, refines)?;
+        self.changed(definition, refines)
+    }
+
+    // What is said of a node of this origin where it is defined.
+    fn own(&self, origin: Origin) -> Result<Definition, AllocError>
+        ensures { IfOk result (λ d. d ≡ defined (kinds_in self.now) (files_in self.now) origin) }
+    {
+        match origin {
+            Origin::Statement(number) => self.stated(number),
+            Origin::Input(number) => {
+                unwritten_at(self.alloc, self.rows, NodeKind::Input, number)
+            }
+            Origin::Output(number) => {
+                unwritten_at(self.alloc, self.rows, NodeKind::Output, number)
+            }
+        }
     }
 
     // What the numbered statement says by itself.
-    fn own(&self, number: usize) -> Result<Definition, AllocError>
-        ensures { IfOk result (λ d. d ≡ defined (kinds_in self.now) (files_in self.now) number) }
+    fn stated(&self, number: usize) -> Result<Definition, AllocError>
+        ensures { IfOk result (λ d. d ≡ defined_at (kinds_in self.now) (files_in self.now) number) }
     {
-        match self.kept.get(number) {
-            Some(Some(definition)) => definition.share(),
+        match self.kept_of(number) {
+            Some(Kept::Node(definition)) => definition.share(),
             _ => define_at(self.alloc, self.rows, self.types, number),
         }
     }
 
-    // Whether the numbered statement has a `presence` statement.
-    fn is_present(&self, number: usize) -> bool
-        ensures { result ≡ is_present (statement_at (files_in self.now) number).children }
+    // What is kept of the numbered statement.
+    fn kept_of(&self, number: usize) -> Option<&Kept>
+        ensures { option_map (λ kept. kept.now) result ≡ slice_get self.now.kept.items number }
     {
-        match statement_at(self.rows, number) {
-            Some(statement) => has(Keyword::Presence, statement),
-            None => false,
-        }
+        self.kept.get(number)
     }
 
-    // Whether one of these refines has a `presence` statement.
-    fn gives_presence(&self, refines: &[usize]) -> bool
-        ensures { result ≡ gives_presence (files_in self.now) refines.now }
+    // A definition as these refines change its properties.
+    fn changed(&self, own: Definition, refines: &[usize]) -> Result<Definition, AllocError>
+        ensures { IfOk result (λ d. d ≡ changed_by (files_in self.now) refines.now own) }
     {
-        refines.iter().any(|refine| self.is_present(*refine))
+        let mut definition = own;
+        for refine in refines {
+            self.change(&mut definition, *refine)?;
+        }
+        Ok(definition)
+    }
+
+    // Changes the properties of a definition as the numbered statement says.
+    fn change(&self, definition: &mut Definition, number: usize) -> Result<(), AllocError>
+        ensures { OnOk result (definition.new ≡ changed (properties_of (said_at (files_in self.now) number)) definition.old) }
+    {
+        match self.kept_of(number) {
+            Some(Kept::Refine(changes)) => changes.change(definition),
+            _ => changes_at(self.alloc, self.rows, number)?.change(definition),
+        }
     }
 
     // Whether one of these refines has an `if-feature` statement.
@@ -134,60 +165,4 @@ impl<'r, 'a, 'b> Definitions<'r, 'a, 'b> {
             None => Ok(()),
         }
     }
-}
-
-// The numbered statement.
-fn statement_at<'a, 'b>(rows: &Rows<'a, 'b>, number: usize) -> Option<&'a Statement<'b>>
-    ensures { unwrap_or (option_map (λ found. found.now) result) no_statement ≡ statement_at (lent_in rows.now) number }
-{
-    rows.statement(number)
-}
-
-// The file of the numbered statement.
-fn file_at(rows: &Rows<'_, '_>, number: usize) -> u32
-    ensures { result ≡ file_at (lent_in rows.now) number }
-{
-    match rows.entries().get(number) {
-        Some(entry) => entry.file,
-        None => 0,
-    }
-}
-
-// What the numbered statement says.
-fn define_at(
-    alloc: Global,
-    rows: &Rows<'_, '_>,
-    types: &Types,
-    number: usize,
-) -> Result<Definition, AllocError>
-    ensures { IfOk result (λ d. d ≡ defined (kinds_of types.now) (lent_in rows.now) number) }
-{
-    let file = file_at(rows, number);
-    match statement_at(rows, number) {
-        Some(statement) => define(alloc, types, file, statement),
-        None => define(alloc, types, file, &Statement::new(alloc, "", 0, 0)),
-    }
-}
-
-// Whether the numbered statement defines a node.
-fn is_node(rows: &Rows<'_, '_>, number: usize) -> bool {
-    match statement_at(rows, number) {
-        Some(statement) => is_of(Keyword::Container, statement) || is_of(Keyword::Leaf, statement),
-        None => false,
-    }
-}
-
-// What the numbered statement says, where it defines a node.
-fn kept_at(
-    alloc: Global,
-    rows: &Rows<'_, '_>,
-    types: &Types,
-    number: usize,
-) -> Result<Option<Definition>, AllocError>
-    ensures { IfOk result (λ kept. IfSome kept (λ d. d ≡ defined (kinds_of types.now) (lent_in rows.now) number)) }
-{
-    if !is_node(rows, number) {
-        return Ok(None);
-    }
-    Ok(Some(define_at(alloc, rows, types, number)?))
 }

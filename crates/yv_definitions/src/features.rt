@@ -1,7 +1,7 @@
 //! The texts of conditions.
 ghost use Rattle.std.specs.Prelude.{◌≡◌, ◌++◌, OnOk, IfOk, string_bytes};
 ghost use Rattle.yv_statement.specs.Tree.{trees};
-ghost use Rattle.yv_definitions.specs.Defined.{expressions, is_blank, joined, spaced, with_comma};
+ghost use Rattle.yv_definitions.specs.Features.{expressions, is_blank, joined, spaced, with_comma};
 
 use crate::substatements::{is_of, name_of};
 use std::alloc::AllocError;

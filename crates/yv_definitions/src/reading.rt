@@ -1,29 +1,67 @@
 //! Reading what a statement says.
 ghost use Rattle.std.specs.Prelude.{◌≡◌, [], map, IfOk, string_bytes};
-ghost use Rattle.std.specs.Rc.{rc_slice_items};
+ghost use Rattle.std.specs.Rc.{rc_slice_items, rc_str_bytes};
 ghost use Rattle.yv_statement.specs.Tree.{trees};
 ghost use Rattle.yv_conform.specs.Names.{keyword_of};
+ghost use Rattle.yv_conform.specs.declared.keyword.Keyword.TheVariants as word;
+ghost use Rattle.yv_rows.specs.Lent.{lent_in};
 ghost use Rattle.yv_values.specs.Types.{plain_of};
+ghost use Rattle.yv_properties.specs.Defined.{blank};
 ghost use Rattle.yv_definitions.specs.Kinds.{kinds_of};
-ghost use Rattle.yv_definitions.specs.Defined.{defined_by, expressions, joined, kind_of, status_of, types_in};
+ghost use Rattle.yv_definitions.specs.Statements.{arguments_among};
+ghost use Rattle.yv_definitions.specs.Features.{expressions, joined};
+ghost use Rattle.yv_definitions.specs.Properties.{properties_of, said_by, with_properties};
+ghost use Rattle.yv_definitions.specs.Defined.{defined_by, kind_of, node_kind, node_name, status_of, types_in};
 
+use crate::changes::Changes;
 use crate::features::push_expressions;
-use crate::substatements::{argument_of, first_of, has, name_of};
+use crate::keys::{key_names_in, no_keys};
+use crate::substatements::{argument_of, arguments_among, first_of, name_of};
 use std::alloc::{AllocError, Global};
 use std::rc::{RcSlice, RcStr};
 use yv_conform::Keyword;
-use yv_nodes::{Definition, NodeKind, NodeStatus};
+use yv_properties::{Definition, NodeKind, NodeStatus};
 use yv_statement::Statement;
 use yv_types::Types;
 use yv_values::PlainType;
 
-// What the statements of a keyword define.
+/// What the statements of a keyword define, where they define nodes (RFC 7950, sections 7.5 to 7.16).
+pub(crate) fn node_kind(keyword: Keyword) -> Option<NodeKind>
+    ensures { result ≡ node_kind keyword }
+{
+    match keyword {
+        Keyword::Container => Some(NodeKind::Container),
+        Keyword::Leaf => Some(NodeKind::Leaf),
+        Keyword::LeafList => Some(NodeKind::LeafList),
+        Keyword::List => Some(NodeKind::List),
+        Keyword::Choice => Some(NodeKind::Choice),
+        Keyword::Case => Some(NodeKind::Case),
+        Keyword::Anydata => Some(NodeKind::Anydata),
+        Keyword::Anyxml => Some(NodeKind::Anyxml),
+        Keyword::Rpc => Some(NodeKind::Rpc),
+        Keyword::Action => Some(NodeKind::Action),
+        Keyword::Notification => Some(NodeKind::Notification),
+        Keyword::Input => Some(NodeKind::Input),
+        Keyword::Output => Some(NodeKind::Output),
+        _ => None,
+    }
+}
+
+// The same. Of those that define none, a container.
 fn kind_of(keyword: Keyword) -> NodeKind
     ensures { result ≡ kind_of keyword }
 {
-    match keyword {
-        Keyword::Leaf => NodeKind::Leaf,
-        _ => NodeKind::Container,
+    node_kind(keyword).unwrap_or(NodeKind::Container)
+}
+
+/// The name of a node whose statement has this argument. The statements of inputs and outputs have none.
+pub(crate) fn node_name(kind: NodeKind, argument: &str) -> &str
+    ensures { result.now ≡ node_name kind argument.now }
+{
+    match kind {
+        NodeKind::Input => "input",
+        NodeKind::Output => "output",
+        _ => argument,
     }
 }
 
@@ -85,6 +123,39 @@ fn features_in(alloc: Global, statement: &Statement<'_>) -> Result<String, Alloc
     Ok(text)
 }
 
+// The arguments of the `unique` statements of its block.
+fn uniques_in(alloc: Global, statement: &Statement<'_>) -> Result<RcSlice<RcStr>, AllocError>
+    ensures { IfOk result (λ list. map rc_str_bytes (rc_slice_items list)
+        ≡ arguments_among word.Unique (trees statement.now.children)) }
+{
+    RcSlice::from_vec(arguments_among(alloc, Keyword::Unique, statement)?)
+}
+
+/// A definition that says nothing.
+pub(crate) fn blank(alloc: Global) -> Result<Definition, AllocError>
+    ensures { IfOk result (λ d. d ≡ blank) }
+{
+    Ok(Definition {
+        file: 0,
+        offset: 0,
+        line: 0,
+        kind: NodeKind::Leaf,
+        name: RcStr::from_str(alloc, "")?,
+        types: no_types(alloc)?,
+        has_presence: false,
+        status: NodeStatus::Current,
+        features: RcStr::from_str(alloc, "")?,
+        type_text: RcStr::from_str(alloc, "")?,
+        stated_config: None,
+        is_mandatory: false,
+        min: 0,
+        max: None,
+        key_names: no_keys(alloc)?,
+        uniques: RcSlice::from_vec(Vec::new(alloc))?,
+        own_default: None,
+    })
+}
+
 /// What a statement of a file says of the node that it defines.
 pub(crate) fn define(
     alloc: Global,
@@ -94,16 +165,25 @@ pub(crate) fn define(
 ) -> Result<Definition, AllocError>
     ensures { IfOk result (λ d. d ≡ defined_by (kinds_of types.now) file statement.now) }
 {
+    let kind = kind_of(Keyword::read(statement.keyword()));
+    let changes = Changes::read(alloc, file, statement)?;
     Ok(Definition {
         file,
         offset: statement.offset(),
         line: statement.line(),
-        kind: kind_of(Keyword::read(statement.keyword())),
-        name: RcStr::from_str(alloc, name_of(statement))?,
+        kind,
+        name: RcStr::from_str(alloc, node_name(kind, name_of(statement)))?,
         types: types_in(alloc, types, file, statement)?,
-        has_presence: has(Keyword::Presence, statement),
+        has_presence: changes.presence,
         status: status_of(argument_of(Keyword::Status, statement)),
         features: RcStr::from_string(features_in(alloc, statement)?)?,
         type_text: RcStr::from_str(alloc, argument_of(Keyword::Type, statement))?,
+        stated_config: changes.config,
+        is_mandatory: changes.mandatory.unwrap_or(false),
+        min: changes.min.unwrap_or(0),
+        max: changes.max.unwrap_or(None),
+        key_names: key_names_in(alloc, statement)?,
+        uniques: uniques_in(alloc, statement)?,
+        own_default: changes.default,
     })
 }

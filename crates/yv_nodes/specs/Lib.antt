@@ -1,10 +1,6 @@
-pub mod Defined
 pub mod Tree
+pub mod Places
 pub mod Rows
-pub mod Measures
-pub mod Member
 pub mod Numbers
-pub mod Groups
-pub mod Tops
-pub mod Doubled
-pub mod InnerTables
+pub mod Member
+pub mod Refused

@@ -1,10 +1,8 @@
 -- A schema as numbered rows: what contracts see of a `Schema`, and the tree that it stands for.
-use Rattle.std.specs.Prelude.{◌≡◌, ℕ, ◌+◌, ◌-◌, ◌<◌, ◌≤◌, ◌==◌, List, [], ◌∷◌, length, drop, All, Bool, false, Option, Some, None, if◌then◌else◌}
+use Rattle.std.specs.Prelude.{◌≡◌, ℕ, ◌+◌, ◌-◌, ◌<◌, ◌==◌, List, [], ◌∷◌, length, drop, Bool, false, if◌then◌else◌}
 use Rattle.std.specs.List.{slice_index_or}
-use Rattle.std.specs.Str.{bytes_eq}
 use Rattle.yv_nodes.specs.declared.node.NodeId.{NodeId}
-use Rattle.yv_nodes.specs.declared.definition.NodeKind.TheVariants.{Leaf}
-use Rattle.yv_nodes.specs.declared.definition.NodeStatus.TheVariants.{Current}
+use Rattle.yv_properties.specs.Defined.{blank as blank_defined}
 use Rattle.yv_nodes.specs.Tree.{Label, Tree, node, Forest, no_trees, tree}
 
 -- a schema node, the number of the node above it, and the numbers of the nodes below it, in order
@@ -32,18 +30,12 @@ root = record { 0 = 4294967295 }
 abbrev pub blank_row : Row
 blank_row = record {
   label = record {
-    file = 0;
-    offset = 0;
-    line = 0;
-    kind = Leaf;
+    defined = blank_defined;
     module_name = [];
-    name = [];
     member = [];
-    types = [];
-    has_presence = false;
-    status = Current;
-    features = [];
-    type_text = [];
+    is_config = false;
+    is_key = false;
+    is_input = false;
   };
   parent = root;
   children = [];
@@ -99,25 +91,3 @@ AreTrees s cs =
 -- the schema tree that the rows stand for
 abbrev pub whole : Rows → Forest
 whole s = forest s s.top
-
--- the first of these nodes whose JSON member is called so
-abbrev pub named : Rows → List NodeId → List ℕ → Option NodeId
-named s [] member = None
-named s (c ∷ cs) member = if bytes_eq (row_at s c).label.member member then Some c else named s cs member
-
--- a child stands behind its parent, whose number it has
-pub record IsChild (s : Rows) (p c : NodeId) : Type 0 where
-  pub behind : rank p ≤ c.0
-  pub within : c.0 < length s.nodes
-  pub above : (row_at s c).parent ≡ p
-
--- a child is found by its member: no other child of its parent has that member (RFC 7950, section 6.2.1)
-abbrev pub IsFound : Rows → NodeId → NodeId → Type 0
-IsFound s p c = named s (children_of s p) (row_at s c).label.member ≡ Some c
-
--- there are at most as many nodes as the limit and as numbers, children stand behind their parents, and no two of one parent have one member
-pub record IsSound (s : Rows) : Type 0 where
-  pub small : length s.nodes ≤ 4294967295
-  pub limited : length s.nodes ≤ s.limit
-  pub children : (p : NodeId) → rank p ≤ length s.nodes → All (IsChild s p) (children_of s p)
-  pub found : (p : NodeId) → rank p ≤ length s.nodes → All (IsFound s p) (children_of s p)

@@ -1,19 +1,8 @@
-//! The numbered nodes of a schema, the tables by which they are found, and what they measure.
+//! The numbered nodes of a schema tree, never more than a limit.
 #![tactic(auto)]
 
-mod definition;
-mod measures;
 mod node;
 mod nodes;
-mod numbered;
-mod schema;
-mod table;
-mod tables;
-mod tops;
 
-pub use definition::{Definition, NodeKind, NodeStatus};
-pub use measures::Measures;
-pub use node::{Node, NodeId};
+pub use node::{Node, NodeId, Standing};
 pub use nodes::Nodes;
-pub use schema::Schema;
-pub use tops::ModuleTop;

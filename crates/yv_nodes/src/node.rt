@@ -1,15 +1,18 @@
 //! A schema node, and its number.
-ghost use Rattle.std.specs.Prelude.{◌≡◌, Some, None, IfOk, string_bytes, if◌then◌else◌};
+ghost use Rattle.std.specs.Prelude.{◌≡◌, Some, None, IfOk, not, map, string_bytes, if◌then◌else◌};
+ghost use Rattle.std.specs.List.{list_any};
+ghost use Rattle.std.specs.Option.{option_map};
 ghost use Rattle.std.specs.Rc.{rc_str_bytes};
+ghost use Rattle.std.specs.Str.{bytes_eq};
 
-use crate::definition::{Definition, NodeKind, NodeStatus};
 use std::alloc::{AllocError, Global};
 use std::marker::Model;
 use std::rc::RcStr;
+use yv_properties::{Definition, NodeKind, NodeStatus, WrittenText};
 use yv_statement::{Code, Refusal};
 use yv_values::PlainType;
 
-/// The number of a schema node, or `Schema::ROOT`.
+/// The number of a schema node; the root, above the nodes at the top, has the last number of 32 bits.
 #[derive(Clone, Copy, Debug, PartialEq, Eq, PartialOrd, Ord)]
 pub struct NodeId(pub u32);
 
@@ -22,13 +25,25 @@ impl NodeId {
     }
 }
 
+/// How a node stands in the schema tree: what the nodes above it make of it.
+#[derive(Clone, Copy, Debug, PartialEq, Eq)]
+pub struct Standing {
+    /// Whether a JSON member of the node has the module's name in front.
+    pub is_qualified: bool,
+    /// Whether the node is configuration.
+    pub is_config: bool,
+    /// Whether it is a key of the list just above.
+    pub is_key: bool,
+    /// Whether it is an operation's input, or stands in it.
+    pub is_input: bool,
+}
+
 /// A schema node. Contracts see its label and the numbers of its parent and its children.
 #[derive(Drop)]
 pub struct Node {
     definition: Definition,
     module: RcStr,
-    /// Whether a JSON member of the node has the module's name in front.
-    is_qualified: bool,
+    standing: Standing,
     parent: NodeId,
     children: Vec<NodeId>,
 }
@@ -40,30 +55,30 @@ impl Model for Node {
 
     ghost Value = { Row };
 
-    ghost view = { λ n. row_with n.definition (rc_str_bytes n.module) n.is_qualified n.parent n.children.items };
+    ghost view = { λ n. row_with n.definition (rc_str_bytes n.module) n.standing n.parent n.children.items };
 }
 
 impl Node {
-    ghost use Rattle.std.specs.Prelude.{map};
     ghost use Rattle.yv_values.specs.Types.{plain_of};
-    ghost use Rattle.yv_nodes.specs.Doubled.{refusal_of};
+    ghost use Rattle.yv_properties.specs.Defined.{is_empty, written_of};
+    ghost use Rattle.yv_nodes.specs.Refused.{refusal_of};
     ghost use Rattle.yv_nodes.specs.Member.{row_with};
 
-    /// The node that a statement defines, in the namespace of the module of this name, with these numbers of the node above
-    /// it and of those below it. Its JSON members have the module's name in front, where it is qualified.
+    /// The node that a statement defines, in the namespace of the module of this name, which stands so in the tree, with these
+    /// numbers of the node above it and of those below it.
     pub fn new(
         definition: Definition,
         home: RcStr,
-        is_qualified: bool,
+        standing: Standing,
         parent: NodeId,
         children: Vec<NodeId>,
     ) -> Node
-        ensures { result ≡ row_with definition (rc_str_bytes home) is_qualified parent children.items }
+        ensures { result ≡ row_with definition (rc_str_bytes home) standing parent children.items }
     {
         Node {
             definition,
             module: home,
-            is_qualified,
+            standing,
             parent,
             children,
         }
@@ -71,32 +86,32 @@ impl Node {
 
     /// The number of the file in which the node is defined.
     pub fn file(&self) -> u32
-        ensures { result ≡ self.now.label.file }
+        ensures { result ≡ self.now.label.defined.file }
     {
         self.definition.file()
     }
 
     /// The offset in bytes of the keyword of the statement that defines it.
     pub fn offset(&self) -> u64
-        ensures { result ≡ self.now.label.offset }
+        ensures { result ≡ self.now.label.defined.offset }
     {
         self.definition.offset()
     }
 
     /// The line of that keyword, from 1.
     pub fn line(&self) -> u64
-        ensures { result ≡ self.now.label.line }
+        ensures { result ≡ self.now.label.defined.line }
     {
         self.definition.line()
     }
 
-    /// The refusal of the node, where its parent has an earlier one of its module and name.
-    pub(crate) fn refused(&self, repeated: bool) -> Option<Refusal>
-        ensures { result ≡ (if repeated then Some (refusal_of self.now.label) else None) }
+    /// The refusal of this code at the statement that defines the node, where it is wrong.
+    pub fn refused(&self, is_wrong: bool, code: Code) -> Option<Refusal>
+        ensures { result ≡ (if is_wrong then Some (refusal_of code self.now.label) else None) }
     {
-        if repeated {
+        if is_wrong {
             Some(Refusal {
-                code: Code::DuplicateNode,
+                code,
                 file: self.definition.file(),
                 offset: self.definition.offset(),
                 line: self.definition.line(),
@@ -108,7 +123,7 @@ impl Node {
 
     /// What the node is.
     pub fn kind(&self) -> NodeKind
-        ensures { result ≡ self.now.label.kind }
+        ensures { result ≡ self.now.label.defined.kind }
     {
         self.definition.kind()
     }
@@ -122,14 +137,14 @@ impl Node {
 
     /// The node's name, without its module.
     pub fn name(&self) -> &str
-        ensures { result.now ≡ self.now.label.name }
+        ensures { result.now ≡ self.now.label.defined.name }
     {
         self.definition.name()
     }
 
     /// The node's name, over the text that its copies share.
-    pub(crate) fn shared_name(&self) -> Result<RcStr, AllocError>
-        ensures { IfOk result (λ text. rc_str_bytes text ≡ self.now.label.name) }
+    pub fn shared_name(&self) -> Result<RcStr, AllocError>
+        ensures { IfOk result (λ text. rc_str_bytes text ≡ self.now.label.defined.name) }
     {
         self.definition.shared_name()
     }
@@ -141,7 +156,7 @@ impl Node {
         ensures { IfOk result (λ text. string_bytes text ≡ self.now.label.member) }
     {
         let mut text = String::new(alloc);
-        if self.is_qualified {
+        if self.standing.is_qualified {
             text.push_str(self.module.as_str())?;
             text.push(':')?;
         }
@@ -151,7 +166,7 @@ impl Node {
 
     /// The types that its value may have, in order: none at a container.
     pub fn types(&self) -> &[PlainType]
-        ensures { map plain_of result.now ≡ self.now.label.types }
+        ensures { map plain_of result.now ≡ self.now.label.defined.types }
     {
         self.definition.types()
     }
@@ -159,14 +174,14 @@ impl Node {
     /// Whether the node being there says something by itself, as that of a presence container does, by its own statement
     /// or by a refine (RFC 7950, sections 7.5.5 and 7.13.2).
     pub fn has_presence(&self) -> bool
-        ensures { result ≡ self.now.label.has_presence }
+        ensures { result ≡ self.now.label.defined.has_presence }
     {
         self.definition.has_presence()
     }
 
     /// Whether the node is still to be used, by its own `status` statement (RFC 7950, section 7.21.2).
     pub fn status(&self) -> NodeStatus
-        ensures { result ≡ self.now.label.status }
+        ensures { result ≡ self.now.label.defined.status }
     {
         self.definition.status()
     }
@@ -174,19 +189,104 @@ impl Node {
     /// The expressions of its `if-feature` statements and then those of its refines, separated by commas, to be shown to a
     /// reader. The text is empty without any.
     pub fn features(&self) -> &str
-        ensures { result.now ≡ self.now.label.features }
+        ensures { result.now ≡ self.now.label.defined.features }
     {
         self.definition.features()
     }
 
     /// The name of its type as it is written. The text is empty without a type.
     pub fn type_text(&self) -> &str
-        ensures { result.now ≡ self.now.label.type_text }
+        ensures { result.now ≡ self.now.label.defined.type_text }
     {
         self.definition.type_text()
     }
 
-    /// The number of the node above it, or `Schema::ROOT`.
+    /// What its `config` statement says, or the last of its refines with one.
+    pub fn stated_config(&self) -> Option<bool>
+        ensures { result ≡ self.now.label.defined.stated_config }
+    {
+        self.definition.stated_config()
+    }
+
+    /// Whether the node is configuration (RFC 7950, section 7.21.1): nothing in an operation or a notification is.
+    pub fn config(&self) -> bool
+        ensures { result ≡ self.now.label.is_config }
+    {
+        self.standing.is_config
+    }
+
+    /// Whether it is a key of the list just above (RFC 7950, section 7.8.2).
+    pub fn is_key(&self) -> bool
+        ensures { result ≡ self.now.label.is_key }
+    {
+        self.standing.is_key
+    }
+
+    /// Whether it is the input of an operation, or stands in it (RFC 7950, section 7.14.2).
+    pub fn is_input(&self) -> bool
+        ensures { result ≡ self.now.label.is_input }
+    {
+        self.standing.is_input
+    }
+
+    /// Whether its `mandatory` statement says true, or that of the last of its refines with one.
+    pub fn mandatory(&self) -> bool
+        ensures { result ≡ self.now.label.defined.is_mandatory }
+    {
+        self.definition.is_mandatory()
+    }
+
+    /// The fewest entries that a list or leaf-list has to have.
+    pub fn min(&self) -> u32
+        ensures { result ≡ self.now.label.defined.min }
+    {
+        self.definition.min()
+    }
+
+    /// The most entries that a list or leaf-list may have, where that is bounded.
+    pub fn max(&self) -> Option<u32>
+        ensures { result ≡ self.now.label.defined.max }
+    {
+        self.definition.max()
+    }
+
+    /// The names that the `key` statement of a list names, in order.
+    pub fn key_names(&self) -> &[RcStr]
+        ensures { map rc_str_bytes result.now ≡ self.now.label.defined.key_names }
+    {
+        self.definition.key_names()
+    }
+
+    /// Whether it has a `key` statement.
+    pub fn has_key(&self) -> bool
+        ensures { result ≡ not (is_empty self.now.label.defined.key_names) }
+    {
+        self.definition.has_key()
+    }
+
+    /// Whether its `key` statement names this one.
+    pub fn names_key(&self, name: &str) -> bool
+        ensures { result ≡ list_any (λ key. bytes_eq key name.now) self.now.label.defined.key_names }
+    {
+        self.definition.names_key(name)
+    }
+
+    /// The arguments of its `unique` statements, in order.
+    pub fn uniques(&self) -> &[RcStr]
+        ensures { map rc_str_bytes result.now ≡ self.now.label.defined.uniques }
+    {
+        self.definition.uniques()
+    }
+
+    /// The argument of its `default` statement, or that of the last of its refines with one, and the file in which that
+    /// stands.
+    pub fn own_default(&self) -> Option<&WrittenText>
+        ensures { option_map (λ written. written_of written.now) result ≡ self.now.label.defined.own_default }
+    {
+        self.definition.own_default()
+    }
+
+    /// The number of the node above it, or that of the root.
     pub fn parent(&self) -> NodeId
         ensures { result ≡ self.now.parent }
     {

@@ -41,7 +41,7 @@ impl Nodes {
     }
 
     /// The most nodes that there may be.
-    pub(crate) fn limit(&self) -> u32
+    pub fn limit(&self) -> u32
         ensures { result ≡ self.now.limit }
     {
         self.limit
@@ -70,7 +70,7 @@ impl Nodes {
     }
 
     /// The node of this number.
-    pub(crate) fn get(&self, id: NodeId) -> &Node
+    pub fn get(&self, id: NodeId) -> &Node
         requires { id.0 < length self.now.rows }
         ensures { result.now ≡ slice_index_or self.now.rows id.0 blank_row }
     {
@@ -78,7 +78,7 @@ impl Nodes {
     }
 
     /// The nodes, in the order of their numbers.
-    pub(crate) fn all(&self) -> &[Node]
+    pub fn all(&self) -> &[Node]
         ensures { result.now ≡ self.now.rows }
     {
         self.nodes.as_slice()

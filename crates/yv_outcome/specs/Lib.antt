@@ -1,4 +1,5 @@
 pub mod Document
 pub mod Status
+pub mod Unchecked
 pub mod Compiles
 pub mod Output

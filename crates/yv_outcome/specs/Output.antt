@@ -80,7 +80,7 @@ compiled_printed asked files (Built ts) given = schema_printed asked ts given
 
 -- what a run prints that is to do this task with these files, where the document's bytes are `given`
 abbrev pub IsOutput : Task → List File → List ℕ → Printed → Type 0
-IsOutput task files given p = (c : Compiled) × FilesCompile task.choice task.limit files c × (compiled_printed task.asked files c given ≡ Some p)
+IsOutput task files given p = (c : Compiled) × FilesCompile task.asked task.choice task.limit files c × (compiled_printed task.asked files c given ≡ Some p)
 
 -- a document is read for this
 abbrev pub ReadsData : Asked → Type 0
@@ -90,7 +90,7 @@ ReadsData (Checks f) = Unit {0}
 
 -- the task is to check a document, and the files give a schema
 abbrev pub WantsData : Task → List File → Type 0
-WantsData task files = ReadsData task.asked × GiveSchema task.choice task.limit files
+WantsData task files = ReadsData task.asked × GiveSchema task.asked task.choice task.limit files
 
 -- the bytes that a reader gives, up to one more than a document may have, where they are known
 abbrev pub Gives : Option (List ℕ) → List ℕ → Type 0

@@ -22,7 +22,7 @@ some_given None = ([], tt)
 some_given (Some xs) = (take 16777217 xs, refl)
 
 -- a refusal is printed whatever the document is
-pub prints_refusal : (known : Option (List ℕ)) (task : Task) (files : List File) (r : Refusal) (p : Printed) → FilesCompile task.choice task.limit files (RefusedAt r)
+pub prints_refusal : (known : Option (List ℕ)) (task : Task) (files : List File) (r : Refusal) (p : Printed) → FilesCompile task.asked task.choice task.limit files (RefusedAt r)
     → p ≡ record { text = refusal_line files r; verdict = Refused } → PrintsFor known task files p
 prints_refusal known task files r p compiles is =
     let d = some_given known in
@@ -37,7 +37,7 @@ says_given known (Draws m) ts o says = absurd says
 says_given known (Checks f) ts o says = (says.given, says.gives, ap (λ (p : Printed). Some p) (sym says.printed))
 
 -- where the files give a schema, what is said of it is printed
-pub prints_says : (known : Option (List ℕ)) (task : Task) (files : List File) (ts : Forest) (o : Output) → FilesCompile task.choice task.limit files (Built ts)
+pub prints_says : (known : Option (List ℕ)) (task : Task) (files : List File) (ts : Forest) (o : Output) → FilesCompile task.asked task.choice task.limit files (Built ts)
     → SaysOf known task.asked ts o → PrintsFor known task files (printed_of o)
 prints_says known task files ts o compiles says =
     let d = says_given known task.asked ts o says in
@@ -50,7 +50,7 @@ module _ {A : Type 0} (bytes_of : A → List ℕ) (known : Option (List ℕ)) (t
   notes_document (Some s) noted = on_document noted
 
   -- and so is one on a refusal
-  pub notes_refusal : (o : Option A) (r : Refusal) → FilesCompile task.choice task.limit files (RefusedAt r)
+  pub notes_refusal : (o : Option A) (r : Refusal) → FilesCompile task.asked task.choice task.limit files (RefusedAt r)
       → IfSome o (λ s. Explains (bytes_at (slice_get files r.file)) r (bytes_of s)) → IfSome o (λ s. Speaks files r (bytes_of s))
       → IfSome o (λ s. IsNote known task files (bytes_of s))
   notes_refusal None r refused place speaks = tt

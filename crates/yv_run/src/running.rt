@@ -76,8 +76,10 @@ struct Found {
 const DATA_BYTES: usize = 16_777_217;
 
 /// Compiles the files of a job, and writes the outcome: the refusal's line, or how many nodes the schema has, or, where
-/// the job is to check a document, what is wrong with what the reader gives, or that it is valid. After `WriteFault` the
-/// writer holds the front of that text; after `NoMemory`, `PatternBuild` and `ReadFault` nothing was written.
+/// the job is to check a document, what is wrong with what the reader gives, or that it is valid. A document isn't checked
+/// against lists, leaf-lists, choices, anydata, anyxml or `mandatory` so far: files with these are then refused. After
+/// `WriteFault` the writer holds the front of that text; after `NoMemory`, `PatternBuild` and `ReadFault` nothing was
+/// written.
 pub fn run<R: Read, W: Write>(
     alloc: Global,
     job: &Job,
@@ -99,7 +101,7 @@ pub fn run<R: Read, W: Write>(
     ensures unread { WantsData (task_of job.now) (map file_of inputs.now) ⊎ (reader.new ≡ reader.old) }
     ensures read_fault { result ≡ Status.ReadFault ↔ (has_failed reader.new ≡ true) }
     ensures write_fault { result ≡ Status.WriteFault ↔ (has_failed writer.new ≡ true) }
-    ensures built { result ≡ Status.PatternBuild → HavePattern (choice_of job.now.selection) job.now.limit (map file_of inputs.now) }
+    ensures built { result ≡ Status.PatternBuild → HavePattern (asked_of job.now.command) (choice_of job.now.selection) job.now.limit (map file_of inputs.now) }
 {
     run_with_note(alloc, job, inputs, reader, writer).status
 }
@@ -126,7 +128,7 @@ pub fn run_with_note<R: Read, W: Write>(
     ensures unread { WantsData (task_of job.now) (map file_of inputs.now) ⊎ (reader.new ≡ reader.old) }
     ensures read_fault { result.status ≡ Status.ReadFault ↔ (has_failed reader.new ≡ true) }
     ensures write_fault { result.status ≡ Status.WriteFault ↔ (has_failed writer.new ≡ true) }
-    ensures built { result.status ≡ Status.PatternBuild → HavePattern (choice_of job.now.selection) job.now.limit (map file_of inputs.now) }
+    ensures built { result.status ≡ Status.PatternBuild → HavePattern (asked_of job.now.command) (choice_of job.now.selection) job.now.limit (map file_of inputs.now) }
     ensures note { IfSome result.note (λ s. IsNote (R.remaining (stream_inner reader.old)) (task_of job.now) (map file_of inputs.now) (string_bytes s)) }
 {
     match outcome(alloc, job, inputs, reader) {
@@ -168,9 +170,9 @@ fn outcome<R: Read>(
     ensures note { IfOk result (λ f. IfSome f.note (λ s. IsNote (R.remaining (stream_inner reader.old)) (task_of job.now) (map file_of inputs.now) (string_bytes s))) }
     ensures unread { WantsData (task_of job.now) (map file_of inputs.now) ⊎ (reader.new ≡ reader.old) }
     ensures fault { IsErrOf result Halt.Read ↔ (has_failed reader.new ≡ true) }
-    ensures built { IsErrOf result Halt.PatternBuild → HavePattern (choice_of job.now.selection) job.now.limit (map file_of inputs.now) }
+    ensures built { IsErrOf result Halt.PatternBuild → HavePattern (asked_of job.now.command) (choice_of job.now.selection) job.now.limit (map file_of inputs.now) }
 {
-    match compiled(alloc, inputs, &job.selection, job.limit) {
+    match compiled(alloc, inputs, &job.command, &job.selection, job.limit) {
         Ok(schema) => answered(alloc, &job.command, &schema, reader),
         Err(Stop::Fault(refusal)) => Ok(Found {
             output: of_refusal(alloc, inputs, &refusal)?,

@@ -8,12 +8,14 @@ use Rattle.yv_statement.specs.Tree as statement
 use Rattle.yv_expansion.specs.Tree as items
 use Rattle.yv_selection.specs.Choice.{Choice}
 use Rattle.yv_rows.specs.Files.{Files, brief_of, tree_name}
-use Rattle.yv_nodes.specs.Tree.{node, Forest, no_trees, tree}
-use Rattle.yv_schema.specs.Module.{Basis, file_nodes, is_given, is_part, label_at, labelled, member_name, module_nodes, modules_from, parts_from}
+use Rattle.yv_properties.specs.Kinds.{is_passed}
+use Rattle.yv_nodes.specs.Tree.{node, Forest, Label, no_trees, tree}
+use Rattle.yv_labels.specs.Labels.{data_home, member_name}
+use Rattle.yv_schema.specs.Module.{Basis, file_nodes, is_given, is_part, label_at, labelled, module_nodes, modules_from, parts_from}
 use Rattle.yv_copies.specs.Left.{left_in}
-use Rattle.yv_nodes.specs.Groups.{AreDifferent, AreFormed, Group, HasNoColon, IsFormed, IsNew, all_nodes, joined}
+use Rattle.yv_tables.specs.Groups.{AreDifferent, AreFormed, Group, HasNoColon, IsFormed, IsNew, all_nodes, joined}
 use Rattle.yv_schema.specs.InnerBuild.{groups_from}
-use Rattle.yv_nodes.proofs.Grouping.{joined_assoc}
+use Rattle.yv_tables.proofs.Grouping.{joined_assoc}
 
 -- what stands before a name in its member's, below a node of the module `above`
 abbrev pub front_for : List ℕ → List ℕ → List ℕ
@@ -39,13 +41,21 @@ chosen_formed : (b : Bool) (home front : List ℕ) (ts us : Forest) → AreForme
 chosen_formed true home front ts us p q = p
 chosen_formed false home front ts us p q = q
 
-pub labelled_formed : (b : Basis) (home above : List ℕ) (t : items.Nodes) (others : Forest) → AreFormed home (front_for above home) others → AreFormed home (front_for above home) (labelled b home above t others)
+-- what stands before the names below a node
+front_below : (is_passed : Bool) (above_home home : List ℕ) → front_for (cond is_passed above_home home) home ≡ cond is_passed (front_for above_home home) []
+front_below true above_home home = refl
+front_below false above_home home = no_front home
+
+pub labelled_formed : (b : Basis) (home : List ℕ) (above : List Label) (t : items.Nodes) (others : Forest) → AreFormed home (front_for (data_home above) home) others → AreFormed home (front_for (data_home above) home) (labelled b home above t others)
 labelled_formed b home above items.none others rest = rest
 labelled_formed b home above (items.item number below behind) others rest =
-    let after : AreFormed home (front_for above home) (labelled b home above behind others) = labelled_formed b home above behind others rest in
-    let kids : AreFormed home (front_for home home) (labelled b home home below no_trees) = labelled_formed b home home below no_trees (tt, tt) in
-    let inside : AreFormed home [] (labelled b home home below no_trees) = subst (λ (front : List ℕ). AreFormed home front (labelled b home home below no_trees)) (no_front home) kids in
-    ((refl, fronted_name above home (label_at b home above number).name, after.0), (inside.0, inside.1, after.1))
+    let mine : Label = label_at b home above number in
+    let passed : Bool = is_passed mine.defined.kind in
+    let after : AreFormed home (front_for (data_home above) home) (labelled b home above behind others) = labelled_formed b home above behind others rest in
+    let kids : AreFormed home (front_for (data_home (mine ∷ above)) home) (labelled b home (mine ∷ above) below no_trees) = labelled_formed b home (mine ∷ above) below no_trees tt in
+    let inside : AreFormed home (cond passed (front_for (data_home above) home) []) (labelled b home (mine ∷ above) below no_trees) =
+    subst (λ (front : List ℕ). AreFormed home front (labelled b home (mine ∷ above) below no_trees)) (front_below passed (data_home above) home) kids in
+    (refl, fronted_name (data_home above) home mine.defined.name, inside, after)
 
 parts_formed : (b : Basis) (m : ℕ) (home : List ℕ) (n : ℕ) (ts : Files) (others : Forest) → AreFormed home (front_for [] home) others → AreFormed home (front_for [] home) (parts_from b m home n ts others)
 parts_formed b m home n [] others rest = rest
@@ -65,7 +75,7 @@ module _ (b : Basis) (choice : Choice) where
   group_formed : (m : ℕ) (t : statement.Tree) → HasNoColon (tree_name t) → tree_name t ≢ [] → IsFormed (record { name = tree_name t; nodes = module_nodes b m t no_trees })
   group_formed m t plain filled =
       let home : List ℕ = tree_name t in
-      let parts : AreFormed home (front_for [] home) (parts_from b m home 0 b.files no_trees) = parts_formed b m home 0 b.files no_trees (tt, tt) in
+      let parts : AreFormed home (front_for [] home) (parts_from b m home 0 b.files no_trees) = parts_formed b m home 0 b.files no_trees tt in
       record {
         plain = plain;
         formed = subst (λ (front : List ℕ). AreFormed home front (module_nodes b m t no_trees)) (top_front home filled) (labelled_formed b home [] (left_in b.truth b.files b.trees m) _ parts);
@@ -102,10 +112,10 @@ chosen_joined : (b : Bool) (a c ts us vs : Forest) → a ≡ joined ts us → c 
 chosen_joined true a c ts us vs p q = p
 chosen_joined false a c ts us vs p q = q
 
-pub labelled_joined : (b : Basis) (home above : List ℕ) (t : items.Nodes) (others : Forest) → labelled b home above t others ≡ joined (labelled b home above t no_trees) others
+pub labelled_joined : (b : Basis) (home : List ℕ) (above : List Label) (t : items.Nodes) (others : Forest) → labelled b home above t others ≡ joined (labelled b home above t no_trees) others
 labelled_joined b home above items.none others = refl
 labelled_joined b home above (items.item number below behind) others =
-    ap (tree (node (label_at b home above number) (labelled b home home below no_trees))) (labelled_joined b home above behind others)
+    ap (tree (node (label_at b home above number) (labelled b home (label_at b home above number ∷ above) below no_trees))) (labelled_joined b home above behind others)
 
 file_joined : (b : Basis) (home : List ℕ) (n : ℕ) (others : Forest) → file_nodes b home n others ≡ joined (file_nodes b home n no_trees) others
 file_joined b home n others = labelled_joined b home [] (left_in b.truth b.files b.trees n) others

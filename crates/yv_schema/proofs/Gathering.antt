@@ -14,11 +14,11 @@ use Rattle.yv_nodes.specs.Tree.{count, Forest, no_trees}
 use Rattle.yv_schema.specs.Module.{Basis, file_nodes, is_given, is_part, module_nodes, parts_from}
 use Rattle.yv_nodes.specs.Rows.{Row, root}
 use Rattle.yv_nodes.specs.Numbers.{numbers_from, rows_from}
-use Rattle.yv_nodes.specs.Groups.{Group, Top, all_nodes, tops_from}
+use Rattle.yv_tables.specs.Groups.{Group, Top, all_nodes, tops_from}
 use Rattle.yv_schema.specs.InnerBuild.{Adds, groups_from}
 use Rattle.yv_schema.proofs.Growing.{Rest, added_numbers, added_rows, rest_more}
-use Rattle.yv_nodes.proofs.Grouping.{rows_joined}
-use Rattle.yv_nodes.proofs.Numbers.{length_rows}
+use Rattle.yv_tables.proofs.Grouping.{rows_joined}
+use Rattle.yv_tables.proofs.Numbers.{length_rows}
 
 -- one more number of a file's module
 pub homes_more : (f : ℕ → ℕ) (xs : List ℕ) (k : ℕ) → length xs ≡ k → ((n : ℕ) → n < k → slice_get xs n ≡ Some (f n)) → (n : ℕ) → n < k + 1 → slice_get (xs ++ f k ∷ []) n ≡ Some (f n)

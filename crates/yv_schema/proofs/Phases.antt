@@ -38,15 +38,19 @@ use Rattle.yv_copies.specs.Faults.{BadExpansion}
 use Rattle.yv_copies.specs.On.{Truth}
 use Rattle.yv_definitions.specs.Kinds.{AreKinds, Kinds}
 use Rattle.yv_schema.specs.Truth.{IsTruth}
-use Rattle.yv_nodes.specs.Tree.{Forest, Label, labels}
+use Rattle.yv_nodes.specs.Tree.{Forest, Label}
 use Rattle.yv_schema.specs.Module.{Basis, is_given, schema_of}
-use Rattle.yv_nodes.specs.Doubled.{Doubled, Repeated}
-use Rattle.yv_schema.specs.Refuses.{BadFile, BadSchema, BadTyping, Refuses, RefusesBeforeTypes}
+use Rattle.yv_nodes.specs.Places.{Place}
+use Rattle.yv_tables.specs.Doubled.{Doubled, Repeated, opened}
+use Rattle.yv_tree_checks.specs.Above.{AtNearest, BadBelow, is_misfit}
+use Rattle.yv_tree_checks.specs.Mandatory.{BadOfDefault}
+use Rattle.yv_tree_checks.specs.Bad.{BadTree}
+use Rattle.yv_schema.specs.Refuses.{BadFile, BadNodes, BadSchema, BadTyping, Refuses, RefusesBeforeTypes}
 use Rattle.yv_schema.specs.Schema.{IsSchema}
-use Rattle.yv_nodes.specs.Groups.{HasNoColon}
+use Rattle.yv_tables.specs.Groups.{HasNoColon}
 use Rattle.yv_schema.specs.InnerBuild.{AreNames}
-use Rattle.yv_nodes.proofs.Colons.{is_58}
-use Rattle.yv_nodes.proofs.Keeping.{map_get}
+use Rattle.yv_tables.proofs.Colons.{is_58}
+use Rattle.yv_tables.proofs.Keeping.{map_get}
 use Rattle.yv_schema.proofs.Told.{is_own}
 use Rattle.yv_schema.proofs.Truths.{same_truth}
 use Rattle.yv_schema.proofs.TypePhases.{names_phase, types_phase}
@@ -150,11 +154,45 @@ file_phase n t f h = ap (λ (r : Refusal). phase_of r.code) h.is ∙ (is_own t h
 repeated_phase : (ls : List Label) (f : Refusal) → Repeated ls f → phase_of f.code ≡ 10
 repeated_phase ls f h = ap (λ (r : Refusal). phase_of r.code) h.4.1
 
-schema_phase : (choice : Choice) (files : Files) (f : Refusal) → BadSchema choice files f → phase_of f.code ≡ 10
-schema_phase choice files f h = elim h.doubled [
-  | inl x ↦ repeated_phase (labels h.tree) f x
-  | inr x ↦ repeated_phase x.2 f x.4
+doubled_phase : (top : Forest) (f : Refusal) → Doubled top f → phase_of f.code ≡ 10
+doubled_phase top f h = elim h [
+  | inl x ↦ repeated_phase (opened top) f x
+  | inr x ↦ repeated_phase _ f x.4
 ]
+
+of_phase : (f r : Refusal) → f ≡ r → phase_of r.code ≡ 10 → phase_of f.code ≡ 10
+of_phase f r is h = ap (λ (r : Refusal). phase_of r.code) is ∙ h
+
+nearest_phase : (ls : List Label) (is_wrong : Bool) (f : Refusal) → AtNearest ls is_wrong f → phase_of f.code ≡ 10
+nearest_phase [] is_wrong f h = absurd h
+nearest_phase (l ∷ ls) is_wrong f h = of_phase f _ h.1 refl
+
+below_phase : (p : Place) (f : Refusal) → BadBelow p f → phase_of f.code ≡ 10
+below_phase p f h = elim h [
+  | inl x ↦ elim x [ inl y ↦ of_phase f _ y.1 refl | inr y ↦ of_phase f _ y.1 refl ]
+  | inr x ↦ elim x [ inl y ↦ of_phase f _ y.1 refl | inr y ↦ nearest_phase p.above (is_misfit p) f y ]
+]
+
+default_phase : (p : Place) (f : Refusal) → BadOfDefault p f → phase_of f.code ≡ 10
+default_phase p f h = elim h [
+  | inl x ↦ elim x [ inl y ↦ of_phase f _ y.1 refl | inr y ↦ of_phase f _ y.1 refl ]
+  | inr y ↦ of_phase f _ y.1 refl
+]
+
+tree_phase : (top : Forest) (f : Refusal) → BadTree top f → phase_of f.code ≡ 10
+tree_phase top f h = elim h [
+  | inl x ↦ below_phase x.2 f x.4
+  | inr x ↦ elim x [ inl y ↦ default_phase y.2 f y.4 | inr y ↦ of_phase f _ y.4.1 refl ]
+]
+
+schema_phase : (choice : Choice) (files : Files) (f : Refusal) → BadSchema choice files f → phase_of f.code ≡ 10
+schema_phase choice files f h = elim h.stands [ inl x ↦ doubled_phase h.tree f x | inr x ↦ tree_phase h.tree f x ]
+
+-- what is refused only with types or with the schema tree comes late
+pub comes_late : (choice : Choice) (files : Files) (limit : ℕ) (f : Refusal) → Refuses choice files limit f → RefusesBeforeTypes choice files limit f ⊎ (9 ≤ phase_of f.code)
+comes_late choice files limit f (inl early) = inl early
+comes_late choice files limit f (inr (inl typing)) = inr (omega (arith, types_phase files typing.truth f typing.bad))
+comes_late choice files limit f (inr (inr schema)) = inr (omega (arith, schema_phase choice files f schema))
 
 -- what is wrong with the links of files is refused in the phases 3 to 5, and what is wrong with their expansion in 7 and 8
 pub record HavePhases : Type 0 where
@@ -296,12 +334,12 @@ module _ (choice : Choice) (files : Files) (limit : ℕ) (one : HasOneTruth) (be
       expanded fs trees same h = subst (λ (fs : Files). AreTrees (map brief_of fs) (rows_of fs) (marks_of choice fs) trees) same h
 
   -- where all this refuses nothing, the least of the schema tree is the least of all
-  pub least_last : HaveOneKinds → HasOneExpansion → (truth : Truth) (o : Option Refusal) (tree : Forest) → IsTruth files choice truth → IsSchema choice files tree → IsLeast (BadTypes files truth) None
-      → IsLeast (Doubled tree) o → IsLeast (Refuses choice files limit) o
-  least_last one_kinds expansion truth o tree is schema p r =
+  pub least_last : HaveOneKinds → HasOneExpansion → (truth : Truth) (o : Option Refusal) (top : Forest) → IsTruth files choice truth → IsSchema choice files top → IsLeast (BadTypes files truth) None
+      → IsLeast (BadNodes top) o → IsLeast (Refuses choice files limit) o
+  least_last one_kinds expansion truth o top is schema p r =
       let least : IsLeast (BadSchema choice files) o =
-      least_same (Doubled tree) (BadSchema choice files) o
-      (λ f h. record { tree = tree; is_schema = schema; doubled = h })
-      (λ f h. subst (λ (ts : Forest). Doubled ts f) (one_schema one_kinds expansion h.tree tree h.is_schema schema) h.doubled) r in
+      least_same (BadNodes top) (BadSchema choice files) o
+      (λ f h. record { tree = top; is_schema = schema; stands = h })
+      (λ f h. subst (λ (ts : Forest). BadNodes ts f) (one_schema one_kinds expansion h.tree top h.is_schema schema) h.stands) r in
       behind (Before choice files limit) (Later choice files limit) o before
       (behind (BadTyping choice files) (BadSchema choice files) o (typed truth None is p) least)

@@ -19,11 +19,11 @@ use Rattle.yv_pruning.specs.Listed.{is_uses_in}
 use Rattle.yv_rows.specs.Listed.{rows_of}
 use Rattle.yv_copies.specs.On.{is_item_on}
 use Rattle.yv_copies.specs.Left.{left_in}
-use Rattle.yv_nodes.specs.Tree.{count, Forest, no_trees}
-use Rattle.yv_schema.specs.Module.{Basis, file_nodes, is_given, is_part, labelled, module_nodes, modules_from, parts_from}
+use Rattle.yv_nodes.specs.Tree.{count, Forest, Label, no_trees}
+use Rattle.yv_schema.specs.Module.{Basis, file_nodes, is_given, is_part, label_at, labelled, module_nodes, modules_from, parts_from}
 use Rattle.yv_schema.specs.Schema.{IsSchema, TakeUnits}
 use Rattle.yv_copies.specs.Given.{marks_of}
-use Rattle.yv_nodes.proofs.Keeping.{map_get}
+use Rattle.yv_tables.proofs.Keeping.{map_get}
 
 -- the sum of the values of the first numbers
 abbrev pub upto : (ℕ → ℕ) → ℕ → ℕ
@@ -103,10 +103,10 @@ module _ (b : Basis) (add_none : AddNone) where
   abbrev home : ℕ → ℕ
   home = home_at (map brief_of b.files)
 
-  count_all : (name above : List ℕ) (t : items.Nodes) (others : Forest) → count (labelled b name above t others) ≡ items.count t + count others
+  count_all : (name : List ℕ) (above : List Label) (t : items.Nodes) (others : Forest) → count (labelled b name above t others) ≡ items.count t + count others
   count_all name above items.none others = omega arith
   count_all name above (items.item number below behind) others =
-      omega (arith, count_all name name below no_trees, count_all name above behind others)
+      omega (arith, count_all name (label_at b name above number ∷ above) below no_trees, count_all name above behind others)
 
   count_file : (name : List ℕ) (n : ℕ) (others : Forest) → count (file_nodes b name n others) ≤ size n + count others
   count_file name n others =

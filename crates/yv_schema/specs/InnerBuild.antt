@@ -6,8 +6,15 @@ use Rattle.yv_rows.specs.Files.{Files, brief_of, home_at, tree_name}
 use Rattle.yv_nodes.specs.declared.node.NodeId.{NodeId}
 use Rattle.yv_nodes.specs.Tree.{Forest, no_trees}
 use Rattle.yv_schema.specs.Module.{Basis, is_given, module_nodes}
-use Rattle.yv_nodes.specs.Rows.{Row}
-use Rattle.yv_nodes.specs.Groups.{Group, HasNoColon}
+use Rattle.std.specs.declared.option.Option.{Option}
+use Rattle.std.specs.declared.result.Result.{Result}
+use Rattle.std.specs.declared.result.Result.TheVariants.{Ok, Err}
+use Rattle.yv_statement.specs.Order.{IsLesser}
+use Rattle.yv_statement.specs.declared.refusal.Refusal.{Refusal}
+use Rattle.yv_statement.specs.declared.refusal.Stop.{Stop}
+use Rattle.yv_statement.specs.declared.refusal.Stop.TheVariants.{Fault}
+use Rattle.yv_nodes.specs.Rows.{Row, Rows}
+use Rattle.yv_tables.specs.Groups.{Group, HasNoColon}
 use Rattle.yv_nodes.specs.Numbers.{numbers_from, rows_from}
 
 -- rows and numbers were added for these trees: whichever others follow, the rows and numbers are those of both
@@ -32,3 +39,8 @@ pub record AreNames (choice : Choice) (files : Files) : Type 0 where
   pub filled : (n : ℕ) (t : statement.Tree) → slice_get files n ≡ Some t → is_given choice t ≡ true → tree_name t ≢ []
   pub differ : (m n : ℕ) (t u : statement.Tree) → m < n → slice_get files m ≡ Some t → slice_get files n ≡ Some u
       → is_given choice t ≡ true → is_given choice u ≡ true → tree_name t ≢ tree_name u
+
+-- the first refusal of what is built of nodes, or of what is wrong with them
+pub data IsFirst (numbered : Result Rows Stop) (wrong : Option Refusal) (r : Refusal) : Type 0 where
+  of_tree : (s : Rows) → numbered ≡ Ok s → wrong ≡ Some r → IsFirst numbered wrong r
+  of_both : (doubled : Refusal) → numbered ≡ Err (Fault doubled) → IsLesser (Some doubled) wrong (Some r) → IsFirst numbered wrong r

@@ -1,17 +1,16 @@
 -- The schema tree that the statements of files give (RFC 7950, sections 5.6.5, 7.5, 7.6, 7.12 and 7.13).
-use Rattle.std.specs.Prelude.{ℕ, ◌+◌, ◌==◌, Bool, ◌&&◌, not, List, [], ◌∷◌, ◌++◌, map, if◌then◌else◌}
-use Rattle.std.specs.Str.{bytes_eq}
+use Rattle.std.specs.Prelude.{ℕ, ◌+◌, ◌==◌, Bool, ◌&&◌, not, List, [], ◌∷◌, map, if◌then◌else◌}
 use Rattle.yv_statement.specs.Tree as statement
 use Rattle.yv_selection.specs.Choice.{Choice, is_implemented}
 use Rattle.yv_rows.specs.Files.{Briefs, Files, brief_of, home_at, is_module, tree_name}
 use Rattle.yv_expansion.specs.Tree as items
 use Rattle.yv_refines.specs.Faults.{changes}
 use Rattle.yv_definitions.specs.Kinds.{Kinds}
-use Rattle.yv_nodes.specs.Defined.{Defined}
 use Rattle.yv_definitions.specs.Defined.{refined}
-use Rattle.yv_copies.specs.Items.{statement_of}
+use Rattle.yv_copies.specs.Items.{origin_of}
 use Rattle.yv_copies.specs.Left.{left_in}
 use Rattle.yv_copies.specs.On.{Truth}
+use Rattle.yv_labels.specs.Labels.{label_of}
 use Rattle.yv_nodes.specs.Tree.{Label, node, Forest, no_trees, tree}
 
 -- what a schema is made of: the statements of files, which of their conditions hold, the plain types of their types, and the
@@ -22,41 +21,19 @@ pub record Basis : Type 0 where
   pub kinds : Kinds
   pub trees : List items.Tree
 
--- what a JSON member of a node of the module `home` is called below a node of the module `above`:
--- its name, with its module where the two differ
-abbrev pub member_name : List ℕ → List ℕ → List ℕ → List ℕ
-member_name above home name = if bytes_eq above home then name else home ++ 58 ∷ name
+-- what the node of a numbered item of the expansion is, below these nodes, the nearest first
+abbrev pub label_at : Basis → (home : List ℕ) → (above : List Label) → ℕ → Label
+label_at b home above item = label_of (refined b.kinds b.files (origin_of b.trees item) (changes b.files b.trees item)) home above
 
--- what a schema node of the module `home` is below a node of the module `above`, by what its statement and refines say
-abbrev pub label_of : Defined → (home above : List ℕ) → Label
-label_of d home above = record {
-  file = d.file;
-  offset = d.offset;
-  line = d.line;
-  kind = d.kind;
-  module_name = home;
-  name = d.name;
-  member = member_name above home d.name;
-  types = d.types;
-  has_presence = d.has_presence;
-  status = d.status;
-  features = d.features;
-  type_text = d.type_text;
-}
-
--- what the node of a numbered item of the expansion is
-abbrev pub label_at : Basis → (home above : List ℕ) → ℕ → Label
-label_at b home above item = label_of (refined b.kinds b.files (statement_of b.trees item) (changes b.files b.trees item)) home above
-
--- the schema nodes that items left of an expansion give, in order, below a node of the module `above`, and then others: all
--- that a `uses` gives is of the module of the file in which it stands outside groupings (RFC 7950, section 7.13)
-abbrev pub labelled : Basis → (home above : List ℕ) → items.Nodes → Forest → Forest
+-- the schema nodes that items left of an expansion give, in order, below these nodes, and then others: all that a `uses` gives is
+-- of the module of the file in which it stands outside groupings (RFC 7950, section 7.13)
+abbrev pub labelled : Basis → (home : List ℕ) → (above : List Label) → items.Nodes → Forest → Forest
 labelled b home above items.none others = others
 labelled b home above (items.item number below behind) others =
-    let after : Forest = labelled b home above behind others in
-    tree (node (label_at b home above number) (labelled b home home below no_trees)) after
+    let own : Label = label_at b home above number in
+    tree (node own (labelled b home (own ∷ above) below no_trees)) (labelled b home above behind others)
 
--- the nodes of a file of the module `home`, and then others: at the top no module is above
+-- the nodes of a file of the module `home`, and then others: at the top nothing is above
 abbrev pub file_nodes : Basis → (home : List ℕ) → (file : ℕ) → Forest → Forest
 file_nodes b home file others = labelled b home [] (left_in b.truth b.files b.trees file) others
 

@@ -1,26 +1,27 @@
 //! From the statements of files to their schema.
-ghost use Rattle.std.specs.Prelude.{◌≡◌, ◌≢◌, ◌≤◌, length, IfOk, OnOk, Some, None, Err};
+ghost use Rattle.std.specs.Prelude.{◌≡◌, ◌≢◌, ◌≤◌, length, IfOk, OnOk, Some, None, Ok, Err};
 ghost use Rattle.yv_statement.specs.declared.refusal.Refusal.{Refusal};
 ghost use Rattle.yv_statement.specs.declared.refusal.Stop.TheVariants.{Fault, PatternBuild};
-ghost use Rattle.yv_statement.specs.Order.{IsLeast};
+ghost use Rattle.yv_statement.specs.Order.{IsLeast, IsLesser};
 ghost use Rattle.yv_selection.specs.Choice.{choice_of};
 ghost use Rattle.yv_rows.specs.Lent.{lent_in};
 ghost use Rattle.yv_schema.specs.Module.{Basis, schema_of};
-ghost use Rattle.yv_nodes.specs.Doubled.{Doubled};
+ghost use Rattle.yv_schema.specs.Refuses.{BadNodes};
 ghost use Rattle.yv_nodes.specs.Rows.{whole};
 ghost use Rattle.yv_schema.specs.InnerContext.{Tells, TellsOf};
-ghost use Rattle.yv_schema.specs.InnerBuild.{AreNames};
+ghost use Rattle.yv_schema.specs.InnerBuild.{AreNames, IsFirst};
 
 use crate::context::Context;
 use crate::modules::Parts;
 use std::alloc::Global;
-use yv_nodes::{Nodes, Schema};
+use yv_nodes::Nodes;
 use yv_rows::Rows;
 use yv_selection::Selection;
-use yv_statement::Stop;
+use yv_statement::{Refusal, Stop, lesser};
+use yv_tables::Schema;
+use yv_tree_checks::least_in_tree;
 
-/// The schema of the implemented modules, or the least refusal of a node whose parent has an earlier one of its module
-/// and name.
+/// The schema of the implemented modules, or the least refusal of what is wrong with its nodes.
 pub(crate) fn build(
     alloc: Global,
     rows: &Rows<'_, '_>,
@@ -35,13 +36,40 @@ pub(crate) fn build(
         → IfOk result (λ s. whole s ≡ schema_of (choice_of selection.now) b) }
     ensures limit { IfOk result (λ s. s.limit ≡ limit) }
     ensures clear { (b : Basis) → Tells b context.now → b.files ≡ lent_in rows.now
-        → OnOk result (IsLeast (Doubled (schema_of (choice_of selection.now) b)) None) }
+        → OnOk result (IsLeast (BadNodes (schema_of (choice_of selection.now) b)) None) }
     ensures refusal { (b : Basis) → Tells b context.now → b.files ≡ lent_in rows.now
-        → (r : Refusal) → result ≡ Err (Fault r) → IsLeast (Doubled (schema_of (choice_of selection.now) b)) (Some r) }
+        → (r : Refusal) → result ≡ Err (Fault r) → IsLeast (BadNodes (schema_of (choice_of selection.now) b)) (Some r) }
     ensures built { result ≢ Err PatternBuild }
 {
     let parts = Parts::read(alloc, rows)?;
     let mut nodes = Nodes::new(alloc, limit);
     let tops = parts.add_modules(alloc, context, selection, &mut nodes)?;
-    Schema::numbered(alloc, nodes, &tops)
+    let wrong = least_in_tree(alloc, &nodes)?;
+    with_refusal(Schema::numbered(alloc, nodes, &tops), wrong)
+}
+
+// The lesser of both refusals, or a schema where there is none.
+fn with_refusal(numbered: Result<Schema, Stop>, wrong: Option<Refusal>) -> Result<Schema, Stop>
+    ensures clear { IfOk result (λ s. (numbered ≡ Ok s) × (wrong ≡ None)) }
+    ensures refusal { (r : Refusal) → result ≡ Err (Fault r) → IsFirst numbered wrong r }
+    ensures built { numbered ≢ Err PatternBuild → result ≢ Err PatternBuild }
+{
+    match numbered {
+        Ok(schema) => match wrong {
+            Some(wrong) => Err(Stop::Fault(wrong)),
+            None => Ok(schema),
+        },
+        Err(stop) => Err(first_stop(stop, wrong)),
+    }
+}
+
+// What stops the building of a schema, or the lesser of both refusals where that is one.
+fn first_stop(stop: Stop, wrong: Option<Refusal>) -> Stop
+    ensures refusal { (r : Refusal) → result ≡ Fault r → (doubled : Refusal) × (stop ≡ Fault doubled) × IsLesser (Some doubled) wrong (Some r) }
+    ensures built { result ≡ PatternBuild → stop ≡ PatternBuild }
+{
+    match stop {
+        Stop::Fault(doubled) => { Stop::Fault(lesser(Some(doubled), wrong).unwrap_or(doubled)) }
+        other => other,
+    }
 }

@@ -15,9 +15,9 @@ use std::alloc::Global;
 use yv_copies::laws::refusals_of_expansions_have_phases;
 use yv_link::laws::links_have_phases;
 use yv_link::link;
-use yv_nodes::Schema;
 use yv_selection::Selection;
 use yv_statement::{Statement, Stop};
+use yv_tables::Schema;
 
 /// The schema of the modules that are implemented, by the statements of the files of all modules (RFC 7950,
 /// sections 5.1 and 7.1), or the least refusal by phase, file, offset and code. Statements that this version doesn't

@@ -6,7 +6,7 @@ ghost use Rattle.yv_selection.specs.Choice.{Choice};
 ghost use Rattle.yv_definitions.specs.Defined.{refined};
 ghost use Rattle.yv_definitions.specs.Known.{files_in, kinds_in};
 ghost use Rattle.yv_copies.specs.Copies.{AreCopies};
-ghost use Rattle.yv_copies.specs.Items.{statement_of};
+ghost use Rattle.yv_copies.specs.Items.{origin_of};
 ghost use Rattle.yv_copies.specs.Left.{left_in};
 ghost use Rattle.yv_schema.specs.Module.{Basis};
 ghost use Rattle.yv_schema.specs.InnerContext.{Tells};
@@ -15,7 +15,7 @@ use std::alloc::{AllocError, Global};
 use yv_copies::Copies;
 use yv_definitions::Definitions;
 use yv_expansion::Node;
-use yv_nodes::Definition;
+use yv_properties::Definition;
 
 /// What the statements of files say of nodes, and the copies of these that there are.
 #[derive(Clone, Copy)]
@@ -50,9 +50,9 @@ impl<'c, 'a, 'b> Context<'c, 'a, 'b> {
     /// What is said of the node of an item.
     pub(crate) fn definition(&self, item: usize) -> Result<Definition, AllocError>
         ensures { (b : Basis) → Tells b self.now → IfOk result (λ d. d
-            ≡ refined b.kinds b.files (statement_of b.trees item) (changes b.files b.trees item)) }
+            ≡ refined b.kinds b.files (origin_of b.trees item) (changes b.files b.trees item)) }
     {
         self.definitions
-            .of(self.copies.statement(item), self.copies.changes(item))
+            .of(self.copies.origin(item), self.copies.changes(item))
     }
 }

@@ -2,7 +2,7 @@
 ghost use Rattle.std.specs.Prelude.{◌≡◌};
 ghost use Rattle.std.specs.Option.{option_copied};
 ghost use Rattle.yv_statement.specs.Order.{IsLeast};
-ghost use Rattle.yv_schema.specs.Refuses.{Early, is_taken};
+ghost use Rattle.yv_schema.specs.Refuses.{Early, has_colon, is_taken};
 
 use yv_conform::Keyword;
 use yv_statement::{Code, Refusal, Statement, lesser, refused};
@@ -55,7 +55,16 @@ fn is_taken(keyword: Keyword, argument: Option<&str>) -> bool
             | Keyword::YinElement
             | Keyword::Container
             | Keyword::Leaf
+            | Keyword::LeafList
+            | Keyword::List
+            | Keyword::Anydata
+            | Keyword::Anyxml
             | Keyword::Presence
+            | Keyword::Config
+            | Keyword::Mandatory
+            | Keyword::MinElements
+            | Keyword::MaxElements
+            | Keyword::OrderedBy
             | Keyword::Grouping
             | Keyword::Uses
             | Keyword::Refine
@@ -77,7 +86,15 @@ fn is_taken(keyword: Keyword, argument: Option<&str>) -> bool
             _,
         ) => true,
         (Keyword::Type, Some(name)) => name != "leafref",
-        (Keyword::Type, None) => true,
+        (Keyword::Key, Some(names)) => !has_colon(names),
+        (Keyword::Type | Keyword::Key, None) => true,
         _ => false,
     }
+}
+
+// Whether a text has a colon, as a name with a prefix has.
+fn has_colon(text: &str) -> bool
+    ensures { result ≡ has_colon text.now }
+{
+    text.as_bytes().iter().any(|byte| *byte == b':')
 }

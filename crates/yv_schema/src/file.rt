@@ -1,21 +1,25 @@
 //! The nodes of a file.
-ghost use Rattle.std.specs.Prelude.{◌≡◌, ◌++◌, [], length, IfOk, IfErr, OnOk, slice_index_or, not};
-ghost use Rattle.std.specs.Str.{bytes_eq};
+ghost use Rattle.std.specs.Prelude.{◌≡◌, ◌++◌, [], ◌∷◌, ℕ, List, length, IfOk, IfErr, OnOk, slice_index_or};
 ghost use Rattle.std.specs.Rc.{rc_str_bytes};
 ghost use Rattle.yv_statement.specs.declared.refusal.Stop.TheVariants.{NoMemory};
 ghost use Rattle.yv_pruning.specs.Families.{lists_of};
-ghost use Rattle.yv_schema.specs.Module.{Basis, file_nodes};
+ghost use Rattle.yv_nodes.specs.Tree.{Label};
+ghost use Rattle.yv_labels.specs.Labels.{AreOf};
+ghost use Rattle.yv_labels.specs.Above.{seen_of};
+ghost use Rattle.yv_schema.specs.Module.{Basis, file_nodes, label_at};
 ghost use Rattle.yv_schema.specs.InnerContext.{Tells};
 ghost use Rattle.yv_schema.specs.InnerBuild.{Adds};
-ghost use Rattle.yv_schema.specs.InnerRowing.{above_of, number_behind, numbers_behind, parent_of, row_of, rows_for};
+ghost use Rattle.yv_schema.specs.InnerRowing.{AreSeen, line_at, number_behind, numbers_behind, parent_of, row_of, rows_for};
 
 use crate::context::Context;
 use std::alloc::{AllocError, Global};
 use std::rc::RcStr;
 use yv_expansion::Node as LeftNode;
-use yv_nodes::{Node, NodeId, Nodes, Schema};
+use yv_labels::Above;
+use yv_nodes::{Node, NodeId, Nodes};
 use yv_pruning::families_of;
 use yv_statement::Stop;
+use yv_tables::Schema;
 
 /// What the nodes of a file have in common.
 #[derive(Clone, Copy)]
@@ -53,41 +57,65 @@ impl Builder<'_, '_, '_> {
         nodes: &mut Nodes,
     ) -> Result<(), Stop>
         ensures rows { (b : Basis) → Tells b self.now.context.now → OnOk result (nodes.new.rows
-            ≡ nodes.old.rows ++ rows_for b (rc_str_bytes self.now.home.now) base (lists_of below.now) 0 items.now) }
+            ≡ nodes.old.rows ++ rows_for b (rc_str_bytes self.now.home.now) base (lists_of below.now) [] 0 items.now) }
         ensures limit { nodes.new.limit ≡ nodes.old.limit }
         ensures memory { IfErr result (λ stop. stop ≡ NoMemory) }
     {
+        let top = Above::top(self.alloc)?;
+        let mut aboves = Vec::new(self.alloc);
         for (place, item) in items.iter().enumerate() {
+            let above = above_at(&top, &aboves, item.parent);
             let parent = parent_of(base, item.parent)?;
             let children = numbered(self.alloc, base, places_at(below, place))?;
-            let node = self.node(item, parent, children)?;
-            nodes.push(node)?;
+            let made = self.node(item, above, parent, children)?;
+            aboves.push(made.above_others)?;
+            nodes.push(made.node)?;
         }
         Ok(())
     }
 
-    // The node of an item, with this parent and these children.
+    // The node of an item below these, with this parent and these children.
     fn node(
         &self,
         item: &LeftNode,
+        above: &Above,
         parent: NodeId,
         children: Vec<NodeId>,
-    ) -> Result<Node, AllocError>
-        ensures { (b : Basis) → Tells b self.now.context.now → IfOk result (λ node. node
-            ≡ row_of b (rc_str_bytes self.now.home.now) item.now parent children.items) }
+    ) -> Result<Made, AllocError>
+        ensures node { (b : Basis) (ls : List Label) → Tells b self.now.context.now → above.now ≡ seen_of ls
+            → AreOf (rc_str_bytes self.now.home.now) ls
+            → IfOk result (λ made. made.node ≡ row_of b (rc_str_bytes self.now.home.now) ls item.now parent children.items) }
+        ensures above { (b : Basis) (ls : List Label) → Tells b self.now.context.now → above.now ≡ seen_of ls
+            → AreOf (rc_str_bytes self.now.home.now) ls
+            → IfOk result (λ made. made.above_others ≡ seen_of (label_at b (rc_str_bytes self.now.home.now) ls item.now.origin ∷ ls)) }
     {
         let definition = self.context.definition(item.origin)?;
+        let standing = above.standing(&definition, self.home.as_str());
+        let above_others = above.below(&definition, standing)?;
         let home = shared(self.home)?;
-        let is_qualified = is_qualified(item, &home);
-        Ok(Node::new(definition, home, is_qualified, parent, children))
+        Ok(Made {
+            node: Node::new(definition, home, standing, parent, children),
+            above_others,
+        })
     }
 }
 
-// Whether a JSON member of an item's node has the name of the module in front: at the top, where no module is above.
-fn is_qualified(item: &LeftNode, home: &RcStr) -> bool
-    ensures { result ≡ not (bytes_eq (above_of item.now.parent (rc_str_bytes home.now)) (rc_str_bytes home.now)) }
+// What an item gives: its node, and what this and the nodes above it make of those below.
+#[derive(Drop)]
+struct Made {
+    node: Node,
+    above_others: Above,
+}
+
+// What the nodes above an item make of it, by the place of the item above it; none are above one at the top.
+fn above_at<'k>(top: &'k Above, aboves: &'k [Above], parent: Option<usize>) -> &'k Above
+    ensures { (home : List ℕ) (lines : List (List Label)) → top.now ≡ seen_of [] → AreSeen home lines aboves.now
+        → result.now ≡ seen_of (line_at lines parent) }
 {
-    item.parent.is_none() && !home.is_empty()
+    match parent {
+        Some(place) => aboves.get(place).unwrap_or(top),
+        None => top,
+    }
 }
 
 // The same text once more.

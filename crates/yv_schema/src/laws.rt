@@ -1,9 +1,11 @@
 //! Laws of the definitions alone. These functions do nothing: the contract of each is the law.
-ghost use Rattle.std.specs.Prelude.{◌≡◌, ◌≤◌, ℕ, None};
+ghost use Rattle.std.specs.Prelude.{◌≡◌, ◌≤◌, ◌⊎◌, ℕ, None};
+ghost use Rattle.yv_statement.specs.Codes.{phase_of};
 ghost use Rattle.yv_statement.specs.Order.{IsLeast};
+ghost use Rattle.yv_statement.specs.declared.refusal.Refusal.{Refusal};
 ghost use Rattle.yv_selection.specs.Choice.{Choice};
 ghost use Rattle.yv_rows.specs.Files.{Files};
-ghost use Rattle.yv_schema.specs.Refuses.{Refuses};
+ghost use Rattle.yv_schema.specs.Refuses.{Refuses, RefusesBeforeTypes};
 ghost use Rattle.yv_schema.specs.Schema.{IsSchema, TakeUnits};
 ghost use Rattle.yv_nodes.specs.Tree.{Forest, count};
 
@@ -25,3 +27,9 @@ pub fn nodes_are_within_units()
     yv_expand::laws::items_are_within_units();
     yv_pruning::laws::conditions_add_no_nodes();
 }
+
+/// What is refused only with types, or with the schema tree, comes in phase 9 or later.
+pub fn types_and_trees_come_late()
+    ensures { (choice : Choice) (files : Files) (limit : ℕ) (f : Refusal) → Refuses choice files limit f
+        → RefusesBeforeTypes choice files limit f ⊎ (9 ≤ phase_of f.code) }
+{}

@@ -13,4 +13,6 @@ mod modules;
 mod name;
 
 pub use compilation::compile;
-pub use yv_nodes::{Measures, Node, NodeId, NodeKind, NodeStatus, Schema};
+pub use yv_nodes::{Node, NodeId};
+pub use yv_properties::{NodeKind, NodeStatus};
+pub use yv_tables::{Measures, Schema};

@@ -22,9 +22,9 @@ use yv_features::laws::an_expression_has_one_truth;
 use yv_link::Linked;
 use yv_link::laws::{linked_files_tell_what_holds, links_have_phases};
 use yv_names::{Names, names};
-use yv_nodes::Schema;
 use yv_selection::Selection;
 use yv_statement::Stop;
+use yv_tables::Schema;
 use yv_types::types;
 
 /// The schema of linked files in which nothing is refused so far, or the least refusal of what comes behind.

@@ -8,19 +8,20 @@ ghost use Rattle.yv_rows.specs.Lent.{lent_in};
 ghost use Rattle.yv_schema.specs.Module.{Basis, is_given, is_part, module_nodes, parts_from};
 ghost use Rattle.yv_schema.specs.InnerContext.{Tells};
 ghost use Rattle.yv_nodes.specs.Numbers.{rows_from};
-ghost use Rattle.yv_nodes.specs.Groups.{all_nodes, tops_from};
+ghost use Rattle.yv_tables.specs.Groups.{all_nodes, tops_from};
 ghost use Rattle.yv_schema.specs.InnerBuild.{Adds, AreHomes, groups_from};
-ghost use Rattle.yv_nodes.specs.Tops.{top_of};
+ghost use Rattle.yv_tables.specs.Tops.{top_of};
 
 use crate::context::Context;
 use crate::file::Builder;
 use crate::name::name_of;
 use std::alloc::{AllocError, Global};
 use std::rc::RcStr;
-use yv_nodes::{ModuleTop, NodeId, Nodes};
+use yv_nodes::{NodeId, Nodes};
 use yv_rows::Rows;
 use yv_selection::Selection;
 use yv_statement::{Statement, Stop};
+use yv_tables::ModuleTop;
 
 /// The files, each with the number of the file of its module.
 #[derive(Drop)]

@@ -3,10 +3,10 @@ use crate::texts::{roots, sources};
 use serde_json::Value;
 use std::alloc::Global;
 use std::test::Fail;
-use yv_nodes::{Measures, Schema};
 use yv_schema::compile;
 use yv_selection::Selection;
 use yv_statement::Stop;
+use yv_tables::{Measures, Schema};
 use yv_validate::{size, validate};
 use yv_values::Meter;
 

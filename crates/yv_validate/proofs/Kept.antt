@@ -12,7 +12,8 @@ use Rattle.std.proofs.lemmas.Slice.Eq.{bytes_eq-Decides}
 use Rattle.serde_json.specs.Data.{Members, no_members, member}
 use Rattle.serde_json.specs.Find.{get_member}
 use Rattle.yv_nodes.specs.declared.node.NodeId.{NodeId}
-use Rattle.yv_nodes.specs.Rows.{Rows, row_at, named, children_of, IsFound}
+use Rattle.yv_nodes.specs.Rows.{Rows, row_at}
+use Rattle.yv_tables.specs.Sound.{named, inside, IsFound}
 use Rattle.std.specs.Bool.{one_answer}
 use Rattle.std.specs.Ordering.{nat_cmp, is_eq}
 use Rattle.std.specs.declared.cmp.Ordering.TheVariants.{Less, Equal, Greater}
@@ -102,25 +103,25 @@ step_found values d rest all false false f g h = ap (λ a. first_of a rest) (fir
 
 -- one more member, which names a child
 pub holds_found : (s : Rows) (p : NodeId) (old new : ℕ → Option Data) (key : List ℕ) (d : Data) (rest all : Members) (id : NodeId)
-    → named s (children_of s p) key ≡ Some id → ((n : ℕ) → new n ≡ kept old id.0 d n)
+    → named s (inside s p) key ≡ Some id → ((n : ℕ) → new n ≡ kept old id.0 d n)
     → AreHeld s p old (member key d rest) all → AreHeld s p new rest all
 holds_found s p old new key d rest all id is keeps held c found =
     let m = (row_at s c).label.member in
     ap (λ a. first_of a (get_member m rest)) (keeps c.0)
     ∙ step_found (old c.0) d (get_member m rest) (get_member m all) (bytes_eq m key) (id.0 == c.0)
-    (λ e. let one : Some id ≡ Some c = sym is ∙ ap (named s (children_of s p)) (sym ((bytes_eq-Decides m key).0 e)) ∙ found in
+    (λ e. let one : Some id ≡ Some c = sym is ∙ ap (named s (inside s p)) (sym ((bytes_eq-Decides m key).0 e)) ∙ found in
     eq-eqb id.0 c.0 (ap (λ (n : NodeId). n.0) (same_Some id c one)))
-    (λ e. (bytes_eq-Decides m key).1 (ap (λ (n : NodeId). (row_at s n).label.member) (sym (one_number id c (eqb-true id.0 c.0 e))) ∙ named_member s (children_of s p) key id is))
+    (λ e. (bytes_eq-Decides m key).1 (ap (λ (n : NodeId). (row_at s n).label.member) (sym (one_number id c (eqb-true id.0 c.0 e))) ∙ named_member s (inside s p) key id is))
     (ap (first_of (old c.0)) (sym (get_first m key d rest)) ∙ held c found)
 
 -- one more member, which names none
 pub holds_unknown : (s : Rows) (p : NodeId) (values : ℕ → Option Data) (key : List ℕ) (d : Data) (rest all : Members)
-    → named s (children_of s p) key ≡ None → AreHeld s p values (member key d rest) all → AreHeld s p values rest all
+    → named s (inside s p) key ≡ None → AreHeld s p values (member key d rest) all → AreHeld s p values rest all
 holds_unknown s p values key d rest all is held c found =
     let m = (row_at s c).label.member in
     let other : (b : Bool) → bytes_eq m key ≡ b → first_of (values c.0) (cond b (Some d) (get_member m rest)) ≡ get_member m all → first_of (values c.0) (get_member m rest) ≡ get_member m all
     = λ b. elim b as (λ b. bytes_eq m key ≡ b → first_of (values c.0) (cond b (Some d) (get_member m rest)) ≡ get_member m all → first_of (values c.0) (get_member m rest) ≡ get_member m all) [
-      | true ↦ λ e h. absurd (let one : None ≡ Some c = sym is ∙ ap (named s (children_of s p)) (sym ((bytes_eq-Decides m key).0 e)) ∙ found in cc)
+      | true ↦ λ e h. absurd (let one : None ≡ Some c = sym is ∙ ap (named s (inside s p)) (sym ((bytes_eq-Decides m key).0 e)) ∙ found in cc)
       | false ↦ λ e h. h
     ] in
     other (bytes_eq m key) refl (ap (first_of (values c.0)) (sym (get_first m key d rest)) ∙ held c found)

@@ -7,7 +7,8 @@ use Rattle.serde_json.specs.Data.{Data, Members}
 use Rattle.serde_json.specs.Find.{get_member}
 use Rattle.serde_json.specs.View.{view}
 use Rattle.yv_nodes.specs.declared.node.NodeId.{NodeId}
-use Rattle.yv_nodes.specs.Rows.{Rows, row_at, IsFound}
+use Rattle.yv_nodes.specs.Rows.{Rows, row_at}
+use Rattle.yv_tables.specs.Sound.{IsFound}
 use Rattle.yv_validate.specs.declared.written.Written.{Written}
 
 -- the value at a number
@@ -22,7 +23,7 @@ first_of (Some a) b = Some a
 abbrev pub kept : (ℕ → Option Data) → ℕ → Data → ℕ → Option Data
 kept values number d n = first_of (values n) (if number == n then Some d else None)
 
--- each child of a node has the value of its member here, or else among the members that are left
+-- each node that is found in the object of a node has the value of its member here, or else among the members that are left
 abbrev pub AreHeld : Rows → NodeId → (ℕ → Option Data) → Members → Members → Type 0
 AreHeld s p values left all =
     (c : NodeId) → IsFound s p c → first_of (values c.0) (get_member (row_at s c).label.member left) ≡ get_member (row_at s c).label.member all

@@ -4,7 +4,8 @@ ghost use Rattle.yv_validate.specs.InnerTrail.{places, IsWithin};
 
 use crate::fault::Step;
 use std::alloc::{AllocError, Global};
-use yv_nodes::{NodeId, Schema};
+use yv_nodes::NodeId;
+use yv_tables::Schema;
 
 /// The way from the top to a node: a chain on the stack, written out only where a fault is told.
 #[derive(Clone, Copy)]

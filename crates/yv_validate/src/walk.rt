@@ -1,8 +1,9 @@
 //! The walk over a document and its schema.
-ghost use Rattle.std.specs.Prelude.{◌≡◌, ◌∷◌, [], ◌++◌, ◌<◌, ◌≤◌, length, IfOk, OnOk};
+ghost use Rattle.std.specs.Prelude.{◌≡◌, ◌∷◌, [], ◌++◌, ◌<◌, ◌≤◌, length, true, IfOk, OnOk};
 ghost use Rattle.serde_json.specs.Data.{depth as nesting, no_members};
 ghost use Rattle.serde_json.specs.View.{view, members_view};
 ghost use Rattle.yv_nodes.specs.Rows.{row_at, rank, below, whole};
+ghost use Rattle.yv_tables.specs.Sound.{is_object};
 ghost use Rattle.yv_validate.specs.Size.{size};
 ghost use Rattle.yv_validate.specs.InnerTrail.{places, IsWithin, child_faults};
 ghost use Rattle.yv_validate.specs.InnerWritten.{value_at, AreWritten};
@@ -13,7 +14,9 @@ use crate::trail::{Trail, steps_of};
 use crate::written::Written;
 use serde_json::{Map, Value};
 use std::alloc::{AllocError, Global};
-use yv_nodes::{Node, NodeId, NodeKind, Schema};
+use yv_nodes::{Node, NodeId};
+use yv_properties::NodeKind;
+use yv_tables::Schema;
 use yv_values::{Meter, check};
 
 #[derive(Clone, Copy)]
@@ -98,6 +101,7 @@ impl Walk<'_> {
         faults: &mut Vec<Fault>,
     ) -> Result<Written<'v>, AllocError>
         requires node { rank parent ≤ length self.now.schema.now.nodes }
+        requires object { is_object self.now.schema.now parent ≡ true }
         requires way { IsWithin self.now.schema.now trail.now }
         ensures faults { OnOk result (faults.new.items ≡ faults.old.items
             ++ unknowns (places self.now.schema.now trail.now) (below self.now.schema.now parent)
@@ -124,6 +128,7 @@ impl Walk<'_> {
         faults: &mut Vec<Fault>,
     ) -> Result<(), AllocError>
         requires node { rank parent ≤ length self.now.schema.now.nodes }
+        requires object { is_object self.now.schema.now parent ≡ true }
         requires way { IsWithin self.now.schema.now trail.now }
         ensures { OnOk result (faults.new.items ≡ faults.old.items
             ++ object_faults (places self.now.schema.now trail.now) (below self.now.schema.now parent)
@@ -179,6 +184,7 @@ impl Walk<'_> {
                 _ => self.tell(FaultKind::Shape, trail, faults),
             },
             NodeKind::Leaf => self.leaf(node, value, trail, meter, faults),
+            _ => Ok(()),
         }
     }
 

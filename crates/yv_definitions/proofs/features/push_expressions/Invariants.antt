@@ -1,5 +1,5 @@
 use Rattle.std.proofs.Common.{◌≡◌, drop, string_bytes}
-use Rattle.yv_definitions.specs.Defined.{expressions, joined}
+use Rattle.yv_definitions.specs.Features.{expressions, joined}
 use Rattle.yv_definitions.proofs.features.push_expressions.Given as goal
 
 -- with the expressions of the statements behind, the text has all

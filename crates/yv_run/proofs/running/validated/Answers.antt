@@ -1,6 +1,6 @@
 use Rattle.yv_streams.proofs.StreamLemmas.{gave_up_to}
 use Rattle.yv_run.proofs.RunLemmas.{notes_given}
-use Rattle.std.proofs.Common.{string_bytes, subst}
+use Rattle.std.proofs.Common.{string_bytes}
 use Rattle.yv_run.proofs.running.validated.Goals as goal
 
 pub returns-in_ok-of_data-in-Ok-clause-printed : goal.returns-in_ok-of_data-in-Ok-clause-printed

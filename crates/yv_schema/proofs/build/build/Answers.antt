@@ -1,15 +1,23 @@
-use Rattle.std.proofs.Common.{◌≡◌, map, sym, ◌∙◌, IfOk, OnOk, Some, None, subst}
+use Rattle.std.proofs.Common.{◌≡◌, map, sym, ◌∙◌, List, IfOk, OnOk, Some, None, subst}
 use Rattle.yv_selection.specs.Choice.{choice_of}
 use Rattle.yv_statement.specs.Order.{IsLeast}
+use Rattle.yv_statement.specs.declared.refusal.Refusal.{Refusal}
 use Rattle.yv_rows.specs.Lent.{lent_in}
 use Rattle.yv_nodes.specs.Tree.{Forest}
-use Rattle.yv_nodes.specs.Doubled.{Doubled}
-use Rattle.yv_nodes.specs.Groups.{AreRowsOf}
-use Rattle.yv_nodes.specs.Rows.{whole}
-use Rattle.yv_nodes.specs.Tops.{top_of}
-use Rattle.yv_schema.specs.Module.{Basis}
+use Rattle.yv_nodes.specs.Rows.{Row, Rows, whole}
+use Rattle.yv_nodes.specs.Numbers.{rows_from}
+use Rattle.yv_tables.specs.Doubled.{Doubled}
+use Rattle.yv_tables.specs.Groups.{AreRowsOf, all_nodes}
+use Rattle.yv_tables.specs.Tops.{top_of}
+use Rattle.yv_tree_checks.specs.Bad.{BadTree}
+use Rattle.yv_schema.specs.Module.{Basis, schema_of}
+use Rattle.yv_schema.specs.Refuses.{BadNodes}
 use Rattle.yv_schema.specs.InnerBuild.{groups_from}
-use Rattle.yv_schema.proofs.Built.{are_rows, whole_tree}
+use Rattle.std.specs.declared.option.Option.{Option}
+use Rattle.std.specs.declared.result.Result.{Result}
+use Rattle.std.proofs.lemmas.Result.{IfOk-weaker}
+use Rattle.yv_statement.specs.declared.refusal.Stop.{Stop}
+use Rattle.yv_schema.proofs.Built.{are_rows, both_clear, first_stands, on_ok_from, whole_tree}
 use Rattle.yv_schema.proofs.build.build.Goals as goal
 
 pub numbered-requires : goal.numbered-requires
@@ -32,7 +40,9 @@ returns-clause-schema c = λ b tells files.
     let are = rw (c.in_ok-parts.ensures, c.new-nodes.ensures.rows) at (c.in_ok-tops.ensures.tops b tells of_files) in
     let gathered : AreRowsOf (groups_from b choice 0 (lent_in c.args.rows.now)) c.add_modules.new.nodes.rows (map top_of c.deref.result.now) =
     rw c.deref.ensures.value (are_rows b choice (lent_in c.args.rows.now) _ _ c.requires.names rows are) in
-    subst (λ (ts : Forest). IfOk c.numbered.result (λ s. whole s ≡ ts)) (whole_tree b choice (lent_in c.args.rows.now) files) (c.numbered.ensures.schema _ gathered)
+    let built : IfOk c.numbered.result (λ s. whole s ≡ schema_of choice b) =
+    subst (λ (ts : Forest). IfOk c.numbered.result (λ s. whole s ≡ ts)) (whole_tree b choice (lent_in c.args.rows.now) files) (c.numbered.ensures.schema _ gathered) in
+    IfOk-weaker c.with_refusal.result _ _ (λ s h. subst (λ (o : Result Rows Stop). IfOk o (λ s. whole s ≡ schema_of choice b)) h.0 built) c.with_refusal.ensures.clear
 
 pub returns-clause-clear : goal.returns-clause-clear
 returns-clause-clear c = λ b tells files.
@@ -42,7 +52,14 @@ returns-clause-clear c = λ b tells files.
     let are = rw (c.in_ok-parts.ensures, c.new-nodes.ensures.rows) at (c.in_ok-tops.ensures.tops b tells of_files) in
     let gathered : AreRowsOf (groups_from b choice 0 (lent_in c.args.rows.now)) c.add_modules.new.nodes.rows (map top_of c.deref.result.now) =
     rw c.deref.ensures.value (are_rows b choice (lent_in c.args.rows.now) _ _ c.requires.names rows are) in
-    subst (λ (ts : Forest). OnOk c.numbered.result (IsLeast (Doubled ts) None)) (whole_tree b choice (lent_in c.args.rows.now) files) (c.numbered.ensures.clear _ gathered)
+    let tree = whole_tree b choice (lent_in c.args.rows.now) files in
+    let doubled : OnOk c.numbered.result (IsLeast (Doubled (schema_of choice b)) None) =
+    subst (λ (ts : Forest). OnOk c.numbered.result (IsLeast (Doubled ts) None)) tree (c.numbered.ensures.clear _ gathered) in
+    let wrong : IsLeast (BadTree (schema_of choice b)) c.in_ok-wrong.wrong =
+    subst (λ (ts : Forest). IsLeast (BadTree ts) c.in_ok-wrong.wrong) tree (c.in_ok-wrong.ensures (all_nodes (groups_from b choice 0 (lent_in c.args.rows.now))) rows) in
+    on_ok_from c.with_refusal.result
+    (λ s h. both_clear (schema_of choice b) (subst (λ (o : Result Rows Stop). OnOk o (IsLeast (Doubled (schema_of choice b)) None)) h.0 doubled) (subst (λ (o : Option Refusal). IsLeast (BadTree (schema_of choice b)) o) h.1 wrong))
+    c.with_refusal.ensures.clear
 
 pub returns-clause-refusal : goal.returns-clause-refusal
 returns-clause-refusal c = λ b tells files.
@@ -52,4 +69,10 @@ returns-clause-refusal c = λ b tells files.
     let are = rw (c.in_ok-parts.ensures, c.new-nodes.ensures.rows) at (c.in_ok-tops.ensures.tops b tells of_files) in
     let gathered : AreRowsOf (groups_from b choice 0 (lent_in c.args.rows.now)) c.add_modules.new.nodes.rows (map top_of c.deref.result.now) =
     rw c.deref.ensures.value (are_rows b choice (lent_in c.args.rows.now) _ _ c.requires.names rows are) in
-    λ r e. subst (λ (ts : Forest). IsLeast (Doubled ts) (Some r)) (whole_tree b choice (lent_in c.args.rows.now) files) (c.numbered.ensures.refusal _ gathered r e)
+    let tree = whole_tree b choice (lent_in c.args.rows.now) files in
+    let doubled : OnOk c.numbered.result (IsLeast (Doubled (schema_of choice b)) None) =
+    subst (λ (ts : Forest). OnOk c.numbered.result (IsLeast (Doubled ts) None)) tree (c.numbered.ensures.clear _ gathered) in
+    let wrong : IsLeast (BadTree (schema_of choice b)) c.in_ok-wrong.wrong =
+    subst (λ (ts : Forest). IsLeast (BadTree ts) c.in_ok-wrong.wrong) tree (c.in_ok-wrong.ensures (all_nodes (groups_from b choice 0 (lent_in c.args.rows.now))) rows) in
+    λ r e. first_stands (schema_of choice b) c.numbered.result c.in_ok-wrong.wrong r doubled
+    (λ r e. subst (λ (ts : Forest). IsLeast (Doubled ts) (Some r)) tree (c.numbered.ensures.refusal _ gathered r e)) wrong (c.with_refusal.ensures.refusal r e)

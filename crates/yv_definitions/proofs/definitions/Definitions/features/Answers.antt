@@ -2,7 +2,8 @@ use Rattle.std.proofs.Common.{◌+◌, List, ℕ, drop, get_or, string_bytes, sy
 use Rattle.std.proofs.lemmas.List.{at_drop_more}
 use Rattle.std.proofs.lemmas.Result.{IfOk-weaker}
 use Rattle.yv_statement.specs.Tree.{trees}
-use Rattle.yv_definitions.specs.Defined.{all_expressions, expressions, joined, statement_at}
+use Rattle.yv_definitions.specs.Features.{all_expressions, expressions, joined}
+use Rattle.yv_definitions.specs.Statements.{statement_at}
 use Rattle.yv_definitions.specs.Known.{files_in}
 use Rattle.yv_definitions.proofs.Expressions.{joined-append, no_expressions_at_all}
 use Rattle.yv_definitions.proofs.definitions.Definitions.features.Goals as goal

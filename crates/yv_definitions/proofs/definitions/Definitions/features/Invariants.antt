@@ -1,5 +1,5 @@
 use Rattle.std.proofs.Common.{◌≡◌, drop, string_bytes}
-use Rattle.yv_definitions.specs.Defined.{all_expressions, joined}
+use Rattle.yv_definitions.specs.Features.{all_expressions, joined}
 use Rattle.yv_definitions.specs.Known.{files_in}
 use Rattle.yv_definitions.proofs.definitions.Definitions.features.Given as goal
 

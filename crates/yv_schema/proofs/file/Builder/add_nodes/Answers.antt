@@ -1,30 +1,48 @@
-use Rattle.std.proofs.Common.{◌≡◌, ◌+◌, ◌++◌, ◌∷◌, [], List, drop, get_or, ap, sym, ◌∙◌, append_assoc, None}
+use Rattle.std.proofs.Common.{◌≡◌, List, [], refl, sym, ap, ◌∙◌, ◌++◌, subst, append-nil, None, get_or}
 use Rattle.std.specs.Rc.{rc_str_bytes}
 use Rattle.yv_pruning.specs.Families.{lists_of}
 use Rattle.yv_expansion.specs.Tree.{Node}
+use Rattle.std.proofs.lemmas.List.{at_drop_all}
 use Rattle.yv_nodes.specs.declared.node.NodeId.{NodeId}
-use Rattle.yv_schema.specs.InnerRowing.{numbers_behind, parent_of, row_of, rows_for}
 use Rattle.yv_nodes.specs.Rows.{Row}
-use Rattle.yv_schema.proofs.Rowing.{row_next}
+use Rattle.yv_labels.specs.Above.{Seen, seen_of}
+use Rattle.yv_schema.specs.InnerRowing.{AreSeen, line_at, line_of, numbers_behind, parent_of, row_of, rows_for}
+use Rattle.yv_schema.proofs.Rowing.{all_of_home, kept_more}
 use Rattle.yv_schema.proofs.file.Builder.add_nodes.Goals as goal
+
+pub loop-place-init : goal.loop-place-init
+loop-place-init c = record {
+  kept = λ b tells. record { lines = []; are = record { are = c.new-aboves.ensures.items; of_home = tt }; rows = refl };
+  limit = refl;
+}
 
 pub loop-place-preserved : goal.loop-place-preserved
 loop-place-preserved c = record {
-  rows = λ b tells.
+  kept = λ b tells.
       let home = rc_str_bytes c.args.self.now.home.now in
       let base = c.args.base in
       let below = lists_of c.args.below.now in
       let i = c.loop-place.place in
-      let old = c.loop-place.nodes.rows in
       let blank : Node = record { origin = 0; parent = None } in
       let x : Node = get_or c.args.items.now i blank in
-      let parent : NodeId = parent_of base x.parent in
-      let children : List NodeId = numbers_behind base (get_or below i []) in
-      let rest : List Row = rows_for b home base below (i + 1) (drop (i + 1) c.args.items.now) in
-      let are : c.in_ok-children.children.items ≡ children = c.in_ok-children.ensures.numbers ∙ ap (numbers_behind base) c.places_at.ensures in
-      let made : c.in_ok-node.node ≡ row_of b home x parent children =
-      c.in_ok-node.ensures b tells ∙ ap (λ (p : NodeId). row_of b home x p c.in_ok-children.children.items) c.in_ok-parent.ensures.number ∙ ap (row_of b home x parent) are in
-      ap (λ (rs : List Row). rs ++ rest) (c.in_ok-push.ensures.rows ∙ ap (λ (r : Row). old ++ r ∷ []) made) ∙ append_assoc old (row_of b home x parent children ∷ []) rest
-      ∙ ap (λ (rs : List Row). old ++ rs) (sym (row_next b home base below c.args.items.now i blank c.loop-place-test.true)) ∙ c.loop-place.invariant.rows b tells;
-  limit = c.in_ok-push.ensures.limit ∙ c.loop-place.invariant.limit;
+      let k = c.loop-place.invariant.kept b tells in
+      let above = line_at k.lines x.parent in
+      let are : c.in_ok-children.children.items ≡ numbers_behind base (get_or below i []) = c.in_ok-children.ensures.numbers ∙ ap (numbers_behind base) c.places_at.ensures in
+      let seen : c.above_at-above.result.now ≡ seen_of above = c.above_at-above.ensures home k.lines c.in_ok-top.ensures (subst (λ (seen : List Seen). AreSeen home k.lines seen) (sym c.deref.ensures.value) k.are) in
+      let homes = all_of_home home k.lines x.parent k.are.of_home in
+      let made : c.in_ok-made.made.node ≡ row_of b home above x (parent_of base x.parent) (numbers_behind base (get_or below i [])) =
+      c.in_ok-made.ensures.node b above tells seen homes ∙ ap (λ (p : NodeId). row_of b home above x p c.in_ok-children.children.items) c.in_ok-parent.ensures.number
+      ∙ ap (row_of b home above x (parent_of base x.parent)) are in
+      let told : c.in_ok-made.made.above_others ≡ seen_of (line_of b home k.lines x) = c.in_ok-made.ensures.above b above tells seen homes in
+      kept_more b home base below c.loop-place.aboves.items c.push.new.self.items c.in_ok-made.made.above_others i c.args.items.now blank c.loop-place.nodes.rows c.push-in-loop-place.new.self.rows c.args.nodes.now.rows
+      c.in_ok-made.made.node k c.loop-place-test.true c.in_ok-push.ensures.items c.in_ok-push-2.ensures.rows made told;
+  limit = c.in_ok-push-2.ensures.limit ∙ c.loop-place.invariant.limit;
 }
+
+pub returns-clause-rows : goal.returns-clause-rows
+returns-clause-rows c = λ b tells.
+    let home = rc_str_bytes c.args.self.now.home.now in
+    let k = c.loop-place.invariant.kept b tells in
+    let now = c.loop-place.nodes.rows in
+    let none = at_drop_all (rows_for b home c.args.base (lists_of c.args.below.now) k.lines c.loop-place.place) c.args.items.now c.loop-place.place c.loop-place-test.false in
+    sym (append-nil now) ∙ ap (λ (rs : List Row). now ++ rs) (sym none) ∙ k.rows

@@ -1,10 +1,30 @@
-use Rattle.std.proofs.Common.{◌≡◌, ◌∙◌}
+use Rattle.std.proofs.Common.{◌≡◌, ◌∙◌, List, ℕ, refl, sym, ap, subst}
 use Rattle.std.specs.Rc.{rc_str_bytes}
-use Rattle.yv_schema.proofs.Rowing.{row_is}
+use Rattle.yv_nodes.specs.Tree.{Label}
+use Rattle.yv_nodes.specs.Rows.{Row}
+use Rattle.yv_nodes.specs.Member.{row_with}
+use Rattle.yv_labels.specs.Above.{Seen, seen_of}
+use Rattle.yv_labels.specs.Labels.{AreOf, label_of}
+use Rattle.yv_schema.proofs.Rowing.{row_is, seen_below}
 use Rattle.yv_schema.proofs.file.Builder.node.Goals as goal
 
-pub returns : goal.returns
-returns c = λ b tells.
-    let home : rc_str_bytes c.in_ok-home.home ≡ rc_str_bytes c.args.self.now.home.now = c.in_ok-home.ensures in
-    let qualified = rw home at c.is_qualified-is_qualified.ensures in
-    c.new.ensures ∙ rw home (row_is b (rc_str_bytes c.args.self.now.home.now) c.args.item.now c.args.parent c.args.children.items c.in_ok-definition.definition c.is_qualified-is_qualified.result (c.in_ok-definition.ensures b tells) qualified)
+pub returns-clause-node : goal.returns-clause-node
+returns-clause-node c = λ b ls tells seen homes.
+    let home = rc_str_bytes c.args.self.now.home.now in
+    let d = c.in_ok-definition.definition in
+    let same : rc_str_bytes c.in_ok-home.home ≡ home = c.in_ok-home.ensures in
+    let text : c.as_str.result.now ≡ home = c.as_str.ensures.value in
+    let label = subst (λ (h : List ℕ). (row_with d h c.standing-standing.result c.args.parent c.args.children.items).label ≡ label_of d h ls) text
+    (c.standing-standing.ensures ls seen (subst (λ (h : List ℕ). AreOf h ls) (sym text) homes) c.args.parent c.args.children.items) in
+    c.new.ensures ∙ ap (λ (h : List ℕ). row_with d h c.standing-standing.result c.args.parent c.args.children.items) same
+    ∙ row_is b home ls c.args.item.now c.args.parent c.args.children.items d c.standing-standing.result (c.in_ok-definition.ensures b tells) label
+
+pub returns-clause-above : goal.returns-clause-above
+returns-clause-above c = λ b ls tells seen homes.
+    let home = rc_str_bytes c.args.self.now.home.now in
+    let d = c.in_ok-definition.definition in
+    let text : c.as_str.result.now ≡ home = c.as_str.ensures.value in
+    let label = subst (λ (h : List ℕ). (row_with d h c.standing-standing.result c.args.parent c.args.children.items).label ≡ label_of d h ls) text
+    (c.standing-standing.ensures ls seen (subst (λ (h : List ℕ). AreOf h ls) (sym text) homes) c.args.parent c.args.children.items) in
+    seen_below b home ls c.args.above.now c.args.item.now d c.standing-standing.result c.in_ok-above_others.above_others c.args.parent c.args.children.items (c.in_ok-definition.ensures b tells) label (c.in_ok-above_others.ensures ls)
+    seen

@@ -2,7 +2,7 @@ use Rattle.std.proofs.Common.{◌∷◌, [], map, sym, ap, ◌∙◌}
 use Rattle.std.proofs.lemmas.List.{map-append}
 use Rattle.yv_selection.specs.Choice.{choice_of}
 use Rattle.yv_schema.specs.InnerBuild.{groups_from}
-use Rattle.yv_nodes.specs.Tops.{top_of}
+use Rattle.yv_tables.specs.Tops.{top_of}
 use Rattle.yv_schema.proofs.Gathering.{module_more, module_other}
 use Rattle.yv_schema.proofs.modules.Parts.add_modules.Goals as goal
 use Rattle.yv_schema.proofs.modules.Parts.add_modules.Goals.{then-is_given+in_ok-top+in_ok-push, else-is_given}

@@ -3,7 +3,7 @@ use Rattle.yv_selection.specs.Choice.{choice_of}
 use Rattle.yv_schema.specs.InnerContext.{Tells}
 use Rattle.yv_schema.specs.Module.{Basis}
 use Rattle.yv_schema.specs.InnerBuild.{groups_from}
-use Rattle.yv_nodes.specs.Tops.{top_of}
+use Rattle.yv_tables.specs.Tops.{top_of}
 use Rattle.yv_schema.proofs.Gathering.{Gathers}
 use Rattle.yv_schema.proofs.modules.Parts.add_modules.Given as goal
 

@@ -1,8 +1,9 @@
 use Rattle.std.proofs.Common.{◌≡◌, [], ◌∷◌, ◌++◌, string_bytes, ap, sym, ◌∙◌, subst}
 use Rattle.serde_json.specs.Data.{member}
 use Rattle.serde_json.specs.View.{view, members_view}
-use Rattle.yv_nodes.specs.Rows.{named, children_of, below}
-use Rattle.yv_nodes.specs.Tree.{is_known}
+use Rattle.yv_nodes.specs.Rows.{below}
+use Rattle.yv_tables.specs.Opened.{opened_trees}
+use Rattle.yv_tables.specs.Sound.{named, inside, is_known}
 use Rattle.yv_validate.specs.declared.fault.FaultKind.TheVariants.{Unknown}
 use Rattle.yv_validate.specs.Faults.{under, flaw, unknowns}
 use Rattle.yv_validate.specs.InnerTrail.{places}
@@ -28,8 +29,8 @@ loop-key-preserved-in-Continue-1 c =
     let before : told ++ unknowns path ts (member key d rest) ≡ every = subst (λ e. told ++ unknowns path ts (members_view e) ≡ every) c.in-Some.ensures.steps c.loop-key.invariant.told in
     let held : AreHeld s p old (member key d rest) all = subst (λ e. AreHeld s p old (members_view e) all) c.in-Some.ensures.steps c.loop-key.invariant.held in
     record {
-      told = told_known told every path ts key d rest (c.in-Some-find.ensures.known ∙ ap (is_known ts) text) before;
-      held = holds_found s p old (value_at c.keep.new.self) key d rest all c.in-Some-find.id (ap (named s (children_of s p)) (sym text) ∙ sym c.in-Some-find.ensures.value) (λ n. c.in_ok-keep-in-Some-find.ensures n ∙ ap (λ i. kept old i d n) c.number.ensures) held;
+      told = told_known told every path ts key d rest (c.in-Some-find.ensures.known ∙ ap (is_known (opened_trees ts)) text) before;
+      held = holds_found s p old (value_at c.keep.new.self) key d rest all c.in-Some-find.id (ap (named s (inside s p)) (sym text) ∙ sym c.in-Some-find.ensures.value) (λ n. c.in_ok-keep-in-Some-find.ensures n ∙ ap (λ i. kept old i d n) c.number.ensures) held;
     }
 
 pub loop-key-preserved : goal.loop-key-preserved
@@ -49,7 +50,7 @@ loop-key-preserved c =
     let before : told ++ unknowns path ts (member key d rest) ≡ every = subst (λ e. told ++ unknowns path ts (members_view e) ≡ every) c.in-Some.ensures.steps c.loop-key.invariant.told in
     let held : AreHeld s p old (member key d rest) all = subst (λ e. AreHeld s p old (members_view e) all) c.in-Some.ensures.steps c.loop-key.invariant.held in
     record {
-      told = told_unknown told c.tell_unknown.new.faults.items every path ts key d rest (c.in-None-find.ensures.known ∙ ap (is_known ts) text)
+      told = told_unknown told c.tell_unknown.new.faults.items every path ts key d rest (c.in-None-find.ensures.known ∙ ap (is_known (opened_trees ts)) text)
           (c.in_ok-tell_unknown-in-None-find.ensures ∙ ap (λ k. told ++ flaw Unknown (under path k) ∷ []) c.as_str-in-None-find.ensures.value) before;
-      held = holds_unknown s p old key d rest all (ap (named s (children_of s p)) (sym text) ∙ sym c.in-None-find.ensures.value) held;
+      held = holds_unknown s p old key d rest all (ap (named s (inside s p)) (sym text) ∙ sym c.in-None-find.ensures.value) held;
     }

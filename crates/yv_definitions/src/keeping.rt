@@ -1,0 +1,109 @@
+//! What is kept of the numbered statements.
+ghost use Rattle.std.specs.Prelude.{◌≡◌, IfOk};
+ghost use Rattle.yv_rows.specs.Lent.{lent_in};
+ghost use Rattle.yv_properties.specs.declared.kind.NodeKind.{NodeKind};
+ghost use Rattle.yv_definitions.specs.Kinds.{kinds_of};
+ghost use Rattle.yv_definitions.specs.Statements.{file_at, statement_at};
+ghost use Rattle.yv_definitions.specs.Properties.{properties_of, said_at};
+ghost use Rattle.yv_definitions.specs.Defined.{defined_at, unwritten};
+ghost use Rattle.yv_definitions.specs.InnerKept.{IsKept};
+
+use crate::changes::Changes;
+use crate::numbered::{file_at, statement_at};
+use crate::reading::{blank, define, node_kind, node_name};
+use std::alloc::{AllocError, Global};
+use std::rc::RcStr;
+use yv_conform::Keyword;
+use yv_properties::{Definition, NodeKind};
+use yv_rows::Rows;
+use yv_statement::Statement;
+use yv_types::Types;
+
+/// What is kept of a statement.
+#[derive(Drop)]
+pub(crate) enum Kept {
+    /// What it says of the node that it defines.
+    Node(Definition),
+    /// What it changes of the node that it refines.
+    Refine(Changes),
+    /// It is neither.
+    Nothing,
+}
+
+/// What the numbered statement says of the node that it defines.
+pub(crate) fn define_at(
+    alloc: Global,
+    rows: &Rows<'_, '_>,
+    types: &Types,
+    number: usize,
+) -> Result<Definition, AllocError>
+    ensures { IfOk result (λ d. d ≡ defined_at (kinds_of types.now) (lent_in rows.now) number) }
+{
+    let file = file_at(rows, number);
+    match statement_at(rows, number) {
+        Some(statement) => define(alloc, types, file, statement),
+        None => define(alloc, types, file, &Statement::new(alloc, "", 0, 0)),
+    }
+}
+
+/// What the numbered statement says of the properties that a refine may change.
+pub(crate) fn changes_at(
+    alloc: Global,
+    rows: &Rows<'_, '_>,
+    number: usize,
+) -> Result<Changes, AllocError>
+    ensures { IfOk result (λ changes. changes ≡ properties_of (said_at (lent_in rows.now) number)) }
+{
+    let file = file_at(rows, number);
+    match statement_at(rows, number) {
+        Some(statement) => Changes::read(alloc, file, statement),
+        None => Changes::read(alloc, file, &Statement::new(alloc, "", 0, 0)),
+    }
+}
+
+/// An input or output that the operation of this number doesn't write.
+pub(crate) fn unwritten_at(
+    alloc: Global,
+    rows: &Rows<'_, '_>,
+    kind: NodeKind,
+    number: usize,
+) -> Result<Definition, AllocError>
+    ensures { IfOk result (λ d. d ≡ unwritten kind (lent_in rows.now) number) }
+{
+    let mut definition = blank(alloc)?;
+    definition.file = file_at(rows, number);
+    if let Some(statement) = statement_at(rows, number) {
+        definition.offset = statement.offset();
+        definition.line = statement.line();
+    }
+    definition.kind = kind;
+    definition.name = RcStr::from_str(alloc, node_name(kind, ""))?;
+    Ok(definition)
+}
+
+// The keyword of the numbered statement.
+fn keyword_at(rows: &Rows<'_, '_>, number: usize) -> Keyword {
+    match statement_at(rows, number) {
+        Some(statement) => Keyword::read(statement.keyword()),
+        None => Keyword::Unknown,
+    }
+}
+
+/// What is kept of the numbered statement.
+pub(crate) fn kept_at(
+    alloc: Global,
+    rows: &Rows<'_, '_>,
+    types: &Types,
+    number: usize,
+) -> Result<Kept, AllocError>
+    ensures { IfOk result (λ kept. IsKept (kinds_of types.now) (lent_in rows.now) number kept) }
+{
+    let keyword = keyword_at(rows, number);
+    if node_kind(keyword).is_some() {
+        Ok(Kept::Node(define_at(alloc, rows, types, number)?))
+    } else if keyword == Keyword::Refine {
+        Ok(Kept::Refine(changes_at(alloc, rows, number)?))
+    } else {
+        Ok(Kept::Nothing)
+    }
+}

@@ -1,0 +1,25 @@
+//! The statements of files by their numbers.
+ghost use Rattle.std.specs.Prelude.{◌≡◌};
+ghost use Rattle.std.specs.Option.{option_map, unwrap_or};
+ghost use Rattle.yv_rows.specs.Lent.{lent_in};
+ghost use Rattle.yv_definitions.specs.Statements.{file_at, no_statement, statement_at};
+
+use yv_rows::Rows;
+use yv_statement::Statement;
+
+/// The numbered statement.
+pub(crate) fn statement_at<'a, 'b>(rows: &Rows<'a, 'b>, number: usize) -> Option<&'a Statement<'b>>
+    ensures { unwrap_or (option_map (λ found. found.now) result) no_statement ≡ statement_at (lent_in rows.now) number }
+{
+    rows.statement(number)
+}
+
+/// The file of the numbered statement.
+pub(crate) fn file_at(rows: &Rows<'_, '_>, number: usize) -> u32
+    ensures { result ≡ file_at (lent_in rows.now) number }
+{
+    match rows.entries().get(number) {
+        Some(entry) => entry.file,
+        None => 0,
+    }
+}

@@ -1,0 +1,62 @@
+-- What the nodes above a schema node make of it.
+use Rattle.std.specs.Prelude.{◌≡◌, ℕ, Bool, true, false, not, ◌&&◌, ◌||◌, List, [], ◌∷◌, ◌++◌, Option, Some, None, if◌then◌else◌}
+use Rattle.std.specs.List.{AllByRecursion, list_any}
+use Rattle.std.specs.Str.{bytes_eq}
+use Rattle.yv_properties.specs.Kinds.{is_input, is_leaf, is_operation, is_passed}
+use Rattle.yv_properties.specs.Defined.{Defined}
+use Rattle.yv_nodes.specs.Tree.{Label}
+
+-- In what follows `above` are the nodes above one, the nearest first.
+
+-- the module of the nearest data node; none where there is no data node (RFC 7951, section 4)
+abbrev pub data_home : (above : List Label) → List ℕ
+data_home [] = []
+data_home (l ∷ ls) = if is_passed l.defined.kind then data_home ls else l.module_name
+
+-- what a JSON member of a node of the module `home` is called where its data node above is of the module `above_home`: its name, with its
+-- module where the two differ
+abbrev pub member_name : (above_home home name : List ℕ) → List ℕ
+member_name above_home home name = if bytes_eq above_home home then name else home ++ 58 ∷ name
+
+-- one of the nodes is an rpc, an action or a notification
+abbrev pub in_operation : (above : List Label) → Bool
+in_operation [] = false
+in_operation (l ∷ ls) = is_operation l.defined.kind || in_operation ls
+
+-- whether a node without a `config` statement is configuration: as the one just above, and at the top it is (RFC 7950, section 7.21.1)
+abbrev pub inherited_config : (above : List Label) → Bool
+inherited_config [] = true
+inherited_config (l ∷ ls) = l.is_config
+
+abbrev pub stated_or : Option Bool → Bool → Bool
+stated_or None inherited = inherited
+stated_or (Some stated) inherited = stated
+
+-- a node is configuration: by its `config` statement, or as the one just above; nothing is in an operation or a notification
+abbrev pub is_configuration : Defined → (above : List Label) → Bool
+is_configuration d above = not (is_operation d.kind || in_operation above) && stated_or d.stated_config (inherited_config above)
+
+-- the node just above is of the module `home` and has a key of this name (RFC 7950, section 7.8.2)
+abbrev pub has_key_called : (above : List Label) → (home name : List ℕ) → Bool
+has_key_called [] home name = false
+has_key_called (l ∷ ls) home name = bytes_eq l.module_name home && list_any (λ key. bytes_eq key name) l.defined.key_names
+
+-- the node just above is an operation's input, or stands in it
+abbrev pub in_input : (above : List Label) → Bool
+in_input [] = false
+in_input (l ∷ ls) = l.is_input
+
+-- what a schema node of the module `home` is, by what its statement and refines say, and by the nodes above it
+abbrev pub label_of : Defined → (home : List ℕ) → (above : List Label) → Label
+label_of d home above = record {
+  defined = d;
+  module_name = home;
+  member = member_name (data_home above) home d.name;
+  is_config = is_configuration d above;
+  is_key = is_leaf d.kind && has_key_called above home d.name;
+  is_input = is_input d.kind || in_input above;
+}
+
+-- these nodes are all of the module `home`
+abbrev pub AreOf : (home : List ℕ) → List Label → Type 0
+AreOf home ls = AllByRecursion (λ (l : Label). l.module_name ≡ home) ls

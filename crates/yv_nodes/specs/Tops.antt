@@ -1,7 +1,0 @@
--- The modules with their nodes at the top.
-use Rattle.std.specs.Rc.{rc_str_bytes}
-use Rattle.yv_nodes.specs.declared.tops.ModuleTop.{ModuleTop}
-use Rattle.yv_nodes.specs.Groups.{Top}
-
-abbrev pub top_of : ModuleTop → Top
-top_of t = record { name = rc_str_bytes t.name; numbers = t.numbers.items }

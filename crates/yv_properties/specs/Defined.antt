@@ -1,0 +1,63 @@
+-- What a statement says of the schema node that it defines (RFC 7950, section 7).
+use Rattle.std.specs.Prelude.{ℕ, Bool, List, [], Option, None, true, false, ◌∷◌}
+use Rattle.std.specs.Rc.{rc_str_bytes}
+use Rattle.yv_values.specs.Types.{Plain}
+use Rattle.yv_properties.specs.declared.kind.NodeKind.{NodeKind}
+use Rattle.yv_properties.specs.declared.kind.NodeKind.TheVariants.{Leaf}
+use Rattle.yv_properties.specs.declared.kind.NodeStatus.{NodeStatus}
+use Rattle.yv_properties.specs.declared.kind.NodeStatus.TheVariants.{Current}
+use Rattle.yv_properties.specs.declared.definition.WrittenText.{WrittenText}
+
+-- a text, and the number of the file in which it is written: prefixes in it are those of this file
+pub record Written : Type 0 where
+  pub text : List ℕ
+  pub file : ℕ
+
+abbrev pub written_of : WrittenText → Written
+written_of w = record { text = rc_str_bytes w.text; file = w.file }
+
+-- what a statement says of the schema node that it defines: `file`, `offset` and `line` say where its keyword stands
+pub record Defined : Type 0 where
+  pub file : ℕ
+  pub offset : ℕ
+  pub line : ℕ
+  pub kind : NodeKind
+  pub name : List ℕ
+  pub types : List Plain
+  pub has_presence : Bool
+  pub status : NodeStatus
+  pub features : List ℕ
+  pub type_text : List ℕ
+  pub stated_config : Option Bool
+  pub is_mandatory : Bool
+  pub min : ℕ
+  pub max : Option ℕ
+  pub key_names : List (List ℕ)
+  pub uniques : List (List ℕ)
+  pub own_default : Option Written
+
+abbrev pub is_empty : List (List ℕ) → Bool
+is_empty [] = true
+is_empty (text ∷ texts) = false
+
+-- what stands where no statement says anything
+abbrev pub blank : Defined
+blank = record {
+  file = 0;
+  offset = 0;
+  line = 0;
+  kind = Leaf;
+  name = [];
+  types = [];
+  has_presence = false;
+  status = Current;
+  features = [];
+  type_text = [];
+  stated_config = None;
+  is_mandatory = false;
+  min = 0;
+  max = None;
+  key_names = [];
+  uniques = [];
+  own_default = None;
+}

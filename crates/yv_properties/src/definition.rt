@@ -1,0 +1,283 @@
+//! What a statement says of the schema node that it defines.
+ghost use Rattle.std.specs.Prelude.{◌≡◌, not, map, IfOk};
+ghost use Rattle.std.specs.List.{list_any};
+ghost use Rattle.std.specs.Option.{option_map};
+ghost use Rattle.std.specs.Rc.{rc_str_bytes};
+ghost use Rattle.std.specs.Str.{bytes_eq};
+ghost use Rattle.yv_values.specs.Types.{plain_of};
+ghost use Rattle.yv_properties.specs.Defined.{is_empty, written_of};
+
+use crate::key_names::KeyNames;
+use crate::kind::{NodeKind, NodeStatus};
+use std::alloc::AllocError;
+use std::marker::Model;
+use std::rc::{Rc, RcSlice, RcStr};
+use yv_values::PlainType;
+
+/// A text, and the file in which it is written, whose prefixes it uses.
+#[derive(Drop)]
+pub struct WrittenText {
+    /// The text.
+    pub text: RcStr,
+    /// The number of the file.
+    pub file: u32,
+}
+
+/// What a statement says of the schema node that it defines, whatever the place of the node in the schema tree.
+/// Contracts see it as a `Defined`.
+#[derive(Drop)]
+pub struct Definition {
+    /// The number of the file in which the statement stands.
+    pub file: u32,
+    /// The offset in bytes of the statement's keyword.
+    pub offset: u64,
+    /// The line of that keyword, from 1.
+    pub line: u64,
+    /// What the node is.
+    pub kind: NodeKind,
+    /// The node's name, without its module.
+    pub name: RcStr,
+    /// The types that its value may have, in order: none at a container.
+    pub types: RcSlice<PlainType>,
+    /// Whether the node being there says something by itself.
+    pub has_presence: bool,
+    /// Whether the node is still to be used.
+    pub status: NodeStatus,
+    /// The expressions of its `if-feature` statements, separated by commas.
+    pub features: RcStr,
+    /// The name of its type as it is written.
+    pub type_text: RcStr,
+    /// What its `config` statement says.
+    pub stated_config: Option<bool>,
+    /// Whether its `mandatory` statement says true.
+    pub is_mandatory: bool,
+    /// The fewest entries that a list or leaf-list has to have: 0 where nothing is said.
+    pub min: u32,
+    /// The most entries that a list or leaf-list may have, where that is bounded.
+    pub max: Option<u32>,
+    /// The names that its `key` statement names, in order: none without one.
+    pub key_names: Rc<KeyNames>,
+    /// The arguments of its `unique` statements, in order.
+    pub uniques: RcSlice<RcStr>,
+    /// The argument of its `default` statement.
+    pub own_default: Option<WrittenText>,
+}
+
+impl Model for Definition {
+    ghost use Rattle.std.specs.Prelude.{map};
+    ghost use Rattle.std.specs.Option.{option_map};
+    ghost use Rattle.std.specs.Rc.{rc_slice_items, rc_str_bytes};
+    ghost use Rattle.yv_values.specs.Types.{plain_of};
+    ghost use Rattle.yv_properties.specs.Defined.{Defined, written_of};
+
+    ghost Value = { Defined };
+
+    ghost view = { λ d. record {
+      file = d.file;
+      offset = d.offset;
+      line = d.line;
+      kind = d.kind;
+      name = rc_str_bytes d.name;
+      types = map plain_of (rc_slice_items d.types);
+      has_presence = d.has_presence;
+      status = d.status;
+      features = rc_str_bytes d.features;
+      type_text = rc_str_bytes d.type_text;
+      stated_config = d.stated_config;
+      is_mandatory = d.is_mandatory;
+      min = d.min;
+      max = d.max;
+      key_names = d.key_names.value;
+      uniques = map rc_str_bytes (rc_slice_items d.uniques);
+      own_default = option_map written_of d.own_default;
+    } };
+}
+
+impl Definition {
+    /// The number of the file in which the statement stands.
+    pub fn file(&self) -> u32
+        ensures { result ≡ self.now.file }
+    {
+        self.file
+    }
+
+    /// The offset in bytes of the statement's keyword.
+    pub fn offset(&self) -> u64
+        ensures { result ≡ self.now.offset }
+    {
+        self.offset
+    }
+
+    /// The line of that keyword, from 1.
+    pub fn line(&self) -> u64
+        ensures { result ≡ self.now.line }
+    {
+        self.line
+    }
+
+    /// What the node is.
+    pub fn kind(&self) -> NodeKind
+        ensures { result ≡ self.now.kind }
+    {
+        self.kind
+    }
+
+    /// The node's name, without its module.
+    pub fn name(&self) -> &str
+        ensures { result.now ≡ self.now.name }
+    {
+        self.name.as_str()
+    }
+
+    /// The types that its value may have, in order: none at a container.
+    pub fn types(&self) -> &[PlainType]
+        ensures { map plain_of result.now ≡ self.now.types }
+    {
+        self.types.as_slice()
+    }
+
+    /// Whether the node being there says something by itself, as that of a presence container does (RFC 7950, section 7.5.5).
+    pub fn has_presence(&self) -> bool
+        ensures { result ≡ self.now.has_presence }
+    {
+        self.has_presence
+    }
+
+    /// Whether the node is still to be used.
+    pub fn status(&self) -> NodeStatus
+        ensures { result ≡ self.now.status }
+    {
+        self.status
+    }
+
+    /// The expressions of its `if-feature` statements, separated by commas, to be shown to a reader (RFC 7950, section
+    /// 7.20.2). The text is empty without any.
+    pub fn features(&self) -> &str
+        ensures { result.now ≡ self.now.features }
+    {
+        self.features.as_str()
+    }
+
+    /// The name of its type as it is written, with a prefix where that has one. The text is empty without a type.
+    pub fn type_text(&self) -> &str
+        ensures { result.now ≡ self.now.type_text }
+    {
+        self.type_text.as_str()
+    }
+
+    /// What its `config` statement says, where it has one (RFC 7950, section 7.21.1).
+    pub fn stated_config(&self) -> Option<bool>
+        ensures { result ≡ self.now.stated_config }
+    {
+        self.stated_config
+    }
+
+    /// Whether its `mandatory` statement says true (RFC 7950, sections 7.6.5 and 7.9.4).
+    pub fn is_mandatory(&self) -> bool
+        ensures { result ≡ self.now.is_mandatory }
+    {
+        self.is_mandatory
+    }
+
+    /// The fewest entries that a list or leaf-list has to have (RFC 7950, section 7.7.5): 0 where nothing is said.
+    pub fn min(&self) -> u32
+        ensures { result ≡ self.now.min }
+    {
+        self.min
+    }
+
+    /// The most entries that a list or leaf-list may have, where that is bounded (RFC 7950, section 7.7.6).
+    pub fn max(&self) -> Option<u32>
+        ensures { result ≡ self.now.max }
+    {
+        self.max
+    }
+
+    /// The names that its `key` statement names, in order: none without one (RFC 7950, section 7.8.2).
+    pub fn key_names(&self) -> &[RcStr]
+        ensures { map rc_str_bytes result.now ≡ self.now.key_names }
+    {
+        self.key_names.names()
+    }
+
+    /// Whether it has a key.
+    pub fn has_key(&self) -> bool
+        ensures { result ≡ not (is_empty self.now.key_names) }
+    {
+        !self.key_names.names().is_empty()
+    }
+
+    /// Whether its `key` statement names this one.
+    pub fn names_key(&self, name: &str) -> bool
+        ensures { result ≡ list_any (λ key. bytes_eq key name.now) self.now.key_names }
+    {
+        self.key_names.contains(name)
+    }
+
+    /// The arguments of its `unique` statements, in order (RFC 7950, section 7.8.3).
+    pub fn uniques(&self) -> &[RcStr]
+        ensures { map rc_str_bytes result.now ≡ self.now.uniques }
+    {
+        self.uniques.as_slice()
+    }
+
+    /// The argument of its `default` statement, and the file in which that stands.
+    pub fn own_default(&self) -> Option<&WrittenText>
+        ensures { option_map (λ written. written_of written.now) result ≡ self.now.own_default }
+    {
+        self.own_default.as_ref()
+    }
+
+    /// The same once more, over the same texts and the same list of types: the time and the memory that it takes don't
+    /// grow with these.
+    pub fn share(&self) -> Result<Definition, AllocError>
+        ensures { IfOk result (λ shared. shared ≡ self.now) }
+    {
+        Ok(Definition {
+            file: self.file,
+            offset: self.offset,
+            line: self.line,
+            kind: self.kind,
+            name: self.name.clone()?,
+            types: self.types.clone()?,
+            has_presence: self.has_presence,
+            status: self.status,
+            features: self.features.clone()?,
+            type_text: self.type_text.clone()?,
+            stated_config: self.stated_config,
+            is_mandatory: self.is_mandatory,
+            min: self.min,
+            max: self.max,
+            key_names: self.key_names.clone()?,
+            uniques: self.uniques.clone()?,
+            own_default: shared_default(&self.own_default)?,
+        })
+    }
+
+    /// Its name, over the same text: the time and the memory that it takes don't grow with the name.
+    pub fn shared_name(&self) -> Result<RcStr, AllocError>
+        ensures { IfOk result (λ text. rc_str_bytes text ≡ self.now.name) }
+    {
+        self.name.clone()
+    }
+
+    /// Its features, over the same text.
+    pub fn shared_features(&self) -> Result<RcStr, AllocError>
+        ensures { IfOk result (λ text. rc_str_bytes text ≡ self.now.features) }
+    {
+        self.features.clone()
+    }
+}
+
+// The same text once more, where there is one.
+fn shared_default(text: &Option<WrittenText>) -> Result<Option<WrittenText>, AllocError>
+    ensures { IfOk result (λ shared. option_map written_of shared ≡ option_map written_of text.now) }
+{
+    match text {
+        Some(written) => Ok(Some(WrittenText {
+            text: written.text.clone()?,
+            file: written.file,
+        })),
+        None => Ok(None),
+    }
+}

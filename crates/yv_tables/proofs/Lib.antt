@@ -1,0 +1,13 @@
+pub mod Numbers
+pub mod Sitting
+pub mod Members
+pub mod Colons
+pub mod Finding
+pub mod Placed
+pub mod Keeping
+pub mod Named
+pub mod Trees
+pub mod Measuring
+pub mod Grouping
+pub mod Doubling
+pub mod Kept

@@ -1,0 +1,9 @@
+pub mod Groups
+pub mod Tops
+pub mod Opened
+pub mod Doubled
+pub mod Sound
+pub mod Measures
+pub mod InnerPassage
+pub mod InnerSits
+pub mod InnerTables

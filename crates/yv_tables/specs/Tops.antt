@@ -1,0 +1,7 @@
+-- The modules with their nodes at the top.
+use Rattle.std.specs.Rc.{rc_str_bytes}
+use Rattle.yv_tables.specs.declared.tops.ModuleTop.{ModuleTop}
+use Rattle.yv_tables.specs.Groups.{Top}
+
+abbrev pub top_of : ModuleTop → Top
+top_of t = record { name = rc_str_bytes t.name; numbers = t.numbers.items }

@@ -1,0 +1,126 @@
+//! A schema, and how its nodes are found.
+ghost use Rattle.std.specs.Prelude.{◌≡◌, ◌<◌, ◌≤◌, ◌==◌, ◌+◌, true, length, All, IfSome};
+ghost use Rattle.yv_values.specs.Count.{counted};
+
+use crate::table::Table;
+use std::collections::BTreeMap;
+use std::marker::Model;
+use yv_nodes::{Node, NodeId, Nodes};
+use yv_values::Meter;
+
+/// The schema of modules: nodes with numbers from 0, each behind its parent. Contracts see its rows, and
+/// by them the tree that they stand for.
+#[derive(Drop)]
+pub struct Schema {
+    pub(crate) nodes: Nodes,
+    pub(crate) top: Vec<NodeId>,
+    /// The nodes at the top by name, with choices and cases opened, for each module's name.
+    pub(crate) modules: BTreeMap<String, Table>,
+    /// For each node what the members of its object name, and nothing for a choice or case.
+    pub(crate) tables: Vec<Table>,
+}
+
+impl Model for Schema {
+    ghost use Rattle.yv_nodes.specs.Rows.{Rows};
+    ghost use Rattle.yv_tables.specs.InnerTables.{IsKept};
+
+    ghost Value = { Rows };
+
+    ghost view = { λ s. record { nodes = s.nodes.rows; top = s.top.items; limit = s.nodes.limit } };
+
+    ghost invariant = { λ s. IsKept s.modules s.tables.items (record { nodes = s.nodes.rows; top = s.top.items; limit = s.nodes.limit }) };
+}
+
+impl Schema {
+    ghost use Rattle.std.specs.Prelude.{is_some};
+    ghost use Rattle.yv_nodes.specs.Tree.{count};
+    ghost use Rattle.yv_nodes.specs.Rows.{AreTrees, below, row_at, children_of, rank, root, whole};
+    ghost use Rattle.yv_tables.specs.Opened.{opened_trees};
+    ghost use Rattle.yv_tables.specs.Sound.{IsSound, IsChild, IsInside, inside, is_known, is_object, named};
+
+    /// The parent of the nodes at the top.
+    pub const ROOT: NodeId = NodeId(u32::MAX);
+
+    /// How many nodes there are: never more than the limit.
+    pub fn len(&self) -> u32
+        ensures rows { result ≡ length self.now.nodes }
+        ensures nodes { result ≡ count (whole self.now) }
+        ensures within { length self.now.nodes ≤ self.now.limit }
+    {
+        self.nodes.len()
+    }
+
+    /// The most nodes that there might have been: the limit on units that was given.
+    pub fn limit(&self) -> u32
+        ensures { result ≡ self.now.limit }
+    {
+        self.nodes.limit()
+    }
+
+    /// Whether there is no node.
+    pub fn is_empty(&self) -> bool
+        ensures { result ≡ (length self.now.nodes == 0) }
+    {
+        self.len() == 0
+    }
+
+    /// The nodes, by number.
+    pub fn nodes(&self) -> &Nodes
+        ensures { result.now.rows ≡ self.now.nodes }
+    {
+        &self.nodes
+    }
+
+    /// The node of this number.
+    pub fn node(&self, id: NodeId) -> &Node
+        requires { id.0 < length self.now.nodes }
+        ensures value { result.now ≡ row_at self.now id }
+        ensures sound { IsSound self.now }
+    {
+        self.nodes.get(id)
+    }
+
+    /// The children of this node, or of the root, in the order of their statements.
+    pub fn children(&self, parent: NodeId) -> &[NodeId]
+        requires { rank parent ≤ length self.now.nodes }
+        ensures value { result.now ≡ children_of self.now parent }
+        ensures each { All (IsChild self.now parent) result.now }
+        ensures trees { AreTrees self.now result.now }
+        ensures sound { IsSound self.now }
+    {
+        if parent == Schema::ROOT {
+            self.top.as_slice()
+        } else {
+            self.node(parent).children()
+        }
+    }
+
+    /// The node that a JSON member of this name writes in an object of this node, which is no choice or case, or in that of the
+    /// root: a child, or what stands in its choices and cases (RFC 7950, section 7.9; RFC 7951, section 4). The meter
+    /// counts the look-up.
+    pub fn find(&self, meter: &mut Meter, parent: NodeId, member: &str) -> Option<NodeId>
+        requires within { rank parent ≤ length self.now.nodes }
+        requires object { is_object self.now parent ≡ true }
+        ensures value { result ≡ named self.now (inside self.now parent) member.now }
+        ensures child { IfSome result (IsInside self.now parent) }
+        ensures known { is_some result ≡ is_known (opened_trees (below self.now parent)) member.now }
+        ensures steps { meter.new ≡ counted (meter.old + 1) }
+    {
+        meter.visit();
+        if parent == Schema::ROOT {
+            self.find_at_top(member)
+        } else {
+            self.tables[parent.0 as usize].get(member).copied()
+        }
+    }
+
+    // The node at the top that a JSON member of this name writes.
+    fn find_at_top(&self, member: &str) -> Option<NodeId>
+        ensures { result ≡ named self.now (inside self.now root) member.now }
+    {
+        let modules = &self.modules;
+        let (module, name) = member.split_once(':')?;
+        let table = modules.get(module)?;
+        table.get(name).copied()
+    }
+}

@@ -1,0 +1,5 @@
+pub mod Spots
+pub mod Here
+pub mod Kept
+pub mod Below
+pub mod Telling

@@ -1,0 +1,74 @@
+-- Mandatory nodes, and what is wrong with defaults (RFC 7950, sections 3, 7.6.5, 7.9.3 and 7.9.4).
+use Rattle.std.specs.Prelude.{◌≡◌, ◌⊎◌, ℕ, nat_lt, Bool, true, false, not, ◌&&◌, ◌||◌, List, length, Option, Some, None, is_some, if◌then◌else◌}
+use Rattle.std.specs.Str.{bytes_eq}
+use Rattle.yv_statement.specs.declared.refusal.Refusal.{Refusal}
+use Rattle.yv_statement.specs.declared.refusal.Code.TheVariants as code
+use Rattle.yv_statement.specs.Order.{Among, Stands}
+use Rattle.yv_properties.specs.declared.kind.NodeKind.{NodeKind}
+use Rattle.yv_properties.specs.declared.kind.NodeKind.TheVariants as kind
+use Rattle.yv_properties.specs.Defined.{Defined, Written}
+use Rattle.yv_properties.specs.Kinds.{is_case, is_choice, is_leaf}
+use Rattle.yv_nodes.specs.Tree.{Label, Tree, node, Forest, no_trees, tree}
+use Rattle.yv_nodes.specs.Places.{Place, places}
+use Rattle.yv_nodes.specs.Refused.{refusal_of}
+
+-- a node of a kind is mandatory, where `below` says that a node directly under it is (RFC 7950, section 3, "mandatory node")
+abbrev pub is_needed_as : NodeKind → Defined → (below : Bool) → Bool
+is_needed_as kind.Leaf d below = d.is_mandatory
+is_needed_as kind.Choice d below = d.is_mandatory
+is_needed_as kind.Anydata d below = d.is_mandatory
+is_needed_as kind.Anyxml d below = d.is_mandatory
+is_needed_as kind.List d below = nat_lt 0 d.min
+is_needed_as kind.LeafList d below = nat_lt 0 d.min
+is_needed_as kind.Container d below = not d.has_presence && below
+is_needed_as _ d below = false
+
+abbrev pub is_needed : Label → (below : Bool) → Bool
+is_needed l below = is_needed_as l.defined.kind l.defined below
+
+-- one of these trees is that of a mandatory node
+abbrev pub has_mandatory : Forest → Bool
+has_mandatory no_trees = false
+has_mandatory (tree (node l kids) ts) = is_needed l (has_mandatory kids) || has_mandatory ts
+
+-- a node has this module and this name
+abbrev pub is_called : (home name : List ℕ) → Label → Bool
+is_called home name l = bytes_eq l.module_name home && bytes_eq l.defined.name name
+
+-- the first of these trees whose node has this module and this name
+abbrev pub named : (home name : List ℕ) → Forest → Option Tree
+named home name no_trees = None
+named home name (tree (node l kids) ts) = if is_called home name l then Some (node l kids) else named home name ts
+
+abbrev pub named_by : (home : List ℕ) → Option Written → Forest → Option Tree
+named_by home None ts = None
+named_by home (Some written) ts = named home written.text ts
+
+-- the default case of a choice: a case, or a node that is a case of its own, of the choice's own module
+-- (RFC 7950, section 7.9.3)
+abbrev pub default_case : Place → Option Tree
+default_case p = named_by p.label.module_name p.label.defined.own_default p.kids
+
+-- a mandatory node stands directly under a case: the node itself, where that is a case of its own
+abbrev pub is_needed_in : Option Tree → Bool
+is_needed_in None = false
+is_needed_in (Some (node l kids)) = if is_case l.defined.kind then has_mandatory kids else is_needed l (has_mandatory kids)
+
+-- a leaf or choice with `mandatory true` and a default of its own (RFC 7950, sections 7.6.4 and 7.9.3)
+abbrev pub is_overruled : Label → Bool
+is_overruled l = (is_leaf l.defined.kind || is_choice l.defined.kind) && (l.defined.is_mandatory && is_some l.defined.own_default)
+
+-- a choice whose default is no case of it, where `found` says that it is one
+abbrev pub is_caseless : Label → (found : Bool) → Bool
+is_caseless l found = is_choice l.defined.kind && (is_some l.defined.own_default && not found)
+
+-- f is what is wrong with a node's default
+abbrev pub BadOfDefault : Place → Refusal → Type 0
+BadOfDefault p f =
+    (Stands (is_overruled p.label ≡ true) (refusal_of code.BadMandatory p.label) f
+    ⊎ Stands (is_needed_in (default_case p) ≡ true) (refusal_of code.BadMandatory p.label) f)
+    ⊎ Stands (is_caseless p.label (is_some (default_case p)) ≡ true) (refusal_of code.BadDefault p.label) f
+
+-- f stands in a schema tree
+abbrev pub BadByDefault : Forest → Refusal → Type 0
+BadByDefault ts f = Among (places ts) (λ k. BadOfDefault) (length (places ts)) f
