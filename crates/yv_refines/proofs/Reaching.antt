@@ -12,14 +12,18 @@ use Rattle.yv_rows.specs.Rows.{Row}
 use Rattle.yv_rows.specs.Files.{Briefs, home_at}
 use Rattle.yv_refines.specs.Places.{Place}
 use Rattle.yv_refines.specs.Paths.{is_step}
-use Rattle.yv_refines.specs.Targets.{is_at, is_uses, name_at, is_name, is_named, ended}
+use Rattle.yv_refines.specs.Targets.{Waypoint, at_node, at_left_out_case, arrived, ended, is_at, is_case_left_out, is_name, is_named, is_uses, led, name_at}
+use Rattle.yv_refines.specs.Targets.{node_at as place_at}
 use Rattle.yv_paths.specs.Names.{qualified}
 use Rattle.yv_paths.specs.Names.{number_of as number_of_name}
 use Rattle.yv_paths.specs.Paths.{step_of, step_number}
 use Rattle.yv_refines.specs.InnerSites.{Site, sites, inside_of, AreSites, name_by, spot_of}
-use Rattle.yv_refines.specs.InnerWalk.{Table, is_hit, IsTable, within, step_from, walk}
+use Rattle.yv_refines.specs.InnerWalk.{Table, is_hit, IsTable, below, entered, within, step_from, walk, walked}
+use Rattle.yv_refines.specs.InnerWalk.{arrived as came, arrived_at as came_at, node_at as number_at}
 use Rattle.yv_refines.specs.InnerDraft.{IsMeant}
 use Rattle.yv_refines.specs.declared.spots.Spot.{Spot}
+use Rattle.yv_refines.specs.declared.walk.Reached.{Reached}
+use Rattle.yv_refines.specs.declared.walk.Reached.TheVariants.{Node, LeftOutCase}
 use Rattle.yv_refines.proofs.Words.{both_true}
 use Rattle.yv_refines.proofs.Siting.{sites_count, inside_low, get_front, get_behind}
 use Rattle.yv_refines.proofs.Siteds.{drop_map}
@@ -128,34 +132,40 @@ module _ (files : Briefs) (rows : List Row) (numbered : Numbered files rows) (it
           let m = are.numbers i s at in
           ap (λ (b : Bool). if b then Some x.place.number else None) (lt_yes x.place.number (s.place.number + 1 + count s.place.below) (omega (arith, n, m, long, slice_get_within (inner s) h.0 x h.1)))
 
+  -- the name of an item has a step's number exactly where the step names it
+  same_name : (home file : ℕ) (text : List ℕ) (x : Site) (a : ℕ) → home ≡ home_at files x.place.file → number_of x.place.origin < length rows → option_map (step_number home) (step_of files rows file text) ≡ Some a → (name_by rows (home_at files x.place.file) x.place.origin == a) ≡ is_named (is_step files rows home file text) rows x.place.origin
+  same_name home file text x a own within some =
+      let found = item_name files rows numbered x.place.origin within in
+      let name : List ℕ = found.0 in
+      let n : ℕ = found.1 in
+      let number : name_by rows (home_at files x.place.file) x.place.origin ≡ qualified home n =
+      ap (λ o. qualified (home_at files x.place.file) (unwrap_or (option_and_then (number_of_name rows) o) 0)) found.2
+      ∙ ap (λ o. qualified (home_at files x.place.file) (unwrap_or o 0)) found.3
+      ∙ ap (λ h. qualified h n) (sym own) in
+      ap (λ m. m == a) number
+      ∙ same_number files rows numbered home file text name n a found.3 some
+      ∙ sym (ap (is_name (is_step files rows home file text)) found.2)
+
+  -- a step without a number names nothing
+  no_name : (home file : ℕ) (text : List ℕ) (x : Site) → number_of x.place.origin < length rows → option_map (step_number home) (step_of files rows file text) ≡ None → is_named (is_step files rows home file text) rows x.place.origin ≡ false
+  no_name home file text x within none =
+      let found = item_name files rows numbered x.place.origin within in
+      ap (is_name (is_step files rows home file text)) found.2 ∙ not_named files rows numbered home file text found.0 found.1 found.3 none
+
   -- where a step leads
   steps : (home file : ℕ) (text : List ℕ) (i : ℕ) (s : Site) → home ≡ home_at files s.place.file → slice_get all i ≡ Some s → IsReady rows k i s → step_from table home (step_of files rows file text) (spot_of files rows s) ≡ option_map (λ x. x.place.number) (find (is_node_in rows (inside_of rows s) (is_step files rows home file text)) (inner s))
   steps home file text i s own at ready = by (option_map (step_number home) (step_of files rows file text)) refl
     where
-      -- the name of an item below
-      inner_name : (j : ℕ) (x : Site) → slice_get (inner s) j ≡ Some x → (name : List ℕ) × (n : ℕ) × (name_at rows x.place.origin ≡ Some name) × (number_of_name rows name ≡ Some n)
-      inner_name j x there = item_name files rows numbered x.place.origin (are.origins (i + 1 + j) x (below_at i s j x at there))
+      within_rows : (j : ℕ) (x : Site) → slice_get (inner s) j ≡ Some x → number_of x.place.origin < length rows
+      within_rows j x there = are.origins (i + 1 + j) x (below_at i s j x at there)
 
       named : (j : ℕ) (x : Site) → slice_get (inner s) j ≡ Some x → (a : ℕ) → option_map (step_number home) (step_of files rows file text) ≡ Some a → hits (inside_of rows s) a x ≡ is_node_in rows (inside_of rows s) (is_step files rows home file text) x
       named j x there a some =
-          let found = inner_name j x there in
-          let name : List ℕ = found.0 in
-          let n : ℕ = found.1 in
-          let module_is : home_at files x.place.file ≡ home = ap (home_at files) (below_file s j x there) ∙ sym own in
-          let number : name_by rows (home_at files x.place.file) x.place.origin ≡ qualified home n =
-          ap (λ o. qualified (home_at files x.place.file) (unwrap_or (option_and_then (number_of_name rows) o) 0)) found.2
-          ∙ ap (λ o. qualified (home_at files x.place.file) (unwrap_or o 0)) found.3
-          ∙ ap (λ h. qualified h n) module_is in
-          let test : (name_by rows (home_at files x.place.file) x.place.origin == a) ≡ is_named (is_step files rows home file text) rows x.place.origin =
-          ap (λ m. m == a) number
-          ∙ same_number files rows numbered home file text name n a found.3 some
-          ∙ sym (ap (is_name (is_step files rows home file text)) found.2) in
-          ap (λ b. (x.group == inside_of rows s) && (not (is_at is_uses rows (number_of x.place.origin)) && b)) test
+          ap (λ b. (x.group == inside_of rows s) && (not (is_at is_uses rows (number_of x.place.origin)) && b))
+          (same_name home file text x a (own ∙ ap (home_at files) (sym (below_file s j x there))) (within_rows j x there) some)
 
       nowhere : (j : ℕ) (x : Site) → slice_get (inner s) j ≡ Some x → option_map (step_number home) (step_of files rows file text) ≡ None → is_node_in rows (inside_of rows s) (is_step files rows home file text) x ≡ false
-      nowhere j x there none =
-          let found = inner_name j x there in
-          node_not rows (inside_of rows s) (is_step files rows home file text) x (ap (is_name (is_step files rows home file text)) found.2 ∙ not_named files rows numbered home file text found.0 found.1 found.3 none)
+      nowhere j x there none = node_not rows (inside_of rows s) (is_step files rows home file text) x (no_name home file text x (within_rows j x there) none)
 
       by : (o : Option ℕ) → option_map (step_number home) (step_of files rows file text) ≡ o → option_and_then (λ name. option_and_then (within (s.place.number + 1 + count s.place.below)) (table (inside_of rows s) name)) o ≡ option_map (λ x. x.place.number) (find (is_node_in rows (inside_of rows s) (is_step files rows home file text)) (inner s))
       by None none = sym (ap (option_map (λ x. x.place.number)) (find_none (is_node_in rows (inside_of rows s) (is_step files rows home file text)) (inner s) (λ j x there. nowhere j x there none)))
@@ -164,33 +174,88 @@ module _ (files : Briefs) (rows : List Row) (numbered : Numbered files rows) (it
   abbrev spots : List Spot
   spots = map (spot_of files rows) all
 
-  -- where a path leads
-  pub reached : (home file : ℕ) (texts : List (List ℕ)) (i : ℕ) (s : Site) → home ≡ home_at files s.place.file → slice_get all i ≡ Some s → IsReady rows k i s → IsMeant spots (ended rows (is_step files rows home file) texts s.place) (walk table spots home (map (step_of files rows file) texts) i)
-  reached home file [] i s own at ready = (are.numbers i s at, spot_of files rows s, slice_get-map (spot_of files rows) all i ∙ ap (option_map (spot_of files rows)) at, refl)
-  reached home file (t ∷ ts) i s own at ready = by (find (is_node_in rows (inside_of rows s) (is_step files rows home file t)) (inner s)) refl (λ j x. reached home file ts j x)
+  spot_there : (i : ℕ) (s : Site) → slice_get all i ≡ Some s → slice_get spots i ≡ Some (spot_of files rows s)
+  spot_there i s at = slice_get-map (spot_of files rows) all i ∙ ap (option_map (spot_of files rows)) at
+
+  abbrev node_if : ℕ → Bool → Option Reached
+  node_if i b = if b then Some (Node i) else None
+
+  -- from a case that is left out a step leads to the node in it, or nowhere
+  enters : (home file : ℕ) (text : List ℕ) (i : ℕ) (s : Site) → home ≡ home_at files s.place.file → slice_get all i ≡ Some s → entered home (step_of files rows file text) i (spot_of files rows s) ≡ node_if i (is_named (is_step files rows home file text) rows s.place.origin)
+  enters home file text i s own at = by (option_map (step_number home) (step_of files rows file text)) refl
+    where
+      by : (o : Option ℕ) → option_map (step_number home) (step_of files rows file text) ≡ o → option_and_then (λ name. node_if i (name_by rows (home_at files s.place.file) s.place.origin == name)) o ≡ node_if i (is_named (is_step files rows home file text) rows s.place.origin)
+      by None none = sym (ap (node_if i) (no_name home file text s (are.origins i s at) none))
+      by (Some a) some = ap (node_if i) (same_name home file text s a own (are.origins i s at) some)
+
+  -- where a path ends that is here, and where it is walked to
+  abbrev ended_from : (home file : ℕ) → List (List ℕ) → Waypoint → Option Place
+  ended_from home file texts w = option_and_then place_at (led rows (is_step files rows home file) texts w)
+
+  abbrev walked_from : (home file : ℕ) → List (List ℕ) → Reached → Option ℕ
+  walked_from home file texts r = option_and_then number_at (walked table spots home (map (step_of files rows file) texts) r)
+
+  -- they are one from each item
+  abbrev Leads : (home file : ℕ) → List (List ℕ) → (Place → Waypoint) → (ℕ → Reached) → Type 0
+  Leads home file texts w r = (i : ℕ) (s : Site) → home ≡ home_at files s.place.file → slice_get all i ≡ Some s → IsReady rows k i s → IsMeant spots (ended_from home file texts (w s.place)) (walked_from home file texts (r i))
+
+  meant : (o o' : Option Place) (w w' : Option ℕ) → o ≡ o' → w ≡ w' → IsMeant spots o' w' → IsMeant spots o w
+  meant o o' w w' e f h = subst (λ (x : Option Place). IsMeant spots x w) (sym e) (subst (λ (y : Option ℕ). IsMeant spots o' y) (sym f) h)
+
+  in_case : (home file : ℕ) (t : List ℕ) (ts : List (List ℕ)) → Leads home file ts at_node Node → Leads home file (t ∷ ts) at_left_out_case LeftOutCase
+  in_case home file t ts on i s own at ready = by (is_named (is_step files rows home file t) rows s.place.origin) refl
+    where
+      ends : (b : Bool) → is_named (is_step files rows home file t) rows s.place.origin ≡ b → ended_from home file (t ∷ ts) (at_left_out_case s.place) ≡ option_and_then place_at (option_and_then (led rows (is_step files rows home file) ts) (if b then Some (at_node s.place) else None))
+      ends b e = ap (λ (b : Bool). option_and_then place_at (option_and_then (led rows (is_step files rows home file) ts) (if b then Some (at_node s.place) else None))) e
+
+      walks : (b : Bool) → is_named (is_step files rows home file t) rows s.place.origin ≡ b → walked_from home file (t ∷ ts) (LeftOutCase i) ≡ option_and_then number_at (option_and_then (walked table spots home (map (step_of files rows file) ts)) (node_if i b))
+      walks b e = ap (λ o. option_and_then number_at (option_and_then (walked table spots home (map (step_of files rows file) ts)) o)) (ap (option_and_then (entered home (step_of files rows file t) i)) (spot_there i s at) ∙ enters home file t i s own at ∙ ap (node_if i) e)
+
+      by : (b : Bool) → is_named (is_step files rows home file t) rows s.place.origin ≡ b → IsMeant spots (ended_from home file (t ∷ ts) (at_left_out_case s.place)) (walked_from home file (t ∷ ts) (LeftOutCase i))
+      by false e = meant _ None _ None (ends false e) (walks false e) tt
+      by true e = meant _ (ended_from home file ts (at_node s.place)) _ (walked_from home file ts (Node i)) (ends true e) (walks true e) (on i s own at ready)
+
+  -- how both go on behind one step from a node
+  abbrev goes_on : (home file : ℕ) → List (List ℕ) → Place → Option Place → Option Place
+  goes_on home file ts p o = option_and_then place_at (option_and_then (led rows (is_step files rows home file) ts) (option_map (arrived rows p) o))
+
+  abbrev walks_on : (home file : ℕ) → List (List ℕ) → Option Reached → Option ℕ
+  walks_on home file ts o = option_and_then number_at (option_and_then (walked table spots home (map (step_of files rows file) ts)) o)
+
+  down : (home file : ℕ) (t : List ℕ) (ts : List (List ℕ)) → Leads home file ts at_node Node → Leads home file ts at_left_out_case LeftOutCase → Leads home file (t ∷ ts) at_node Node
+  down home file t ts on_node on_case i s own at ready = by (find (is_node_in rows (inside_of rows s) (is_step files rows home file t)) (inner s)) refl
     where
       low : inside_of rows s ≤ s.place.number + 1
       low = inside_low rows s.group s.place.number (number_of s.place.origin) (let n = are.numbers i s at in let m = are.low i s at in omega (arith, n, m))
 
-      there_is : slice_get spots i ≡ Some (spot_of files rows s)
-      there_is = slice_get-map (spot_of files rows) all i ∙ ap (option_map (spot_of files rows)) at
+      ends : (o : Option Site) → find (is_node_in rows (inside_of rows s) (is_step files rows home file t)) (inner s) ≡ o → ended_from home file (t ∷ ts) (at_node s.place) ≡ goes_on home file ts s.place (option_map (λ x. x.place) o)
+      ends o e = ap (goes_on home file ts s.place) (sym (first_node rows s.place.below s.place.file (inside_of rows s) (Some s.place.number) (s.place.number + 1) (is_step files rows home file t) low) ∙ ap (option_map (λ x. x.place)) e)
 
-      ends : (o : Option Site) → find (is_node_in rows (inside_of rows s) (is_step files rows home file t)) (inner s) ≡ o → ended rows (is_step files rows home file) (t ∷ ts) s.place ≡ option_and_then (λ q. ended rows (is_step files rows home file) ts q) (option_map (λ x. x.place) o)
-      ends o e = ap (option_and_then (λ q. ended rows (is_step files rows home file) ts q)) (sym (first_node rows s.place.below s.place.file (inside_of rows s) (Some s.place.number) (s.place.number + 1) (is_step files rows home file t) low) ∙ ap (option_map (λ x. x.place)) e)
+      walks : (o : Option Site) → find (is_node_in rows (inside_of rows s) (is_step files rows home file t)) (inner s) ≡ o → walked_from home file (t ∷ ts) (Node i) ≡ walks_on home file ts (option_and_then (came spots (spot_of files rows s)) (option_map (λ x. x.place.number) o))
+      walks o e = ap (walks_on home file ts) (ap (option_and_then (below table spots home (step_of files rows file t))) (spot_there i s at) ∙ ap (option_and_then (came spots (spot_of files rows s))) (steps home file t i s own at ready ∙ ap (option_map (λ x. x.place.number)) e))
 
-      leads : (o : Option Site) → find (is_node_in rows (inside_of rows s) (is_step files rows home file t)) (inner s) ≡ o → walk table spots home (map (step_of files rows file) (t ∷ ts)) i ≡ option_and_then (λ j. walk table spots home (map (step_of files rows file) ts) j) (option_map (λ x. x.place.number) o)
-      leads o e = ap (option_and_then (λ j. walk table spots home (map (step_of files rows file) ts) j)) (ap (option_and_then (step_from table home (step_of files rows file t))) there_is ∙ steps home file t i s own at ready ∙ ap (option_map (λ x. x.place.number)) e)
-
-      meant : (o o' : Option Place) (w w' : Option ℕ) → o ≡ o' → w ≡ w' → IsMeant spots o' w' → IsMeant spots o w
-      meant o o' w w' e f h = subst (λ (x : Option Place). IsMeant spots x w) (sym e) (subst (λ (y : Option ℕ). IsMeant spots o' y) (sym f) h)
-
-      by : (o : Option Site) → find (is_node_in rows (inside_of rows s) (is_step files rows home file t)) (inner s) ≡ o → ((j : ℕ) (x : Site) → home ≡ home_at files x.place.file → slice_get all j ≡ Some x → IsReady rows k j x → IsMeant spots (ended rows (is_step files rows home file) ts x.place) (walk table spots home (map (step_of files rows file) ts) j)) → IsMeant spots (ended rows (is_step files rows home file) (t ∷ ts) s.place) (walk table spots home (map (step_of files rows file) (t ∷ ts)) i)
-      by None e on = meant _ None _ None (ends None e) (leads None e) tt
-      by (Some x) e on =
+      by : (o : Option Site) → find (is_node_in rows (inside_of rows s) (is_step files rows home file t)) (inner s) ≡ o → IsMeant spots (ended_from home file (t ∷ ts) (at_node s.place)) (walked_from home file (t ∷ ts) (Node i))
+      by None e = meant _ None _ None (ends None e) (walks None e) tt
+      by (Some x) e =
           let h = find_hit (is_node_in rows (inside_of rows s) (is_step files rows home file t)) (inner s) x e in
           let there : slice_get all (i + 1 + h.0) ≡ Some x = below_at i s h.0 x at h.1 in
           let number : x.place.number ≡ i + 1 + h.0 = are.numbers (i + 1 + h.0) x there in
           let here : slice_get all x.place.number ≡ Some x = ap (slice_get all) number ∙ there in
           let is_node : is_at is_uses rows (number_of x.place.origin) ≡ false = is_not (is_at is_uses rows (number_of x.place.origin)) (both_true (not (is_at is_uses rows (number_of x.place.origin))) (is_named (is_step files rows home file t) rows x.place.origin) (both_true (x.group == inside_of rows s) (not (is_at is_uses rows (number_of x.place.origin)) && is_named (is_step files rows home file t) rows x.place.origin) h.2).1).0 in
-          meant _ (ended rows (is_step files rows home file) ts x.place) _ (walk table spots home (map (step_of files rows file) ts) x.place.number) (ends (Some x) e) (leads (Some x) e)
-          (on x.place.number x (own ∙ ap (home_at files) (sym (below_file s h.0 x h.1))) here (inr (ready_before rows k i h.0 x.place.number s ready number, is_node)))
+          let of_x : home ≡ home_at files x.place.file = own ∙ ap (home_at files) (sym (below_file s h.0 x h.1)) in
+          let ready_x : IsReady rows k x.place.number x = inr (ready_before rows k i h.0 x.place.number s ready number, is_node) in
+          let arrives : came spots (spot_of files rows s) x.place.number ≡ Some (came_at (spot_of files rows s) x.place.number (spot_of files rows x)) = ap (option_map (came_at (spot_of files rows s) x.place.number)) (spot_there x.place.number x here) in
+          meant _ (ended_from home file ts (arrived rows s.place x.place)) _ (walked_from home file ts (came_at (spot_of files rows s) x.place.number (spot_of files rows x))) (ends (Some x) e) (walks (Some x) e ∙ ap (walks_on home file ts) arrives)
+          (either (is_case_left_out rows s.place x.place) x (on_node x.place.number x of_x here ready_x) (on_case x.place.number x of_x here ready_x))
+        where
+          either : (b : Bool) (x : Site) → IsMeant spots (ended_from home file ts (at_node x.place)) (walked_from home file ts (Node x.place.number)) → IsMeant spots (ended_from home file ts (at_left_out_case x.place)) (walked_from home file ts (LeftOutCase x.place.number)) → IsMeant spots (ended_from home file ts (if b then at_left_out_case x.place else at_node x.place)) (walked_from home file ts (if b then LeftOutCase x.place.number else Node x.place.number))
+          either true x of_node of_case = of_case
+          either false x of_node of_case = of_node
+
+  leads : (home file : ℕ) (texts : List (List ℕ)) → Leads home file texts at_node Node × Leads home file texts at_left_out_case LeftOutCase
+  leads home file [] = (λ i s own at ready. (are.numbers i s at, spot_of files rows s, spot_there i s at, refl), λ i s own at ready. tt)
+  leads home file (t ∷ ts) = let on = leads home file ts in (down home file t ts on.0 on.1, in_case home file t ts on.0)
+
+  -- where a path leads
+  pub reached : (home file : ℕ) (texts : List (List ℕ)) (i : ℕ) (s : Site) → home ≡ home_at files s.place.file → slice_get all i ≡ Some s → IsReady rows k i s → IsMeant spots (ended rows (is_step files rows home file) texts s.place) (walk table spots home (map (step_of files rows file) texts) i)
+  reached home file texts i s own at ready = (leads home file texts).0 i s own at ready

@@ -9,7 +9,7 @@ use Rattle.yv_expansion.specs.Tree.{Item}
 use Rattle.yv_expansion.specs.Tree.{count}
 use Rattle.yv_rows.specs.Rows.{Row}
 use Rattle.yv_rows.specs.Files.{Briefs, home_at}
-use Rattle.yv_refines.specs.Targets.{is_at, is_uses}
+use Rattle.yv_refines.specs.Targets.{is_at, is_case, is_choice, is_uses}
 use Rattle.yv_refines.specs.InnerSites.{Site, AreSites, AreEnds, StandsBelow, item_of, name_by, spot_of, home_by, above_spot, above_at, next_spot}
 use Rattle.yv_refines.specs.declared.spots.Spot.{Spot}
 use Rattle.yv_refines.proofs.Naming.{mapped_more}
@@ -59,6 +59,8 @@ module _ (files : Briefs) (rows : List Row) (items : List Item) (sites : List Si
         origin = (number_of s.place.origin);
         home = (above t).1;
         is_uses = is_at is_uses rows (number_of s.place.origin);
+        is_choice = is_at is_choice rows (number_of s.place.origin);
+        is_case = is_at is_case rows (number_of s.place.origin);
         name = name_by rows (above t).1 s.place.origin;
         group = (above t).0;
         inside = if is_at is_uses rows (number_of s.place.origin) then (above t).0 else number t;

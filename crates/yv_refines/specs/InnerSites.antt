@@ -8,7 +8,7 @@ use Rattle.yv_expansion.specs.Tree.{Item}
 use Rattle.yv_rows.specs.Files.{Briefs, home_at}
 use Rattle.yv_rows.specs.Rows.{Row}
 use Rattle.yv_refines.specs.Places.{Place}
-use Rattle.yv_refines.specs.Targets.{is_at, is_uses, name_at}
+use Rattle.yv_refines.specs.Targets.{is_at, is_case, is_choice, is_uses, name_at}
 use Rattle.yv_paths.specs.Names.{qualified}
 use Rattle.yv_paths.specs.Names.{number_of as number_of_name}
 use Rattle.yv_refines.specs.declared.spots.Spot.{Spot}
@@ -101,6 +101,8 @@ spot_of files rows s = record {
   origin = number_of s.place.origin;
   home = home_at files s.place.file;
   is_uses = is_at is_uses rows (number_of s.place.origin);
+  is_choice = is_at is_choice rows (number_of s.place.origin);
+  is_case = is_at is_case rows (number_of s.place.origin);
   name = name_by rows (home_at files s.place.file) s.place.origin;
   group = s.group;
   inside = inside_of rows s;
@@ -128,6 +130,8 @@ next_spot files rows spots x end = record {
   origin = number_of x.origin;
   home = (above_by files rows spots x).1;
   is_uses = is_at is_uses rows (number_of x.origin);
+  is_choice = is_at is_choice rows (number_of x.origin);
+  is_case = is_at is_case rows (number_of x.origin);
   name = name_by rows (above_by files rows spots x).1 x.origin;
   group = (above_by files rows spots x).0;
   inside = if is_at is_uses rows (number_of x.origin) then (above_by files rows spots x).0 else length spots + 1;

@@ -1,5 +1,5 @@
 -- At which node a path ends (RFC 7950, sections 6.5 and 7.13.2).
-use Rattle.std.specs.Prelude.{ℕ, ◌+◌, Bool, false, List, [], ◌∷◌, ◌++◌, if◌then◌else◌, Option, Some, None, codes, slice_get}
+use Rattle.std.specs.Prelude.{ℕ, ◌+◌, ◌&&◌, not, Bool, false, List, [], ◌∷◌, ◌++◌, if◌then◌else◌, Option, Some, None, codes, slice_get}
 use Rattle.std.specs.List.{find}
 use Rattle.std.specs.Option.{option_map, option_and_then}
 use Rattle.yv_expansion.specs.Origin.{number_of}
@@ -45,9 +45,41 @@ is_name test (Some name) = test name
 abbrev pub is_named : (List ℕ → Bool) → List Row → Origin → Bool
 is_named test rows origin = is_name test (name_at rows origin)
 
--- the place to which steps lead: each to the first node that answers it, among the nodes below the place before
+abbrev pub is_choice : Row → Bool
+is_choice r = has_word (codes "choice") r.head
+
+abbrev pub is_case : Row → Bool
+is_case r = has_word (codes "case") r.head
+
+-- where a path is after some of its steps: at a node, or at the case that is left out around a node
+pub data Waypoint : Type 0 where
+  at_node : Place → Waypoint
+  at_left_out_case : Place → Waypoint
+
+-- a node directly in a choice that is no case stands in a case of its name that is left out (RFC 7950, section 7.9.2)
+abbrev pub is_case_left_out : List Row → (above below : Place) → Bool
+is_case_left_out rows above below = is_at is_choice rows (number_of above.origin) && not (is_at is_case rows (number_of below.origin))
+
+-- where a path is that came down from one node to another
+abbrev pub arrived : List Row → (above below : Place) → Waypoint
+arrived rows above below = if is_case_left_out rows above below then at_left_out_case below else at_node below
+
+-- where a step leads: to the first node that answers it among those below the node before
+abbrev pub stepped : List Row → (List ℕ → Bool) → Waypoint → Option Waypoint
+stepped rows answers (at_node p) =
+    option_map (arrived rows p) (find (λ q. is_named answers rows q.origin) (nodes rows p.file (p.number + 1) p.below))
+stepped rows answers (at_left_out_case p) = if is_named answers rows p.origin then Some (at_node p) else None
+
+-- where steps lead, one after the other
+abbrev pub led : List Row → ((step name : List ℕ) → Bool) → List (List ℕ) → Waypoint → Option Waypoint
+led rows answers [] w = Some w
+led rows answers (s ∷ ss) w = option_and_then (led rows answers ss) (stepped rows (answers s) w)
+
+-- a case that is left out is no node
+abbrev pub node_at : Waypoint → Option Place
+node_at (at_node p) = Some p
+node_at (at_left_out_case p) = None
+
+-- the node at which a path ends that starts at this one
 abbrev pub ended : List Row → ((step name : List ℕ) → Bool) → List (List ℕ) → Place → Option Place
-ended rows answers [] p = Some p
-ended rows answers (s ∷ ss) p =
-    option_and_then (λ q. ended rows answers ss q)
-    (find (λ q. is_named (answers s) rows q.origin) (nodes rows p.file (p.number + 1) p.below))
+ended rows answers steps p = option_and_then node_at (led rows answers steps (at_node p))

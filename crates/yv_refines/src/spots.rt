@@ -1,11 +1,11 @@
 //! What is kept of each item.
 ghost use Rattle.std.specs.Prelude.{◌≡◌, List, map, IfOk, slice_get};
 ghost use Rattle.std.specs.Option.{unwrap_or};
-ghost use Rattle.yv_rows.specs.Files.{Briefs};
+ghost use Rattle.yv_rows.specs.Files.{Briefs, has_word};
 ghost use Rattle.yv_rows.specs.Lent.{files_in, rows_in};
 ghost use Rattle.yv_rows.specs.Rows.{Row};
 ghost use Rattle.yv_paths.specs.Known.{AreNames};
-ghost use Rattle.yv_refines.specs.Targets.{is_at, is_uses};
+ghost use Rattle.yv_refines.specs.Targets.{is_at};
 ghost use Rattle.yv_refines.specs.InnerSites.{AreHomes, AreEnds, AreSites, Site, number_in, spot_of, home_by, above_by, next_spot};
 
 use std::alloc::{AllocError, Global};
@@ -14,13 +14,15 @@ use yv_paths::{Names, qualified};
 use yv_rows::Rows;
 
 /// An item: the number of the statement of which it is made, the file of the module to which it belongs, whether it is a
-/// uses, the number of its module and name, the group of nodes in which it stands, that of the nodes below it, and the number behind
+/// uses, a choice or a case, the number of its module and name, the group of nodes in which it stands, that of the nodes below it, and the number behind
 /// the last item below it. A group has the number of the node above it and one, and that at the top of a file is 0.
 #[derive(Clone, Copy)]
 pub(crate) struct Spot {
     pub origin: usize,
     pub home: u32,
     pub is_uses: bool,
+    pub is_choice: bool,
+    pub is_case: bool,
     pub name: usize,
     pub group: usize,
     pub inside: usize,
@@ -41,12 +43,12 @@ fn homes(alloc: Global, rows: &Rows<'_, '_>) -> Result<Vec<u32>, AllocError>
     Ok(homes)
 }
 
-// Whether a statement is a uses.
-fn is_uses(rows: &Rows<'_, '_>, number: usize) -> bool
-    ensures { result ≡ is_at is_uses (rows_in rows.now) number }
+// Whether a statement is of this keyword.
+fn is_a(rows: &Rows<'_, '_>, keyword: &str, number: usize) -> bool
+    ensures { result ≡ is_at (λ row. has_word keyword.now row.head) (rows_in rows.now) number }
 {
     match rows.entries().get(number) {
-        Some(entry) => entry.statement.keyword() == "uses",
+        Some(entry) => entry.statement.keyword() == keyword,
         None => false,
     }
 }
@@ -102,13 +104,16 @@ fn next_spot(
         → result ≡ next_spot files (rows_in rows.now) spots.now item.now end }
 {
     let (group, home) = above(rows, homes, spots, item);
-    let is_uses = is_uses(rows, item.origin.number());
+    let statement = item.origin.number();
+    let is_uses = is_a(rows, "uses", statement);
     let name = qualified(home, number(names, item.origin).unwrap_or(0));
     let inside = if is_uses { group } else { spots.len() + 1 };
     Spot {
-        origin: item.origin.number(),
+        origin: statement,
         home,
         is_uses,
+        is_choice: is_a(rows, "choice", statement),
+        is_case: is_a(rows, "case", statement),
         name,
         group,
         inside,
