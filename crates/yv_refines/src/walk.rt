@@ -67,8 +67,8 @@ fn below(
 fn entered(home: u32, step: Option<Step>, number: usize, spot: &Spot) -> Option<Reached>
     ensures { result ≡ entered home step number spot.now }
 {
-    let name = step?.number(home);
-    if spot.name == name {
+    let wanted = step?.number(home);
+    if spot.name == wanted {
         Some(Reached::Node(number))
     } else {
         None

@@ -8,7 +8,7 @@ use Rattle.yv_statement.specs.declared.refusal.Refusal.{Refusal}
 use Rattle.yv_statement.specs.Order.{Among}
 use Rattle.yv_properties.specs.declared.kind.NodeKind.{NodeKind}
 use Rattle.yv_properties.specs.declared.kind.NodeKind.TheVariants as kind
-use Rattle.yv_properties.specs.Kinds.{is_case, is_choice, is_passed}
+use Rattle.yv_properties.specs.Kinds.{is_case, is_choice, is_data, is_passed}
 use Rattle.yv_nodes.specs.declared.node.NodeId.{NodeId}
 use Rattle.yv_nodes.specs.Tree.{count, Label, node, Forest, no_trees, tree, labels}
 use Rattle.yv_nodes.specs.Places.{Place, places, places_below}
@@ -23,7 +23,7 @@ use Rattle.yv_tables.proofs.Grouping.{rows_joined}
 use Rattle.yv_tables.proofs.Keeping.{map_get, map_got}
 use Rattle.yv_tables.proofs.Members.{append_all, family_other, labels_joined}
 use Rattle.yv_tables.proofs.Numbers.{length_rows}
-use Rattle.yv_tables.proofs.Sitting.{kids_sit, others_sit, picked_sit}
+use Rattle.yv_tables.proofs.Sitting.{kids_sit, others_sit, passed_no_data, picked_sit}
 
 -- P holds of one of these
 abbrev pub Any : {X : Type 0} → List X → (X → Refusal → Type 0) → Refusal → Type 0
@@ -351,18 +351,18 @@ top_label (g ∷ gs) k l formed at =
       | inr h ↦ top_label gs h.0 l formed.1 h.2
     ]
 
--- of nodes whose names have to differ those that are no choice
+-- of nodes whose names have to differ those that are data nodes
 abbrev pub kept : List Label → List Label
 kept [] = []
-kept (l ∷ ls) = cond (is_passed l.defined.kind) (kept ls) (l ∷ kept ls)
+kept (l ∷ ls) = cond (is_data l.defined.kind) (l ∷ kept ls) (kept ls)
 
 kept_append : (ls ms : List Label) → kept (ls ++ ms) ≡ kept ls ++ kept ms
 kept_append [] ms = refl
-kept_append (l ∷ ls) ms = by (is_passed l.defined.kind) (kept_append ls ms)
+kept_append (l ∷ ls) ms = by (is_data l.defined.kind) (kept_append ls ms)
   where
-    by : (b : Bool) → kept (ls ++ ms) ≡ kept ls ++ kept ms → cond b (kept (ls ++ ms)) (l ∷ kept (ls ++ ms)) ≡ cond b (kept ls) (l ∷ kept ls) ++ kept ms
-    by true e = e
-    by false e = ap (λ (ks : List Label). l ∷ ks) e
+    by : (b : Bool) → kept (ls ++ ms) ≡ kept ls ++ kept ms → cond b (l ∷ kept (ls ++ ms)) (kept (ls ++ ms)) ≡ cond b (l ∷ kept ls) (kept ls) ++ kept ms
+    by true e = ap (λ (ks : List Label). l ∷ ks) e
+    by false e = e
 
 case_passed : (k : NodeKind) → is_passed k ≡ false → is_case k ≡ false
 case_passed kind.Case h = absurd (false≢true (sym h))
@@ -372,41 +372,46 @@ pub kept_opened : (ts : Forest) → labels (opened_trees ts) ≡ kept (opened ts
 kept_opened no_trees = refl
 kept_opened (tree (node l kids) ts) =
     let here : List Label = cond (is_case l.defined.kind) [] (l ∷ []) in
-    by (is_case l.defined.kind) (is_passed l.defined.kind) refl (case_passed l.defined.kind) (kept_opened kids) (kept_opened ts)
-    ∙ sym (kept_append (here ++ cond (is_passed l.defined.kind) (opened kids) []) (opened ts)
-    ∙ ap (λ (ks : List Label). ks ++ kept (opened ts)) (kept_append here (cond (is_passed l.defined.kind) (opened kids) [])))
+    let inner : List Label = cond (is_passed l.defined.kind) (opened kids) [] in
+    let own : Forest = cond (is_passed l.defined.kind) (opened_trees kids) (cond (is_data l.defined.kind) (tree (node l kids) no_trees) no_trees) in
+    labels_joined own (opened_trees ts)
+    ∙ ap (λ (ls : List Label). labels own ++ ls) (kept_opened ts)
+    ∙ ap (λ (ls : List Label). ls ++ kept (opened ts)) (by (is_case l.defined.kind) (is_passed l.defined.kind) (is_data l.defined.kind) refl (case_passed l.defined.kind) (passed_no_data l.defined.kind) (kept_opened kids))
+    ∙ sym (kept_append (here ++ inner) (opened ts) ∙ ap (λ (ks : List Label). ks ++ kept (opened ts)) (kept_append here inner))
   where
-    by : (b p : Bool) → is_passed l.defined.kind ≡ p → (p ≡ false → b ≡ false) → labels (opened_trees kids) ≡ kept (opened kids) → labels (opened_trees ts) ≡ kept (opened ts)
-        → labels (cond p (joined (opened_trees kids) (opened_trees ts)) (tree (node l kids) (opened_trees ts))) ≡ kept (cond b [] (l ∷ [])) ++ kept (cond p (opened kids) []) ++ kept (opened ts)
-    by true true e only own rest = labels_joined (opened_trees kids) (opened_trees ts) ∙ ap (λ (ls : List Label). ls ++ labels (opened_trees ts)) own ∙ ap (λ (ls : List Label). kept (opened kids) ++ ls) rest
-    by false true e only own rest = rw e (labels_joined (opened_trees kids) (opened_trees ts) ∙ ap (λ (ls : List Label). ls ++ labels (opened_trees ts)) own ∙ ap (λ (ls : List Label). kept (opened kids) ++ ls) rest)
-    by true false e only own rest = absurd (false≢true (sym (only refl)))
-    by false false e only own rest = rw e (ap (λ (ls : List Label). l ∷ ls) rest)
+    by : (case passed of_data : Bool) → is_data l.defined.kind ≡ of_data → (passed ≡ false → case ≡ false) → (passed ≡ true → of_data ≡ false) → labels (opened_trees kids) ≡ kept (opened kids)
+        → labels (cond passed (opened_trees kids) (cond of_data (tree (node l kids) no_trees) no_trees)) ≡ kept (cond case [] (l ∷ [])) ++ kept (cond passed (opened kids) [])
+    by true true of_data e only apart inside = inside
+    by false true true e only apart inside = absurd (false≢true (sym (apart refl)))
+    by false true false e only apart inside = rw e inside
+    by true false of_data e only apart inside = absurd (false≢true (sym (only refl)))
+    by false false true e only apart inside = rw e refl
+    by false false false e only apart inside = rw e refl
 
 -- where two of the kept stand
 kept_at : (ls : List Label) (k : ℕ) (a : Label) → slice_get (kept ls) k ≡ Some a → (j : ℕ) × (slice_get ls j ≡ Some a)
 kept_at [] k a at = cc
-kept_at (l ∷ ls) k a at = by (is_passed l.defined.kind) k at (kept_at ls)
+kept_at (l ∷ ls) k a at = by (is_data l.defined.kind) k at (kept_at ls)
   where
-    by : (b : Bool) (k : ℕ) → slice_get (cond b (kept ls) (l ∷ kept ls)) k ≡ Some a → ((k : ℕ) (a : Label) → slice_get (kept ls) k ≡ Some a → (j : ℕ) × (slice_get ls j ≡ Some a)) → (j : ℕ) × (slice_get (l ∷ ls) j ≡ Some a)
-    by true k at later = let found = later k a at in (suc found.0, found.1)
-    by false zero at later = (zero, at)
-    by false (suc k) at later = let found = later k a at in (suc found.0, found.1)
+    by : (b : Bool) (k : ℕ) → slice_get (cond b (l ∷ kept ls) (kept ls)) k ≡ Some a → ((k : ℕ) (a : Label) → slice_get (kept ls) k ≡ Some a → (j : ℕ) × (slice_get ls j ≡ Some a)) → (j : ℕ) × (slice_get (l ∷ ls) j ≡ Some a)
+    by false k at later = let found = later k a at in (suc found.0, found.1)
+    by true zero at later = (zero, at)
+    by true (suc k) at later = let found = later k a at in (suc found.0, found.1)
 
 abbrev TwoAt : List Label → Label → Label → Type 0
 TwoAt ls a b = (i : ℕ) × (k : ℕ) × (i < k) × (slice_get ls i ≡ Some a) × (slice_get ls k ≡ Some b)
 
 pub kept_two : (ls : List Label) (i k : ℕ) (a b : Label) → i < k → slice_get (kept ls) i ≡ Some a → slice_get (kept ls) k ≡ Some b → (i : ℕ) × (k : ℕ) × (i < k) × (slice_get ls i ≡ Some a) × (slice_get ls k ≡ Some b)
 kept_two [] i k a b lt at_i at_k = cc
-kept_two (l ∷ ls) i k a b lt at_i at_k = by (is_passed l.defined.kind) i k lt at_i at_k (λ i k. kept_two ls i k a b) (kept_at ls)
+kept_two (l ∷ ls) i k a b lt at_i at_k = by (is_data l.defined.kind) i k lt at_i at_k (λ i k. kept_two ls i k a b) (kept_at ls)
   where
-    by : (c : Bool) (i k : ℕ) → i < k → slice_get (cond c (kept ls) (l ∷ kept ls)) i ≡ Some a → slice_get (cond c (kept ls) (l ∷ kept ls)) k ≡ Some b
+    by : (c : Bool) (i k : ℕ) → i < k → slice_get (cond c (l ∷ kept ls) (kept ls)) i ≡ Some a → slice_get (cond c (l ∷ kept ls) (kept ls)) k ≡ Some b
         → ((i k : ℕ) → i < k → slice_get (kept ls) i ≡ Some a → slice_get (kept ls) k ≡ Some b → TwoAt ls a b)
         → ((k : ℕ) (a : Label) → slice_get (kept ls) k ≡ Some a → (j : ℕ) × (slice_get ls j ≡ Some a)) → TwoAt (l ∷ ls) a b
-    by true i k lt at_i at_k later one = let h = later i k lt at_i at_k in (suc h.0, suc h.1, omega (arith, h.2), h.3, h.4)
-    by false i zero lt at_i at_k later one = absurd (omega (arith, lt))
-    by false zero (suc k) lt at_i at_k later one = let h = one k b at_k in (zero, suc h.0, omega arith, at_i, h.1)
-    by false (suc i) (suc k) lt at_i at_k later one = let h = later i k (omega (arith, lt)) at_i at_k in (suc h.0, suc h.1, omega (arith, h.2), h.3, h.4)
+    by false i k lt at_i at_k later one = let h = later i k lt at_i at_k in (suc h.0, suc h.1, omega (arith, h.2), h.3, h.4)
+    by true i zero lt at_i at_k later one = absurd (omega (arith, lt))
+    by true zero (suc k) lt at_i at_k later one = let h = one k b at_k in (zero, suc h.0, omega arith, at_i, h.1)
+    by true (suc i) (suc k) lt at_i at_k later one = let h = later i k (omega (arith, lt)) at_i at_k in (suc h.0, suc h.1, omega (arith, h.2), h.3, h.4)
 
 -- no two of these have one member
 abbrev pub AreDistinct : List Label → Type 0
@@ -445,8 +450,8 @@ family_plain k kids h = family_other k kids (choice_passed k h) (case_passed k h
 
 pub kept_each : (P : Label → Type 0) (ls : List Label) → AllByRecursion P ls → AllByRecursion P (kept ls)
 kept_each P [] h = tt
-kept_each P (l ∷ ls) h = by (is_passed l.defined.kind) (kept_each P ls h.1)
+kept_each P (l ∷ ls) h = by (is_data l.defined.kind) (kept_each P ls h.1)
   where
-    by : (b : Bool) → AllByRecursion P (kept ls) → AllByRecursion P (cond b (kept ls) (l ∷ kept ls))
-    by true k = k
-    by false k = (h.0, k)
+    by : (b : Bool) → AllByRecursion P (kept ls) → AllByRecursion P (cond b (l ∷ kept ls) (kept ls))
+    by true k = (h.0, k)
+    by false k = k

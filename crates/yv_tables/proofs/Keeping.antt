@@ -16,9 +16,8 @@ use Rattle.yv_nodes.specs.declared.node.NodeId.{NodeId}
 use Rattle.yv_nodes.specs.Tree.{Label}
 use Rattle.yv_tables.specs.Doubled.{doubled_at}
 use Rattle.yv_nodes.specs.Rows.{Row, blank_row}
-use Rattle.yv_properties.specs.Kinds.{is_passed}
 use Rattle.yv_tables.specs.Groups.{Top}
-use Rattle.yv_tables.specs.InnerSits.{inside_of}
+use Rattle.yv_tables.specs.InnerSits.{members_of}
 use Rattle.yv_tables.specs.InnerTables.{DifferInName, IsNamesake, IsTable, ModuleTable, Namesakes, Table, called, called_at, called_in, either, get_by_name, in_table, kept_first, labels_at, look_up, opened_top}
 
 -- where nothing stood at the name, a child that is put there is the first one
@@ -140,9 +139,9 @@ module _ (rows : List Row) where
       labels_length [] = refl
       labels_length (d ∷ ds) = ap suc (labels_length ds)
 
-  -- a table has what is inside a node, where it is no choice or case
+  -- a table has what is inside a node
   abbrev pub Gives : Row → Table → Type 0
-  Gives row table = is_passed row.label.defined.kind ≡ false → IsTable rows (inside_of rows row.children) table
+  Gives row table = IsTable rows (members_of rows row) table
 
   -- a table for each of the first n nodes
   pub record AreTablesUpTo (tables : List Table) (n : ℕ) : Type 0 where

@@ -2,7 +2,7 @@
 use Rattle.std.proofs.Common.{◌≡◌, ℕ, ◌+◌, ◌<◌, ◌≤◌, ◌⊎◌, ◌||◌, ◌==◌, inl, inr, List, [], ◌∷◌, ◌++◌, length, map, refl, sym, ap, ◌∙◌, subst, arith, append_assoc, All, Bool, true, false, cond, Option, Some, None}
 use Rattle.std.specs.List.{AllByRecursion, list_any, slice_get}
 use Rattle.std.specs.Str.{bytes_eq}
-use Rattle.std.proofs.lemmas.Bool.{false≢true}
+use Rattle.std.proofs.lemmas.Bool.{cases_Bool, false≢true}
 use Rattle.std.proofs.lemmas.List.Elements.{All-from_recursion}
 use Rattle.std.proofs.lemmas.Option.{slice_get_within}
 use Rattle.std.proofs.lemmas.Slice.Eq.{bytes_eq-Decides}
@@ -13,13 +13,13 @@ use Rattle.yv_properties.specs.Kinds.{is_passed}
 use Rattle.yv_nodes.specs.declared.node.NodeId.{NodeId}
 use Rattle.yv_nodes.specs.Tree.{count, Forest, Label, labels, node, no_trees, tree}
 use Rattle.yv_nodes.specs.Places.{Place, places}
-use Rattle.yv_nodes.specs.Rows.{Row, Rows, children_of, is_root, rank, root, row_at, whole}
+use Rattle.yv_nodes.specs.Rows.{Row, Rows, below, children_of, is_root, rank, root, row_at, whole}
 use Rattle.yv_nodes.specs.Numbers.{numbers_from, rows_below, rows_from, rows_of}
 use Rattle.yv_tables.specs.Opened.{opened_from, opened_trees}
 use Rattle.yv_tables.specs.Doubled.{Doubled, Repeated, opened}
 use Rattle.yv_tables.specs.Groups.{AreRowsOf, Group, HasNoColon, Top, all_nodes, all_numbers, tops_from, IsFormed}
-use Rattle.yv_tables.specs.Sound.{inside, named}
-use Rattle.yv_tables.specs.InnerSits.{HaveTrees, Sits, family_in, inside_of, picked}
+use Rattle.yv_tables.specs.Sound.{inside, is_object, named}
+use Rattle.yv_tables.specs.InnerSits.{HaveTrees, Sits, family_in, inside_of, members_of, picked}
 use Rattle.yv_tables.specs.InnerTables.{AreTables, IsKept, ModuleTable, Namesakes, Table, called, called_at, called_in, either, look_up, opened_top}
 use Rattle.yv_tables.proofs.Colons.{rank_below}
 use Rattle.yv_tables.proofs.Doubling.{Any, AreDistinct, IsPlaceFormed, all_formed, among_any, any_among, any_family, any_map, any_top, colon_cut, distinct_below, distinct_top, families_sit, family_any, family_at, family_plain, pair_repeated, pair_top, repeated_pair, sit_first, sit_second, told_at, top_any, top_pair}
@@ -27,7 +27,7 @@ use Rattle.yv_tables.proofs.Finding.{HasFront, fronted_in, named_fronted, named_
 use Rattle.yv_tables.proofs.Grouping.{all_numbered}
 use Rattle.yv_tables.proofs.Members.{append_all, opened_from_joined}
 use Rattle.yv_tables.proofs.Numbers.{length_rows, whole_rows}
-use Rattle.yv_tables.proofs.Placed.{IsParent, IsPlaced, inside_parent, below_in, parent_in, sound_rows}
+use Rattle.yv_tables.proofs.Placed.{IsParent, IsPlaced, inside_nothing, inside_object, inside_parent, below_in, parent_in, sound_rows}
 use Rattle.yv_tables.proofs.Sitting.{all_sit, inside_have, kids_sit, others_sit}
 
 rows_have : (rows : List Row) (parent : NodeId) (at : ℕ) (ts : Forest) → Sits rows at ts → AllByRecursion (λ (row : Row). HaveTrees rows row.children) (rows_below parent at ts)
@@ -201,7 +201,8 @@ module _ (limit : ℕ) (gs : List Group) (nodes : List Row) (tops : List Top) (b
     whole_made = ap whole (sym same) ∙ whole_rows limit (all_nodes gs)
 
     -- what is in an object below the top has its name as its member
-    fronted_below : (p : NodeId) → rank p ≤ length (rows_from 0 (all_nodes gs)) → is_root p ≡ false → is_passed (row_at built p).label.defined.kind ≡ false → AllByRecursion (HasFront built []) (inside built p)
+    fronted_below : (p : NodeId) → rank p ≤ length (rows_from 0 (all_nodes gs)) → is_root p ≡ false → is_passed (row_at built p).label.defined.kind ≡ false
+        → AllByRecursion (HasFront built []) (opened_from (rank p) (below built p))
     fronted_below p within inner met =
         let parent : IsParent built all p = parent_in limit all p within in
         rw (below_in limit all p parent) (by parent.kids parent.which parent.sit)
@@ -216,13 +217,27 @@ module _ (limit : ℕ) (gs : List Group) (nodes : List Row) (tops : List Top) (b
             subst (λ (ts : Forest). AllByRecursion (HasFront built []) (opened_from (rank p) ts)) h.is_below
             (subst (λ (front : List ℕ). AllByRecursion (HasFront built front) (opened_from (rank p) h.place.kids)) plain each)
 
-    below_built : (p : NodeId) (member : List ℕ) → p.0 < length (rows_from 0 (all_nodes gs)) → is_root p ≡ false → is_passed (row_at built p).label.defined.kind ≡ false
+    object_built : (p : NodeId) (member : List ℕ) → p.0 < length (rows_from 0 (all_nodes gs)) → is_root p ≡ false → is_passed (row_at built p).label.defined.kind ≡ false
         → called (rows_from 0 (all_nodes gs)) (inside_of (rows_from 0 (all_nodes gs)) (row_at built p).children) member ≡ named built (inside built p) member
-    below_built p member lt inner met =
+    object_built p member lt inner met =
         let within : rank p ≤ length (rows_from 0 (all_nodes gs)) = omega (arith, rank_below p inner, lt) in
         let children : children_of built p ≡ (row_at built p).children = rw inner refl in
-        ap (λ (cs : List NodeId). called (rows_from 0 (all_nodes gs)) cs member) (ap (inside_of (rows_from 0 (all_nodes gs))) (sym children) ∙ inside_parent limit all p within)
-        ∙ sym (named_fronted built [] (inside built p) member (fronted_below p within inner met))
+        let object : is_object built p ≡ true = rw (inner, met) refl in
+        let are : opened_from (rank p) (below built p) ≡ inside built p = sym (inside_object built p object) in
+        ap (λ (cs : List NodeId). called (rows_from 0 (all_nodes gs)) cs member) (ap (inside_of (rows_from 0 (all_nodes gs))) (sym children) ∙ inside_parent limit all p within object)
+        ∙ sym (named_fronted built [] (inside built p) member (subst (λ (cs : List NodeId). AllByRecursion (HasFront built []) cs) are (fronted_below p within inner met)))
+
+    below_built : (p : NodeId) (member : List ℕ) → p.0 < length (rows_from 0 (all_nodes gs)) → is_root p ≡ false
+        → called (rows_from 0 (all_nodes gs)) (members_of (rows_from 0 (all_nodes gs)) (row_at built p)) member ≡ named built (inside built p) member
+    below_built p member lt inner = elim (cases_Bool (is_passed (row_at built p).label.defined.kind)) [
+      | inl passed ↦
+          let none : is_object built p ≡ false = rw (inner, passed) refl in
+          let first : members_of (rows_from 0 (all_nodes gs)) (row_at built p) ≡ [] = rw passed refl in
+          ap (λ (cs : List NodeId). called (rows_from 0 (all_nodes gs)) cs member) first ∙ ap (λ (cs : List NodeId). named built cs member) (sym (inside_nothing built p none))
+      | inr met ↦
+          let first : members_of (rows_from 0 (all_nodes gs)) (row_at built p) ≡ inside_of (rows_from 0 (all_nodes gs)) (row_at built p).children = rw met refl in
+          ap (λ (cs : List NodeId). called (rows_from 0 (all_nodes gs)) cs member) first ∙ object_built p member lt inner met
+    ]
 
     kept_built : (modules : ModuleTable) (tables : List Table)
         → ((name text : List ℕ) → look_up modules name text ≡ called_in (rows_from 0 (all_nodes gs)) (map (opened_top (rows_from 0 (all_nodes gs))) (tops_from 0 gs)) name text)
@@ -236,8 +251,8 @@ module _ (limit : ℕ) (gs : List Group) (nodes : List Row) (tops : List Top) (b
           top = λ home name plain.
               known home name ∙ sym (in_modules built 0 gs home name b.are_rows.formed plain (all_sit all)) ∙ ap (λ (cs : List NodeId). named built cs (home ++ 58 ∷ name)) at_root;
           none = λ member plain. ap (λ (cs : List NodeId). named built cs member) (sym at_root) ∙ in_none built 0 gs member b.are_rows.formed plain (all_sit all);
-          below = λ p table member inner met at.
-              (are.gives p.0 table at met).gives member ∙ below_built p member (omega (arith, slice_get_within tables p.0 table at, are.each)) inner met;
+          below = λ p table member inner at.
+              (are.gives p.0 table at).gives member ∙ below_built p member (omega (arith, slice_get_within tables p.0 table at, are.each)) inner;
         }
 
     pub kept_made : (modules : ModuleTable) (tables : List Table) → ((name text : List ℕ) → look_up modules name text ≡ called_in nodes (map (opened_top nodes) tops) name text) → AreTables nodes tables

@@ -3,7 +3,7 @@ use Rattle.std.proofs.Common.{◌≡◌, ℕ, ◌+◌, ◌<◌, ◌≤◌, List,
 use Rattle.std.specs.List.{AllByRecursion, slice_index_or}
 use Rattle.std.proofs.lemmas.List.{map-append}
 use Rattle.std.proofs.lemmas.List.Elements.{All-from_recursion}
-use Rattle.yv_properties.specs.Kinds.{is_case, is_choice, is_passed}
+use Rattle.yv_properties.specs.Kinds.{is_case, is_choice, is_data, is_passed}
 use Rattle.yv_properties.specs.declared.kind.NodeKind.{NodeKind}
 use Rattle.yv_nodes.specs.declared.node.NodeId.{NodeId}
 use Rattle.yv_nodes.specs.Tree.{count, Forest, Label, labels, no_trees, node, tree}
@@ -37,13 +37,15 @@ pub opened_in : (at : ℕ) (ts : Forest) → AreWithin at (at + count ts) (opene
 opened_in at no_trees = tt
 opened_in at (tree (node l kids) ts) =
     let n : ℕ = at + count (tree (node l kids) ts) in
-    append_all (λ (c : NodeId). (at ≤ c.0) × (c.0 < n)) (cond (is_passed l.defined.kind) (opened_from (at + 1) kids) (record { 0 = at } ∷ [])) (opened_from (at + 1 + count kids) ts)
-    (first (is_passed l.defined.kind) (opened_in (at + 1) kids))
+    append_all (λ (c : NodeId). (at ≤ c.0) × (c.0 < n)) (cond (is_passed l.defined.kind) (opened_from (at + 1) kids) (cond (is_data l.defined.kind) (record { 0 = at } ∷ []) [])) (opened_from (at + 1 + count kids) ts)
+    (first (is_passed l.defined.kind) (is_data l.defined.kind) (opened_in (at + 1) kids))
     (wider (at + 1 + count kids) (at + 1 + count kids + count ts) at n (opened_from (at + 1 + count kids) ts) (omega arith) (omega arith) (opened_in (at + 1 + count kids) ts))
   where
-    first : (b : Bool) → AreWithin (at + 1) (at + 1 + count kids) (opened_from (at + 1) kids) → AreWithin at (at + count (tree (node l kids) ts)) (cond b (opened_from (at + 1) kids) (record { 0 = at } ∷ []))
-    first true h = wider (at + 1) (at + 1 + count kids) at (at + count (tree (node l kids) ts)) (opened_from (at + 1) kids) (omega arith) (omega arith) h
-    first false h = ((omega arith, omega arith), tt)
+    first : (passed of_data : Bool) → AreWithin (at + 1) (at + 1 + count kids) (opened_from (at + 1) kids)
+        → AreWithin at (at + count (tree (node l kids) ts)) (cond passed (opened_from (at + 1) kids) (cond of_data (record { 0 = at } ∷ []) []))
+    first true of_data h = wider (at + 1) (at + 1 + count kids) at (at + count (tree (node l kids) ts)) (opened_from (at + 1) kids) (omega arith) (omega arith) h
+    first false true h = ((omega arith, omega arith), tt)
+    first false false h = tt
 
 told_in : (at : ℕ) (ts : Forest) → AreWithin at (at + count ts) (told_from at ts)
 told_in at no_trees = tt
@@ -98,14 +100,18 @@ labels_sit rows at (tree (node l kids) ts) h =
 pub labels_opened : (rows : List Row) (at : ℕ) (ts : Forest) → Sits rows at ts → labels_at rows (opened_from at ts) ≡ labels (opened_trees ts)
 labels_opened rows at no_trees h = refl
 labels_opened rows at (tree (node l kids) ts) h =
-    map-append (label_in rows) (cond (is_passed l.defined.kind) (opened_from (at + 1) kids) (record { 0 = at } ∷ [])) (opened_from (at + 1 + count kids) ts)
-    ∙ ap (λ (ls : List Label). labels_at rows (cond (is_passed l.defined.kind) (opened_from (at + 1) kids) (record { 0 = at } ∷ [])) ++ ls) (labels_opened rows (at + 1 + count kids) ts (others_sit rows at l kids ts h))
-    ∙ by (is_passed l.defined.kind) (labels_opened rows (at + 1) kids (kids_sit rows at l kids ts h))
+    let here : List NodeId = cond (is_passed l.defined.kind) (opened_from (at + 1) kids) (cond (is_data l.defined.kind) (record { 0 = at } ∷ []) []) in
+    let own : Forest = cond (is_passed l.defined.kind) (opened_trees kids) (cond (is_data l.defined.kind) (tree (node l kids) no_trees) no_trees) in
+    map-append (label_in rows) here (opened_from (at + 1 + count kids) ts)
+    ∙ ap (λ (ls : List Label). labels_at rows here ++ ls) (labels_opened rows (at + 1 + count kids) ts (others_sit rows at l kids ts h))
+    ∙ ap (λ (ls : List Label). ls ++ labels (opened_trees ts)) (by (is_passed l.defined.kind) (is_data l.defined.kind) (labels_opened rows (at + 1) kids (kids_sit rows at l kids ts h)))
+    ∙ sym (labels_joined own (opened_trees ts))
   where
-    by : (b : Bool) → labels_at rows (opened_from (at + 1) kids) ≡ labels (opened_trees kids)
-        → labels_at rows (cond b (opened_from (at + 1) kids) (record { 0 = at } ∷ [])) ++ labels (opened_trees ts) ≡ labels (cond b (joined (opened_trees kids) (opened_trees ts)) (tree (node l kids) (opened_trees ts)))
-    by true e = ap (λ (ls : List Label). ls ++ labels (opened_trees ts)) e ∙ sym (labels_joined (opened_trees kids) (opened_trees ts))
-    by false e = ap (λ (r : Row). r.label ∷ labels (opened_trees ts)) (row_first rows at l kids ts h)
+    by : (passed of_data : Bool) → labels_at rows (opened_from (at + 1) kids) ≡ labels (opened_trees kids)
+        → labels_at rows (cond passed (opened_from (at + 1) kids) (cond of_data (record { 0 = at } ∷ []) [])) ≡ labels (cond passed (opened_trees kids) (cond of_data (tree (node l kids) no_trees) no_trees))
+    by true of_data e = e
+    by false true e = ap (λ (r : Row). r.label ∷ []) (row_first rows at l kids ts h)
+    by false false e = refl
 
 pub labels_told : (rows : List Row) (at : ℕ) (ts : Forest) → Sits rows at ts → labels_at rows (told_from at ts) ≡ opened ts
 labels_told rows at no_trees h = refl
@@ -143,7 +149,7 @@ family_other kind kids h k = rw (h, k) refl
 pub opened_from_joined : (at : ℕ) (ts us : Forest) → opened_from at (joined ts us) ≡ opened_from at ts ++ opened_from (at + count ts) us
 opened_from_joined at no_trees us = ap (λ (n : ℕ). opened_from n us) (omega arith)
 opened_from_joined at (tree (node l kids) ts) us =
-    let here : List NodeId = cond (is_passed l.defined.kind) (opened_from (at + 1) kids) (record { 0 = at } ∷ []) in
+    let here : List NodeId = cond (is_passed l.defined.kind) (opened_from (at + 1) kids) (cond (is_data l.defined.kind) (record { 0 = at } ∷ []) []) in
     let end : at + 1 + count kids + count ts ≡ at + count (tree (node l kids) ts) = omega arith in
     ap (λ (ns : List NodeId). here ++ ns) (opened_from_joined (at + 1 + count kids) ts us ∙ ap (λ (n : ℕ). opened_from (at + 1 + count kids) ts ++ opened_from n us) end)
     ∙ sym (append_assoc here (opened_from (at + 1 + count kids) ts) (opened_from (at + count (tree (node l kids) ts)) us))

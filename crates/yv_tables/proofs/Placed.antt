@@ -6,7 +6,7 @@ use Rattle.std.proofs.lemmas.List.Elements.{All-from_recursion, recursion_from_A
 use Rattle.std.proofs.lemmas.Bool.{cases_Bool, cases_lt, false_from_ne_true, false≢true}
 use Rattle.std.proofs.lemmas.Bool.Decides.{nat_tests}
 use Rattle.std.proofs.lemmas.Slice.Eq.{bytes_eq-Decides}
-use Rattle.yv_properties.specs.Kinds.{is_passed}
+use Rattle.yv_properties.specs.Kinds.{is_data, is_passed}
 use Rattle.yv_nodes.specs.declared.node.NodeId.{NodeId}
 use Rattle.yv_nodes.specs.Tree.{count, Label, node, Forest, labels, no_trees, tree}
 use Rattle.yv_nodes.specs.Places.{Place, places, places_below}
@@ -19,7 +19,7 @@ use Rattle.yv_tables.specs.InnerTables.{labels_at}
 use Rattle.yv_tables.proofs.Doubling.{AreDistinct, append_left, append_right}
 use Rattle.yv_tables.proofs.Members.{labels_opened, numbers_in}
 use Rattle.yv_tables.proofs.Numbers.{length_rows, whole_rows}
-use Rattle.yv_tables.proofs.Sitting.{all_sit, inside_have, kids_parent, kids_sit, others_parent, others_sit, picked_sit, room_of, row_first}
+use Rattle.yv_tables.proofs.Sitting.{all_sit, inside_have, kids_parent, kids_sit, others_parent, others_sit, passed_no_data, picked_sit, room_of, row_first}
 
 -- what is known of a row: its place, and where the trees below it stand
 pub record IsRow (rows : List Row) (ps : List Place) (i at : ℕ) : Type 0 where
@@ -102,23 +102,32 @@ all_behind : (P : NodeId → Type 0) (xs ys : List NodeId) → AllByRecursion P 
 all_behind P [] ys h = h
 all_behind P (x ∷ xs) ys h = all_behind P xs ys h.1
 
--- where all nodes of an object are found, those that stand in no choice or case are
+-- where all nodes of an object are found, the data nodes that stand in no choice or case are
 found_directly : (s : Rows) (p : NodeId) (at : ℕ) (us : Forest) → Sits s.nodes at us → AllByRecursion (IsFound s p) (opened_from at us) → AllByRecursion (IsFoundBelow s p) (numbers_from at us)
 found_directly s p at no_trees sit h = tt
 found_directly s p at (tree (node l kids) us) sit h =
     let c : NodeId = record { 0 = at } in
     let label : (row_at s c).label ≡ l = ap (λ (r : Row). r.label) (row_first s.nodes at l kids us sit) in
-    let kind : is_passed (row_at s c).label.defined.kind ≡ is_passed l.defined.kind = ap (λ (l : Label). is_passed l.defined.kind) label in
+    let kind : is_data (row_at s c).label.defined.kind ≡ is_data l.defined.kind = ap (λ (l : Label). is_data l.defined.kind) label in
     let others : Sits s.nodes (at + 1 + count kids) us = others_sit s.nodes at l kids us sit in
-    by (is_passed l.defined.kind) kind (λ k. found_directly s p (at + 1 + count kids) us others k) h
+    by (is_passed l.defined.kind) (is_data l.defined.kind) kind (passed_no_data l.defined.kind) (λ k. found_directly s p (at + 1 + count kids) us others k) h
   where
-    by : (b : Bool) → is_passed (row_at s (record { 0 = at })).label.defined.kind ≡ b
+    by : (passed of_data : Bool) → is_data (row_at s (record { 0 = at })).label.defined.kind ≡ of_data → (passed ≡ true → of_data ≡ false)
         → (AllByRecursion (IsFound s p) (opened_from (at + 1 + count kids) us) → AllByRecursion (IsFoundBelow s p) (numbers_from (at + 1 + count kids) us))
-        → AllByRecursion (IsFound s p) (cond b (opened_from (at + 1) kids) (record { 0 = at } ∷ []) ++ opened_from (at + 1 + count kids) us)
+        → AllByRecursion (IsFound s p) (cond passed (opened_from (at + 1) kids) (cond of_data (record { 0 = at } ∷ []) []) ++ opened_from (at + 1 + count kids) us)
         → AllByRecursion (IsFoundBelow s p) (record { 0 = at } ∷ numbers_from (at + 1 + count kids) us)
-    by true kind later h =
-        (λ met. absurd (false≢true (sym met ∙ kind)), later (all_behind (IsFound s p) (opened_from (at + 1) kids) (opened_from (at + 1 + count kids) us) h))
-    by false kind later h = (λ met. h.0, later h.1)
+    by true of_data kind apart later h =
+        (λ met. absurd (false≢true (sym (kind ∙ apart refl) ∙ met)), later (all_behind (IsFound s p) (opened_from (at + 1) kids) (opened_from (at + 1 + count kids) us) h))
+    by false true kind apart later h = (λ met. h.0, later h.1)
+    by false false kind apart later h = (λ met. absurd (false≢true (sym kind ∙ met)), later h)
+
+-- the members of a node that has an object
+pub inside_object : (s : Rows) (p : NodeId) → is_object s p ≡ true → inside s p ≡ opened_from (rank p) (below s p)
+inside_object s p object = rw object refl
+
+-- a choice or case has none
+pub inside_nothing : (s : Rows) (p : NodeId) → is_object s p ≡ false → inside s p ≡ []
+inside_nothing s p none = rw none refl
 
 pub record IsPlaced (s : Rows) (ts : Forest) (p : NodeId) (kids : Forest) : Type 0 where
   pub index : ℕ
@@ -184,10 +193,12 @@ module _ (limit : ℕ) (ts : Forest) where
   pub below_in : (p : NodeId) (parent : IsParent (rows_of limit ts) ts p) → below (rows_of limit ts) p ≡ parent.kids
   below_in p parent = ap (picked (rows_from 0 ts)) parent.are ∙ picked_sit (rows_from 0 ts) (rank p) parent.kids parent.sit
 
-  pub inside_parent : (p : NodeId) → rank p ≤ length (rows_from 0 ts) → inside_of (rows_from 0 ts) (children_of (rows_of limit ts) p) ≡ inside (rows_of limit ts) p
-  inside_parent p within =
+  pub inside_parent : (p : NodeId) → rank p ≤ length (rows_from 0 ts) → is_object (rows_of limit ts) p ≡ true
+      → inside_of (rows_from 0 ts) (children_of (rows_of limit ts) p) ≡ inside (rows_of limit ts) p
+  inside_parent p within object =
       let parent : IsParent (rows_of limit ts) ts p = parent_in p within in
       inside_have (rows_from 0 ts) (children_of (rows_of limit ts) p) (record { at = rank p; trees = parent.kids; are = parent.are; sit = parent.sit }) ∙ ap (opened_from (rank p)) (sym (below_in p parent))
+      ∙ sym (inside_object (rows_of limit ts) p object)
 
   child_each : (p : NodeId) (at n : ℕ) (cs : List NodeId) → rank p ≤ at → n ≤ length (rows_from 0 ts) → AllByRecursion (λ (c : NodeId). (at ≤ c.0) × (c.0 < n)) cs
       → AllByRecursion (λ (c : NodeId). (row_at (rows_of limit ts) c).parent ≡ p) cs → AllByRecursion (IsChild (rows_of limit ts) p) cs
@@ -211,14 +222,22 @@ module _ (limit : ℕ) (ts : Forest) where
         let kept : is_passed h.place.label.defined.kind ≡ false = ap (λ (l : Label). is_passed l.defined.kind) (sym h.label) ∙ met in
         subst (λ (us : Forest). AreDistinct (labels (opened_trees us))) h.is_below (inner h.index h.place h.found kept)
 
-    found_in : (p : NodeId) → rank p ≤ length (rows_from 0 ts) → is_object (rows_of limit ts) p ≡ true → All (IsFound (rows_of limit ts) p) (inside (rows_of limit ts) p)
-    found_in p within object =
+    object_found : (p : NodeId) → rank p ≤ length (rows_from 0 ts) → is_object (rows_of limit ts) p ≡ true → All (IsFound (rows_of limit ts) p) (inside (rows_of limit ts) p)
+    object_found p within object =
         let s : Rows = rows_of limit ts in
         let parent : IsParent s ts p = parent_in p within in
-        let numbers : inside s p ≡ opened_from (rank p) parent.kids = ap (opened_from (rank p)) (below_in p parent) in
+        let numbers : inside s p ≡ opened_from (rank p) parent.kids = inside_object s p object ∙ ap (opened_from (rank p)) (below_in p parent) in
         let apart : AreDistinct (labels_at s.nodes (inside s p)) =
         rw numbers (rw (labels_opened (rows_from 0 ts) (rank p) parent.kids parent.sit) (distinct_in p parent.kids parent.which object)) in
         All-from_recursion (IsFound s p) (inside s p) (found_each s (inside s p) apart)
+
+    found_in : (p : NodeId) → rank p ≤ length (rows_from 0 ts) → All (IsFound (rows_of limit ts) p) (inside (rows_of limit ts) p)
+    found_in p within =
+        let s : Rows = rows_of limit ts in
+        elim (cases_Bool (is_object s p)) [
+          | inl object ↦ object_found p within object
+          | inr none ↦ subst (λ (cs : List NodeId). All (IsFound s p) cs) (sym (inside_nothing s p none)) (All-from_recursion (IsFound s p) [] tt)
+        ]
 
     pub sound_rows : count ts ≤ 4294967295 → count ts ≤ limit → IsSound (rows_of limit ts)
     sound_rows small limited = record {
@@ -235,9 +254,9 @@ module _ (limit : ℕ) (ts : Forest) where
       found_below = λ p within object.
           let s : Rows = rows_of limit ts in
           let parent : IsParent s ts p = parent_in p within in
-          let numbers : inside s p ≡ opened_from (rank p) parent.kids = ap (opened_from (rank p)) (below_in p parent) in
+          let numbers : inside s p ≡ opened_from (rank p) parent.kids = inside_object s p object ∙ ap (opened_from (rank p)) (below_in p parent) in
           of_children p parent (IsFoundBelow s p)
-          (found_directly s p (rank p) parent.kids parent.sit (recursion_from_All (IsFound s p) (opened_from (rank p) parent.kids) (subst (λ (cs : List NodeId). All (IsFound s p) cs) numbers (found_in p within object))));
+          (found_directly s p (rank p) parent.kids parent.sit (recursion_from_All (IsFound s p) (opened_from (rank p) parent.kids) (subst (λ (cs : List NodeId). All (IsFound s p) cs) numbers (object_found p within object))));
     }
 
 -- in a sound schema the trees below a node stand behind it

@@ -1,8 +1,11 @@
 -- Trees whose rows stand among others are those that their numbers pick.
-use Rattle.std.proofs.Common.{◌≡◌, ℕ, suc, ◌+◌, ◌-◌, ◌<◌, ◌≤◌, List, [], ◌∷◌, ◌++◌, length, get_or, drop, drop-cons, add-one, refl, sym, ap, ◌∙◌, subst, arith, append_assoc, append-nil, length-append, Bool, true, false, cond}
+use Rattle.std.proofs.Common.{◌≡◌, ℕ, suc, ◌+◌, ◌-◌, ◌<◌, ◌≤◌, List, [], ◌∷◌, ◌++◌, length, get_or, drop, drop-cons, add-one, refl, sym, ap, ◌∙◌, subst, arith, append_assoc, append-nil, length-append, Bool, true, false, not, cond}
+use Rattle.std.proofs.lemmas.Bool.{false≢true}
 use Rattle.std.specs.List.{slice_index_or}
 use Rattle.std.proofs.Math.Seq.{get_or-append_seam}
-use Rattle.yv_properties.specs.Kinds.{is_case, is_passed}
+use Rattle.yv_properties.specs.declared.kind.NodeKind.{NodeKind}
+use Rattle.yv_properties.specs.declared.kind.NodeKind.TheVariants as kind
+use Rattle.yv_properties.specs.Kinds.{is_case, is_data, is_passed}
 use Rattle.yv_nodes.specs.declared.node.NodeId.{NodeId}
 use Rattle.yv_nodes.specs.Tree.{count, Forest, Label, Tree, no_trees, node, tree}
 use Rattle.yv_nodes.specs.Numbers.{numbers_from, rows_below, rows_from}
@@ -122,6 +125,12 @@ told_have rows cs h =
 pub have_none : (rows : List Row) → HaveTrees rows []
 have_none rows = record { at = 0; trees = no_trees; are = refl; sit = record { parent = root; front = []; back = rows; split = refl; before = refl } }
 
+-- no choice or case is a data node
+pub passed_no_data : (k : NodeKind) → is_passed k ≡ true → is_data k ≡ false
+passed_no_data kind.Choice h = refl
+passed_no_data kind.Case h = refl
+passed_no_data _ h = absurd (false≢true h)
+
 -- how many rows stand behind the first of these numbers
 abbrev pub left_of : List Row → List NodeId → ℕ
 left_of rows [] = 0
@@ -135,7 +144,7 @@ pub record IsStep (rows : List Row) (cs : List NodeId) (i : ℕ) (at : ℕ) (tre
   pub behind : at ≤ rest.at
   pub within : at < length rows
   pub later : left_of rows (inner_of row) < length rows - at
-  pub opened : opened_from at trees ≡ cond (is_passed row.label.defined.kind) [] (n ∷ []) ++ inside_of rows (inner_of row) ++ opened_from rest.at rest.trees
+  pub opened : opened_from at trees ≡ cond (not (is_data row.label.defined.kind)) [] (n ∷ []) ++ inside_of rows (inner_of row) ++ opened_from rest.at rest.trees
   pub told : told_from at trees ≡ cond (is_case row.label.defined.kind) [] (n ∷ []) ++ told_of rows (inner_of row) ++ told_from rest.at rest.trees
 
 module _ (rows : List Row) (at : ℕ) (l : Label) (kids ts : Forest) (h : Sits rows at (tree (node l kids) ts)) where
@@ -157,10 +166,13 @@ module _ (rows : List Row) (at : ℕ) (l : Label) (kids ts : Forest) (h : Sits r
   inner_later true = kids_later kids
   inner_later false = omega (arith, room)
 
-  inner_opened : (b : Bool) (n : NodeId) (more : List NodeId) → cond b (opened_from (at + 1) kids) (n ∷ []) ++ more ≡ cond b [] (n ∷ []) ++ inside_of rows (kids_numbers b) ++ more
+  inner_opened : (passed of_data : Bool) (n : NodeId) (more : List NodeId) → (passed ≡ true → of_data ≡ false)
+      → cond passed (opened_from (at + 1) kids) (cond of_data (n ∷ []) []) ++ more ≡ cond (not of_data) [] (n ∷ []) ++ inside_of rows (kids_numbers passed) ++ more
   unfolding inner_have
-  inner_opened true n more = ap (λ (ns : List NodeId). ns ++ more) (sym (inside_have rows (kids_numbers true) (inner_have true)))
-  inner_opened false n more = refl
+  inner_opened true true n more apart = absurd (false≢true (sym (apart refl)))
+  inner_opened true false n more apart = ap (λ (ns : List NodeId). ns ++ more) (sym (inside_have rows (kids_numbers true) (inner_have true)))
+  inner_opened false true n more apart = refl
+  inner_opened false false n more apart = refl
 
   inner_told : (b : Bool) → cond b (told_from (at + 1) kids) [] ≡ told_of rows (kids_numbers b)
   unfolding inner_have
@@ -175,7 +187,7 @@ module _ (rows : List Row) (at : ℕ) (l : Label) (kids ts : Forest) (h : Sits r
     behind = omega arith;
     within = room;
     later = inner_later (is_passed l.defined.kind);
-    opened = inner_opened (is_passed l.defined.kind) (record { 0 = at }) (opened_from (at + 1 + count kids) ts);
+    opened = inner_opened (is_passed l.defined.kind) (is_data l.defined.kind) (record { 0 = at }) (opened_from (at + 1 + count kids) ts) (passed_no_data l.defined.kind);
     told = ap (λ (ns : List NodeId). cond (is_case l.defined.kind) [] (record { 0 = at } ∷ []) ++ ns ++ told_from (at + 1 + count kids) ts) (inner_told (is_passed l.defined.kind));
   }
 
@@ -220,7 +232,7 @@ four ws xs ys zs = simp append_assoc
 -- one more is
 pub opening_more : (rows : List Row) (cs : List NodeId) (i : ℕ) (d : NodeId) (I T inside told noted_inside noted_told new_inside new_told : List NodeId) (row : Row)
     → IsOpening rows cs i I T inside told → i < length cs → row ≡ slice_index_or rows (get_or cs i d).0 blank_row
-    → noted_inside ≡ inside ++ cond (is_passed row.label.defined.kind) [] (get_or cs i d ∷ [])
+    → noted_inside ≡ inside ++ cond (not (is_data row.label.defined.kind)) [] (get_or cs i d ∷ [])
     → noted_told ≡ told ++ cond (is_case row.label.defined.kind) [] (get_or cs i d ∷ [])
     → new_inside ≡ noted_inside ++ inside_of rows (inner_of row) → new_told ≡ noted_told ++ told_of rows (inner_of row)
     → IsOpening rows cs (i + 1) I T new_inside new_told
@@ -231,7 +243,7 @@ opening_more rows cs i d I T inside told noted_inside noted_told new_inside new_
       rest = own.rest;
       behind = omega (arith, h.behind, own.behind);
       inside_is = ap (λ (ns : List NodeId). ns ++ opened_from own.rest.at own.rest.trees) (wi ∙ ap (λ (ns : List NodeId). ns ++ inside_of rows (inner_of row)) ni)
-          ∙ four inside (cond (is_passed row.label.defined.kind) [] (get_or cs i d ∷ [])) (inside_of rows (inner_of row)) (opened_from own.rest.at own.rest.trees)
+          ∙ four inside (cond (not (is_data row.label.defined.kind)) [] (get_or cs i d ∷ [])) (inside_of rows (inner_of row)) (opened_from own.rest.at own.rest.trees)
           ∙ ap (λ (ns : List NodeId). inside ++ ns) (sym own.opened) ∙ h.inside_is;
       told_is = ap (λ (ns : List NodeId). ns ++ told_from own.rest.at own.rest.trees) (wt ∙ ap (λ (ns : List NodeId). ns ++ told_of rows (inner_of row)) nt)
           ∙ four told (cond (is_case row.label.defined.kind) [] (get_or cs i d ∷ [])) (told_of rows (inner_of row)) (told_from own.rest.at own.rest.trees)

@@ -31,9 +31,13 @@ abbrev pub start_of : List NodeId → ℕ
 start_of [] = 0
 start_of (c ∷ cs) = c.0
 
--- those of the trees of these numbers that are no choice or case, opened
+-- the data nodes of the trees of these numbers, with choices and cases opened
 abbrev pub inside_of : List Row → List NodeId → List NodeId
 inside_of rows cs = opened_from (start_of cs) (picked rows cs)
+
+-- the data nodes that a row's object has, and none below a choice or case
+abbrev pub members_of : List Row → Row → List NodeId
+members_of rows row = if is_passed row.label.defined.kind then [] else inside_of rows row.children
 
 -- the numbers of the nodes whose names have to differ below one parent, where the first node has the number `first`
 abbrev pub told_from : ℕ → Forest → List NodeId

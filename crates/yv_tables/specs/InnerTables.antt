@@ -13,10 +13,9 @@ use Rattle.yv_statement.specs.Order.{Among, Stands}
 use Rattle.yv_statement.specs.declared.refusal.Refusal.{Refusal}
 use Rattle.yv_nodes.specs.Tree.{Label, count}
 use Rattle.yv_tables.specs.Doubled.{doubled_at}
-use Rattle.yv_properties.specs.Kinds.{is_passed}
-use Rattle.yv_nodes.specs.Rows.{Row, Rows, blank_row, is_root, root, row_at, whole}
+use Rattle.yv_nodes.specs.Rows.{Row, Rows, blank_row, is_root, root, whole}
 use Rattle.yv_tables.specs.Sound.{inside, named, IsSound}
-use Rattle.yv_tables.specs.InnerSits.{inside_of}
+use Rattle.yv_tables.specs.InnerSits.{inside_of, members_of}
 use Rattle.yv_tables.specs.Groups.{HasNoColon, Top}
 
 -- the first of these nodes that has this name
@@ -39,11 +38,10 @@ ModuleTable = BTreeMap (String Global) Table
 pub record IsTable (rows : List Row) (cs : List NodeId) (table : Table) : Type 0 where
   pub gives : (name : List ℕ) → get_by_name table name ≡ called rows cs name
 
--- a table for each node, with what the members of its object name; nothing is asked of those of choices and cases
+-- a table for each node, with what the members of its object name
 pub record AreTables (rows : List Row) (tables : List Table) : Type 0 where
   pub each : length tables ≡ length rows
-  pub gives : (i : ℕ) (table : Table) → slice_get tables i ≡ Some table → is_passed (slice_index_or rows i blank_row).label.defined.kind ≡ false
-      → IsTable rows (inside_of rows (slice_index_or rows i blank_row).children) table
+  pub gives : (i : ℕ) (table : Table) → slice_get tables i ≡ Some table → IsTable rows (members_of rows (slice_index_or rows i blank_row)) table
 
 -- what a table has at a text, where it had this there, and a child of this name was added
 abbrev pub kept_first : List ℕ → NodeId → Option NodeId → List ℕ → Option NodeId
@@ -104,5 +102,5 @@ pub record IsKept (modules : ModuleTable) (tables : List Table) (s : Rows) : Typ
   pub each : length tables ≡ length s.nodes
   pub top : (home name : List ℕ) → HasNoColon home → look_up modules home name ≡ named s (inside s root) (home ++ 58 ∷ name)
   pub none : (member : List ℕ) → HasNoColon member → named s (inside s root) member ≡ None
-  pub below : (p : NodeId) (table : Table) (member : List ℕ) → is_root p ≡ false → is_passed (row_at s p).label.defined.kind ≡ false
-      → slice_get tables p.0 ≡ Some table → get_by_name table member ≡ named s (inside s p) member
+  pub below : (p : NodeId) (table : Table) (member : List ℕ) → is_root p ≡ false → slice_get tables p.0 ≡ Some table
+      → get_by_name table member ≡ named s (inside s p) member

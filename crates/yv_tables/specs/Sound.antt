@@ -1,12 +1,12 @@
 -- What holds of every schema, and what a JSON member means in it.
 use Rattle.std.specs.Prelude.{◌≡◌, ◌≤◌, ◌<◌, ℕ, List, [], ◌∷◌, length, All, Bool, true, false, not, ◌||◌, Option, Some, None, if◌then◌else◌}
 use Rattle.std.specs.Str.{bytes_eq}
-use Rattle.yv_properties.specs.Kinds.{is_passed}
+use Rattle.yv_properties.specs.Kinds.{is_data, is_passed}
 use Rattle.yv_nodes.specs.declared.node.NodeId.{NodeId}
 use Rattle.yv_nodes.specs.Tree.{Forest, no_trees, node, tree}
 use Rattle.yv_nodes.specs.Numbers.{numbers_from, rows_from}
 use Rattle.yv_nodes.specs.Rows.{Rows, below, children_of, is_root, rank, row_at, whole}
-use Rattle.yv_tables.specs.Opened.{opened_from}
+use Rattle.yv_tables.specs.Opened.{opened_from, opened_trees}
 
 -- one of these trees is what a JSON member of this name writes
 abbrev pub is_known : Forest → List ℕ → Bool
@@ -22,9 +22,13 @@ named s (c ∷ cs) member = if bytes_eq (row_at s c).label.member member then So
 abbrev pub is_object : Rows → NodeId → Bool
 is_object s p = is_root p || not (is_passed (row_at s p).label.defined.kind)
 
--- the numbers of the nodes below a node that its object's members name: choices and cases are opened
+-- the data nodes below a node that its object's members name, with choices and cases opened; a choice or case has no object
+abbrev pub object_trees : Rows → NodeId → Forest
+object_trees s p = if is_object s p then opened_trees (below s p) else no_trees
+
+-- their numbers
 abbrev pub inside : Rows → NodeId → List NodeId
-inside s p = opened_from (rank p) (below s p)
+inside s p = if is_object s p then opened_from (rank p) (below s p) else []
 
 -- a child stands behind its parent, whose number it has
 pub record IsChild (s : Rows) (p c : NodeId) : Type 0 where
@@ -32,19 +36,19 @@ pub record IsChild (s : Rows) (p c : NodeId) : Type 0 where
   pub within : c.0 < length s.nodes
   pub above : (row_at s c).parent ≡ p
 
--- what stands in an object stands behind its node, and is no choice or case
+-- what stands in an object stands behind its node, and is a data node
 pub record IsInside (s : Rows) (p c : NodeId) : Type 0 where
   pub behind : rank p ≤ c.0
   pub within : c.0 < length s.nodes
-  pub is_met : is_passed (row_at s c).label.defined.kind ≡ false
+  pub is_met : is_data (row_at s c).label.defined.kind ≡ true
 
 -- a node is found by its member: no other one in the same object has that member (RFC 7950, section 6.2.1)
 abbrev pub IsFound : Rows → NodeId → NodeId → Type 0
 IsFound s p c = named s (inside s p) (row_at s c).label.member ≡ Some c
 
--- a child that is no choice or case is found so
+-- a child that is a data node is found so
 abbrev pub IsFoundBelow : Rows → NodeId → NodeId → Type 0
-IsFoundBelow s p c = is_passed (row_at s c).label.defined.kind ≡ false → IsFound s p c
+IsFoundBelow s p c = is_data (row_at s c).label.defined.kind ≡ true → IsFound s p c
 
 -- there are at most as many nodes as the limit and as numbers, they are numbered as their tree is, children stand behind
 -- their parents, and no two of one object have one member
@@ -54,5 +58,5 @@ pub record IsSound (s : Rows) : Type 0 where
   pub rows : s.nodes ≡ rows_from 0 (whole s)
   pub top : s.top ≡ numbers_from 0 (whole s)
   pub children : (p : NodeId) → rank p ≤ length s.nodes → All (IsChild s p) (children_of s p)
-  pub found : (p : NodeId) → rank p ≤ length s.nodes → is_object s p ≡ true → All (IsFound s p) (inside s p)
+  pub found : (p : NodeId) → rank p ≤ length s.nodes → All (IsFound s p) (inside s p)
   pub found_below : (p : NodeId) → rank p ≤ length s.nodes → is_object s p ≡ true → All (IsFoundBelow s p) (children_of s p)

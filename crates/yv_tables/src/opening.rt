@@ -1,6 +1,6 @@
 //! The nodes below one parent, with choices and cases opened.
-ghost use Rattle.std.specs.Prelude.{◌≡◌, ◌++◌, [], ◌∷◌, IfOk, OnOk, if◌then◌else◌};
-ghost use Rattle.yv_properties.specs.Kinds.{is_case, is_passed};
+ghost use Rattle.std.specs.Prelude.{◌≡◌, ◌++◌, [], ◌∷◌, not, IfOk, OnOk, if◌then◌else◌};
+ghost use Rattle.yv_properties.specs.Kinds.{is_case, is_data};
 ghost use Rattle.yv_tables.specs.InnerSits.{HaveTrees, inner_of, inside_of, told_of};
 
 use std::alloc::{AllocError, Global};
@@ -10,7 +10,7 @@ use yv_properties::NodeKind;
 /// Numbers of the nodes below one parent, those in its choices and cases among them, in order.
 #[derive(Drop)]
 pub(crate) struct Opened {
-    /// Those that are no choice or case: the members of an object name them.
+    /// Those that are data nodes: the members of an object name them.
     pub(crate) inside: Vec<NodeId>,
     /// Those that are no case: their names have to differ.
     pub(crate) told: Vec<NodeId>,
@@ -48,12 +48,12 @@ impl Opened {
     // Adds the number of one node.
     fn note(&mut self, node: &Node, number: NodeId) -> Result<(), AllocError>
         ensures inside { OnOk result (self.new.inside.items ≡ self.old.inside.items
-            ++ (if is_passed node.now.label.defined.kind then [] else number ∷ [])) }
+            ++ (if not (is_data node.now.label.defined.kind) then [] else number ∷ [])) }
         ensures told { OnOk result (self.new.told.items ≡ self.old.told.items
             ++ (if is_case node.now.label.defined.kind then [] else number ∷ [])) }
     {
         let kind = node.kind();
-        push_unless(&mut self.inside, kind.is_passed(), number)?;
+        push_unless(&mut self.inside, !kind.is_data(), number)?;
         push_unless(&mut self.told, is_case(kind), number)?;
         Ok(())
     }

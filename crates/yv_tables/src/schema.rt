@@ -1,5 +1,5 @@
 //! A schema, and how its nodes are found.
-ghost use Rattle.std.specs.Prelude.{◌≡◌, ◌<◌, ◌≤◌, ◌==◌, ◌+◌, true, length, All, IfSome};
+ghost use Rattle.std.specs.Prelude.{◌≡◌, ◌<◌, ◌≤◌, ◌==◌, ◌+◌, length, All, IfSome};
 ghost use Rattle.yv_values.specs.Count.{counted};
 
 use crate::table::Table;
@@ -14,7 +14,7 @@ use yv_values::Meter;
 pub struct Schema {
     pub(crate) nodes: Nodes,
     pub(crate) top: Vec<NodeId>,
-    /// The nodes at the top by name, with choices and cases opened, for each module's name.
+    /// The data nodes at the top by name, with choices and cases opened, for each module's name.
     pub(crate) modules: BTreeMap<String, Table>,
     /// For each node what the members of its object name, and nothing for a choice or case.
     pub(crate) tables: Vec<Table>,
@@ -34,9 +34,8 @@ impl Model for Schema {
 impl Schema {
     ghost use Rattle.std.specs.Prelude.{is_some};
     ghost use Rattle.yv_nodes.specs.Tree.{count};
-    ghost use Rattle.yv_nodes.specs.Rows.{AreTrees, below, row_at, children_of, rank, root, whole};
-    ghost use Rattle.yv_tables.specs.Opened.{opened_trees};
-    ghost use Rattle.yv_tables.specs.Sound.{IsSound, IsChild, IsInside, inside, is_known, is_object, named};
+    ghost use Rattle.yv_nodes.specs.Rows.{AreTrees, row_at, children_of, rank, root, whole};
+    ghost use Rattle.yv_tables.specs.Sound.{IsSound, IsChild, IsInside, inside, is_known, named, object_trees};
 
     /// The parent of the nodes at the top.
     pub const ROOT: NodeId = NodeId(u32::MAX);
@@ -95,15 +94,14 @@ impl Schema {
         }
     }
 
-    /// The node that a JSON member of this name writes in an object of this node, which is no choice or case, or in that of the
-    /// root: a child, or what stands in its choices and cases (RFC 7950, section 7.9; RFC 7951, section 4). The meter
-    /// counts the look-up.
+    /// The data node that a JSON member of this name writes in an object of this node, or in that of the root: a child, or what
+    /// stands in its choices and cases (RFC 7950, section 7.9; RFC 7951, section 4). A choice or case has no object: below
+    /// it nothing is found. The meter counts the look-up.
     pub fn find(&self, meter: &mut Meter, parent: NodeId, member: &str) -> Option<NodeId>
         requires within { rank parent ≤ length self.now.nodes }
-        requires object { is_object self.now parent ≡ true }
         ensures value { result ≡ named self.now (inside self.now parent) member.now }
         ensures child { IfSome result (IsInside self.now parent) }
-        ensures known { is_some result ≡ is_known (opened_trees (below self.now parent)) member.now }
+        ensures known { is_some result ≡ is_known (object_trees self.now parent) member.now }
         ensures steps { meter.new ≡ counted (meter.old + 1) }
     {
         meter.visit();
@@ -114,7 +112,7 @@ impl Schema {
         }
     }
 
-    // The node at the top that a JSON member of this name writes.
+    // The data node at the top that a JSON member of this name writes.
     fn find_at_top(&self, member: &str) -> Option<NodeId>
         ensures { result ≡ named self.now (inside self.now root) member.now }
     {

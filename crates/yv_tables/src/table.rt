@@ -1,10 +1,10 @@
 //! The table by which the nodes below a node are found.
-ghost use Rattle.std.specs.Prelude.{◌≡◌, ◌<◌, ℕ, List, All, length, false, is_some, IfOk, OnOk};
+ghost use Rattle.std.specs.Prelude.{◌≡◌, ◌<◌, ℕ, List, All, length, is_some, IfOk, OnOk};
 ghost use Rattle.std.specs.Rc.{rc_str_bytes};
 ghost use Rattle.yv_statement.specs.Order.{IsLeast};
-ghost use Rattle.yv_properties.specs.Kinds.{is_choice, is_passed};
+ghost use Rattle.yv_properties.specs.Kinds.{is_choice};
 ghost use Rattle.yv_tables.specs.Doubled.{opened};
-ghost use Rattle.yv_tables.specs.InnerSits.{HaveTrees, family_in, inside_of, picked};
+ghost use Rattle.yv_tables.specs.InnerSits.{HaveTrees, family_in, inside_of, members_of, picked};
 ghost use Rattle.yv_tables.specs.InnerTables.{IsTable, Namesakes, get_by_name, kept_first, labels_at};
 
 use crate::opening::{Opened, is_case};
@@ -29,8 +29,7 @@ impl Family {
     /// The family below a node: nothing is found below a choice or case.
     pub(crate) fn below(alloc: Global, nodes: &Nodes, node: &Node) -> Result<Family, AllocError>
         requires { HaveTrees nodes.now.rows node.now.children }
-        ensures table { IfOk result (λ family. is_passed node.now.label.defined.kind ≡ false
-            → IsTable nodes.now.rows (inside_of nodes.now.rows node.now.children) family.table) }
+        ensures table { IfOk result (λ family. IsTable nodes.now.rows (members_of nodes.now.rows node.now) family.table) }
         ensures doubled { IfOk result (λ family. IsLeast (Namesakes (family_in nodes.now.rows node.now)) family.doubled) }
     {
         if is_choice(node.kind()) {

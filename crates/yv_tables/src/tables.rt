@@ -21,7 +21,7 @@ pub(crate) struct NodeTables {
     pub(crate) doubled: Option<Refusal>,
 }
 
-/// A table for each module's nodes at the top, with choices and cases opened, by the module's name, and the least refusal of
+/// A table for each module's data nodes at the top, with choices and cases opened, by the module's name, and the least refusal of
 /// one whose name an earlier one of its module has.
 #[derive(Drop)]
 pub(crate) struct ModuleTables {

@@ -8,11 +8,11 @@ use Rattle.serde_json.proofs.Views.{view-Object}
 use Rattle.yv_nodes.specs.declared.node.NodeId.{NodeId}
 use Rattle.yv_properties.specs.declared.kind.NodeKind.{NodeKind}
 use Rattle.yv_properties.specs.declared.kind.NodeKind.TheVariants as kind
-use Rattle.yv_properties.specs.Kinds.{is_passed}
+use Rattle.yv_properties.specs.Kinds.{is_data}
 use Rattle.yv_nodes.specs.Rows.{Rows, row_at, below, forest, AreTrees}
 use Rattle.yv_nodes.specs.Tree.{Forest, Label}
 use Rattle.yv_tables.specs.Opened.{opened_trees}
-use Rattle.yv_tables.specs.Sound.{is_known}
+use Rattle.yv_tables.specs.Sound.{is_known, is_object, object_trees}
 use Rattle.yv_validate.specs.declared.fault.FaultKind.TheVariants.{Unknown}
 use Rattle.yv_validate.specs.Place.{Place, Flaw}
 use Rattle.yv_validate.specs.Faults.{under, flaw, if_written, kind_faults, unknowns, forest_faults, object_faults, written}
@@ -27,25 +27,29 @@ pub written_object : (s : Rows) (c : NodeId) (path : List Place) (m : BTreeMap (
     → written (row_at s c).label path (view (Object m)) (object_faults path (below s c)) ≡ object_faults path (below s c) (members_view m.entries)
 written_object s c path m kind = rw (kind, view-Object m) refl
 
--- nothing is told of choices and cases
-nothing_told : (k : NodeKind) (l : Label) (path : List Place) (d : Data) (inside : Members → List Flaw) → is_passed k ≡ true → kind_faults k l path d inside ≡ []
-nothing_told kind.Choice l path d inside e = refl
-nothing_told kind.Case l path d inside e = refl
+-- nothing is told of nodes that no data tree has
+nothing_told : (k : NodeKind) (l : Label) (path : List Place) (d : Data) (inside : Members → List Flaw) → is_data k ≡ false → kind_faults k l path d inside ≡ []
 nothing_told kind.Container l path d inside e = cc
 nothing_told kind.Leaf l path d inside e = cc
 nothing_told kind.LeafList l path d inside e = cc
 nothing_told kind.List l path d inside e = cc
 nothing_told kind.Anydata l path d inside e = cc
 nothing_told kind.Anyxml l path d inside e = cc
-nothing_told kind.Rpc l path d inside e = cc
-nothing_told kind.Action l path d inside e = cc
-nothing_told kind.Notification l path d inside e = cc
-nothing_told kind.Input l path d inside e = cc
-nothing_told kind.Output l path d inside e = cc
+nothing_told kind.Choice l path d inside e = refl
+nothing_told kind.Case l path d inside e = refl
+nothing_told kind.Rpc l path d inside e = refl
+nothing_told kind.Action l path d inside e = refl
+nothing_told kind.Notification l path d inside e = refl
+nothing_told kind.Input l path d inside e = refl
+nothing_told kind.Output l path d inside e = refl
 
-pub passed_tells_nothing : (s : Rows) (c : NodeId) (path : List Place) (found : Option Data) → is_passed (row_at s c).label.defined.kind ≡ true → child_faults s path c found ≡ []
-passed_tells_nothing s c path None e = refl
-passed_tells_nothing s c path (Some d) e = nothing_told (row_at s c).label.defined.kind (row_at s c).label _ d _ e
+pub other_tells_nothing : (s : Rows) (c : NodeId) (path : List Place) (found : Option Data) → is_data (row_at s c).label.defined.kind ≡ false → child_faults s path c found ≡ []
+other_tells_nothing s c path None e = refl
+other_tells_nothing s c path (Some d) e = nothing_told (row_at s c).label.defined.kind (row_at s c).label _ d _ e
+
+-- what the members of an object name
+pub object_known : (s : Rows) (p : NodeId) (key : List ℕ) → is_object s p ≡ true → is_known (object_trees s p) key ≡ is_known (opened_trees (below s p)) key
+object_known s p key object = rw object refl
 
 -- what was added, and what is left to add
 pub joins : {X : Type 0} (old here rest : List X) {new from all : List X} → new ≡ old ++ here → from ≡ here ++ rest → old ++ from ≡ all → new ++ rest ≡ all

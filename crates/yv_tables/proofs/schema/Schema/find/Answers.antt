@@ -1,10 +1,9 @@
 use Rattle.std.proofs.Common.{◌≡◌, ◌≤◌, length, true, false, sym, ◌∙◌, ap, arith}
 use Rattle.std.specs.Prelude.{is_some}
 use Rattle.std.proofs.lemmas.Option.{slice_get_read}
-use Rattle.yv_nodes.specs.Rows.{Rows, is_root, rank, row_at}
-use Rattle.yv_properties.specs.Kinds.{is_passed}
+use Rattle.yv_nodes.specs.Rows.{Rows, is_root, rank}
 use Rattle.yv_tables.specs.Sound.{named}
-use Rattle.yv_tables.proofs.Finding.{inside_named, inside_root, is_met, known_is}
+use Rattle.yv_tables.proofs.Finding.{inside_named, inside_root, known_is}
 use Rattle.yv_tables.proofs.Colons.{rank_below}
 use Rattle.yv_tables.proofs.schema.Schema.find.Goals as goal
 
@@ -18,10 +17,9 @@ returns-else-eq-clause-value c =
     let s : Rows = record { nodes = c.self.inside.nodes.rows; top = c.self.inside.top.items; limit = c.self.inside.nodes.limit } in
     let inner : is_root c.args.parent ≡ false = sym c.eq.ensures ∙ c.if-eq.false in
     let within : rank c.args.parent ≤ length s.nodes = rw (← c.self.view_is) at c.requires.within in
-    let met : is_passed (row_at s c.args.parent).label.defined.kind ≡ false = is_met s c.args.parent inner (rw (← c.self.view_is) at c.requires.object) in
     let at = slice_get_read c.self.inside.tables.items (length s.nodes) c.args.parent.0 c.index.result.now (sym c.self.invariant.each) (omega (arith, within, rank_below c.args.parent inner)) c.index.ensures in
     rw (← c.self.view_is)
-    (c.copied.ensures ∙ c.get.ensures.value ∙ c.self.invariant.below c.args.parent c.index.result.now c.args.member.now inner met at)
+    (c.copied.ensures ∙ c.get.ensures.value ∙ c.self.invariant.below c.args.parent c.index.result.now c.args.member.now inner at)
 
 pub returns-then-eq-clause-child : goal.returns-then-eq-clause-child
 returns-then-eq-clause-child c = inside_named c.args.self.now c.args.parent c.args.member.now _ (rw c.self.view_is at c.self.invariant.sound) c.requires.within (returns-then-eq-clause-value c)
