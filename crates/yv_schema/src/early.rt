@@ -59,6 +59,13 @@ fn is_taken(keyword: Keyword, argument: Option<&str>) -> bool
             | Keyword::List
             | Keyword::Anydata
             | Keyword::Anyxml
+            | Keyword::Choice
+            | Keyword::Case
+            | Keyword::Rpc
+            | Keyword::Action
+            | Keyword::Notification
+            | Keyword::Input
+            | Keyword::Output
             | Keyword::Presence
             | Keyword::Config
             | Keyword::Mandatory
