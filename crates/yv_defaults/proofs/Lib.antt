@@ -1,0 +1,5 @@
+pub mod Saying
+pub mod Finding
+pub mod Once
+pub mod Scoping
+pub mod Binding

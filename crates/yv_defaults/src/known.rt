@@ -1,0 +1,60 @@
+//! The defaults of types, and what readers ask of them.
+ghost use Rattle.std.specs.Prelude.{◌≡◌, ℕ, IfOk};
+ghost use Rattle.std.specs.Option.{option_map, option_copied};
+ghost use Rattle.yv_rows.specs.Files.{Files};
+ghost use Rattle.yv_rows.specs.Lent.{lent_in};
+ghost use Rattle.yv_names.specs.Known.{AreNames};
+ghost use Rattle.yv_bases.specs.Known.{AreBases};
+ghost use Rattle.yv_properties.specs.Defined.{written_of};
+
+use crate::found::found_at;
+use crate::said::all_said;
+use crate::table::{get, no_numbers, put, text};
+use std::alloc::{AllocError, Global};
+use yv_bases::Bases;
+use yv_names::Names;
+use yv_properties::WrittenText;
+use yv_rows::Rows;
+
+/// The defaults that the types of files have by their typedefs. The text of each typedef's default is kept once.
+#[derive(Drop)]
+pub struct Defaults {
+    // of each typedef
+    pub(crate) said: Vec<Option<WrittenText>>,
+    // the typedef whose default each type has
+    pub(crate) found: Vec<Option<usize>>,
+}
+
+impl Defaults {
+    ghost use Rattle.yv_defaults.specs.Defaults.{HasDefault};
+    ghost use Rattle.yv_defaults.specs.Known.{AreDefaults};
+
+    /// Reads the defaults of these statements, the names and the bases being theirs, in time linear in statements: no way
+    /// along typedefs is gone twice.
+    pub fn read(
+        alloc: Global,
+        rows: &Rows<'_, '_>,
+        names: &Names,
+        bases: &Bases,
+    ) -> Result<Defaults, AllocError>
+        ensures { IfOk result (λ defaults. (files : Files) → lent_in rows.now ≡ files → AreNames files names.now → AreBases files bases.now
+            → AreDefaults files defaults) }
+    {
+        let order = bases.order();
+        let said = all_said(alloc, rows)?;
+        let mut found = no_numbers(alloc, rows.entries().len())?;
+        for number in order {
+            let typedef = found_at(names, bases, &said, &found, *number);
+            put(&mut found, *number, typedef);
+        }
+        Ok(Defaults { said, found })
+    }
+
+    /// The default that the type of this number has by its typedefs (RFC 7950, section 7.6.1), with the file in which it is
+    /// written: that of the nearest typedef that says one. None for other statements, and for types that name built-in types.
+    pub fn of(&self, number: usize) -> Option<&WrittenText>
+        ensures { (files : Files) → AreDefaults files self.now → HasDefault files number (option_map written_of (option_copied result)) }
+    {
+        text(&self.said, get(&self.found, number)?)
+    }
+}

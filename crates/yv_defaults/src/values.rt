@@ -1,0 +1,27 @@
+//! The values of defaults.
+ghost use Rattle.std.specs.Prelude.{◌≡◌, map, IfOk};
+ghost use Rattle.yv_values.specs.Types.{plain_of};
+ghost use Rattle.yv_values.specs.Scopes.{place_of};
+ghost use Rattle.yv_defaults.specs.Values.{first_value};
+
+use std::alloc::{AllocError, Global};
+use yv_values::{PlainType, Scope, Value, read_text};
+
+/// The value of a default's text by the first of these types that reads it (RFC 7950, section 9.12), or none. The scope is
+/// that of the file in which the default is written.
+pub fn default_value(
+    alloc: Global,
+    types: &[PlainType],
+    text: &str,
+    scope: &Scope,
+) -> Result<Option<Value>, AllocError>
+    ensures { IfOk result (λ found. found ≡ first_value (map plain_of types.now) text.now (place_of scope.now)) }
+{
+    for plain in types {
+        let found = read_text(alloc, plain, text, scope)?;
+        if found.is_some() {
+            return Ok(found);
+        }
+    }
+    Ok(None)
+}
