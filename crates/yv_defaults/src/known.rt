@@ -27,7 +27,7 @@ pub struct Defaults {
 
 impl Defaults {
     ghost use Rattle.yv_defaults.specs.Defaults.{HasDefault};
-    ghost use Rattle.yv_defaults.specs.Known.{AreDefaults};
+    ghost use Rattle.yv_defaults.specs.Known.{AreDefaults, found_in};
 
     /// Reads the defaults of these statements, the names and the bases being theirs, in time linear in statements: no way
     /// along typedefs is gone twice.
@@ -53,7 +53,8 @@ impl Defaults {
     /// The default that the type of this number has by its typedefs (RFC 7950, section 7.6.1), with the file in which it is
     /// written: that of the nearest typedef that says one. None for other statements, and for types that name built-in types.
     pub fn of(&self, number: usize) -> Option<&WrittenText>
-        ensures { (files : Files) → AreDefaults files self.now → HasDefault files number (option_map written_of (option_copied result)) }
+        ensures told { (files : Files) → AreDefaults files self.now → HasDefault files number (option_map written_of (option_copied result)) }
+        ensures same { option_map written_of (option_copied result) ≡ found_in self.now number }
     {
         text(&self.said, get(&self.found, number)?)
     }

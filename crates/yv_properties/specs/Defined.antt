@@ -2,6 +2,7 @@
 use Rattle.std.specs.Prelude.{ℕ, Bool, List, [], Option, None, true, false, ◌∷◌}
 use Rattle.std.specs.Rc.{rc_str_bytes}
 use Rattle.yv_values.specs.Types.{Plain}
+use Rattle.yv_values.specs.Values.{Val}
 use Rattle.yv_properties.specs.declared.kind.NodeKind.{NodeKind}
 use Rattle.yv_properties.specs.declared.kind.NodeKind.TheVariants.{Leaf}
 use Rattle.yv_properties.specs.declared.kind.NodeStatus.{NodeStatus}
@@ -35,6 +36,8 @@ pub record Defined : Type 0 where
   pub key_names : List (List ℕ)
   pub uniques : List (List ℕ)
   pub own_default : Option Written
+  pub type_default : Option Written
+  pub defaults : List Val
 
 abbrev pub is_empty : List (List ℕ) → Bool
 is_empty [] = true
@@ -60,4 +63,6 @@ blank = record {
   key_names = [];
   uniques = [];
   own_default = None;
+  type_default = None;
+  defaults = [];
 }

@@ -5,6 +5,7 @@ ghost use Rattle.std.specs.Option.{option_map};
 ghost use Rattle.std.specs.Rc.{rc_str_bytes};
 ghost use Rattle.std.specs.Str.{bytes_eq};
 ghost use Rattle.yv_values.specs.Types.{plain_of};
+ghost use Rattle.yv_values.specs.Values.{val_of};
 ghost use Rattle.yv_properties.specs.Defined.{is_empty, written_of};
 
 use crate::key_names::KeyNames;
@@ -12,7 +13,7 @@ use crate::kind::{NodeKind, NodeStatus};
 use std::alloc::AllocError;
 use std::marker::Model;
 use std::rc::{Rc, RcSlice, RcStr};
-use yv_values::PlainType;
+use yv_values::{PlainType, Value};
 
 /// A text, and the file in which it is written, whose prefixes it uses.
 #[derive(Drop)]
@@ -61,6 +62,10 @@ pub struct Definition {
     pub uniques: RcSlice<RcStr>,
     /// The argument of its `default` statement.
     pub own_default: Option<WrittenText>,
+    /// The default that its type has by its typedefs.
+    pub type_default: Option<WrittenText>,
+    /// The values that these give it: one at most at a leaf.
+    pub defaults: RcSlice<Value>,
 }
 
 impl Model for Definition {
@@ -68,6 +73,7 @@ impl Model for Definition {
     ghost use Rattle.std.specs.Option.{option_map};
     ghost use Rattle.std.specs.Rc.{rc_slice_items, rc_str_bytes};
     ghost use Rattle.yv_values.specs.Types.{plain_of};
+    ghost use Rattle.yv_values.specs.Values.{val_of};
     ghost use Rattle.yv_properties.specs.Defined.{Defined, written_of};
 
     ghost Value = { Defined };
@@ -90,6 +96,8 @@ impl Model for Definition {
       key_names = d.key_names.value;
       uniques = map rc_str_bytes (rc_slice_items d.uniques);
       own_default = option_map written_of d.own_default;
+      type_default = option_map written_of d.type_default;
+      defaults = map val_of (rc_slice_items d.defaults);
     } };
 }
 
@@ -228,6 +236,20 @@ impl Definition {
         self.own_default.as_ref()
     }
 
+    /// The default that its type has by its typedefs, and the file in which that stands (RFC 7950, section 7.3.4).
+    pub fn type_default(&self) -> Option<&WrittenText>
+        ensures { option_map (λ written. written_of written.now) result ≡ self.now.type_default }
+    {
+        self.type_default.as_ref()
+    }
+
+    /// The values that its defaults give it (RFC 7950, section 7.6.1).
+    pub fn defaults(&self) -> &[Value]
+        ensures { map val_of result.now ≡ self.now.defaults }
+    {
+        self.defaults.as_slice()
+    }
+
     /// The same once more, over the same texts and the same list of types: the time and the memory that it takes don't
     /// grow with these.
     pub fn share(&self) -> Result<Definition, AllocError>
@@ -251,6 +273,8 @@ impl Definition {
             key_names: self.key_names.clone()?,
             uniques: self.uniques.clone()?,
             own_default: shared_default(&self.own_default)?,
+            type_default: shared_default(&self.type_default)?,
+            defaults: self.defaults.clone()?,
         })
     }
 

@@ -9,6 +9,9 @@ use Rattle.yv_bases.specs.Known.{AreBases}
 use Rattle.yv_faceted.specs.Known.{AreFaceted}
 use Rattle.yv_listed.specs.Types.{Truth}
 use Rattle.yv_listed.specs.Known.{AreLists}
+use Rattle.yv_properties.specs.Defined.{Written}
+use Rattle.yv_defaults.specs.Defaults.{HasDefault}
+use Rattle.yv_defaults.specs.Known.{AreDefaults, found_in}
 use Rattle.yv_types.specs.InnerPlaces.{placed_in}
 use Rattle.yv_values.specs.Types.{Plain}
 use Rattle.yv_types.specs.InnerTables.{AreSpaces, plains_at}
@@ -22,9 +25,10 @@ pub record AreLayers (files : Files) (truth : Truth) (layers : Layers) : Type 0 
   pub faceted : AreFaceted files layers.faceted
   pub listed : AreLists files truth layers.lists
 
--- these are the plain types of the types of these files, and the places of these; how, only the readers ask
+-- these are the plain types and the defaults of the types of these files, and the places of these; how, only the readers ask
 pub record AreTypes (files : Files) (choice : Choice) (truth : Truth) (types : Types) : Type 0 where
   pub spaces : AreSpaces files truth choice types.spaces.items
+  pub defaults : AreDefaults files types.defaults
   pub places : (file offset : ℕ) → placed_in types.places file offset ≡ number_at (rows_of files) (codes "type") file offset
 
 -- the plain types that are told of the type statement at an offset of a file
@@ -37,3 +41,12 @@ IsTold files choice truth None None = Unit {0}
 IsTold files choice truth None (Some ps) = ⊥
 IsTold files choice truth (Some k) None = (ps : List Plain) → Space files truth choice k ps → ⊥
 IsTold files choice truth (Some k) (Some ps) = Space files truth choice k ps
+
+-- the default that is told of the type statement at an offset of a file
+abbrev pub default_at : Types → ℕ → ℕ → Option Written
+default_at types file offset = option_and_then (found_in types.defaults) (placed_in types.places file offset)
+
+-- this is the default of the type of this number by its typedefs; none, where there is no type
+abbrev pub IsDefault : Files → Option ℕ → Option Written → Type 0
+IsDefault files None default = default ≡ None
+IsDefault files (Some k) default = HasDefault files k default

@@ -1,6 +1,6 @@
 //! The plain types of types, and what readers ask of them.
 ghost use Rattle.std.specs.Prelude.{◌≡◌, ℕ, List, None, Some, codes, map, IfOk, IfSome};
-ghost use Rattle.std.specs.Option.{option_map};
+ghost use Rattle.std.specs.Option.{option_copied, option_map};
 ghost use Rattle.std.specs.Rc.{rc_slice_items};
 ghost use Rattle.yv_selection.specs.Choice.{Choice};
 ghost use Rattle.yv_rows.specs.Files.{Files};
@@ -10,18 +10,22 @@ ghost use Rattle.yv_bases.specs.Types.{IsTypeAt};
 ghost use Rattle.yv_listed.specs.Types.{Truth};
 ghost use Rattle.yv_values.specs.Types.{Plain, plain_of};
 ghost use Rattle.yv_types.specs.Spaces.{Space};
-ghost use Rattle.yv_types.specs.Known.{AreTypes, space_at};
+ghost use Rattle.yv_properties.specs.Defined.{written_of};
+ghost use Rattle.yv_types.specs.Known.{AreTypes, default_at, space_at};
 
 use crate::places::Places;
 use crate::table::{Shared, get, list_at};
 use std::alloc::AllocError;
 use std::rc::RcSlice;
+use yv_defaults::Defaults;
+use yv_properties::WrittenText;
 use yv_values::PlainType;
 
-/// The plain types of the types of files in which nothing is wrong with types.
+/// The plain types and the defaults of the types of files in which nothing is wrong with types.
 #[derive(Drop)]
 pub struct Types {
     pub(crate) spaces: Vec<Option<Shared>>,
+    pub(crate) defaults: Defaults,
     pub(crate) places: Places,
 }
 
@@ -60,5 +64,14 @@ impl Types {
             Some(shared) => Ok(Some(shared.types)),
             None => Ok(None),
         }
+    }
+
+    /// The default that the type statement that stands first at an offset (bytes) of a file has by its typedefs (RFC 7950,
+    /// section 7.3.4), with the file in which it is written. None where there is no type, and where no typedef says one.
+    pub fn default_at(&self, file: u32, offset: u64) -> Option<&WrittenText>
+        ensures { option_map written_of (option_copied result) ≡ default_at self.now file offset }
+    {
+        let number = self.places.get(file, offset)?;
+        self.defaults.of(number)
     }
 }

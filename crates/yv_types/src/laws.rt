@@ -7,7 +7,7 @@ ghost use Rattle.yv_names.specs.References.{number_at};
 ghost use Rattle.yv_listed.specs.Types.{Truth};
 ghost use Rattle.yv_values.specs.Types.{Plain};
 ghost use Rattle.yv_types.specs.Spaces.{Space};
-ghost use Rattle.yv_types.specs.Known.{AreTypes, IsTold, space_at};
+ghost use Rattle.yv_types.specs.Known.{AreTypes, IsDefault, IsTold, default_at, space_at};
 ghost use Rattle.yv_types.specs.declared.known.Types.{Types};
 
 /// A type has one list of plain types.
@@ -27,4 +27,11 @@ pub fn types_tell_spaces()
     ensures { (files : Files) (choice : Choice) (truth : Truth) (types : Types) → AreTypes files choice truth types
         → (file offset : ℕ) → IsTold files choice truth (number_at (rows_of files) (codes "type") file offset)
         (space_at types file offset) }
+{}
+
+/// What is told of the default of the type statement at an offset of a file is the one that it has by its typedefs.
+pub fn types_tell_defaults()
+    ensures { (files : Files) (choice : Choice) (truth : Truth) (types : Types) → AreTypes files choice truth types
+        → (file offset : ℕ) → IsDefault files (number_at (rows_of files) (codes "type") file offset)
+        (default_at types file offset) }
 {}
