@@ -3,7 +3,7 @@ use Rattle.std.proofs.Common.{◌≡◌, ℕ, zero, suc, List, [], ◌∷◌, �
 use Rattle.std.specs.List.{slice_get}
 use Rattle.yv_rows.specs.Files.{Files}
 use Rattle.yv_definitions.specs.declared.keeping.Kept.{Kept}
-use Rattle.yv_definitions.specs.Kinds.{Kinds}
+use Rattle.yv_definitions.specs.Kinds.{Typing}
 use Rattle.yv_definitions.specs.InnerKept.{AreKept, IsKept}
 
 -- what stands in a list with one more behind: in the list, or as the last
@@ -15,17 +15,17 @@ before_or_last (z ∷ zs) x zero y h = inl h
 before_or_last (z ∷ zs) x (suc k) y h =
     elim (before_or_last zs x k y h) [ inl a ↦ inl a | inr b ↦ inr (let e : k ≡ length zs = b.0 in omega arith, b.1) ]
 
-module _ (kinds : Kinds) (files : Files) where
-  pub kept_none : AreKept kinds files []
+module _ (typing : Typing) (files : Files) where
+  pub kept_none : AreKept typing files []
   kept_none number kept h = cc
 
-  is_last : (n k : ℕ) (x y : Kept) → IsKept kinds files n x → n ≡ k → x ≡ y → IsKept kinds files k y
+  is_last : (n k : ℕ) (x y : Kept) → IsKept typing files n x → n ≡ k → x ≡ y → IsKept typing files k y
   is_last n k x y h e f =
-      let P : ℕ → Type 0 = λ m. IsKept kinds files m x in
-      let Q : Kept → Type 0 = λ z. IsKept kinds files k z in
+      let P : ℕ → Type 0 = λ m. IsKept typing files m x in
+      let Q : Kept → Type 0 = λ z. IsKept typing files k z in
       subst Q f (subst P e h)
 
-  pub kept_more : (all : List Kept) (x : Kept) (n : ℕ) → n ≡ length all → IsKept kinds files n x → AreKept kinds files all
-      → AreKept kinds files (all ++ x ∷ [])
+  pub kept_more : (all : List Kept) (x : Kept) (n : ℕ) → n ≡ length all → IsKept typing files n x → AreKept typing files all
+      → AreKept typing files (all ++ x ∷ [])
   kept_more all x n e last are = λ number kept h.
       elim (before_or_last all x number kept h) [ inl a ↦ are number kept a | inr b ↦ is_last n number x kept last (e ∙ sym b.0) b.1 ]

@@ -1,4 +1,4 @@
--- The plain types of the `type` statements of files.
+-- The plain types and the defaults of the `type` statements of files.
 use Rattle.std.proofs.Common.{◌≡◌, ℕ, List, [], Option, Some, None, inl, inr, codes, refl, sym, ◌∙◌}
 use Rattle.std.specs.Option.{unwrap_or}
 use Rattle.yv_selection.specs.Choice.{Choice}
@@ -9,7 +9,10 @@ use Rattle.yv_values.specs.Types.{Plain}
 use Rattle.yv_types.specs.Spaces.{Space}
 use Rattle.yv_types.specs.Known.{IsTold}
 use Rattle.yv_listed.specs.Types.{Truth}
-use Rattle.yv_definitions.specs.Kinds.{AreKinds, IsKind, IsKindOf, Kinds}
+use Rattle.yv_properties.specs.Defined.{Written}
+use Rattle.yv_defaults.specs.Defaults.{HasDefault}
+use Rattle.yv_types.specs.Known.{IsDefault}
+use Rattle.yv_definitions.specs.Kinds.{AreKinds, AreTypeDefaults, AreTyped, IsKind, IsKindOf, Kinds, TypeDefaults, Typing}
 
 -- types that agree everywhere are one
 pub same_kinds : (a b : Kinds) → ((file offset : ℕ) → a file offset ≡ b file offset) → a ≡ b
@@ -46,3 +49,27 @@ module _ (files : Files) (choice : Choice) (truth : Truth) where
     pub one_kinds : (a b : Kinds) → AreKinds files choice truth a → AreKinds files choice truth b → a ≡ b
     one_kinds a b p q =
         same_kinds a b (λ file offset. one_kind_of (number_at (rows_of files) (codes "type") file offset) (a file offset) (b file offset) (p file offset) (q file offset))
+
+-- a type has one default
+abbrev pub HasOneDefault : Type 0
+HasOneDefault = (files : Files) (k : ℕ) (v w : Option Written) → HasDefault files k v → HasDefault files k w → v ≡ w
+
+-- defaults that agree everywhere are one
+same_defaults : (a b : TypeDefaults) → ((file offset : ℕ) → a file offset ≡ b file offset) → a ≡ b
+same_defaults a b h = λ i file offset. h file offset i
+
+module _ (files : Files) (one : HasOneDefault) where
+  one_default_of : (number : Option ℕ) (v w : Option Written) → IsDefault files number v → IsDefault files number w → v ≡ w
+  one_default_of None v w a b = a ∙ sym b
+  one_default_of (Some k) v w a b = one files k v w a b
+
+  one_defaults : (a b : TypeDefaults) → AreTypeDefaults files a → AreTypeDefaults files b → a ≡ b
+  one_defaults a b p q =
+      same_defaults a b (λ file offset. one_default_of (number_at (rows_of files) (codes "type") file offset) (a file offset) (b file offset) (p file offset) (q file offset))
+
+pub one_typing : (files : Files) (choice : Choice) (truth : Truth) → HasOneSpace → HasOneDefault → (a b : Typing) → AreTyped files choice truth a
+    → AreTyped files choice truth b → a ≡ b
+one_typing files choice truth spaces defaults a b p q =
+    let kinds : a.kinds ≡ b.kinds = one_kinds files choice truth spaces a.kinds b.kinds p.kinds q.kinds in
+    let told : a.defaults ≡ b.defaults = one_defaults files defaults a.defaults b.defaults p.defaults q.defaults in
+    λ i. record { kinds = kinds i; defaults = told i }

@@ -12,15 +12,16 @@ use Rattle.yv_rows.specs.Files.{Files}
 use Rattle.yv_expansion.specs.declared.item.Origin.{Origin}
 use Rattle.yv_expansion.specs.declared.item.Origin.TheVariants as origin
 use Rattle.yv_values.specs.Types.{Plain}
-use Rattle.yv_properties.specs.Defined.{Defined, blank}
+use Rattle.yv_properties.specs.Defined.{Defined, Written, blank}
 use Rattle.yv_properties.specs.declared.kind.NodeKind.{NodeKind}
 use Rattle.yv_properties.specs.declared.kind.NodeKind.TheVariants as kind
 use Rattle.yv_properties.specs.declared.kind.NodeStatus.{NodeStatus}
 use Rattle.yv_properties.specs.declared.kind.NodeStatus.TheVariants.{Current, Deprecated, Obsolete}
-use Rattle.yv_definitions.specs.Kinds.{Kinds}
+use Rattle.yv_definitions.specs.Kinds.{Kinds, TypeDefaults, Typing}
 use Rattle.yv_definitions.specs.Statements.{argument_of, arguments_among, file_at, first_of, statement_at}
 use Rattle.yv_definitions.specs.Features.{all_expressions, expressions, joined}
 use Rattle.yv_definitions.specs.Properties.{last_said, properties_of, said_by, with_properties}
+use Rattle.yv_definitions.specs.Values.{with_defaults}
 
 -- what the statements of this keyword define, where they define nodes
 abbrev pub node_kind : Keyword → Option NodeKind
@@ -59,6 +60,11 @@ abbrev pub types_in : Kinds → ℕ → Forest → List Plain
 types_in kinds file End = []
 types_in kinds file (Then h c o) = types_at kinds file (keyword_of h.keyword) h (types_in kinds file o)
 
+-- the default that a `type` statement of a file has by its typedefs; none, where there is no statement (section 7.3.4)
+abbrev pub default_by : TypeDefaults → ℕ → Option Tree → Option Written
+default_by defaults file None = None
+default_by defaults file (Some t) = defaults file t.head.offset
+
 -- the status that a text tells (section 7.21.2)
 abbrev pub status_of : List ℕ → NodeStatus
 status_of text =
@@ -69,8 +75,8 @@ abbrev pub key_names_in : Forest → List (List ℕ)
 key_names_in block = words (argument_of (first_of word.Key block))
 
 -- what a statement of a file says of the node that it defines
-abbrev pub defined_by : Kinds → ℕ → Tree → Defined
-defined_by kinds file t =
+abbrev pub defined_by : Typing → ℕ → Tree → Defined
+defined_by typing file t =
     let kind : NodeKind = kind_of (keyword_of t.head.keyword) in
     with_properties (properties_of (said_by file t)) (record blank {
       file = file;
@@ -78,17 +84,18 @@ defined_by kinds file t =
       line = t.head.line;
       kind = kind;
       name = node_name kind (name_of t.head);
-      types = types_in kinds file t.children;
+      types = types_in typing.kinds file t.children;
       status = status_of (argument_of (first_of word.Status t.children));
       features = joined [] (expressions (trees t.children));
       type_text = argument_of (first_of word.Type t.children);
       key_names = key_names_in t.children;
       uniques = arguments_among word.Unique (trees t.children);
+      type_default = default_by typing.defaults file (first_of word.Type t.children);
     })
 
 -- what the numbered statement says
-abbrev pub defined_at : Kinds → Files → ℕ → Defined
-defined_at kinds files number = defined_by kinds (file_at files number) (statement_at files number)
+abbrev pub defined_at : Typing → Files → ℕ → Defined
+defined_at typing files number = defined_by typing (file_at files number) (statement_at files number)
 
 -- an input or output that the operation of this number doesn't write stands where that does, and says nothing else
 abbrev pub unwritten : NodeKind → Files → ℕ → Defined
@@ -101,10 +108,10 @@ unwritten kind files number = let head : Head = (statement_at files number).head
 }
 
 -- what is said of a node of this origin where it is defined
-abbrev pub defined : Kinds → Files → Origin → Defined
-defined kinds files (origin.Statement number) = defined_at kinds files number
-defined kinds files (origin.Input number) = unwritten kind.Input files number
-defined kinds files (origin.Output number) = unwritten kind.Output files number
+abbrev pub defined : Typing → Files → Origin → Defined
+defined typing files (origin.Statement number) = defined_at typing files number
+defined typing files (origin.Input number) = unwritten kind.Input files number
+defined typing files (origin.Output number) = unwritten kind.Output files number
 
 -- the statements that say what a node of this origin is
 abbrev pub written_by : Origin → List ℕ
@@ -112,10 +119,10 @@ written_by (origin.Statement number) = number ∷ []
 written_by (origin.Input number) = []
 written_by (origin.Output number) = []
 
--- what is said of it, as these refines change it: of each property what the last of these statements says, and the features
--- of all
-abbrev pub refined : Kinds → Files → Origin → List ℕ → Defined
-refined kinds files from refines =
-    let d : Defined = defined kinds files from in
-    with_properties (properties_of (last_said files (written_by from ++ refines)))
-    (record d { features = joined d.features (all_expressions files refines) })
+-- what is said of it, as these refines change it: of each property what the last of these statements says, the features
+-- of all, and the values of the default that there is then
+abbrev pub refined : Typing → Files → Origin → List ℕ → Defined
+refined typing files from refines =
+    let d : Defined = defined typing files from in
+    with_defaults files (with_properties (properties_of (last_said files (written_by from ++ refines)))
+    (record d { features = joined d.features (all_expressions files refines) }))

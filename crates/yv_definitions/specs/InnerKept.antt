@@ -7,18 +7,19 @@ use Rattle.yv_rows.specs.Files.{Files}
 use Rattle.yv_properties.specs.Defined.{Defined}
 use Rattle.yv_definitions.specs.declared.keeping.Kept.{Kept}
 use Rattle.yv_definitions.specs.declared.keeping.Kept.TheVariants.{Node, Refine}
-use Rattle.yv_definitions.specs.Kinds.{Kinds}
+use Rattle.yv_definitions.specs.Kinds.{Typing}
 use Rattle.yv_definitions.specs.Defined.{defined_at}
+use Rattle.yv_definitions.specs.Values.{with_defaults}
 use Rattle.yv_definitions.specs.Properties.{Properties, properties_of, said_at}
 use Rattle.yv_definitions.specs.Statements.{first_of, statement_at}
 
--- what is kept of the statement of this number is what it says
-abbrev pub IsKept : Kinds → Files → ℕ → Kept → Type 0
-IsKept kinds files number kept =
-    ((d : Defined) → kept ≡ Node d → d ≡ defined_at kinds files number) × ((p : Properties) → kept ≡ Refine p → p ≡ properties_of (said_at files number))
+-- what is kept of the statement of this number is what it says, with the values of its default
+abbrev pub IsKept : Typing → Files → ℕ → Kept → Type 0
+IsKept typing files number kept =
+    ((d : Defined) → kept ≡ Node d → d ≡ with_defaults files (defined_at typing files number)) × ((p : Properties) → kept ≡ Refine p → p ≡ properties_of (said_at files number))
 
-abbrev pub AreKept : Kinds → Files → List Kept → Type 0
-AreKept kinds files all = (number : ℕ) (kept : Kept) → slice_get all number ≡ Some kept → IsKept kinds files number kept
+abbrev pub AreKept : Typing → Files → List Kept → Type 0
+AreKept typing files all = (number : ℕ) (kept : Kept) → slice_get all number ≡ Some kept → IsKept typing files number kept
 
 -- a block has an `if-feature` statement
 abbrev pub has_features : Forest → Bool

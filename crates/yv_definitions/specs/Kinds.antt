@@ -1,4 +1,4 @@
--- The plain types that the `type` statements of files stand for (RFC 7950, sections 7.4 and 9).
+-- What the `type` statements of files stand for: plain types, and a default (RFC 7950, sections 7.3.4, 7.4 and 9).
 use Rattle.std.specs.Prelude.{◌≡◌, ◌⊎◌, ℕ, List, [], Option, Some, None, codes}
 use Rattle.std.specs.Option.{unwrap_or}
 use Rattle.yv_selection.specs.Choice.{Choice}
@@ -7,9 +7,10 @@ use Rattle.yv_rows.specs.Listed.{rows_of}
 use Rattle.yv_names.specs.References.{number_at}
 use Rattle.yv_listed.specs.Types.{Truth}
 use Rattle.yv_values.specs.Types.{Plain}
-use Rattle.yv_types.specs.Known.{space_at}
+use Rattle.yv_types.specs.Known.{IsDefault, default_at, space_at}
 use Rattle.yv_types.specs.Spaces.{Space}
 use Rattle.yv_types.specs.declared.known.Types.{Types}
+use Rattle.yv_properties.specs.Defined.{Written}
 
 -- the plain types of the `type` statement at an offset of a file
 abbrev pub Kinds : Type 0
@@ -33,3 +34,26 @@ AreKinds files choice truth kinds =
 -- the plain types that are told; no types, where none are told
 abbrev pub kinds_of : Types → Kinds
 kinds_of types file offset = unwrap_or (space_at types file offset) []
+
+-- the default that the `type` statement at an offset of a file has by its typedefs
+abbrev pub TypeDefaults : Type 0
+TypeDefaults = ℕ → ℕ → Option Written
+
+-- the defaults of all `type` statements of these files
+abbrev pub AreTypeDefaults : Files → TypeDefaults → Type 0
+AreTypeDefaults files defaults =
+    (file offset : ℕ) → IsDefault files (number_at (rows_of files) (codes "type") file offset) (defaults file offset)
+
+-- what `type` statements stand for
+pub record Typing : Type 0 where
+  pub kinds : Kinds
+  pub defaults : TypeDefaults
+
+-- this is what the `type` statements of these files stand for
+pub record AreTyped (files : Files) (choice : Choice) (truth : Truth) (typing : Typing) : Type 0 where
+  pub kinds : AreKinds files choice truth typing.kinds
+  pub defaults : AreTypeDefaults files typing.defaults
+
+-- what is told of them
+abbrev pub typing_of : Types → Typing
+typing_of types = record { kinds = kinds_of types; defaults = default_at types }

@@ -2,8 +2,10 @@ pub mod Kinds
 pub mod Statements
 pub mod Features
 pub mod Properties
+pub mod Values
 pub mod Defined
 pub mod Known
 pub mod InnerKept
+pub mod InnerRefined
 pub mod InnerChanged
 pub mod InnerCut

@@ -1,43 +1,63 @@
 //! What the numbered statements of files say of the nodes that they define.
 ghost use Rattle.std.specs.Prelude.{◌≡◌, slice_get, IfOk, OnOk, string_bytes};
 ghost use Rattle.std.specs.Option.{option_map};
-ghost use Rattle.std.specs.Rc.{rc_str_bytes};
+ghost use Rattle.std.specs.Rc.{rc_slice_items, rc_str_bytes};
 ghost use Rattle.yv_statement.specs.Tree.{trees};
 ghost use Rattle.yv_rows.specs.Lent.{lent_in};
-ghost use Rattle.yv_definitions.specs.Kinds.{kinds_of};
+ghost use Rattle.yv_definitions.specs.Kinds.{typing_of};
 ghost use Rattle.yv_definitions.specs.Statements.{statement_at};
 ghost use Rattle.yv_definitions.specs.Features.{all_expressions, expressions, joined};
 ghost use Rattle.yv_definitions.specs.Properties.{properties_of, said_at};
+ghost use Rattle.yv_defaults.specs.Scopes.{AreScopes};
 ghost use Rattle.yv_definitions.specs.Defined.{defined, defined_at, refined};
+ghost use Rattle.yv_definitions.specs.Values.{with_defaults};
 ghost use Rattle.yv_definitions.specs.InnerKept.{AreKept, gives_features, has_features};
 ghost use Rattle.yv_definitions.specs.InnerChanged.{changed, changed_by};
+ghost use Rattle.yv_definitions.specs.InnerRefined.{AreRefined, GivesDefault, gives_default, last_default, values_at, values_by};
 
 use crate::features::push_expressions;
-use crate::keeping::{Kept, changes_at, define_at, kept_at, unwritten_at};
+use crate::keeping::{Kept, changes_at, kept_at, stated_at, unwritten_at};
 use crate::numbered::statement_at;
 use crate::substatements::has;
+use crate::values::{defaults_of, no_values};
 use std::alloc::{AllocError, Global};
-use std::rc::RcStr;
+use std::rc::{RcSlice, RcStr};
 use yv_conform::Keyword;
+use yv_defaults::scopes_of;
 use yv_expansion::Origin;
 use yv_properties::{Definition, NodeKind};
 use yv_rows::Rows;
 use yv_types::Types;
+use yv_values::{Scope, Value};
 
 /// What the numbered statements of files say of the nodes that they define, each read once. Contracts see the files, and
-/// the plain types of their types.
+/// what their `type` statements stand for.
 #[derive(Drop)]
 pub struct Definitions<'r, 'a, 'b> {
     alloc: Global,
     rows: &'r Rows<'a, 'b>,
     types: &'r Types,
+    // By which the texts of each file are read.
+    scopes: Vec<Scope>,
     // Of each statement, by its number.
     kept: Vec<Kept>,
-    ghost kept_so: { AreKept (kinds_of types.now) (lent_in rows.now) kept.items },
+    // Of each refine, by its number.
+    refined: Vec<Option<Refined>>,
+    ghost scopes_so: { AreScopes (lent_in rows.now) scopes.items },
+    ghost kept_so: { AreKept (typing_of types.now) (lent_in rows.now) kept.items },
+    ghost refined_so: { AreRefined (typing_of types.now) (lent_in rows.now) refined.items },
+}
+
+/// The values that the default of a refine gives a node.
+#[derive(Drop)]
+pub(crate) struct Refined {
+    // The number of the statement that defines the node.
+    pub(crate) node: usize,
+    pub(crate) values: RcSlice<Value>,
 }
 
 impl<'r, 'a, 'b> Definitions<'r, 'a, 'b> {
-    ghost use Rattle.yv_definitions.specs.Known.{files_in, kinds_in};
+    ghost use Rattle.yv_definitions.specs.Known.{files_in, typing_in};
 
     /// What the statements of files say, these being the types of the files.
     pub fn read(
@@ -45,35 +65,139 @@ impl<'r, 'a, 'b> Definitions<'r, 'a, 'b> {
         rows: &'r Rows<'a, 'b>,
         types: &'r Types,
     ) -> Result<Definitions<'r, 'a, 'b>, AllocError>
-        ensures kinds { IfOk result (λ definitions. kinds_in definitions ≡ kinds_of types.now) }
+        ensures typing { IfOk result (λ definitions. typing_in definitions ≡ typing_of types.now) }
         ensures files { IfOk result (λ definitions. files_in definitions ≡ lent_in rows.now) }
     {
+        let scopes = scopes_of(alloc, rows)?;
         let mut kept = Vec::new(alloc);
         for number in 0..rows.entries().len() {
-            kept.push(kept_at(alloc, rows, types, number)?)?;
+            kept.push(kept_at(alloc, rows, types, &scopes, number)?)?;
         }
         Ok(Definitions {
             alloc,
             rows,
             types,
+            scopes,
             kept,
+            refined: nothing_refined(alloc, rows.entries().len())?,
         })
+    }
+
+    /// Keeps the values of the default that these refines give a node of this origin, for `of` to share where other copies
+    /// of the node are refined so. A default that isn't kept is read anew for each copy.
+    pub fn keep(&mut self, origin: Origin, refines: &[usize]) -> Result<(), AllocError>
+        ensures typing { typing_in self.new ≡ typing_in self.old }
+        ensures files { files_in self.new ≡ files_in self.old }
+    {
+        let Some(refine) = self.last_default(refines) else {
+            return Ok(());
+        };
+        match origin {
+            Origin::Statement(node) => self.keep_values(node, refine),
+            _ => Ok(()),
+        }
+    }
+
+    // Keeps the values of the default of a refine, where none are kept yet.
+    fn keep_values(&mut self, node: usize, refine: usize) -> Result<(), AllocError>
+        requires { GivesDefault (files_in self.old) refine }
+        ensures typing { typing_in self.new ≡ typing_in self.old }
+        ensures files { files_in self.new ≡ files_in self.old }
+    {
+        if let Some(None) = self.refined.get(refine) {
+            let values = self.read_values(node, refine)?;
+            self.refined[refine] = Some(Refined { node, values });
+        }
+        Ok(())
     }
 
     /// What is said of a node of this origin, as these refines, which are numbered statements, change it in order (RFC 7950,
     /// section 7.13.2). Its texts and lists are those of the other nodes that the same statements define and change, but for
-    /// the features where a refine adds to them, and the texts of an input or output that isn't written.
+    /// the features where a refine adds to them, the values of a default that wasn't kept, and the texts of an input or
+    /// output that isn't written.
     pub fn of(&self, origin: Origin, refines: &[usize]) -> Result<Definition, AllocError>
-        ensures { IfOk result (λ d. d ≡ refined (kinds_in self.now) (files_in self.now) origin refines.now) }
+        ensures { IfOk result (λ d. d ≡ refined (typing_in self.now) (files_in self.now) origin refines.now) }
     {
         let mut definition = self.own(origin)?;
         definition.features = self.features(&definition, refines)?;
-        self.changed(definition, refines)
+        let mut changed = self.changed(definition, refines)?;
+        if let Some(refine) = self.last_default(refines) {
+            changed.defaults = self.values(origin, refine)?;
+        }
+        Ok(changed)
+    }
+
+    // The values that the default of a refine gives a node of this origin.
+    fn values(&self, origin: Origin, refine: usize) -> Result<RcSlice<Value>, AllocError>
+        requires { GivesDefault (files_in self.now) refine }
+        ensures { IfOk result (λ list. rc_slice_items list
+            ≡ values_by (typing_in self.now) (files_in self.now) origin refine) }
+    {
+        match origin {
+            Origin::Statement(node) => self.values_at(node, refine),
+            _ => no_values(self.alloc),
+        }
+    }
+
+    // Those that it gives the node of a numbered statement.
+    fn values_at(&self, node: usize, refine: usize) -> Result<RcSlice<Value>, AllocError>
+        requires { GivesDefault (files_in self.now) refine }
+        ensures { IfOk result (λ list. rc_slice_items list
+            ≡ values_at (typing_in self.now) (files_in self.now) node refine) }
+    {
+        match self.refined.get(refine) {
+            Some(Some(kept)) if kept.node == node => kept.values.clone(),
+            _ => self.read_values(node, refine),
+        }
+    }
+
+    // The same, read.
+    fn read_values(&self, node: usize, refine: usize) -> Result<RcSlice<Value>, AllocError>
+        requires { GivesDefault (files_in self.now) refine }
+        ensures { IfOk result (λ list. rc_slice_items list
+            ≡ values_at (typing_in self.now) (files_in self.now) node refine) }
+    {
+        let mut definition = self.stated(node)?;
+        self.change(&mut definition, refine)?;
+        defaults_of(self.alloc, &self.scopes, &definition)
+    }
+
+    // The last of these refines that gives a default.
+    fn last_default(&self, refines: &[usize]) -> Option<usize>
+        ensures { result ≡ last_default (files_in self.now) refines.now }
+    {
+        let mut last = None;
+        for refine in refines {
+            if self.gives_default(*refine) {
+                last = Some(*refine);
+            }
+        }
+        last
+    }
+
+    // Whether the numbered statement gives a default.
+    fn gives_default(&self, number: usize) -> bool
+        ensures { result ≡ gives_default (files_in self.now) number }
+    {
+        match self.kept_of(number) {
+            Some(Kept::Refine(changes)) => changes.default.is_some(),
+            _ => self.has_default(number),
+        }
+    }
+
+    // Whether it has a `default` statement.
+    fn has_default(&self, number: usize) -> bool
+        ensures { result ≡ gives_default (files_in self.now) number }
+    {
+        match statement_at(self.rows, number) {
+            Some(statement) => has(Keyword::Default, statement),
+            None => false,
+        }
     }
 
     // What is said of a node of this origin where it is defined.
     fn own(&self, origin: Origin) -> Result<Definition, AllocError>
-        ensures { IfOk result (λ d. d ≡ defined (kinds_in self.now) (files_in self.now) origin) }
+        ensures { IfOk result (λ d. d ≡ with_defaults (files_in self.now) (defined (typing_in self.now) (files_in self.now) origin)) }
     {
         match origin {
             Origin::Statement(number) => self.stated(number),
@@ -88,11 +212,11 @@ impl<'r, 'a, 'b> Definitions<'r, 'a, 'b> {
 
     // What the numbered statement says by itself.
     fn stated(&self, number: usize) -> Result<Definition, AllocError>
-        ensures { IfOk result (λ d. d ≡ defined_at (kinds_in self.now) (files_in self.now) number) }
+        ensures { IfOk result (λ d. d ≡ with_defaults (files_in self.now) (defined_at (typing_in self.now) (files_in self.now) number)) }
     {
         match self.kept_of(number) {
             Some(Kept::Node(definition)) => definition.share(),
-            _ => define_at(self.alloc, self.rows, self.types, number),
+            _ => stated_at(self.alloc, self.rows, self.types, &self.scopes, number),
         }
     }
 
@@ -165,4 +289,15 @@ impl<'r, 'a, 'b> Definitions<'r, 'a, 'b> {
             None => Ok(()),
         }
     }
+}
+
+// Of so many refines none with values.
+fn nothing_refined(alloc: Global, count: usize) -> Result<Vec<Option<Refined>>, AllocError>
+    ensures { IfOk result (λ refined. (refine : ℕ) (kept : Refined) → slice_get refined.items refine ≡ Some (Some kept) → ⊥) }
+{
+    let mut refined = Vec::new(alloc);
+    for _ in 0..count {
+        refined.push(None)?;
+    }
+    Ok(refined)
 }

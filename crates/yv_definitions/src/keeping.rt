@@ -2,15 +2,18 @@
 ghost use Rattle.std.specs.Prelude.{◌≡◌, IfOk};
 ghost use Rattle.yv_rows.specs.Lent.{lent_in};
 ghost use Rattle.yv_properties.specs.declared.kind.NodeKind.{NodeKind};
-ghost use Rattle.yv_definitions.specs.Kinds.{kinds_of};
+ghost use Rattle.yv_defaults.specs.Scopes.{AreScopes};
+ghost use Rattle.yv_definitions.specs.Kinds.{typing_of};
 ghost use Rattle.yv_definitions.specs.Statements.{file_at, statement_at};
 ghost use Rattle.yv_definitions.specs.Properties.{properties_of, said_at};
 ghost use Rattle.yv_definitions.specs.Defined.{defined_at, unwritten};
+ghost use Rattle.yv_definitions.specs.Values.{with_defaults};
 ghost use Rattle.yv_definitions.specs.InnerKept.{IsKept};
 
 use crate::changes::Changes;
 use crate::numbered::{file_at, statement_at};
 use crate::reading::{blank, define, node_kind, node_name};
+use crate::values::defaults_of;
 use std::alloc::{AllocError, Global};
 use std::rc::RcStr;
 use yv_conform::Keyword;
@@ -18,6 +21,7 @@ use yv_properties::{Definition, NodeKind};
 use yv_rows::Rows;
 use yv_statement::Statement;
 use yv_types::Types;
+use yv_values::Scope;
 
 /// What is kept of a statement.
 #[derive(Drop)]
@@ -30,20 +34,36 @@ pub(crate) enum Kept {
     Nothing,
 }
 
-/// What the numbered statement says of the node that it defines.
-pub(crate) fn define_at(
+// What the numbered statement says of the node that it defines, without the values of its default.
+fn define_at(
     alloc: Global,
     rows: &Rows<'_, '_>,
     types: &Types,
     number: usize,
 ) -> Result<Definition, AllocError>
-    ensures { IfOk result (λ d. d ≡ defined_at (kinds_of types.now) (lent_in rows.now) number) }
+    ensures { IfOk result (λ d. d ≡ defined_at (typing_of types.now) (lent_in rows.now) number) }
 {
     let file = file_at(rows, number);
     match statement_at(rows, number) {
         Some(statement) => define(alloc, types, file, statement),
         None => define(alloc, types, file, &Statement::new(alloc, "", 0, 0)),
     }
+}
+
+/// What the numbered statement says of the node that it defines, these being the scopes of the files.
+pub(crate) fn stated_at(
+    alloc: Global,
+    rows: &Rows<'_, '_>,
+    types: &Types,
+    scopes: &[Scope],
+    number: usize,
+) -> Result<Definition, AllocError>
+    ensures { AreScopes (lent_in rows.now) scopes.now → IfOk result (λ d. d
+        ≡ with_defaults (lent_in rows.now) (defined_at (typing_of types.now) (lent_in rows.now) number)) }
+{
+    let mut definition = define_at(alloc, rows, types, number)?;
+    definition.defaults = defaults_of(alloc, scopes, &definition)?;
+    Ok(definition)
 }
 
 /// What the numbered statement says of the properties that a refine may change.
@@ -94,13 +114,14 @@ pub(crate) fn kept_at(
     alloc: Global,
     rows: &Rows<'_, '_>,
     types: &Types,
+    scopes: &[Scope],
     number: usize,
 ) -> Result<Kept, AllocError>
-    ensures { IfOk result (λ kept. IsKept (kinds_of types.now) (lent_in rows.now) number kept) }
+    ensures { AreScopes (lent_in rows.now) scopes.now → IfOk result (λ kept. IsKept (typing_of types.now) (lent_in rows.now) number kept) }
 {
     let keyword = keyword_at(rows, number);
     if node_kind(keyword).is_some() {
-        Ok(Kept::Node(define_at(alloc, rows, types, number)?))
+        Ok(Kept::Node(stated_at(alloc, rows, types, scopes, number)?))
     } else if keyword == Keyword::Refine {
         Ok(Kept::Refine(changes_at(alloc, rows, number)?))
     } else {

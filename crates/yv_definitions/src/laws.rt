@@ -5,20 +5,22 @@ ghost use Rattle.yv_rows.specs.Files.{Files};
 ghost use Rattle.yv_listed.specs.Types.{Truth};
 ghost use Rattle.yv_types.specs.Known.{AreTypes};
 ghost use Rattle.yv_types.specs.declared.known.Types.{Types};
-ghost use Rattle.yv_definitions.specs.Kinds.{AreKinds, Kinds, kinds_of};
+ghost use Rattle.yv_definitions.specs.Kinds.{AreTyped, Typing, typing_of};
 
-/// What the types of files tell of each `type` statement are its plain types, and none where it has none.
-pub fn types_tell_kinds()
+/// What the types of files tell of each `type` statement are its plain types and its default, and none where it has none.
+pub fn types_tell_typing()
     ensures { (files : Files) (choice : Choice) (truth : Truth) (types : Types) → AreTypes files choice truth types
-        → AreKinds files choice truth (kinds_of types) }
+        → AreTyped files choice truth (typing_of types) }
 {
     yv_types::laws::types_tell_spaces();
+    yv_types::laws::types_tell_defaults();
 }
 
-/// The `type` statements of files have their plain types in one way.
-pub fn files_have_one_kinds()
-    ensures { (files : Files) (choice : Choice) (truth : Truth) (a b : Kinds) → AreKinds files choice truth a
-        → AreKinds files choice truth b → a ≡ b }
+/// The `type` statements of files have their plain types and their defaults in one way.
+pub fn files_have_one_typing()
+    ensures { (files : Files) (choice : Choice) (truth : Truth) (a b : Typing) → AreTyped files choice truth a
+        → AreTyped files choice truth b → a ≡ b }
 {
     yv_types::laws::a_type_has_one_space();
+    yv_defaults::laws::a_type_has_one_default();
 }

@@ -10,5 +10,6 @@ pub mod laws;
 mod numbered;
 mod reading;
 mod substatements;
+mod values;
 
 pub use definitions::Definitions;

@@ -1,26 +1,29 @@
 //! Reading what a statement says.
 ghost use Rattle.std.specs.Prelude.{◌≡◌, [], map, IfOk, string_bytes};
+ghost use Rattle.std.specs.Option.{option_copied, option_map};
 ghost use Rattle.std.specs.Rc.{rc_slice_items, rc_str_bytes};
 ghost use Rattle.yv_statement.specs.Tree.{trees};
 ghost use Rattle.yv_conform.specs.Names.{keyword_of};
 ghost use Rattle.yv_conform.specs.declared.keyword.Keyword.TheVariants as word;
 ghost use Rattle.yv_rows.specs.Lent.{lent_in};
 ghost use Rattle.yv_values.specs.Types.{plain_of};
-ghost use Rattle.yv_properties.specs.Defined.{blank};
-ghost use Rattle.yv_definitions.specs.Kinds.{kinds_of};
-ghost use Rattle.yv_definitions.specs.Statements.{arguments_among};
+ghost use Rattle.yv_properties.specs.Defined.{blank, written_of};
+ghost use Rattle.yv_types.specs.Known.{default_at};
+ghost use Rattle.yv_definitions.specs.Kinds.{kinds_of, typing_of};
+ghost use Rattle.yv_definitions.specs.Statements.{arguments_among, first_of};
 ghost use Rattle.yv_definitions.specs.Features.{expressions, joined};
 ghost use Rattle.yv_definitions.specs.Properties.{properties_of, said_by, with_properties};
-ghost use Rattle.yv_definitions.specs.Defined.{defined_by, kind_of, node_kind, node_name, status_of, types_in};
+ghost use Rattle.yv_definitions.specs.Defined.{default_by, defined_by, kind_of, node_kind, node_name, status_of, types_in};
 
 use crate::changes::Changes;
 use crate::features::push_expressions;
 use crate::keys::{key_names_in, no_keys};
 use crate::substatements::{argument_of, arguments_among, first_of, name_of};
+use crate::values::no_values;
 use std::alloc::{AllocError, Global};
 use std::rc::{RcSlice, RcStr};
 use yv_conform::Keyword;
-use yv_properties::{Definition, NodeKind, NodeStatus};
+use yv_properties::{Definition, NodeKind, NodeStatus, WrittenText};
 use yv_statement::Statement;
 use yv_types::Types;
 use yv_values::PlainType;
@@ -114,6 +117,34 @@ fn types_in(
     }
 }
 
+// The default that its type has by its typedefs, over the same text.
+fn type_default(
+    types: &Types,
+    file: u32,
+    statement: &Statement<'_>,
+) -> Result<Option<WrittenText>, AllocError>
+    ensures { IfOk result (λ text. option_map written_of text
+        ≡ default_by (default_at types.now) file (first_of word.Type statement.now.children)) }
+{
+    match first_of(Keyword::Type, statement) {
+        Some(found) => shared(types.default_at(file, found.offset())),
+        None => Ok(None),
+    }
+}
+
+// A text that may be there, over the same memory.
+fn shared(text: Option<&WrittenText>) -> Result<Option<WrittenText>, AllocError>
+    ensures { IfOk result (λ copy. option_map written_of copy ≡ option_map written_of (option_copied text.entry)) }
+{
+    match text {
+        Some(written) => Ok(Some(WrittenText {
+            text: written.text.clone()?,
+            file: written.file,
+        })),
+        None => Ok(None),
+    }
+}
+
 // The expressions of the `if-feature` statements of its block.
 fn features_in(alloc: Global, statement: &Statement<'_>) -> Result<String, AllocError>
     ensures { IfOk result (λ text. string_bytes text ≡ joined [] (expressions (trees statement.now.children))) }
@@ -153,17 +184,19 @@ pub(crate) fn blank(alloc: Global) -> Result<Definition, AllocError>
         key_names: no_keys(alloc)?,
         uniques: RcSlice::from_vec(Vec::new(alloc))?,
         own_default: None,
+        type_default: None,
+        defaults: no_values(alloc)?,
     })
 }
 
-/// What a statement of a file says of the node that it defines.
+/// What a statement of a file says of the node that it defines, without the values of its default.
 pub(crate) fn define(
     alloc: Global,
     types: &Types,
     file: u32,
     statement: &Statement<'_>,
 ) -> Result<Definition, AllocError>
-    ensures { IfOk result (λ d. d ≡ defined_by (kinds_of types.now) file statement.now) }
+    ensures { IfOk result (λ d. d ≡ defined_by (typing_of types.now) file statement.now) }
 {
     let kind = kind_of(Keyword::read(statement.keyword()));
     let changes = Changes::read(alloc, file, statement)?;
@@ -185,5 +218,7 @@ pub(crate) fn define(
         key_names: key_names_in(alloc, statement)?,
         uniques: uniques_in(alloc, statement)?,
         own_default: changes.default,
+        type_default: type_default(types, file, statement)?,
+        defaults: no_values(alloc)?,
     })
 }

@@ -4,3 +4,4 @@ pub mod Rows
 pub mod Numbers
 pub mod Member
 pub mod Refused
+pub mod Defaults

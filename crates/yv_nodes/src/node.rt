@@ -10,7 +10,7 @@ use std::marker::Model;
 use std::rc::RcStr;
 use yv_properties::{Definition, NodeKind, NodeStatus, WrittenText};
 use yv_statement::{Code, Refusal};
-use yv_values::PlainType;
+use yv_values::{PlainType, Value};
 
 /// The number of a schema node; the root, above the nodes at the top, has the last number of 32 bits.
 #[derive(Clone, Copy, Debug, PartialEq, Eq, PartialOrd, Ord)]
@@ -60,7 +60,8 @@ impl Model for Node {
 
 impl Node {
     ghost use Rattle.yv_values.specs.Types.{plain_of};
-    ghost use Rattle.yv_properties.specs.Defined.{is_empty, written_of};
+    ghost use Rattle.yv_properties.specs.Defined.{default_of, is_empty, written_of};
+    ghost use Rattle.yv_nodes.specs.Defaults.{defaults_of};
     ghost use Rattle.yv_nodes.specs.Refused.{refusal_of};
     ghost use Rattle.yv_nodes.specs.Member.{row_with};
 
@@ -284,6 +285,24 @@ impl Node {
         ensures { option_map (λ written. written_of written.now) result ≡ self.now.label.defined.own_default }
     {
         self.definition.own_default()
+    }
+
+    /// The default that is said of it, and the file in which it is written: its own, or else that of its type (RFC 7950,
+    /// sections 7.3.4 and 7.6.1).
+    pub fn default(&self) -> Option<&WrittenText>
+        ensures { option_map (λ written. written_of written.now) result ≡ default_of self.now.label.defined }
+    {
+        self.definition.default()
+    }
+
+    /// The values that its default gives a leaf, one at most (RFC 7950, section 7.6.1): none of a key and of a mandatory leaf.
+    pub fn defaults(&self) -> &[Value]
+        ensures { result.now ≡ defaults_of self.now.label }
+    {
+        if self.standing.is_key || self.definition.is_mandatory() {
+            return &[];
+        }
+        self.definition.defaults()
     }
 
     /// The number of the node above it, or that of the root.

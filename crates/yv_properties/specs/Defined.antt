@@ -1,5 +1,6 @@
 -- What a statement says of the schema node that it defines (RFC 7950, section 7).
 use Rattle.std.specs.Prelude.{ℕ, Bool, List, [], Option, None, true, false, ◌∷◌}
+use Rattle.std.specs.Option.{option_or}
 use Rattle.std.specs.Rc.{rc_str_bytes}
 use Rattle.yv_values.specs.Types.{Plain}
 use Rattle.yv_values.specs.Values.{Val}
@@ -38,6 +39,10 @@ pub record Defined : Type 0 where
   pub own_default : Option Written
   pub type_default : Option Written
   pub defaults : List Val
+
+-- the default that is said of a node: its own, or else that of its type (sections 7.3.4 and 7.6.1)
+abbrev pub default_of : Defined → Option Written
+default_of d = option_or d.own_default d.type_default
 
 abbrev pub is_empty : List (List ℕ) → Bool
 is_empty [] = true

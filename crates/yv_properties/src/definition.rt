@@ -5,8 +5,7 @@ ghost use Rattle.std.specs.Option.{option_map};
 ghost use Rattle.std.specs.Rc.{rc_str_bytes};
 ghost use Rattle.std.specs.Str.{bytes_eq};
 ghost use Rattle.yv_values.specs.Types.{plain_of};
-ghost use Rattle.yv_values.specs.Values.{val_of};
-ghost use Rattle.yv_properties.specs.Defined.{is_empty, written_of};
+ghost use Rattle.yv_properties.specs.Defined.{default_of, is_empty, written_of};
 
 use crate::key_names::KeyNames;
 use crate::kind::{NodeKind, NodeStatus};
@@ -73,7 +72,6 @@ impl Model for Definition {
     ghost use Rattle.std.specs.Option.{option_map};
     ghost use Rattle.std.specs.Rc.{rc_slice_items, rc_str_bytes};
     ghost use Rattle.yv_values.specs.Types.{plain_of};
-    ghost use Rattle.yv_values.specs.Values.{val_of};
     ghost use Rattle.yv_properties.specs.Defined.{Defined, written_of};
 
     ghost Value = { Defined };
@@ -97,7 +95,7 @@ impl Model for Definition {
       uniques = map rc_str_bytes (rc_slice_items d.uniques);
       own_default = option_map written_of d.own_default;
       type_default = option_map written_of d.type_default;
-      defaults = map val_of (rc_slice_items d.defaults);
+      defaults = rc_slice_items d.defaults;
     } };
 }
 
@@ -243,9 +241,16 @@ impl Definition {
         self.type_default.as_ref()
     }
 
-    /// The values that its defaults give it (RFC 7950, section 7.6.1).
+    /// The default that is said of it: its own, or else that of its type.
+    pub fn default(&self) -> Option<&WrittenText>
+        ensures { option_map (λ written. written_of written.now) result ≡ default_of self.now }
+    {
+        self.own_default().or(self.type_default())
+    }
+
+    /// The values that its default gives it: one at most (RFC 7950, section 7.6.1).
     pub fn defaults(&self) -> &[Value]
-        ensures { map val_of result.now ≡ self.now.defaults }
+        ensures { result.now ≡ self.now.defaults }
     {
         self.defaults.as_slice()
     }

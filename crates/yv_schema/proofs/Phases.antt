@@ -36,7 +36,7 @@ use Rattle.yv_expand.specs.Expanded.{AreTrees}
 use Rattle.yv_copies.specs.Given.{marks_of}
 use Rattle.yv_copies.specs.Faults.{BadExpansion}
 use Rattle.yv_copies.specs.On.{Truth}
-use Rattle.yv_definitions.specs.Kinds.{AreKinds, Kinds}
+use Rattle.yv_definitions.specs.Kinds.{AreTyped, Typing}
 use Rattle.yv_schema.specs.Truth.{IsTruth}
 use Rattle.yv_nodes.specs.Tree.{Forest, Label}
 use Rattle.yv_schema.specs.Module.{Basis, is_given, schema_of}
@@ -207,8 +207,8 @@ HasOneTruth = (files : Files) (choice : Choice) (file : ℕ) (text : List ℕ) (
     → Holds files choice file text a → Holds files choice file text b → a ≡ b
 
 -- the types of files are told in one way
-abbrev pub HaveOneKinds : Type 0
-HaveOneKinds = (files : Files) (choice : Choice) (truth : Truth) (a b : Kinds) → AreKinds files choice truth a → AreKinds files choice truth b → a ≡ b
+abbrev pub HaveOneTyping : Type 0
+HaveOneTyping = (files : Files) (choice : Choice) (truth : Truth) (a b : Typing) → AreTyped files choice truth a → AreTyped files choice truth b → a ≡ b
 
 -- files have one expansion
 abbrev pub HasOneExpansion : Type 0
@@ -309,37 +309,37 @@ module _ (choice : Choice) (files : Files) (limit : ℕ) (one : HasOneTruth) (be
       (λ f h. let e : phase_of f.code ≡ 10 = schema_phase choice files f h in omega (arith, e)) (typed truth (Some r) is p))
 
   -- files give one schema tree: whichever truth, types and expansion these are
-  pub one_schema : HaveOneKinds → HasOneExpansion → (a b : Forest) → IsSchema choice files a → IsSchema choice files b → a ≡ b
-  one_schema one_kinds expansion a b p q =
+  pub one_schema : HaveOneTyping → HasOneExpansion → (a b : Forest) → IsSchema choice files a → IsSchema choice files b → a ≡ b
+  one_schema one_typing expansion a b p q =
       let p_truth : IsTruth files choice p.basis.truth = subst (λ (fs : Files). IsTruth fs choice p.basis.truth) p.of_files p.is_basis.truth in
       let q_truth : IsTruth files choice q.basis.truth = subst (λ (fs : Files). IsTruth fs choice q.basis.truth) q.of_files q.is_basis.truth in
       let truth : p.basis.truth ≡ q.basis.truth = one_truth p.basis.truth q.basis.truth p_truth q_truth in
-      let p_kinds : AreKinds files choice q.basis.truth p.basis.kinds =
-      subst (λ (x : Truth). AreKinds files choice x p.basis.kinds) truth (subst (λ (fs : Files). AreKinds fs choice p.basis.truth p.basis.kinds) p.of_files p.is_basis.kinds) in
-      let q_kinds : AreKinds files choice q.basis.truth q.basis.kinds = subst (λ (fs : Files). AreKinds fs choice q.basis.truth q.basis.kinds) q.of_files q.is_basis.kinds in
-      let kinds : p.basis.kinds ≡ q.basis.kinds = one_kinds files choice q.basis.truth p.basis.kinds q.basis.kinds p_kinds q_kinds in
+      let p_typing : AreTyped files choice q.basis.truth p.basis.typing =
+      subst (λ (x : Truth). AreTyped files choice x p.basis.typing) truth (subst (λ (fs : Files). AreTyped fs choice p.basis.truth p.basis.typing) p.of_files p.is_basis.typing) in
+      let q_typing : AreTyped files choice q.basis.truth q.basis.typing = subst (λ (fs : Files). AreTyped fs choice q.basis.truth q.basis.typing) q.of_files q.is_basis.typing in
+      let typing : p.basis.typing ≡ q.basis.typing = one_typing files choice q.basis.truth p.basis.typing q.basis.typing p_typing q_typing in
       let trees : p.basis.trees ≡ q.basis.trees =
       expansion (map brief_of files) (rows_of files) (marks_of choice files) p.basis.trees q.basis.trees (expanded p.basis.files p.basis.trees p.of_files p.is_basis.trees) (expanded q.basis.files q.basis.trees q.of_files q.is_basis.trees) in
       let one : p.basis ≡ q.basis =
-      ap (λ (fs : Files). basis fs p.basis.truth p.basis.kinds p.basis.trees) (p.of_files ∙ sym q.of_files)
-      ∙ ap (λ (x : Truth). basis q.basis.files x p.basis.kinds p.basis.trees) truth
-      ∙ ap (λ (x : Kinds). basis q.basis.files q.basis.truth x p.basis.trees) kinds
-      ∙ ap (λ (x : List Items). basis q.basis.files q.basis.truth q.basis.kinds x) trees in
+      ap (λ (fs : Files). basis fs p.basis.truth p.basis.typing p.basis.trees) (p.of_files ∙ sym q.of_files)
+      ∙ ap (λ (x : Truth). basis q.basis.files x p.basis.typing p.basis.trees) truth
+      ∙ ap (λ (x : Typing). basis q.basis.files q.basis.truth x p.basis.trees) typing
+      ∙ ap (λ (x : List Items). basis q.basis.files q.basis.truth q.basis.typing x) trees in
       p.is ∙ ap (schema_of choice) one ∙ sym q.is
     where
-      basis : Files → Truth → Kinds → List Items → Basis
-      basis files truth kinds trees = record { files = files; truth = truth; kinds = kinds; trees = trees }
+      basis : Files → Truth → Typing → List Items → Basis
+      basis files truth typing trees = record { files = files; truth = truth; typing = typing; trees = trees }
 
       expanded : (fs : Files) (trees : List Items) → fs ≡ files → AreTrees (map brief_of fs) (rows_of fs) (marks_of choice fs) trees → AreTrees (map brief_of files) (rows_of files) (marks_of choice files) trees
       expanded fs trees same h = subst (λ (fs : Files). AreTrees (map brief_of fs) (rows_of fs) (marks_of choice fs) trees) same h
 
   -- where all this refuses nothing, the least of the schema tree is the least of all
-  pub least_last : HaveOneKinds → HasOneExpansion → (truth : Truth) (o : Option Refusal) (top : Forest) → IsTruth files choice truth → IsSchema choice files top → IsLeast (BadTypes files truth) None
+  pub least_last : HaveOneTyping → HasOneExpansion → (truth : Truth) (o : Option Refusal) (top : Forest) → IsTruth files choice truth → IsSchema choice files top → IsLeast (BadTypes files truth) None
       → IsLeast (BadNodes top) o → IsLeast (Refuses choice files limit) o
-  least_last one_kinds expansion truth o top is schema p r =
+  least_last one_typing expansion truth o top is schema p r =
       let least : IsLeast (BadSchema choice files) o =
       least_same (BadNodes top) (BadSchema choice files) o
       (λ f h. record { tree = top; is_schema = schema; stands = h })
-      (λ f h. subst (λ (ts : Forest). BadNodes ts f) (one_schema one_kinds expansion h.tree top h.is_schema schema) h.stands) r in
+      (λ f h. subst (λ (ts : Forest). BadNodes ts f) (one_schema one_typing expansion h.tree top h.is_schema schema) h.stands) r in
       behind (Before choice files limit) (Later choice files limit) o before
       (behind (BadTyping choice files) (BadSchema choice files) o (typed truth None is p) least)

@@ -177,7 +177,7 @@ module _ (b : Basis) (home : List ℕ) where
 
 -- the row of a node that is made for an item
 pub row_is : (b : Basis) (home : List ℕ) (ls : List Label) (x : Node) (parent : NodeId) (children : List NodeId) (d : Defined) (standing : Standing)
-    → d ≡ refined b.kinds b.files (origin_of b.trees x.origin) (changes b.files b.trees x.origin)
+    → d ≡ refined b.typing b.files (origin_of b.trees x.origin) (changes b.files b.trees x.origin)
     → (row_with d home standing parent children).label ≡ label_of d home ls → row_with d home standing parent children ≡ row_of b home ls x parent children
 row_is b home ls x parent children d standing is e =
     ap (λ (l : Label). let r : Row = record { label = l; parent = parent; children = children } in r) (e ∙ ap (λ (d : Defined). label_of d home ls) is)
@@ -232,7 +232,7 @@ kept_more b home base below seen next one i xs blank now new old row k lt grew a
 
 -- what is seen below an item's node
 pub seen_below : (b : Basis) (home : List ℕ) (ls : List Label) (seen : Seen) (x : Node) (d : Defined) (standing : Standing) (above : Seen) (parent : NodeId) (children : List NodeId)
-    → d ≡ refined b.kinds b.files (origin_of b.trees x.origin) (changes b.files b.trees x.origin)
+    → d ≡ refined b.typing b.files (origin_of b.trees x.origin) (changes b.files b.trees x.origin)
     → (row_with d home standing parent children).label ≡ label_of d home ls
     → ((l : Label) → seen ≡ seen_of ls → l.defined ≡ d → l.is_config ≡ standing.is_config → l.is_input ≡ standing.is_input → above ≡ seen_of (l ∷ ls))
     → seen ≡ seen_of ls → above ≡ seen_of (label_at b home ls x.origin ∷ ls)

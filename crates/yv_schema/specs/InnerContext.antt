@@ -2,7 +2,7 @@
 use Rattle.std.specs.Prelude.{◌≡◌}
 use Rattle.yv_selection.specs.Choice.{Choice}
 use Rattle.yv_rows.specs.Files.{Files}
-use Rattle.yv_definitions.specs.Known.{files_in, kinds_in}
+use Rattle.yv_definitions.specs.Known.{files_in, typing_in}
 use Rattle.yv_copies.specs.Copies.{AreCopies}
 use Rattle.yv_schema.specs.Module.{Basis}
 use Rattle.yv_schema.specs.declared.context.Context.{Context}
@@ -10,7 +10,7 @@ use Rattle.yv_schema.specs.declared.context.Context.{Context}
 -- the context tells of this basis
 pub record Tells (b : Basis) (c : Context) : Type 0 where
   pub files : files_in c.definitions.now ≡ b.files
-  pub kinds : kinds_in c.definitions.now ≡ b.kinds
+  pub typing : typing_in c.definitions.now ≡ b.typing
   pub choice : Choice
   pub copies : AreCopies choice b.files b.truth c.copies.now
   pub trees : copies.trees ≡ b.trees

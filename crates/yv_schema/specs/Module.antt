@@ -5,7 +5,7 @@ use Rattle.yv_selection.specs.Choice.{Choice, is_implemented}
 use Rattle.yv_rows.specs.Files.{Briefs, Files, brief_of, home_at, is_module, tree_name}
 use Rattle.yv_expansion.specs.Tree as items
 use Rattle.yv_refines.specs.Faults.{changes}
-use Rattle.yv_definitions.specs.Kinds.{Kinds}
+use Rattle.yv_definitions.specs.Kinds.{Typing}
 use Rattle.yv_definitions.specs.Defined.{refined}
 use Rattle.yv_copies.specs.Items.{origin_of}
 use Rattle.yv_copies.specs.Left.{left_in}
@@ -13,17 +13,17 @@ use Rattle.yv_copies.specs.On.{Truth}
 use Rattle.yv_labels.specs.Labels.{label_of}
 use Rattle.yv_nodes.specs.Tree.{Label, node, Forest, no_trees, tree}
 
--- what a schema is made of: the statements of files, which of their conditions hold, the plain types of their types, and the
+-- what a schema is made of: the statements of files, which of their conditions hold, what their types stand for, and the
 -- expansion of each file
 pub record Basis : Type 0 where
   pub files : Files
   pub truth : Truth
-  pub kinds : Kinds
+  pub typing : Typing
   pub trees : List items.Tree
 
 -- what the node of a numbered item of the expansion is, below these nodes, the nearest first
 abbrev pub label_at : Basis → (home : List ℕ) → (above : List Label) → ℕ → Label
-label_at b home above item = label_of (refined b.kinds b.files (origin_of b.trees item) (changes b.files b.trees item)) home above
+label_at b home above item = label_of (refined b.typing b.files (origin_of b.trees item) (changes b.files b.trees item)) home above
 
 -- the schema nodes that items left of an expansion give, in order, below these nodes, and then others: all that a `uses` gives is
 -- of the module of the file in which it stands outside groupings (RFC 7950, section 7.13)

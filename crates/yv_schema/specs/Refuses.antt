@@ -67,6 +67,7 @@ is_taken word.Output argument = true
 is_taken word.Presence argument = true
 is_taken word.Config argument = true
 is_taken word.Mandatory argument = true
+is_taken word.Default argument = true
 is_taken word.MinElements argument = true
 is_taken word.MaxElements argument = true
 is_taken word.OrderedBy argument = true

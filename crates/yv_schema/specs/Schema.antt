@@ -7,16 +7,16 @@ use Rattle.yv_units.specs.Limit.{given_before}
 use Rattle.yv_units.specs.Weigh.{Weigh}
 use Rattle.yv_expand.specs.Expanded.{AreTrees}
 use Rattle.yv_copies.specs.Given.{marks_of}
-use Rattle.yv_definitions.specs.Kinds.{AreKinds}
+use Rattle.yv_definitions.specs.Kinds.{AreTyped}
 use Rattle.yv_schema.specs.Module.{Basis, schema_of}
 use Rattle.yv_nodes.specs.Tree.{Forest}
 use Rattle.yv_schema.specs.Truth.{IsTruth}
 
--- a basis is that of files under a choice: their conditions hold so, these are the types of their `type` statements, and this
+-- a basis is that of files under a choice: their conditions hold so, their `type` statements stand for this, and this
 -- is the expansion of the modules that are implemented
 pub record IsBasis (choice : Choice) (b : Basis) : Type 0 where
   pub truth : IsTruth b.files choice b.truth
-  pub kinds : AreKinds b.files choice b.truth b.kinds
+  pub typing : AreTyped b.files choice b.truth b.typing
   pub trees : AreTrees (map brief_of b.files) (rows_of b.files) (marks_of choice b.files) b.trees
 
 -- this is the schema tree of the files

@@ -69,6 +69,7 @@ fn is_taken(keyword: Keyword, argument: Option<&str>) -> bool
             | Keyword::Presence
             | Keyword::Config
             | Keyword::Mandatory
+            | Keyword::Default
             | Keyword::MinElements
             | Keyword::MaxElements
             | Keyword::OrderedBy

@@ -15,7 +15,7 @@ pub fn files_have_one_schema()
         → IsSchema choice files a → IsSchema choice files b → a ≡ b }
 {
     yv_features::laws::an_expression_has_one_truth();
-    yv_definitions::laws::files_have_one_kinds();
+    yv_definitions::laws::files_have_one_typing();
     yv_copies::laws::files_have_one_expansion();
 }
 

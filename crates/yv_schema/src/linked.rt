@@ -12,12 +12,11 @@ ghost use Rattle.yv_schema.specs.Schema.{IsSchema};
 ghost use Rattle.yv_schema.specs.InnerPhases.{AreClear, AreExpanded, SomeClear, SomeExpanded};
 
 use crate::build::build;
-use crate::context::Context;
+use crate::context::{Context, definitions_of};
 use std::alloc::Global;
 use yv_copies::laws::{files_have_one_expansion, refusals_of_expansions_have_phases};
 use yv_copies::{Copies, copies};
-use yv_definitions::Definitions;
-use yv_definitions::laws::{files_have_one_kinds, types_tell_kinds};
+use yv_definitions::laws::{files_have_one_typing, types_tell_typing};
 use yv_features::laws::an_expression_has_one_truth;
 use yv_link::Linked;
 use yv_link::laws::{linked_files_tell_what_holds, links_have_phases};
@@ -82,14 +81,14 @@ fn of_expanded(
 {
     linked_files_tell_what_holds();
     an_expression_has_one_truth();
-    types_tell_kinds();
-    files_have_one_kinds();
+    types_tell_typing();
+    files_have_one_typing();
     files_have_one_expansion();
     let types = match types(alloc, linked, names) {
         Ok(types) => types,
         Err(stop) => return Err(stop),
     };
-    let definitions = Definitions::read(alloc, linked.rows(), &types)?;
+    let definitions = definitions_of(alloc, linked.rows(), &types, copies)?;
     let context = Context::new(&definitions, copies);
     build(alloc, linked.rows(), &context, selection, limit)
 }

@@ -6,9 +6,10 @@ use Rattle.yv_statement.specs.declared.refusal.Code.TheVariants as code
 use Rattle.yv_statement.specs.Order.{Among, Stands}
 use Rattle.yv_properties.specs.declared.kind.NodeKind.{NodeKind}
 use Rattle.yv_properties.specs.declared.kind.NodeKind.TheVariants as kind
-use Rattle.yv_properties.specs.Defined.{Defined, Written}
+use Rattle.yv_properties.specs.Defined.{Defined, Written, default_of}
 use Rattle.yv_properties.specs.Kinds.{is_case, is_choice, is_leaf}
 use Rattle.yv_nodes.specs.Tree.{Label, Tree, node, Forest, no_trees, tree}
+use Rattle.yv_nodes.specs.Defaults.{has_no_value}
 use Rattle.yv_nodes.specs.Places.{Place, places}
 use Rattle.yv_nodes.specs.Refused.{refusal_of}
 
@@ -62,12 +63,19 @@ is_overruled l = (is_leaf l.defined.kind || is_choice l.defined.kind) && (l.defi
 abbrev pub is_caseless : Label → (found : Bool) → Bool
 is_caseless l found = is_choice l.defined.kind && (is_some l.defined.own_default && not found)
 
+-- a leaf whose default no type of it reads. Of a key and of a mandatory leaf no default is asked (RFC 7950, sections 7.6.1 and
+-- 7.8.2)
+abbrev pub is_illegible : Label → Bool
+is_illegible l =
+    is_leaf l.defined.kind && (not (l.is_key || l.defined.is_mandatory) && (is_some (default_of l.defined) && has_no_value l))
+
 -- f is what is wrong with a node's default
 abbrev pub BadOfDefault : Place → Refusal → Type 0
 BadOfDefault p f =
     (Stands (is_overruled p.label ≡ true) (refusal_of code.BadMandatory p.label) f
     ⊎ Stands (is_needed_in (default_case p) ≡ true) (refusal_of code.BadMandatory p.label) f)
-    ⊎ Stands (is_caseless p.label (is_some (default_case p)) ≡ true) (refusal_of code.BadDefault p.label) f
+    ⊎ (Stands (is_caseless p.label (is_some (default_case p)) ≡ true) (refusal_of code.BadDefault p.label) f
+    ⊎ Stands (is_illegible p.label ≡ true) (refusal_of code.BadDefault p.label) f)
 
 -- f stands in a schema tree
 abbrev pub BadByDefault : Forest → Refusal → Type 0

@@ -13,7 +13,7 @@ use yv_nodes::Nodes;
 use yv_statement::{Refusal, lesser};
 
 /// The least refusal of these nodes, the rows of a schema tree: for their `config` statements, keys, operations, `mandatory`
-/// statements and the defaults of choices (RFC 7950, sections 7.6.5, 7.8.2, 7.9.3, 7.15, 7.16 and 7.21.1). It takes time
+/// statements and the defaults of choices and leafs (RFC 7950, sections 7.6.5, 7.8.2, 7.9.3, 7.15, 7.16 and 7.21.1). It takes time
 /// n log n in the nodes and the texts of the keys, and fails where there is no memory.
 pub fn least_in_tree(alloc: Global, nodes: &Nodes) -> Result<Option<Refusal>, AllocError>
     ensures { (ts : Forest) → nodes.now.rows ≡ rows_from 0 ts → IfOk result (λ least. IsLeast (BadTree ts) least) }

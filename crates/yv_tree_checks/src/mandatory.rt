@@ -4,7 +4,7 @@ ghost use Rattle.std.specs.List.{find, list_any};
 ghost use Rattle.yv_statement.specs.Order.{IsLeast};
 ghost use Rattle.yv_nodes.specs.Tree.{Forest};
 ghost use Rattle.yv_nodes.specs.Places.{Place, places};
-ghost use Rattle.yv_tree_checks.specs.Mandatory.{BadByDefault, BadOfDefault, is_caseless, is_needed, is_overruled};
+ghost use Rattle.yv_tree_checks.specs.Mandatory.{BadByDefault, BadOfDefault, is_caseless, is_illegible, is_needed, is_overruled};
 ghost use Rattle.yv_tree_checks.specs.InnerSpots.{AreRows};
 ghost use Rattle.yv_tree_checks.specs.InnerBelow.{AreBelow, case_among, is_named_at, is_needed_at, is_undone_at, kept_at};
 
@@ -13,7 +13,7 @@ use yv_nodes::{Node, NodeId};
 use yv_properties::NodeKind;
 use yv_statement::{Code, Refusal, lesser};
 
-/// The least refusal of the default of a choice, or of `mandatory true` beside a default.
+/// The least refusal of the default of a choice or of a leaf, or of `mandatory true` beside a default.
 pub(crate) fn least_by_default(alloc: Global, nodes: &[Node]) -> Result<Option<Refusal>, AllocError>
     ensures { (ts : Forest) → AreRows nodes.now ts → IfOk result (λ least. IsLeast (BadByDefault ts) least) }
 {
@@ -145,6 +145,15 @@ fn is_caseless(node: &Node, found: bool) -> bool
     node.kind() == NodeKind::Choice && (node.own_default().is_some() && !found)
 }
 
+// A leaf whose default no type of it reads.
+fn is_illegible(node: &Node) -> bool
+    ensures { result ≡ is_illegible node.now.label }
+{
+    node.kind() == NodeKind::Leaf
+        && (!(node.is_key() || node.mandatory())
+            && (node.default().is_some() && node.defaults().is_empty()))
+}
+
 // What is wrong with a node's default.
 fn wrong_default(nodes: &[Node], below: &[bool], node: &Node) -> Option<Refusal>
     ensures { (ts : Forest) (i : ℕ) (p : Place) → AreRows nodes.now ts → AreBelow ts below.now 0
@@ -154,5 +163,6 @@ fn wrong_default(nodes: &[Node], below: &[bool], node: &Node) -> Option<Refusal>
     let overruled = node.refused(is_overruled(node), Code::BadMandatory);
     let undone = node.refused(is_undone(nodes, below, case), Code::BadMandatory);
     let caseless = node.refused(is_caseless(node, case.is_some()), Code::BadDefault);
-    lesser(lesser(overruled, undone), caseless)
+    let illegible = node.refused(is_illegible(node), Code::BadDefault);
+    lesser(lesser(overruled, undone), lesser(caseless, illegible))
 }

@@ -3,7 +3,6 @@ use Rattle.std.specs.Prelude.{ℕ, ℤ, List, Bool, String, string_bytes, map}
 use Rattle.std.specs.declared.alloc.Global.{Global}
 use Rattle.yv_numbers.specs.Numbers.{integer}
 use Rattle.yv_values.specs.declared.value.Atom.{Atom}
-use Rattle.yv_values.specs.declared.value.Value.{Value}
 use Rattle.yv_values.specs.declared.value.Atom.TheVariants as atom
 
 -- A decimal is its number of digits behind the point and the number scaled by them. A set of bits is its names, in
@@ -34,7 +33,3 @@ value_of (atom.Bits ss) = bits (texts ss.items)
 value_of (atom.Binary v) = binary v.items
 value_of (atom.Identity m s) = identity (string_bytes m) (string_bytes s)
 value_of atom.Empty = empty
-
--- the same of what a leaf holds
-abbrev pub val_of : Value → Val
-val_of v = value_of v.atom

@@ -5,7 +5,7 @@ use Rattle.yv_selection.specs.Choice.{choice_of}
 use Rattle.yv_link.specs.Linked.{truth_in}
 use Rattle.yv_link.proofs.Phases.{err_again}
 use Rattle.yv_types.specs.Faults.{BadTypes}
-use Rattle.yv_definitions.specs.Kinds.{AreKinds, kinds_of}
+use Rattle.yv_definitions.specs.Kinds.{AreTyped, typing_of}
 use Rattle.yv_copies.specs.Copies.{AreCopies}
 use Rattle.yv_nodes.specs.Rows.{whole}
 use Rattle.yv_schema.specs.Module.{Basis, schema_of}
@@ -48,12 +48,12 @@ build-requires-clause-basis c =
     let truth = truth_in c.args.linked.now in
     let is : IsTruth files choice truth = c.linked_files_tell_what_holds.ensures files choice c.args.linked.now clear.are in
     let k : AreCopies choice files truth c.args.copies.now = given.are_copies in
-    let are : AreKinds files choice truth (kinds_of c.in-Ok.types) =
-    c.types_tell_kinds.ensures files choice truth c.in-Ok.types (c.in-Ok.ensures.made files choice clear.are given.are_names) in
-    let b : Basis = record { files = files; truth = truth; kinds = kinds_of c.in-Ok.types; trees = k.trees } in
-    let is_basis : IsBasis choice b = record { truth = is; kinds = are; trees = k.expanded } in
+    let are : AreTyped files choice truth (typing_of c.in-Ok.types) =
+    c.types_tell_typing.ensures files choice truth c.in-Ok.types (c.in-Ok.ensures.made files choice clear.are given.are_names) in
+    let b : Basis = record { files = files; truth = truth; typing = typing_of c.in-Ok.types; trees = k.trees } in
+    let is_basis : IsBasis choice b = record { truth = is; typing = are; trees = k.expanded } in
     let read = c.rows.ensures files choice clear.are in
-    let tells : Tells b c.new-context.result = c.new-context.ensures b choice (c.in_ok-definitions.ensures.files ∙ read) c.in_ok-definitions.ensures.kinds k refl in
+    let tells : Tells b c.new-context.result = c.new-context.ensures b choice (c.in_ok-definitions.ensures.files ∙ read) c.in_ok-definitions.ensures.typing k refl in
     let built = c.rows-2.ensures files choice clear.are in
     let told : TellsOf files c.new-context.result = record { basis = b; of_files = refl; tells = tells } in
     rw built told
@@ -66,12 +66,12 @@ returns-clause-schema c = λ files given.
     let truth = truth_in c.args.linked.now in
     let is : IsTruth files choice truth = c.linked_files_tell_what_holds.ensures files choice c.args.linked.now clear.are in
     let k : AreCopies choice files truth c.args.copies.now = given.are_copies in
-    let are : AreKinds files choice truth (kinds_of c.in-Ok.types) =
-    c.types_tell_kinds.ensures files choice truth c.in-Ok.types (c.in-Ok.ensures.made files choice clear.are given.are_names) in
-    let b : Basis = record { files = files; truth = truth; kinds = kinds_of c.in-Ok.types; trees = k.trees } in
-    let is_basis : IsBasis choice b = record { truth = is; kinds = are; trees = k.expanded } in
+    let are : AreTyped files choice truth (typing_of c.in-Ok.types) =
+    c.types_tell_typing.ensures files choice truth c.in-Ok.types (c.in-Ok.ensures.made files choice clear.are given.are_names) in
+    let b : Basis = record { files = files; truth = truth; typing = typing_of c.in-Ok.types; trees = k.trees } in
+    let is_basis : IsBasis choice b = record { truth = is; typing = are; trees = k.expanded } in
     let read = c.rows.ensures files choice clear.are in
-    let tells : Tells b c.new-context.result = c.new-context.ensures b choice (c.in_ok-definitions.ensures.files ∙ read) c.in_ok-definitions.ensures.kinds k refl in
+    let tells : Tells b c.new-context.result = c.new-context.ensures b choice (c.in_ok-definitions.ensures.files ∙ read) c.in_ok-definitions.ensures.typing k refl in
     let built = c.rows-2.ensures files choice clear.are in
     let found = rw built at c.build.ensures.schema in
     IfOk-weaker c.build.result _ _ (λ s e. let x : IsSchema choice files (whole s) = record { basis = b; of_files = refl; is_basis = is_basis; is = e } in x) (found b tells refl)
@@ -84,18 +84,18 @@ returns-clause-clear c = λ files given.
     let truth = truth_in c.args.linked.now in
     let is : IsTruth files choice truth = c.linked_files_tell_what_holds.ensures files choice c.args.linked.now clear.are in
     let k : AreCopies choice files truth c.args.copies.now = given.are_copies in
-    let are : AreKinds files choice truth (kinds_of c.in-Ok.types) =
-    c.types_tell_kinds.ensures files choice truth c.in-Ok.types (c.in-Ok.ensures.made files choice clear.are given.are_names) in
-    let b : Basis = record { files = files; truth = truth; kinds = kinds_of c.in-Ok.types; trees = k.trees } in
-    let is_basis : IsBasis choice b = record { truth = is; kinds = are; trees = k.expanded } in
+    let are : AreTyped files choice truth (typing_of c.in-Ok.types) =
+    c.types_tell_typing.ensures files choice truth c.in-Ok.types (c.in-Ok.ensures.made files choice clear.are given.are_names) in
+    let b : Basis = record { files = files; truth = truth; typing = typing_of c.in-Ok.types; trees = k.trees } in
+    let is_basis : IsBasis choice b = record { truth = is; typing = are; trees = k.expanded } in
     let read = c.rows.ensures files choice clear.are in
-    let tells : Tells b c.new-context.result = c.new-context.ensures b choice (c.in_ok-definitions.ensures.files ∙ read) c.in_ok-definitions.ensures.kinds k refl in
+    let tells : Tells b c.new-context.result = c.new-context.ensures b choice (c.in_ok-definitions.ensures.files ∙ read) c.in_ok-definitions.ensures.typing k refl in
     let built = c.rows-2.ensures files choice clear.are in
     let schema : IsSchema choice files (schema_of choice b) = record { basis = b; of_files = refl; is_basis = is_basis; is = refl } in
     let typed : IsLeast (BadTypes files truth) None = c.in-Ok.ensures.clear files choice clear.are given.are_names in
     let found = rw built at c.build.ensures.clear in
     on_ok_weaker c.build.result
-    (λ h. least_last choice files limit c.an_expression_has_one_truth.ensures given.before c.files_have_one_kinds.ensures c.files_have_one_expansion.ensures truth None _ is schema typed h) (found b tells refl)
+    (λ h. least_last choice files limit c.an_expression_has_one_truth.ensures given.before c.files_have_one_typing.ensures c.files_have_one_expansion.ensures truth None _ is schema typed h) (found b tells refl)
 
 pub returns-clause-refusal : goal.returns-clause-refusal
 returns-clause-refusal c = λ files given r e.
@@ -105,14 +105,14 @@ returns-clause-refusal c = λ files given r e.
     let truth = truth_in c.args.linked.now in
     let is : IsTruth files choice truth = c.linked_files_tell_what_holds.ensures files choice c.args.linked.now clear.are in
     let k : AreCopies choice files truth c.args.copies.now = given.are_copies in
-    let are : AreKinds files choice truth (kinds_of c.in-Ok.types) =
-    c.types_tell_kinds.ensures files choice truth c.in-Ok.types (c.in-Ok.ensures.made files choice clear.are given.are_names) in
-    let b : Basis = record { files = files; truth = truth; kinds = kinds_of c.in-Ok.types; trees = k.trees } in
-    let is_basis : IsBasis choice b = record { truth = is; kinds = are; trees = k.expanded } in
+    let are : AreTyped files choice truth (typing_of c.in-Ok.types) =
+    c.types_tell_typing.ensures files choice truth c.in-Ok.types (c.in-Ok.ensures.made files choice clear.are given.are_names) in
+    let b : Basis = record { files = files; truth = truth; typing = typing_of c.in-Ok.types; trees = k.trees } in
+    let is_basis : IsBasis choice b = record { truth = is; typing = are; trees = k.expanded } in
     let read = c.rows.ensures files choice clear.are in
-    let tells : Tells b c.new-context.result = c.new-context.ensures b choice (c.in_ok-definitions.ensures.files ∙ read) c.in_ok-definitions.ensures.kinds k refl in
+    let tells : Tells b c.new-context.result = c.new-context.ensures b choice (c.in_ok-definitions.ensures.files ∙ read) c.in_ok-definitions.ensures.typing k refl in
     let built = c.rows-2.ensures files choice clear.are in
     let schema : IsSchema choice files (schema_of choice b) = record { basis = b; of_files = refl; is_basis = is_basis; is = refl } in
     let typed : IsLeast (BadTypes files truth) None = c.in-Ok.ensures.clear files choice clear.are given.are_names in
     let found = rw built at c.build.ensures.refusal in
-    least_last choice files limit c.an_expression_has_one_truth.ensures given.before c.files_have_one_kinds.ensures c.files_have_one_expansion.ensures truth (Some r) _ is schema typed (found b tells refl r e)
+    least_last choice files limit c.an_expression_has_one_truth.ensures given.before c.files_have_one_typing.ensures c.files_have_one_expansion.ensures truth (Some r) _ is schema typed (found b tells refl r e)

@@ -10,7 +10,7 @@ use Rattle.yv_nodes.specs.Places.{Place}
 use Rattle.yv_nodes.specs.Rows.{Row}
 use Rattle.yv_nodes.specs.Numbers.{numbers_from}
 use Rattle.yv_tree_checks.proofs.Spots.{IsNumbered, is_numbered}
-use Rattle.yv_tree_checks.specs.Mandatory.{default_case, is_caseless, is_needed_in, is_overruled}
+use Rattle.yv_tree_checks.specs.Mandatory.{default_case, is_caseless, is_illegible, is_needed_in, is_overruled}
 use Rattle.yv_tree_checks.specs.InnerBelow.{case_among, is_undone_at}
 use Rattle.yv_tree_checks.proofs.Here.{least_here}
 use Rattle.yv_tree_checks.proofs.Below.{found_by}
@@ -33,8 +33,11 @@ returns c = λ ts i p are known at there.
     let undone = least_here code.BadMandatory _ p.label _ (is_needed_in (default_case p)) _ c.refused-undone.ensures label undone_is in
     let caseless = least_here code.BadDefault _ p.label _ (is_caseless p.label (is_some (default_case p))) _ c.refused-caseless.ensures label
     (c.is_caseless.ensures ∙ ap (λ (m : Label). is_caseless m c.is_some.result) label ∙ ap (is_caseless p.label) (c.is_some.ensures ∙ present)) in
+    let illegible = least_here code.BadDefault _ p.label _ (is_illegible p.label) _ c.refused-illegible.ensures label (c.is_illegible.ensures ∙ ap is_illegible label) in
     let P : Refusal → Type 0 = λ f. Stands (is_overruled p.label ≡ true) (refusal_of code.BadMandatory p.label) f in
     let Q : Refusal → Type 0 = λ f. Stands (is_needed_in (default_case p) ≡ true) (refusal_of code.BadMandatory p.label) f in
     let R : Refusal → Type 0 = λ f. Stands (is_caseless p.label (is_some (default_case p)) ≡ true) (refusal_of code.BadDefault p.label) f in
+    let S : Refusal → Type 0 = λ f. Stands (is_illegible p.label ≡ true) (refusal_of code.BadDefault p.label) f in
     let both = least_lesser P Q _ _ _ c.lesser.ensures overruled undone in
-    least_lesser (λ f. P f ⊎ Q f) R _ _ _ c.lesser-2.ensures both caseless
+    let others = least_lesser R S _ _ _ c.lesser-2.ensures caseless illegible in
+    least_lesser (λ f. P f ⊎ Q f) (λ f. R f ⊎ S f) _ _ _ c.lesser-3.ensures both others

@@ -1,0 +1,69 @@
+//! The values of defaults.
+ghost use Rattle.std.specs.Prelude.{◌≡◌, [], map, IfOk, Some};
+ghost use Rattle.std.specs.Rc.{rc_slice_items};
+ghost use Rattle.yv_rows.specs.Files.{Files};
+ghost use Rattle.yv_values.specs.Types.{plain_of};
+ghost use Rattle.yv_properties.specs.Defined.{written_of};
+ghost use Rattle.yv_defaults.specs.Scopes.{AreScopes};
+ghost use Rattle.yv_definitions.specs.Values.{defaults_of, value_of, values_of};
+
+use std::alloc::{AllocError, Global};
+use std::rc::RcSlice;
+use yv_defaults::default_value;
+use yv_properties::{Definition, NodeKind, WrittenText};
+use yv_values::{PlainType, Scope, Value};
+
+/// No values.
+pub(crate) fn no_values(alloc: Global) -> Result<RcSlice<Value>, AllocError>
+    ensures { IfOk result (λ list. rc_slice_items list ≡ []) }
+{
+    RcSlice::from_vec(Vec::new(alloc))
+}
+
+/// The values of the default that is said of a node, these being the scopes of the files.
+pub(crate) fn defaults_of(
+    alloc: Global,
+    scopes: &[Scope],
+    definition: &Definition,
+) -> Result<RcSlice<Value>, AllocError>
+    ensures { (files : Files) → AreScopes files scopes.now
+        → IfOk result (λ list. rc_slice_items list ≡ defaults_of files definition.now) }
+{
+    match (definition.kind(), definition.default()) {
+        (NodeKind::Leaf, Some(written)) => values_of(alloc, scopes, definition.types(), written),
+        _ => no_values(alloc),
+    }
+}
+
+// The values of a text: one, where these types read it.
+fn values_of(
+    alloc: Global,
+    scopes: &[Scope],
+    types: &[PlainType],
+    written: &WrittenText,
+) -> Result<RcSlice<Value>, AllocError>
+    ensures { (files : Files) → AreScopes files scopes.now → IfOk result (λ list. rc_slice_items list
+        ≡ values_of files (map plain_of types.now) (Some (written_of written.now))) }
+{
+    let mut values = Vec::new(alloc);
+    if let Some(value) = value_of(alloc, scopes, types, written)? {
+        values.push(value)?;
+    }
+    RcSlice::from_vec(values)
+}
+
+// The value of a text by the first of these types that reads it, in the file in which it is written.
+fn value_of(
+    alloc: Global,
+    scopes: &[Scope],
+    types: &[PlainType],
+    written: &WrittenText,
+) -> Result<Option<Value>, AllocError>
+    ensures { (files : Files) → AreScopes files scopes.now
+        → IfOk result (λ found. found ≡ value_of files (map plain_of types.now) (written_of written.now)) }
+{
+    match scopes.get(written.file as usize) {
+        Some(scope) => default_value(alloc, types, written.text.as_str(), scope),
+        None => Ok(None),
+    }
+}
