@@ -124,16 +124,29 @@ last_of files (n ∷ ns) = by (last_default files ns) refl (last_of files ns) (g
         ∙ or_given (default_said files m) (default_said files n) (gives m e)
         ∙ sym (ap (λ (o : Option ℕ). option_and_then (default_said files) (option_or o (cond (gives_default files n) (Some n) None))) e)
 
+-- the values of a definition whose default is that of a refine
+pub given_is : (files : Files) (d : Defined) (refine : ℕ) → gives_default files refine ≡ true
+    → defaults_of files (changed (properties_of (said_at files refine)) (with_defaults files d)) ≡ given_values files d refine
+given_is files d refine gives =
+    ap (values_at files d.kind d.types) (ap (λ (o : Option Written). option_or o d.type_default) (or_given (default_said files refine) d.own_default gives)
+    ∙ or_given (default_said files refine) d.type_default gives)
+
+-- with one statement more in front
+pub last_more : (behind last : Option ℕ) (gives : Bool) (n : ℕ) → option_or (option_or behind (cond gives (Some n) None)) last ≡ option_or behind (cond gives (Some n) last)
+last_more None last true n = refl
+last_more None last false n = refl
+last_more (Some m) last gives n = refl
+
 module _ (typing : Typing) (files : Files) (refines : List ℕ) where
   -- a definition with the features of the refines
-  abbrev pub featured : Origin → Defined
+  abbrev featured : Origin → Defined
   featured from = let d : Defined = defined typing files from in record d { features = joined d.features (all_expressions files refines) }
 
   -- what the refines make of it, without the values of its default
-  abbrev pub unvalued : Origin → Defined
+  abbrev unvalued : Origin → Defined
   unvalued from = with_properties (properties_of (last_said files (written_by from ++ refines))) (featured from)
 
-  pub unvalued_is : (from : Origin) → changed_by files refines (featured from) ≡ unvalued from
+  unvalued_is : (from : Origin) → changed_by files refines (featured from) ≡ unvalued from
   unvalued_is (Statement number) = changed_last files refines (said_at files number) (featured (Statement number))
   unvalued_is (Input number) = changed_silent files refines (featured (Input number))
   unvalued_is (Output number) = changed_silent files refines (featured (Output number))
@@ -143,7 +156,7 @@ module _ (typing : Typing) (files : Files) (refines : List ℕ) where
   own_stays own last e = ap (λ (o : Option Written). option_or o own) e
 
   -- so do its values
-  pub values_stay : (from : Origin) → last_default files refines ≡ None → defaults_of files (defined typing files from) ≡ defaults_of files (unvalued from)
+  values_stay : (from : Origin) → last_default files refines ≡ None → defaults_of files (defined typing files from) ≡ defaults_of files (unvalued from)
   values_stay from none =
       let last : last_said files refines word.Default ≡ None = last_of files refines ∙ ap (option_and_then (default_said files)) none in
       by from last
@@ -160,7 +173,7 @@ module _ (typing : Typing) (files : Files) (refines : List ℕ) where
           sym (ap (λ (o : Option Written). values_at files d.kind d.types (option_or o d.type_default)) last)
 
   -- where one gives a default, they are those of that
-  pub values_given : (from : Origin) (refine : ℕ) → last_default files refines ≡ Some refine
+  values_given : (from : Origin) (refine : ℕ) → last_default files refines ≡ Some refine
       → given_values files (defined typing files from) refine ≡ defaults_of files (unvalued from)
   values_given from refine some =
       let last : last_said files refines word.Default ≡ default_said files refine = last_of files refines ∙ ap (option_and_then (default_said files)) some in
@@ -180,17 +193,31 @@ module _ (typing : Typing) (files : Files) (refines : List ℕ) where
           let d : Defined = defined typing files (Output n) in
           sym (ap (values_at files d.kind d.types) (ap (λ (o : Option Written). option_or o d.type_default) last ∙ or_given (default_said files refine) d.type_default gives))
 
-  -- what the refines make of a definition whose values are those of its default, and with other values then
-  pub valued_is : (from : Origin) (e f : Defined) (vs : List Val)
-      → e ≡ record (with_defaults files (defined typing files from)) { features = joined (defined typing files from).features (all_expressions files refines) }
-      → f ≡ changed_by files refines e → vs ≡ defaults_of files (unvalued from)
+  -- a definition with the values of its default and the features of the refines
+  abbrev pub begun : Origin → Defined
+  begun from = record (with_defaults files (defined typing files from)) { features = joined (defined typing files from).features (all_expressions files refines) }
+
+  -- what the refines make of it has these values as yet
+  made_of : (from : Origin) (e f : Defined) → e ≡ begun from → f ≡ changed_by files refines e
+      → ◌≡◌ {A = Defined} f (record (unvalued from) { defaults = defaults_of files (defined typing files from) })
+  made_of from e f is changes =
+      let vs : List Val = defaults_of files (defined typing files from) in
+      changes ∙ ap (changed_by files refines) is ∙ changed_keeps files refines (featured from) vs ∙ (λ i. record (unvalued_is from i) { defaults = vs })
+
+  -- it is what is said, with the values of the default that a refine gives
+  pub valued_is : (from : Origin) (refine : ℕ) (e f : Defined) (vs : List Val) → e ≡ begun from → f ≡ changed_by files refines e
+      → last_default files refines ≡ Some refine → vs ≡ given_values files (defined typing files from) refine
       → ◌≡◌ {A = Defined} (record f { defaults = vs }) (refined typing files from refines)
-  valued_is from e f vs is changes values =
-      let d : Defined = defined typing files from in
-      let made : f ≡ record (unvalued from) { defaults = defaults_of files d } =
-      changes ∙ ap (changed_by files refines) is ∙ changed_keeps files refines (featured from) (defaults_of files d)
-      ∙ ap (λ (x : Defined). record x { defaults = defaults_of files d }) (unvalued_is from) in
-      λ i. record (made i) { defaults = values i }
+  valued_is from refine e f vs is changes some values =
+      let made = made_of from e f is changes in
+      let given = values ∙ values_given from refine some in
+      λ i. record (made i) { defaults = given i }
+
+  -- and as it is, where no refine gives one
+  pub kept_is : (from : Origin) (e f : Defined) → e ≡ begun from → f ≡ changed_by files refines e → last_default files refines ≡ None → f ≡ refined typing files from refines
+  kept_is from e f is changes none =
+      let stays = values_stay from none in
+      made_of from e f is changes ∙ (λ i. record (unvalued from) { defaults = stays i })
 
 pub with_features : (d e : Defined) (f g : List ℕ) → d ≡ e → f ≡ g → ◌≡◌ {A = Defined} (record d { features = f }) (record e { features = g })
 with_features d e f g same text = λ i. record (same i) { features = text i }

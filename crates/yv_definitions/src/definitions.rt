@@ -1,5 +1,5 @@
 //! What the numbered statements of files say of the nodes that they define.
-ghost use Rattle.std.specs.Prelude.{◌≡◌, slice_get, IfOk, OnOk, string_bytes};
+ghost use Rattle.std.specs.Prelude.{◌≡◌, ◌⊎◌, ℕ, Some, slice_get, IfOk, IfSome, OnOk, string_bytes};
 ghost use Rattle.std.specs.Option.{option_map};
 ghost use Rattle.std.specs.Rc.{rc_slice_items, rc_str_bytes};
 ghost use Rattle.yv_statement.specs.Tree.{trees};
@@ -106,7 +106,7 @@ impl<'r, 'a, 'b> Definitions<'r, 'a, 'b> {
     {
         if let Some(None) = self.refined.get(refine) {
             let values = self.read_values(node, refine)?;
-            self.refined[refine] = Some(Refined { node, values });
+            put(&mut self.refined, refine, Refined { node, values });
         }
         Ok(())
     }
@@ -164,7 +164,8 @@ impl<'r, 'a, 'b> Definitions<'r, 'a, 'b> {
 
     // The last of these refines that gives a default.
     fn last_default(&self, refines: &[usize]) -> Option<usize>
-        ensures { result ≡ last_default (files_in self.now) refines.now }
+        ensures last { result ≡ last_default (files_in self.now) refines.now }
+        ensures gives { IfSome result (GivesDefault (files_in self.now)) }
     {
         let mut last = None;
         for refine in refines {
@@ -288,6 +289,16 @@ impl<'r, 'a, 'b> Definitions<'r, 'a, 'b> {
             Some(statement) => push_expressions(text, statement),
             None => Ok(()),
         }
+    }
+}
+
+// Puts the values of a refine at its place, where there is one.
+fn put(refined: &mut Vec<Option<Refined>>, place: usize, kept: Refined)
+    ensures { (k : ℕ) (r : Refined) → slice_get refined.new.items k ≡ Some (Some r)
+        → (slice_get refined.old.items k ≡ Some (Some r)) ⊎ ((k ≡ place) × (r ≡ kept)) }
+{
+    if place < refined.len() {
+        refined[place] = Some(kept);
     }
 }
 
