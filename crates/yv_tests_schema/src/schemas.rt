@@ -13,6 +13,9 @@ use yv_values::Meter;
 const EX: &str =
     "module ex{yang-version 1.1;namespace urn:ex;prefix ex;container top{leaf a{type string;}leaf b{type int32;}}leaf c{type boolean;}}";
 
+const DEFAULTS: &str =
+    "module ex{yang-version 1.1;namespace urn:ex;prefix ex;typedef t{type int8;default 7;}leaf own{type t;default 8;}leaf given{type t;}leaf none{type int8;}leaf asked{type t;mandatory true;}}";
+
 fn compiled(alloc: Global, texts: &[&str]) -> Result<Schema, Stop> {
     let sources = sources(alloc, texts)?;
     let files = roots(alloc, sources.as_slice())?;
@@ -64,5 +67,28 @@ fn look_ups_and_tried_types_are_steps(rt: HostRuntime) -> Result<(), Fail> {
     assert!(rt; validate(alloc, &schema, &document)?.steps == 6);
     let nested = Value::from_str(alloc, "{\"a\":[1,{\"b\":null}],\"c\":{}}")?;
     assert!(rt; size(&nested) == 5);
+    Ok(())
+}
+
+// Whether a node at the top has this text as its default, or none where that is empty, and so many values by it.
+fn has_default(schema: &Schema, member: &str, text: &str, count: usize) -> bool {
+    let mut meter = Meter::new();
+    let Some(id) = schema.find(&mut meter, Schema::ROOT, member) else {
+        return false;
+    };
+    let node = schema.node(id);
+    let written = match node.default() {
+        Some(written) => written.text.as_str(),
+        None => "",
+    };
+    written == text && node.defaults().len() == count
+}
+
+// RFC 7950, section 7.6.1: the default of a typedef is none of a mandatory leaf.
+#[test]
+fn defaults_are_told(rt: HostRuntime) -> Result<(), Fail> {
+    let schema = compiled(rt.alloc(), &[DEFAULTS])?;
+    assert!(rt; has_default(&schema, "ex:own", "8", 1) && has_default(&schema, "ex:given", "7", 1));
+    assert!(rt; has_default(&schema, "ex:none", "", 0) && has_default(&schema, "ex:asked", "7", 0));
     Ok(())
 }
