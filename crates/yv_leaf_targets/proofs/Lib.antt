@@ -1,0 +1,3 @@
+pub mod Spots
+pub mod Telling
+pub mod Meeting

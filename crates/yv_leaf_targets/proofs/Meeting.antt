@@ -1,0 +1,2 @@
+-- Nodes of a tree by their numbers.
+use Rattle.std.proofs.Common.{◌≡◌}
