@@ -1,3 +1,4 @@
 pub mod Spots
 pub mod Telling
 pub mod Meeting
+pub mod Listing

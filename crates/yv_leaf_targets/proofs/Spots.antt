@@ -94,7 +94,7 @@ pub record IsSpot (all : List Spot) (at : ℕ) (s : Spot) : Type 0 where
   pub sit : Sits all (at + 1) s.place.kids
   pub under : IsUnder all at s.parent s.place.above
 
-spot_in : (all : List Spot) (at i place : ℕ) (ts : Forest) → i < count ts → place ≡ at + i → Sits all at ts → (s : Spot) × (slice_get all place ≡ Some s) × IsSpot all place s
+pub spot_in : (all : List Spot) (at i place : ℕ) (ts : Forest) → i < count ts → place ≡ at + i → Sits all at ts → (s : Spot) × (slice_get all place ≡ Some s) × IsSpot all place s
 spot_in all at i place no_trees lt e h = absurd (omega arith)
 spot_in all at zero place (tree (node l kids) ts) lt e h =
     let here : place ≡ at = omega (arith, e) in

@@ -1,9 +1,10 @@
 //! The nodes directly below one by module and name.
 ghost use Rattle.std.specs.Prelude.{◌≡◌, ℕ, List, None, OnOk, IfOk};
 ghost use Rattle.std.specs.Option.{option_map};
+ghost use Rattle.yv_leaf_targets.specs.Numbers.{children_at};
 ghost use Rattle.yv_leaf_targets.specs.InnerNames.{AreNames, told_after, told_of, told_with};
 
-use crate::numbered::node_at;
+use crate::numbered::{children_at, node_at};
 use std::alloc::{AllocError, Global};
 use std::collections::BTreeMap;
 use yv_nodes::{Node, NodeId};
@@ -25,8 +26,8 @@ impl<'n> ChildNames<'n> {
         }
     }
 
-    /// Those of these nodes.
-    pub(crate) fn of(
+    // Those of these nodes.
+    fn of(
         alloc: Global,
         nodes: &'n [Node],
         children: &[NodeId],
@@ -40,26 +41,37 @@ impl<'n> ChildNames<'n> {
         Ok(names)
     }
 
+    /// Those directly below the node of a number.
+    pub(crate) fn below(
+        alloc: Global,
+        nodes: &'n [Node],
+        parent: NodeId,
+    ) -> Result<ChildNames<'n>, AllocError>
+        ensures { IfOk result (λ names. AreNames nodes.now (children_at nodes.now parent) (told_of names)) }
+    {
+        let names = ChildNames::of(alloc, nodes, children_at(nodes, parent))?;
+        Ok(names)
+    }
+
     // Meets a node.
     fn meet(&mut self, node: Option<&'n Node>, number: NodeId) -> Result<(), AllocError>
         ensures { OnOk result ((home name : List ℕ) → told_of self.new home name
             ≡ told_after (told_of self.old) (option_map (λ r. r.now) node.entry) number home name) }
     {
         match node {
-            Some(node) => self.keep(node.module(), node.name(), number),
+            Some(node) => self.keep(node.module().as_bytes(), node.name().as_bytes(), number),
             None => Ok(()),
         }
     }
 
     // Keeps the number of a node, where none had its module and name before.
-    fn keep(&mut self, home: &'n str, name: &'n str, number: NodeId) -> Result<(), AllocError>
+    fn keep(&mut self, home: &'n [u8], name: &'n [u8], number: NodeId) -> Result<(), AllocError>
         ensures { OnOk result ((h n : List ℕ) → told_of self.new h n ≡ told_with (told_of self.old) home.now name.now number h n) }
     {
-        let key = (name.as_bytes(), home.as_bytes());
-        if self.map.contains_key(&key) {
+        if self.map.contains_key(&(name, home)) {
             return Ok(());
         }
-        self.map.insert(key, number)?;
+        self.map.insert((name, home), number)?;
         Ok(())
     }
 

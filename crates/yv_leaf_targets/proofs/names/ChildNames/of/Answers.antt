@@ -1,4 +1,4 @@
-use Rattle.std.proofs.Common.{◌≡◌, ◌∙◌, [], sym, ap, arith, drop, List, Option}
+use Rattle.std.proofs.Common.{◌≡◌, ◌∙◌, [], sym, ap, arith, drop, get_or, List, Option}
 use Rattle.std.specs.List.{find}
 use Rattle.std.proofs.lemmas.List.{drop_all}
 use Rattle.yv_nodes.specs.declared.node.NodeId.{NodeId}
@@ -11,9 +11,10 @@ use Rattle.yv_leaf_targets.proofs.names.ChildNames.of.Goals as goal
 pub loop-child-preserved : goal.loop-child-preserved
 loop-child-preserved c = λ home name.
     let none : NodeId = record { 0 = 0 } in
+    let cs = c.args.children.now in
     let old = told_of c.loop-child.names in
-    let met = c.in_ok-meet.ensures home name ∙ ap (λ (o : Option Row). told_after old o c.child-item.result home name) c.node_at.ensures in
-    told_next c.args.nodes.now home name c.args.children.now c.loop-child.child-index none old (told_of c.meet.new.self) _ c.loop-child-test.true (c.loop-child.invariant home name) ?
+    let met = c.in_ok-meet.ensures home name ∙ ap (λ (o : Option Row). told_after old o (get_or cs c.loop-child.child-index none) home name) c.node_at.ensures in
+    told_next c.args.nodes.now home name cs c.loop-child.child-index none old (told_of c.meet.new.self) _ c.loop-child-test.true (c.loop-child.invariant home name) met
 
 pub returns : goal.returns
 returns c = λ home name.
