@@ -1,4 +1,5 @@
 pub mod Spots
 pub mod Telling
-pub mod Meeting
 pub mod Listing
+pub mod Meeting
+pub mod Leading

@@ -41,3 +41,7 @@ module _ {A B : Type 0} (f : A → Option B) where
 -- the same test holds of the same values
 pub any_same : {A : Type 0} (p q : A → Bool) → ((x : A) → p x ≡ q x) → (xs : List A) → list_any p xs ≡ list_any q xs
 any_same {A} p q same xs = let both : p ≡ q = λ j x. same x j in ap (λ (r : A → Bool). list_any r xs) both
+
+pub any_map : {A B : Type 0} (p : B → Bool) (f : A → B) (xs : List A) → list_any p (map f xs) ≡ list_any (λ x. p (f x)) xs
+any_map p f [] = refl
+any_map p f (x ∷ xs) = ap (λ b. p (f x) || b) (any_map p f xs)

@@ -1,6 +1,7 @@
 -- The nodes of a tree and those of its numbers, step by step.
 use Rattle.std.proofs.Common.{◌≡◌, ℕ, ◌+◌, ◌<◌, Bool, true, false, ◌&&◌, not, cond, List, [], ◌∷◌, map, length, refl, sym, ap, ◌∙◌, subst, arith, Option, Some, None, is_some}
-use Rattle.std.specs.List.{find, slice_get}
+use Rattle.std.specs.Prelude.{◌||◌}
+use Rattle.std.specs.List.{find, list_any, slice_get}
 use Rattle.std.specs.Option.{option_and_then, option_map}
 use Rattle.std.proofs.lemmas.List.{length-map}
 use Rattle.std.proofs.lemmas.Option.{same_Some}
@@ -14,9 +15,12 @@ use Rattle.yv_nodes.specs.Numbers.{numbers_from, rows_from}
 use Rattle.yv_leaf_paths.specs.Steps.{Step}
 use Rattle.yv_leaf_targets.specs.Targets.{Waypoint, at_node, at_left_out_case, arrived, home_of, is_called, is_case_left_out, key_leaf, leaf_among, leaf_at_end, leaf_in, led, led_by, named, stepped, unique_leaf}
 use Rattle.yv_leaf_targets.specs.Numbers.{arrived_at, child_at, children_by, is_called_at, is_called_by, is_kind_at, is_kind_by, key_leaf_at, leaf_at_end_of, leaf_below, leaf_of, led_at, led_by_at, module_at, module_by, stepped_at, tree_at, tree_in, unique_leaf_at}
+use Rattle.yv_leaf_targets.specs.Refused.{is_bad_statement, is_config_leaf, is_state_leaf}
+use Rattle.yv_leaf_targets.specs.InnerMixed.{is_bad_statement_at, is_config_by, is_config_of}
 use Rattle.yv_leaf_targets.specs.InnerSpots.{Sits, Spot, numbered, place_of, row_of, spots}
 use Rattle.yv_leaf_targets.specs.declared.place.Way.{Way}
 use Rattle.yv_leaf_targets.specs.declared.place.Way.TheVariants.{AtNode, AtLeftOutCase}
+use Rattle.yv_leaf_targets.proofs.Listing.{any_same}
 use Rattle.yv_leaf_targets.proofs.Spots.{IsSpot, all_sit, length_spots, map_get, others_sit, own, places_spots, rows_spots, slice_within, spot_first, spot_in}
 
 -- where both lead on alike, they lead on alike from what is alike
@@ -225,3 +229,30 @@ module _ (all : Forest) where
       let is : IsAt all list l kids = known list l kids e in
       ap (λ (home : List ℕ). option_map (tree_at all) (led_at rows home (s ∷ ss) (AtNode list))) (module_is list l kids is)
       ∙ led_is l.module_name (s ∷ ss) (AtNode list) (at_node (node l kids)) (ap (option_map at_node) e)
+
+  config_is : (o : Option NodeId) (t : Option Tree) → option_map (tree_at all) o ≡ option_map (λ (u : Tree). Some u) t → is_config_of rows true o ≡ is_config_leaf t
+  config_is None None e = refl
+  config_is None (Some t) e = absurd (none_some [] [] (Some t) e)
+  config_is (Some n) None e = absurd (none_some [] [] (tree_at all n) (sym e))
+  config_is (Some n) (Some (node l kids)) e =
+      let is : IsAt all n l kids = known n l kids (same_Some (tree_at all n) (Some (node l kids)) e) in
+      ap (is_config_by true) is.at_row ∙ ap (λ (m : Label). m.is_config) is.label
+
+  state_is : (o : Option NodeId) (t : Option Tree) → option_map (tree_at all) o ≡ option_map (λ (u : Tree). Some u) t → is_config_of rows false o ≡ is_state_leaf t
+  state_is None None e = refl
+  state_is None (Some t) e = absurd (none_some [] [] (Some t) e)
+  state_is (Some n) None e = absurd (none_some [] [] (tree_at all n) (sym e))
+  state_is (Some n) (Some (node l kids)) e =
+      let is : IsAt all n l kids = known n l kids (same_Some (tree_at all n) (Some (node l kids)) e) in
+      ap (is_config_by false) is.at_row ∙ ap (λ (m : Label). not m.is_config) is.label
+
+  pub statement_is : (list : NodeId) (t : Tree) (paths : List (List (Option Step))) → tree_at all list ≡ Some t → is_bad_statement_at rows list paths ≡ is_bad_statement t paths
+  statement_is list t paths e =
+      let is = λ (path : List (Option Step)). path_is list t path e in
+      let missing = any_same (λ path. not (is_some (unique_leaf_at rows list path))) (λ path. not (is_some (unique_leaf t path)))
+      (λ path. ap not (both_there (tree_at all) (unique_leaf_at rows list path) (unique_leaf t path) (is path))) paths in
+      let config = any_same (λ path. is_config_of rows true (unique_leaf_at rows list path)) (λ path. is_config_leaf (unique_leaf t path)) (λ path. config_is (unique_leaf_at rows list path) (unique_leaf t path) (is path)) paths in
+      let state = any_same (λ path. is_config_of rows false (unique_leaf_at rows list path)) (λ path. is_state_leaf (unique_leaf t path)) (λ path. state_is (unique_leaf_at rows list path) (unique_leaf t path) (is path)) paths in
+      ap (λ (b : Bool). b || (list_any (λ path. is_config_of rows true (unique_leaf_at rows list path)) paths && list_any (λ path. is_config_of rows false (unique_leaf_at rows list path)) paths)) missing
+      ∙ ap (λ (b : Bool). list_any (λ path. not (is_some (unique_leaf t path))) paths || (b && list_any (λ path. is_config_of rows false (unique_leaf_at rows list path)) paths)) config
+      ∙ ap (λ (b : Bool). list_any (λ path. not (is_some (unique_leaf t path))) paths || (list_any (λ path. is_config_leaf (unique_leaf t path)) paths && b)) state

@@ -4,3 +4,4 @@ pub mod Numbers
 pub mod InnerNames
 pub mod InnerSpots
 pub mod InnerMixed
+pub mod InnerKnown
