@@ -3,3 +3,4 @@ pub mod Telling
 pub mod Listing
 pub mod Meeting
 pub mod Leading
+pub mod Mixing

@@ -1,5 +1,5 @@
 -- The nodes of a tree and those of its numbers, step by step.
-use Rattle.std.proofs.Common.{◌≡◌, ℕ, ◌+◌, ◌<◌, Bool, true, false, ◌&&◌, not, cond, List, [], ◌∷◌, map, length, refl, sym, ap, ◌∙◌, subst, arith, Option, Some, None, is_some}
+use Rattle.std.proofs.Common.{◌≡◌, ℕ, ◌+◌, ◌<◌, Bool, true, false, ◌&&◌, not, cond, List, [], ◌∷◌, length, refl, sym, ap, ◌∙◌, subst, arith, Option, Some, None, is_some}
 use Rattle.std.specs.Prelude.{◌||◌}
 use Rattle.std.specs.List.{find, list_any, slice_get}
 use Rattle.std.specs.Option.{option_and_then, option_map}
@@ -13,7 +13,7 @@ use Rattle.yv_nodes.specs.Places.{Place, places}
 use Rattle.yv_nodes.specs.Rows.{Row, root}
 use Rattle.yv_nodes.specs.Numbers.{numbers_from, rows_from}
 use Rattle.yv_leaf_paths.specs.Steps.{Step}
-use Rattle.yv_leaf_targets.specs.Targets.{Waypoint, at_node, at_left_out_case, arrived, home_of, is_called, is_case_left_out, key_leaf, leaf_among, leaf_at_end, leaf_in, led, led_by, named, stepped, unique_leaf}
+use Rattle.yv_leaf_targets.specs.Targets.{Waypoint, at_node, at_left_out_case, arrived, home_of, is_called, key_leaf, leaf_among, leaf_at_end, leaf_in, led, led_by, named, stepped, unique_leaf}
 use Rattle.yv_leaf_targets.specs.Numbers.{arrived_at, child_at, children_by, is_called_at, is_called_by, is_kind_at, is_kind_by, key_leaf_at, leaf_at_end_of, leaf_below, leaf_of, led_at, led_by_at, module_at, module_by, stepped_at, tree_at, tree_in, unique_leaf_at}
 use Rattle.yv_leaf_targets.specs.Refused.{is_bad_statement, is_config_leaf, is_state_leaf}
 use Rattle.yv_leaf_targets.specs.InnerMixed.{is_bad_statement_at, is_config_by, is_config_of}

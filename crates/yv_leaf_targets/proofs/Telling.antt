@@ -1,5 +1,5 @@
 -- The nodes below one by module and name, as they are met.
-use Rattle.std.proofs.Common.{◌≡◌, ℕ, ◌+◌, ◌<◌, List, ◌∷◌, Bool, true, false, ◌&&◌, cond, length, drop, get_or, Option, Some, None, is_some, add-one, refl, sym, ap, ◌∙◌, subst}
+use Rattle.std.proofs.Common.{◌≡◌, ℕ, ◌+◌, ◌<◌, List, ◌∷◌, Bool, true, false, ◌&&◌, cond, length, drop, get_or, Option, Some, None, is_some, add-one, refl, sym, ap, ◌∙◌}
 use Rattle.std.proofs.Math.Seq.{drop-cons}
 use Rattle.std.specs.List.{find, slice_get}
 use Rattle.std.specs.Str.{bytes_eq}
@@ -13,7 +13,7 @@ use Rattle.std.proofs.lemmas.Slice.Eq.{bytes_eq-Decides}
 use denote.Ref.{Bor}
 use Rattle.yv_nodes.specs.declared.node.NodeId.{NodeId}
 use Rattle.yv_nodes.specs.Rows.{Row}
-use Rattle.yv_leaf_targets.specs.Numbers.{is_called_at, is_called_by}
+use Rattle.yv_leaf_targets.specs.Numbers.{is_called_at}
 use Rattle.yv_leaf_targets.specs.InnerNames.{Told, first_some, lookup_in, told_after, told_with}
 
 is_eq_then : (p q : Ordering) → is_eq (ordering_then p q) ≡ (is_eq p && is_eq q)

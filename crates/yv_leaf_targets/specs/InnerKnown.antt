@@ -2,14 +2,11 @@
 use Rattle.std.specs.Prelude.{◌≡◌, ℕ, List, Some}
 use Rattle.std.specs.Ordering.{nat_cmp}
 use Rattle.std.specs.BTreeMap.{BTreeMap, get_by}
-use Rattle.yv_nodes.specs.declared.node.NodeId.{NodeId}
 use Rattle.yv_nodes.specs.Rows.{Row}
 use Rattle.yv_leaf_targets.specs.Numbers.{children_at}
 use Rattle.yv_leaf_targets.specs.InnerNames.{AreNames, told_of}
+use Rattle.yv_leaf_targets.specs.InnerSpots.{numbered}
 use Rattle.yv_leaf_targets.specs.declared.names.ChildNames.{ChildNames}
-
-abbrev pub numbered : ℕ → NodeId
-numbered n = record { 0 = n }
 
 -- what is kept of a numbered node are the names of those directly below it
 abbrev pub AreKnown : List Row → BTreeMap ℕ ChildNames → Type 0

@@ -1,5 +1,4 @@
-use Rattle.std.proofs.Common.{◌≡◌, Bool, None, Some, is_some, not, true, false, List, map, refl, sym, ap, ◌∙◌, Option}
-use Rattle.std.specs.List.{list_any, slice_get}
+use Rattle.std.proofs.Common.{◌≡◌, None, is_some, not, map, refl, sym, ap, ◌∙◌, Option}
 use Rattle.std.proofs.lemmas.List.{take_all}
 use Rattle.std.proofs.lemmas.Option.{slice_get_read}
 use Rattle.yv_nodes.specs.declared.node.NodeId.{NodeId}
