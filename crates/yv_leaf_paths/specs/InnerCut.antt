@@ -1,0 +1,14 @@
+-- Only private clauses cite this: a text that is cut at its first blank.
+use Rattle.std.specs.Prelude.{ℕ, List, Option, Some, None, [], ◌∷◌, length, nat_eq, nat_lt, if◌then◌else◌}
+use Rattle.std.specs.List.{position_or_len, before_first, after_first}
+use Rattle.yv_conform.specs.Bytes.{is_blank}
+use Rattle.yv_rows.specs.Files.{Files}
+use Rattle.yv_leaf_paths.specs.Steps.{Step, path_of}
+
+-- what stands before the first blank, and what stands behind it
+abbrev pub cut : List ℕ → Option (List ℕ × List ℕ)
+cut text = if nat_lt (position_or_len is_blank text) (length text) then Some (before_first is_blank text, after_first is_blank text) else None
+
+-- the paths of a text without blanks: an empty one is none
+abbrev pub path_in : Files → (file : ℕ) → List ℕ → List (List (Option Step))
+path_in files file piece = if nat_eq (length piece) 0 then [] else path_of files file piece ∷ []

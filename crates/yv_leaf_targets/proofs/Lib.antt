@@ -1,0 +1,6 @@
+pub mod Spots
+pub mod Telling
+pub mod Listing
+pub mod Meeting
+pub mod Leading
+pub mod Mixing
