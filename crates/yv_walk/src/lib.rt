@@ -1,0 +1,11 @@
+//! One object of a document: its members looked up once, and what exists there.
+#![tactic(auto)]
+
+mod exists;
+pub mod laws;
+mod marks;
+mod standing;
+
+pub use exists::is_there;
+pub use marks::Marks;
+pub use standing::Standing;
