@@ -46,12 +46,16 @@ above s p at (tree (node l kids) ts) x y h is e =
             elim (above s (numbered at) (at + 1) kids x y (kids_sit s p at l kids ts h) is b.1) [
               | inl q ↦
                   let same : at ≡ y.0 = ap (λ (n : NodeId). n.0) (sym q) in
-                  inr (passes_first s p at l kids ts h y same ∙ b.0,
-                  or_left ((at == y.0) || (is_passed l.defined.kind && holds (at + 1) kids y)) (holds (at + 1 + count kids) ts y)
-                  (or_left (at == y.0) (is_passed l.defined.kind && holds (at + 1) kids y) (eq-eqb at y.0 same)))
-              | inr q ↦ inr (q.0,
-                  or_left ((at == y.0) || (is_passed l.defined.kind && holds (at + 1) kids y)) (holds (at + 1 + count kids) ts y)
-                  (or_right (at == y.0) (is_passed l.defined.kind && holds (at + 1) kids y) (and_of (is_passed l.defined.kind) (holds (at + 1) kids y) b.0 q.1)))
+                  inr (
+                    passes_first s p at l kids ts h y same ∙ b.0,
+                    or_left ((at == y.0) || (is_passed l.defined.kind && holds (at + 1) kids y)) (holds (at + 1 + count kids) ts y)
+                        (or_left (at == y.0) (is_passed l.defined.kind && holds (at + 1) kids y) (eq-eqb at y.0 same)),
+                  )
+              | inr q ↦ inr (
+                q.0,
+                or_left ((at == y.0) || (is_passed l.defined.kind && holds (at + 1) kids y)) (holds (at + 1 + count kids) ts y)
+                    (or_right (at == y.0) (is_passed l.defined.kind && holds (at + 1) kids y) (and_of (is_passed l.defined.kind) (holds (at + 1) kids y) b.0 q.1)),
+              )
             ]
       ]
       | inr f ↦ elim (above s p (at + 1 + count kids) ts x y (others_sit s p at l kids ts h) is f) [

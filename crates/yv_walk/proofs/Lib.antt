@@ -8,3 +8,5 @@ mod Steps
 mod Single
 pub mod Keys
 mod Naming
+mod Kept
+mod Looked

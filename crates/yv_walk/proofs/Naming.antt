@@ -1,5 +1,5 @@
 -- Which node a member names, in the object itself and in each of its choices and cases.
-use Rattle.std.proofs.Common.{◌≡◌, ℕ, ◌+◌, ◌==◌, ◌&&◌, ◌≤◌, length, List, [], ◌∷◌, ◌++◌, Bool, true, false, cond, Option, Some, None, ◌⊎◌, inl, inr, refl, sym, ap, ◌∙◌, eqb-true, eq-eqb, subst, arith, ◌||◌}
+use Rattle.std.proofs.Common.{◌≡◌, ℕ, ◌+◌, ◌==◌, ◌&&◌, ◌<◌, ◌≤◌, length, List, [], ◌∷◌, ◌++◌, Bool, true, false, cond, Option, Some, None, ◌⊎◌, inl, inr, refl, sym, ap, ◌∙◌, eqb-true, eq-eqb, subst, arith, ◌||◌}
 use Rattle.std.proofs.lemmas.Bool.{false≢true}
 use Rattle.std.proofs.lemmas.List.Elements.{recursion_from_All}
 use Rattle.std.proofs.lemmas.Option.{same_Some}
@@ -14,7 +14,7 @@ use Rattle.yv_tables.specs.Opened.{opened_from}
 use Rattle.yv_tables.specs.Sound.{IsFound, IsSound, inside, is_object, named}
 use Rattle.yv_walk.specs.Standing.{holds, passes, stands_in}
 use Rattle.yv_walk.specs.Named.{AreNamed, AreUnnamed}
-use Rattle.yv_walk.proofs.Above.{held_within, rank_within}
+use Rattle.yv_walk.proofs.Above.{held_within, inner_row, rank_within}
 use Rattle.yv_walk.proofs.Bools.{and_true, data_not_passed, is_false, or_true, same_bool}
 use Rattle.yv_walk.proofs.Joins.{one_number}
 use Rattle.yv_walk.proofs.Sitting.{IsIn, Sits, above_of, in_left, in_right, kids_below, kids_sit, numbered, others_sit, passes_first, rank_first, room_of, row_first, row_same}
@@ -85,17 +85,18 @@ naming s key n p at no_trees h met called = tt
 naming s key n p at (tree (node l kids) ts) h met called =
     let k = l.defined.kind in
     let rest = opened_from (at + 1 + count kids) ts in
-    let own = cond (is_data k) (numbered at ∷ []) [] in
-    (record {
-      called = λ e. sym (ap (λ (r : Row). bytes_eq r.label.member key) (row_first s p at l kids ts h))
-          ∙ called (numbered at) (opened_own (numbered at) (is_passed k) (is_data k) (opened_from (at + 1) kids) rest (data_not_passed k e) e);
-      met = λ e. sym (ap (λ (r : Row). is_data r.label.defined.kind) (row_same s p at l kids ts h n e)) ∙ met;
-      alike = λ e. sym (ap (λ (r : Row). r.label.defined.kind) (row_same s p at l kids ts h n e));
-    },
-    λ passed. naming s key n (numbered at) (at + 1) kids (kids_sit s p at l kids ts h) met
-    (λ c i. called c (opened_inner c (is_passed k) (opened_from (at + 1) kids) own rest passed i)),
-    naming s key n p (at + 1 + count kids) ts (others_sit s p at l kids ts h) met
-    (λ c i. called c (in_right c (cond (is_passed k) (opened_from (at + 1) kids) own) rest i)))
+    let own = cond (is_data k) (numbered at ∷ []) [] in (
+      record {
+        called = λ e. sym (ap (λ (r : Row). bytes_eq r.label.member key) (row_first s p at l kids ts h))
+            ∙ called (numbered at) (opened_own (numbered at) (is_passed k) (is_data k) (opened_from (at + 1) kids) rest (data_not_passed k e) e);
+        met = λ e. sym (ap (λ (r : Row). is_data r.label.defined.kind) (row_same s p at l kids ts h n e)) ∙ met;
+        alike = λ e. sym (ap (λ (r : Row). r.label.defined.kind) (row_same s p at l kids ts h n e));
+      },
+      λ passed. naming s key n (numbered at) (at + 1) kids (kids_sit s p at l kids ts h) met
+          (λ c i. called c (opened_inner c (is_passed k) (opened_from (at + 1) kids) own rest passed i)),
+      naming s key n p (at + 1 + count kids) ts (others_sit s p at l kids ts h) met
+          (λ c i. called c (in_right c (cond (is_passed k) (opened_from (at + 1) kids) own) rest i)),
+    )
 
 unnaming : (s : Rows) (key : List ℕ) (p : NodeId) (at : ℕ) (ts : Forest) → Sits s p at ts
     → ((c : NodeId) → IsIn c (opened_from at ts) → bytes_eq (row_at s c).label.member key ≡ false) → AreUnnamed key ts
@@ -103,13 +104,14 @@ unnaming s key p at no_trees h called = tt
 unnaming s key p at (tree (node l kids) ts) h called =
     let k = l.defined.kind in
     let rest = opened_from (at + 1 + count kids) ts in
-    let own = cond (is_data k) (numbered at ∷ []) [] in
-    (λ e. sym (ap (λ (r : Row). bytes_eq r.label.member key) (row_first s p at l kids ts h))
-    ∙ called (numbered at) (opened_own (numbered at) (is_passed k) (is_data k) (opened_from (at + 1) kids) rest (data_not_passed k e) e),
-    λ passed. unnaming s key (numbered at) (at + 1) kids (kids_sit s p at l kids ts h)
-    (λ c i. called c (opened_inner c (is_passed k) (opened_from (at + 1) kids) own rest passed i)),
-    unnaming s key p (at + 1 + count kids) ts (others_sit s p at l kids ts h)
-    (λ c i. called c (in_right c (cond (is_passed k) (opened_from (at + 1) kids) own) rest i)))
+    let own = cond (is_data k) (numbered at ∷ []) [] in (
+      λ e. sym (ap (λ (r : Row). bytes_eq r.label.member key) (row_first s p at l kids ts h))
+          ∙ called (numbered at) (opened_own (numbered at) (is_passed k) (is_data k) (opened_from (at + 1) kids) rest (data_not_passed k e) e),
+      λ passed. unnaming s key (numbered at) (at + 1) kids (kids_sit s p at l kids ts h)
+          (λ c i. called c (opened_inner c (is_passed k) (opened_from (at + 1) kids) own rest passed i)),
+      unnaming s key p (at + 1 + count kids) ts (others_sit s p at l kids ts h)
+          (λ c i. called c (in_right c (cond (is_passed k) (opened_from (at + 1) kids) own) rest i)),
+    )
 
 -- ---- by what is found
 
@@ -198,3 +200,7 @@ are_unnamed s p key a sound le is stands pass =
     let h : IsHeld s p a = is_held s p a sound le stands in
     unnaming s key a (rank a) (below s a) (above_of s a sound h.within).sit
     (λ c i. called_none s p key c is (found_in s p c sound le (deep_inside s p a c h pass i)))
+
+-- a choice or case that stands in the object has a row
+pub held_row : (s : Rows) (p a : NodeId) → IsSound s → rank p ≤ length s.nodes → stands_in s p a ≡ true → passes s a ≡ true → a.0 < length s.nodes
+held_row s p a sound le stands pass = inner_row s a (is_held s p a sound le stands).within pass
