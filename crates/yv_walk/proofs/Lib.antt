@@ -10,3 +10,4 @@ pub mod Keys
 mod Naming
 mod Kept
 mod Looked
+mod Stands
