@@ -1,5 +1,5 @@
 -- Which data nodes exist in one object of a document: through choices and cases, and each by its number (RFC 7950, sections 7.5 to 7.11).
-use Rattle.std.specs.Prelude.{ℕ, ◌+◌, ◌==◌, ◌&&◌, ◌||◌, Bool, true, false, Option, Some, None, if◌then◌else◌}
+use Rattle.std.specs.Prelude.{ℕ, ◌+◌, ◌==◌, ◌&&◌, ◌||◌, Bool, true, false, not, Option, Some, None, if◌then◌else◌}
 use Rattle.serde_json.specs.Data.{Data, array, no_items, Members}
 use Rattle.serde_json.specs.Find.{get_member}
 use Rattle.yv_properties.specs.declared.kind.NodeKind.{NodeKind}
@@ -19,6 +19,17 @@ both Several b = Several
 both (Only n) Nothing = Only n
 both (Only n) (Only m) = if n.0 == m.0 then Only n else Several
 both (Only n) Several = Several
+
+-- some node exists
+abbrev pub any : Standing → Bool
+any Nothing = false
+any _ = true
+
+-- some node exists but for this one
+abbrev pub any_but : NodeId → Standing → Bool
+any_but n Nothing = false
+any_but n (Only m) = not (m.0 == n.0)
+any_but n Several = true
 
 -- it is no empty array
 abbrev pub has_items : Data → Bool

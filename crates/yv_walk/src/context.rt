@@ -66,7 +66,7 @@ impl<'v> Context<'v> {
         ensures members { IfOk result (λ c. members_of c ≡ members_view members.now.entries) }
         ensures steps { OnOk result (counted meter.new ≡ counted (meter.old + members_len (members_view members.now.entries))) }
     {
-        // all that holds of a schema comes with a reading of it
+        // each reading of a schema tells what holds of it: that its rows are those of its tree, and its nodes are found by their members
         let _children = schema.children(parent);
         let mut values = Written::new(alloc);
         let mut marks = Marks::new(alloc);
@@ -104,7 +104,7 @@ impl<'v> Context<'v> {
         self.values.get(id.number())
     }
 
-    /// Which data nodes exist of a node that stands in the object, and in it where it is a choice or case.
+    /// Which data nodes exist of a node that stands in the object: the node itself, or what stands in it where it is a choice or case.
     pub fn standing(&self, schema: &Schema, id: NodeId) -> Standing
         requires { id.0 < length schema.now.nodes }
         ensures { IsContext schema.now self.now → stands_in schema.now (parent_of self.now) id ≡ true

@@ -1,6 +1,6 @@
 //! Which data nodes exist.
 ghost use Rattle.std.specs.Prelude.{◌≡◌};
-ghost use Rattle.yv_walk.specs.Standing.{both};
+ghost use Rattle.yv_walk.specs.Standing.{any, any_but, both};
 
 use yv_nodes::NodeId;
 
@@ -34,6 +34,25 @@ impl Standing {
                     }
                 }
             },
+        }
+    }
+
+    /// Whether a node exists: a case does where one of its nodes does (RFC 7950, section 7.9.2).
+    pub fn any(self) -> bool
+        ensures { result ≡ any self }
+    {
+        !matches!(self, Standing::Nothing)
+    }
+
+    /// Whether a node exists beside this one: the least number of entries is asked for where another node of the case exists
+    /// (RFC 7950, section 7.7.5).
+    pub fn any_but(self, id: NodeId) -> bool
+        ensures { result ≡ any_but id self }
+    {
+        match self {
+            Standing::Nothing => false,
+            Standing::Only(node) => node.number() != id.number(),
+            Standing::Several => true,
         }
     }
 }
