@@ -1,0 +1,13 @@
+mod Bools
+mod Joins
+mod Filled
+mod Numbered
+mod Sitting
+mod Above
+mod Steps
+mod Single
+pub mod Keys
+mod Naming
+mod Kept
+mod Looked
+mod Stands

@@ -1,0 +1,33 @@
+-- Which nodes stand in an object.
+use Rattle.std.proofs.Common.{◌≡◌, ℕ, zero, suc, ◌<◌, ◌≤◌, List, [], ◌∷◌, length, get_or, true, refl, arith, inl, inr, subst}
+use Rattle.yv_nodes.specs.declared.node.NodeId.{NodeId}
+use Rattle.yv_nodes.specs.Numbers.{numbers_from}
+use Rattle.yv_nodes.specs.Rows.{Rows, below, children_of, rank}
+use Rattle.yv_tables.specs.Sound.{IsSound, is_object}
+use Rattle.yv_walk.specs.Standing.{holds, passes, stands_in}
+use Rattle.yv_walk.proofs.Above.{beneath, own_held}
+use Rattle.yv_walk.proofs.Bools.{and_of}
+use Rattle.yv_walk.proofs.Naming.{IsHeld, is_held}
+use Rattle.yv_walk.proofs.Sitting.{IsIn, above_of}
+
+in_at : (cs : List NodeId) (i : ℕ) (d : NodeId) → i < length cs → IsIn (get_or cs i d) cs
+in_at [] i d lt = absurd (omega (arith, lt))
+in_at (c ∷ cs) zero d lt = inl refl
+in_at (c ∷ cs) (suc i) d lt = inr (in_at cs i d (omega (arith, lt)))
+
+pub child_stands : (s : Rows) (p : NodeId) (i : ℕ) (d : NodeId) → IsSound s → rank p ≤ length s.nodes → is_object s p ≡ true → i < length (children_of s p)
+    → stands_in s p (get_or (children_of s p) i d) ≡ true
+child_stands s p i d sound le object lt =
+    let x : NodeId = get_or (children_of s p) i d in
+    let own : IsIn x (numbers_from (rank p) (below s p)) = subst (λ (cs : List NodeId). IsIn x cs) (above_of s p sound le).are (in_at (children_of s p) i d lt) in
+    and_of (is_object s p) (holds (rank p) (below s p) x) object (own_held (rank p) (below s p) x own)
+
+pub inner_stands : (s : Rows) (p a : NodeId) (i : ℕ) (d : NodeId) → IsSound s → rank p ≤ length s.nodes → stands_in s p a ≡ true → passes s a ≡ true
+    → i < length (children_of s a) → stands_in s p (get_or (children_of s a) i d) ≡ true
+inner_stands s p a i d sound le stands pass lt =
+    let x : NodeId = get_or (children_of s a) i d in
+    let h : IsHeld s p a = is_held s p a sound le stands in
+    and_of (is_object s p) (holds (rank p) (below s p) x) h.object (beneath s p (rank p) (below s p) x a h.sit (in_at (children_of s a) i d lt) pass h.held)
+
+pub child_numbers : (s : Rows) (p : NodeId) → IsSound s → rank p ≤ length s.nodes → children_of s p ≡ numbers_from (rank p) (below s p)
+child_numbers s p sound le = (above_of s p sound le).are

@@ -1,0 +1,5 @@
+pub mod Standing
+pub mod Marked
+pub mod Named
+pub mod Written
+pub mod Context

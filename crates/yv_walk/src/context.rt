@@ -1,0 +1,163 @@
+//! One object of a document, its members looked up once.
+ghost use Rattle.std.specs.Prelude.{◌≡◌, ◌<◌, ◌≤◌, ◌+◌, ◌∷◌, [], ◌++◌, ◌&&◌, length, map, true, IfOk, OnOk};
+ghost use Rattle.std.specs.Option.{option_map};
+ghost use Rattle.serde_json.specs.Data.{no_members};
+ghost use Rattle.serde_json.specs.Find.{get_member};
+ghost use Rattle.serde_json.specs.View.{view, members_view};
+ghost use Rattle.yv_properties.specs.Kinds.{is_data};
+ghost use Rattle.yv_values.specs.Count.{counted};
+ghost use Rattle.yv_nodes.specs.declared.node.NodeId.{NodeId};
+ghost use Rattle.yv_nodes.specs.Rows.{Rows, below, rank, row_at, tree_of};
+ghost use Rattle.yv_tables.specs.Sound.{object_trees};
+ghost use Rattle.yv_walk.specs.Marked.{joined, mark_at};
+ghost use Rattle.yv_walk.specs.Standing.{holds, is_there as exists, passes, row_standing, stands_in, tree_standing};
+
+use crate::exists::is_there;
+use crate::marks::Marks;
+use crate::standing::Standing;
+use crate::written::Written;
+use serde_json::{Map, Value};
+use std::alloc::{AllocError, Global};
+use yv_nodes::NodeId;
+use yv_properties::NodeKind;
+use yv_tables::Schema;
+use yv_values::Meter;
+
+/// What the members of one object write: the values of its data nodes, the data nodes that exist in its choices and cases, and the
+/// members that name no node.
+#[derive(Drop)]
+pub struct Context<'v> {
+    parent: NodeId,
+    members: Option<&'v Map<String, Value>>,
+    values: Written<'v>,
+    marks: Marks,
+    unknown: Vec<&'v str>,
+}
+
+impl<'v> Context<'v> {
+    ghost use Rattle.yv_walk.specs.Context.{IsContext, members_len, members_of, parent_of, unknown_names};
+
+    /// An object that isn't written, of this node: it has no members.
+    pub fn empty(alloc: Global, parent: NodeId) -> Context<'v>
+        ensures context { (s : Rows) → IsContext s result }
+        ensures parent { parent_of result ≡ parent }
+        ensures members { members_of result ≡ no_members }
+    {
+        Context {
+            parent,
+            members: None,
+            values: Written::new(alloc),
+            marks: Marks::new(alloc),
+            unknown: Vec::new(alloc),
+        }
+    }
+
+    /// Looks up each member of an object of this node, or of the root's, once. The meter counts the members.
+    pub fn read(
+        alloc: Global,
+        schema: &Schema,
+        meter: &mut Meter,
+        parent: NodeId,
+        members: &'v Map<String, Value>,
+    ) -> Result<Context<'v>, AllocError>
+        requires { rank parent ≤ length schema.now.nodes }
+        ensures context { IfOk result (IsContext schema.now) }
+        ensures parent { IfOk result (λ c. parent_of c ≡ parent) }
+        ensures members { IfOk result (λ c. members_of c ≡ members_view members.now.entries) }
+        ensures steps { OnOk result (counted meter.new ≡ counted (meter.old + members_len (members_view members.now.entries))) }
+    {
+        // each reading of a schema tells what holds of it: that its rows are those of its tree, and its nodes are found by their members
+        let _children = schema.children(parent);
+        let mut values = Written::new(alloc);
+        let mut marks = Marks::new(alloc);
+        let mut unknown = Vec::new(alloc);
+        for (key, value) in members.iter() {
+            match schema.find(meter, parent, key.as_str()) {
+                Some(id) => {
+                    values.keep(id.number(), value)?;
+                    mark_member(&mut marks, schema, id, value)?;
+                }
+                None => note(&mut unknown, key.as_str())?,
+            }
+        }
+        Ok(Context {
+            parent,
+            members: Some(members),
+            values,
+            marks,
+            unknown,
+        })
+    }
+
+    /// The node whose object it is.
+    pub fn parent(&self) -> NodeId
+        ensures { result ≡ parent_of self.now }
+    {
+        self.parent
+    }
+
+    /// The value that is written for a data node that stands in the object.
+    pub fn value(&self, id: NodeId) -> Option<&'v Value>
+        ensures { (s : Rows) → IsContext s self.now → stands_in s (parent_of self.now) id ≡ true → is_data (row_at s id).label.defined.kind ≡ true
+            → option_map (λ v. view v.now) result ≡ get_member (row_at s id).label.member (members_of self.now) }
+    {
+        self.values.get(id.number())
+    }
+
+    /// Which data nodes exist of a node that stands in the object: the node itself, or what stands in it where it is a choice or case.
+    pub fn standing(&self, schema: &Schema, id: NodeId) -> Standing
+        requires { id.0 < length schema.now.nodes }
+        ensures { IsContext schema.now self.now → stands_in schema.now (parent_of self.now) id ≡ true
+            → result ≡ tree_standing id.0 (tree_of schema.now id) (members_of self.now) }
+    {
+        let kind = schema.node(id).kind();
+        if kind.is_passed() {
+            self.marks.standing(id.number())
+        } else {
+            written_standing(kind, id, self.values.get(id.number()))
+        }
+    }
+
+    /// The names of the members that name no node, in the order of the object.
+    pub fn unknown(&self) -> &[&'v str]
+        ensures { (s : Rows) → IsContext s self.now
+            → map (λ k. k.now) result.now ≡ unknown_names (object_trees s (parent_of self.now)) (members_of self.now) }
+    {
+        self.unknown.as_slice()
+    }
+}
+
+// Whether a node exists that is no choice or case, by what is written for it.
+fn written_standing(kind: NodeKind, id: NodeId, written: Option<&Value>) -> Standing
+    ensures { result ≡ row_standing kind id (option_map (λ v. view v.now) written.entry) }
+{
+    match written {
+        Some(value) if is_there(kind, value) => Standing::Only(id),
+        _ => Standing::Nothing,
+    }
+}
+
+// Marks what a member makes exist that writes the node.
+fn mark_member(
+    marks: &mut Marks,
+    schema: &Schema,
+    id: NodeId,
+    value: &Value,
+) -> Result<(), AllocError>
+    requires { id.0 < length schema.now.nodes }
+    ensures { OnOk result ((a : NodeId) → a.0 < length schema.now.nodes → passes schema.now a ≡ true
+        → mark_at marks.new a.0 ≡ joined (exists (row_at schema.now id).label.defined.kind (view value.now) && holds (rank a) (below schema.now a) id)
+        (mark_at marks.old a.0) id) }
+{
+    if is_there(schema.node(id).kind(), value) {
+        marks.mark(schema, id)?;
+    }
+    Ok(())
+}
+
+fn note<'v>(unknown: &mut Vec<&'v str>, key: &'v str) -> Result<(), AllocError>
+    ensures { OnOk result (map (λ k. k.now) unknown.new.items ≡ map (λ k. k.now) unknown.old.items ++ key.now ∷ []) }
+{
+    unknown.push(key)?;
+    Ok(())
+}

@@ -1,0 +1,59 @@
+//! Laws over the definitions: what one member more makes exist, and which nodes stand in an object. A caller that needs one calls it,
+//! and nothing runs.
+ghost use Rattle.std.specs.Prelude.{◌≡◌, ◌<◌, ◌≤◌, ◌&&◌, ℕ, List, None, length, true};
+ghost use Rattle.std.specs.List.{slice_index_or};
+ghost use Rattle.serde_json.specs.Data.{Data, Members, member, no_members};
+ghost use Rattle.serde_json.specs.Find.{get_member};
+ghost use Rattle.yv_nodes.specs.Numbers.{numbers_from};
+ghost use Rattle.yv_nodes.specs.Rows.{Rows, below, children_of, rank};
+ghost use Rattle.yv_nodes.specs.Tree.{Forest};
+ghost use Rattle.yv_nodes.specs.declared.node.NodeId.{NodeId};
+ghost use Rattle.yv_properties.specs.declared.kind.NodeKind.{NodeKind};
+ghost use Rattle.yv_tables.specs.Sound.{IsSound, is_object};
+ghost use Rattle.yv_walk.specs.Marked.{joined};
+ghost use Rattle.yv_walk.specs.Named.{AreNamed, AreUnnamed};
+ghost use Rattle.yv_walk.specs.Standing.{both, holds, is_there, passes, standing, stands_in};
+ghost use Rattle.yv_walk.specs.declared.standing.Standing.TheVariants.{Nothing};
+ghost use Rattle.yv_walk.specs.declared.standing.Standing.{Standing};
+
+/// One member more: what exists in any group of nodes, by marking the one node that the member names.
+pub fn member_marks()
+    ensures { (first : ℕ) (ts : Forest) (key : List ℕ) (d : Data) (ms : Members) (n : NodeId) (k : NodeKind) → AreNamed key n k first ts
+        → get_member key ms ≡ None → standing first ts (member key d ms) ≡ joined (is_there k d && holds first ts n) (standing first ts ms) n }
+{}
+
+/// The step of the look-ups, for any group of nodes: with the member's node marked, and the members that are left, what exists
+/// is what existed before with that member left too.
+pub fn next_member()
+    ensures { (first : ℕ) (ts : Forest) (key : List ℕ) (d : Data) (rest : Members) (n : NodeId) (k : NodeKind) (old : Standing)
+        → AreNamed key n k first ts → get_member key rest ≡ None
+        → both (joined (is_there k d && holds first ts n) old n) (standing first ts rest) ≡ both old (standing first ts (member key d rest)) }
+{}
+
+/// A member that names no node makes none exist.
+pub fn unknown_member()
+    ensures { (first : ℕ) (ts : Forest) (key : List ℕ) (d : Data) (ms : Members)
+        → AreUnnamed key ts → standing first ts (member key d ms) ≡ standing first ts ms }
+{}
+
+/// Nothing exists in an object without members.
+pub fn nothing_stands()
+    ensures { (first : ℕ) (ts : Forest) → standing first ts no_members ≡ Nothing }
+{}
+
+/// The children of a node that has an object stand in it.
+pub fn child_stands()
+    ensures { (s : Rows) (p : NodeId) (i : ℕ) (d : NodeId) → IsSound s → rank p ≤ length s.nodes → is_object s p ≡ true → i < length (children_of s p)
+        → stands_in s p (slice_index_or (children_of s p) i d) ≡ true }
+{}
+
+/// The children of a choice or case that stands in an object stand in it too.
+pub fn inner_stands()
+    ensures { (s : Rows) (p a : NodeId) (i : ℕ) (d : NodeId) → IsSound s → rank p ≤ length s.nodes → stands_in s p a ≡ true → passes s a ≡ true
+        → i < length (children_of s a) → stands_in s p (slice_index_or (children_of s a) i d) ≡ true }
+{}
+
+/// The children of a node have the numbers that its trees are counted by.
+pub fn child_numbers()
+    ensures { (s : Rows) (p : NodeId) → IsSound s → rank p ≤ length s.nodes → children_of s p ≡ numbers_from (rank p) (below s p) }
+{}

@@ -1,0 +1,42 @@
+//! The values that the members of an object write, by the numbers of their nodes.
+ghost use Rattle.std.specs.Prelude.{◌≡◌, ℕ, None, OnOk, option_map};
+ghost use Rattle.serde_json.specs.View.{view};
+ghost use Rattle.yv_walk.specs.Written.{value_at, kept};
+
+use serde_json::Value;
+use std::alloc::{AllocError, Global};
+use std::collections::BTreeMap;
+
+/// A value for each number, or none.
+#[derive(Drop)]
+pub(crate) struct Written<'v> {
+    values: BTreeMap<u32, &'v Value>,
+}
+
+impl<'v> Written<'v> {
+    /// No values.
+    pub(crate) fn new(alloc: Global) -> Written<'v>
+        ensures { (n : ℕ) → value_at result n ≡ None }
+    {
+        Written {
+            values: BTreeMap::new(alloc),
+        }
+    }
+
+    /// The value at a number.
+    pub(crate) fn get(&self, number: u32) -> Option<&'v Value>
+        ensures { option_map (λ v. view v.now) result ≡ value_at self.now number }
+    {
+        self.values.get(&number).copied()
+    }
+
+    /// Keeps a value, where the number has none yet.
+    pub(crate) fn keep(&mut self, number: u32, value: &'v Value) -> Result<(), AllocError>
+        ensures { OnOk result ((n : ℕ) → value_at self.new n ≡ kept (value_at self.old) number (view value.now) n) }
+    {
+        if self.get(number).is_none() {
+            self.values.insert(number, value)?;
+        }
+        Ok(())
+    }
+}
