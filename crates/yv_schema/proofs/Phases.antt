@@ -176,7 +176,7 @@ below_phase p f h = elim h [
 default_phase : (p : Place) (f : Refusal) → BadOfDefault p f → phase_of f.code ≡ 10
 default_phase p f h = elim h [
   | inl x ↦ elim x [ inl y ↦ of_phase f _ y.1 refl | inr y ↦ of_phase f _ y.1 refl ]
-  | inr y ↦ of_phase f _ y.1 refl
+  | inr x ↦ elim x [ inl y ↦ of_phase f _ y.1 refl | inr y ↦ of_phase f _ y.1 refl ]
 ]
 
 tree_phase : (top : Forest) (f : Refusal) → BadTree top f → phase_of f.code ≡ 10
