@@ -23,11 +23,11 @@ child_stands s p i d sound le object lt =
     let own : IsIn x (numbers_from (rank p) (below s p)) = subst (λ (cs : List NodeId). IsIn x cs) (above_of s p sound le).are (in_at (children_of s p) i d lt) in
     and_of (is_object s p) (holds (rank p) (below s p) x) object (own_held (rank p) (below s p) x own)
 
-pub inner_stands : (s : Rows) (p a : NodeId) (i : ℕ) (d : NodeId) → IsSound s → rank p ≤ length s.nodes → stands_in s p a ≡ true → passes s a ≡ true
+pub inner_stands : (s : Rows) (p a : NodeId) (i : ℕ) (d : NodeId) → IsSound s → stands_in s p a ≡ true → passes s a ≡ true
     → i < length (children_of s a) → stands_in s p (get_or (children_of s a) i d) ≡ true
-inner_stands s p a i d sound le stands pass lt =
+inner_stands s p a i d sound stands pass lt =
     let x : NodeId = get_or (children_of s a) i d in
-    let h : IsHeld s p a = is_held s p a sound le stands in
+    let h : IsHeld s p a = is_held s p a sound stands in
     and_of (is_object s p) (holds (rank p) (below s p) x) h.object (beneath s p (rank p) (below s p) x a h.sit (in_at (children_of s a) i d lt) pass h.held)
 
 pub child_numbers : (s : Rows) (p : NodeId) → IsSound s → rank p ≤ length s.nodes → children_of s p ≡ numbers_from (rank p) (below s p)

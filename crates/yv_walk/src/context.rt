@@ -122,7 +122,7 @@ impl<'v> Context<'v> {
     /// section 7.9).
     pub fn count(&self, schema: &Schema, id: NodeId) -> usize
         requires { id.0 < length schema.now.nodes }
-        ensures { IsContext schema.now self.now → rank (parent_of self.now) ≤ length schema.now.nodes → stands_in schema.now (parent_of self.now) id ≡ true
+        ensures { IsContext schema.now self.now → stands_in schema.now (parent_of self.now) id ≡ true
             → passes schema.now id ≡ true → result ≡ count_standing (rank id) (below schema.now id) (members_of self.now) }
     {
         let mut total = 0;

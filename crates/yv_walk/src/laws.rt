@@ -49,7 +49,7 @@ pub fn child_stands()
 
 /// The children of a choice or case that stands in an object stand in it too.
 pub fn inner_stands()
-    ensures { (s : Rows) (p a : NodeId) (i : ℕ) (d : NodeId) → IsSound s → rank p ≤ length s.nodes → stands_in s p a ≡ true → passes s a ≡ true
+    ensures { (s : Rows) (p a : NodeId) (i : ℕ) (d : NodeId) → IsSound s → stands_in s p a ≡ true → passes s a ≡ true
         → i < length (children_of s a) → stands_in s p (slice_index_or (children_of s a) i d) ≡ true }
 {}
 

@@ -34,14 +34,14 @@ loop-child-preserved c =
         | then-any w ↦ omega arith
         | else-any w ↦ omega arith
       ];
-      told = λ context le stands pass.
+      told = λ context stands pass.
           let met : c.any.result ≡ any (tree_standing child.0 (tree_of s child) ms) = c.any.ensures
-          ∙ ap any (c.standing.ensures context (subst (λ (n : NodeId). stands_in s p n ≡ true) is_child (inner_stands s p id i d sound le stands pass lt))) in
+          ∙ ap any (c.standing.ensures context (subst (λ (n : NodeId). stands_in s p n ≡ true) is_child (inner_stands s p id i d sound stands pass lt))) in
           let same_any : any (tree_standing (get_or (children_of s id) i d).0 (tree_of s (get_or (children_of s id) i d)) ms) ≡ c.any.result =
           ap (λ (n : NodeId). any (tree_standing n.0 (tree_of s n) ms)) is_child ∙ sym met in
           let whole : total + (cond c.any.result 1 0 + rest) ≡ all =
           ap (λ b. total + (cond b 1 0 + rest)) (sym same_any) ∙ ap (λ (n : ℕ). total + n) (sym (count_drop s id i d ms sound le_id trees lt))
-          ∙ c.loop-child.invariant.told context le stands pass in
+          ∙ c.loop-child.invariant.told context stands pass in
           elim c.if-any.branch [
             | then-any w ↦ more_true total rest c.if-any.total all c.any.result whole w.if-any.true w.total-is
             | else-any w ↦ more_false total rest c.if-any.total all c.any.result whole w.if-any.false w.total-is
@@ -49,7 +49,7 @@ loop-child-preserved c =
     }
 
 pub returns : goal.returns
-returns c = λ context le stands pass.
+returns c = λ context stands pass.
     let s = c.args.schema.now in
     let id = c.args.id in
     let ms = members_of c.args.self.now in
@@ -59,4 +59,4 @@ returns c = λ context le stands pass.
     let total = c.loop-child.total in
     let none : total + count_of s (drop i (children_of s id)) ms ≡ total + 0 = ap (λ (xs : List NodeId). total + count_of s xs ms) past in
     let number : total ≡ total + 0 = omega arith in
-    number ∙ sym none ∙ c.loop-child.invariant.told context le stands pass ∙ count_all s id ms c.children-child-items.ensures.sound (rank_within s id c.requires)
+    number ∙ sym none ∙ c.loop-child.invariant.told context stands pass ∙ count_all s id ms c.children-child-items.ensures.sound (rank_within s id c.requires)
