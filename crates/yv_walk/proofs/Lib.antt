@@ -11,3 +11,4 @@ mod Naming
 mod Kept
 mod Looked
 mod Stands
+mod Counting

@@ -1,6 +1,8 @@
 -- Which node a member names, in the object itself and in each of its choices and cases.
-use Rattle.std.proofs.Common.{◌≡◌, ℕ, ◌+◌, ◌==◌, ◌&&◌, ◌<◌, ◌≤◌, length, List, [], ◌∷◌, ◌++◌, Bool, true, false, cond, Option, Some, None, ◌⊎◌, inl, inr, refl, sym, ap, ◌∙◌, eqb-true, eq-eqb, subst, arith, ◌||◌}
-use Rattle.std.proofs.lemmas.Bool.{false≢true}
+use Rattle.std.proofs.Common.{nat_lt, ◌≡◌, ℕ, ◌+◌, ◌==◌, ◌&&◌, ◌<◌, ◌≤◌, length, List, [], ◌∷◌, ◌++◌, Bool, true, false, cond, Option, Some, None, ◌⊎◌, inl, inr, refl, sym, ap, ◌∙◌, eqb-true, eq-eqb, subst, arith, ◌||◌}
+use Rattle.std.proofs.lemmas.Bool.{cases_Bool, false≢true}
+use Rattle.std.proofs.lemmas.Bool.Decides.{nat_tests}
+use Rattle.std.proofs.lemmas.List.{get_or_past}
 use Rattle.std.proofs.lemmas.List.Elements.{recursion_from_All}
 use Rattle.std.proofs.lemmas.Option.{same_Some}
 use Rattle.std.proofs.lemmas.Slice.Eq.{bytes_eq-Decides}
@@ -9,7 +11,7 @@ use Rattle.std.specs.Str.{bytes_eq}
 use Rattle.yv_properties.specs.Kinds.{is_data, is_passed}
 use Rattle.yv_nodes.specs.declared.node.NodeId.{NodeId}
 use Rattle.yv_nodes.specs.Tree.{count, Forest, no_trees, node, tree}
-use Rattle.yv_nodes.specs.Rows.{Row, Rows, below, rank, row_at}
+use Rattle.yv_nodes.specs.Rows.{Row, Rows, below, blank_row, children_of, forest, is_root, rank, row_at}
 use Rattle.yv_tables.specs.Opened.{opened_from}
 use Rattle.yv_tables.specs.Sound.{IsFound, IsSound, inside, is_object, named}
 use Rattle.yv_walk.specs.Standing.{holds, passes, stands_in}
@@ -161,9 +163,29 @@ pub record IsHeld (s : Rows) (p x : NodeId) : Type 0 where
   pub held : holds (rank p) (below s p) x ≡ true
   pub within : rank x ≤ length s.nodes
 
-pub is_held : (s : Rows) (p x : NodeId) → IsSound s → rank p ≤ length s.nodes → stands_in s p x ≡ true → IsHeld s p x
-is_held s p x sound le e =
+-- only what is in the schema holds nodes
+rank_held : (s : Rows) (p x : NodeId) → holds (rank p) (below s p) x ≡ true → rank p ≤ length s.nodes
+rank_held s p x e =
+    elim (cases_Bool (is_root p)) [
+      | inl f ↦
+          let top : rank p ≡ 0 = ap (λ (b : Bool). cond b 0 (p.0 + 1)) f in
+          omega (arith, top)
+      | inr f ↦ elim (cases_Bool (nat_lt p.0 (length s.nodes))) [
+        | inl g ↦
+            let lt : p.0 < length s.nodes = grind (arith, nat_tests) in
+            rank_within s p lt
+        | inr g ↦
+            let past : length s.nodes ≤ p.0 = grind (arith, nat_tests) in
+            let none : children_of s p ≡ [] = ap (λ (b : Bool). cond b s.top (row_at s p).children) f
+            ∙ ap (λ (r : Row). r.children) (get_or_past s.nodes p.0 blank_row past) in
+            absurd (false≢true (sym (ap (λ (cs : List NodeId). holds (rank p) (forest s cs) x) none) ∙ e))
+      ]
+    ]
+
+pub is_held : (s : Rows) (p x : NodeId) → IsSound s → stands_in s p x ≡ true → IsHeld s p x
+is_held s p x sound e =
     let b = and_true (is_object s p) (holds (rank p) (below s p) x) e in
+    let le = rank_held s p x b.1 in
     let sit = (above_of s p sound le).sit in
     let to = held_within (rank p) (below s p) x b.1 in
     record {
@@ -189,7 +211,7 @@ pub are_named : (s : Rows) (p : NodeId) (key : List ℕ) (id a : NodeId) → IsS
     → is_data (row_at s id).label.defined.kind ≡ true → stands_in s p a ≡ true → passes s a ≡ true
     → AreNamed key id (row_at s id).label.defined.kind (rank a) (below s a)
 are_named s p key id a sound le is met stands pass =
-    let h : IsHeld s p a = is_held s p a sound le stands in
+    let h : IsHeld s p a = is_held s p a sound stands in
     naming s key id a (rank a) (below s a) (above_of s a sound h.within).sit met
     (λ c i. called_found s p key id c is (found_in s p c sound le (deep_inside s p a c h pass i)))
 
@@ -197,10 +219,10 @@ are_named s p key id a sound le is met stands pass =
 pub are_unnamed : (s : Rows) (p : NodeId) (key : List ℕ) (a : NodeId) → IsSound s → rank p ≤ length s.nodes → named s (inside s p) key ≡ None
     → stands_in s p a ≡ true → passes s a ≡ true → AreUnnamed key (below s a)
 are_unnamed s p key a sound le is stands pass =
-    let h : IsHeld s p a = is_held s p a sound le stands in
+    let h : IsHeld s p a = is_held s p a sound stands in
     unnaming s key a (rank a) (below s a) (above_of s a sound h.within).sit
     (λ c i. called_none s p key c is (found_in s p c sound le (deep_inside s p a c h pass i)))
 
 -- a choice or case that stands in the object has a row
 pub held_row : (s : Rows) (p a : NodeId) → IsSound s → rank p ≤ length s.nodes → stands_in s p a ≡ true → passes s a ≡ true → a.0 < length s.nodes
-held_row s p a sound le stands pass = inner_row s a (is_held s p a sound le stands).within pass
+held_row s p a sound le stands pass = inner_row s a (is_held s p a sound stands).within pass

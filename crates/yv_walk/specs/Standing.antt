@@ -63,6 +63,13 @@ standing first (tree (node l kids) ts) ms =
 abbrev pub tree_standing : ℕ → Tree → Members → Standing
 tree_standing first (node l kids) ms = kind_standing l.defined.kind (record { 0 = first }) (get_member l.member ms) (standing (first + 1) kids ms)
 
+-- how many of these trees exist
+abbrev pub count_standing : ℕ → Forest → Members → ℕ
+count_standing first no_trees ms = 0
+count_standing first (tree (node l kids) ts) ms =
+    (if any (kind_standing l.defined.kind (record { 0 = first }) (get_member l.member ms) (standing (first + 1) kids ms)) then 1 else 0)
+    + count_standing (first + 1 + count kids) ts ms
+
 -- ---- where a node stands
 
 -- the node is a choice or a case

@@ -10,7 +10,7 @@ ghost use Rattle.yv_nodes.specs.declared.node.NodeId.{NodeId};
 ghost use Rattle.yv_nodes.specs.Rows.{Rows, below, rank, row_at, tree_of};
 ghost use Rattle.yv_tables.specs.Sound.{object_trees};
 ghost use Rattle.yv_walk.specs.Marked.{joined, mark_at};
-ghost use Rattle.yv_walk.specs.Standing.{holds, is_there as exists, passes, row_standing, stands_in, tree_standing};
+ghost use Rattle.yv_walk.specs.Standing.{count_standing, holds, is_there as exists, passes, row_standing, stands_in, tree_standing};
 
 use crate::exists::is_there;
 use crate::marks::Marks;
@@ -116,6 +116,22 @@ impl<'v> Context<'v> {
         } else {
             written_standing(kind, id, self.values.get(id.number()))
         }
+    }
+
+    /// How many children of a choice or case that stands in the object exist: of a choice its cases, of which one may (RFC 7950,
+    /// section 7.9).
+    pub fn count(&self, schema: &Schema, id: NodeId) -> usize
+        requires { id.0 < length schema.now.nodes }
+        ensures { IsContext schema.now self.now → stands_in schema.now (parent_of self.now) id ≡ true
+            → passes schema.now id ≡ true → result ≡ count_standing (rank id) (below schema.now id) (members_of self.now) }
+    {
+        let mut total = 0;
+        for child in schema.children(id) {
+            if self.standing(schema, *child).any() {
+                total += 1;
+            }
+        }
+        total
     }
 
     /// The names of the members that name no node, in the order of the object.

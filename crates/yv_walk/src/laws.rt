@@ -1,11 +1,11 @@
 //! Laws over the definitions: what one member more makes exist, and which nodes stand in an object. A caller that needs one calls it,
 //! and nothing runs.
-ghost use Rattle.std.specs.Prelude.{◌≡◌, ◌<◌, ◌≤◌, ◌&&◌, ℕ, List, None, length, true};
+ghost use Rattle.std.specs.Prelude.{◌≡◌, ◌<◌, ◌≤◌, ◌&&◌, ℕ, List, None, drop, length, true};
 ghost use Rattle.std.specs.List.{slice_index_or};
 ghost use Rattle.serde_json.specs.Data.{Data, Members, member, no_members};
 ghost use Rattle.serde_json.specs.Find.{get_member};
 ghost use Rattle.yv_nodes.specs.Numbers.{numbers_from};
-ghost use Rattle.yv_nodes.specs.Rows.{Rows, below, children_of, rank};
+ghost use Rattle.yv_nodes.specs.Rows.{Rows, below, children_of, forest, rank};
 ghost use Rattle.yv_nodes.specs.Tree.{Forest};
 ghost use Rattle.yv_nodes.specs.declared.node.NodeId.{NodeId};
 ghost use Rattle.yv_properties.specs.declared.kind.NodeKind.{NodeKind};
@@ -49,11 +49,17 @@ pub fn child_stands()
 
 /// The children of a choice or case that stands in an object stand in it too.
 pub fn inner_stands()
-    ensures { (s : Rows) (p a : NodeId) (i : ℕ) (d : NodeId) → IsSound s → rank p ≤ length s.nodes → stands_in s p a ≡ true → passes s a ≡ true
+    ensures { (s : Rows) (p a : NodeId) (i : ℕ) (d : NodeId) → IsSound s → stands_in s p a ≡ true → passes s a ≡ true
         → i < length (children_of s a) → stands_in s p (slice_index_or (children_of s a) i d) ≡ true }
 {}
 
 /// The children of a node have the numbers that its trees are counted by.
 pub fn child_numbers()
     ensures { (s : Rows) (p : NodeId) → IsSound s → rank p ≤ length s.nodes → children_of s p ≡ numbers_from (rank p) (below s p) }
+{}
+
+/// The same of the children from each place on: the first of these has the number at which their trees begin.
+pub fn later_numbers()
+    ensures { (s : Rows) (p : NodeId) (i : ℕ) (d : NodeId) → IsSound s → rank p ≤ length s.nodes → i < length (children_of s p)
+        → drop i (children_of s p) ≡ numbers_from (slice_index_or (children_of s p) i d).0 (forest s (drop i (children_of s p))) }
 {}

@@ -112,7 +112,7 @@ returns-clause-context c =
     let names = map (λ k. k.now) c.loop-key.unknown.items in
     record {
       values = λ n stands met. held_at s p values all n (subst (λ ms. AreHeld s p values ms all) step c.loop-key.invariant.held)
-          (found_in s p n sound c.requires (data_inside s p n (is_held s p n sound c.requires stands) met));
+          (found_in s p n sound c.requires (data_inside s p n (is_held s p n sound stands) met));
       marks = λ a stands pass.
           sym (ap (λ ms. both (mark_at c.loop-key.marks a.0) (standing (rank a) (below s a) ms)) step
           ∙ ap (both (mark_at c.loop-key.marks a.0)) (nothing (rank a) (below s a)) ∙ both_none (mark_at c.loop-key.marks a.0))
