@@ -1,5 +1,5 @@
 -- Texts that are cut at their blanks.
-use Rattle.std.proofs.Common.{◌≡◌, ℕ, ◌+◌, ◌<◌, Bool, true, false, cond, not, List, [], ◌∷◌, ◌++◌, length, filter, map, get_or, position, Option, Some, None, nat_lt, nat_eq, refl, sym, ap, ◌∙◌, arith, append-nil}
+use Rattle.std.proofs.Common.{◌≡◌, ℕ, ◌+◌, ◌<◌, Bool, true, false, cond, not, List, [], ◌∷◌, ◌++◌, length, filter, map, get_or, position, Some, None, nat_lt, nat_eq, refl, sym, ap, ◌∙◌, arith, append-nil}
 use Rattle.std.specs.Prelude.{if◌then◌else◌, ◌||◌, ◌==◌}
 use Rattle.std.specs.List.{position_or_len, before_first, after_first, onto_first, slice_split}
 use Rattle.std.proofs.lemmas.List.{map-append}
@@ -9,8 +9,8 @@ use Rattle.std.proofs.lemmas.Bool.Decides.{nat_tests}
 use Rattle.yv_conform.specs.Bytes.{is_blank}
 use Rattle.yv_conform.specs.Words.{words}
 use Rattle.yv_rows.specs.Files.{Files}
-use Rattle.yv_leaf_paths.specs.Steps.{Step, path_of, paths_of}
-use Rattle.yv_leaf_paths.specs.InnerCut.{cut, path_in}
+use Rattle.yv_leaf_paths.specs.Steps.{names_of, path_of, paths_of, step_of}
+use Rattle.yv_leaf_paths.specs.InnerCut.{cut, name_in, path_in}
 
 or_cases : (P : Type 0) (a b : Bool) → (a || b) ≡ true → (a ≡ true → P) → (b ≡ true → P) → P
 or_cases P true b h f g = f refl
@@ -95,16 +95,32 @@ module _ (text front back : List ℕ) (e : Some (front, back) ≡ cut text) wher
       ∙ ap (λ (p : Parts). word_in p.0 ++ words p.1) (sym parts.1)
 
 -- what is made of a word that may be empty
-mapped_in : (test : Bool) (f : List ℕ → List (Option Step)) (piece : List ℕ) → map f (cond test [] (piece ∷ [])) ≡ cond test [] (f piece ∷ [])
+mapped_in : {B : Type 0} (test : Bool) (f : List ℕ → B) (piece : List ℕ) → map f (cond test [] (piece ∷ [])) ≡ cond test [] (f piece ∷ [])
 mapped_in true f piece = refl
 mapped_in false f piece = refl
 
+module _ {B : Type 0} (f : List ℕ → B) where
+  abbrev in_piece : List ℕ → List B
+  in_piece piece = cond (nat_eq (length piece) 0) [] (f piece ∷ [])
+
+  made_whole : (text : List ℕ) → None ≡ cut text → map f (words text) ≡ in_piece text
+  made_whole text e = ap (map f) (words_whole text e) ∙ mapped_in (nat_eq (length text) 0) f text
+
+  made_cut : (text front back : List ℕ) → Some (front, back) ≡ cut text → map f (words text) ≡ in_piece front ++ map f (words back)
+  made_cut text front back e =
+      ap (map f) (words_cut text front back e)
+      ∙ map-append f (word_in front) (words back)
+      ∙ ap (λ (ps : List B). ps ++ map f (words back)) (mapped_in (nat_eq (length front) 0) f front)
+
 module _ (files : Files) (file : ℕ) where
   pub paths_whole : (text : List ℕ) → None ≡ cut text → paths_of files file text ≡ path_in files file text
-  paths_whole text e = ap (map (path_of files file)) (words_whole text e) ∙ mapped_in (nat_eq (length text) 0) (path_of files file) text
+  paths_whole text e = made_whole (path_of files file) text e
 
   pub paths_cut : (text front back : List ℕ) → Some (front, back) ≡ cut text → paths_of files file text ≡ path_in files file front ++ paths_of files file back
-  paths_cut text front back e =
-      ap (map (path_of files file)) (words_cut text front back e)
-      ∙ map-append (path_of files file) (word_in front) (words back)
-      ∙ ap (λ (ps : List (List (Option Step))). ps ++ paths_of files file back) (mapped_in (nat_eq (length front) 0) (path_of files file) front)
+  paths_cut text front back e = made_cut (path_of files file) text front back e
+
+  pub names_whole : (text : List ℕ) → None ≡ cut text → names_of files file text ≡ name_in files file text
+  names_whole text e = made_whole (step_of files file) text e
+
+  pub names_cut : (text front back : List ℕ) → Some (front, back) ≡ cut text → names_of files file text ≡ name_in files file front ++ names_of files file back
+  names_cut text front back e = made_cut (step_of files file) text front back e

@@ -3,7 +3,7 @@ use Rattle.std.specs.Prelude.{ℕ, List, Option, Some, None, [], ◌∷◌, leng
 use Rattle.std.specs.List.{position_or_len, before_first, after_first}
 use Rattle.yv_conform.specs.Bytes.{is_blank}
 use Rattle.yv_rows.specs.Files.{Files}
-use Rattle.yv_leaf_paths.specs.Steps.{Step, path_of}
+use Rattle.yv_leaf_paths.specs.Steps.{Step, path_of, step_of}
 
 -- what stands before the first blank, and what stands behind it
 abbrev pub cut : List ℕ → Option (List ℕ × List ℕ)
@@ -12,3 +12,7 @@ cut text = if nat_lt (position_or_len is_blank text) (length text) then Some (be
 -- the paths of a text without blanks: an empty one is none
 abbrev pub path_in : Files → (file : ℕ) → List ℕ → List (List (Option Step))
 path_in files file piece = if nat_eq (length piece) 0 then [] else path_of files file piece ∷ []
+
+-- the names of such a text
+abbrev pub name_in : Files → (file : ℕ) → List ℕ → List (Option Step)
+name_in files file piece = if nat_eq (length piece) 0 then [] else step_of files file piece ∷ []

@@ -40,3 +40,7 @@ path_of files file text = map (step_of files file) (texts_of text)
 -- the paths of an argument, between which blanks stand
 abbrev pub paths_of : Files → (file : ℕ) → List ℕ → List (List (Option Step))
 paths_of files file text = map (path_of files file) (words text)
+
+-- the names of an argument, between which blanks stand
+abbrev pub names_of : Files → (file : ℕ) → List ℕ → List (Option Step)
+names_of files file text = map (step_of files file) (words text)

@@ -6,7 +6,7 @@ ghost use Rattle.yv_rows.specs.Files.{Files};
 ghost use Rattle.yv_rows.specs.Lent.{lent_in};
 ghost use Rattle.yv_leaf_paths.specs.Steps.{Step, path_of, step_by, step_of, texts_of};
 ghost use Rattle.yv_leaf_paths.specs.InnerKnown.{AreHomes};
-ghost use Rattle.yv_leaf_paths.specs.InnerCut.{path_in};
+ghost use Rattle.yv_leaf_paths.specs.InnerCut.{name_in, path_in};
 
 use crate::cut::cut;
 use crate::homes::Homes;
@@ -95,6 +95,22 @@ fn push_path<'a>(
     Ok(())
 }
 
+// Adds the name that a text without blanks is. An empty one is none.
+fn push_name<'a>(
+    alloc: Global,
+    homes: &Homes<'a>,
+    file: usize,
+    names: &mut Vec<Option<PathStep>>,
+    piece: &'a str,
+) -> Result<(), AllocError>
+    ensures { (files : Files) → AreHomes files homes.now → OnOk result (names.new.items ≡ names.old.items ++ name_in files file piece.now) }
+{
+    if !piece.is_empty() {
+        names.push(read_step(alloc, homes, file, piece)?)?;
+    }
+    Ok(())
+}
+
 /// Reads the paths of arguments: what prefixes in files stand for, found once for all of them.
 #[derive(Drop)]
 pub struct LeafPaths<'a> {
@@ -103,7 +119,7 @@ pub struct LeafPaths<'a> {
 
 impl<'a> LeafPaths<'a> {
     ghost use Rattle.yv_leaf_paths.specs.Known.{AreLeafPaths};
-    ghost use Rattle.yv_leaf_paths.specs.Steps.{paths_of};
+    ghost use Rattle.yv_leaf_paths.specs.Steps.{names_of, paths_of};
 
     /// The prefixes that files declare, in time n log n and memory linear in the text. Err for want of memory alone.
     pub fn read(alloc: Global, rows: &Rows<'a, '_>) -> Result<LeafPaths<'a>, AllocError>
@@ -113,7 +129,7 @@ impl<'a> LeafPaths<'a> {
         Ok(LeafPaths { homes })
     }
 
-    /// The paths that an argument of a statement in a file has, with blanks between (RFC 7950, sections 7.8.2 and 7.8.3). A step
+    /// The paths that the argument of a `unique` statement in a file has, with blanks between (RFC 7950, section 7.8.3). A step
     /// is None where its prefix stands for no module. The name of a module is shared by all steps. Err for want of memory alone.
     pub fn paths(
         &self,
@@ -132,5 +148,25 @@ impl<'a> LeafPaths<'a> {
         }
         push_path(alloc, &self.homes, file, &mut paths, rest)?;
         Ok(paths)
+    }
+
+    /// The names that the argument of a `key` statement in a file has, with blanks between, each as the one step of a path
+    /// (RFC 7950, section 7.8.2). One is None where its prefix stands for no module. Err for want of memory alone.
+    pub fn names(
+        &self,
+        alloc: Global,
+        file: usize,
+        text: &'a str,
+    ) -> Result<Vec<Option<PathStep>>, AllocError>
+        ensures { (files : Files) → AreLeafPaths files self.now → IfOk result (λ names. names.items ≡ names_of files file text.now) }
+    {
+        let mut names = Vec::new(alloc);
+        let mut rest = text;
+        while let Some((word, behind)) = cut(rest) {
+            push_name(alloc, &self.homes, file, &mut names, word)?;
+            rest = behind;
+        }
+        push_name(alloc, &self.homes, file, &mut names, rest)?;
+        Ok(names)
     }
 }
