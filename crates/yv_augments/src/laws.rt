@@ -3,7 +3,7 @@ ghost use Rattle.std.specs.Prelude.{◌≡◌, ℕ, ◌+◌, ◌≤◌, List, So
 ghost use Rattle.yv_augments.specs.declared.label.Label.{Label};
 ghost use Rattle.yv_augments.specs.declared.row.Row.{Row};
 ghost use Rattle.yv_augments.specs.Groups.{Groups, times};
-ghost use Rattle.yv_augments.specs.Turns.{State};
+ghost use Rattle.yv_augments.specs.Turns.{State, turn};
 ghost use Rattle.yv_augments.specs.Placed.{HaveEntered, StandOnce};
 ghost use Rattle.yv_augments.specs.Rounds.{AreApplied, LeadsNowhere};
 ghost use Rattle.yv_augments.specs.Tree.{AreRows, StandsInTree};
@@ -21,6 +21,12 @@ pub fn rounds_keep_items()
         → AreApplied labels first paths old new → length old.groups ≡ length labels + 1 + length old.ends
         → first + length paths ≤ length old.ends
         → times item new.groups ≡ times item old.groups }
+{}
+
+/// A turn leaves as many augments as there were.
+pub fn turns_keep_augments()
+    ensures { (labels : List Label) (number start limit : ℕ) (names : List ℕ) (st : State)
+        → length (turn labels number start limit names st).ends ≡ length st.ends }
 {}
 
 /// When all items have entered, each stands in one group, and once, and so it is when the augments of modules were applied.

@@ -38,7 +38,7 @@ fn given(alloc: Global, rows: &Rows<'_, '_>, selection: &Selection) -> Result<Ve
 
 /// The expansion of the files of implemented modules (RFC 7950, sections 5.6.5, 7.12 and 7.13), or the refusal of the first
 /// file with which their units pass the limit. A module that is there for its definitions alone, and a submodule of one,
-/// gives no items of its own.
+/// gives no items of its own. What the augments of modules give isn't looked at yet.
 pub(crate) fn expanded(
     alloc: Global,
     rows: &Rows<'_, '_>,
@@ -56,7 +56,8 @@ pub(crate) fn expanded(
     ensures built { result ≢ Err PatternBuild }
 {
     let marks = given(alloc, rows, selection)?;
-    expand(alloc, rows, names, &marks, limit)
+    let expanded = expand(alloc, rows, names, &marks, limit)?;
+    Ok(expanded.into_own())
 }
 
 /// The least of what is wrong with the items of an expansion: a schema node that stands too deep, or a refine.

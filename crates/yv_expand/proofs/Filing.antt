@@ -39,8 +39,8 @@ own_file file true = eq-eqb file file refl
 own_file file false = refl
 
 -- or the file at whose top it stands
-top_same : (files : Briefs) (file k : ℕ) (r : Row) → is_place file (top_place files k r) ≡ (is_item r && (stands_in (home_at files file) k r && (r.file == file)))
-top_same files file k r = by (is_item r) (r.file == file) refl
+top_same : (test : Row → Bool) (files : Briefs) (file k : ℕ) (r : Row) → is_place file (top_place test files k r) ≡ (test r && (stands_in (home_at files file) k r && (r.file == file)))
+top_same test files file k r = by (test r) (r.file == file) refl
   where
     by : (i e : Bool) → (r.file == file) ≡ e → is_place file (if i && ((r.scope == home_at files r.file) && not (r.scope == k)) then Some r.file else None) ≡ (i && (((r.scope == home_at files file) && not (r.scope == k)) && e))
     by false e is = refl
@@ -116,23 +116,23 @@ module _ (files : Briefs) (rows : List Row) where
           ∙ sym (those_both is_item rows (block_of rows k) (augmented rows ks))
       by false isnt e = e
 
-  -- what is filed by file is the items at its top
-  top_list : (lists : Lists) (marks : List Bool) (file : ℕ) → ArePlaced (top_place files) rows (length files) lists → file < length files
-      → top_at lists marks file ≡ those is_item rows (given_at files rows marks file)
-  top_list lists marks file placed within = by (slice_index_or marks file false)
+  -- what is filed by file is what stands at its top
+  top_list : (test : Row → Bool) (lists : Lists) (marks : List Bool) (file : ℕ) → ArePlaced (top_place test files) rows (length files) lists → file < length files
+      → top_at lists marks file ≡ those test rows (given_at files rows marks file)
+  top_list test lists marks file placed within = by (slice_index_or marks file false)
     where
-      by : (b : Bool) → (if b then numbers_at lists file else []) ≡ those is_item rows (if b then top_of files rows file else [])
+      by : (b : Bool) → (if b then numbers_at lists file else []) ≡ those test rows (if b then top_of files rows file else [])
       by true =
-          placed_at (top_place files) rows (length files) file lists placed within
-          ∙ those_numbers is_item (λ k r. stands_in (home_at files file) k r && (r.file == file)) (λ k r. is_place file (top_place files k r)) (top_same files file) 0 rows whole_stands
+          placed_at (top_place test files) rows (length files) file lists placed within
+          ∙ those_numbers test (λ k r. stands_in (home_at files file) k r && (r.file == file)) (λ k r. is_place file (top_place test files k r)) (top_same test files file) 0 rows whole_stands
       by false = refl
 
-  pub top_lists : (lists : Lists) (marks : List Bool) (n : ℕ) → ArePlaced (top_place files) rows (length files) lists → n ≤ length files
-      → tops_before lists marks n ≡ those is_item rows (given_before files rows marks n)
-  top_lists lists marks zero placed within = refl
-  top_lists lists marks (suc n) placed within =
+  pub top_lists : (test : Row → Bool) (lists : Lists) (marks : List Bool) (n : ℕ) → ArePlaced (top_place test files) rows (length files) lists → n ≤ length files
+      → tops_before lists marks n ≡ those test rows (given_before files rows marks n)
+  top_lists test lists marks zero placed within = refl
+  top_lists test lists marks (suc n) placed within =
       let before : n ≤ length files = omega (arith, within) in
       let here : n < length files = omega (arith, within) in
-      ap (λ (l : List ℕ). l ++ top_at lists marks n) (top_lists lists marks n placed before)
-      ∙ ap (λ (l : List ℕ). those is_item rows (given_before files rows marks n) ++ l) (top_list lists marks n placed here)
-      ∙ sym (those_both is_item rows (given_before files rows marks n) (given_at files rows marks n))
+      ap (λ (l : List ℕ). l ++ top_at lists marks n) (top_lists test lists marks n placed before)
+      ∙ ap (λ (l : List ℕ). those test rows (given_before files rows marks n) ++ l) (top_list test lists marks n placed here)
+      ∙ sym (those_both test rows (given_before files rows marks n) (given_at files rows marks n))

@@ -1,6 +1,6 @@
 -- What statements give as items, and what several lists give.
 use Rattle.std.proofs.Common.{◌≡◌, ℕ, inl, inr, zero, suc, Bool, true, false, cond, List, [], ◌∷◌, ◌++◌, length, refl, sym, ◌∙◌, ap, subst, arith, Option, Some, None}
-use Rattle.std.specs.List.{slice_get}
+use Rattle.std.specs.List.{slice_get, flat_map}
 use Rattle.std.specs.Option.{option_map, unwrap_or}
 use Rattle.std.proofs.lemmas.Option.{same_Some}
 use Rattle.yv_rows.specs.Files.{Briefs}
@@ -81,6 +81,26 @@ module _ (files : Briefs) (rows : List Row) where
         ],
         same ∙ ap (λ (x : Tree). joined x b) whole ∙ sym (all_pushed trees b),
       )
+
+  -- the trees of what stands in several blocks
+  abbrev pub TreesOf : List ℕ → Tree → Type 0
+  TreesOf blocks t =
+      (trees : List Tree) × (length trees ≡ length blocks)
+      × ((n k : ℕ) (u : Tree) → slice_get blocks n ≡ Some k → slice_get trees n ≡ Some u → Expands files rows (block_of rows k) u) × (t ≡ all_of trees)
+
+  pub trees_of : (blocks : List ℕ) (t : Tree) → Expands files rows (flat_map (block_of rows) blocks) t → TreesOf blocks t
+  trees_of [] t e = ([], refl, (λ n k u here at. absurd (none_there n at)), none_whole t e)
+  trees_of (b ∷ bs) t e =
+      let (first, rest, own, later, same) = halves (block_of rows b) (flat_map (block_of rows) bs) t e in
+      let (trees, each, expands, whole) = trees_of bs rest later in
+      (first ∷ trees, omega (arith, each), by first trees own expands, same ∙ ap (joined first) whole)
+    where
+      by : (first : Tree) (trees : List Tree) → Expands files rows (block_of rows b) first
+          → ((n k : ℕ) (u : Tree) → slice_get bs n ≡ Some k → slice_get trees n ≡ Some u → Expands files rows (block_of rows k) u)
+          → (n k : ℕ) (u : Tree) → slice_get (b ∷ bs) n ≡ Some k → slice_get (first ∷ trees) n ≡ Some u → Expands files rows (block_of rows k) u
+      by first trees own later zero k u here at =
+          subst (λ (m : ℕ). Expands files rows (block_of rows m) u) (same_Some b k here) (subst (λ (x : Tree). Expands files rows (block_of rows b) x) (same_Some first u at) own)
+      by first trees own later (suc n) k u here at = later n k u here at
 
   -- a numbered statement that passes a test is one
   abbrev pub Passing : (Row → Bool) → ℕ → Type 0

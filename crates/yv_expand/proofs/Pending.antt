@@ -39,5 +39,5 @@ module _ (files : Briefs) (rows : List Row) where
   pends_step a i others items (inner, below, rest, s, g, p, same) =
       (inner, s, listed (Some i) (i + 1) below ++ rest, pends_more (Some i) inner below (i + 1) others rest g p, same)
 
-  pub pends_start : (these : List Origin) (t : Tree) → Give files rows these t → Pends files rows (items_below None these ++ []) 0 (listed None 0 t ++ [])
-  pends_start these t g = pends_more None these t 0 [] [] g refl
+  pub pends_start : (these : List Origin) (t : Tree) (i : ℕ) → Give files rows these t → Pends files rows (items_below None these ++ []) i (listed None i t ++ [])
+  pends_start these t i g = pends_more None these t i [] [] g refl

@@ -70,16 +70,16 @@ module _ (files : Briefs) (rows : List Row) where
   abbrev pub Whole : List Item → List Item → List Item → Type 0
   Whole stack items whole = (rest : List Item) × Pends files rows (reverse stack) (length items) rest × (items ++ rest ≡ whole)
 
-  pub whole_start : (these : List Origin) (t : Tree) (empty stack items : List Item) → empty ≡ [] → stack ≡ empty ++ reverse (items_below None these) → items ≡ []
-      → Give files rows these t → Whole stack items (listed None 0 t)
-  whole_start these t empty stack items none is no_items g =
+  pub whole_start : (these : List Origin) (t : Tree) (empty stack items : List Item) → empty ≡ [] → stack ≡ empty ++ reverse (items_below None these)
+      → Give files rows these t → Whole stack items (items ++ listed None (length items) t)
+  whole_start these t empty stack items none is g =
       let order : reverse stack ≡ items_below None these ++ [] =
       back_put empty stack (items_below None these) is ∙ ap (λ l. items_below None these ++ reverse l) none in
-      let pends : Pends files rows (items_below None these ++ []) 0 (listed None 0 t ++ []) = pends_start files rows these t g in (
-        listed None 0 t ++ [],
-        subst (λ (l : List Item). Pends files rows l (length items) (listed None 0 t ++ [])) (sym order)
-            (subst (λ (n : ℕ). Pends files rows (items_below None these ++ []) n (listed None 0 t ++ [])) (sym (ap length no_items)) pends),
-        ap (λ l. l ++ (listed None 0 t ++ [])) no_items ∙ append-nil (listed None 0 t),
+      let rest : List Item = listed None (length items) t in
+      let pends : Pends files rows (items_below None these ++ []) (length items) (rest ++ []) = pends_start files rows these t (length items) g in (
+        rest ++ [],
+        subst (λ (l : List Item). Pends files rows l (length items) (rest ++ [])) (sym order) pends,
+        ap (λ l. items ++ l) (append-nil rest),
       )
 
   pub whole_step : (a : Item) (items items' whole stack popped new : List Item) → stack ≡ popped ++ a ∷ [] → items' ≡ items ++ a ∷ []

@@ -33,22 +33,22 @@ block_place test k r = if test r && not (r.scope == k) then Some r.scope else No
 abbrev pub AreHomes : Briefs → List ℕ → Type 0
 AreHomes files homes = (n : ℕ) → unwrap_or (slice_get homes n) n ≡ home_at files n
 
--- the file at whose top an item stands
-abbrev pub top_place : Briefs → ℕ → Row → Option ℕ
-top_place files k r = if is_item r && ((r.scope == home_at files r.file) && not (r.scope == k)) then Some r.file else None
+-- the file at whose top a statement stands that passes a test
+abbrev pub top_place : (Row → Bool) → Briefs → ℕ → Row → Option ℕ
+top_place test files k r = if test r && ((r.scope == home_at files r.file) && not (r.scope == k)) then Some r.file else None
 
 abbrev pub is_place : ℕ → Option ℕ → Bool
 is_place p None = false
 is_place p (Some q) = q == p
 
--- the items of a place, from this number on
+-- the statements of a place, from this number on
 abbrev pub placed_from : (ℕ → Row → Option ℕ) → ℕ → ℕ → List Row → List ℕ
 placed_from place p n rows = numbers_from (λ k r. is_place p (place k r)) n rows
 
 abbrev pub AreEmpty : Lists → Type 0
 AreEmpty lists = (p : ℕ) (v : Vec ℕ Global) → slice_get lists p ≡ Some v → v.items ≡ []
 
--- for each of so many places its items
+-- for each of so many places its statements
 pub record ArePlaced (place : ℕ → Row → Option ℕ) (rows : List Row) (count : ℕ) (lists : Lists) : Type 0 where
   pub each : length lists ≡ count
   pub items : (p : ℕ) (v : Vec ℕ Global) → slice_get lists p ≡ Some v → v.items ≡ placed_from place p 0 rows
@@ -61,7 +61,7 @@ numbers_in (Some v) = v.items
 abbrev pub numbers_at : Lists → ℕ → List ℕ
 numbers_at lists n = numbers_in (slice_get lists n)
 
--- the items at the top of a file, if it is given
+-- those at the top of a file that are listed, if it is given
 abbrev pub top_at : Lists → List Bool → ℕ → List ℕ
 top_at lists marks file = if slice_index_or marks file false then numbers_at lists file else []
 

@@ -88,6 +88,17 @@ impl Blocks {
         })
     }
 
+    /// The items in the blocks of augments, augment by augment.
+    pub(crate) fn given_by(
+        &self,
+        alloc: Global,
+        augments: &[usize],
+    ) -> Result<Vec<usize>, AllocError>
+        ensures { IfOk result (λ given. given.items ≡ flat_map (numbers_at self.now.own.items) augments.now) }
+    {
+        given_by(alloc, &self.own, augments)
+    }
+
     // Puts the two parts of an operation on a stack, the input on top.
     fn put_parts(
         &self,

@@ -5,6 +5,7 @@
 
 mod blocks;
 mod deep;
+mod expanded;
 pub mod laws;
 mod lists;
 mod own;
@@ -13,4 +14,5 @@ mod stack;
 mod whole;
 
 pub use deep::first_too_deep;
+pub use expanded::Expanded;
 pub use whole::expand;

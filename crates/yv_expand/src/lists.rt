@@ -65,13 +65,13 @@ fn homes(alloc: Global, rows: &Rows<'_, '_>) -> Result<Vec<usize>, AllocError>
     Ok(homes)
 }
 
-// The file at whose top an item stands.
-fn top_place(homes: &[usize], number: usize, entry: &Entry<'_, '_>) -> Option<usize>
-    ensures { (files : Briefs) → AreHomes files homes.now → result ≡ top_place files number (row entry.now) }
+// The file at whose top a statement stands that is wanted.
+fn top_place(wanted: Wanted, homes: &[usize], number: usize, entry: &Entry<'_, '_>) -> Option<usize>
+    ensures { (files : Briefs) → AreHomes files homes.now → result ≡ top_place (is_wanted wanted) files number (row entry.now) }
 {
     let file = entry.file as usize;
     let home = homes.get(file).copied().unwrap_or(file);
-    if is_item(entry) && entry.scope == home && entry.scope != number {
+    if is_wanted(wanted, entry) && entry.scope == home && entry.scope != number {
         Some(file)
     } else {
         None
@@ -97,15 +97,20 @@ pub(crate) fn of_blocks(
     Ok(lists)
 }
 
-/// For each file the items at its top.
-pub(crate) fn of_files(alloc: Global, rows: &Rows<'_, '_>) -> Result<Vec<Vec<usize>>, AllocError>
-    ensures { IfOk result (λ lists. ArePlaced (top_place (files_in rows.now)) (rows_in rows.now) (length (files_in rows.now)) lists.items) }
+/// For each file those at its top that are wanted.
+pub(crate) fn of_files(
+    alloc: Global,
+    rows: &Rows<'_, '_>,
+    wanted: Wanted,
+) -> Result<Vec<Vec<usize>>, AllocError>
+    ensures { IfOk result (λ lists. ArePlaced (top_place (is_wanted wanted) (files_in rows.now)) (rows_in rows.now)
+        (length (files_in rows.now)) lists.items) }
 {
     yv_rows::laws::roots_come_first();
     let homes = homes(alloc, rows)?;
     let mut lists = no_lists(alloc, rows.files().len())?;
     for (number, entry) in rows.entries().iter().enumerate() {
-        if let Some(place) = top_place(&homes, number, entry) {
+        if let Some(place) = top_place(wanted, &homes, number, entry) {
             lists[place].push(number)?;
         }
     }
@@ -122,7 +127,7 @@ pub(crate) fn numbers_at(lists: &[Vec<usize>], number: usize) -> &[usize]
     }
 }
 
-// The items at the top of a file, if it is given.
+// The statements at the top of a file that were listed, if it is given.
 fn top_at<'a>(tops: &'a [Vec<usize>], given: &[bool], file: usize) -> &'a [usize]
     ensures { result.now ≡ top_at tops.now given.now file }
 {
@@ -133,7 +138,7 @@ fn top_at<'a>(tops: &'a [Vec<usize>], given: &[bool], file: usize) -> &'a [usize
     }
 }
 
-/// The items at the tops of all files that are given, in their order.
+/// Those at the tops of all files that are given, in their order.
 pub(crate) fn firsts(
     alloc: Global,
     tops: &[Vec<usize>],

@@ -1,5 +1,5 @@
 //! Items with all that stands below them, as one list.
-ghost use Rattle.std.specs.Prelude.{◌≡◌, ℕ, None, map, length, IfOk};
+ghost use Rattle.std.specs.Prelude.{◌≡◌, ◌++◌, ℕ, None, length, OnOk};
 ghost use Rattle.yv_rows.specs.Lent.{lent_in, files_in, rows_in};
 ghost use Rattle.yv_names.specs.Known.{AreNames};
 ghost use Rattle.yv_expansion.specs.Tree.{Tree, listed};
@@ -12,20 +12,22 @@ use yv_expansion::Expansion;
 use yv_names::Names;
 use yv_rows::Rows;
 
-/// The expansion of the items of these statements. No memory where it would hold more than the limit.
+/// Adds the items of these statements behind the others, at the top, each with all that stands below it. No memory where the
+/// expansion would hold more than its limit.
 pub(crate) fn spread(
     alloc: Global,
     rows: &Rows<'_, '_>,
     names: &Names,
     blocks: &Blocks,
     firsts: &[usize],
-    limit: u32,
-) -> Result<Expansion, AllocError>
-    ensures limit { IfOk result (λ e. e.limit ≡ limit) }
+    expansion: &mut Expansion,
+) -> Result<(), AllocError>
+    ensures limit { expansion.new.limit ≡ expansion.old.limit }
     ensures items { (t : Tree) → AreNames (lent_in rows.now) names.now → AreBlocks (rows_in rows.now) blocks.now
-        → Give (files_in rows.now) (rows_in rows.now) (origins firsts.now) t → IfOk result (λ e. e.items ≡ listed None 0 t) }
+        → Give (files_in rows.now) (rows_in rows.now) (origins firsts.now) t
+        → OnOk result (expansion.new.items ≡ expansion.old.items ++ listed None (length expansion.old.items) t) }
 {
-    let mut expansion = Expansion::new(alloc, limit);
+    let limit = expansion.limit();
     let mut stack = Vec::new(alloc);
     put(&mut stack, firsts, None)?;
     while let Some(item) = stack.pop() {
@@ -36,5 +38,5 @@ pub(crate) fn spread(
         expansion.push(item)?;
         blocks.put_below(rows, names, &mut stack, item.origin, Some(number as usize))?;
     }
-    Ok(expansion)
+    Ok(())
 }

@@ -3,16 +3,17 @@ ghost use Rattle.std.specs.Prelude.{◌≡◌, ◌≢◌, None, Some, Err, IfOk,
 ghost use Rattle.yv_statement.specs.Order.{IsLeast};
 ghost use Rattle.yv_statement.specs.declared.refusal.Refusal.{Refusal};
 ghost use Rattle.yv_statement.specs.declared.refusal.Stop.TheVariants.{Fault, PatternBuild};
-ghost use Rattle.yv_rows.specs.Lent.{lent_in};
+ghost use Rattle.yv_rows.specs.Lent.{files_in, lent_in, rows_in};
 ghost use Rattle.yv_names.specs.Known.{AreNames};
 ghost use Rattle.yv_units.specs.Limit.{Fits, TooMany};
-ghost use Rattle.yv_expand.specs.Expanded.{IsExpansion};
+ghost use Rattle.yv_expand.specs.Expanded.{IsWhole, augments_of};
 
 use crate::blocks::Blocks;
-use crate::lists::{firsts, of_files};
+use crate::expanded::Expanded;
+use crate::lists::{Wanted, firsts, of_files};
 use crate::spread::spread;
 use std::alloc::{AllocError, Global};
-use yv_expansion::Expansion;
+use yv_expansion::{Expansion, Origin};
 use yv_names::Names;
 use yv_rows::Rows;
 use yv_statement::Stop;
@@ -25,20 +26,34 @@ fn within(
     names: &Names,
     given: &[bool],
     limit: u32,
-) -> Result<Expansion, AllocError>
-    ensures limit { IfOk result (λ e. e.limit ≡ limit) }
+) -> Result<Expanded, AllocError>
+    ensures limit { IfOk result (λ e. e.expansion.limit ≡ limit) }
+    ensures augments { IfOk result (λ e. e.augments.items ≡ augments_of (files_in rows.now) (rows_in rows.now) given.now) }
     ensures expanded { AreNames (lent_in rows.now) names.now → Fits (lent_in rows.now) given.now limit
-        → IfOk result (λ e. IsExpansion (lent_in rows.now) given.now e.items) }
+        → IfOk result (λ e. IsWhole (lent_in rows.now) given.now e.own e.expansion.items) }
 {
+    yv_expansion::laws::a_tree_is_listed_whole::<Origin>();
+    yv_expansion::laws::trees_are_listed_in_order::<Origin>();
     let blocks = Blocks::read(alloc, rows)?;
-    let tops = of_files(alloc, rows)?;
-    let firsts = firsts(alloc, &tops, given)?;
-    spread(alloc, rows, names, &blocks, &firsts, limit)
+    let tops = of_files(alloc, rows, Wanted::Items)?;
+    let applied = of_files(alloc, rows, Wanted::Augments)?;
+    let mut expansion = Expansion::new(alloc, limit);
+    let own_firsts = firsts(alloc, &tops, given)?;
+    spread(alloc, rows, names, &blocks, &own_firsts, &mut expansion)?;
+    let own = expansion.len();
+    let augments = firsts(alloc, &applied, given)?;
+    let added = blocks.given_by(alloc, &augments)?;
+    spread(alloc, rows, names, &blocks, &added, &mut expansion)?;
+    Ok(Expanded {
+        expansion,
+        own,
+        augments,
+    })
 }
 
 /// The expansion of the files that are marked as given, one file behind the other and each item before those below it
-/// (RFC 7950, sections 7.12 and 7.13), or, where their units pass the limit, the refusal of the first file with which
-/// they do. A file without a mark isn't given. An expansion has no more items than units, and never more than the
+/// (RFC 7950, sections 7.12 and 7.13), and behind it what the augments at their tops give (section 7.17), or, where their units
+/// pass the limit, the refusal of the first file with which they do. A file without a mark isn't given. An expansion has no more items than units, and never more than the
 /// limit: where the names aren't those of the files, there is no memory for more.
 pub fn expand(
     alloc: Global,
@@ -46,9 +61,11 @@ pub fn expand(
     names: &Names,
     given: &[bool],
     limit: u32,
-) -> Result<Expansion, Stop>
-    ensures expanded { AreNames (lent_in rows.now) names.now → IfOk result (λ e. IsExpansion (lent_in rows.now) given.now e.items) }
-    ensures limit { IfOk result (λ e. e.limit ≡ limit) }
+) -> Result<Expanded, Stop>
+    ensures expanded { AreNames (lent_in rows.now) names.now
+        → IfOk result (λ e. IsWhole (lent_in rows.now) given.now e.own e.expansion.items) }
+    ensures augments { IfOk result (λ e. e.augments.items ≡ augments_of (files_in rows.now) (rows_in rows.now) given.now) }
+    ensures limit { IfOk result (λ e. e.expansion.limit ≡ limit) }
     ensures fits { AreNames (lent_in rows.now) names.now → OnOk result (IsLeast (TooMany (lent_in rows.now) given.now limit) None) }
     ensures refusal { AreNames (lent_in rows.now) names.now
         → (r : Refusal) → result ≡ Err (Fault r) → IsLeast (TooMany (lent_in rows.now) given.now limit) (Some r) }

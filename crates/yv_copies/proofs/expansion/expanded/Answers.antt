@@ -1,5 +1,4 @@
 use Rattle.std.proofs.Common.{◌≡◌, ◌∙◌, Bool, List, None, subst}
-use Rattle.std.specs.Result.{OnOk}
 use Rattle.yv_statement.specs.Order.{IsLeast}
 use Rattle.yv_selection.specs.Choice.{choice_of}
 use Rattle.yv_rows.specs.Lent.{lent_in}
@@ -11,4 +10,4 @@ pub returns-clause-fits : goal.returns-clause-fits
 returns-clause-fits c = λ names. (
     let files = lent_in c.args.rows.now in
     let marks : c.deref.result.now ≡ marks_of (choice_of c.args.selection.now) files = c.deref.ensures.value ∙ c.in_ok-marks.ensures in
-    subst (λ (ms : List Bool). OnOk c.expand.result (IsLeast (TooMany files ms c.args.limit) None)) marks (c.expand.ensures.fits names))
+    subst (λ (ms : List Bool). IsLeast (TooMany files ms c.args.limit) None) marks (c.in_ok-expanded.ensures.fits names))

@@ -1,4 +1,4 @@
-use Rattle.std.proofs.Common.{◌∙◌, ◌++◌, ap, Some, reverse, length}
+use Rattle.std.proofs.Common.{◌∙◌, ◌++◌, refl, ap, Some, reverse, length}
 use Rattle.yv_rows.specs.Lent.{files_in, rows_in}
 use Rattle.yv_expand.specs.InnerItems.{items_below, origins}
 use Rattle.yv_expand.proofs.Listing.{longer}
@@ -7,9 +7,9 @@ use Rattle.yv_expand.proofs.spread.spread.Goals as goal
 
 pub loop-item-init : goal.loop-item-init
 loop-item-init c = record {
-  kept = c.new-expansion.ensures.limit;
+  kept = refl;
   parents = below_start _ (origins c.args.firsts.now) c.new-stack.result.items _ c.new-stack.ensures.items c.in_ok-put.ensures;
-  pending = λ t names blocks give. whole_start (files_in c.args.rows.now) (rows_in c.args.rows.now) (origins c.args.firsts.now) t c.new-stack.result.items _ _ c.new-stack.ensures.items c.in_ok-put.ensures c.new-expansion.ensures.items give;
+  pending = λ t names blocks give. whole_start (files_in c.args.rows.now) (rows_in c.args.rows.now) (origins c.args.firsts.now) t c.new-stack.result.items _ c.args.expansion.now.items c.new-stack.ensures.items c.in_ok-put.ensures give;
 }
 
 pub push-requires-clause-parent : goal.push-requires-clause-parent

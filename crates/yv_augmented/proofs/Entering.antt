@@ -1,0 +1,108 @@
+-- Items enter one by one.
+use Rattle.std.proofs.Common.{◌≡◌, ℕ, suc, ◌+◌, ◌≤◌, Bool, true, false, List, [], ◌∷◌, length, drop, if◌then◌else◌, refl, sym, ◌∙◌, ap, subst, arith, Some, None}
+use Rattle.std.specs.List.{slice_get}
+use Rattle.std.proofs.lemmas.List.{drop_all, length-map, length-replicate}
+use Rattle.yv_expansion.specs.Tree.{Item}
+use Rattle.yv_augments.specs.declared.label.Label.{Label}
+use Rattle.yv_augments.specs.Groups.{group_of_augment, members_of}
+use Rattle.yv_augments.specs.Turns.{State, turn}
+use Rattle.yv_augments.specs.Placed.{nothing, entered, HaveEntered, none_yet, turned, one_more}
+use Rattle.yv_augmented.specs.Kinds.{is_uses}
+use Rattle.yv_augmented.specs.Giving.{giving}
+use Rattle.yv_augmented.specs.Spots.{Laid, Whole, copies_of, labels_of, laid}
+use Rattle.yv_augmented.specs.Grafted.{copy_turn, last_of, path_in, placed, placed_from, turns, turns_from}
+use Rattle.yv_augmented.specs.declared.spot.Spot.{Spot}
+use Rattle.yv_augmented.specs.InnerLayout.{AreLaid, Fits}
+use Rattle.yv_augmented.proofs.Bounds.{laid_whole}
+use Rattle.yv_augmented.proofs.Reading.{rest_of}
+
+abbrev pub KeepAugments : Type 0
+KeepAugments = (labels : List Label) (number start limit : ℕ) (names : List ℕ) (st : State) → length (turn labels number start limit names st).ends ≡ length st.ends
+
+module _ (w : Whole) (labels : List Label) (copies : ℕ) where
+  turns_entered : (s : Spot) (first number : ℕ) (augments : List ℕ) (st : State) → number + length augments ≤ copies → HaveEntered labels copies first st
+      → HaveEntered labels copies first (turns_from w labels s number augments st)
+  turns_entered s first number [] st l h = h
+  turns_entered s first number (a ∷ others) st l h =
+      turns_entered s first (number + 1) others (copy_turn w labels s number a st) (omega (arith, l))
+      (turned number s.group (last_of (members_of st.groups (group_of_augment labels number))) (path_in w s.home a) (omega (arith, l)) h)
+
+  spot_entered : (s : Spot) (first : ℕ) (st : State) → s.first + copies_of w.rows s ≤ copies → HaveEntered labels copies first st
+      → HaveEntered labels copies first (turns w labels s st)
+  spot_entered s first st l h = by (is_uses s.label.kind) refl
+    where
+      by : (b : Bool) → is_uses s.label.kind ≡ b → HaveEntered labels copies first (if b then turns_from w labels s s.first (giving w.rows s.statement) st else st)
+      by true is =
+          let c : copies_of w.rows s ≡ length (giving w.rows s.statement) = ap (λ (b : Bool). if b then length (giving w.rows s.statement) else 0) is in
+          turns_entered s first s.first (giving w.rows s.statement) st (omega (arith, l, c)) h
+      by false is = h
+
+  pub placed_entered : (i : ℕ) (ss : List Spot) → w.items ≡ length labels → i + length ss ≡ length labels → ((k : ℕ) (s : Spot) → slice_get ss k ≡ Some s → Fits w copies s)
+      → HaveEntered labels copies i (placed_from w labels copies i ss)
+  placed_entered i [] whole all fit =
+      let end : i ≡ length labels = omega (arith, all) in
+      subst (λ (n : ℕ). HaveEntered labels copies n (nothing (length labels) copies)) (sym end) none_yet
+  placed_entered i (s ∷ ss) whole all fit =
+      let f : Fits w copies s = fit 0 s refl in
+      let rest : HaveEntered labels copies (i + 1) (placed_from w labels copies (i + 1) ss) =
+      placed_entered (i + 1) ss whole (omega (arith, all)) (λ k t at. fit (suc k) t at) in
+      let g = f.group in
+      one_more s.group (omega (arith, g, whole)) (spot_entered s (i + 1) (placed_from w labels copies (i + 1) ss) f.copies rest)
+
+  module _ (keep : KeepAugments) where
+    pub turns_ends : (s : Spot) (number : ℕ) (augments : List ℕ) (st : State) → length (turns_from w labels s number augments st).ends ≡ length st.ends
+    turns_ends s number [] st = refl
+    turns_ends s number (a ∷ others) st =
+        turns_ends s (number + 1) others (copy_turn w labels s number a st)
+        ∙ keep labels number s.group (last_of (members_of st.groups (group_of_augment labels number))) (path_in w s.home a) st
+
+    spot_ends : (s : Spot) (st : State) → length (turns w labels s st).ends ≡ length st.ends
+    spot_ends s st = by (is_uses s.label.kind)
+      where
+        by : (b : Bool) → length (if b then turns_from w labels s s.first (giving w.rows s.statement) st else st).ends ≡ length st.ends
+        by true = turns_ends s s.first (giving w.rows s.statement) st
+        by false = refl
+
+    pub placed_ends : (i : ℕ) (ss : List Spot) → length (placed_from w labels copies i ss).ends ≡ copies
+    placed_ends i [] = length-replicate copies None
+    placed_ends i (s ∷ ss) = spot_ends s (placed_from w labels copies (i + 1) ss) ∙ placed_ends (i + 1) ss
+
+-- so many turns of the augments of a uses, of which all are due
+abbrev pub Turning : Whole → List Label → Spot → (place : ℕ) → List ℕ → (st now : State) → Type 0
+Turning w labels s place augments st now =
+    (length now.ends ≡ length st.ends) × (turns_from w labels s (s.first + place) (drop place augments) now ≡ turns_from w labels s s.first augments st)
+
+pub turning_more : KeepAugments → (w : Whole) (labels : List Label) (s : Spot) (place a : ℕ) (augments : List ℕ) (st now : State) → slice_get augments place ≡ Some a
+    → Turning w labels s place augments st now → Turning w labels s (place + 1) augments st (copy_turn w labels s (s.first + place) a now)
+turning_more keep w labels s place a augments st now at (kept, same) =
+    let number : ℕ = s.first + place in
+    let next : State = copy_turn w labels s number a now in
+    let ends : length next.ends ≡ length now.ends = keep labels number s.group (last_of (members_of now.groups (group_of_augment labels number))) (path_in w s.home a) now in (
+      ends ∙ kept,
+      ap (λ (n : ℕ). turns_from w labels s n (drop (place + 1) augments) next) (omega arith)
+          ∙ ap (λ (l : List ℕ). turns_from w labels s number l now) (sym (rest_of augments place a at)) ∙ same,
+    )
+
+pub turning_all : (w : Whole) (labels : List Label) (s : Spot) (place : ℕ) (augments : List ℕ) (st now : State) → length augments ≤ place → is_uses s.label.kind ≡ true
+    → augments ≡ giving w.rows s.statement → Turning w labels s place augments st now → now ≡ turns w labels s st
+turning_all w labels s place augments st now past is are (kept, same) =
+    ap (λ (l : List ℕ). turns_from w labels s (s.first + place) l now) (sym (drop_all place augments past)) ∙ same
+    ∙ ap (λ (l : List ℕ). turns_from w labels s s.first l st) are
+    ∙ ap (λ (b : Bool). if b then turns_from w labels s s.first (giving w.rows s.statement) st else st) (sym is)
+
+-- one more item enters
+pub placed_more : (w : Whole) (labels : List Label) (copies n left : ℕ) (s : Spot) (spots : List Spot) (ready : State) → left ≡ n + 1 → slice_get spots n ≡ Some s
+    → ready ≡ turns w labels s (placed_from w labels copies left (drop left spots)) → entered n s.group ready ≡ placed_from w labels copies n (drop n spots)
+placed_more w labels copies n left s spots ready next at is =
+    ap (entered n s.group) is ∙ ap (λ (m : ℕ). entered n s.group (turns w labels s (placed_from w labels copies m (drop m spots)))) next
+    ∙ ap (placed_from w labels copies n) (sym (rest_of spots n s at))
+
+-- all items have entered
+pub whole_entered : (w : Whole) (items : List Item) → length items ≡ w.items → HaveEntered (labels_of (laid w items).spots) (laid w items).copies 0 (placed w (laid w items))
+whole_entered w items long =
+    let l : Laid = laid w items in
+    let are : AreLaid w l = laid_whole w items long in
+    let labels : List Label = labels_of l.spots in
+    let count : length labels ≡ length l.spots = length-map l.spots (λ s. s.label) in
+    let size = are.long in
+    placed_entered w labels l.copies 0 l.spots (omega (arith, size, count)) (omega (arith, count)) are.all

@@ -1,0 +1,10 @@
+use Rattle.std.proofs.Common.{◌≡◌, ◌∙◌, ℕ, length, sym, subst}
+use Rattle.std.proofs.lemmas.List.{length-map}
+use Rattle.yv_augments.specs.Placed.{StandOnce}
+use Rattle.yv_augmented.specs.Spots.{labels_of, laid}
+use Rattle.yv_augmented.proofs.grafts.Grafts.into_rows.Goals as goal
+
+pub returns : goal.returns
+returns c = λ w items st are. (
+    let all : length items ≡ length (labels_of (laid w items).spots) = sym are.each ∙ sym (length-map (laid w items).spots (λ s. s.label)) in
+    c.into_rows.ensures (labels_of (laid w items).spots) st are.grafting (subst (λ (n : ℕ). StandOnce n st.groups) all are.once))

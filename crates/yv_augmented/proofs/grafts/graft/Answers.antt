@@ -1,0 +1,58 @@
+use Rattle.std.proofs.Common.{◌≡◌, ℕ, List, length, map, sym, ◌∙◌, ap, subst, arith}
+use Rattle.std.specs.declared.vec.Vec.{Vec}
+use Rattle.std.specs.declared.alloc.Global.{Global}
+use Rattle.std.proofs.lemmas.List.{length-map}
+use Rattle.yv_augments.specs.declared.label.Label.{Label}
+use Rattle.yv_augments.specs.Turns.{State}
+use Rattle.yv_augments.specs.Placed.{HaveEntered, StandOnce}
+use Rattle.yv_augments.specs.Rounds.{AreApplied}
+use Rattle.yv_augments.specs.InnerState.{IsGrafting}
+use Rattle.yv_augmented.specs.Grafted.{module_paths, placed}
+use Rattle.yv_augmented.specs.Spots.{Laid, Whole, labels_of, laid}
+use Rattle.yv_augmented.specs.Known.{AreGrafts}
+use Rattle.yv_augmented.specs.InnerLayout.{AreLaid}
+use Rattle.yv_augmented.specs.InnerPlan.{whole_in}
+use Rattle.yv_augmented.specs.declared.grafts.Grafts.{Grafts}
+use Rattle.yv_augmented.proofs.Bounds.{laid_whole}
+use Rattle.yv_augmented.proofs.Entering.{placed_ends, whole_entered}
+use Rattle.yv_augmented.proofs.grafts.graft.Goals as goal
+
+pub place-requires-clause-laid : goal.place-requires-clause-laid
+place-requires-clause-laid c =
+    let w : Whole = whole_in c.in_ok-plan.plan in
+    let long : length c.args.items.now ≡ w.items = sym (ap (λ (v : Whole). v.items) c.in_ok-plan.ensures.whole) in
+    subst (AreLaid w) (sym c.in_ok-layout.ensures) (laid_whole w c.args.items.now long)
+
+pub returns : goal.returns
+returns c =
+    let w : Whole = whole_in c.in_ok-plan.plan in
+    let items = c.args.items.now in
+    let long : length items ≡ w.items = sym (ap (λ (v : Whole). v.items) c.in_ok-plan.ensures.whole) in
+    let l : Laid = laid w items in
+    let labels : List Label = labels_of l.spots in
+    let old : State = placed w l in
+    let are : AreLaid w l = laid_whole w items long in
+    let lists : Vec ℕ Global → List ℕ = λ p. p.items in
+    let ready : IsGrafting labels old c.in_ok-grafting.grafting =
+    subst (λ (x : Laid). IsGrafting (labels_of x.spots) (placed w x) c.in_ok-grafting.grafting) c.in_ok-layout.ensures c.in_ok-grafting.ensures in
+    let paths : map lists c.deref.result.now ≡ module_paths w = ap (map lists) c.deref.ensures.value ∙ c.in_ok-paths.ensures in
+    let ends = placed_ends w labels l.copies c.turns_keep_augments.ensures 0 l.spots in
+    let count : length c.deref.result.now ≡ length w.augments =
+    sym (length-map c.deref.result.now lists) ∙ ap length paths ∙ length-map w.augments _ in
+    let modules = are.modules in
+    let (new, applied, grafting) = c.in_ok-run.ensures labels old ready (omega (arith, ends, count, modules)) in
+    let known : AreApplied labels 0 (module_paths w) old new = subst (λ (ps : List (List ℕ)). AreApplied labels 0 ps old new) paths applied in
+    let size : length (module_paths w) ≡ length w.augments = length-map w.augments _ in
+    let entered : HaveEntered labels l.copies 0 old = whole_entered w items long in
+    let once : StandOnce (length labels) new.groups =
+    c.each_item_stands_once.ensures.applied labels l.copies 0 (module_paths w) old new entered (omega (arith, size, modules)) known in
+    let all : length labels ≡ length items = length-map l.spots (λ s. s.label) ∙ are.long ∙ sym long in
+    let grafts : Grafts = record { spots = c.in_ok-layout.layout.spots; grafting = c.run.new.self } in
+    let made : AreGrafts w items new grafts = record {
+      grafted = record { applied = known };
+      each = are.long ∙ sym long;
+      once = subst (λ (n : ℕ). StandOnce n new.groups) all once;
+      spots = ap (λ (x : Laid). x.spots) c.in_ok-layout.ensures;
+      grafting = grafting;
+    } in
+    (new, subst (λ (v : Whole). AreGrafts v items new grafts) c.in_ok-plan.ensures.whole made)

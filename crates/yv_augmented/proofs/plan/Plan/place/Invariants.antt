@@ -1,0 +1,16 @@
+use Rattle.std.proofs.Common.{◌≤◌, length, drop}
+use Rattle.yv_augments.specs.InnerState.{IsGrafting}
+use Rattle.yv_augmented.specs.Grafted.{placed_from}
+use Rattle.yv_augmented.specs.Spots.{labels_of}
+use Rattle.yv_augmented.specs.InnerPlan.{whole_in}
+use Rattle.yv_augmented.proofs.plan.Plan.place.Given as goal
+
+abbrev pub invariant-loop-left : goal.invariant-loop-left
+invariant-loop-left l = record {
+  within : l.left ≤ length l.layout.spots.items;
+  state : IsGrafting (labels_of l.layout.spots.items)
+      (placed_from (whole_in l.self) (labels_of l.layout.spots.items) l.layout.copies l.left (drop l.left l.layout.spots.items)) l.grafting;
+}
+
+abbrev pub decreases-loop-left : goal.decreases-loop-left
+decreases-loop-left l = l.left

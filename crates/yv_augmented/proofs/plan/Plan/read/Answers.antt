@@ -1,0 +1,42 @@
+use Rattle.std.proofs.Common.{◌≡◌, ◌<◌, ℕ, List, Option, Some, length, sym, ◌∙◌, ap, arith}
+use Rattle.std.specs.List.{slice_get}
+use Rattle.std.proofs.lemmas.Option.{slice_get_within}
+use Rattle.yv_rows.specs.Rows.{Row}
+use Rattle.yv_rows.specs.Lent.{lent_in, rows_in}
+use Rattle.yv_families.specs.Families.{by_place}
+use Rattle.yv_augmented.specs.Giving.{giving_places, place_before}
+use Rattle.yv_augmented.proofs.Counting.{giving_long, giving_within}
+use Rattle.yv_augmented.proofs.plan.Plan.read.Goals as goal
+
+pub ordinals-requires : goal.ordinals-requires
+ordinals-requires c = λ a block at. (
+    let rows : List Row = rows_in c.args.rows.now in
+    let is : c.deref-2.result.now ≡ giving_places rows = c.deref-2.ensures.value ∙ c.in_ok-places.ensures in
+    let nested : (k : ℕ) (r : Row) → slice_get rows k ≡ Some r → r.scope < length rows =
+    λ k r there. (let l = c.blocks_are_nested.ensures (lent_in c.args.rows.now) k r there in let m = slice_get_within rows k r there in omega (arith, l, m)) in
+    let within : block < length rows = giving_within rows nested a block (ap (λ (l : List (Option ℕ)). slice_get l a) (sym is) ∙ at) in
+    let long = giving_long rows in
+    omega (arith, within, long, ap length is))
+
+pub returns-clause-plan : goal.returns-clause-plan
+returns-clause-plan c =
+    let rows : List Row = rows_in c.args.rows.now in
+    let places : List (Option ℕ) = giving_places rows in
+    let first : c.deref.result.now ≡ places = c.deref.ensures.value ∙ c.in_ok-places.ensures in
+    let second : c.deref-2.result.now ≡ places = c.deref-2.ensures.value ∙ c.in_ok-places.ensures in
+    let long = giving_long rows in
+    let size = ap length c.in_ok-places.ensures in
+    let count : c.len.result ≡ length rows = omega (arith, c.len.ensures, size, long) in
+    let other : c.len-2.result ≡ length rows = omega (arith, c.len-2.ensures, size, long) in
+    let nested : (k : ℕ) (r : Row) → slice_get rows k ≡ Some r → r.scope < length rows =
+    λ k r there. (let l = c.blocks_are_nested.ensures (lent_in c.args.rows.now) k r there in let m = slice_get_within rows k r there in omega (arith, l, m)) in
+    record {
+      homes = c.in_ok-homes.ensures;
+      names = c.in_ok-names.ensures.names;
+      paths = c.in_ok-paths.ensures;
+      places = c.in_ok-places.ensures;
+      giving = c.in_ok-giving.ensures ∙ ap (λ l. by_place l c.len.result) first ∙ ap (by_place places) count;
+      within = giving_within rows nested;
+      ordinals = λ a. c.in_ok-ordinals.ensures a ∙ ap (λ (l : List (Option ℕ)). place_before l a (slice_get l a)) second;
+      modules = λ a lt. c.in_ok-modules.ensures a (omega (arith, lt, other));
+    }

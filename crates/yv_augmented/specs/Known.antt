@@ -1,0 +1,17 @@
+-- What is known of items when augments were applied; how, only the readers ask.
+use Rattle.std.specs.Prelude.{◌≡◌, List, length}
+use Rattle.yv_expansion.specs.Tree.{Item}
+use Rattle.yv_augments.specs.Turns.{State}
+use Rattle.yv_augments.specs.Placed.{StandOnce}
+use Rattle.yv_augments.specs.InnerState.{IsGrafting}
+use Rattle.yv_augmented.specs.Spots.{Whole, labels_of, laid}
+use Rattle.yv_augmented.specs.Grafted.{AreGrafted}
+use Rattle.yv_augmented.specs.declared.grafts.Grafts.{Grafts}
+
+-- these items stand so, each once
+pub record AreGrafts (w : Whole) (items : List Item) (st : State) (grafts : Grafts) : Type 0 where
+  pub grafted : AreGrafted w items st
+  pub each : length (laid w items).spots ≡ length items
+  pub once : StandOnce (length items) st.groups
+  pub spots : grafts.spots.items ≡ (laid w items).spots
+  pub grafting : IsGrafting (labels_of (laid w items).spots) st grafts.grafting

@@ -1,0 +1,13 @@
+pub mod Kinds
+pub mod Giving
+pub mod Spots
+pub mod Grafted
+pub mod Known
+pub mod InnerPlan
+pub mod InnerCounts
+pub mod InnerLayout
+pub mod Faults
+pub mod InnerFaults
+pub mod Left
+pub mod InnerLeft
+pub mod On

@@ -1,0 +1,34 @@
+-- Which items are there by their conditions, and by those of what gave them (RFC 7950, sections 7.13, 7.17 and 7.20.2).
+use Rattle.std.specs.Prelude.{◌≡◌, ℕ, ◌&&◌, Bool, true, List, if◌then◌else◌, Option, Some, None, length, slice_get}
+use Rattle.yv_rows.specs.Rows.{Row}
+use Rattle.yv_expansion.specs.Origin.{number_of}
+use Rattle.yv_expansion.specs.Tree.{Item}
+use Rattle.yv_augmented.specs.Kinds.{is_uses}
+use Rattle.yv_augmented.specs.Giving.{is_augment}
+use Rattle.yv_augmented.specs.Left.{is_marked}
+use Rattle.yv_augmented.specs.declared.spot.Spot.{Spot}
+
+abbrev pub uses_on : Option Spot → Bool → Bool
+uses_on None mark = true
+uses_on (Some s) mark = if is_uses s.label.kind then mark else true
+
+-- what stands in a uses is there where the uses is; what stands below a node asks the node where it stands in the final tree
+abbrev pub above_on : List Spot → (marks : List Bool) → Option ℕ → Bool
+above_on spots marks None = true
+above_on spots marks (Some p) = uses_on (slice_get spots p) (is_marked marks p)
+
+abbrev pub block_on : (statements : List Bool) → (block : ℕ) → Option Row → Bool
+block_on statements block None = true
+block_on statements block (Some r) = if is_augment r then is_marked statements block else true
+
+-- what an augment gives is there where the conditions of the augment hold
+abbrev pub augment_on : List Row → (statements : List Bool) → Option Row → Bool
+augment_on rows statements None = true
+augment_on rows statements (Some r) = block_on statements r.scope (slice_get rows r.scope)
+
+-- the marks of items, where statements and items have marks of their own: by the conditions of a statement, and of an item by those
+-- of its statement and of the refines that change it
+pub record AreOn (rows : List Row) (spots : List Spot) (items : List Item) (statements own marks : List Bool) : Type 0 where
+  pub each : length marks ≡ length items
+  pub at : (i : ℕ) (x : Item) → slice_get items i ≡ Some x → is_marked marks i
+      ≡ (is_marked own i && (above_on spots marks x.parent && augment_on rows statements (slice_get rows (number_of x.origin))))

@@ -1,0 +1,143 @@
+//! Which augments give something, and in which order.
+ghost use Rattle.std.specs.Prelude.{◌≡◌, ◌<◌, ◌==◌, ◌&&◌, not, ℕ, List, None, Some, map, length, slice_get, slice_index_or, if◌then◌else◌, IfOk, OnOk};
+ghost use Rattle.yv_rows.specs.Lent.{rows_in};
+ghost use Rattle.yv_rows.specs.Rows.{Row, row};
+ghost use Rattle.yv_families.specs.Families.{by_place, numbers_at};
+ghost use Rattle.yv_augmented.specs.InnerCounts.{count_at, counted};
+ghost use Rattle.yv_augmented.specs.Giving.{gives, giving_from, giving_places, is_augment, is_in, is_item, item_places, place_before, place_of};
+
+use crate::kinds::kind_by;
+use std::alloc::{AllocError, Global};
+use yv_families::Families;
+use yv_rows::{Entry, Rows};
+
+// The block in which a statement stands that is an item.
+fn item_place(entry: &Entry<'_, '_>) -> Option<usize>
+    ensures { result ≡ (if is_item (row entry.now) then Some (row entry.now).scope else None) }
+{
+    if kind_by(entry.statement.keyword()).is_some() {
+        Some(entry.scope)
+    } else {
+        None
+    }
+}
+
+// That of each statement.
+fn item_places(alloc: Global, rows: &Rows<'_, '_>) -> Result<Vec<Option<usize>>, AllocError>
+    ensures { IfOk result (λ places. map (λ r. if is_item r then Some r.scope else None) (rows_in rows.now) ≡ places.items) }
+{
+    let mut places = Vec::new(alloc);
+    for entry in rows.entries() {
+        places.push(item_place(entry))?;
+    }
+    Ok(places)
+}
+
+// Whether a numbered statement is an augment in whose block an item stands.
+fn gives(items: &Families, number: usize, entry: &Entry<'_, '_>) -> bool
+    ensures { (rows : List Row) → items.now ≡ by_place (item_places rows) (length rows) → number < length rows
+        → result ≡ gives rows number (row entry.now) }
+{
+    yv_families::laws::each_place_has_its_numbers();
+    entry.statement.keyword() == "augment" && !items.at(number).is_empty()
+}
+
+// The block in which such an augment stands.
+fn giving_place(items: &Families, number: usize, entry: &Entry<'_, '_>) -> Option<usize>
+    ensures { (rows : List Row) → items.now ≡ by_place (item_places rows) (length rows) → number < length rows
+        → result ≡ (if gives rows number (row entry.now) then Some (row entry.now).scope else None) }
+{
+    if gives(items, number, entry) {
+        Some(entry.scope)
+    } else {
+        None
+    }
+}
+
+// That of each statement, of whose blocks these are the items.
+fn places_of(
+    alloc: Global,
+    rows: &Rows<'_, '_>,
+    items: &Families,
+) -> Result<Vec<Option<usize>>, AllocError>
+    requires { items.now ≡ by_place (item_places (rows_in rows.now)) (length (rows_in rows.now)) }
+    ensures { IfOk result (λ places. places.items ≡ giving_from (rows_in rows.now) 0 (rows_in rows.now)) }
+{
+    let mut places = Vec::new(alloc);
+    for (number, entry) in rows.entries().iter().enumerate() {
+        places.push(giving_place(items, number, entry))?;
+    }
+    Ok(places)
+}
+
+/// For each augment that gives something the block in which it stands.
+#[tactic(auto, unfolding(crate::specs::Giving::giving_places))]
+pub(crate) fn giving_places(
+    alloc: Global,
+    rows: &Rows<'_, '_>,
+) -> Result<Vec<Option<usize>>, AllocError>
+    ensures { IfOk result (λ places. places.items ≡ giving_places (rows_in rows.now)) }
+{
+    let stand = item_places(alloc, rows)?;
+    let items = Families::new(alloc, &stand, stand.len())?;
+    places_of(alloc, rows, &items)
+}
+
+// How many numbers of a place were told, of which one more is now.
+fn next(counts: &mut Vec<usize>, place: Option<usize>) -> Result<usize, AllocError>
+    requires { (k : ℕ) → place ≡ Some k → k < length counts.old.items }
+    ensures value { IfOk result (λ count. count ≡ count_at counts.old.items place) }
+    ensures counts { OnOk result (counts.new.items ≡ counted counts.old.items place) }
+{
+    let Some(block) = place else { return Ok(0) };
+    let count = counts[block];
+    // No memory holds more numbers than there are.
+    let Some(more) = count.checked_add(1) else {
+        return Err(AllocError);
+    };
+    counts[block] = more;
+    Ok(count)
+}
+
+/// For each number that has a place how many numbers of this place come before it.
+pub(crate) fn ordinals(alloc: Global, places: &[Option<usize>]) -> Result<Vec<usize>, AllocError>
+    requires { (a block : ℕ) → slice_get places.now a ≡ Some (Some block) → block < length places.now }
+    ensures { IfOk result (λ ordinals. (a : ℕ) → slice_index_or ordinals.items a 0 ≡ place_before places.now a (slice_get places.now a)) }
+{
+    let mut counts = vec![in alloc; 0; places.len()]?;
+    let mut ordinals = Vec::new(alloc);
+    for place in places {
+        ordinals.push(next(&mut counts, *place)?)?;
+    }
+    Ok(ordinals)
+}
+
+/// For each of so many numbers its place in a list.
+pub(crate) fn places_in(
+    alloc: Global,
+    numbers: &[usize],
+    count: usize,
+) -> Result<Vec<Option<usize>>, AllocError>
+    ensures { IfOk result (λ places. (a : ℕ) → a < count → slice_index_or places.items a None ≡ place_of numbers.now a) }
+{
+    let mut places = vec![in alloc; None; count]?;
+    let mut left = numbers.len();
+    while left > 0 {
+        left -= 1;
+        let number = numbers[left];
+        if number < places.len() {
+            places[number] = Some(left);
+        }
+    }
+    Ok(places)
+}
+
+/// Whether a numbered statement is an augment of this block that gives something.
+pub(crate) fn is_in(block: usize, place: Option<Option<usize>>) -> bool
+    ensures { result ≡ is_in block place }
+{
+    match place {
+        Some(Some(other)) => other == block,
+        _ => false,
+    }
+}

@@ -1,0 +1,20 @@
+//! What augments make of the expansion of files: where each item stands when those of each uses were applied, and then those of
+//! modules in rounds (RFC 7950, sections 7.13 and 7.17). Takes time n log n in statements and items, an augment of a uses being
+//! counted once for each copy of it that gives something; an augment of a uses that gives nothing takes neither time nor memory.
+#![tactic(auto)]
+
+mod asked;
+mod faults;
+mod giving;
+mod grafts;
+mod kinds;
+mod laying;
+mod plan;
+mod remains;
+mod spot;
+
+pub use asked::conditions;
+pub use faults::first_too_deep;
+pub use grafts::{Grafts, graft};
+pub use remains::left;
+pub use spot::Spot;
