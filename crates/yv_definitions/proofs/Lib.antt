@@ -1,7 +1,7 @@
 pub mod AllKept
-pub mod Cuts
 pub mod Expressions
 pub mod Firsts
 pub mod Later
+pub mod Listing
 pub mod Spacing
 pub mod TypeKinds

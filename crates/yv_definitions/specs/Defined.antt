@@ -1,17 +1,18 @@
 -- What the statements of files say of the schema nodes that they define (RFC 7950, sections 7.5 to 7.11, 7.13.2 to 7.16, and
 -- 7.21.2).
-use Rattle.std.specs.Prelude.{ℕ, List, [], ◌∷◌, ◌++◌, Option, Some, None, if◌then◌else◌, codes}
+use Rattle.std.specs.Prelude.{ℕ, List, [], ◌∷◌, ◌++◌, Option, Some, None, if◌then◌else◌, codes, map}
 use Rattle.std.specs.Option.{unwrap_or}
 use Rattle.std.specs.Str.{bytes_eq}
 use Rattle.yv_statement.specs.Tree.{Head, Tree, Forest, End, Then, trees, name_of}
 use Rattle.yv_conform.specs.declared.keyword.Keyword.{Keyword}
 use Rattle.yv_conform.specs.declared.keyword.Keyword.TheVariants as word
 use Rattle.yv_conform.specs.Names.{keyword_of}
-use Rattle.yv_conform.specs.Words.{words}
 use Rattle.yv_rows.specs.Files.{Files}
 use Rattle.yv_expansion.specs.declared.item.Origin.{Origin}
 use Rattle.yv_expansion.specs.declared.item.Origin.TheVariants as origin
 use Rattle.yv_values.specs.Types.{Plain}
+use Rattle.yv_leaf_paths.specs.Steps.{names_of, paths_of}
+use Rattle.yv_properties.specs.Steps.{Step}
 use Rattle.yv_properties.specs.Defined.{Defined, Written, blank}
 use Rattle.yv_properties.specs.declared.kind.NodeKind.{NodeKind}
 use Rattle.yv_properties.specs.declared.kind.NodeKind.TheVariants as kind
@@ -70,13 +71,17 @@ abbrev pub status_of : List ℕ → NodeStatus
 status_of text =
     if bytes_eq text (codes "deprecated") then Deprecated else (if bytes_eq text (codes "obsolete") then Obsolete else Current)
 
--- the names of the keys of a list with this block (section 7.8.2)
-abbrev pub key_names_in : Forest → List (List ℕ)
-key_names_in block = words (argument_of (first_of word.Key block))
+-- what the key of a list with this block names, as it is written in a file (section 7.8.2)
+abbrev pub keys_in : Files → (file : ℕ) → Forest → List (Option Step)
+keys_in files file block = names_of files file (argument_of (first_of word.Key block))
+
+-- the paths of each of those of these statements of a file that are `unique` statements, in order (section 7.8.3)
+abbrev pub uniques_in : Files → (file : ℕ) → List Tree → List (List (List (Option Step)))
+uniques_in files file ts = map (paths_of files file) (arguments_among word.Unique ts)
 
 -- what a statement of a file says of the node that it defines
-abbrev pub defined_by : Typing → ℕ → Tree → Defined
-defined_by typing file t =
+abbrev pub defined_by : Typing → Files → (file : ℕ) → Tree → Defined
+defined_by typing files file t =
     let kind : NodeKind = kind_of (keyword_of t.head.keyword) in
     with_properties (properties_of (said_by file t)) (record blank {
       file = file;
@@ -88,14 +93,14 @@ defined_by typing file t =
       status = status_of (argument_of (first_of word.Status t.children));
       features = joined [] (expressions (trees t.children));
       type_text = argument_of (first_of word.Type t.children);
-      key_names = key_names_in t.children;
-      uniques = arguments_among word.Unique (trees t.children);
+      keys = keys_in files file t.children;
+      uniques = uniques_in files file (trees t.children);
       type_default = default_by typing.defaults file (first_of word.Type t.children);
     })
 
 -- what the numbered statement says
 abbrev pub defined_at : Typing → Files → ℕ → Defined
-defined_at typing files number = defined_by typing (file_at files number) (statement_at files number)
+defined_at typing files number = defined_by typing files (file_at files number) (statement_at files number)
 
 -- an input or output that the operation of this number doesn't write stands where that does, and says nothing else
 abbrev pub unwritten : NodeKind → Files → ℕ → Defined

@@ -8,4 +8,4 @@ pub mod Known
 pub mod InnerKept
 pub mod InnerRefined
 pub mod InnerChanged
-pub mod InnerCut
+pub mod InnerNamed

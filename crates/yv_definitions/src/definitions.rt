@@ -4,6 +4,7 @@ ghost use Rattle.std.specs.Option.{option_map};
 ghost use Rattle.std.specs.Rc.{rc_slice_items, rc_str_bytes};
 ghost use Rattle.yv_statement.specs.Tree.{trees};
 ghost use Rattle.yv_rows.specs.Lent.{lent_in};
+ghost use Rattle.yv_leaf_paths.specs.Known.{AreLeafPaths};
 ghost use Rattle.yv_definitions.specs.Kinds.{typing_of};
 ghost use Rattle.yv_definitions.specs.Statements.{statement_at};
 ghost use Rattle.yv_definitions.specs.Features.{all_expressions, expressions, joined};
@@ -25,6 +26,7 @@ use std::rc::{RcSlice, RcStr};
 use yv_conform::Keyword;
 use yv_defaults::scopes_of;
 use yv_expansion::Origin;
+use yv_leaf_paths::LeafPaths;
 use yv_properties::{Definition, NodeKind};
 use yv_rows::Rows;
 use yv_types::Types;
@@ -37,12 +39,15 @@ pub struct Definitions<'r, 'a, 'b> {
     alloc: Global,
     rows: &'r Rows<'a, 'b>,
     types: &'r Types,
+    // By which the paths in each file are read.
+    paths: LeafPaths<'a>,
     // By which the texts of each file are read.
     scopes: Vec<Scope>,
     // Of each statement, by its number.
     kept: Vec<Kept>,
     // Of each refine, by its number.
     refined: Vec<Option<Refined>>,
+    ghost paths_so: { AreLeafPaths (lent_in rows.now) paths },
     ghost scopes_so: { AreScopes (lent_in rows.now) scopes.items },
     ghost kept_so: { AreKept (typing_of types.now) (lent_in rows.now) kept.items },
     ghost refined_so: { AreRefined (typing_of types.now) (lent_in rows.now) refined.items },
@@ -68,15 +73,17 @@ impl<'r, 'a, 'b> Definitions<'r, 'a, 'b> {
         ensures typing { IfOk result (λ definitions. typing_in definitions ≡ typing_of types.now) }
         ensures files { IfOk result (λ definitions. files_in definitions ≡ lent_in rows.now) }
     {
+        let paths = LeafPaths::read(alloc, rows)?;
         let scopes = scopes_of(alloc, rows)?;
         let mut kept = Vec::new(alloc);
         for number in 0..rows.entries().len() {
-            kept.push(kept_at(alloc, rows, types, &scopes, number)?)?;
+            kept.push(kept_at(alloc, rows, types, &paths, &scopes, number)?)?;
         }
         Ok(Definitions {
             alloc,
             rows,
             types,
+            paths,
             scopes,
             kept,
             refined: nothing_refined(alloc, rows.entries().len())?,
@@ -217,7 +224,14 @@ impl<'r, 'a, 'b> Definitions<'r, 'a, 'b> {
     {
         match self.kept_of(number) {
             Some(Kept::Node(definition)) => definition.share(),
-            _ => stated_at(self.alloc, self.rows, self.types, &self.scopes, number),
+            _ => stated_at(
+                self.alloc,
+                self.rows,
+                self.types,
+                &self.paths,
+                &self.scopes,
+                number,
+            ),
         }
     }
 

@@ -1,6 +1,7 @@
 //! What is kept of the numbered statements.
 ghost use Rattle.std.specs.Prelude.{◌≡◌, IfOk};
 ghost use Rattle.yv_rows.specs.Lent.{lent_in};
+ghost use Rattle.yv_leaf_paths.specs.Known.{AreLeafPaths};
 ghost use Rattle.yv_properties.specs.declared.kind.NodeKind.{NodeKind};
 ghost use Rattle.yv_defaults.specs.Scopes.{AreScopes};
 ghost use Rattle.yv_definitions.specs.Kinds.{typing_of};
@@ -11,12 +12,14 @@ ghost use Rattle.yv_definitions.specs.Values.{with_defaults};
 ghost use Rattle.yv_definitions.specs.InnerKept.{IsKept};
 
 use crate::changes::Changes;
+use crate::keys::ListNames;
 use crate::numbered::{file_at, statement_at};
 use crate::reading::{blank, define, node_kind, node_name};
 use crate::values::defaults_of;
 use std::alloc::{AllocError, Global};
 use std::rc::RcStr;
 use yv_conform::Keyword;
+use yv_leaf_paths::LeafPaths;
 use yv_properties::{Definition, NodeKind};
 use yv_rows::Rows;
 use yv_statement::Statement;
@@ -35,33 +38,41 @@ pub(crate) enum Kept {
 }
 
 // What the numbered statement says of the node that it defines, without the values of its default.
-fn define_at(
+fn define_at<'a>(
     alloc: Global,
-    rows: &Rows<'_, '_>,
+    rows: &Rows<'a, '_>,
     types: &Types,
+    paths: &LeafPaths<'a>,
     number: usize,
 ) -> Result<Definition, AllocError>
-    ensures { IfOk result (λ d. d ≡ defined_at (typing_of types.now) (lent_in rows.now) number) }
+    ensures { AreLeafPaths (lent_in rows.now) paths.now → IfOk result (λ d. d ≡ defined_at (typing_of types.now) (lent_in rows.now) number) }
 {
     let file = file_at(rows, number);
     match statement_at(rows, number) {
-        Some(statement) => define(alloc, types, file, statement),
-        None => define(alloc, types, file, &Statement::new(alloc, "", 0, 0)),
+        Some(statement) => {
+            let names = ListNames::read(alloc, paths, file, statement)?;
+            define(alloc, types, file, statement, names)
+        }
+        None => {
+            let names = ListNames::none(alloc)?;
+            define(alloc, types, file, &Statement::new(alloc, "", 0, 0), names)
+        }
     }
 }
 
 /// What the numbered statement says of the node that it defines, these being the scopes of the files.
-pub(crate) fn stated_at(
+pub(crate) fn stated_at<'a>(
     alloc: Global,
-    rows: &Rows<'_, '_>,
+    rows: &Rows<'a, '_>,
     types: &Types,
+    paths: &LeafPaths<'a>,
     scopes: &[Scope],
     number: usize,
 ) -> Result<Definition, AllocError>
-    ensures { AreScopes (lent_in rows.now) scopes.now → IfOk result (λ d. d
+    ensures { AreLeafPaths (lent_in rows.now) paths.now → AreScopes (lent_in rows.now) scopes.now → IfOk result (λ d. d
         ≡ with_defaults (lent_in rows.now) (defined_at (typing_of types.now) (lent_in rows.now) number)) }
 {
-    let mut definition = define_at(alloc, rows, types, number)?;
+    let mut definition = define_at(alloc, rows, types, paths, number)?;
     definition.defaults = defaults_of(alloc, scopes, &definition)?;
     Ok(definition)
 }
@@ -110,18 +121,19 @@ fn keyword_at(rows: &Rows<'_, '_>, number: usize) -> Keyword {
 }
 
 /// What is kept of the numbered statement.
-pub(crate) fn kept_at(
+pub(crate) fn kept_at<'a>(
     alloc: Global,
-    rows: &Rows<'_, '_>,
+    rows: &Rows<'a, '_>,
     types: &Types,
+    paths: &LeafPaths<'a>,
     scopes: &[Scope],
     number: usize,
 ) -> Result<Kept, AllocError>
-    ensures { AreScopes (lent_in rows.now) scopes.now → IfOk result (λ kept. IsKept (typing_of types.now) (lent_in rows.now) number kept) }
+    ensures { AreLeafPaths (lent_in rows.now) paths.now → AreScopes (lent_in rows.now) scopes.now → IfOk result (λ kept. IsKept (typing_of types.now) (lent_in rows.now) number kept) }
 {
     let keyword = keyword_at(rows, number);
     if node_kind(keyword).is_some() {
-        Ok(Kept::Node(stated_at(alloc, rows, types, scopes, number)?))
+        Ok(Kept::Node(stated_at(alloc, rows, types, paths, scopes, number)?))
     } else if keyword == Keyword::Refine {
         Ok(Kept::Refine(changes_at(alloc, rows, number)?))
     } else {

@@ -1,80 +1,113 @@
-//! The names of the keys of lists.
-ghost use Rattle.std.specs.Prelude.{◌≡◌, ◌∷◌, [], ◌++◌, map, nat_eq, position, length, if◌then◌else◌, IfOk, IfSome, IsUtf8, OnOk};
-ghost use Rattle.std.specs.Option.{option_map};
-ghost use Rattle.std.specs.Rc.{rc_str_bytes};
-ghost use Rattle.yv_conform.specs.Bytes.{is_blank};
-ghost use Rattle.yv_conform.specs.Words.{words};
-ghost use Rattle.yv_definitions.specs.Defined.{key_names_in};
-ghost use Rattle.yv_definitions.specs.InnerCut.{cut};
+//! What the keys and `unique` statements of lists name.
+ghost use Rattle.std.specs.Prelude.{◌≡◌, ◌∷◌, [], ◌++◌, ℕ, map, IfOk, OnOk};
+ghost use Rattle.yv_statement.specs.Tree.{End, trees};
+ghost use Rattle.yv_rows.specs.Files.{Files};
+ghost use Rattle.yv_leaf_paths.specs.Known.{AreLeafPaths};
+ghost use Rattle.yv_properties.specs.Defined.{paths_in};
+ghost use Rattle.yv_definitions.specs.Defined.{keys_in, uniques_in};
+ghost use Rattle.yv_definitions.specs.InnerNamed.{AreNamed};
 
-use crate::substatements::argument_of;
+use crate::substatements::{argument_of, is_of, name_of};
 use std::alloc::{AllocError, Global};
-use std::rc::{Rc, RcStr};
+use std::rc::Rc;
 use yv_conform::Keyword;
-use yv_properties::KeyNames;
+use yv_leaf_paths::LeafPaths;
+use yv_properties::{Keys, PathStep};
 use yv_statement::Statement;
 
-/// The names that the `key` statement of its block names, in order, as they are written: none without one (RFC 7950,
-/// section 7.8.2).
-pub(crate) fn key_names_in(
+/// What the `key` and `unique` statements of a block name.
+#[derive(Drop)]
+pub(crate) struct ListNames {
+    pub(crate) keys: Rc<Keys>,
+    pub(crate) uniques: Rc<Vec<Vec<Vec<Option<PathStep>>>>>,
+}
+
+impl ListNames {
+    /// What those of this block name, as they are written in this file.
+    pub(crate) fn read<'a>(
+        alloc: Global,
+        paths: &LeafPaths<'a>,
+        file: u32,
+        statement: &'a Statement<'_>,
+    ) -> Result<ListNames, AllocError>
+        ensures { (files : Files) → AreLeafPaths files paths.now → IfOk result (AreNamed files file statement.now.children) }
+    {
+        let keys = keys_in(alloc, paths, file, statement)?;
+        let uniques = uniques_in(alloc, paths, file, statement)?;
+        Ok(ListNames { keys, uniques })
+    }
+
+    /// Nothing.
+    pub(crate) fn none(alloc: Global) -> Result<ListNames, AllocError>
+        ensures { (files : Files) (file : ℕ) → IfOk result (AreNamed files file End) }
+    {
+        let keys = no_keys(alloc)?;
+        let uniques = no_uniques(alloc)?;
+        Ok(ListNames { keys, uniques })
+    }
+}
+
+// What the `key` statement of its block names, in order, as it is written in this file: nothing without one (RFC 7950, section
+// 7.8.2).
+fn keys_in<'a>(
     alloc: Global,
-    statement: &Statement<'_>,
-) -> Result<Rc<KeyNames>, AllocError>
-    ensures { IfOk result (λ keys. keys.value ≡ key_names_in statement.now.children) }
+    paths: &LeafPaths<'a>,
+    file: u32,
+    statement: &'a Statement<'_>,
+) -> Result<Rc<Keys>, AllocError>
+    ensures { (files : Files) → AreLeafPaths files paths.now
+        → IfOk result (λ keys. keys.value ≡ keys_in files file statement.now.children) }
 {
-    let names = words(alloc, argument_of(Keyword::Key, statement))?;
-    let keys = KeyNames::of(alloc, names)?;
+    let steps = paths.names(alloc, file as usize, argument_of(Keyword::Key, statement))?;
+    let keys = Keys::of(alloc, steps)?;
     Ok(Rc::new(alloc, keys)?)
 }
 
 /// No names.
-pub(crate) fn no_keys(alloc: Global) -> Result<Rc<KeyNames>, AllocError>
+pub(crate) fn no_keys(alloc: Global) -> Result<Rc<Keys>, AllocError>
     ensures { IfOk result (λ keys. keys.value ≡ []) }
 {
-    let keys = KeyNames::of(alloc, Vec::new(alloc))?;
+    let keys = Keys::of(alloc, Vec::new(alloc))?;
     Ok(Rc::new(alloc, keys)?)
 }
 
-// The words of a text.
-fn words(alloc: Global, text: &str) -> Result<Vec<RcStr>, AllocError>
-    ensures { IfOk result (λ found. map rc_str_bytes found.items ≡ words text.now) }
+// The paths of each of the `unique` statements of its block, in order, as they are written in this file (RFC 7950, section 7.8.3).
+fn uniques_in<'a>(
+    alloc: Global,
+    paths: &LeafPaths<'a>,
+    file: u32,
+    statement: &'a Statement<'_>,
+) -> Result<Rc<Vec<Vec<Vec<Option<PathStep>>>>>, AllocError>
+    ensures { (files : Files) → AreLeafPaths files paths.now
+        → IfOk result (λ uniques. map paths_in uniques.value.items ≡ uniques_in files file (trees statement.now.children)) }
 {
-    let mut found = Vec::new(alloc);
-    let mut rest = text;
-    while let Some((word, behind)) = cut(rest) {
-        push_word(alloc, &mut found, word)?;
-        rest = behind;
+    let mut uniques = Vec::new(alloc);
+    for child in statement.children() {
+        push_unique(alloc, paths, file, &mut uniques, child)?;
     }
-    push_word(alloc, &mut found, rest)?;
-    Ok(found)
+    Ok(Rc::new(alloc, uniques)?)
 }
 
-// Adds a piece of a text that has no blank. An empty one is no word.
-fn push_word(alloc: Global, found: &mut Vec<RcStr>, piece: &str) -> Result<(), AllocError>
-    ensures { OnOk result (map rc_str_bytes found.new.items
-        ≡ map rc_str_bytes found.old.items ++ (if nat_eq (length piece.now) 0 then [] else piece.now ∷ [])) }
+// Adds the paths of a statement, where it is a `unique` statement.
+fn push_unique<'a>(
+    alloc: Global,
+    paths: &LeafPaths<'a>,
+    file: u32,
+    uniques: &mut Vec<Vec<Vec<Option<PathStep>>>>,
+    statement: &'a Statement<'_>,
+) -> Result<(), AllocError>
+    ensures { (files : Files) → AreLeafPaths files paths.now
+        → OnOk result (map paths_in uniques.new.items ≡ map paths_in uniques.old.items ++ uniques_in files file (statement.now ∷ [])) }
 {
-    if !piece.is_empty() {
-        found.push(RcStr::from_str(alloc, piece)?)?;
+    if is_of(Keyword::Unique, statement) {
+        uniques.push(paths.paths(alloc, file as usize, name_of(statement))?)?;
     }
     Ok(())
 }
 
-// What stands before a text's first blank, and what stands behind it.
-fn cut(text: &str) -> Option<(&str, &str)>
-    ensures parts { option_map (λ parts. (parts.0.now, parts.1.now)) result ≡ cut text.now }
-    ensures text { IfSome result (λ parts. IsUtf8 parts.1.now) }
+/// No paths.
+pub(crate) fn no_uniques(alloc: Global) -> Result<Rc<Vec<Vec<Vec<Option<PathStep>>>>>, AllocError>
+    ensures { IfOk result (λ uniques. map paths_in uniques.value.items ≡ []) }
 {
-    match blank_in(text.as_bytes()) {
-        Some(at) => Some((&text[..at], &text[at + 1..])),
-        None => None,
-    }
-}
-
-// The place of the first blank.
-fn blank_in(text: &[u8]) -> Option<usize>
-    ensures { result ≡ position is_blank text.now }
-{
-    text.iter()
-        .position(|byte| matches!(*byte, b' ' | b'\t' | b'\r' | b'\n'))
+    Ok(Rc::new(alloc, Vec::new(alloc))?)
 }

@@ -1,24 +1,25 @@
 //! Reading what a statement says.
 ghost use Rattle.std.specs.Prelude.{◌≡◌, [], map, IfOk, string_bytes};
 ghost use Rattle.std.specs.Option.{option_copied, option_map};
-ghost use Rattle.std.specs.Rc.{rc_slice_items, rc_str_bytes};
+ghost use Rattle.std.specs.Rc.{rc_slice_items};
 ghost use Rattle.yv_statement.specs.Tree.{trees};
 ghost use Rattle.yv_conform.specs.Names.{keyword_of};
 ghost use Rattle.yv_conform.specs.declared.keyword.Keyword.TheVariants as word;
-ghost use Rattle.yv_rows.specs.Lent.{lent_in};
+ghost use Rattle.yv_rows.specs.Files.{Files};
+ghost use Rattle.yv_definitions.specs.InnerNamed.{AreNamed};
 ghost use Rattle.yv_values.specs.Types.{plain_of};
 ghost use Rattle.yv_properties.specs.Defined.{blank, written_of};
 ghost use Rattle.yv_types.specs.Known.{default_at};
 ghost use Rattle.yv_definitions.specs.Kinds.{kinds_of, typing_of};
-ghost use Rattle.yv_definitions.specs.Statements.{arguments_among, first_of};
+ghost use Rattle.yv_definitions.specs.Statements.{first_of};
 ghost use Rattle.yv_definitions.specs.Features.{expressions, joined};
 ghost use Rattle.yv_definitions.specs.Properties.{properties_of, said_by, with_properties};
 ghost use Rattle.yv_definitions.specs.Defined.{default_by, defined_by, kind_of, node_kind, node_name, status_of, types_in};
 
 use crate::changes::Changes;
 use crate::features::push_expressions;
-use crate::keys::{key_names_in, no_keys};
-use crate::substatements::{argument_of, arguments_among, first_of, name_of};
+use crate::keys::{ListNames, no_keys, no_uniques};
+use crate::substatements::{argument_of, first_of, name_of};
 use crate::values::no_values;
 use std::alloc::{AllocError, Global};
 use std::rc::{RcSlice, RcStr};
@@ -154,14 +155,6 @@ fn features_in(alloc: Global, statement: &Statement<'_>) -> Result<String, Alloc
     Ok(text)
 }
 
-// The arguments of the `unique` statements of its block.
-fn uniques_in(alloc: Global, statement: &Statement<'_>) -> Result<RcSlice<RcStr>, AllocError>
-    ensures { IfOk result (λ list. map rc_str_bytes (rc_slice_items list)
-        ≡ arguments_among word.Unique (trees statement.now.children)) }
-{
-    RcSlice::from_vec(arguments_among(alloc, Keyword::Unique, statement)?)
-}
-
 /// A definition that says nothing.
 pub(crate) fn blank(alloc: Global) -> Result<Definition, AllocError>
     ensures { IfOk result (λ d. d ≡ blank) }
@@ -181,22 +174,25 @@ pub(crate) fn blank(alloc: Global) -> Result<Definition, AllocError>
         is_mandatory: false,
         min: 0,
         max: None,
-        key_names: no_keys(alloc)?,
-        uniques: RcSlice::from_vec(Vec::new(alloc))?,
+        keys: no_keys(alloc)?,
+        uniques: no_uniques(alloc)?,
         own_default: None,
         type_default: None,
         defaults: no_values(alloc)?,
     })
 }
 
-/// What a statement of a file says of the node that it defines, without the values of its default.
+/// What a statement of a file says of the node that it defines, without the values of its default, these being what its `key` and
+/// `unique` statements name.
 pub(crate) fn define(
     alloc: Global,
     types: &Types,
     file: u32,
     statement: &Statement<'_>,
+    names: ListNames,
 ) -> Result<Definition, AllocError>
-    ensures { IfOk result (λ d. d ≡ defined_by (typing_of types.now) file statement.now) }
+    ensures { (files : Files) → AreNamed files file statement.now.children names
+        → IfOk result (λ d. d ≡ defined_by (typing_of types.now) files file statement.now) }
 {
     let kind = kind_of(Keyword::read(statement.keyword()));
     let changes = Changes::read(alloc, file, statement)?;
@@ -215,8 +211,8 @@ pub(crate) fn define(
         is_mandatory: changes.mandatory.unwrap_or(false),
         min: changes.min.unwrap_or(0),
         max: changes.max.unwrap_or(None),
-        key_names: key_names_in(alloc, statement)?,
-        uniques: uniques_in(alloc, statement)?,
+        keys: names.keys,
+        uniques: names.uniques,
         own_default: changes.default,
         type_default: type_default(types, file, statement)?,
         defaults: no_values(alloc)?,

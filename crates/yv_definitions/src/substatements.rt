@@ -1,12 +1,9 @@
 //! The statements of a block by their keyword.
-ghost use Rattle.std.specs.Prelude.{◌≡◌, is_some, map, IfOk};
+ghost use Rattle.std.specs.Prelude.{◌≡◌, is_some};
 ghost use Rattle.std.specs.Option.{option_map};
-ghost use Rattle.std.specs.Rc.{rc_str_bytes};
-ghost use Rattle.yv_statement.specs.Tree.{name_of as name_at, trees};
-ghost use Rattle.yv_definitions.specs.Statements.{argument_of, arguments_among, first_of, is_of};
+ghost use Rattle.yv_statement.specs.Tree.{name_of as name_at};
+ghost use Rattle.yv_definitions.specs.Statements.{argument_of, first_of, is_of};
 
-use std::alloc::{AllocError, Global};
-use std::rc::RcStr;
 use yv_conform::Keyword;
 use yv_statement::Statement;
 
@@ -52,21 +49,4 @@ pub(crate) fn argument_of<'s>(keyword: Keyword, statement: &'s Statement<'_>) ->
         Some(found) => name_of(found),
         None => "",
     }
-}
-
-/// The arguments of those of the statements in its block that have this keyword, in order.
-pub(crate) fn arguments_among(
-    alloc: Global,
-    keyword: Keyword,
-    statement: &Statement<'_>,
-) -> Result<Vec<RcStr>, AllocError>
-    ensures { IfOk result (λ found. map rc_str_bytes found.items ≡ arguments_among keyword (trees statement.now.children)) }
-{
-    let mut found = Vec::new(alloc);
-    for child in statement.children() {
-        if is_of(keyword, child) {
-            found.push(RcStr::from_str(alloc, name_of(child))?)?;
-        }
-    }
-    Ok(found)
 }

@@ -1,10 +1,13 @@
 -- What has a plain type by its name is a built-in type.
 use Rattle.std.proofs.Common.{◌≡◌, ℕ, Bool, true, false, cond, List, Option, Some, None, codes, refl}
+use Rattle.std.specs.Option.{option_and_then}
 use Rattle.std.specs.Str.{bytes_eq}
 use Rattle.std.proofs.lemmas.Slice.Eq.{bytes_eq-Decides}
+use Rattle.yv_statement.specs.Tree.{Tree, name_of}
 use Rattle.yv_names.specs.BuiltIn.{is_built_in}
 use Rattle.yv_values.specs.Types.{Plain}
 use Rattle.yv_facets.specs.BuiltIn.{built_in, whole_type}
+use Rattle.yv_faceted.specs.Types.{digits_for, named_type}
 
 no_type : (p : Plain) → None ≡ Some p → ⊥
 no_type p e = cc
@@ -39,3 +42,16 @@ named_is name digits p =
     (word name (codes "boolean") _ _ p refl
     (word name (codes "empty") _ _ p refl
     (whole_is name p)))))
+
+digits_by : (name : List ℕ) (p : Plain) (o : Option ℕ) → option_and_then (built_in name) o ≡ Some p → (d : ℕ) × (built_in name d ≡ Some p)
+digits_by name p (Some d) e = (d, e)
+digits_by name p None e = absurd (no_type p e)
+
+-- what is the plain type of a statement by its name is that of the built-in type with some digits
+pub has_digits : (t : Tree) (p : Plain) → named_type t ≡ Some p → (d : ℕ) × (built_in (name_of t.head) d ≡ Some p)
+has_digits t p e = digits_by (name_of t.head) p (digits_for t) e
+
+pub names_built_in : (t : Tree) (p : Plain) → named_type t ≡ Some p → is_built_in (name_of t.head) ≡ true
+names_built_in t p e =
+    let given : (d : ℕ) × (built_in (name_of t.head) d ≡ Some p) = has_digits t p e in
+    named_is (name_of t.head) given.0 p given.1

@@ -18,12 +18,11 @@ use Rattle.yv_names.specs.Refers.{is_type}
 use Rattle.yv_bases.specs.Types.{IsTypeAt as IsTypeRow}
 use Rattle.yv_values.specs.Types.{Plain, plain_of}
 use Rattle.yv_values.specs.declared.plain.PlainType.{PlainType}
-use Rattle.yv_facets.specs.BuiltIn.{built_in}
 use Rattle.yv_facets.specs.Facets.{Narrows, has_word}
 use Rattle.yv_facets.specs.Faults.{BadFacets}
-use Rattle.yv_faceted.specs.Types.{digits_of, IsTypeAt, StartsFrom, HasPlainType, first, derived, left}
+use Rattle.yv_faceted.specs.Types.{named_type, IsTypeAt, StartsFrom, HasPlainType, first, derived, left}
 use Rattle.yv_faceted.specs.InnerSteps.{BadAt, IsFollowed, IsLeft, IsStep}
-use Rattle.yv_faceted.proofs.Naming.{named_is}
+use Rattle.yv_faceted.proofs.Naming.{names_built_in}
 
 no_type : (p : Plain) → None ≡ Some p → ⊥
 no_type p e = cc
@@ -87,7 +86,7 @@ module _ (files : Files) where
   starts_at (first here e) = here
   starts_at (derived here f h) = here
 
-  pub starts_by : {k : ℕ} {t : Tree} {p : Plain} → StartsFrom files k t p → (built_in (name_of t.head) (digits_of t) ≡ Some p) ⊎ ((j : ℕ) × IsFollowed files k j × HasPlainType files j p)
+  pub starts_by : {k : ℕ} {t : Tree} {p : Plain} → StartsFrom files k t p → (named_type t ≡ Some p) ⊎ ((j : ℕ) × IsFollowed files k j × HasPlainType files j p)
   starts_by (first here e) = inl e
   starts_by (derived {j = j} here f h) = inr (j, f, h)
 
@@ -185,13 +184,13 @@ module _ (files : Files) where
           ∙ ap (option_map (λ (x : Row). x.head)) at)
 
       -- a type that names a built-in type follows none
-      pub apart : (j : ℕ) (p : Plain) → IsFollowed files k j → built_in (name_of t.head) (digits_of t) ≡ Some p → ⊥
+      pub apart : (j : ℕ) (p : Plain) → IsFollowed files k j → named_type t ≡ Some p → ⊥
       apart j p f e =
           let same : t.head ≡ f.refers.statement.head = head_of f.refers.statement f.refers.at in
           let out : not (is_built_in (name_of t.head)) ≡ true = ap (λ (h : Head). not (is_built_in (name_of h))) same ∙ both_true (is_type f.refers.statement) _ f.refers.names in
-          not_both (is_built_in (name_of t.head)) (named_is (name_of t.head) (digits_of t) p e) out
+          not_both (is_built_in (name_of t.head)) (names_built_in t p e) out
 
-      pub starts_named : (o : Option ℕ) → ((j : ℕ) → (o ≡ Some j) ↔ IsFollowed files k j) → o ≡ None → (p : Plain) → (built_in (name_of t.head) (digits_of t) ≡ Some p) ↔ StartsFrom files k t p
+      pub starts_named : (o : Option ℕ) → ((j : ℕ) → (o ≡ Some j) ↔ IsFollowed files k j) → o ≡ None → (p : Plain) → (named_type t ≡ Some p) ↔ StartsFrom files k t p
       starts_named o follows none p = (
         λ e. first here e,
         λ s. elim (starts_by s) [

@@ -3,7 +3,7 @@ ghost use Rattle.std.specs.Prelude.{◌≡◌};
 ghost use Rattle.std.specs.Option.{option_copied};
 ghost use Rattle.yv_facets.specs.Facets.{child};
 ghost use Rattle.yv_numbers.specs.Numbers.{integer_of};
-ghost use Rattle.yv_faceted.specs.Types.{digits_of, few_digits};
+ghost use Rattle.yv_faceted.specs.Types.{digits_for, few_digits, stated_digits};
 
 use yv_numbers::{Integer, integer_of};
 use yv_rows::name_of;
@@ -21,22 +21,39 @@ fn child<'a, 'b>(word: &str, statement: &'a Statement<'b>) -> Option<&'a Stateme
     None
 }
 
-// The number that a text writes, where decimal64 may have so many digits, or 0.
-fn few_digits(text: &[u8]) -> u32
+// The number that a text writes, where decimal64 may have so many digits.
+fn few_digits(text: &[u8]) -> Option<u32>
     ensures { result ≡ few_digits (integer_of text.now) }
 {
     match integer_of(text) {
-        Some(Integer::Natural(digits)) => { if digits <= 18 { digits as u32 } else { 0 } }
-        _ => 0,
+        Some(Integer::Natural(digits)) => {
+            if digits <= 18 {
+                Some(digits as u32)
+            } else {
+                None
+            }
+        }
+        _ => None,
     }
 }
 
-/// The digits behind the point that a type statement states, or 0.
-pub(crate) fn digits_of(statement: &Statement<'_>) -> u32
-    ensures { result ≡ digits_of statement.now }
+// The digits behind the point that a type statement states.
+fn stated_digits(statement: &Statement<'_>) -> Option<u32>
+    ensures { result ≡ stated_digits statement.now }
 {
     match child("fraction-digits", statement) {
         Some(stated) => few_digits(name_of(stated).as_bytes()),
-        None => 0,
+        None => None,
+    }
+}
+
+/// The digits with which the built-in type is meant that a type statement names: none where decimal64 states none.
+pub(crate) fn digits_for(statement: &Statement<'_>) -> Option<u32>
+    ensures { result ≡ digits_for statement.now }
+{
+    if name_of(statement) == "decimal64" {
+        stated_digits(statement)
+    } else {
+        Some(0)
     }
 }

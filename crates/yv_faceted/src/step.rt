@@ -1,19 +1,18 @@
 //! One type.
 ghost use Rattle.std.specs.Prelude.{◌≡◌, None, IfOk, IfErr, codes};
 ghost use Rattle.std.specs.Option.{option_map, option_copied};
-ghost use Rattle.yv_statement.specs.Tree.{name_of as name_at, trees};
+ghost use Rattle.yv_statement.specs.Tree.{trees};
 ghost use Rattle.yv_rows.specs.Lent.{lent_in};
 ghost use Rattle.yv_bases.specs.Known.{AreBases};
 ghost use Rattle.yv_values.specs.Types.{plain_of};
-ghost use Rattle.yv_facets.specs.BuiltIn.{built_in};
 ghost use Rattle.yv_facets.specs.Facets.{has_word};
 ghost use Rattle.yv_facets.specs.Faults.{HasPattern};
-ghost use Rattle.yv_faceted.specs.Types.{digits_of, HasTypePattern};
+ghost use Rattle.yv_faceted.specs.Types.{HasTypePattern, named_type};
 ghost use Rattle.yv_faceted.specs.InnerSteps.{AreKnown, IsFollowed, IsLeft, IsStep, StopsWhere};
 
-use crate::digits::digits_of;
+use crate::digits::digits_for;
 use crate::table::get;
-use std::alloc::Global;
+use std::alloc::{AllocError, Global};
 use yv_bases::Bases;
 use yv_facets::{built_in, narrowed};
 use yv_pattern::Patterns;
@@ -71,6 +70,16 @@ fn left_of(
     }
 }
 
+// The plain type of the built-in type that a type statement names.
+fn named_type(alloc: Global, statement: &Statement<'_>) -> Result<Option<PlainType>, AllocError>
+    ensures { IfOk result (λ p. option_map plain_of p ≡ named_type statement.now) }
+{
+    match digits_for(statement) {
+        Some(digits) => built_in(alloc, name_of(statement), digits),
+        None => Ok(None),
+    }
+}
+
 // What a type statement leaves of the built-in type that it names.
 fn named(
     alloc: Global,
@@ -79,10 +88,10 @@ fn named(
     statement: &Statement<'_>,
 ) -> Result<Step, Stop>
     ensures left { IfOk result (λ s.
-        IsLeft file statement.now (built_in (name_at statement.now.head) (digits_of statement.now)) (option_map plain_of s.plain) s.fault) }
+        IsLeft file statement.now (named_type statement.now) (option_map plain_of s.plain) s.fault) }
     ensures stops { IfErr result (StopsWhere (HasPattern (trees statement.now.children))) }
 {
-    let base = built_in(alloc, name_of(statement), digits_of(statement))?;
+    let base = named_type(alloc, statement)?;
     left_of(alloc, patterns, file, statement, base.as_ref())
 }
 

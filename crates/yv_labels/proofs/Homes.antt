@@ -9,13 +9,13 @@ use Rattle.yv_nodes.specs.Member.{member_of}
 use Rattle.yv_labels.specs.Labels.{AreOf, data_home, member_name}
 use Rattle.yv_labels.specs.Above.{has_no_data}
 
-pub home_is : (home : List ℕ) (ls : List Label) → AreOf home ls → data_home ls ≡ cond (has_no_data ls) [] home
-home_is home [] are = refl
-home_is home (l ∷ ls) are = by (is_passed l.defined.kind) (home_is home ls are.1)
+pub home_is : (number : ℕ) (home : List ℕ) (ls : List Label) → AreOf number home ls → data_home ls ≡ cond (has_no_data ls) [] home
+home_is number home [] are = refl
+home_is number home (l ∷ ls) are = by (is_passed l.defined.kind) (home_is number home ls are.1)
   where
     by : (passed : Bool) → data_home ls ≡ cond (has_no_data ls) [] home → cond passed (data_home ls) l.module_name ≡ cond (cond passed (has_no_data ls) false) [] home
     by true inner = inner
-    by false inner = are.0
+    by false inner = are.0.name
 
 same_home : (home : List ℕ) → bytes_eq home home ≡ true
 same_home home = (bytes_eq-Decides home home).1 refl
@@ -37,7 +37,7 @@ pub differs : (home : List ℕ) (is_top : Bool) → not (bytes_eq (cond is_top [
 differs home true = ap not (empty_home home)
 differs home false = ap not (same_home home)
 
-pub is_told : (home : List ℕ) (ls : List Label) (is_top : Bool) → AreOf home ls → is_top ≡ has_no_data ls → not (bytes_eq (data_home ls) home) ≡ cond is_top (not (length home == 0)) false
-is_told home ls is_top are top =
-    ap (λ (text : List ℕ). not (bytes_eq text home)) (home_is home ls are) ∙ differs home (has_no_data ls)
+pub is_told : (number : ℕ) (home : List ℕ) (ls : List Label) (is_top : Bool) → AreOf number home ls → is_top ≡ has_no_data ls → not (bytes_eq (data_home ls) home) ≡ cond is_top (not (length home == 0)) false
+is_told number home ls is_top are top =
+    ap (λ (text : List ℕ). not (bytes_eq text home)) (home_is number home ls are) ∙ differs home (has_no_data ls)
     ∙ ap (λ (b : Bool). cond b (not (length home == 0)) false) (sym top)

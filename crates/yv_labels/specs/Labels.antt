@@ -1,7 +1,9 @@
 -- What the nodes above a schema node make of it.
-use Rattle.std.specs.Prelude.{◌≡◌, ℕ, Bool, true, false, not, ◌&&◌, ◌||◌, List, [], ◌∷◌, ◌++◌, Option, Some, None, if◌then◌else◌}
+use Rattle.std.specs.Prelude.{◌≡◌, ◌==◌, ℕ, Bool, true, false, not, ◌&&◌, ◌||◌, List, [], ◌∷◌, ◌++◌, Option, Some, None, if◌then◌else◌}
 use Rattle.std.specs.List.{AllByRecursion, list_any}
+use Rattle.std.specs.Option.{unwrap_or}
 use Rattle.std.specs.Str.{bytes_eq}
+use Rattle.yv_properties.specs.Steps.{Step}
 use Rattle.yv_properties.specs.Kinds.{is_input, is_leaf, is_operation, is_passed}
 use Rattle.yv_properties.specs.Defined.{Defined}
 use Rattle.yv_nodes.specs.Tree.{Label}
@@ -36,27 +38,40 @@ stated_or (Some stated) inherited = stated
 abbrev pub is_configuration : Defined → (above : List Label) → Bool
 is_configuration d above = not (is_operation d.kind || in_operation above) && stated_or d.stated_config (inherited_config above)
 
--- the node just above is of the module `home` and has a key of this name (RFC 7950, section 7.8.2)
-abbrev pub has_key_called : (above : List Label) → (home name : List ℕ) → Bool
+-- a name in the key of a list of the module `list_home` is that of a node of the module `home` and of this name: a name without a
+-- prefix is of the list's module
+abbrev pub is_key_name : (list_home home : ℕ) → (name : List ℕ) → Option Step → Bool
+is_key_name list_home home name None = false
+is_key_name list_home home name (Some s) = bytes_eq name s.name && home == unwrap_or s.home list_home
+
+-- the node just above has a key of the module `home` and of this name (RFC 7950, section 7.8.2)
+abbrev pub has_key_called : (above : List Label) → (home : ℕ) → (name : List ℕ) → Bool
 has_key_called [] home name = false
-has_key_called (l ∷ ls) home name = bytes_eq l.module_name home && list_any (λ key. bytes_eq key name) l.defined.key_names
+has_key_called (l ∷ ls) home name = list_any (is_key_name l.home home name) l.defined.keys
 
 -- the node just above is an operation's input, or stands in it
 abbrev pub in_input : (above : List Label) → Bool
 in_input [] = false
 in_input (l ∷ ls) = l.is_input
 
--- what a schema node of the module `home` is, by what its statement and refines say, and by the nodes above it
-abbrev pub label_of : Defined → (home : List ℕ) → (above : List Label) → Label
-label_of d home above = record {
+-- what a schema node is of the module of this name, the number of whose file is `home`, by what its statement and refines say, and by
+-- the nodes above it
+abbrev pub label_of : Defined → (home : ℕ) → (module_name : List ℕ) → (above : List Label) → Label
+label_of d home module_name above = record {
   defined = d;
-  module_name = home;
-  member = member_name (data_home above) home d.name;
+  home = home;
+  module_name = module_name;
+  member = member_name (data_home above) module_name d.name;
   is_config = is_configuration d above;
   is_key = is_leaf d.kind && has_key_called above home d.name;
   is_input = is_input d.kind || in_input above;
 }
 
--- these nodes are all of the module `home`
-abbrev pub AreOf : (home : List ℕ) → List Label → Type 0
-AreOf home ls = AllByRecursion (λ (l : Label). l.module_name ≡ home) ls
+-- a node is of the module of this name, the number of whose file is `home`
+pub record IsOf (home : ℕ) (module_name : List ℕ) (l : Label) : Type 0 where
+  pub number : l.home ≡ home
+  pub name : l.module_name ≡ module_name
+
+-- these nodes all are
+abbrev pub AreOf : (home : ℕ) → (module_name : List ℕ) → List Label → Type 0
+AreOf home module_name ls = AllByRecursion (IsOf home module_name) ls

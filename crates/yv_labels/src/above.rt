@@ -12,7 +12,7 @@ use std::alloc::{AllocError, Global};
 use std::marker::Model;
 use std::rc::Rc;
 use yv_nodes::Standing;
-use yv_properties::{Definition, KeyNames, NodeKind};
+use yv_properties::{Definition, Keys, NodeKind};
 
 /// What the nodes above a schema node make of it. Contracts see it as what is seen of these nodes, all of one module.
 #[derive(Drop)]
@@ -24,7 +24,7 @@ pub struct Above {
     in_operation: bool,
     in_input: bool,
     // The keys of the node just above.
-    keys: Rc<KeyNames>,
+    keys: Rc<Keys>,
 }
 
 impl Model for Above {
@@ -37,7 +37,7 @@ impl Model for Above {
       is_config = a.is_config;
       in_operation = a.in_operation;
       in_input = a.in_input;
-      key_names = a.keys.value;
+      keys = a.keys.value;
     } };
 }
 
@@ -46,7 +46,7 @@ impl Above {
     pub fn top(alloc: Global) -> Result<Above, AllocError>
         ensures { IfOk result (λ above. above ≡ seen_of []) }
     {
-        let keys = KeyNames::of(alloc, Vec::new(alloc))?;
+        let keys = Keys::of(alloc, Vec::new(alloc))?;
         Ok(Above {
             is_top: true,
             is_config: true,
@@ -56,25 +56,33 @@ impl Above {
         })
     }
 
-    /// How the node that a statement defines stands below these nodes, all of them and itself being of the module of this name.
-    pub fn standing(&self, definition: &Definition, home: &str) -> Standing
-        ensures { (ls : List Label) → self.now ≡ seen_of ls → AreOf home.now ls → (parent : NodeId) (children : List NodeId)
-            → (row_with definition.now home.now result parent children).label ≡ label_of definition.now home.now ls }
+    /// How the node that a statement defines stands below these nodes, all of them and itself being of the module of this name, the
+    /// number of whose file is `home`. Err for want of memory alone.
+    pub fn standing(
+        &self,
+        definition: &Definition,
+        home: u32,
+        module_name: &str,
+    ) -> Result<Standing, AllocError>
+        ensures { (ls : List Label) → self.now ≡ seen_of ls → AreOf home module_name.now ls → IfOk result (λ standing.
+            (parent : NodeId) (children : List NodeId)
+            → (row_with definition.now home module_name.now standing parent children).label ≡ label_of definition.now home module_name.now ls) }
     {
-        Standing {
-            is_qualified: self.is_qualified(home),
+        let is_key = self.is_key(definition, home)?;
+        Ok(Standing {
+            is_qualified: self.is_qualified(home, module_name),
             is_config: self.is_configuration(definition),
-            is_key: self.is_key(definition),
+            is_key,
             is_input: self.is_input(definition),
-        }
+        })
     }
 
     // Whether a JSON member of a node of this module has the module's name in front.
-    fn is_qualified(&self, home: &str) -> bool
-        ensures { (ls : List Label) → self.now ≡ seen_of ls → AreOf home.now ls
-            → result ≡ not (bytes_eq (data_home ls) home.now) }
+    fn is_qualified(&self, home: u32, module_name: &str) -> bool
+        ensures { (ls : List Label) → self.now ≡ seen_of ls → AreOf home module_name.now ls
+            → result ≡ not (bytes_eq (data_home ls) module_name.now) }
     {
-        self.is_top && !home.is_empty()
+        self.is_top && !module_name.is_empty()
     }
 
     // Whether the node that a statement defines is an operation's input, or stands in it.
@@ -95,11 +103,19 @@ impl Above {
     }
 
     // Whether it is a key of the list just above.
-    fn is_key(&self, definition: &Definition) -> bool
-        ensures { (home : List ℕ) (ls : List Label) → self.now ≡ seen_of ls → AreOf home ls
-            → result ≡ (is_leaf definition.now.kind && has_key_called ls home definition.now.name) }
+    fn is_key(&self, definition: &Definition, home: u32) -> Result<bool, AllocError>
+        ensures { (module_name : List ℕ) (ls : List Label) → self.now ≡ seen_of ls → AreOf home module_name ls
+            → IfOk result (λ is_key. is_key ≡ (is_leaf definition.now.kind && has_key_called ls home definition.now.name)) }
     {
-        definition.kind() == NodeKind::Leaf && self.keys.contains(definition.name())
+        if !is_leaf(definition) {
+            return Ok(false);
+        }
+        let bare = definition.shared_name()?;
+        if self.keys.contains(None, bare) {
+            return Ok(true);
+        }
+        let name = definition.shared_name()?;
+        Ok(self.keys.contains(Some(home), name))
     }
 
     /// These nodes and, just below them, the one that a statement defines, which stands so.
@@ -113,7 +129,14 @@ impl Above {
             is_config: standing.is_config,
             in_operation: kind.is_operation() || self.in_operation,
             in_input: standing.is_input,
-            keys: definition.key_names.clone()?,
+            keys: definition.keys.clone()?,
         })
     }
+}
+
+// Whether a statement defines a leaf.
+fn is_leaf(definition: &Definition) -> bool
+    ensures { result ≡ is_leaf definition.now.kind }
+{
+    definition.kind() == NodeKind::Leaf
 }

@@ -3,7 +3,8 @@ use Rattle.std.specs.Prelude.{ℕ, List, Option, Some, None, [], ◌∷◌, leng
 use Rattle.std.specs.List.{position_or_len, before_first, after_first}
 use Rattle.yv_conform.specs.Bytes.{is_blank}
 use Rattle.yv_rows.specs.Files.{Files}
-use Rattle.yv_leaf_paths.specs.Steps.{Step, path_of, step_of}
+use Rattle.yv_properties.specs.Steps.{Step}
+use Rattle.yv_leaf_paths.specs.Steps.{path_of, step_of}
 
 -- what stands before the first blank, and what stands behind it
 abbrev pub cut : List ℕ → Option (List ℕ × List ℕ)

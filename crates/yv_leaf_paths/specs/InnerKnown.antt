@@ -1,7 +1,6 @@
 -- Only private clauses cite this: what is known of prefixes that were read.
 use Rattle.std.specs.Prelude.{◌≡◌, map}
-use Rattle.std.specs.Rc.{rc_str_bytes}
-use Rattle.yv_rows.specs.Files.{Brief, Files, brief_of}
+use Rattle.yv_rows.specs.Files.{Files, brief_of}
 use Rattle.yv_rows.specs.Listed.{rows_of}
 use Rattle.yv_rows.specs.Tables.{table_of, first_of}
 use Rattle.yv_rows.specs.declared.kind.Kind.TheVariants.{Prefix}
@@ -11,4 +10,3 @@ use Rattle.yv_leaf_paths.specs.declared.homes.Homes.{Homes}
 pub record AreHomes (files : Files) (homes : Homes) : Type 0 where
   pub prefixes : table_of homes.prefixes ≡ first_of Prefix (rows_of files)
   pub homes_are : map (home_of_prefix (map brief_of files) (rows_of files)) (rows_of files) ≡ homes.homes.items
-  pub names : map rc_str_bytes homes.names.items ≡ map (λ (f : Brief). f.name) (map brief_of files)

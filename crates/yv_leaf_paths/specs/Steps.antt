@@ -1,25 +1,17 @@
 -- The paths that the arguments of `key` and `unique` statements have (RFC 7950, sections 6.5, 7.8.2 and 7.8.3).
-use Rattle.std.specs.Prelude.{ℕ, ◌==◌, List, map, Option, Some, None, slice_get}
+use Rattle.std.specs.Prelude.{ℕ, ◌==◌, List, map, Option, Some, None}
 use Rattle.std.specs.List.{slice_split}
-use Rattle.std.specs.Option.{option_map, option_and_then}
+use Rattle.std.specs.Option.{option_map}
 use Rattle.yv_conform.specs.Words.{words}
-use Rattle.yv_rows.specs.Files.{Brief, Files, brief_of}
+use Rattle.yv_rows.specs.Files.{Files, brief_of}
 use Rattle.yv_rows.specs.Listed.{rows_of}
 use Rattle.yv_rows.specs.Names.{local_of, prefix_of}
 use Rattle.yv_rows.specs.Scopes.{module_of}
+use Rattle.yv_properties.specs.Steps.{Step}
 
--- a step of a path: the module for which its prefix stands, where it has one, and the name of the node
-pub record Step : Type 0 where
-  pub home : Option (List ℕ)
-  pub name : List ℕ
-
--- the name of a numbered file
-abbrev pub file_name : Files → ℕ → Option (List ℕ)
-file_name files number = option_map (λ (f : Brief). f.name) (slice_get (map brief_of files) number)
-
--- the name of the module for which a prefix stands in a file
-abbrev pub home_of : Files → (file : ℕ) → (prefix : List ℕ) → Option (List ℕ)
-home_of files file prefix = option_and_then (file_name files) (module_of (map brief_of files) (rows_of files) file prefix)
+-- the number of the file of the module for which a prefix stands in a file
+abbrev pub home_of : Files → (file : ℕ) → (prefix : List ℕ) → Option ℕ
+home_of files file prefix = module_of (map brief_of files) (rows_of files) file prefix
 
 abbrev pub step_by : Files → (file : ℕ) → (prefix : Option (List ℕ)) → (name : List ℕ) → Option Step
 step_by files file None name = Some (record { home = None; name = name })

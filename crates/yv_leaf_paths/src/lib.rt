@@ -4,7 +4,5 @@
 mod cut;
 mod homes;
 mod paths;
-mod step;
 
 pub use paths::LeafPaths;
-pub use step::PathStep;

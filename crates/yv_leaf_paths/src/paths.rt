@@ -1,18 +1,18 @@
 //! The paths of arguments.
 ghost use Rattle.std.specs.Prelude.{◌≡◌, ◌++◌, Some, None, map, IfOk, OnOk};
-ghost use Rattle.std.specs.Rc.{rc_str_bytes};
 ghost use Rattle.std.specs.Option.{option_map};
 ghost use Rattle.yv_rows.specs.Files.{Files};
 ghost use Rattle.yv_rows.specs.Lent.{lent_in};
-ghost use Rattle.yv_leaf_paths.specs.Steps.{Step, path_of, step_by, step_of, texts_of};
+ghost use Rattle.yv_leaf_paths.specs.Steps.{path_of, step_by, step_of, texts_of};
+ghost use Rattle.yv_properties.specs.Steps.{Step};
 ghost use Rattle.yv_leaf_paths.specs.InnerKnown.{AreHomes};
 ghost use Rattle.yv_leaf_paths.specs.InnerCut.{name_in, path_in};
 
 use crate::cut::cut;
 use crate::homes::Homes;
-use crate::step::PathStep;
 use std::alloc::{AllocError, Global};
 use std::rc::RcStr;
+use yv_properties::PathStep;
 use yv_rows::{Rows, local, prefix_of};
 
 // A step without a prefix.
@@ -26,8 +26,8 @@ fn bare_step(alloc: Global, name: &str) -> Result<PathStep, AllocError>
 }
 
 // A step whose prefix stands for a module, if it does.
-fn step_in(alloc: Global, home: Option<RcStr>, name: &str) -> Result<Option<PathStep>, AllocError>
-    ensures { IfOk result (λ step. step ≡ option_map (λ text. record { home = Some text; name = name.now }) (option_map rc_str_bytes home)) }
+fn step_in(alloc: Global, home: Option<u32>, name: &str) -> Result<Option<PathStep>, AllocError>
+    ensures { IfOk result (λ step. step ≡ option_map (λ number. record { home = Some number; name = name.now }) home) }
 {
     match home {
         Some(home) => Ok(Some(PathStep {
@@ -49,7 +49,7 @@ fn read_step<'a>(
 {
     let name = local(text);
     match prefix_of(text) {
-        Some(prefix) => step_in(alloc, homes.get(file, prefix)?, name),
+        Some(prefix) => step_in(alloc, homes.get(file, prefix), name),
         None => Ok(Some(bare_step(alloc, name)?)),
     }
 }
@@ -130,7 +130,7 @@ impl<'a> LeafPaths<'a> {
     }
 
     /// The paths that the argument of a `unique` statement in a file has, with blanks between (RFC 7950, section 7.8.3). A step
-    /// is None where its prefix stands for no module. The name of a module is shared by all steps. Err for want of memory alone.
+    /// is None where its prefix stands for no module. Err for want of memory alone.
     pub fn paths(
         &self,
         alloc: Global,

@@ -4,11 +4,11 @@ use Rattle.std.proofs.Math.Seq.{drop-cons}
 use Rattle.std.specs.Option.{option_and_then}
 use Rattle.yv_nodes.specs.declared.node.NodeId.{NodeId}
 use Rattle.yv_nodes.specs.Rows.{Row}
-use Rattle.yv_leaf_paths.specs.Steps.{Step}
+use Rattle.yv_properties.specs.Steps.{Step}
 use Rattle.yv_leaf_targets.specs.Numbers.{led_at, led_by_at}
 use Rattle.yv_leaf_targets.specs.declared.place.Way.{Way}
 
-module _ (rows : List Row) (own : List ℕ) (path : List (Option Step)) (i : ℕ) (d : Option Step) (lt : i < length path) (here : Way) (o : Option Way) (is : o ≡ led_by_at rows own (get_or path i d) here) where
+module _ (rows : List Row) (own : ℕ) (path : List (Option Step)) (i : ℕ) (d : Option Step) (lt : i < length path) (here : Way) (o : Option Way) (is : o ≡ led_by_at rows own (get_or path i d) here) where
   cut : drop i path ≡ get_or path i d ∷ drop (i + 1) path
   cut = rw (add-one, drop-cons path i d) refl
 

@@ -4,3 +4,5 @@ pub mod Listing
 pub mod Meeting
 pub mod Leading
 pub mod Mixing
+pub mod Keeping
+pub mod Refusing

@@ -1,5 +1,5 @@
 -- Lists of what may be missing.
-use Rattle.std.proofs.Common.{◌≡◌, ℕ, ◌+◌, ◌<◌, zero, suc, Bool, true, false, ◌||◌, not, List, [], ◌∷◌, ◌++◌, map, length, get_or, take, Option, Some, None, is_some, refl, sym, ap, ◌∙◌}
+use Rattle.std.proofs.Common.{◌≡◌, ℕ, ◌+◌, ◌<◌, zero, suc, Bool, true, false, ◌||◌, not, List, [], ◌∷◌, ◌++◌, map, length, get_or, take, Option, Some, None, is_some, refl, sym, ap, ◌∙◌, Vec, Global}
 use Rattle.std.specs.List.{list_any, slice_get}
 use Rattle.std.specs.Option.{option_map}
 use Rattle.std.proofs.lemmas.List.{map_push, take_more}
@@ -28,6 +28,16 @@ module _ {A B : Type 0} (f : A → Option B) where
       let first : Some y ≡ f x = cc in
       let rest : map (λ y. Some y) ys ≡ map f xs = cc in
       ap (λ b. b || list_any (λ x. not (is_some (f x))) xs) (present (f x) y first) ∙ none_missing xs ys rest
+
+  -- nothing is missing in lists where each has a value
+  pub none_missing_in : (xss : List (List A)) (vs : List (Vec B Global)) → map (λ (v : Vec B Global). map (λ (y : B). Some y) v.items) vs ≡ map (map f) xss
+      → list_any (list_any (λ x. not (is_some (f x)))) xss ≡ false
+  none_missing_in [] vs e = refl
+  none_missing_in (xs ∷ xss) [] e = cc
+  none_missing_in (xs ∷ xss) (v ∷ vs) e =
+      let first : map (λ (y : B). Some y) v.items ≡ map f xs = cc in
+      let rest : map (λ (v : Vec B Global). map (λ (y : B). Some y) v.items) vs ≡ map (map f) xss = cc in
+      ap (λ b. b || list_any (list_any (λ x. not (is_some (f x)))) xss) (none_missing xs v.items first) ∙ none_missing_in xss vs rest
 
   -- one more value
   pub values_more : (xs : List A) (i : ℕ) (x : A) (y : B) (old new : List B) → slice_get xs i ≡ Some x → Some y ≡ f x → new ≡ old ++ y ∷ [] → map (λ z. Some z) old ≡ map f (take i xs) → map (λ z. Some z) new ≡ map f (take (i + 1) xs)

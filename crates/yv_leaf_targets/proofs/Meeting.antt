@@ -12,9 +12,10 @@ use Rattle.yv_nodes.specs.Tree.{Label, Tree, node, Forest, no_trees, tree, count
 use Rattle.yv_nodes.specs.Places.{Place, places}
 use Rattle.yv_nodes.specs.Rows.{Row, root}
 use Rattle.yv_nodes.specs.Numbers.{numbers_from, rows_from}
-use Rattle.yv_leaf_paths.specs.Steps.{Step}
-use Rattle.yv_leaf_targets.specs.Targets.{Waypoint, at_node, at_left_out_case, arrived, home_of, is_called, key_leaf, leaf_among, leaf_at_end, leaf_in, led, led_by, named, stepped, unique_leaf}
-use Rattle.yv_leaf_targets.specs.Numbers.{arrived_at, child_at, children_by, is_called_at, is_called_by, is_kind_at, is_kind_by, key_leaf_at, leaf_at_end_of, leaf_below, leaf_of, led_at, led_by_at, module_at, module_by, stepped_at, tree_at, tree_in, unique_leaf_at}
+use Rattle.yv_properties.specs.Steps.{Step}
+use Rattle.yv_properties.specs.Defined.{Written}
+use Rattle.yv_leaf_targets.specs.Targets.{Waypoint, at_node, at_left_out_case, arrived, default_case, home_of, is_called, key_leaf, leaf_among, leaf_at_end, leaf_in, led, led_by, named, named_by, stepped, unique_leaf}
+use Rattle.yv_leaf_targets.specs.Numbers.{arrived_at, case_by, child_at, children_by, default_by, default_case_at, is_called_at, is_called_by, is_kind_at, is_kind_by, key_leaf_at, leaf_at_end_of, leaf_below, leaf_of, led_at, led_by_at, home_at, home_by, stepped_at, tree_at, tree_in, unique_leaf_at}
 use Rattle.yv_leaf_targets.specs.Refused.{is_bad_statement, is_config_leaf, is_state_leaf}
 use Rattle.yv_leaf_targets.specs.InnerMixed.{is_bad_statement_at, is_config_by, is_config_of}
 use Rattle.yv_leaf_targets.specs.InnerSpots.{Sits, Spot, numbered, place_of, row_of, spots}
@@ -84,7 +85,7 @@ module _ (all : Forest) where
   abbrev rows : List Row
   rows = rows_from 0 all
 
-  module _ (home name : List ℕ) where
+  module _ (home : ℕ) (name : List ℕ) where
     called_is : (b : Bool) (c : NodeId) (t : Tree) (rest : Option NodeId) (others : Option Tree) → tree_at all c ≡ Some t → option_map (tree_at all) rest ≡ option_map (λ (u : Tree). Some u) others
         → option_map (tree_at all) (cond b (Some c) rest) ≡ option_map (λ (u : Tree). Some u) (cond b (Some t) others)
     called_is true c t rest others e on = ap Some e
@@ -110,8 +111,8 @@ module _ (all : Forest) where
   kind_is : (test : NodeKind → Bool) (n : NodeId) (l : Label) (kids : Forest) → IsAt all n l kids → is_kind_at rows test n ≡ test l.defined.kind
   kind_is test n l kids is = ap (is_kind_by test) is.at_row ∙ ap (λ (m : Label). test m.defined.kind) is.label
 
-  module_is : (n : NodeId) (l : Label) (kids : Forest) → IsAt all n l kids → module_at rows n ≡ l.module_name
-  module_is n l kids is = ap module_by is.at_row ∙ ap (λ (m : Label). m.module_name) is.label
+  home_is : (n : NodeId) (l : Label) (kids : Forest) → IsAt all n l kids → home_at rows n ≡ l.home
+  home_is n l kids is = ap home_by is.at_row ∙ ap (λ (m : Label). m.home) is.label
 
   kept : (b : Bool) (n : NodeId) (t : Tree) → tree_at all n ≡ Some t → option_map (tree_at all) (cond b (Some n) None) ≡ option_map (λ (u : Tree). Some u) (cond b (Some t) None)
   kept true n t e = ap Some e
@@ -122,7 +123,7 @@ module _ (all : Forest) where
       ap (λ (b : Bool). option_map (tree_at all) (cond b (Some n) None)) (kind_is is_leaf n l kids (known n l kids e))
       ∙ kept (is_leaf l.defined.kind) n (node l kids) e
 
-  below_is : (home : List ℕ) (n : NodeId) (l : Label) (kids : Forest) (s : Option Step) → IsAt all n l kids
+  below_is : (home : ℕ) (n : NodeId) (l : Label) (kids : Forest) (s : Option Step) → IsAt all n l kids
       → option_map (tree_at all) (leaf_below rows home n s) ≡ option_map (λ (u : Tree). Some u) (leaf_among home s kids)
   below_is home n l kids None is = refl
   below_is home n l kids (Some s) is =
@@ -131,7 +132,25 @@ module _ (all : Forest) where
   pub key_is : (list : NodeId) (t : Tree) (s : Option Step) → tree_at all list ≡ Some t → option_map (tree_at all) (key_leaf_at rows list s) ≡ option_map (λ (u : Tree). Some u) (key_leaf t s)
   key_is list (node l kids) s e =
       let is : IsAt all list l kids = known list l kids e in
-      ap (λ (home : List ℕ). option_map (tree_at all) (leaf_below rows home list s)) (module_is list l kids is) ∙ below_is l.module_name list l kids s is
+      ap (λ (home : ℕ). option_map (tree_at all) (leaf_below rows home list s)) (home_is list l kids is) ∙ below_is l.home list l kids s is
+
+  named_case : (written : Option Written) (n : NodeId) (l : Label) (kids : Forest) → IsAt all n l kids
+      → option_map (tree_at all) (case_by rows n written) ≡ option_map (λ (u : Tree). Some u) (named_by l.home written kids)
+  named_case None n l kids is = refl
+  named_case (Some written) n l kids is =
+      ap (λ (home : ℕ). option_map (tree_at all) (child_at rows home written.text n)) (home_is n l kids is) ∙ child_is l.home written.text n l kids is
+
+  chosen_case : (b : Bool) (written : Option Written) (n : NodeId) (l : Label) (kids : Forest) → IsAt all n l kids
+      → option_map (tree_at all) (case_by rows n (cond b written None)) ≡ option_map (λ (u : Tree). Some u) (cond b (named_by l.home written kids) None)
+  chosen_case true written n l kids is = named_case written n l kids is
+  chosen_case false written n l kids is = refl
+
+  pub case_is : (choice : NodeId) (t : Tree) → tree_at all choice ≡ Some t → option_map (tree_at all) (default_case_at rows choice) ≡ option_map (λ (u : Tree). Some u) (default_case t)
+  case_is choice (node l kids) e =
+      let is : IsAt all choice l kids = known choice l kids e in
+      ap (λ (o : Option Row). option_map (tree_at all) (case_by rows choice (default_by o))) is.at_row
+      ∙ ap (λ (m : Label). option_map (tree_at all) (case_by rows choice (cond (is_choice m.defined.kind) m.defined.own_default None))) is.label
+      ∙ chosen_case (is_choice l.defined.kind) l.defined.own_default choice l kids is
 
   way_at : Way → Option Waypoint
   way_at (AtNode n) = option_map at_node (tree_at all n)
@@ -159,7 +178,7 @@ module _ (all : Forest) where
       ∙ ap (λ (b : Bool). option_map way_at (cond (is_list m.defined.kind) None (Some (cond (is_choice l.defined.kind && not b) (AtLeftOutCase n) (AtNode n))))) case_is
       ∙ arrived_by (is_list m.defined.kind) (is_choice l.defined.kind && not (is_case m.defined.kind)) n (node m inner) e
 
-  called_at : (home name : List ℕ) (n : NodeId) (l : Label) (kids : Forest) → IsAt all n l kids → is_called_at rows home name n ≡ is_called home name l
+  called_at : (home : ℕ) (name : List ℕ) (n : NodeId) (l : Label) (kids : Forest) → IsAt all n l kids → is_called_at rows home name n ≡ is_called home name l
   called_at home name n l kids is = ap (is_called_by home name) is.at_row ∙ ap (is_called home name) is.label
 
   entered : (b : Bool) (n : NodeId) (t : Tree) → tree_at all n ≡ Some t → option_map way_at (cond b (Some (AtNode n)) None) ≡ option_map (λ (v : Waypoint). Some v) (cond b (Some (at_node t)) None)
@@ -167,7 +186,7 @@ module _ (all : Forest) where
   entered true n t e = ap (λ (o : Option Tree). Some (option_map at_node o)) e
   entered false n t e = refl
 
-  module _ (home name : List ℕ) where
+  module _ (home : ℕ) (name : List ℕ) where
     abbrev Alike : Way → Waypoint → Type 0
     Alike w v = option_map way_at (stepped_at rows home name w) ≡ option_map (λ (u : Waypoint). Some u) (stepped home name v)
 
@@ -197,7 +216,7 @@ module _ (all : Forest) where
     stepped_is (AtNode n) v e = by_node n v (tree_at all n) refl e
     stepped_is (AtLeftOutCase n) v e = by_case n v (tree_at all n) refl e
 
-  led_by_is : (home : List ℕ) (s : Option Step) (w : Way) (v : Waypoint) → way_at w ≡ Some v → option_map way_at (led_by_at rows home s w) ≡ option_map (λ (u : Waypoint). Some u) (led_by home s v)
+  led_by_is : (home : ℕ) (s : Option Step) (w : Way) (v : Waypoint) → way_at w ≡ Some v → option_map way_at (led_by_at rows home s w) ≡ option_map (λ (u : Waypoint). Some u) (led_by home s v)
   led_by_is home None w v e = refl
   led_by_is home (Some s) w v e = stepped_is (home_of home s) s.name w v e
 
@@ -205,11 +224,11 @@ module _ (all : Forest) where
   Ends w v = option_map (tree_at all) (leaf_at_end_of rows w) ≡ option_map (λ (u : Tree). Some u) (leaf_at_end v)
 
   end_node : (n : NodeId) (v : Waypoint) (o : Option Tree) → tree_at all n ≡ o → option_map at_node o ≡ Some v → Ends (AtNode n) v
-  end_node n v None e is = absurd (none_some [] [] v is)
+  end_node n v None e is = absurd (none_some 0 [] v is)
   end_node n v (Some t) e is = subst (Ends (AtNode n)) (same_Some (at_node t) v is) (leaf_is n t e)
 
   end_case : (n : NodeId) (v : Waypoint) (o : Option Tree) → option_map at_left_out_case o ≡ Some v → Ends (AtLeftOutCase n) v
-  end_case n v None is = absurd (none_some [] [] v is)
+  end_case n v None is = absurd (none_some 0 [] v is)
   end_case n v (Some t) is = subst (Ends (AtLeftOutCase n)) (same_Some (at_left_out_case t) v is) refl
 
   end_is : (w : Way) (v : Waypoint) → way_at w ≡ Some v → Ends w v
@@ -217,7 +236,7 @@ module _ (all : Forest) where
   end_is (AtNode n) v e = end_node n v (tree_at all n) refl e
   end_is (AtLeftOutCase n) v e = end_case n v (tree_at all n) e
 
-  led_is : (home : List ℕ) (ss : List (Option Step)) (w : Way) (v : Waypoint) → way_at w ≡ Some v → option_map (tree_at all) (led_at rows home ss w) ≡ option_map (λ (u : Tree). Some u) (led home ss v)
+  led_is : (home : ℕ) (ss : List (Option Step)) (w : Way) (v : Waypoint) → way_at w ≡ Some v → option_map (tree_at all) (led_at rows home ss w) ≡ option_map (λ (u : Tree). Some u) (led home ss v)
   led_is home [] w v e = end_is w v e
   led_is home (s ∷ ss) w v e =
       onward way_at (tree_at all) (led_at rows home ss) (led home ss) (led_is home ss) (led_by_at rows home s w) (led_by home s v) (led_by_is home s w v e)
@@ -227,21 +246,21 @@ module _ (all : Forest) where
   path_is list t [] e = refl
   path_is list (node l kids) (s ∷ ss) e =
       let is : IsAt all list l kids = known list l kids e in
-      ap (λ (home : List ℕ). option_map (tree_at all) (led_at rows home (s ∷ ss) (AtNode list))) (module_is list l kids is)
-      ∙ led_is l.module_name (s ∷ ss) (AtNode list) (at_node (node l kids)) (ap (option_map at_node) e)
+      ap (λ (home : ℕ). option_map (tree_at all) (led_at rows home (s ∷ ss) (AtNode list))) (home_is list l kids is)
+      ∙ led_is l.home (s ∷ ss) (AtNode list) (at_node (node l kids)) (ap (option_map at_node) e)
 
   config_is : (o : Option NodeId) (t : Option Tree) → option_map (tree_at all) o ≡ option_map (λ (u : Tree). Some u) t → is_config_of rows true o ≡ is_config_leaf t
   config_is None None e = refl
-  config_is None (Some t) e = absurd (none_some [] [] (Some t) e)
-  config_is (Some n) None e = absurd (none_some [] [] (tree_at all n) (sym e))
+  config_is None (Some t) e = absurd (none_some 0 [] (Some t) e)
+  config_is (Some n) None e = absurd (none_some 0 [] (tree_at all n) (sym e))
   config_is (Some n) (Some (node l kids)) e =
       let is : IsAt all n l kids = known n l kids (same_Some (tree_at all n) (Some (node l kids)) e) in
       ap (is_config_by true) is.at_row ∙ ap (λ (m : Label). m.is_config) is.label
 
   state_is : (o : Option NodeId) (t : Option Tree) → option_map (tree_at all) o ≡ option_map (λ (u : Tree). Some u) t → is_config_of rows false o ≡ is_state_leaf t
   state_is None None e = refl
-  state_is None (Some t) e = absurd (none_some [] [] (Some t) e)
-  state_is (Some n) None e = absurd (none_some [] [] (tree_at all n) (sym e))
+  state_is None (Some t) e = absurd (none_some 0 [] (Some t) e)
+  state_is (Some n) None e = absurd (none_some 0 [] (tree_at all n) (sym e))
   state_is (Some n) (Some (node l kids)) e =
       let is : IsAt all n l kids = known n l kids (same_Some (tree_at all n) (Some (node l kids)) e) in
       ap (is_config_by false) is.at_row ∙ ap (λ (m : Label). not m.is_config) is.label

@@ -7,7 +7,7 @@ use Rattle.yv_nodes.specs.declared.node.NodeId.{NodeId}
 use Rattle.yv_nodes.specs.Rows.{Row}
 use Rattle.yv_nodes.specs.Tree.{Forest, Tree}
 use Rattle.yv_nodes.specs.Numbers.{rows_from}
-use Rattle.yv_leaf_paths.specs.Steps.{Step}
+use Rattle.yv_properties.specs.Steps.{Step}
 use Rattle.yv_leaf_targets.specs.Numbers.{tree_at, unique_leaf_at}
 use Rattle.yv_leaf_targets.specs.Refused.{is_bad_statement, is_bad_unique}
 use Rattle.yv_leaf_targets.specs.InnerMixed.{is_bad_statement_at, is_config_at, is_config_of, is_mixed_at}

@@ -1,5 +1,5 @@
 -- The nodes below one by module and name, as they are met.
-use Rattle.std.proofs.Common.{◌≡◌, ℕ, ◌+◌, ◌<◌, List, ◌∷◌, Bool, true, false, ◌&&◌, cond, length, drop, get_or, Option, Some, None, is_some, add-one, refl, sym, ap, ◌∙◌}
+use Rattle.std.proofs.Common.{◌≡◌, ◌==◌, arith, ℕ, ◌+◌, ◌<◌, List, ◌∷◌, Bool, true, false, ◌&&◌, cond, length, drop, get_or, Option, Some, None, is_some, add-one, refl, sym, ap, ◌∙◌}
 use Rattle.std.proofs.Math.Seq.{drop-cons}
 use Rattle.std.specs.List.{find, slice_get}
 use Rattle.std.specs.Str.{bytes_eq}
@@ -8,6 +8,7 @@ use Rattle.std.specs.declared.cmp.Ordering.{Ordering}
 use Rattle.std.specs.declared.cmp.Ordering.TheVariants.{Less, Equal, Greater}
 use Rattle.std.specs.Cmp.Lexicographic.{slice_cmp}
 use Rattle.std.specs.BTreeMap.{BTreeMap, UpdatesBy}
+use Rattle.std.proofs.lemmas.Bool.Decides.{nat_tests}
 use Rattle.std.proofs.lemmas.Map.Text.{is_eq-slice_cmp}
 use Rattle.std.proofs.lemmas.Slice.Eq.{bytes_eq-Decides}
 use denote.Ref.{Bor}
@@ -28,22 +29,28 @@ and_swapped false true = refl
 and_swapped false false = refl
 
 -- whether two modules and names are the same
-abbrev is_same : (h n home name : List ℕ) → Bool
-is_same h n home name = bytes_eq h home && bytes_eq n name
+abbrev is_same : (h : ℕ) (n : List ℕ) (home : ℕ) (name : List ℕ) → Bool
+is_same h n home name = h == home && bytes_eq n name
 
-test_is : (h n home name : List ℕ) → is_eq (ordering_then (slice_cmp nat_cmp n name) (slice_cmp nat_cmp h home)) ≡ is_same h n home name
+pub home_is : (h home : ℕ) → is_eq (nat_cmp h home) ≡ (h == home)
+home_is h home = grind (arith, nat_tests)
+
+test_is : (h : ℕ) (n : List ℕ) (home : ℕ) (name : List ℕ) → is_eq (ordering_then (slice_cmp nat_cmp n name) (nat_cmp h home)) ≡ is_same h n home name
 test_is h n home name =
-    is_eq_then (slice_cmp nat_cmp n name) (slice_cmp nat_cmp h home)
-    ∙ ap (λ b. b && is_eq (slice_cmp nat_cmp h home)) (is_eq-slice_cmp n name)
-    ∙ ap (λ b. bytes_eq n name && b) (is_eq-slice_cmp h home)
-    ∙ and_swapped (bytes_eq n name) (bytes_eq h home)
+    is_eq_then (slice_cmp nat_cmp n name) (nat_cmp h home)
+    ∙ ap (λ b. b && is_eq (nat_cmp h home)) (is_eq-slice_cmp n name)
+    ∙ ap (λ b. bytes_eq n name && b) (home_is h home)
+    ∙ and_swapped (bytes_eq n name) (h == home)
 
 both : (a b : Bool) → (a && b) ≡ true → (a ≡ true) × (b ≡ true)
 both true b h = (refl, h)
 both false b h = cc
 
-same_parts : (h n home name : List ℕ) → is_same h n home name ≡ true → (h ≡ home) × (n ≡ name)
-same_parts h n home name e = let p = both (bytes_eq h home) (bytes_eq n name) e in ((bytes_eq-Decides h home).0 p.0, (bytes_eq-Decides n name).0 p.1)
+same_home : (h home : ℕ) → (h == home) ≡ true → h ≡ home
+same_home h home e = grind (arith, nat_tests, e)
+
+same_parts : (h : ℕ) (n : List ℕ) (home : ℕ) (name : List ℕ) → is_same h n home name ≡ true → (h ≡ home) × (n ≡ name)
+same_parts h n home name e = let p = both (h == home) (bytes_eq n name) e in (same_home h home p.0, (bytes_eq-Decides n name).0 p.1)
 
 chosen : (b : Bool) (old : Option NodeId) (number : NodeId) → (b ≡ true → is_some old ≡ false) → cond b (Some number) old ≡ first_some old (cond b (Some number) None)
 chosen true None number h = refl
@@ -52,19 +59,19 @@ chosen false None number h = refl
 chosen false (Some x) number h = refl
 
 -- a module and a name that are new
-pub told_new : (old new : BTreeMap (Bor (List ℕ) × Bor (List ℕ)) NodeId) (h n : Bor (List ℕ)) (number : NodeId) → is_some (lookup_in old h.now n.now) ≡ false
-    → UpdatesBy (λ x y. ordering_then (slice_cmp nat_cmp x.0.now y.0.now) (slice_cmp nat_cmp x.1.now y.1.now)) (λ y. ordering_then (slice_cmp nat_cmp n.now y.0.now) (slice_cmp nat_cmp h.now y.1.now)) old new (Some number)
-    → (home name : List ℕ) → lookup_in new home name ≡ told_with (lookup_in old) h.now n.now number home name
+pub told_new : (old new : BTreeMap (Bor (List ℕ) × ℕ) NodeId) (h : ℕ) (n : Bor (List ℕ)) (number : NodeId) → is_some (lookup_in old h n.now) ≡ false
+    → UpdatesBy (λ x y. ordering_then (slice_cmp nat_cmp x.0.now y.0.now) (nat_cmp x.1 y.1)) (λ y. ordering_then (slice_cmp nat_cmp n.now y.0.now) (nat_cmp h y.1)) old new (Some number)
+    → (home : ℕ) (name : List ℕ) → lookup_in new home name ≡ told_with (lookup_in old) h n.now number home name
 told_new old new h n number absent u home name =
-    u.0 (record { ref_ptr = (0, 0); now = name }, record { ref_ptr = (0, 0); now = home })
-    ∙ ap (λ b. cond b (Some number) (lookup_in old home name)) (test_is h.now n.now home name)
-    ∙ chosen (is_same h.now n.now home name) (lookup_in old home name) number
-    (λ e. let p = same_parts h.now n.now home name e in ap (λ (t : List ℕ). is_some (lookup_in old t name)) (sym p.0) ∙ ap (λ (t : List ℕ). is_some (lookup_in old h.now t)) (sym p.1) ∙ absent)
+    u.0 (record { ref_ptr = (0, 0); now = name }, home)
+    ∙ ap (λ b. cond b (Some number) (lookup_in old home name)) (test_is h n.now home name)
+    ∙ chosen (is_same h n.now home name) (lookup_in old home name) number
+    (λ e. let p = same_parts h n.now home name e in ap (λ (t : ℕ). is_some (lookup_in old t name)) (sym p.0) ∙ ap (λ (t : List ℕ). is_some (lookup_in old h t)) (sym p.1) ∙ absent)
 
 -- those that are there stay
-pub told_old : (told : Told) (h n : List ℕ) (number : NodeId) → is_some (told h n) ≡ true → (home name : List ℕ) → told home name ≡ told_with told h n number home name
+pub told_old : (told : Told) (h : ℕ) (n : List ℕ) (number : NodeId) → is_some (told h n) ≡ true → (home : ℕ) (name : List ℕ) → told home name ≡ told_with told h n number home name
 told_old told h n number there home name =
-    stays (is_same h n home name) (told home name) (λ e. let p = same_parts h n home name e in ap (λ (t : List ℕ). is_some (told t name)) (sym p.0) ∙ ap (λ (t : List ℕ). is_some (told h t)) (sym p.1) ∙ there)
+    stays (is_same h n home name) (told home name) (λ e. let p = same_parts h n home name e in ap (λ (t : ℕ). is_some (told t name)) (sym p.0) ∙ ap (λ (t : List ℕ). is_some (told h t)) (sym p.1) ∙ there)
   where
     stays : (b : Bool) (old : Option NodeId) → (b ≡ true → is_some old ≡ true) → old ≡ first_some old (cond b (Some number) None)
     stays true None e = let bad : false ≡ true = e refl in cc
@@ -79,7 +86,7 @@ joined false x None rest = refl
 joined b x (Some y) rest = refl
 
 -- one more node
-pub told_next : (rows : List Row) (home name : List ℕ) (cs : List NodeId) (i : ℕ) (d : NodeId) (old new : Told) (all : Option NodeId) → i < length cs
+pub told_next : (rows : List Row) (home : ℕ) (name : List ℕ) (cs : List NodeId) (i : ℕ) (d : NodeId) (old new : Told) (all : Option NodeId) → i < length cs
     → first_some (old home name) (find (is_called_at rows home name) (drop i cs)) ≡ all → new home name ≡ told_after old (slice_get rows (get_or cs i d).0) (get_or cs i d) home name
     → first_some (new home name) (find (is_called_at rows home name) (drop (i + 1) cs)) ≡ all
 told_next rows home name cs i d old new all lt before is =

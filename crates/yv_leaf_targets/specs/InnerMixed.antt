@@ -3,7 +3,7 @@ use Rattle.std.specs.Prelude.{Bool, true, false, not, ◌&&◌, ◌||◌, List, 
 use Rattle.std.specs.List.{list_any}
 use Rattle.yv_nodes.specs.declared.node.NodeId.{NodeId}
 use Rattle.yv_nodes.specs.Rows.{Row}
-use Rattle.yv_leaf_paths.specs.Steps.{Step}
+use Rattle.yv_properties.specs.Steps.{Step}
 use Rattle.yv_leaf_targets.specs.Numbers.{unique_leaf_at}
 
 abbrev pub is_config_by : (wanted : Bool) → Option Row → Bool

@@ -1,5 +1,5 @@
 -- Only private clauses cite this: the nodes below one by module and name.
-use Rattle.std.specs.Prelude.{◌≡◌, ℕ, List, ◌&&◌, Option, Some, None, if◌then◌else◌}
+use Rattle.std.specs.Prelude.{◌≡◌, ◌==◌, ℕ, List, ◌&&◌, Option, Some, None, if◌then◌else◌}
 use Rattle.std.specs.List.{find}
 use Rattle.std.specs.Str.{bytes_eq}
 use Rattle.std.specs.Borrow.{Bor}
@@ -13,10 +13,10 @@ use Rattle.yv_leaf_targets.specs.declared.names.ChildNames.{ChildNames}
 
 -- a number for each module and name
 abbrev pub Told : Type 0
-Told = (home name : List ℕ) → Option NodeId
+Told = (home : ℕ) → (name : List ℕ) → Option NodeId
 
-abbrev pub lookup_in : BTreeMap (Bor (List ℕ) × Bor (List ℕ)) NodeId → Told
-lookup_in m home name = get_by (λ k. ordering_then (slice_cmp nat_cmp name k.0.now) (slice_cmp nat_cmp home k.1.now)) m
+abbrev pub lookup_in : BTreeMap (Bor (List ℕ) × ℕ) NodeId → Told
+lookup_in m home name = get_by (λ k. ordering_then (slice_cmp nat_cmp name k.0.now) (nat_cmp home k.1)) m
 
 abbrev pub told_of : ChildNames → Told
 told_of names = lookup_in names.map
@@ -26,8 +26,8 @@ first_some None b = b
 first_some (Some a) b = Some a
 
 -- what is told of a module and a name once such a node was added
-abbrev pub told_with : Told → (home name : List ℕ) → NodeId → Told
-told_with told h n number home name = first_some (told home name) (if bytes_eq h home && bytes_eq n name then Some number else None)
+abbrev pub told_with : Told → (home : ℕ) → (name : List ℕ) → NodeId → Told
+told_with told h n number home name = first_some (told home name) (if h == home && bytes_eq n name then Some number else None)
 
 -- what is told once the node of a row was met
 abbrev pub told_after : Told → Option Row → NodeId → Told
@@ -35,4 +35,4 @@ told_after told row number home name = first_some (told home name) (if is_called
 
 -- these tell of each module and name the first of these nodes
 abbrev pub AreNames : List Row → List NodeId → Told → Type 0
-AreNames rows children told = (home name : List ℕ) → told home name ≡ find (is_called_at rows home name) children
+AreNames rows children told = (home : ℕ) (name : List ℕ) → told home name ≡ find (is_called_at rows home name) children

@@ -5,3 +5,7 @@ pub mod InnerNames
 pub mod InnerSpots
 pub mod InnerMixed
 pub mod InnerKnown
+pub mod Bad
+pub mod Known
+pub mod Named
+pub mod InnerKept

@@ -4,11 +4,12 @@ use Rattle.std.specs.List.{find}
 use Rattle.std.specs.Option.{option_and_then, option_map}
 use Rattle.yv_properties.specs.declared.kind.NodeKind.{NodeKind}
 use Rattle.yv_properties.specs.Kinds.{is_case, is_choice, is_leaf, is_list}
+use Rattle.yv_properties.specs.Defined.{Written}
 use Rattle.yv_nodes.specs.declared.node.NodeId.{NodeId}
 use Rattle.yv_nodes.specs.Tree.{Tree, node, Forest}
 use Rattle.yv_nodes.specs.Places.{Place, places}
 use Rattle.yv_nodes.specs.Rows.{Row}
-use Rattle.yv_leaf_paths.specs.Steps.{Step}
+use Rattle.yv_properties.specs.Steps.{Step}
 use Rattle.yv_leaf_targets.specs.Targets.{home_of, is_called}
 use Rattle.yv_leaf_targets.specs.declared.place.Way.{Way}
 use Rattle.yv_leaf_targets.specs.declared.place.Way.TheVariants.{AtNode, AtLeftOutCase}
@@ -20,12 +21,12 @@ tree_in p = node p.label p.kids
 abbrev pub tree_at : Forest → NodeId → Option Tree
 tree_at ts n = option_map tree_in (slice_get (places ts) n.0)
 
-abbrev pub is_called_by : (home name : List ℕ) → Option Row → Bool
+abbrev pub is_called_by : (home : ℕ) → (name : List ℕ) → Option Row → Bool
 is_called_by home name None = false
 is_called_by home name (Some r) = is_called home name r.label
 
--- the numbered node has this module and this name
-abbrev pub is_called_at : List Row → (home name : List ℕ) → NodeId → Bool
+-- the numbered node is of the module of this number and has this name
+abbrev pub is_called_at : List Row → (home : ℕ) → (name : List ℕ) → NodeId → Bool
 is_called_at rows home name n = is_called_by home name (slice_get rows n.0)
 
 abbrev pub is_kind_by : (NodeKind → Bool) → Option Row → Bool
@@ -36,13 +37,13 @@ is_kind_by test (Some r) = test r.label.defined.kind
 abbrev pub is_kind_at : List Row → (NodeKind → Bool) → NodeId → Bool
 is_kind_at rows test n = is_kind_by test (slice_get rows n.0)
 
-abbrev pub module_by : Option Row → List ℕ
-module_by None = []
-module_by (Some r) = r.label.module_name
+abbrev pub home_by : Option Row → ℕ
+home_by None = 0
+home_by (Some r) = r.label.home
 
--- the module of the numbered node
-abbrev pub module_at : List Row → NodeId → List ℕ
-module_at rows n = module_by (slice_get rows n.0)
+-- the number of the file of the module whose namespace the numbered node is in
+abbrev pub home_at : List Row → NodeId → ℕ
+home_at rows n = home_by (slice_get rows n.0)
 
 abbrev pub children_by : Option Row → List NodeId
 children_by None = []
@@ -53,19 +54,19 @@ abbrev pub children_at : List Row → NodeId → List NodeId
 children_at rows n = children_by (slice_get rows n.0)
 
 -- the first of the nodes directly below it that has this module and this name
-abbrev pub child_at : List Row → (home name : List ℕ) → NodeId → Option NodeId
+abbrev pub child_at : List Row → (home : ℕ) → (name : List ℕ) → NodeId → Option NodeId
 child_at rows home name n = find (is_called_at rows home name) (children_at rows n)
 
 abbrev pub leaf_of : List Row → NodeId → Option NodeId
 leaf_of rows n = if is_kind_at rows is_leaf n then Some n else None
 
-abbrev pub leaf_below : List Row → (own : List ℕ) → (list : NodeId) → Option Step → Option NodeId
+abbrev pub leaf_below : List Row → (own : ℕ) → (list : NodeId) → Option Step → Option NodeId
 leaf_below rows own list None = None
 leaf_below rows own list (Some s) = option_and_then (leaf_of rows) (child_at rows (home_of own s) s.name list)
 
 -- the number of the leaf directly below a list that a name in its key names
 abbrev pub key_leaf_at : List Row → (list : NodeId) → Option Step → Option NodeId
-key_leaf_at rows list s = leaf_below rows (module_at rows list) list s
+key_leaf_at rows list s = leaf_below rows (home_at rows list) list s
 
 abbrev pub is_case_left_out_at : List Row → (above below : NodeId) → Bool
 is_case_left_out_at rows above below = is_kind_at rows is_choice above && not (is_kind_at rows is_case below)
@@ -74,7 +75,7 @@ abbrev pub arrived_at : List Row → (above below : NodeId) → Option Way
 arrived_at rows above below =
     if is_kind_at rows is_list below then None else Some (if is_case_left_out_at rows above below then AtLeftOutCase below else AtNode below)
 
-abbrev pub stepped_at : List Row → (home name : List ℕ) → Way → Option Way
+abbrev pub stepped_at : List Row → (home : ℕ) → (name : List ℕ) → Way → Option Way
 stepped_at rows home name (AtNode n) = option_and_then (arrived_at rows n) (child_at rows home name n)
 stepped_at rows home name (AtLeftOutCase n) = if is_called_at rows home name n then Some (AtNode n) else None
 
@@ -82,15 +83,28 @@ abbrev pub leaf_at_end_of : List Row → Way → Option NodeId
 leaf_at_end_of rows (AtNode n) = leaf_of rows n
 leaf_at_end_of rows (AtLeftOutCase n) = None
 
-abbrev pub led_by_at : List Row → (own : List ℕ) → Option Step → Way → Option Way
+abbrev pub led_by_at : List Row → (own : ℕ) → Option Step → Way → Option Way
 led_by_at rows own None w = None
 led_by_at rows own (Some s) w = stepped_at rows (home_of own s) s.name w
 
-abbrev pub led_at : List Row → (own : List ℕ) → List (Option Step) → Way → Option NodeId
+abbrev pub led_at : List Row → (own : ℕ) → List (Option Step) → Way → Option NodeId
 led_at rows own [] w = leaf_at_end_of rows w
 led_at rows own (s ∷ ss) w = option_and_then (led_at rows own ss) (led_by_at rows own s w)
 
 -- the number of the leaf below a list that a path of a `unique` statement names
 abbrev pub unique_leaf_at : List Row → (list : NodeId) → List (Option Step) → Option NodeId
 unique_leaf_at rows list [] = None
-unique_leaf_at rows list (s ∷ ss) = led_at rows (module_at rows list) (s ∷ ss) (AtNode list)
+unique_leaf_at rows list (s ∷ ss) = led_at rows (home_at rows list) (s ∷ ss) (AtNode list)
+
+abbrev pub default_by : Option Row → Option Written
+default_by None = None
+default_by (Some r) = if is_choice r.label.defined.kind then r.label.defined.own_default else None
+
+abbrev pub case_by : List Row → (choice : NodeId) → Option Written → Option NodeId
+case_by rows choice None = None
+case_by rows choice (Some written) = child_at rows (home_at rows choice) written.text choice
+
+-- the number of the default case of a choice: of the nodes directly below it the first of the choice's own module with the name that
+-- its own default says; none where there is no default, or the node is no choice
+abbrev pub default_case_at : List Row → (choice : NodeId) → Option NodeId
+default_case_at rows choice = case_by rows choice (default_by (slice_get rows choice.0))

@@ -1,10 +1,8 @@
 -- Lists whose `key` or `unique` statements name what they may not (RFC 7950, sections 7.8.2 and 7.8.3).
-use Rattle.std.specs.Prelude.{nat_lt, Bool, false, not, ◌&&◌, ◌||◌, List, length, map, Option, Some, None, is_some}
+use Rattle.std.specs.Prelude.{nat_lt, Bool, false, not, ◌&&◌, ◌||◌, List, length, Option, Some, None, is_some}
 use Rattle.std.specs.List.{list_any}
-use Rattle.std.specs.declared.vec.Vec.{Vec}
-use Rattle.std.specs.declared.alloc.Global.{Global}
 use Rattle.yv_nodes.specs.Tree.{Tree, node}
-use Rattle.yv_leaf_paths.specs.Steps.{Step}
+use Rattle.yv_properties.specs.Steps.{Step}
 use Rattle.yv_leaf_targets.specs.Targets.{key_leaf, unique_leaf}
 
 -- one of the names is that of no leaf directly below
@@ -30,7 +28,3 @@ is_bad_statement list paths =
 -- there are more than 64 statements, or one of them is bad
 abbrev pub is_bad_unique : (list : Tree) → List (List (List (Option Step))) → Bool
 is_bad_unique list statements = nat_lt 64 (length statements) || list_any (is_bad_statement list) statements
-
--- the paths of a statement
-abbrev pub paths_in : Vec (Vec (Option Step) Global) Global → List (List (Option Step))
-paths_in paths = map (λ path. path.items) paths.items

@@ -1,21 +1,22 @@
 -- Which leafs the steps below a list name (RFC 7950, sections 6.5, 7.8.2 and 7.8.3).
-use Rattle.std.specs.Prelude.{ℕ, Bool, not, ◌&&◌, List, [], ◌∷◌, Option, Some, None, if◌then◌else◌}
+use Rattle.std.specs.Prelude.{ℕ, ◌==◌, Bool, not, ◌&&◌, List, [], ◌∷◌, Option, Some, None, if◌then◌else◌}
 use Rattle.std.specs.Option.{option_and_then, unwrap_or}
 use Rattle.std.specs.Str.{bytes_eq}
 use Rattle.yv_properties.specs.Kinds.{is_case, is_choice, is_leaf, is_list}
+use Rattle.yv_properties.specs.Defined.{Written}
 use Rattle.yv_nodes.specs.Tree.{Label, Tree, node, Forest, no_trees, tree}
-use Rattle.yv_leaf_paths.specs.Steps.{Step}
+use Rattle.yv_properties.specs.Steps.{Step}
 
--- a node has this module and this name
-abbrev pub is_called : (home name : List ℕ) → Label → Bool
-is_called home name l = bytes_eq l.module_name home && bytes_eq l.defined.name name
+-- a node is of the module of this number and has this name
+abbrev pub is_called : (home : ℕ) → (name : List ℕ) → Label → Bool
+is_called home name l = l.home == home && bytes_eq l.defined.name name
 
 -- the module of a step: without a prefix that of the list whose statement has the path
-abbrev pub home_of : (own : List ℕ) → Step → List ℕ
+abbrev pub home_of : (own : ℕ) → Step → ℕ
 home_of own s = unwrap_or s.home own
 
 -- the first of these trees whose node has this module and this name, whatever its kind
-abbrev pub named : (home name : List ℕ) → Forest → Option Tree
+abbrev pub named : (home : ℕ) → (name : List ℕ) → Forest → Option Tree
 named home name no_trees = None
 named home name (tree (node l kids) ts) = if is_called home name l then Some (node l kids) else named home name ts
 
@@ -24,13 +25,13 @@ abbrev pub leaf_in : Tree → Option Tree
 leaf_in (node l kids) = if is_leaf l.defined.kind then Some (node l kids) else None
 
 -- the leaf that a step names among these trees
-abbrev pub leaf_among : (own : List ℕ) → Option Step → Forest → Option Tree
+abbrev pub leaf_among : (own : ℕ) → Option Step → Forest → Option Tree
 leaf_among own None ts = None
 leaf_among own (Some s) ts = option_and_then leaf_in (named (home_of own s) s.name ts)
 
 -- the leaf directly below a list that a name in its key names
 abbrev pub key_leaf : (list : Tree) → Option Step → Option Tree
-key_leaf (node l kids) s = leaf_among l.module_name s kids
+key_leaf (node l kids) s = leaf_among l.home s kids
 
 -- where a path is after some of its steps: at a node, or at the case that is left out around a node
 pub data Waypoint : Type 0 where
@@ -47,7 +48,7 @@ arrived above (node l kids) =
     if is_list l.defined.kind then None else Some (if is_case_left_out above l then at_left_out_case (node l kids) else at_node (node l kids))
 
 -- where a step to this module and this name leads
-abbrev pub stepped : (home name : List ℕ) → Waypoint → Option Waypoint
+abbrev pub stepped : (home : ℕ) → (name : List ℕ) → Waypoint → Option Waypoint
 stepped home name (at_node (node l kids)) = option_and_then (arrived l) (named home name kids)
 stepped home name (at_left_out_case (node l kids)) = if is_called home name l then Some (at_node (node l kids)) else None
 
@@ -57,16 +58,24 @@ leaf_at_end (at_node t) = leaf_in t
 leaf_at_end (at_left_out_case t) = None
 
 -- where a step leads: one whose prefix stands for no module leads nowhere
-abbrev pub led_by : (own : List ℕ) → Option Step → Waypoint → Option Waypoint
+abbrev pub led_by : (own : ℕ) → Option Step → Waypoint → Option Waypoint
 led_by own None w = None
 led_by own (Some s) w = stepped (home_of own s) s.name w
 
 -- the leaf to which steps lead, one after the other
-abbrev pub led : (own : List ℕ) → List (Option Step) → Waypoint → Option Tree
+abbrev pub led : (own : ℕ) → List (Option Step) → Waypoint → Option Tree
 led own [] w = leaf_at_end w
 led own (s ∷ ss) w = option_and_then (led own ss) (led_by own s w)
 
 -- the leaf below a list that a path of a `unique` statement names
 abbrev pub unique_leaf : (list : Tree) → List (Option Step) → Option Tree
 unique_leaf list [] = None
-unique_leaf (node l kids) (s ∷ ss) = led l.module_name (s ∷ ss) (at_node (node l kids))
+unique_leaf (node l kids) (s ∷ ss) = led l.home (s ∷ ss) (at_node (node l kids))
+
+abbrev pub named_by : (home : ℕ) → Option Written → Forest → Option Tree
+named_by home None ts = None
+named_by home (Some written) ts = named home written.text ts
+
+-- the default case of a choice: a case, or a node that is a case of its own, of the choice's own module (section 7.9.3)
+abbrev pub default_case : (choice : Tree) → Option Tree
+default_case (node l kids) = if is_choice l.defined.kind then named_by l.home l.defined.own_default kids else None

@@ -48,8 +48,8 @@ impl<'n> Index<'n> {
     }
 
     // The first node below one that has this module and this name, if those below it are known.
-    fn told(&self, parent: NodeId, home: &'n str, name: &'n str) -> Option<Option<NodeId>>
-        ensures { IfSome result (λ child. child ≡ child_at self.now home.now name.now parent) }
+    fn told(&self, parent: NodeId, home: u32, name: &'n str) -> Option<Option<NodeId>>
+        ensures { IfSome result (λ child. child ≡ child_at self.now home name.now parent) }
     {
         match self.known.get(&parent.number()) {
             Some(names) => Some(names.get(home, name)),
@@ -71,11 +71,11 @@ impl<'n> Index<'n> {
         &mut self,
         alloc: Global,
         parent: NodeId,
-        home: &'n str,
+        home: u32,
         name: &'n str,
     ) -> Result<Option<NodeId>, AllocError>
         ensures rows { self.new ≡ self.old }
-        ensures child { IfOk result (λ child. child ≡ child_at self.old home.now name.now parent) }
+        ensures child { IfOk result (λ child. child ≡ child_at self.old home name.now parent) }
     {
         if let Some(child) = self.told(parent, home, name) {
             return Ok(child);

@@ -9,10 +9,10 @@ ghost use Rattle.yv_leaf_targets.specs.Refused.{is_bad_key};
 ghost use Rattle.yv_leaf_targets.specs.InnerNames.{AreNames, told_of};
 
 use crate::names::ChildNames;
-use crate::numbered::{leaf_of, module_at};
+use crate::numbered::{home_at, leaf_of};
 use std::alloc::{AllocError, Global};
-use yv_leaf_paths::PathStep;
 use yv_nodes::{Node, NodeId, Nodes};
+use yv_properties::PathStep;
 
 // The leaf directly below a list that a name in its key names, of those below it by these names.
 fn key_leaf<'n>(
@@ -25,7 +25,7 @@ fn key_leaf<'n>(
 {
     match key {
         Some(step) => {
-            let home = step.home().unwrap_or(module_at(nodes, list));
+            let home = step.home().unwrap_or(home_at(nodes, list));
             let child = names.get(home, step.name())?;
             leaf_of(nodes, child)
         }

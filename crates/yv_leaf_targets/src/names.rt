@@ -9,17 +9,16 @@ use std::alloc::{AllocError, Global};
 use std::collections::BTreeMap;
 use yv_nodes::{Node, NodeId};
 
-/// Of each module and name the first of some nodes that has them. The texts are borrowed. Names come first in the order, so that
-/// modules, whose names may be long, are compared only where names are equal.
+/// Of each module and name the first of some nodes that has them. The names are borrowed.
 #[derive(Drop)]
 pub(crate) struct ChildNames<'n> {
-    map: BTreeMap<(&'n [u8], &'n [u8]), NodeId>,
+    map: BTreeMap<(&'n [u8], u32), NodeId>,
 }
 
 impl<'n> ChildNames<'n> {
     // No nodes.
     fn new(alloc: Global) -> ChildNames<'n>
-        ensures { (home name : List ℕ) → told_of result home name ≡ None }
+        ensures { (home : ℕ) (name : List ℕ) → told_of result home name ≡ None }
     {
         ChildNames {
             map: BTreeMap::new(alloc),
@@ -55,18 +54,18 @@ impl<'n> ChildNames<'n> {
 
     // Meets a node.
     fn meet(&mut self, node: Option<&'n Node>, number: NodeId) -> Result<(), AllocError>
-        ensures { OnOk result ((home name : List ℕ) → told_of self.new home name
+        ensures { OnOk result ((home : ℕ) (name : List ℕ) → told_of self.new home name
             ≡ told_after (told_of self.old) (option_map (λ r. r.now) node.entry) number home name) }
     {
         match node {
-            Some(node) => self.keep(node.module().as_bytes(), node.name().as_bytes(), number),
+            Some(node) => self.keep(node.home(), node.name().as_bytes(), number),
             None => Ok(()),
         }
     }
 
     // Keeps the number of a node, where none had its module and name before.
-    fn keep(&mut self, home: &'n [u8], name: &'n [u8], number: NodeId) -> Result<(), AllocError>
-        ensures { OnOk result ((h n : List ℕ) → told_of self.new h n ≡ told_with (told_of self.old) home.now name.now number h n) }
+    fn keep(&mut self, home: u32, name: &'n [u8], number: NodeId) -> Result<(), AllocError>
+        ensures { OnOk result ((h : ℕ) (n : List ℕ) → told_of self.new h n ≡ told_with (told_of self.old) home name.now number h n) }
     {
         if self.map.contains_key(&(name, home)) {
             return Ok(());
@@ -76,9 +75,9 @@ impl<'n> ChildNames<'n> {
     }
 
     /// The first node of this module and this name.
-    pub(crate) fn get(&self, home: &'n str, name: &'n str) -> Option<NodeId>
-        ensures { result ≡ told_of self.now home.now name.now }
+    pub(crate) fn get(&self, home: u32, name: &'n str) -> Option<NodeId>
+        ensures { result ≡ told_of self.now home name.now }
     {
-        self.map.get(&(name.as_bytes(), home.as_bytes())).copied()
+        self.map.get(&(name.as_bytes(), home)).copied()
     }
 }

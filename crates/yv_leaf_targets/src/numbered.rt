@@ -2,7 +2,7 @@
 ghost use Rattle.std.specs.Prelude.{◌≡◌, slice_get};
 ghost use Rattle.std.specs.Option.{option_map};
 ghost use Rattle.yv_properties.specs.Kinds.{is_case, is_choice, is_leaf, is_list};
-ghost use Rattle.yv_leaf_targets.specs.Numbers.{arrived_at, children_at, is_called_at, is_kind_at, leaf_of, module_at};
+ghost use Rattle.yv_leaf_targets.specs.Numbers.{arrived_at, children_at, home_at, is_called_at, is_kind_at, leaf_of};
 
 use crate::place::Way;
 use yv_nodes::{Node, NodeId};
@@ -15,13 +15,13 @@ pub(crate) fn node_at<'n>(nodes: &'n [Node], number: NodeId) -> Option<&'n Node>
     nodes.get(number.number() as usize)
 }
 
-/// The module of the node of a number, or no text where there is none.
-pub(crate) fn module_at<'n>(nodes: &'n [Node], number: NodeId) -> &'n str
-    ensures { result.now ≡ module_at nodes.now number }
+/// The number of the file of the module whose namespace the node of a number is in, or 0 where there is none.
+pub(crate) fn home_at(nodes: &[Node], number: NodeId) -> u32
+    ensures { result ≡ home_at nodes.now number }
 {
     match node_at(nodes, number) {
-        Some(node) => node.module(),
-        None => "",
+        Some(node) => node.home(),
+        None => 0,
     }
 }
 
@@ -36,11 +36,11 @@ pub(crate) fn children_at<'n>(nodes: &'n [Node], number: NodeId) -> &'n [NodeId]
 }
 
 /// Whether the node of a number has this module and this name.
-pub(crate) fn is_called_at(nodes: &[Node], number: NodeId, home: &str, name: &str) -> bool
-    ensures { result ≡ is_called_at nodes.now home.now name.now number }
+pub(crate) fn is_called_at(nodes: &[Node], number: NodeId, home: u32, name: &str) -> bool
+    ensures { result ≡ is_called_at nodes.now home name.now number }
 {
     match node_at(nodes, number) {
-        Some(node) => node.name() == name && node.module() == home,
+        Some(node) => node.home() == home && node.name() == name,
         None => false,
     }
 }

@@ -5,15 +5,16 @@ ghost use Rattle.yv_nodes.specs.Tree.{Forest};
 ghost use Rattle.yv_nodes.specs.Places.{Place, places};
 ghost use Rattle.yv_nodes.specs.Numbers.{rows_from};
 ghost use Rattle.yv_leaf_targets.specs.Numbers.{tree_in, unique_leaf_at};
-ghost use Rattle.yv_leaf_targets.specs.Refused.{is_bad_unique, paths_in};
+ghost use Rattle.yv_properties.specs.Defined.{paths_in};
+ghost use Rattle.yv_leaf_targets.specs.Refused.{is_bad_unique};
 ghost use Rattle.yv_leaf_targets.specs.InnerMixed.{is_bad_statement_at, is_config_at, is_mixed_at};
 
 use crate::index::Index;
 use crate::numbered::node_at;
 use crate::walk::unique_leaf;
 use std::alloc::{AllocError, Global};
-use yv_leaf_paths::PathStep;
 use yv_nodes::{Node, NodeId, Nodes};
+use yv_properties::PathStep;
 
 // The leafs that the paths of a statement name, in order.
 fn named_leafs<'n>(

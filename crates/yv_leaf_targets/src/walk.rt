@@ -5,11 +5,11 @@ ghost use Rattle.yv_leaf_targets.specs.declared.place.Way.TheVariants.{AtNode};
 ghost use Rattle.yv_leaf_targets.specs.Numbers.{arrived_at, is_called_at, leaf_at_end_of, led_by_at, unique_leaf_at};
 
 use crate::index::Index;
-use crate::numbered::{arrived_at, is_called_at, leaf_of, module_at};
+use crate::numbered::{arrived_at, home_at, is_called_at, leaf_of};
 use crate::place::Way;
 use std::alloc::{AllocError, Global};
-use yv_leaf_paths::PathStep;
 use yv_nodes::{Node, NodeId};
+use yv_properties::PathStep;
 
 // Where a path is that came down from one node to another, if there is one.
 fn arrived_from(nodes: &[Node], above: NodeId, below: Option<NodeId>) -> Option<Way>
@@ -20,8 +20,8 @@ fn arrived_from(nodes: &[Node], above: NodeId, below: Option<NodeId>) -> Option<
 }
 
 // Where a path is that came from the case left out around a node, if it is of this module and this name.
-fn entered(nodes: &[Node], node: NodeId, home: &str, name: &str) -> Option<Way>
-    ensures { result ≡ (if is_called_at nodes.now home.now name.now node then Some (AtNode node) else None) }
+fn entered(nodes: &[Node], node: NodeId, home: u32, name: &str) -> Option<Way>
+    ensures { result ≡ (if is_called_at nodes.now home name.now node then Some (AtNode node) else None) }
 {
     if is_called_at(nodes, node, home, name) {
         Some(Way::AtNode(node))
@@ -34,12 +34,12 @@ fn entered(nodes: &[Node], node: NodeId, home: &str, name: &str) -> Option<Way>
 fn stepped<'n>(
     alloc: Global,
     index: &mut Index<'n>,
-    own: &'n str,
+    own: u32,
     from: Way,
     step: &'n PathStep,
 ) -> Result<Option<Way>, AllocError>
     ensures rows { index.new ≡ index.old }
-    ensures next { IfOk result (λ next. next ≡ led_by_at index.old own.now (Some step.now) from) }
+    ensures next { IfOk result (λ next. next ≡ led_by_at index.old own (Some step.now) from) }
 {
     let home = step.home().unwrap_or(own);
     let name = step.name();
@@ -56,12 +56,12 @@ fn stepped<'n>(
 fn led_by<'n>(
     alloc: Global,
     index: &mut Index<'n>,
-    own: &'n str,
+    own: u32,
     from: Way,
     step: &'n Option<PathStep>,
 ) -> Result<Option<Way>, AllocError>
     ensures rows { index.new ≡ index.old }
-    ensures next { IfOk result (λ next. next ≡ led_by_at index.old own.now step.now from) }
+    ensures next { IfOk result (λ next. next ≡ led_by_at index.old own step.now from) }
 {
     match step {
         Some(step) => {
@@ -95,7 +95,7 @@ pub(crate) fn unique_leaf<'n>(
     if path.is_empty() {
         return Ok(None);
     }
-    let own = module_at(index.nodes(), list);
+    let own = home_at(index.nodes(), list);
     let mut place = Way::AtNode(list);
     for step in path {
         match led_by(alloc, index, own, place, step)? {

@@ -10,13 +10,15 @@ abbrev pub member_of : Bool → List ℕ → List ℕ → List ℕ
 member_of true home name = home ++ 58 ∷ name
 member_of false home name = name
 
--- a node of the module `home` that stands so, with these numbers of the node above it and of those below it
-abbrev pub row_with : Defined → (home : List ℕ) → Standing → (parent : NodeId) → (children : List NodeId) → Row
-row_with d home standing parent children = record {
+-- a node of the module of this name, the number of whose file is `home`, that stands so, with these numbers of the node above it and
+-- of those below it
+abbrev pub row_with : Defined → (home : ℕ) → (module_name : List ℕ) → Standing → (parent : NodeId) → (children : List NodeId) → Row
+row_with d home module_name standing parent children = record {
   label = record {
     defined = d;
-    module_name = home;
-    member = member_of standing.is_qualified home d.name;
+    home = home;
+    module_name = module_name;
+    member = member_of standing.is_qualified module_name d.name;
     is_config = standing.is_config;
     is_key = standing.is_key;
     is_input = standing.is_input;

@@ -2,7 +2,7 @@
 use Rattle.std.specs.Prelude.{ℕ, ◌+◌, List, [], ◌∷◌, ◌++◌}
 use Rattle.yv_nodes.specs.declared.node.NodeId.{NodeId}
 use Rattle.yv_nodes.specs.Tree.{Forest, count, no_trees, tree, node}
-use Rattle.yv_nodes.specs.Rows.{Row, Rows, root}
+use Rattle.yv_nodes.specs.Rows.{Module, Note, Row, Rows, root}
 
 -- the numbers of the trees' own nodes, where the first has the number `first`
 abbrev pub numbers_from : ℕ → Forest → List NodeId
@@ -20,6 +20,12 @@ rows_below parent first (tree (node l kids) ts) =
 abbrev pub rows_from : ℕ → Forest → List Row
 rows_from first ts = rows_below root first ts
 
--- the rows of a schema tree, within a limit
-abbrev pub rows_of : (limit : ℕ) → Forest → Rows
-rows_of limit ts = record { nodes = rows_from 0 ts; top = numbers_from 0 ts; limit = limit }
+-- the rows of a schema tree within a limit, with these modules and augments
+abbrev pub rows_of : (limit : ℕ) → List Module → List Note → Forest → Rows
+rows_of limit modules augments ts = record {
+  nodes = rows_from 0 ts;
+  top = numbers_from 0 ts;
+  limit = limit;
+  modules = modules;
+  augments = augments;
+}

@@ -16,11 +16,28 @@ pub record Bounded : Type 0 where
   pub limit : ℕ
   pub rows : List Row
 
--- the rows by number, from 0, the numbers of the nodes at the top, in order, and the most nodes that there may be
+-- an implemented module: its name, its prefix, and the number of its file
+pub record Module : Type 0 where
+  pub name : List ℕ
+  pub prefix : List ℕ
+  pub home : ℕ
+
+-- an `augment` statement at the top of a module, the number of whose file is `home`: its argument, the node to which that leads, and
+-- the nodes that it adds below it
+pub record Note : Type 0 where
+  pub home : ℕ
+  pub argument : List ℕ
+  pub target : NodeId
+  pub nodes : List NodeId
+
+-- the rows by number, from 0, the numbers of the nodes at the top, in order, the most nodes that there may be, the implemented modules
+-- by file, and the augments in order
 pub record Rows : Type 0 where
   pub nodes : List Row
   pub top : List NodeId
   pub limit : ℕ
+  pub modules : List Module
+  pub augments : List Note
 
 -- the root, the parent of the nodes at the top, has the last number of 32 bits
 abbrev pub root : NodeId
@@ -31,6 +48,7 @@ abbrev pub blank_row : Row
 blank_row = record {
   label = record {
     defined = blank_defined;
+    home = 0;
     module_name = [];
     member = [];
     is_config = false;

@@ -1,14 +1,12 @@
 //! A schema node, and its number.
 ghost use Rattle.std.specs.Prelude.{◌≡◌, Some, None, IfOk, not, map, string_bytes, if◌then◌else◌};
-ghost use Rattle.std.specs.List.{list_any};
 ghost use Rattle.std.specs.Option.{option_map};
 ghost use Rattle.std.specs.Rc.{rc_str_bytes};
-ghost use Rattle.std.specs.Str.{bytes_eq};
 
 use std::alloc::{AllocError, Global};
 use std::marker::Model;
 use std::rc::RcStr;
-use yv_properties::{Definition, NodeKind, NodeStatus, WrittenText};
+use yv_properties::{Definition, NodeKind, NodeStatus, PathStep, WrittenText};
 use yv_statement::{Code, Refusal};
 use yv_values::{PlainType, Value};
 
@@ -42,6 +40,7 @@ pub struct Standing {
 #[derive(Drop)]
 pub struct Node {
     definition: Definition,
+    home: u32,
     module: RcStr,
     standing: Standing,
     parent: NodeId,
@@ -55,30 +54,32 @@ impl Model for Node {
 
     ghost Value = { Row };
 
-    ghost view = { λ n. row_with n.definition (rc_str_bytes n.module) n.standing n.parent n.children.items };
+    ghost view = { λ n. row_with n.definition n.home (rc_str_bytes n.module) n.standing n.parent n.children.items };
 }
 
 impl Node {
     ghost use Rattle.yv_values.specs.Types.{plain_of};
-    ghost use Rattle.yv_properties.specs.Defined.{default_of, is_empty, written_of};
+    ghost use Rattle.yv_properties.specs.Defined.{default_of, is_empty, paths_in, written_of};
     ghost use Rattle.yv_nodes.specs.Defaults.{defaults_of};
     ghost use Rattle.yv_nodes.specs.Refused.{refusal_of};
     ghost use Rattle.yv_nodes.specs.Member.{row_with};
 
-    /// The node that a statement defines, in the namespace of the module of this name, which stands so in the tree, with these
-    /// numbers of the node above it and of those below it.
+    /// The node that a statement defines, in the namespace of the module of this name, the number of whose file is `home`, which
+    /// stands so in the tree, with these numbers of the node above it and of those below it.
     pub fn new(
         definition: Definition,
-        home: RcStr,
+        home: u32,
+        module_name: RcStr,
         standing: Standing,
         parent: NodeId,
         children: Vec<NodeId>,
     ) -> Node
-        ensures { result ≡ row_with definition (rc_str_bytes home) standing parent children.items }
+        ensures { result ≡ row_with definition home (rc_str_bytes module_name) standing parent children.items }
     {
         Node {
             definition,
-            module: home,
+            home,
+            module: module_name,
             standing,
             parent,
             children,
@@ -127,6 +128,13 @@ impl Node {
         ensures { result ≡ self.now.label.defined.kind }
     {
         self.definition.kind()
+    }
+
+    /// The number of the file of the module whose namespace the node is in. Nodes of one module have one number.
+    pub fn home(&self) -> u32
+        ensures { result ≡ self.now.label.home }
+    {
+        self.home
     }
 
     /// The name of the module whose namespace the node is in.
@@ -251,30 +259,24 @@ impl Node {
         self.definition.max()
     }
 
-    /// The names that the `key` statement of a list names, in order.
-    pub fn key_names(&self) -> &[RcStr]
-        ensures { map rc_str_bytes result.now ≡ self.now.label.defined.key_names }
+    /// What the `key` statement of a list names, each name being the one step of a path, in order (RFC 7950, section 7.8.2). A step
+    /// is None where its prefix stands for no module.
+    pub fn keys(&self) -> &[Option<PathStep>]
+        ensures { result.now ≡ self.now.label.defined.keys }
     {
-        self.definition.key_names()
+        self.definition.keys()
     }
 
     /// Whether it has a `key` statement.
     pub fn has_key(&self) -> bool
-        ensures { result ≡ not (is_empty self.now.label.defined.key_names) }
+        ensures { result ≡ not (is_empty self.now.label.defined.keys) }
     {
         self.definition.has_key()
     }
 
-    /// Whether its `key` statement names this one.
-    pub fn names_key(&self, name: &str) -> bool
-        ensures { result ≡ list_any (λ key. bytes_eq key name.now) self.now.label.defined.key_names }
-    {
-        self.definition.names_key(name)
-    }
-
-    /// The arguments of its `unique` statements, in order.
-    pub fn uniques(&self) -> &[RcStr]
-        ensures { map rc_str_bytes result.now ≡ self.now.label.defined.uniques }
+    /// The paths of each of its `unique` statements, in order (RFC 7950, section 7.8.3).
+    pub fn uniques(&self) -> &[Vec<Vec<Option<PathStep>>>]
+        ensures { map paths_in result.now ≡ self.now.label.defined.uniques }
     {
         self.definition.uniques()
     }

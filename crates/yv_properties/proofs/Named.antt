@@ -1,40 +1,78 @@
--- Sets of shared names.
-use Rattle.std.proofs.Common.{◌≡◌, ℕ, List, Bool, true, false, ◌||◌, sym, ◌∙◌, ap, subst, inl, inr}
+-- Sets of steps.
+use Rattle.std.proofs.Common.{◌≡◌, ℕ, List, Bool, true, false, ◌||◌, ◌&&◌, sym, ◌∙◌, ap, subst, inl, inr, Option, Some, None, refl, arith}
 use Rattle.std.specs.BTreeSet.{BTreeSet, UpdatesBy}
 use Rattle.std.specs.Cmp.Lexicographic.{slice_cmp}
 use Rattle.std.specs.List.{list_any}
 use Rattle.std.specs.Map.{AreApart, IsKeyTest}
 use Rattle.std.specs.Set.{KeepsOthers}
-use Rattle.std.specs.Ordering.{is_eq, nat_cmp}
+use Rattle.std.specs.Option.{option_cmp}
+use Rattle.std.specs.Ordering.{is_eq, nat_cmp, ordering_then}
+use Rattle.std.specs.declared.cmp.Ordering.{Ordering}
+use Rattle.std.specs.declared.cmp.Ordering.TheVariants.{Less, Equal, Greater}
 use Rattle.std.specs.Rc.{rc_str_bytes}
 use Rattle.std.specs.Str.{bytes_eq}
 use Rattle.std.specs.declared.rc.RcStr.{RcStr}
 use Rattle.std.specs.declared.alloc.Global.{Global}
 use Rattle.std.proofs.lemmas.Bool.{cases_Bool}
-use Rattle.std.proofs.lemmas.Cmp.{eq_by_cmp_equiv, nat_list_cmp_total, nat_list_eq_equiv}
+use Rattle.std.proofs.lemmas.Bool.Decides.{nat_tests}
 use Rattle.std.proofs.lemmas.Map.Text.{is_eq-slice_cmp}
 use Rattle.std.proofs.lemmas.Slice.Eq.{bytes_eq-Decides}
+use Rattle.yv_properties.specs.Steps.{Step, is_home, is_step}
 use Rattle.yv_properties.specs.InnerNames.{has}
 
--- two texts that differ find no key in common
-apart : (a b k : List ℕ) → bytes_eq a b ≡ false → is_eq (slice_cmp nat_cmp a k) ≡ true → is_eq (slice_cmp nat_cmp b k) ≡ false
-apart a b k differ found =
-    let same : bytes_eq a k ≡ true = sym (is_eq-slice_cmp a k) ∙ found in
-    is_eq-slice_cmp b k ∙ nat_list_eq_equiv.symm b k ∙ sym (nat_list_eq_equiv.congr a k b same) ∙ differ
+is_eq_then : (p q : Ordering) → is_eq (ordering_then p q) ≡ (is_eq p && is_eq q)
+is_eq_then Less q = refl
+is_eq_then Equal q = refl
+is_eq_then Greater q = refl
+
+home_is : (h g : Option ℕ) → is_eq (option_cmp nat_cmp h g) ≡ is_home h g
+home_is None None = refl
+home_is None (Some b) = refl
+home_is (Some a) None = refl
+home_is (Some a) (Some b) = grind (arith, nat_tests)
+
+same_home : (h g : Option ℕ) → is_home h g ≡ true → h ≡ g
+same_home None None e = refl
+same_home None (Some b) e = cc
+same_home (Some a) None e = cc
+same_home (Some a) (Some b) e = let same : a ≡ b = grind (arith, nat_tests, e) in ap Some same
+
+-- how a module and a name compare to others
+abbrev compared : (h : Option ℕ) (n : List ℕ) (g : Option ℕ) (m : List ℕ) → Ordering
+compared h n g m = ordering_then (slice_cmp nat_cmp n m) (option_cmp nat_cmp h g)
+
+test_is : (h : Option ℕ) (n : List ℕ) (g : Option ℕ) (m : List ℕ) → is_eq (compared h n g m) ≡ (bytes_eq n m && is_home h g)
+test_is h n g m =
+    is_eq_then (slice_cmp nat_cmp n m) (option_cmp nat_cmp h g)
+    ∙ ap (λ b. b && is_eq (option_cmp nat_cmp h g)) (is_eq-slice_cmp n m)
+    ∙ ap (λ b. bytes_eq n m && b) (home_is h g)
+
+both : (a b : Bool) → (a && b) ≡ true → (a ≡ true) × (b ≡ true)
+both true b h = (refl, h)
+both false b h = cc
+
+parts : (h : Option ℕ) (n : List ℕ) (g : Option ℕ) (m : List ℕ) → (bytes_eq n m && is_home h g) ≡ true → (h ≡ g) × (n ≡ m)
+parts h n g m e = let p = both (bytes_eq n m) (is_home h g) e in (same_home h g p.1, (bytes_eq-Decides n m).0 p.0)
 
 module _ {K : Type 0} (eq : K → K → Bool) (test : K → Bool) where
   others_kept : (old new : List K) → KeepsOthers eq test old new → (other : K → Bool) → IsKeyTest eq other → AreApart test other → list_any other new ≡ list_any other old
   unfolding KeepsOthers
   others_kept old new h = h
 
--- what a set has where a name was added
-pub put_name : (old new : BTreeSet (RcStr Global)) (name : List ℕ) → UpdatesBy (λ x y. slice_cmp nat_cmp (rc_str_bytes x) (rc_str_bytes y)) (λ k. slice_cmp nat_cmp name (rc_str_bytes k)) old new true
-    → (text : List ℕ) → has new text ≡ (bytes_eq name text || has old text)
-put_name old new name h text = elim (cases_Bool (bytes_eq name text)) [
+-- what a set has where a step was added
+pub put_step : (old new : BTreeSet (RcStr Global × Option ℕ)) (home : Option ℕ) (name : List ℕ)
+    → UpdatesBy (λ x y. ordering_then (slice_cmp nat_cmp (rc_str_bytes x.0) (rc_str_bytes y.0)) (option_cmp nat_cmp x.1 y.1)) (λ k. ordering_then (slice_cmp nat_cmp name (rc_str_bytes k.0)) (option_cmp nat_cmp home k.1)) old new true
+    → (h : Option ℕ) (n : List ℕ) → has new h n ≡ (is_step h n (Some (record { home = home; name = name })) || has old h n)
+put_step old new home name u h n = elim (cases_Bool (bytes_eq n name && is_home h home)) [
   | inl same ↦
-      let one : name ≡ text = (bytes_eq-Decides name text).0 same in
-      subst (λ (t : List ℕ). has new t ≡ true) one h.1 ∙ sym (ap (λ (b : Bool). b || has old text) same)
+      let one = parts h n home name same in
+      subst (λ (g : Option ℕ). has new g n ≡ true) (sym one.0) (subst (λ (t : List ℕ). has new home t ≡ true) (sym one.1) u.1)
+      ∙ sym (ap (λ (b : Bool). b || has old h n) same)
   | inr differ ↦
-      others_kept _ _ _ _ h.3 _ (λ x y. (eq_by_cmp_equiv nat_list_cmp_total).congr text (rc_str_bytes x) (rc_str_bytes y)) (λ k. apart name text (rc_str_bytes k) differ)
-      ∙ sym (ap (λ (b : Bool). b || has old text) differ)
+      others_kept _ _ _ _ u.3 (λ k. is_eq (compared h n k.1 (rc_str_bytes k.0)))
+      (λ x y e. let one = parts h n x.1 (rc_str_bytes x.0) (sym (test_is h n x.1 (rc_str_bytes x.0)) ∙ e) in
+      ap (λ (g : Option ℕ). is_eq (compared g n y.1 (rc_str_bytes y.0))) one.0 ∙ ap (λ (t : List ℕ). is_eq (compared x.1 t y.1 (rc_str_bytes y.0))) one.1)
+      (λ k e. let one = parts home name k.1 (rc_str_bytes k.0) (sym (test_is home name k.1 (rc_str_bytes k.0)) ∙ e) in
+      ap (λ (g : Option ℕ). is_eq (compared h n g (rc_str_bytes k.0))) (sym one.0) ∙ ap (λ (t : List ℕ). is_eq (compared h n home t)) (sym one.1) ∙ test_is h n home name ∙ differ)
+      ∙ sym (ap (λ (b : Bool). b || has old h n) differ)
 ]

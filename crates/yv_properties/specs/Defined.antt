@@ -1,9 +1,12 @@
 -- What a statement says of the schema node that it defines (RFC 7950, section 7).
-use Rattle.std.specs.Prelude.{ℕ, Bool, List, [], Option, None, true, false, ◌∷◌}
+use Rattle.std.specs.Prelude.{ℕ, Bool, List, [], Option, None, true, false, ◌∷◌, map}
 use Rattle.std.specs.Option.{option_or}
 use Rattle.std.specs.Rc.{rc_str_bytes}
+use Rattle.std.specs.declared.vec.Vec.{Vec}
+use Rattle.std.specs.declared.alloc.Global.{Global}
 use Rattle.yv_values.specs.Types.{Plain}
 use Rattle.yv_values.specs.Values.{Val}
+use Rattle.yv_properties.specs.Steps.{Step}
 use Rattle.yv_properties.specs.declared.kind.NodeKind.{NodeKind}
 use Rattle.yv_properties.specs.declared.kind.NodeKind.TheVariants.{Leaf}
 use Rattle.yv_properties.specs.declared.kind.NodeStatus.{NodeStatus}
@@ -18,7 +21,9 @@ pub record Written : Type 0 where
 abbrev pub written_of : WrittenText → Written
 written_of w = record { text = rc_str_bytes w.text; file = w.file }
 
--- what a statement says of the schema node that it defines: `file`, `offset` and `line` say where its keyword stands
+-- what a statement says of the schema node that it defines: `file`, `offset` and `line` say where its keyword stands. `keys` has the
+-- names of its `key` statement, each the one step of a path, and `uniques` the paths of each `unique` statement. A step is None where
+-- its prefix stands for no module
 pub record Defined : Type 0 where
   pub file : ℕ
   pub offset : ℕ
@@ -34,8 +39,8 @@ pub record Defined : Type 0 where
   pub is_mandatory : Bool
   pub min : ℕ
   pub max : Option ℕ
-  pub key_names : List (List ℕ)
-  pub uniques : List (List ℕ)
+  pub keys : List (Option Step)
+  pub uniques : List (List (List (Option Step)))
   pub own_default : Option Written
   pub type_default : Option Written
   pub defaults : List Val
@@ -44,9 +49,13 @@ pub record Defined : Type 0 where
 abbrev pub default_of : Defined → Option Written
 default_of d = option_or d.own_default d.type_default
 
-abbrev pub is_empty : List (List ℕ) → Bool
+abbrev pub is_empty : List (Option Step) → Bool
 is_empty [] = true
-is_empty (text ∷ texts) = false
+is_empty (step ∷ steps) = false
+
+-- the paths of a `unique` statement
+abbrev pub paths_in : Vec (Vec (Option Step) Global) Global → List (List (Option Step))
+paths_in paths = map (λ path. path.items) paths.items
 
 -- what stands where no statement says anything
 abbrev pub blank : Defined
@@ -65,7 +74,7 @@ blank = record {
   is_mandatory = false;
   min = 0;
   max = None;
-  key_names = [];
+  keys = [];
   uniques = [];
   own_default = None;
   type_default = None;

@@ -1,18 +1,13 @@
--- Only private clauses cite this: names as a set.
-use Rattle.std.specs.Prelude.{ℕ, Bool, List, map}
-use Rattle.std.specs.List.{list_any}
-use Rattle.std.specs.Str.{bytes_eq}
+-- Only private clauses cite this: steps as a set.
+use Rattle.std.specs.Prelude.{ℕ, Bool, List, Option}
 use Rattle.std.specs.BTreeSet.{BTreeSet, contains_by}
-use Rattle.std.specs.Ordering.{nat_cmp}
+use Rattle.std.specs.Option.{option_cmp}
+use Rattle.std.specs.Ordering.{nat_cmp, ordering_then}
 use Rattle.std.specs.Cmp.Lexicographic.{slice_cmp}
 use Rattle.std.specs.Rc.{rc_str_bytes}
 use Rattle.std.specs.declared.rc.RcStr.{RcStr}
 use Rattle.std.specs.declared.alloc.Global.{Global}
 
--- a name is in the set
-abbrev pub has : BTreeSet (RcStr Global) → List ℕ → Bool
-has names text = contains_by (λ k. slice_cmp nat_cmp text (rc_str_bytes k)) names
-
--- one of these names is this text
-abbrev pub any_called : List ℕ → List (RcStr Global) → Bool
-any_called text names = list_any (λ key. bytes_eq key text) (map rc_str_bytes names)
+-- a step is in the set
+abbrev pub has : BTreeSet (RcStr Global × Option ℕ) → (home : Option ℕ) → (name : List ℕ) → Bool
+has steps home name = contains_by (λ k. ordering_then (slice_cmp nat_cmp name (rc_str_bytes k.0)) (option_cmp nat_cmp home k.1)) steps

@@ -1,3 +1,4 @@
 pub mod Kinds
+pub mod Steps
 pub mod Defined
 pub mod InnerNames

@@ -1,14 +1,14 @@
 //! What a statement says of the schema node that it defines.
 ghost use Rattle.std.specs.Prelude.{◌≡◌, not, map, IfOk};
-ghost use Rattle.std.specs.List.{list_any};
 ghost use Rattle.std.specs.Option.{option_map};
 ghost use Rattle.std.specs.Rc.{rc_str_bytes};
-ghost use Rattle.std.specs.Str.{bytes_eq};
 ghost use Rattle.yv_values.specs.Types.{plain_of};
-ghost use Rattle.yv_properties.specs.Defined.{default_of, is_empty, written_of};
+ghost use Rattle.yv_properties.specs.Defined.{default_of, is_empty, paths_in, written_of};
+ghost use Rattle.yv_properties.specs.Steps.{has_step};
 
-use crate::key_names::KeyNames;
+use crate::keys::Keys;
 use crate::kind::{NodeKind, NodeStatus};
+use crate::step::PathStep;
 use std::alloc::AllocError;
 use std::marker::Model;
 use std::rc::{Rc, RcSlice, RcStr};
@@ -55,10 +55,10 @@ pub struct Definition {
     pub min: u32,
     /// The most entries that a list or leaf-list may have, where that is bounded.
     pub max: Option<u32>,
-    /// The names that its `key` statement names, in order: none without one.
-    pub key_names: Rc<KeyNames>,
-    /// The arguments of its `unique` statements, in order.
-    pub uniques: RcSlice<RcStr>,
+    /// What its `key` statement names, in order: nothing without one.
+    pub keys: Rc<Keys>,
+    /// The paths of each of its `unique` statements, in order.
+    pub uniques: Rc<Vec<Vec<Vec<Option<PathStep>>>>>,
     /// The argument of its `default` statement.
     pub own_default: Option<WrittenText>,
     /// The default that its type has by its typedefs.
@@ -72,7 +72,7 @@ impl Model for Definition {
     ghost use Rattle.std.specs.Option.{option_map};
     ghost use Rattle.std.specs.Rc.{rc_slice_items, rc_str_bytes};
     ghost use Rattle.yv_values.specs.Types.{plain_of};
-    ghost use Rattle.yv_properties.specs.Defined.{Defined, written_of};
+    ghost use Rattle.yv_properties.specs.Defined.{Defined, paths_in, written_of};
 
     ghost Value = { Defined };
 
@@ -91,8 +91,8 @@ impl Model for Definition {
       is_mandatory = d.is_mandatory;
       min = d.min;
       max = d.max;
-      key_names = d.key_names.value;
-      uniques = map rc_str_bytes (rc_slice_items d.uniques);
+      keys = d.keys.value;
+      uniques = map paths_in d.uniques.value.items;
       own_default = option_map written_of d.own_default;
       type_default = option_map written_of d.type_default;
       defaults = rc_slice_items d.defaults;
@@ -199,30 +199,32 @@ impl Definition {
         self.max
     }
 
-    /// The names that its `key` statement names, in order: none without one (RFC 7950, section 7.8.2).
-    pub fn key_names(&self) -> &[RcStr]
-        ensures { map rc_str_bytes result.now ≡ self.now.key_names }
+    /// What its `key` statement names, each name being the one step of a path, in order: nothing without one (RFC 7950, section
+    /// 7.8.2). A step is None where its prefix stands for no module.
+    pub fn keys(&self) -> &[Option<PathStep>]
+        ensures { result.now ≡ self.now.keys }
     {
-        self.key_names.names()
+        self.keys.steps()
     }
 
     /// Whether it has a key.
     pub fn has_key(&self) -> bool
-        ensures { result ≡ not (is_empty self.now.key_names) }
+        ensures { result ≡ not (is_empty self.now.keys) }
     {
-        !self.key_names.names().is_empty()
+        !self.keys.steps().is_empty()
     }
 
-    /// Whether its `key` statement names this one.
-    pub fn names_key(&self, name: &str) -> bool
-        ensures { result ≡ list_any (λ key. bytes_eq key name.now) self.now.key_names }
+    /// Whether its `key` statement has a name that is written with this module, or without one. Takes time log n in its names.
+    pub fn has_key_step(&self, home: Option<u32>, name: RcStr) -> bool
+        ensures { result ≡ has_step home (rc_str_bytes name) self.now.keys }
     {
-        self.key_names.contains(name)
+        self.keys.contains(home, name)
     }
 
-    /// The arguments of its `unique` statements, in order (RFC 7950, section 7.8.3).
-    pub fn uniques(&self) -> &[RcStr]
-        ensures { map rc_str_bytes result.now ≡ self.now.uniques }
+    /// The paths of each of its `unique` statements, in order (RFC 7950, section 7.8.3). A step is None where its prefix stands
+    /// for no module.
+    pub fn uniques(&self) -> &[Vec<Vec<Option<PathStep>>>]
+        ensures { map paths_in result.now ≡ self.now.uniques }
     {
         self.uniques.as_slice()
     }
@@ -275,7 +277,7 @@ impl Definition {
             is_mandatory: self.is_mandatory,
             min: self.min,
             max: self.max,
-            key_names: self.key_names.clone()?,
+            keys: self.keys.clone()?,
             uniques: self.uniques.clone()?,
             own_default: shared_default(&self.own_default)?,
             type_default: shared_default(&self.type_default)?,

@@ -2,9 +2,11 @@
 #![tactic(auto)]
 
 mod definition;
-mod key_names;
+mod keys;
 mod kind;
+mod step;
 
 pub use definition::{Definition, WrittenText};
-pub use key_names::KeyNames;
+pub use keys::Keys;
 pub use kind::{NodeKind, NodeStatus};
+pub use step::PathStep;

@@ -9,7 +9,7 @@ use Rattle.yv_statement.specs.declared.refusal.Stop.{Stop}
 use Rattle.yv_statement.specs.declared.refusal.Stop.TheVariants.{Fault}
 use Rattle.yv_statement.proofs.Least.{least_lesser}
 use Rattle.yv_nodes.specs.Tree.{Forest}
-use Rattle.yv_tables.specs.Doubled.{Doubled}
+use Rattle.yv_tables.specs.Bad.{BadRows}
 use Rattle.yv_tree_checks.specs.Bad.{BadTree}
 use Rattle.yv_schema.specs.Refuses.{BadNodes}
 use Rattle.yv_selection.specs.Choice.{Choice}
@@ -42,16 +42,16 @@ on_ok_from (Ok x) f h = f x h
 on_ok_from (Err e) f h = tt
 
 -- nothing is wrong with a tree
-pub both_clear : (top : Forest) → IsLeast (Doubled top) None → IsLeast (BadTree top) None → IsLeast (BadNodes top) None
-both_clear top doubled wrong = least_lesser (Doubled top) (BadTree top) None None None refl doubled wrong
+pub both_clear : (top : Forest) → IsLeast (BadRows top) None → IsLeast (BadTree top) None → IsLeast (BadNodes top) None
+both_clear top doubled wrong = least_lesser (BadRows top) (BadTree top) None None None refl doubled wrong
 
 -- the first refusal is the least of all that is wrong with a tree
-pub first_stands : (top : Forest) (numbered : Result Rows Stop) (wrong : Option Refusal) (r : Refusal) → OnOk numbered (IsLeast (Doubled top) None)
-    → ((d : Refusal) → numbered ≡ Err (Fault d) → IsLeast (Doubled top) (Some d)) → IsLeast (BadTree top) wrong → IsFirst numbered wrong r → IsLeast (BadNodes top) (Some r)
+pub first_stands : (top : Forest) (numbered : Result Rows Stop) (wrong : Option Refusal) (r : Refusal) → OnOk numbered (IsLeast (BadRows top) None)
+    → ((d : Refusal) → numbered ≡ Err (Fault d) → IsLeast (BadRows top) (Some d)) → IsLeast (BadTree top) wrong → IsFirst numbered wrong r → IsLeast (BadNodes top) (Some r)
 first_stands top numbered wrong r clear doubled least (of_tree s is told) =
-    least_lesser (Doubled top) (BadTree top) None (Some r) (Some r) refl (subst (λ (o : Result Rows Stop). OnOk o (IsLeast (Doubled top) None)) is clear) (subst (λ (o : Option Refusal). IsLeast (BadTree top) o) told least)
+    least_lesser (BadRows top) (BadTree top) None (Some r) (Some r) refl (subst (λ (o : Result Rows Stop). OnOk o (IsLeast (BadRows top) None)) is clear) (subst (λ (o : Option Refusal). IsLeast (BadTree top) o) told least)
 first_stands top numbered wrong r clear doubled least (of_both d is lesser) =
-    least_lesser (Doubled top) (BadTree top) (Some d) wrong (Some r) lesser (doubled d is) least
+    least_lesser (BadRows top) (BadTree top) (Some d) wrong (Some r) lesser (doubled d is) least
 
 -- what stopped a call
 abbrev pub stop_in : {A : Type 0} → Result A Stop → Stop → Stop

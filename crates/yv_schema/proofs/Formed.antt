@@ -11,7 +11,7 @@ use Rattle.yv_rows.specs.Files.{Files, brief_of, tree_name}
 use Rattle.yv_properties.specs.Kinds.{is_passed}
 use Rattle.yv_nodes.specs.Tree.{node, Forest, Label, no_trees, tree}
 use Rattle.yv_labels.specs.Labels.{data_home, member_name}
-use Rattle.yv_schema.specs.Module.{Basis, file_nodes, is_given, is_part, label_at, labelled, module_nodes, modules_from, parts_from}
+use Rattle.yv_schema.specs.Module.{Basis, Home, file_nodes, home_of, is_given, is_part, label_at, labelled, module_nodes, modules_from, parts_from}
 use Rattle.yv_copies.specs.Left.{left_in}
 use Rattle.yv_tables.specs.Groups.{AreDifferent, AreFormed, Group, HasNoColon, IsFormed, IsNew, all_nodes, joined}
 use Rattle.yv_schema.specs.InnerBuild.{groups_from}
@@ -46,22 +46,22 @@ front_below : (is_passed : Bool) (above_home home : List ℕ) → front_for (con
 front_below true above_home home = refl
 front_below false above_home home = no_front home
 
-pub labelled_formed : (b : Basis) (home : List ℕ) (above : List Label) (t : items.Nodes) (others : Forest) → AreFormed home (front_for (data_home above) home) others → AreFormed home (front_for (data_home above) home) (labelled b home above t others)
+pub labelled_formed : (b : Basis) (home : Home) (above : List Label) (t : items.Nodes) (others : Forest) → AreFormed home.name (front_for (data_home above) home.name) others → AreFormed home.name (front_for (data_home above) home.name) (labelled b home above t others)
 labelled_formed b home above items.none others rest = rest
 labelled_formed b home above (items.item number below behind) others rest =
     let mine : Label = label_at b home above number in
     let passed : Bool = is_passed mine.defined.kind in
-    let after : AreFormed home (front_for (data_home above) home) (labelled b home above behind others) = labelled_formed b home above behind others rest in
-    let kids : AreFormed home (front_for (data_home (mine ∷ above)) home) (labelled b home (mine ∷ above) below no_trees) = labelled_formed b home (mine ∷ above) below no_trees tt in
-    let inside : AreFormed home (cond passed (front_for (data_home above) home) []) (labelled b home (mine ∷ above) below no_trees) =
-    subst (λ (front : List ℕ). AreFormed home front (labelled b home (mine ∷ above) below no_trees)) (front_below passed (data_home above) home) kids in
-    (refl, fronted_name (data_home above) home mine.defined.name, inside, after)
+    let after : AreFormed home.name (front_for (data_home above) home.name) (labelled b home above behind others) = labelled_formed b home above behind others rest in
+    let kids : AreFormed home.name (front_for (data_home (mine ∷ above)) home.name) (labelled b home (mine ∷ above) below no_trees) = labelled_formed b home (mine ∷ above) below no_trees tt in
+    let inside : AreFormed home.name (cond passed (front_for (data_home above) home.name) []) (labelled b home (mine ∷ above) below no_trees) =
+    subst (λ (front : List ℕ). AreFormed home.name front (labelled b home (mine ∷ above) below no_trees)) (front_below passed (data_home above) home.name) kids in
+    (refl, fronted_name (data_home above) home.name mine.defined.name, inside, after)
 
-parts_formed : (b : Basis) (m : ℕ) (home : List ℕ) (n : ℕ) (ts : Files) (others : Forest) → AreFormed home (front_for [] home) others → AreFormed home (front_for [] home) (parts_from b m home n ts others)
+parts_formed : (b : Basis) (m : ℕ) (home : Home) (n : ℕ) (ts : Files) (others : Forest) → AreFormed home.name (front_for [] home.name) others → AreFormed home.name (front_for [] home.name) (parts_from b m home n ts others)
 parts_formed b m home n [] others rest = rest
 parts_formed b m home n (t ∷ ts) others rest =
-    let behind : AreFormed home (front_for [] home) (parts_from b m home (n + 1) ts others) = parts_formed b m home (n + 1) ts others rest in
-    chosen_formed (is_part (map brief_of b.files) m n) home (front_for [] home) _ _ (labelled_formed b home [] (left_in b.truth b.files b.trees n) (parts_from b m home (n + 1) ts others) behind) behind
+    let behind : AreFormed home.name (front_for [] home.name) (parts_from b m home (n + 1) ts others) = parts_formed b m home (n + 1) ts others rest in
+    chosen_formed (is_part (map brief_of b.files) m n) home.name (front_for [] home.name) _ _ (labelled_formed b home [] (left_in b.truth b.files b.trees n) (parts_from b m home (n + 1) ts others) behind) behind
 
 -- the names of modules of these files
 pub record NamesIn (choice : Choice) (ts : Files) : Type 0 where
@@ -74,11 +74,11 @@ names_behind choice t ts h = record { plain = λ n. h.plain (suc n); filled = λ
 module _ (b : Basis) (choice : Choice) where
   group_formed : (m : ℕ) (t : statement.Tree) → HasNoColon (tree_name t) → tree_name t ≢ [] → IsFormed (record { name = tree_name t; nodes = module_nodes b m t no_trees })
   group_formed m t plain filled =
-      let home : List ℕ = tree_name t in
-      let parts : AreFormed home (front_for [] home) (parts_from b m home 0 b.files no_trees) = parts_formed b m home 0 b.files no_trees tt in
+      let home : Home = home_of m t in
+      let parts : AreFormed home.name (front_for [] home.name) (parts_from b m home 0 b.files no_trees) = parts_formed b m home 0 b.files no_trees tt in
       record {
         plain = plain;
-        formed = subst (λ (front : List ℕ). AreFormed home front (module_nodes b m t no_trees)) (top_front home filled) (labelled_formed b home [] (left_in b.truth b.files b.trees m) _ parts);
+        formed = subst (λ (front : List ℕ). AreFormed home.name front (module_nodes b m t no_trees)) (top_front home.name filled) (labelled_formed b home [] (left_in b.truth b.files b.trees m) _ parts);
       }
 
   chosen_groups : (b : Bool) (P : List Group → Type 0) (g : Group) (gs : List Group) → P gs → (b ≡ true → P gs → P (g ∷ gs)) → P (cond b (g ∷ gs) gs)
@@ -112,15 +112,15 @@ chosen_joined : (b : Bool) (a c ts us vs : Forest) → a ≡ joined ts us → c 
 chosen_joined true a c ts us vs p q = p
 chosen_joined false a c ts us vs p q = q
 
-pub labelled_joined : (b : Basis) (home : List ℕ) (above : List Label) (t : items.Nodes) (others : Forest) → labelled b home above t others ≡ joined (labelled b home above t no_trees) others
+pub labelled_joined : (b : Basis) (home : Home) (above : List Label) (t : items.Nodes) (others : Forest) → labelled b home above t others ≡ joined (labelled b home above t no_trees) others
 labelled_joined b home above items.none others = refl
 labelled_joined b home above (items.item number below behind) others =
     ap (tree (node (label_at b home above number) (labelled b home (label_at b home above number ∷ above) below no_trees))) (labelled_joined b home above behind others)
 
-file_joined : (b : Basis) (home : List ℕ) (n : ℕ) (others : Forest) → file_nodes b home n others ≡ joined (file_nodes b home n no_trees) others
+file_joined : (b : Basis) (home : Home) (n : ℕ) (others : Forest) → file_nodes b home n others ≡ joined (file_nodes b home n no_trees) others
 file_joined b home n others = labelled_joined b home [] (left_in b.truth b.files b.trees n) others
 
-parts_joined : (b : Basis) (m : ℕ) (home : List ℕ) (n : ℕ) (ts : Files) (others : Forest) → parts_from b m home n ts others ≡ joined (parts_from b m home n ts no_trees) others
+parts_joined : (b : Basis) (m : ℕ) (home : Home) (n : ℕ) (ts : Files) (others : Forest) → parts_from b m home n ts others ≡ joined (parts_from b m home n ts no_trees) others
 parts_joined b m home n [] others = refl
 parts_joined b m home n (t ∷ ts) others =
     let behind : Forest = parts_from b m home (n + 1) ts no_trees in
@@ -132,7 +132,7 @@ parts_joined b m home n (t ∷ ts) others =
 
 module_joined : (b : Basis) (m : ℕ) (t : statement.Tree) (others : Forest) → module_nodes b m t others ≡ joined (module_nodes b m t no_trees) others
 module_joined b m t others =
-    let home : List ℕ = tree_name t in
+    let home : Home = home_of m t in
     let nodes : Forest → Forest = file_nodes b home m in
     let parts : Forest → Forest = parts_from b m home 0 b.files in
     ap nodes (parts_joined b m home 0 b.files others) ∙ file_joined b home m (joined (parts no_trees) others)

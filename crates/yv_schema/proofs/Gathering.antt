@@ -11,7 +11,7 @@ use Rattle.yv_selection.specs.Choice.{Choice}
 use Rattle.yv_rows.specs.Files.{Files, brief_of, tree_name}
 use Rattle.yv_nodes.specs.declared.node.NodeId.{NodeId}
 use Rattle.yv_nodes.specs.Tree.{count, Forest, no_trees}
-use Rattle.yv_schema.specs.Module.{Basis, file_nodes, is_given, is_part, module_nodes, parts_from}
+use Rattle.yv_schema.specs.Module.{Basis, Home, file_nodes, is_given, is_part, module_nodes, parts_from}
 use Rattle.yv_nodes.specs.Rows.{Row, root}
 use Rattle.yv_nodes.specs.Numbers.{numbers_from, rows_from}
 use Rattle.yv_tables.specs.Groups.{Group, Top, all_nodes, tops_from}
@@ -34,7 +34,7 @@ homes_more f xs k many are n lt = elim (cases_lt n k) [
       ∙ ap (λ (i : ℕ). Some (get_or (xs ++ f k ∷ []) i 0)) last ∙ ap Some (get_or-append_seam xs (f k) [] 0) ∙ ap (λ (i : ℕ). Some (f i)) (sym same)
 ]
 
-module _ (b : Basis) (m : ℕ) (home : List ℕ) (roots : Files) (i : ℕ) (t : statement.Tree) (lt : i < length roots) (all : Forest → Forest) (old now : List Row) (before mid : List NodeId)
+module _ (b : Basis) (m : ℕ) (home : Home) (roots : Files) (i : ℕ) (t : statement.Tree) (lt : i < length roots) (all : Forest → Forest) (old now : List Row) (before mid : List NodeId)
     (rest : Rest (parts_from b m home i (drop i roots)) all old now before mid) where
   next_file : drop i roots ≡ get_or roots i t ∷ drop (i + 1) roots
   next_file = drop-cons roots i t lt ∙ ap (λ (n : ℕ). get_or roots i t ∷ drop n roots) (sym (add-one i))
@@ -62,7 +62,7 @@ module _ (b : Basis) (m : ℕ) (home : List ℕ) (roots : Files) (i : ℕ) (t : 
         are = λ others. ap (λ (ts : Forest). mid ++ numbers_from (length now) ts) (sym (first others)) ∙ rest.are others;
       }
 
-pub parts_end : (b : Basis) (m : ℕ) (home : List ℕ) (roots : Files) (i : ℕ) (all : Forest → Forest) (old now : List Row) (before after : List NodeId) → length roots ≤ i
+pub parts_end : (b : Basis) (m : ℕ) (home : Home) (roots : Files) (i : ℕ) (all : Forest → Forest) (old now : List Row) (before after : List NodeId) → length roots ≤ i
     → Rest (parts_from b m home i (drop i roots)) all old now before after → Adds all old now before after
 parts_end b m home roots i all old now before after over rest =
     let none : (others : Forest) → parts_from b m home i (drop i roots) others ≡ others =

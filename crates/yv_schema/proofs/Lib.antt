@@ -4,6 +4,7 @@ pub mod Formed
 pub mod Built
 pub mod Untaken
 pub mod Gathering
+pub mod Giving
 pub mod Rowing
 pub mod Within
 pub mod Told

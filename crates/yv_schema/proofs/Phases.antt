@@ -41,6 +41,8 @@ use Rattle.yv_schema.specs.Truth.{IsTruth}
 use Rattle.yv_nodes.specs.Tree.{Forest, Label}
 use Rattle.yv_schema.specs.Module.{Basis, is_given, schema_of}
 use Rattle.yv_nodes.specs.Places.{Place}
+use Rattle.yv_leaf_targets.specs.Bad.{BadOfLeafs}
+use Rattle.yv_tables.specs.Bad.{BadRows}
 use Rattle.yv_tables.specs.Doubled.{Doubled, Repeated, opened}
 use Rattle.yv_tree_checks.specs.Above.{AtNearest, BadBelow, is_misfit}
 use Rattle.yv_tree_checks.specs.Mandatory.{BadOfDefault}
@@ -179,14 +181,17 @@ default_phase p f h = elim h [
   | inr x ↦ elim x [ inl y ↦ of_phase f _ y.1 refl | inr y ↦ of_phase f _ y.1 refl ]
 ]
 
+leafs_phase : (p : Place) (f : Refusal) → BadOfLeafs p f → phase_of f.code ≡ 10
+leafs_phase p f h = elim h [ inl x ↦ of_phase f _ x.1 refl | inr x ↦ of_phase f _ x.1 refl ]
+
+rows_phase : (top : Forest) (f : Refusal) → BadRows top f → phase_of f.code ≡ 10
+rows_phase top f h = elim h [ inl x ↦ doubled_phase top f x | inr x ↦ leafs_phase x.2 f x.4 ]
+
 tree_phase : (top : Forest) (f : Refusal) → BadTree top f → phase_of f.code ≡ 10
-tree_phase top f h = elim h [
-  | inl x ↦ below_phase x.2 f x.4
-  | inr x ↦ elim x [ inl y ↦ default_phase y.2 f y.4 | inr y ↦ of_phase f _ y.4.1 refl ]
-]
+tree_phase top f h = elim h [ inl x ↦ below_phase x.2 f x.4 | inr x ↦ default_phase x.2 f x.4 ]
 
 schema_phase : (choice : Choice) (files : Files) (f : Refusal) → BadSchema choice files f → phase_of f.code ≡ 10
-schema_phase choice files f h = elim h.stands [ inl x ↦ doubled_phase h.tree f x | inr x ↦ tree_phase h.tree f x ]
+schema_phase choice files f h = elim h.stands [ inl x ↦ rows_phase h.tree f x | inr x ↦ tree_phase h.tree f x ]
 
 -- what is refused only with types or with the schema tree comes late
 pub comes_late : (choice : Choice) (files : Files) (limit : ℕ) (f : Refusal) → Refuses choice files limit f → RefusesBeforeTypes choice files limit f ⊎ (9 ≤ phase_of f.code)

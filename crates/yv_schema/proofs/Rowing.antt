@@ -16,7 +16,7 @@ use Rattle.yv_labels.specs.Labels.{AreOf, label_of}
 use Rattle.yv_definitions.specs.Defined.{refined}
 use Rattle.yv_refines.specs.Faults.{changes}
 use Rattle.yv_copies.specs.Items.{origin_of}
-use Rattle.yv_schema.specs.Module.{Basis, label_at, labelled}
+use Rattle.yv_schema.specs.Module.{Basis, Home, label_at, labelled}
 use Rattle.yv_schema.specs.InnerBuild.{Adds}
 use Rattle.yv_nodes.specs.Numbers.{numbers_from, rows_below, rows_from}
 use Rattle.yv_schema.specs.InnerRowing.{AreSeen, line_at, line_of, number_behind, numbers_behind, parent_of, row_of, rows_for}
@@ -48,7 +48,7 @@ line_stays : (lines more : List (List Label)) (parent : Option ℕ) → IsWithin
 line_stays lines more None h = refl
 line_stays lines more (Some place) h = left_stays lines more place h
 
-module _ (b : Basis) (home : List ℕ) where
+module _ (b : Basis) (home : Home) where
   pub count_labelled : (above : List Label) (t : items.Nodes) → count (labelled b home above t no_trees) ≡ items.count t
   count_labelled above items.none = refl
   count_labelled above (items.item number below behind) = omega (arith, count_labelled (label_at b home above number ∷ above) below, count_labelled above behind)
@@ -176,20 +176,20 @@ module _ (b : Basis) (home : List ℕ) where
       }
 
 -- the row of a node that is made for an item
-pub row_is : (b : Basis) (home : List ℕ) (ls : List Label) (x : Node) (parent : NodeId) (children : List NodeId) (d : Defined) (standing : Standing)
+pub row_is : (b : Basis) (home : Home) (ls : List Label) (x : Node) (parent : NodeId) (children : List NodeId) (d : Defined) (standing : Standing)
     → d ≡ refined b.typing b.files (origin_of b.trees x.origin) (changes b.files b.trees x.origin)
-    → (row_with d home standing parent children).label ≡ label_of d home ls → row_with d home standing parent children ≡ row_of b home ls x parent children
+    → (row_with d home.number home.name standing parent children).label ≡ label_of d home.number home.name ls → row_with d home.number home.name standing parent children ≡ row_of b home ls x parent children
 row_is b home ls x parent children d standing is e =
-    ap (λ (l : Label). let r : Row = record { label = l; parent = parent; children = children } in r) (e ∙ ap (λ (d : Defined). label_of d home ls) is)
+    ap (λ (l : Label). let r : Row = record { label = l; parent = parent; children = children } in r) (e ∙ ap (λ (d : Defined). label_of d home.number home.name ls) is)
 
 -- the nodes above an item are of its module
-pub all_of_home : (home : List ℕ) (lines : List (List Label)) (parent : Option ℕ) → AllByRecursion (AreOf home) lines → AreOf home (line_at lines parent)
+pub all_of_home : (home : Home) (lines : List (List Label)) (parent : Option ℕ) → AllByRecursion (AreOf home.number home.name) lines → AreOf home.number home.name (line_at lines parent)
 all_of_home home lines None h = tt
 all_of_home home [] (Some place) h = tt
 all_of_home home (l ∷ lines) (Some zero) h = h.0
 all_of_home home (l ∷ lines) (Some (suc place)) h = all_of_home home lines (Some place) h.1
 
-one_more : (home : List ℕ) (lines : List (List Label)) (line : List Label) → AllByRecursion (AreOf home) lines → AreOf home line → AllByRecursion (AreOf home) (lines ++ line ∷ [])
+one_more : (home : Home) (lines : List (List Label)) (line : List Label) → AllByRecursion (AreOf home.number home.name) lines → AreOf home.number home.name line → AllByRecursion (AreOf home.number home.name) (lines ++ line ∷ [])
 one_more home [] line h own = (own, tt)
 one_more home (l ∷ lines) line h own = (h.0, one_more home lines line h.1 own)
 
@@ -198,7 +198,7 @@ map_one [] line = refl
 map_one (l ∷ lines) line = ap (λ (ss : List Seen). seen_of l ∷ ss) (map_one lines line)
 
 -- the line of one more item is seen
-pub seen_more : (home : List ℕ) (lines : List (List Label)) (line : List Label) (old new : List Seen) (one : Seen) → AreSeen home lines old → AreOf home line → one ≡ seen_of line → new ≡ old ++ one ∷ []
+pub seen_more : (home : Home) (lines : List (List Label)) (line : List Label) (old new : List Seen) (one : Seen) → AreSeen home lines old → AreOf home.number home.name line → one ≡ seen_of line → new ≡ old ++ one ∷ []
     → AreSeen home (lines ++ line ∷ []) new
 seen_more home lines line old new one h own is grew = record {
   are = grew ∙ ap (λ (ss : List Seen). ss ++ one ∷ []) h.are ∙ ap (λ (s : Seen). map seen_of lines ++ s ∷ []) is ∙ sym (map_one lines line);
@@ -206,13 +206,13 @@ seen_more home lines line old new one h own is grew = record {
 }
 
 -- the rows and lines of the items so far
-pub record Kept (b : Basis) (home : List ℕ) (base : ℕ) (below : List (List ℕ)) (seen : List Seen) (i : ℕ) (xs : List Node) (now old : List Row) : Type 0 where
+pub record Kept (b : Basis) (home : Home) (base : ℕ) (below : List (List ℕ)) (seen : List Seen) (i : ℕ) (xs : List Node) (now old : List Row) : Type 0 where
   pub lines : List (List Label)
   pub are : AreSeen home lines seen
   pub rows : now ++ rows_for b home base below lines i (drop i xs) ≡ old ++ rows_for b home base below [] 0 xs
 
 -- one item more
-pub kept_more : (b : Basis) (home : List ℕ) (base : ℕ) (below : List (List ℕ)) (seen next : List Seen) (one : Seen) (i : ℕ) (xs : List Node) (blank : Node) (now new old : List Row) (row : Row)
+pub kept_more : (b : Basis) (home : Home) (base : ℕ) (below : List (List ℕ)) (seen next : List Seen) (one : Seen) (i : ℕ) (xs : List Node) (blank : Node) (now new old : List Row) (row : Row)
     → (k : Kept b home base below seen i xs now old) → i < length xs → next ≡ seen ++ one ∷ [] → new ≡ now ++ row ∷ []
     → row ≡ row_of b home (line_at k.lines (get_or xs i blank).parent) (get_or xs i blank) (parent_of base (get_or xs i blank).parent) (numbers_behind base (get_or below i []))
     → one ≡ seen_of (line_of b home k.lines (get_or xs i blank)) → Kept b home base below next (i + 1) xs new old
@@ -224,18 +224,18 @@ kept_more b home base below seen next one i xs blank now new old row k lt grew a
     let rest : List Row = rows_for b home base below (k.lines ++ line ∷ []) (i + 1) (drop (i + 1) xs) in
     record {
       lines = k.lines ++ line ∷ [];
-      are = seen_more home k.lines line seen next one k.are (refl, all_of_home home k.lines x.parent k.are.of_home) told grew;
+      are = seen_more home k.lines line seen next one k.are (record { number = refl; name = refl }, all_of_home home k.lines x.parent k.are.of_home) told grew;
       rows =
           ap (λ (rs : List Row). rs ++ rest) (added ∙ ap (λ (r : Row). now ++ r ∷ []) is) ∙ append_assoc now (made ∷ []) rest
           ∙ ap (λ (rs : List Row). now ++ rs) (sym (row_next b home base below k.lines xs i blank lt)) ∙ k.rows;
     }
 
 -- what is seen below an item's node
-pub seen_below : (b : Basis) (home : List ℕ) (ls : List Label) (seen : Seen) (x : Node) (d : Defined) (standing : Standing) (above : Seen) (parent : NodeId) (children : List NodeId)
+pub seen_below : (b : Basis) (home : Home) (ls : List Label) (seen : Seen) (x : Node) (d : Defined) (standing : Standing) (above : Seen) (parent : NodeId) (children : List NodeId)
     → d ≡ refined b.typing b.files (origin_of b.trees x.origin) (changes b.files b.trees x.origin)
-    → (row_with d home standing parent children).label ≡ label_of d home ls
+    → (row_with d home.number home.name standing parent children).label ≡ label_of d home.number home.name ls
     → ((l : Label) → seen ≡ seen_of ls → l.defined ≡ d → l.is_config ≡ standing.is_config → l.is_input ≡ standing.is_input → above ≡ seen_of (l ∷ ls))
     → seen ≡ seen_of ls → above ≡ seen_of (label_at b home ls x.origin ∷ ls)
 seen_below b home ls seen x d standing above parent children is e below same =
-    below (label_of d home ls) same refl (sym (ap (λ (l : Label). l.is_config) e)) (sym (ap (λ (l : Label). l.is_input) e))
-    ∙ ap (λ (d : Defined). seen_of (label_of d home ls ∷ ls)) is
+    below (label_of d home.number home.name ls) same refl (sym (ap (λ (l : Label). l.is_config) e)) (sym (ap (λ (l : Label). l.is_input) e))
+    ∙ ap (λ (d : Defined). seen_of (label_of d home.number home.name ls ∷ ls)) is

@@ -20,7 +20,7 @@ use Rattle.yv_rows.specs.Listed.{rows_of}
 use Rattle.yv_copies.specs.On.{is_item_on}
 use Rattle.yv_copies.specs.Left.{left_in}
 use Rattle.yv_nodes.specs.Tree.{count, Forest, Label, no_trees}
-use Rattle.yv_schema.specs.Module.{Basis, file_nodes, is_given, is_part, label_at, labelled, module_nodes, modules_from, parts_from}
+use Rattle.yv_schema.specs.Module.{Basis, Home, file_nodes, home_of, is_given, is_part, label_at, labelled, module_nodes, modules_from, parts_from}
 use Rattle.yv_schema.specs.Schema.{IsSchema, TakeUnits}
 use Rattle.yv_copies.specs.Given.{marks_of}
 use Rattle.yv_tables.proofs.Keeping.{map_get}
@@ -103,18 +103,18 @@ module _ (b : Basis) (add_none : AddNone) where
   abbrev home : ℕ → ℕ
   home = home_at (map brief_of b.files)
 
-  count_all : (name : List ℕ) (above : List Label) (t : items.Nodes) (others : Forest) → count (labelled b name above t others) ≡ items.count t + count others
+  count_all : (name : Home) (above : List Label) (t : items.Nodes) (others : Forest) → count (labelled b name above t others) ≡ items.count t + count others
   count_all name above items.none others = omega arith
   count_all name above (items.item number below behind) others =
       omega (arith, count_all name (label_at b name above number ∷ above) below no_trees, count_all name above behind others)
 
-  count_file : (name : List ℕ) (n : ℕ) (others : Forest) → count (file_nodes b name n others) ≤ size n + count others
+  count_file : (name : Home) (n : ℕ) (others : Forest) → count (file_nodes b name n others) ≤ size n + count others
   count_file name n others =
       let left : items.count (left_in b.truth b.files b.trees n) ≤ size n + 0 =
       add_none (is_item_on b.truth b.files b.trees) (is_uses_in (rows_of b.files)) (start_of b.trees n) (tree_at b.trees n) items.none in
       omega (arith, left, count_all name [] (left_in b.truth b.files b.trees n) others)
 
-  count_parts : (m : ℕ) (name : List ℕ) (n : ℕ) (ts : Files) (others : Forest)
+  count_parts : (m : ℕ) (name : Home) (n : ℕ) (ts : Files) (others : Forest)
       → count (parts_from b m name n ts others) + upto (others_of home size m) n ≤ upto (others_of home size m) (n + length ts) + count others
   count_parts m name n [] others =
       let end : n + 0 ≡ n = omega arith in
@@ -145,10 +145,10 @@ module _ (b : Basis) (add_none : AddNone) where
     count_module m t behind at is =
         let n : ℕ = length b.files in
         let within : m < n = slice_get_within b.files m t at in
-        let parts = count_parts m (tree_name t) 0 b.files behind in
+        let parts = count_parts m (home_of m t) 0 b.files behind in
         let end : 0 + n ≡ n = omega arith in
         let three = upto_three (only size m) (others_of home size m) (before home size m) (before home size (m + 1)) (one_home home size m (own_home m t at is)) n in
-        omega (arith, parts, ap (upto (others_of home size m)) end, count_file (tree_name t) m (parts_from b m (tree_name t) 0 b.files behind), upto_one size m n within, three)
+        omega (arith, parts, ap (upto (others_of home size m)) end, count_file (home_of m t) m (parts_from b m (home_of m t) 0 b.files behind), upto_one size m n within, three)
 
     count_modules : (m : ℕ) (ts : Files) → ((i : ℕ) (t : statement.Tree) → slice_get ts i ≡ Some t → slice_get b.files (m + i) ≡ Some t)
         → count (modules_from b choice m ts) + upto (before home size m) (length b.files) ≤ upto size (length b.files)

@@ -1,6 +1,5 @@
 -- What the compilation of files refuses.
-use Rattle.std.specs.Prelude.{◌≡◌, ◌≢◌, ◌⊎◌, ◌==◌, ℕ, Bool, true, false, not, List, length, Option, Some, None, codes, slice_get}
-use Rattle.std.specs.List.{list_any}
+use Rattle.std.specs.Prelude.{◌≡◌, ◌≢◌, ◌⊎◌, ℕ, Bool, true, false, not, List, length, Option, Some, None, codes, slice_get}
 use Rattle.std.specs.Str.{bytes_eq}
 use Rattle.yv_statement.specs.Tree.{Tree, trees}
 use Rattle.yv_statement.specs.declared.refusal.Refusal.{Refusal}
@@ -18,14 +17,10 @@ use Rattle.yv_copies.specs.Faults.{BadExpansion}
 use Rattle.yv_types.specs.Faults.{BadTypes}
 use Rattle.yv_copies.specs.On.{Truth}
 use Rattle.yv_schema.specs.Truth.{IsTruth}
-use Rattle.yv_tables.specs.Doubled.{Doubled}
+use Rattle.yv_tables.specs.Bad.{BadRows}
 use Rattle.yv_tree_checks.specs.Bad.{BadTree}
 use Rattle.yv_nodes.specs.Tree.{Forest}
 use Rattle.yv_schema.specs.Schema.{IsSchema}
-
--- a byte of the text is a colon, as in a name with a prefix
-abbrev pub has_colon : List ℕ → Bool
-has_colon text = list_any (λ byte. byte == 58) text
 
 -- the statements that are taken so far; one of no keyword of the language is refused as such, and not here
 abbrev pub is_taken : Keyword → Option (List ℕ) → Bool
@@ -71,8 +66,8 @@ is_taken word.Default argument = true
 is_taken word.MinElements argument = true
 is_taken word.MaxElements argument = true
 is_taken word.OrderedBy argument = true
-is_taken word.Key None = true
-is_taken word.Key (Some names) = not (has_colon names)
+is_taken word.Key argument = true
+is_taken word.Unique argument = true
 is_taken word.Grouping argument = true
 is_taken word.Uses argument = true
 is_taken word.Refine argument = true
@@ -117,9 +112,9 @@ pub record BadTyping (choice : Choice) (files : Files) (f : Refusal) : Type 0 wh
   pub is_truth : IsTruth files choice truth
   pub bad : BadTypes files truth f
 
--- f stands in a schema tree: a doubled name, or what is wrong else
+-- f stands in a schema tree: a doubled name, a list whose key or `unique` statements name what they may not, or what is wrong else
 abbrev pub BadNodes : Forest → Refusal → Type 0
-BadNodes top f = Doubled top f ⊎ BadTree top f
+BadNodes top f = BadRows top f ⊎ BadTree top f
 
 -- f stands in the schema tree of the files
 pub record BadSchema (choice : Choice) (files : Files) (f : Refusal) : Type 0 where

@@ -1,13 +1,14 @@
 //! From the statements of files to their schema.
-ghost use Rattle.std.specs.Prelude.{◌≡◌, ◌≢◌, ◌≤◌, length, IfOk, OnOk, Some, None, Ok, Err};
+ghost use Rattle.std.specs.Prelude.{◌≡◌, ◌≢◌, ◌≤◌, [], length, IfOk, OnOk, Some, None, Ok, Err};
 ghost use Rattle.yv_statement.specs.declared.refusal.Refusal.{Refusal};
 ghost use Rattle.yv_statement.specs.declared.refusal.Stop.TheVariants.{Fault, PatternBuild};
 ghost use Rattle.yv_statement.specs.Order.{IsLeast, IsLesser};
 ghost use Rattle.yv_selection.specs.Choice.{choice_of};
 ghost use Rattle.yv_rows.specs.Lent.{lent_in};
-ghost use Rattle.yv_schema.specs.Module.{Basis, schema_of};
+ghost use Rattle.yv_schema.specs.Module.{Basis, modules_of, schema_of};
 ghost use Rattle.yv_schema.specs.Refuses.{BadNodes};
 ghost use Rattle.yv_nodes.specs.Rows.{whole};
+ghost use Rattle.yv_tables.specs.Sound.{IsSound};
 ghost use Rattle.yv_schema.specs.InnerContext.{Tells, TellsOf};
 ghost use Rattle.yv_schema.specs.InnerBuild.{AreNames, IsFirst};
 
@@ -35,6 +36,9 @@ pub(crate) fn build(
     ensures schema { (b : Basis) → Tells b context.now → b.files ≡ lent_in rows.now
         → IfOk result (λ s. whole s ≡ schema_of (choice_of selection.now) b) }
     ensures limit { IfOk result (λ s. s.limit ≡ limit) }
+    ensures modules { IfOk result (λ s. s.modules ≡ modules_of (choice_of selection.now) (lent_in rows.now)) }
+    ensures augments { IfOk result (λ s. s.augments ≡ []) }
+    ensures sound { IfOk result IsSound }
     ensures clear { (b : Basis) → Tells b context.now → b.files ≡ lent_in rows.now
         → OnOk result (IsLeast (BadNodes (schema_of (choice_of selection.now) b)) None) }
     ensures refusal { (b : Basis) → Tells b context.now → b.files ≡ lent_in rows.now
@@ -51,14 +55,19 @@ pub(crate) fn build(
 // The lesser of both refusals, or a schema where there is none.
 fn with_refusal(numbered: Result<Schema, Stop>, wrong: Option<Refusal>) -> Result<Schema, Stop>
     ensures clear { IfOk result (λ s. (numbered ≡ Ok s) × (wrong ≡ None)) }
+    ensures sound { IfOk result IsSound }
     ensures refusal { (r : Refusal) → result ≡ Err (Fault r) → IsFirst numbered wrong r }
     ensures built { numbered ≢ Err PatternBuild → result ≢ Err PatternBuild }
 {
     match numbered {
-        Ok(schema) => match wrong {
-            Some(wrong) => Err(Stop::Fault(wrong)),
-            None => Ok(schema),
-        },
+        Ok(schema) => {
+            // Every schema is sound.
+            let _top = schema.children(Schema::ROOT);
+            match wrong {
+                Some(wrong) => Err(Stop::Fault(wrong)),
+                None => Ok(schema),
+            }
+        }
         Err(stop) => Err(first_stop(stop, wrong)),
     }
 }

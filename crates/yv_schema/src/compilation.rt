@@ -1,5 +1,5 @@
 //! The compilation of files.
-ghost use Rattle.std.specs.Prelude.{◌≡◌, IfOk, OnOk, Some, None, Err};
+ghost use Rattle.std.specs.Prelude.{◌≡◌, [], IfOk, OnOk, Some, None, Err};
 ghost use Rattle.yv_statement.specs.declared.refusal.Refusal.{Refusal};
 ghost use Rattle.yv_statement.specs.declared.refusal.Stop.TheVariants.{Fault, PatternBuild};
 ghost use Rattle.yv_statement.specs.Order.{IsLeast};
@@ -7,6 +7,8 @@ ghost use Rattle.yv_selection.specs.Choice.{choice_of};
 ghost use Rattle.yv_faceted.specs.Types.{HasTypePattern};
 ghost use Rattle.yv_schema.specs.Refuses.{Refuses, RefusesBeforeTypes};
 ghost use Rattle.yv_nodes.specs.Rows.{whole};
+ghost use Rattle.yv_tables.specs.Sound.{IsSound};
+ghost use Rattle.yv_schema.specs.Module.{modules_of};
 ghost use Rattle.yv_schema.specs.Schema.{IsSchema};
 
 use crate::conformance::first_bad_file;
@@ -32,6 +34,9 @@ pub fn compile(
 ) -> Result<Schema, Stop>
     ensures schema { IfOk result (λ s. IsSchema (choice_of selection.now) files.now (whole s)) }
     ensures limit { IfOk result (λ s. s.limit ≡ limit) }
+    ensures modules { IfOk result (λ s. s.modules ≡ modules_of (choice_of selection.now) files.now) }
+    ensures augments { IfOk result (λ s. s.augments ≡ []) }
+    ensures sound { IfOk result IsSound }
     ensures clear { OnOk result (IsLeast (Refuses (choice_of selection.now) files.now limit) None) }
     ensures refusal { (r : Refusal) → result ≡ Err (Fault r)
         → IsLeast (Refuses (choice_of selection.now) files.now limit) (Some r) }

@@ -2,7 +2,7 @@
 ghost use Rattle.std.specs.Prelude.{◌≡◌};
 ghost use Rattle.std.specs.Option.{option_copied};
 ghost use Rattle.yv_statement.specs.Order.{IsLeast};
-ghost use Rattle.yv_schema.specs.Refuses.{Early, has_colon, is_taken};
+ghost use Rattle.yv_schema.specs.Refuses.{Early, is_taken};
 
 use yv_conform::Keyword;
 use yv_statement::{Code, Refusal, Statement, lesser, refused};
@@ -73,6 +73,8 @@ fn is_taken(keyword: Keyword, argument: Option<&str>) -> bool
             | Keyword::MinElements
             | Keyword::MaxElements
             | Keyword::OrderedBy
+            | Keyword::Key
+            | Keyword::Unique
             | Keyword::Grouping
             | Keyword::Uses
             | Keyword::Refine
@@ -94,15 +96,7 @@ fn is_taken(keyword: Keyword, argument: Option<&str>) -> bool
             _,
         ) => true,
         (Keyword::Type, Some(name)) => name != "leafref",
-        (Keyword::Key, Some(names)) => !has_colon(names),
-        (Keyword::Type | Keyword::Key, None) => true,
+        (Keyword::Type, None) => true,
         _ => false,
     }
-}
-
-// Whether a text has a colon, as a name with a prefix has.
-fn has_colon(text: &str) -> bool
-    ensures { result ≡ has_colon text.now }
-{
-    text.as_bytes().iter().any(|byte| *byte == b':')
 }

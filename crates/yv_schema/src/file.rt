@@ -1,15 +1,15 @@
 //! The nodes of a file.
-ghost use Rattle.std.specs.Prelude.{◌≡◌, ◌++◌, [], ◌∷◌, ℕ, List, length, IfOk, IfErr, OnOk, slice_index_or};
+ghost use Rattle.std.specs.Prelude.{◌≡◌, ◌++◌, [], ◌∷◌, List, length, IfOk, IfErr, OnOk, slice_index_or};
 ghost use Rattle.std.specs.Rc.{rc_str_bytes};
 ghost use Rattle.yv_statement.specs.declared.refusal.Stop.TheVariants.{NoMemory};
 ghost use Rattle.yv_pruning.specs.Families.{lists_of};
 ghost use Rattle.yv_nodes.specs.Tree.{Label};
 ghost use Rattle.yv_labels.specs.Labels.{AreOf};
 ghost use Rattle.yv_labels.specs.Above.{seen_of};
-ghost use Rattle.yv_schema.specs.Module.{Basis, file_nodes, label_at};
+ghost use Rattle.yv_schema.specs.Module.{Basis, Home, file_nodes, label_at};
 ghost use Rattle.yv_schema.specs.InnerContext.{Tells};
 ghost use Rattle.yv_schema.specs.InnerBuild.{Adds};
-ghost use Rattle.yv_schema.specs.InnerRowing.{AreSeen, line_at, number_behind, numbers_behind, parent_of, row_of, rows_for};
+ghost use Rattle.yv_schema.specs.InnerRowing.{AreSeen, home_in, line_at, number_behind, numbers_behind, parent_of, row_of, rows_for};
 
 use crate::context::Context;
 use std::alloc::{AllocError, Global};
@@ -28,7 +28,9 @@ pub(crate) struct Builder<'c, 'a, 'b> {
     pub(crate) context: &'c Context<'c, 'a, 'b>,
     /// The file's number.
     pub(crate) file: u32,
-    /// The name of the module to which the file belongs.
+    /// The number of the file of the module to which the file belongs.
+    pub(crate) number: u32,
+    /// The name of that module.
     pub(crate) home: &'c RcStr,
 }
 
@@ -36,7 +38,7 @@ impl Builder<'_, '_, '_> {
     /// Adds the nodes of the file, each before those below it, and the numbers of those at the top.
     pub(crate) fn add(&self, numbers: &mut Vec<NodeId>, nodes: &mut Nodes) -> Result<(), Stop>
         ensures added { (b : Basis) → Tells b self.now.context.now → OnOk result
-            (Adds (file_nodes b (rc_str_bytes self.now.home.now) self.now.file) nodes.old.rows nodes.new.rows
+            (Adds (file_nodes b (home_in self.now) self.now.file) nodes.old.rows nodes.new.rows
             numbers.old.items numbers.new.items) }
         ensures limit { nodes.new.limit ≡ nodes.old.limit }
         ensures memory { IfErr result (λ stop. stop ≡ NoMemory) }
@@ -57,7 +59,7 @@ impl Builder<'_, '_, '_> {
         nodes: &mut Nodes,
     ) -> Result<(), Stop>
         ensures rows { (b : Basis) → Tells b self.now.context.now → OnOk result (nodes.new.rows
-            ≡ nodes.old.rows ++ rows_for b (rc_str_bytes self.now.home.now) base (lists_of below.now) [] 0 items.now) }
+            ≡ nodes.old.rows ++ rows_for b (home_in self.now) base (lists_of below.now) [] 0 items.now) }
         ensures limit { nodes.new.limit ≡ nodes.old.limit }
         ensures memory { IfErr result (λ stop. stop ≡ NoMemory) }
     {
@@ -83,18 +85,18 @@ impl Builder<'_, '_, '_> {
         children: Vec<NodeId>,
     ) -> Result<Made, AllocError>
         ensures node { (b : Basis) (ls : List Label) → Tells b self.now.context.now → above.now ≡ seen_of ls
-            → AreOf (rc_str_bytes self.now.home.now) ls
-            → IfOk result (λ made. made.node ≡ row_of b (rc_str_bytes self.now.home.now) ls item.now parent children.items) }
+            → AreOf self.now.number (rc_str_bytes self.now.home.now) ls
+            → IfOk result (λ made. made.node ≡ row_of b (home_in self.now) ls item.now parent children.items) }
         ensures above { (b : Basis) (ls : List Label) → Tells b self.now.context.now → above.now ≡ seen_of ls
-            → AreOf (rc_str_bytes self.now.home.now) ls
-            → IfOk result (λ made. made.above_others ≡ seen_of (label_at b (rc_str_bytes self.now.home.now) ls item.now.origin ∷ ls)) }
+            → AreOf self.now.number (rc_str_bytes self.now.home.now) ls
+            → IfOk result (λ made. made.above_others ≡ seen_of (label_at b (home_in self.now) ls item.now.origin ∷ ls)) }
     {
         let definition = self.context.definition(item.origin)?;
-        let standing = above.standing(&definition, self.home.as_str());
+        let standing = above.standing(&definition, self.number, self.home.as_str())?;
         let above_others = above.below(&definition, standing)?;
         let home = shared(self.home)?;
         Ok(Made {
-            node: Node::new(definition, home, standing, parent, children),
+            node: Node::new(definition, self.number, home, standing, parent, children),
             above_others,
         })
     }
@@ -109,7 +111,7 @@ struct Made {
 
 // What the nodes above an item make of it, by the place of the item above it; none are above one at the top.
 fn above_at<'k>(top: &'k Above, aboves: &'k [Above], parent: Option<usize>) -> &'k Above
-    ensures { (home : List ℕ) (lines : List (List Label)) → top.now ≡ seen_of [] → AreSeen home lines aboves.now
+    ensures { (home : Home) (lines : List (List Label)) → top.now ≡ seen_of [] → AreSeen home lines aboves.now
         → result.now ≡ seen_of (line_at lines parent) }
 {
     match parent {

@@ -1,5 +1,5 @@
 //! The compilation of linked files, phase by phase.
-ghost use Rattle.std.specs.Prelude.{◌≡◌, IfOk, OnOk, Some, None, Err};
+ghost use Rattle.std.specs.Prelude.{◌≡◌, [], IfOk, OnOk, Some, None, Err};
 ghost use Rattle.yv_statement.specs.declared.refusal.Refusal.{Refusal};
 ghost use Rattle.yv_statement.specs.declared.refusal.Stop.TheVariants.{Fault, PatternBuild};
 ghost use Rattle.yv_statement.specs.Order.{IsLeast};
@@ -7,7 +7,9 @@ ghost use Rattle.yv_selection.specs.Choice.{choice_of};
 ghost use Rattle.yv_rows.specs.Files.{Files};
 ghost use Rattle.yv_faceted.specs.Types.{HasTypePattern};
 ghost use Rattle.yv_nodes.specs.Rows.{whole};
+ghost use Rattle.yv_tables.specs.Sound.{IsSound};
 ghost use Rattle.yv_schema.specs.Refuses.{Refuses, RefusesBeforeTypes};
+ghost use Rattle.yv_schema.specs.Module.{modules_of};
 ghost use Rattle.yv_schema.specs.Schema.{IsSchema};
 ghost use Rattle.yv_schema.specs.InnerPhases.{AreClear, AreExpanded, SomeClear, SomeExpanded};
 
@@ -37,6 +39,10 @@ pub(crate) fn of_linked(
     ensures schema { (files : Files) → AreClear (choice_of selection.now) files linked.now
         → IfOk result (λ s. IsSchema (choice_of selection.now) files (whole s)) }
     ensures limit { IfOk result (λ s. s.limit ≡ limit) }
+    ensures modules { (files : Files) → AreClear (choice_of selection.now) files linked.now
+        → IfOk result (λ s. s.modules ≡ modules_of (choice_of selection.now) files) }
+    ensures augments { IfOk result (λ s. s.augments ≡ []) }
+    ensures sound { IfOk result IsSound }
     ensures clear { (files : Files) → AreClear (choice_of selection.now) files linked.now
         → OnOk result (IsLeast (Refuses (choice_of selection.now) files limit) None) }
     ensures refusal { (files : Files) → AreClear (choice_of selection.now) files linked.now
@@ -72,6 +78,10 @@ fn of_expanded(
     ensures schema { (files : Files) → AreExpanded (choice_of selection.now) files limit linked.now names.now copies.now
         → IfOk result (λ s. IsSchema (choice_of selection.now) files (whole s)) }
     ensures limit { IfOk result (λ s. s.limit ≡ limit) }
+    ensures modules { (files : Files) → AreExpanded (choice_of selection.now) files limit linked.now names.now copies.now
+        → IfOk result (λ s. s.modules ≡ modules_of (choice_of selection.now) files) }
+    ensures augments { IfOk result (λ s. s.augments ≡ []) }
+    ensures sound { IfOk result IsSound }
     ensures clear { (files : Files) → AreExpanded (choice_of selection.now) files limit linked.now names.now copies.now
         → OnOk result (IsLeast (Refuses (choice_of selection.now) files limit) None) }
     ensures refusal { (files : Files) → AreExpanded (choice_of selection.now) files limit linked.now names.now copies.now

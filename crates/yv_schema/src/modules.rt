@@ -1,20 +1,23 @@
 //! The nodes of the modules that are implemented.
 ghost use Rattle.std.specs.Prelude.{◌≡◌, ◌≤◌, ◌<◌, ◌++◌, [], map, length, IfOk, IfErr, OnOk};
 ghost use Rattle.std.specs.Rc.{rc_str_bytes};
+ghost use Rattle.yv_conform.specs.declared.keyword.Keyword.TheVariants as word;
+ghost use Rattle.yv_definitions.specs.Statements.{argument_of, first_of};
+ghost use Rattle.yv_schema.specs.InnerRowing.{home_in};
 ghost use Rattle.yv_statement.specs.declared.refusal.Stop.TheVariants.{NoMemory};
 ghost use Rattle.yv_selection.specs.Choice.{choice_of};
 ghost use Rattle.yv_rows.specs.Files.{brief_of, tree_name};
 ghost use Rattle.yv_rows.specs.Lent.{lent_in};
-ghost use Rattle.yv_schema.specs.Module.{Basis, is_given, is_part, module_nodes, parts_from};
+ghost use Rattle.yv_schema.specs.Module.{Basis, is_given, is_part, module_nodes, modules_of, parts_from};
 ghost use Rattle.yv_schema.specs.InnerContext.{Tells};
 ghost use Rattle.yv_nodes.specs.Numbers.{rows_from};
 ghost use Rattle.yv_tables.specs.Groups.{all_nodes, tops_from};
 ghost use Rattle.yv_schema.specs.InnerBuild.{Adds, AreHomes, groups_from};
-ghost use Rattle.yv_tables.specs.Tops.{top_of};
+ghost use Rattle.yv_tables.specs.Tops.{module_of, top_of};
 
 use crate::context::Context;
 use crate::file::Builder;
-use crate::name::name_of;
+use crate::name::{name_of, prefix_of};
 use std::alloc::{AllocError, Global};
 use std::rc::RcStr;
 use yv_nodes::{NodeId, Nodes};
@@ -59,6 +62,7 @@ impl<'a, 'b> Parts<'a, 'b> {
         ensures tops { (b : Basis) → Tells b context.now → b.files ≡ roots_in self.now
             → IfOk result (λ tops. map top_of tops.items
             ≡ tops_from (length nodes.old.rows) (groups_from b (choice_of selection.now) 0 (roots_in self.now))) }
+        ensures modules { IfOk result (λ tops. map module_of tops.items ≡ modules_of (choice_of selection.now) (roots_in self.now)) }
         ensures limit { nodes.new.limit ≡ nodes.old.limit }
         ensures memory { IfErr result (λ stop. stop ≡ NoMemory) }
     {
@@ -83,23 +87,29 @@ impl<'a, 'b> Parts<'a, 'b> {
     ) -> Result<ModuleTop, Stop>
         requires { number < 4294967296 }
         ensures name { IfOk result (λ top. rc_str_bytes top.name ≡ tree_name root.now) }
+        ensures prefix { IfOk result (λ top. rc_str_bytes top.prefix ≡ argument_of (first_of word.Prefix root.now.children)) }
+        ensures home { IfOk result (λ top. top.home ≡ number) }
         ensures added { (b : Basis) → Tells b context.now → b.files ≡ roots_in self.now
             → IfOk result (λ top. Adds (module_nodes b number root.now) nodes.old.rows nodes.new.rows [] top.numbers.items) }
         ensures limit { nodes.new.limit ≡ nodes.old.limit }
         ensures memory { IfErr result (λ stop. stop ≡ NoMemory) }
     {
         let home = RcStr::from_str(alloc, name_of(root))?;
+        let prefix = RcStr::from_str(alloc, prefix_of(root))?;
         let mut numbers = Vec::new(alloc);
         let own = Builder {
             alloc,
             context,
             file: number as u32,
+            number: number as u32,
             home: &home,
         };
         own.add(&mut numbers, nodes)?;
         self.add_parts(number, own, &mut numbers, nodes)?;
         Ok(ModuleTop {
             name: home,
+            prefix,
+            home: number as u32,
             numbers,
         })
     }
@@ -113,7 +123,7 @@ impl<'a, 'b> Parts<'a, 'b> {
         nodes: &mut Nodes,
     ) -> Result<(), Stop>
         ensures added { (b : Basis) → Tells b own.entry.context.now → b.files ≡ roots_in self.now
-            → OnOk result (Adds (parts_from b number (rc_str_bytes own.entry.home.now) 0 (roots_in self.now))
+            → OnOk result (Adds (parts_from b number (home_in own.entry) 0 (roots_in self.now))
             nodes.old.rows nodes.new.rows numbers.old.items numbers.new.items) }
         ensures limit { nodes.new.limit ≡ nodes.old.limit }
         ensures memory { IfErr result (λ stop. stop ≡ NoMemory) }

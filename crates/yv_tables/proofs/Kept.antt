@@ -13,12 +13,15 @@ use Rattle.yv_properties.specs.Kinds.{is_passed}
 use Rattle.yv_nodes.specs.declared.node.NodeId.{NodeId}
 use Rattle.yv_nodes.specs.Tree.{count, Forest, Label, labels, node, no_trees, tree}
 use Rattle.yv_nodes.specs.Places.{Place, places}
-use Rattle.yv_nodes.specs.Rows.{Row, Rows, below, children_of, is_root, rank, root, row_at, whole}
+use Rattle.yv_nodes.specs.Rows.{below, children_of, is_root, Module, Note, rank, root, Row, row_at, Rows, whole}
 use Rattle.yv_nodes.specs.Numbers.{numbers_from, rows_below, rows_from, rows_of}
 use Rattle.yv_tables.specs.Opened.{opened_from, opened_trees}
 use Rattle.yv_tables.specs.Doubled.{Doubled, Repeated, opened}
 use Rattle.yv_tables.specs.Groups.{AreRowsOf, Group, HasNoColon, Top, all_nodes, all_numbers, tops_from, IsFormed}
-use Rattle.yv_tables.specs.Sound.{inside, is_object, named}
+use Rattle.yv_leaf_targets.specs.Named.{HaveLeafs}
+use Rattle.yv_leaf_targets.specs.Bad.{BadLeafs}
+use Rattle.yv_tables.specs.Bad.{BadRows}
+use Rattle.yv_tables.specs.Sound.{IsNote, inside, is_object, named}
 use Rattle.yv_tables.specs.InnerSits.{HaveTrees, Sits, family_in, inside_of, members_of, picked}
 use Rattle.yv_tables.specs.InnerTables.{AreTables, IsKept, ModuleTable, Namesakes, Table, called, called_at, called_in, either, look_up, opened_top}
 use Rattle.yv_tables.proofs.Colons.{rank_below}
@@ -176,7 +179,14 @@ module _ (limit : ℕ) (gs : List Group) (nodes : List Row) (tops : List Top) (b
       let p_all : IsLeast AtTop first = subst (λ (m : ℕ). IsLeast (Among tops (λ k (top : Top). Namesakes (opened (picked nodes top.numbers))) m) first) all_tops p in
       least_same (λ f. AtTop f ⊎ Below f) (Doubled (all_nodes gs)) both to_doubled from_doubled (least_lesser AtTop Below first second both lesser p_all q)
 
-  module _ (clear : (f : Refusal) → Doubled (all_nodes gs) f → ⊥) where
+  -- the least refusal of nodes that repeat a name, and of lists
+  pub built_bad : (first second doubled leafs all : Option Refusal) (n : ℕ) → n ≡ length tops → IsLesser first second doubled → IsLesser doubled leafs all
+      → IsLeast (Among tops (λ k (top : Top). Namesakes (opened (picked nodes top.numbers))) n) first
+      → IsLeast (Among nodes (λ k (row : Row). Namesakes (family_in nodes row)) (length nodes)) second → IsLeast (BadLeafs (all_nodes gs)) leafs → IsLeast (BadRows (all_nodes gs)) all
+  built_bad first second doubled leafs all n all_tops lesser other p q r =
+      least_lesser (Doubled (all_nodes gs)) (BadLeafs (all_nodes gs)) doubled leafs all other (built_doubled first second doubled n all_tops lesser p q) r
+
+  module _ (clear : (f : Refusal) → Doubled (all_nodes gs) f → ⊥) (leafs : HaveLeafs nodes) (modules : List Module) (notes : List Note) where
     none_top : AreDistinct (labels (opened_trees (all_nodes gs)))
     none_top = distinct_top gs b.are_rows.formed (λ f p. clear f (inl (pair_repeated (opened all) f p)))
 
@@ -188,24 +198,24 @@ module _ (limit : ℕ) (gs : List Group) (nodes : List Row) (tops : List Top) (b
         (λ f p. clear f (inr (any_among (places all) (λ r. Repeated (family_at r)) (length (places all)) f refl (k, q, at, subst (λ (ls : List Label). Repeated ls f) (sym is) (pair_repeated (opened q.kids) f p)))))
 
     abbrev built : Rows
-    built = rows_of limit (all_nodes gs)
+    built = rows_of limit modules notes (all_nodes gs)
 
     abbrev made : Rows
-    made = record { nodes = nodes; top = all_numbers tops; limit = limit }
+    made = record { nodes = nodes; top = all_numbers tops; limit = limit; modules = modules; augments = notes }
 
-    same : rows_of limit (all_nodes gs) ≡ made
-    same = ap (λ (ns : List Row). let r : Rows = record { nodes = ns; top = numbers_from 0 (all_nodes gs); limit = limit } in r) (sym b.are_rows.rows)
-        ∙ ap (λ (cs : List NodeId). let r : Rows = record { nodes = nodes; top = cs; limit = limit } in r) (sym (all_numbered 0 gs) ∙ ap all_numbers (sym b.are_rows.are))
+    same : rows_of limit modules notes (all_nodes gs) ≡ made
+    same = ap (λ (ns : List Row). let r : Rows = record { nodes = ns; top = numbers_from 0 (all_nodes gs); limit = limit; modules = modules; augments = notes } in r) (sym b.are_rows.rows)
+        ∙ ap (λ (cs : List NodeId). let r : Rows = record { nodes = nodes; top = cs; limit = limit; modules = modules; augments = notes } in r) (sym (all_numbered 0 gs) ∙ ap all_numbers (sym b.are_rows.are))
 
-    pub whole_made : whole (record { nodes = nodes; top = all_numbers tops; limit = limit }) ≡ all_nodes gs
-    whole_made = ap whole (sym same) ∙ whole_rows limit (all_nodes gs)
+    pub whole_made : whole (record { nodes = nodes; top = all_numbers tops; limit = limit; modules = modules; augments = notes }) ≡ all_nodes gs
+    whole_made = ap whole (sym same) ∙ whole_rows limit modules notes (all_nodes gs)
 
     -- what is in an object below the top has its name as its member
     fronted_below : (p : NodeId) → rank p ≤ length (rows_from 0 (all_nodes gs)) → is_root p ≡ false → is_passed (row_at built p).label.defined.kind ≡ false
         → AllByRecursion (HasFront built []) (opened_from (rank p) (below built p))
     fronted_below p within inner met =
-        let parent : IsParent built all p = parent_in limit all p within in
-        rw (below_in limit all p parent) (by parent.kids parent.which parent.sit)
+        let parent : IsParent built all p = parent_in limit modules notes all p within in
+        rw (below_in limit modules notes all p parent) (by parent.kids parent.which parent.sit)
       where
         by : (kids : Forest) → ((is_root p ≡ true) × (kids ≡ all)) ⊎ IsPlaced built all p kids → Sits built.nodes (rank p) kids → AllByRecursion (HasFront built []) (opened_from (rank p) kids)
         by kids (inl h) here = absurd (false≢true (sym inner ∙ h.0))
@@ -224,7 +234,7 @@ module _ (limit : ℕ) (gs : List Group) (nodes : List Row) (tops : List Top) (b
         let children : children_of built p ≡ (row_at built p).children = rw inner refl in
         let object : is_object built p ≡ true = rw (inner, met) refl in
         let are : opened_from (rank p) (below built p) ≡ inside built p = sym (inside_object built p object) in
-        ap (λ (cs : List NodeId). called (rows_from 0 (all_nodes gs)) cs member) (ap (inside_of (rows_from 0 (all_nodes gs))) (sym children) ∙ inside_parent limit all p within object)
+        ap (λ (cs : List NodeId). called (rows_from 0 (all_nodes gs)) cs member) (ap (inside_of (rows_from 0 (all_nodes gs))) (sym children) ∙ inside_parent limit modules notes all p within object)
         ∙ sym (named_fronted built [] (inside built p) member (subst (λ (cs : List NodeId). AllByRecursion (HasFront built []) cs) are (fronted_below p within inner met)))
 
     below_built : (p : NodeId) (member : List ℕ) → p.0 < length (rows_from 0 (all_nodes gs)) → is_root p ≡ false
@@ -239,14 +249,14 @@ module _ (limit : ℕ) (gs : List Group) (nodes : List Row) (tops : List Top) (b
           ap (λ (cs : List NodeId). called (rows_from 0 (all_nodes gs)) cs member) first ∙ object_built p member lt inner met
     ]
 
-    kept_built : (modules : ModuleTable) (tables : List Table)
-        → ((name text : List ℕ) → look_up modules name text ≡ called_in (rows_from 0 (all_nodes gs)) (map (opened_top (rows_from 0 (all_nodes gs))) (tops_from 0 gs)) name text)
-        → AreTables (rows_from 0 (all_nodes gs)) tables → IsKept modules tables (rows_of limit (all_nodes gs))
-    kept_built modules tables known are =
-        let at_root : opened_from 0 all ≡ inside built root = ap (opened_from 0) (sym (whole_rows limit all)) in
+    kept_built : All (IsNote (rows_of limit modules notes (all_nodes gs))) notes → (by_name : ModuleTable) (tables : List Table)
+        → ((name text : List ℕ) → look_up by_name name text ≡ called_in (rows_from 0 (all_nodes gs)) (map (opened_top (rows_from 0 (all_nodes gs))) (tops_from 0 gs)) name text)
+        → AreTables (rows_from 0 (all_nodes gs)) tables → IsKept by_name tables (rows_of limit modules notes (all_nodes gs))
+    kept_built given by_name tables known are =
+        let at_root : opened_from 0 all ≡ inside built root = ap (opened_from 0) (sym (whole_rows limit modules notes all)) in
         record {
-          sound = sound_rows limit all none_top none_below (omega (arith, b.small, many)) (omega (arith, b.limited, many));
-          counted = length_rows root 0 all ∙ ap count (sym (whole_rows limit all));
+          sound = sound_rows limit modules notes all none_top none_below (omega (arith, b.small, many)) (omega (arith, b.limited, many)) (subst HaveLeafs b.are_rows.rows leafs) given;
+          counted = length_rows root 0 all ∙ ap count (sym (whole_rows limit modules notes all));
           each = are.each;
           top = λ home name plain.
               known home name ∙ sym (in_modules built 0 gs home name b.are_rows.formed plain (all_sit all)) ∙ ap (λ (cs : List NodeId). named built cs (home ++ 58 ∷ name)) at_root;
@@ -255,11 +265,11 @@ module _ (limit : ℕ) (gs : List Group) (nodes : List Row) (tops : List Top) (b
               (are.gives p.0 table at).gives member ∙ below_built p member (omega (arith, slice_get_within tables p.0 table at, are.each)) inner;
         }
 
-    pub kept_made : (modules : ModuleTable) (tables : List Table) → ((name text : List ℕ) → look_up modules name text ≡ called_in nodes (map (opened_top nodes) tops) name text) → AreTables nodes tables
-        → IsKept modules tables (record { nodes = nodes; top = all_numbers tops; limit = limit })
-    kept_made modules tables known are =
+    pub kept_made : All (IsNote (rows_of limit modules notes (all_nodes gs))) notes → (by_name : ModuleTable) (tables : List Table) → ((name text : List ℕ) → look_up by_name name text ≡ called_in nodes (map (opened_top nodes) tops) name text) → AreTables nodes tables
+        → IsKept by_name tables (record { nodes = nodes; top = all_numbers tops; limit = limit; modules = modules; augments = notes })
+    kept_made given by_name tables known are =
         let rows_are : nodes ≡ rows_from 0 all = b.are_rows.rows in
-        let known_rows : (name text : List ℕ) → look_up modules name text ≡ called_in (rows_from 0 all) (map (opened_top (rows_from 0 all)) (tops_from 0 gs)) name text =
-        subst (λ (ts : List Top). (name text : List ℕ) → look_up modules name text ≡ called_in (rows_from 0 all) (map (opened_top (rows_from 0 all)) ts) name text) b.are_rows.are
-        (subst (λ (rows : List Row). (name text : List ℕ) → look_up modules name text ≡ called_in rows (map (opened_top rows) tops) name text) rows_are known) in
-        subst (λ (s : Rows). IsKept modules tables s) same (kept_built modules tables known_rows (subst (λ (rows : List Row). AreTables rows tables) rows_are are))
+        let known_rows : (name text : List ℕ) → look_up by_name name text ≡ called_in (rows_from 0 all) (map (opened_top (rows_from 0 all)) (tops_from 0 gs)) name text =
+        subst (λ (ts : List Top). (name text : List ℕ) → look_up by_name name text ≡ called_in (rows_from 0 all) (map (opened_top (rows_from 0 all)) ts) name text) b.are_rows.are
+        (subst (λ (rows : List Row). (name text : List ℕ) → look_up by_name name text ≡ called_in rows (map (opened_top rows) tops) name text) rows_are known) in
+        subst (λ (s : Rows). IsKept by_name tables s) same (kept_built given by_name tables known_rows (subst (λ (rows : List Row). AreTables rows tables) rows_are are))

@@ -10,4 +10,5 @@ pub mod Trees
 pub mod Measuring
 pub mod Grouping
 pub mod Doubling
+pub mod Clearing
 pub mod Kept

@@ -12,6 +12,8 @@ use Rattle.yv_nodes.specs.declared.node.NodeId.{NodeId}
 use Rattle.yv_statement.specs.Order.{Among, Stands}
 use Rattle.yv_statement.specs.declared.refusal.Refusal.{Refusal}
 use Rattle.yv_nodes.specs.Tree.{Label, count}
+use Rattle.yv_leaf_targets.specs.declared.targets.LeafTargets.{LeafTargets}
+use Rattle.yv_leaf_targets.specs.Known.{AreLeafTargets}
 use Rattle.yv_tables.specs.Doubled.{doubled_at}
 use Rattle.yv_nodes.specs.Rows.{Row, Rows, blank_row, is_root, root, whole}
 use Rattle.yv_tables.specs.Sound.{inside, named, IsSound}
@@ -104,3 +106,8 @@ pub record IsKept (modules : ModuleTable) (tables : List Table) (s : Rows) : Typ
   pub none : (member : List ℕ) → HasNoColon member → named s (inside s root) member ≡ None
   pub below : (p : NodeId) (table : Table) (member : List ℕ) → is_root p ≡ false → slice_get tables p.0 ≡ Some table
       → get_by_name table member ≡ named s (inside s p) member
+
+-- besides, what lists and choices name is kept
+pub record IsHeld (modules : ModuleTable) (tables : List Table) (leafs : LeafTargets) (s : Rows) : Type 0 where
+  pub kept : IsKept modules tables s
+  pub named_leafs : AreLeafTargets s.nodes leafs

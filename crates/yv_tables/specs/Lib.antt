@@ -2,6 +2,7 @@ pub mod Groups
 pub mod Tops
 pub mod Opened
 pub mod Doubled
+pub mod Bad
 pub mod Sound
 pub mod Measures
 pub mod InnerPassage

@@ -1,11 +1,13 @@
 -- What holds of every schema, and what a JSON member means in it.
-use Rattle.std.specs.Prelude.{◌≡◌, ◌≤◌, ◌<◌, ℕ, List, [], ◌∷◌, length, All, Bool, true, false, not, ◌||◌, Option, Some, None, if◌then◌else◌}
+use Rattle.std.specs.Prelude.{◌≡◌, ◌≢◌, ◌≤◌, ◌<◌, ℕ, List, [], ◌∷◌, length, All, Bool, true, false, not, ◌||◌, Option, Some, None, if◌then◌else◌, slice_get}
 use Rattle.std.specs.Str.{bytes_eq}
 use Rattle.yv_properties.specs.Kinds.{is_data, is_passed}
 use Rattle.yv_nodes.specs.declared.node.NodeId.{NodeId}
-use Rattle.yv_nodes.specs.Tree.{Forest, no_trees, node, tree}
+use Rattle.yv_nodes.specs.Tree.{Forest, Label, labels, no_trees, node, tree}
+use Rattle.yv_nodes.specs.Places.{Place, places}
 use Rattle.yv_nodes.specs.Numbers.{numbers_from, rows_from}
-use Rattle.yv_nodes.specs.Rows.{Rows, below, children_of, is_root, rank, row_at, whole}
+use Rattle.yv_nodes.specs.Rows.{Note, Rows, below, children_of, is_root, rank, row_at, whole}
+use Rattle.yv_leaf_targets.specs.Named.{HaveLeafs}
 use Rattle.yv_tables.specs.Opened.{opened_from, opened_trees}
 
 -- one of these trees is what a JSON member of this name writes
@@ -50,8 +52,24 @@ IsFound s p c = named s (inside s p) (row_at s c).label.member ≡ Some c
 abbrev pub IsFoundBelow : Rows → NodeId → NodeId → Type 0
 IsFoundBelow s p c = is_data (row_at s c).label.defined.kind ≡ true → IsFound s p c
 
+-- no two of these nodes have one member
+abbrev pub DifferInMember : List Label → Type 0
+DifferInMember ls = (i k : ℕ) (a b : Label) → i < k → slice_get ls i ≡ Some a → slice_get ls k ≡ Some b → a.member ≢ b.member
+
+-- the members of each object differ: those at the root, and those below each node that is no choice or case (RFC 7950, section 6.2.1)
+pub record MembersDiffer (ts : Forest) : Type 0 where
+  pub top : DifferInMember (labels (opened_trees ts))
+  pub below : (k : ℕ) (p : Place) → slice_get (places ts) k ≡ Some p → is_passed p.label.defined.kind ≡ false
+      → DifferInMember (labels (opened_trees p.kids))
+
+-- the target of an augment is a node, and what it adds are children of that
+pub record IsNote (s : Rows) (n : Note) : Type 0 where
+  pub target : n.target.0 < length s.nodes
+  pub given : All (IsChild s n.target) n.nodes
+
 -- there are at most as many nodes as the limit and as numbers, they are numbered as their tree is, children stand behind
--- their parents, and no two of one object have one member
+-- their parents, no two of one object have one member, each name of a key and each path of a `unique` statement is that of a leaf, and
+-- augments add children to nodes
 pub record IsSound (s : Rows) : Type 0 where
   pub small : length s.nodes ≤ 4294967295
   pub limited : length s.nodes ≤ s.limit
@@ -60,3 +78,6 @@ pub record IsSound (s : Rows) : Type 0 where
   pub children : (p : NodeId) → rank p ≤ length s.nodes → All (IsChild s p) (children_of s p)
   pub found : (p : NodeId) → rank p ≤ length s.nodes → All (IsFound s p) (inside s p)
   pub found_below : (p : NodeId) → rank p ≤ length s.nodes → is_object s p ≡ true → All (IsFoundBelow s p) (children_of s p)
+  pub leafs : HaveLeafs s.nodes
+  pub members : MembersDiffer (whole s)
+  pub notes : All (IsNote s) s.augments

@@ -1,7 +1,9 @@
 //! The schema of modules: numbered nodes with the tables by which they are found, and what they measure.
 #![tactic(auto)]
 
+pub mod laws;
 mod measures;
+mod notes;
 mod numbered;
 mod opening;
 mod schema;
@@ -10,5 +12,6 @@ mod tables;
 mod tops;
 
 pub use measures::Measures;
+pub use notes::{AugmentNote, Module};
 pub use schema::Schema;
 pub use tops::ModuleTop;

@@ -2,9 +2,11 @@
 ghost use Rattle.std.specs.Prelude.{◌≡◌, ◌<◌, ◌≤◌, ◌==◌, ◌+◌, length, All, IfSome};
 ghost use Rattle.yv_values.specs.Count.{counted};
 
+use crate::notes::{AugmentNote, Module};
 use crate::table::Table;
 use std::collections::BTreeMap;
 use std::marker::Model;
+use yv_leaf_targets::LeafTargets;
 use yv_nodes::{Node, NodeId, Nodes};
 use yv_values::Meter;
 
@@ -18,24 +20,43 @@ pub struct Schema {
     pub(crate) modules: BTreeMap<String, Table>,
     /// For each node what the members of its object name, and nothing for a choice or case.
     pub(crate) tables: Vec<Table>,
+    /// What lists and choices name.
+    pub(crate) leafs: LeafTargets,
+    /// The implemented modules, by file.
+    pub(crate) implemented: Vec<Module>,
+    /// The augments.
+    pub(crate) notes: Vec<AugmentNote>,
 }
 
 impl Model for Schema {
     ghost use Rattle.yv_nodes.specs.Rows.{Rows};
-    ghost use Rattle.yv_tables.specs.InnerTables.{IsKept};
+    ghost use Rattle.yv_tables.specs.InnerTables.{IsHeld};
 
     ghost Value = { Rows };
 
-    ghost view = { λ s. record { nodes = s.nodes.rows; top = s.top.items; limit = s.nodes.limit } };
+    ghost view = { λ s. record {
+      nodes = s.nodes.rows;
+      top = s.top.items;
+      limit = s.nodes.limit;
+      modules = s.implemented.items;
+      augments = s.notes.items;
+    } };
 
-    ghost invariant = { λ s. IsKept s.modules s.tables.items (record { nodes = s.nodes.rows; top = s.top.items; limit = s.nodes.limit }) };
+    ghost invariant = { λ s. IsHeld s.modules s.tables.items s.leafs (record {
+      nodes = s.nodes.rows;
+      top = s.top.items;
+      limit = s.nodes.limit;
+      modules = s.implemented.items;
+      augments = s.notes.items;
+    }) };
 }
 
 impl Schema {
-    ghost use Rattle.std.specs.Prelude.{is_some};
+    ghost use Rattle.std.specs.Prelude.{Some, is_some, map};
+    ghost use Rattle.yv_leaf_targets.specs.Numbers.{default_case_at, key_leaf_at, unique_leaf_at};
     ghost use Rattle.yv_nodes.specs.Tree.{count};
     ghost use Rattle.yv_nodes.specs.Rows.{AreTrees, row_at, children_of, rank, root, whole};
-    ghost use Rattle.yv_tables.specs.Sound.{IsSound, IsChild, IsInside, inside, is_known, named, object_trees};
+    ghost use Rattle.yv_tables.specs.Sound.{IsSound, IsChild, IsInside, IsNote, inside, is_known, named, object_trees};
 
     /// The parent of the nodes at the top.
     pub const ROOT: NodeId = NodeId(u32::MAX);
@@ -92,6 +113,49 @@ impl Schema {
         } else {
             self.node(parent).children()
         }
+    }
+
+    /// The numbers of the leafs that a list's key names, in order (RFC 7950, section 7.8.2): none without a key. Takes time log n.
+    pub fn keys(&self, list: NodeId) -> &[NodeId]
+        requires { list.0 < length self.now.nodes }
+        ensures { map (λ n. Some n) result.now ≡ map (key_leaf_at self.now.nodes list) (row_at self.now list).label.defined.keys }
+    {
+        self.leafs.keys(list)
+    }
+
+    /// For each of a list's `unique` statements the numbers of the leafs that its paths name, in order (RFC 7950, section 7.8.3): at
+    /// most 64 statements. Takes time log n.
+    pub fn uniques(&self, list: NodeId) -> &[Vec<NodeId>]
+        requires { list.0 < length self.now.nodes }
+        ensures { map (λ leafs. map (λ n. Some n) leafs.items) result.now
+            ≡ map (map (unique_leaf_at self.now.nodes list)) (row_at self.now list).label.defined.uniques }
+    {
+        self.leafs.uniques(list)
+    }
+
+    /// The number of a choice's default case: a case, or a node that is a case of its own (RFC 7950, section 7.9.3). None where
+    /// there is no default, and of a node that is no choice. Takes time log n.
+    pub fn default_case(&self, choice: NodeId) -> Option<NodeId>
+        requires { choice.0 < length self.now.nodes }
+        ensures { result ≡ default_case_at self.now.nodes choice }
+    {
+        self.leafs.default_case(choice)
+    }
+
+    /// The implemented modules, by file.
+    pub fn modules(&self) -> &[Module]
+        ensures { result.now ≡ self.now.modules }
+    {
+        self.implemented.as_slice()
+    }
+
+    /// The `augment` statements at the top of these modules.
+    pub fn augments(&self) -> &[AugmentNote]
+        ensures value { result.now ≡ self.now.augments }
+        ensures each { All (IsNote self.now) result.now }
+        ensures sound { IsSound self.now }
+    {
+        self.notes.as_slice()
     }
 
     /// The data node that a JSON member of this name writes in an object of this node, or in that of the root: a child, or what

@@ -58,7 +58,7 @@ module _ (rows : List Row) (all : Forest) (below : List Bool) (n : ℕ) (are : A
     undone = rw (f.is, f.kept) (ap (λ (m : Label). cond (is_case m.defined.kind) (has_mandatory kids) (is_needed m (has_mandatory kids))) f.label);
   }
 
-  pub found : (home name : List ℕ) (at : ℕ) (ts : Forest) → n ≤ at → Sits (spots all) at ts → IsFound (find (is_named_at rows home name) (numbers_from at ts)) (named home name ts)
+  pub found : (home : ℕ) (name : List ℕ) (at : ℕ) (ts : Forest) → n ≤ at → Sits (spots all) at ts → IsFound (find (is_named_at rows home name) (numbers_from at ts)) (named home name ts)
   found home name at no_trees le h = record { present = refl; undone = refl }
   found home name at (tree (node l kids) ts) le h =
       let f : IsFirst at l kids = first at l kids ts le h in
@@ -67,7 +67,7 @@ module _ (rows : List Row) (all : Forest) (below : List Bool) (n : ℕ) (are : A
       subst (λ (b : Bool). IsFound (cond b (Some (numbered at)) c) (cond (is_called home name l) (Some (node l kids)) (named home name ts))) (sym here)
       (by_test (is_called home name l) at l kids c (named home name ts) f (found home name (at + 1 + count kids) ts (omega arith) (others_sit (spots all) at l kids ts h)))
 
-  pub found_by : (home : List ℕ) (name : Option Written) (at : ℕ) (ts : Forest) → n ≤ at → Sits (spots all) at ts → IsFound (case_among rows home name (numbers_from at ts)) (named_by home name ts)
+  pub found_by : (home : ℕ) (name : Option Written) (at : ℕ) (ts : Forest) → n ≤ at → Sits (spots all) at ts → IsFound (case_among rows home name (numbers_from at ts)) (named_by home name ts)
   found_by home None at ts le h = record { present = refl; undone = refl }
   found_by home (Some written) at ts le h = found home written.text at ts le h
 

@@ -1,5 +1,5 @@
 -- Refusals that stand at a node by a test.
-use Rattle.std.proofs.Common.{◌≡◌, Bool, true, false, ◌&&◌, cond, refl, sym, ap, ◌∙◌, subst, Option, Some, None}
+use Rattle.std.proofs.Common.{◌≡◌, Bool, true, cond, sym, ap, ◌∙◌, subst, Option, Some, None}
 use Rattle.yv_statement.specs.declared.refusal.Code.{Code}
 use Rattle.yv_statement.specs.declared.refusal.Refusal.{Refusal}
 use Rattle.yv_statement.specs.Order.{IsLeast, Stands}
@@ -12,8 +12,3 @@ pub least_here : (code : Code) (l m : Label) (b bad : Bool) (o : Option Refusal)
 least_here code l m b bad o e same test =
     let is : o ≡ cond bad (Some (refusal_of code m)) None = e ∙ ap (λ (c : Bool). cond c (Some (refusal_of code l)) None) test ∙ ap (λ (n : Label). cond bad (Some (refusal_of code n)) None) same in
     subst (λ (x : Option Refusal). IsLeast (Stands (bad ≡ true) (refusal_of code m)) x) (sym is) (least_refused (bad ≡ true) bad (refusal_of code m) (λ h. h) (λ h. h))
-
--- where the first test holds, the second decides
-pub and_is : (a b : Bool) → a ≡ true → b ≡ (a && b)
-and_is true b e = refl
-and_is false b e = cc

@@ -2,4 +2,3 @@ pub mod Spots
 pub mod Here
 pub mod Kept
 pub mod Below
-pub mod Telling

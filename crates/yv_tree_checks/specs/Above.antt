@@ -23,7 +23,7 @@ is_nested _ = false
 
 -- a list without key
 abbrev pub is_keyless : Label → Bool
-is_keyless l = is_list l.defined.kind && is_empty l.defined.key_names
+is_keyless l = is_list l.defined.kind && is_empty l.defined.keys
 
 -- an `if-feature` statement stands at a node: the texts of these statements are kept (RFC 7950, section 7.20.2)
 abbrev pub has_condition : Label → Bool

@@ -21,16 +21,16 @@ is_needed_by (Some r) below = is_needed r.label below
 abbrev pub is_needed_at : List Row → List Bool → NodeId → Bool
 is_needed_at rows below c = is_needed_by (slice_get rows c.0) (kept_at below c)
 
-abbrev pub is_named_by : Option Row → (home name : List ℕ) → Bool
+abbrev pub is_named_by : Option Row → (home : ℕ) → (name : List ℕ) → Bool
 is_named_by None home name = false
 is_named_by (Some r) home name = is_called home name r.label
 
 -- the node of a number has this module and this name
-abbrev pub is_named_at : List Row → (home name : List ℕ) → NodeId → Bool
+abbrev pub is_named_at : List Row → (home : ℕ) → (name : List ℕ) → NodeId → Bool
 is_named_at rows home name c = is_named_by (slice_get rows c.0) home name
 
 -- of these nodes the first that has this module and this name
-abbrev pub case_among : List Row → (home : List ℕ) → Option Written → List NodeId → Option NodeId
+abbrev pub case_among : List Row → (home : ℕ) → Option Written → List NodeId → Option NodeId
 case_among rows home None cs = None
 case_among rows home (Some written) cs = find (is_named_at rows home written.text) cs
 

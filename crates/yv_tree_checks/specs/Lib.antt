@@ -1,8 +1,6 @@
 pub mod Above
 pub mod Mandatory
-pub mod Keys
 pub mod Bad
 pub mod InnerSpots
 pub mod InnerAncestry
 pub mod InnerBelow
-pub mod InnerLeafs

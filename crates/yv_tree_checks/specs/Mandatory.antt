@@ -1,5 +1,5 @@
 -- Mandatory nodes, and what is wrong with defaults (RFC 7950, sections 3, 7.6.5, 7.9.3 and 7.9.4).
-use Rattle.std.specs.Prelude.{◌≡◌, ◌⊎◌, ℕ, nat_lt, Bool, true, false, not, ◌&&◌, ◌||◌, List, length, Option, Some, None, is_some, if◌then◌else◌}
+use Rattle.std.specs.Prelude.{◌≡◌, ◌⊎◌, ◌==◌, ℕ, nat_lt, Bool, true, false, not, ◌&&◌, ◌||◌, List, length, Option, Some, None, is_some, if◌then◌else◌}
 use Rattle.std.specs.Str.{bytes_eq}
 use Rattle.yv_statement.specs.declared.refusal.Refusal.{Refusal}
 use Rattle.yv_statement.specs.declared.refusal.Code.TheVariants as code
@@ -32,23 +32,23 @@ abbrev pub has_mandatory : Forest → Bool
 has_mandatory no_trees = false
 has_mandatory (tree (node l kids) ts) = is_needed l (has_mandatory kids) || has_mandatory ts
 
--- a node has this module and this name
-abbrev pub is_called : (home name : List ℕ) → Label → Bool
-is_called home name l = bytes_eq l.module_name home && bytes_eq l.defined.name name
+-- a node is of the module of this number and has this name
+abbrev pub is_called : (home : ℕ) → (name : List ℕ) → Label → Bool
+is_called home name l = l.home == home && bytes_eq l.defined.name name
 
 -- the first of these trees whose node has this module and this name
-abbrev pub named : (home name : List ℕ) → Forest → Option Tree
+abbrev pub named : (home : ℕ) → (name : List ℕ) → Forest → Option Tree
 named home name no_trees = None
 named home name (tree (node l kids) ts) = if is_called home name l then Some (node l kids) else named home name ts
 
-abbrev pub named_by : (home : List ℕ) → Option Written → Forest → Option Tree
+abbrev pub named_by : (home : ℕ) → Option Written → Forest → Option Tree
 named_by home None ts = None
 named_by home (Some written) ts = named home written.text ts
 
 -- the default case of a choice: a case, or a node that is a case of its own, of the choice's own module
 -- (RFC 7950, section 7.9.3)
 abbrev pub default_case : Place → Option Tree
-default_case p = named_by p.label.module_name p.label.defined.own_default p.kids
+default_case p = named_by p.label.home p.label.defined.own_default p.kids
 
 -- a mandatory node stands directly under a case: the node itself, where that is a case of its own
 abbrev pub is_needed_in : Option Tree → Bool

@@ -1,10 +1,8 @@
-//! What is wrong with the nodes of a schema tree, but for doubled names and for paths.
+//! What is wrong with the nodes of a schema tree, but for doubled names, for what keys and `unique` statements name, and for paths.
 #![tactic(auto)]
 
 mod above;
 mod checks;
-mod keys;
-mod leafs;
 mod lineage;
 mod mandatory;
 mod numbered;

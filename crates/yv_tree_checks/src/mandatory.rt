@@ -83,18 +83,18 @@ fn any_needed(nodes: &[Node], below: &[bool], children: &[NodeId]) -> bool
 }
 
 // Whether the node of a number has this module and this name.
-fn is_named_at(nodes: &[Node], home: &str, name: &str, number: NodeId) -> bool
-    ensures { result ≡ is_named_at nodes.now home.now name.now number }
+fn is_named_at(nodes: &[Node], home: u32, name: &str, number: NodeId) -> bool
+    ensures { result ≡ is_named_at nodes.now home name.now number }
 {
     match nodes.get(number.number() as usize) {
-        Some(node) => node.module() == home && node.name() == name,
+        Some(node) => node.home() == home && node.name() == name,
         None => false,
     }
 }
 
 // Of these nodes the first that has this module and this name.
-fn first_named(nodes: &[Node], home: &str, name: &str, children: &[NodeId]) -> Option<NodeId>
-    ensures { result ≡ find (is_named_at nodes.now home.now name.now) children.now }
+fn first_named(nodes: &[Node], home: u32, name: &str, children: &[NodeId]) -> Option<NodeId>
+    ensures { result ≡ find (is_named_at nodes.now home name.now) children.now }
 {
     children
         .iter()
@@ -104,12 +104,10 @@ fn first_named(nodes: &[Node], home: &str, name: &str, children: &[NodeId]) -> O
 
 // The default case of a choice.
 fn default_case(nodes: &[Node], node: &Node) -> Option<NodeId>
-    ensures { result ≡ case_among nodes.now node.now.label.module_name node.now.label.defined.own_default node.now.children }
+    ensures { result ≡ case_among nodes.now node.now.label.home node.now.label.defined.own_default node.now.children }
 {
     match node.own_default() {
-        Some(written) => {
-            first_named(nodes, node.module(), written.text.as_str(), node.children())
-        }
+        Some(written) => { first_named(nodes, node.home(), written.text.as_str(), node.children()) }
         None => None,
     }
 }

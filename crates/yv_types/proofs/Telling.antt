@@ -17,7 +17,8 @@ use Rattle.yv_restrictions.specs.declared.numbering.Kind.{Kind}
 use Rattle.yv_restrictions.specs.declared.numbering.Kind.TheVariants.{Enumeration, Bits}
 use Rattle.yv_values.specs.Types.{Plain}
 use Rattle.yv_facets.specs.BuiltIn.{built_in}
-use Rattle.yv_faceted.specs.Types.{HasPlainType, IsTypeAt, StartsFrom as StartsPlain, digits_of, left, first as first_plain, derived as derived_plain}
+use Rattle.yv_faceted.specs.Types.{HasPlainType, IsTypeAt, StartsFrom as StartsPlain, named_type, left, first as first_plain, derived as derived_plain}
+use Rattle.yv_faceted.proofs.Naming.{has_digits}
 use Rattle.yv_faceted.proofs.Stepping.{HaveRows, apart as plain_apart}
 use Rattle.yv_listed.specs.Types.{HasNames, Start, StartsFrom, Told, Truth, derived, first, from, kind_in, listed, new, told_by}
 use Rattle.yv_types.proofs.Stepping.{apart, both_true}
@@ -121,10 +122,11 @@ module _ (files : Files) (truth : Truth) where
           ∙ ap (option_map (λ (x : Row). x.head)) at)
 
       -- a type that names a built-in type without a plain type of its own narrows none by its name
-      first_no_kind : (k : ℕ) (t : Tree) (p : Plain) (r : Row) (word : List ℕ) → IsTypeAt files k t → built_in (name_of t.head) (digits_of t) ≡ Some p → slice_get (rows_of files) k ≡ Some r → is_kind word r ≡ true → ((digits : ℕ) → built_in word digits ≡ None) → ⊥
+      first_no_kind : (k : ℕ) (t : Tree) (p : Plain) (r : Row) (word : List ℕ) → IsTypeAt files k t → named_type t ≡ Some p → slice_get (rows_of files) k ≡ Some r → is_kind word r ≡ true → ((digits : ℕ) → built_in word digits ≡ None) → ⊥
       first_no_kind k t p r word here e at is none =
           let name : name_of t.head ≡ word = ap name_of (head_same k t r here.0 at) ∙ name_is word r is in
-          no_plain p (sym (none (digits_of t)) ∙ ap (λ n. built_in n (digits_of t)) (sym name) ∙ e)
+          let given : (d : ℕ) × (built_in (name_of t.head) d ≡ Some p) = has_digits t p e in
+          no_plain p (sym (none given.0) ∙ ap (λ n. built_in n given.0) (sym name) ∙ given.1)
 
       start_no_kind : {k : ℕ} {t : Tree} {p : Plain} (r : Row) (word : List ℕ) → StartsPlain files k t p → slice_get (rows_of files) k ≡ Some r → is_kind word r ≡ true → is_built_in word ≡ true → ((digits : ℕ) → built_in word digits ≡ None) → ⊥
       start_no_kind {k} {t} {p} r word (first_plain here e) at is known none = first_no_kind k t p r word here e at is none
@@ -133,7 +135,7 @@ module _ (files : Files) (truth : Truth) where
       pub plain_no_kind : {k : ℕ} {p : Plain} (r : Row) (word : List ℕ) → HasPlainType files k p → slice_get (rows_of files) k ≡ Some r → is_kind word r ≡ true → is_built_in word ≡ true → ((digits : ℕ) → built_in word digits ≡ None) → ⊥
       plain_no_kind r word (left s n) at is known none = start_no_kind r word s at is known none
 
-      first_no_name : (k : ℕ) (t : Tree) (p : Plain) (r : Row) (kind : Kind) → IsTypeAt files k t → built_in (name_of t.head) (digits_of t) ≡ Some p → slice_get (rows_of files) k ≡ Some r → kind_in r ≡ Some kind → ⊥
+      first_no_name : (k : ℕ) (t : Tree) (p : Plain) (r : Row) (kind : Kind) → IsTypeAt files k t → named_type t ≡ Some p → slice_get (rows_of files) k ≡ Some r → kind_in r ≡ Some kind → ⊥
       first_no_name k t p r kind here e at is = elim (kind_word r kind is) [
         | inl one ↦ first_no_kind k t p r (codes "enumeration") here e at one (λ digits. refl)
         | inr two ↦ first_no_kind k t p r (codes "bits") here e at two (λ digits. refl)

@@ -1,13 +1,12 @@
 use Rattle.std.proofs.Common.{◌≡◌, ◌↔◌, ℕ, Option, Some, sym, ◌∙◌, subst}
 use Rattle.std.specs.List.{slice_get}
 use Rattle.std.specs.Option.{option_copied, option_map}
-use Rattle.yv_statement.specs.Tree.{Tree, name_of}
+use Rattle.yv_statement.specs.Tree.{Tree}
 use Rattle.yv_rows.specs.Files.{Files}
 use Rattle.yv_rows.specs.Rows.{row}
 use Rattle.yv_rows.specs.Lent.{lent_in, rows_in}
 use Rattle.yv_values.specs.Types.{Plain, plain_of}
-use Rattle.yv_facets.specs.BuiltIn.{built_in}
-use Rattle.yv_faceted.specs.Types.{HasPlainType, IsTypeAt, digits_of}
+use Rattle.yv_faceted.specs.Types.{HasPlainType, IsTypeAt, named_type}
 use Rattle.yv_faceted.proofs.Stepping.{if_ok, out_none, out_other, out_past, starts_derived, starts_named, row_read, step_by, step_nothing}
 use Rattle.yv_faceted.proofs.step.type_at.Goals as goal
 
@@ -44,6 +43,6 @@ returns-in-None-clause-step c =
     let t : Tree = c.in-Some-statement.statement.now in
     let here : IsTypeAt files k t = (sym c.in-Some-statement.ensures, sym c.is_type.ensures ∙ c.if-not-is_type.false) in
     let at : slice_get (rows_in c.args.rows.now) k ≡ Some (row c.in-Some.entry.now) = row_read row c.entries.result.now (rows_in c.args.rows.now) k c.in-Some.entry.now c.entries.ensures c.in-Some.ensures.lookup.3.0 c.in-Some.ensures.lookup.1 in
-    if_ok _ _ c.named.result (λ s l told known. step_by files k t here (row c.in-Some.entry.now) (built_in (name_of t.head) (digits_of t)) _ _ at
+    if_ok _ _ c.named.result (λ s l told known. step_by files k t here (row c.in-Some.entry.now) (named_type t) _ _ at
     (starts_named files k t here c.statements_have_their_rows.ensures c.follows.result (c.follows.ensures files told) c.in-None.is)
     l) c.named.ensures.left

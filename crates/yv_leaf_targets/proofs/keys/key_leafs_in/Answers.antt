@@ -2,7 +2,7 @@ use Rattle.std.proofs.Common.{◌≡◌, None, is_some, not, map, refl, sym, ap,
 use Rattle.std.proofs.lemmas.List.{take_all}
 use Rattle.std.proofs.lemmas.Option.{slice_get_read}
 use Rattle.yv_nodes.specs.declared.node.NodeId.{NodeId}
-use Rattle.yv_leaf_paths.specs.Steps.{Step}
+use Rattle.yv_properties.specs.Steps.{Step}
 use Rattle.yv_leaf_targets.specs.Numbers.{key_leaf_at}
 use Rattle.yv_leaf_targets.proofs.Listing.{any_there, none_missing, values_more}
 use Rattle.yv_leaf_targets.proofs.keys.key_leafs_in.Goals as goal

@@ -2,9 +2,9 @@ use Rattle.std.proofs.Common.{◌≡◌, Bool, true, false, Some, IfSome, is_som
 use Rattle.std.proofs.lemmas.Option.{slice_get_read}
 use Rattle.yv_nodes.specs.declared.node.NodeId.{NodeId}
 use Rattle.yv_nodes.specs.Rows.{Row}
-use Rattle.yv_leaf_paths.specs.Steps.{Step}
+use Rattle.yv_properties.specs.Steps.{Step}
 use Rattle.yv_leaf_targets.specs.Numbers.{unique_leaf_at}
-use Rattle.yv_leaf_targets.specs.Refused.{paths_in}
+use Rattle.yv_properties.specs.Defined.{paths_in}
 use Rattle.yv_leaf_targets.specs.InnerMixed.{is_bad_statement_at}
 use Rattle.yv_leaf_targets.proofs.Listing.{any_more, any_there, item_read, mapped_more}
 use Rattle.yv_leaf_targets.proofs.Mixing.{not_false, not_true}

@@ -1,7 +1,7 @@
 use Rattle.std.proofs.Common.{◌≡◌, Some, false, map, take}
 use Rattle.std.specs.List.{list_any}
 use Rattle.yv_leaf_targets.specs.Numbers.{unique_leaf_at}
-use Rattle.yv_leaf_targets.specs.Refused.{paths_in}
+use Rattle.yv_properties.specs.Defined.{paths_in}
 use Rattle.yv_leaf_targets.specs.InnerMixed.{is_bad_statement_at}
 use Rattle.yv_leaf_targets.proofs.unique.all_leafs.Given as goal
 

@@ -2,7 +2,7 @@ use Rattle.std.proofs.Common.{◌≡◌, ◌≤◌, None, is_some, not, List, ma
 use Rattle.std.proofs.lemmas.List.{length-map, take_all}
 use Rattle.yv_nodes.specs.declared.node.NodeId.{NodeId}
 use Rattle.yv_nodes.specs.Rows.{Row}
-use Rattle.yv_leaf_paths.specs.Steps.{Step}
+use Rattle.yv_properties.specs.Steps.{Step}
 use Rattle.yv_leaf_targets.specs.Numbers.{unique_leaf_at}
 use Rattle.yv_leaf_targets.proofs.Listing.{any_there, item_read, none_missing, values_more}
 use Rattle.yv_leaf_targets.proofs.unique.named_leafs.Goals as goal

@@ -1,7 +1,7 @@
 use Rattle.std.proofs.Common.{◌≡◌, Some, IfSome, not, List, map, sym, ap, ◌∙◌, subst, Option, Vec, Global}
 use Rattle.yv_nodes.specs.declared.node.NodeId.{NodeId}
 use Rattle.yv_nodes.specs.Rows.{Row}
-use Rattle.yv_leaf_paths.specs.Steps.{Step}
+use Rattle.yv_properties.specs.Steps.{Step}
 use Rattle.yv_leaf_targets.specs.Numbers.{unique_leaf_at}
 use Rattle.yv_leaf_targets.specs.InnerMixed.{is_mixed_at}
 use Rattle.yv_leaf_targets.proofs.Mixing.{bad_is}

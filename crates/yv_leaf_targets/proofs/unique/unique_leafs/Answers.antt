@@ -3,9 +3,9 @@ use Rattle.std.specs.List.{list_any}
 use Rattle.std.specs.Option.{option_map}
 use Rattle.std.proofs.lemmas.List.{length-map}
 use Rattle.yv_nodes.specs.Rows.{Row}
-use Rattle.yv_leaf_paths.specs.Steps.{Step}
+use Rattle.yv_properties.specs.Steps.{Step}
 use Rattle.yv_leaf_targets.specs.Numbers.{tree_in, unique_leaf_at}
-use Rattle.yv_leaf_targets.specs.Refused.{paths_in}
+use Rattle.yv_properties.specs.Defined.{paths_in}
 use Rattle.yv_leaf_targets.specs.InnerMixed.{is_bad_statement_at}
 use Rattle.yv_leaf_targets.proofs.Mixing.{unique_is}
 use Rattle.yv_leaf_targets.proofs.unique.unique_leafs.Goals as goal

@@ -63,3 +63,9 @@ returns-clause-before c =
     let own = rw c.in_default.is at c.first_bad_file.ensures in
     let clear : AreClear (choice_of c.args.selection.now) c.args.files.now c.in-Ok.linked = record { few = omega arith; own = own; links = c.in-Ok.ensures.clear; are = c.in-Ok.ensures.linked } in
     c.of_linked.ensures.before c.args.files.now clear
+
+pub returns-clause-modules : goal.returns-clause-modules
+returns-clause-modules c =
+    let own = rw c.in_default.is at c.first_bad_file.ensures in
+    let clear : AreClear (choice_of c.args.selection.now) c.args.files.now c.in-Ok.linked = record { few = omega arith; own = own; links = c.in-Ok.ensures.clear; are = c.in-Ok.ensures.linked } in
+    c.of_linked.ensures.modules c.args.files.now clear

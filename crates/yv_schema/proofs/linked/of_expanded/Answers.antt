@@ -116,3 +116,8 @@ returns-clause-refusal c = λ files given r e.
     let typed : IsLeast (BadTypes files truth) None = c.in-Ok.ensures.clear files choice clear.are given.are_names in
     let found = rw built at c.build.ensures.refusal in
     least_last choice files limit c.an_expression_has_one_truth.ensures given.before c.files_have_one_typing.ensures c.files_have_one_expansion.ensures truth (Some r) _ is schema typed (found b tells refl r e)
+
+pub returns-clause-modules : goal.returns-clause-modules
+returns-clause-modules c = λ files given.
+    let built = c.rows-2.ensures files (choice_of c.args.selection.now) given.clear.are in
+    rw built at c.build.ensures.modules

@@ -113,3 +113,17 @@ returns-clause-before c = λ files clear.
     let before : IsLeast (RefusesBeforeTypes choice files limit) None = least_expanded choice files limit None clear.own clear.links named (cleared names) in
     let expanded : AreExpanded choice files limit c.args.linked.now c.in-Ok.names c.in-Ok-copies.copies = record { clear = clear; are_names = names; are_copies = copied names; before = before } in
     λ e. before
+
+pub returns-clause-modules : goal.returns-clause-modules
+returns-clause-modules c = λ files clear.
+    let choice = choice_of c.args.selection.now in
+    let limit = c.args.limit in
+    let rows = c.rows.ensures files choice clear.are in
+    let named = rw rows at c.in-Ok.ensures.clear in
+    let names = rw rows at c.in-Ok.ensures.made in
+    let lent = c.rows-2.ensures files choice clear.are in
+    let cleared = rw lent at c.in-Ok-copies.ensures.clear in
+    let copied = rw lent at c.in-Ok-copies.ensures.copied in
+    let before : IsLeast (RefusesBeforeTypes choice files limit) None = least_expanded choice files limit None clear.own clear.links named (cleared names) in
+    let expanded : AreExpanded choice files limit c.args.linked.now c.in-Ok.names c.in-Ok-copies.copies = record { clear = clear; are_names = names; are_copies = copied names; before = before } in
+    c.of_expanded.ensures.modules files expanded

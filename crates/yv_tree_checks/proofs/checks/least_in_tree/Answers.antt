@@ -1,7 +1,6 @@
-use Rattle.std.proofs.Common.{◌⊎◌, ◌∙◌}
+use Rattle.std.proofs.Common.{◌∙◌}
 use Rattle.yv_statement.proofs.Least.{least_lesser}
 use Rattle.yv_tree_checks.specs.Above.{BadByAbove}
-use Rattle.yv_tree_checks.specs.Keys.{BadByKey}
 use Rattle.yv_tree_checks.specs.Mandatory.{BadByDefault}
 use Rattle.yv_tree_checks.specs.InnerSpots.{AreRows}
 use Rattle.yv_tree_checks.proofs.checks.least_in_tree.Goals as goal
@@ -9,5 +8,4 @@ use Rattle.yv_tree_checks.proofs.checks.least_in_tree.Goals as goal
 pub returns : goal.returns
 returns c = λ ts are.
     let rows : AreRows c.all-rows.result.now ts = c.all-rows.ensures ∙ are in
-    let others = least_lesser (BadByDefault ts) (BadByKey ts) _ _ _ c.lesser-others.ensures (c.in_ok-default.ensures ts rows) (c.in_ok-key.ensures ts rows) in
-    least_lesser (BadByAbove ts) (λ f. BadByDefault ts f ⊎ BadByKey ts f) _ _ _ c.lesser.ensures (c.in_ok-above.ensures ts rows) others
+    least_lesser (BadByAbove ts) (BadByDefault ts) _ _ _ c.lesser.ensures (c.in_ok-above.ensures ts rows) (c.in_ok-default.ensures ts rows)

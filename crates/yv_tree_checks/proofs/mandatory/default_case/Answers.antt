@@ -9,9 +9,9 @@ pub returns-in-Some : goal.returns-in-Some
 returns-in-Some c =
     let rows = c.args.nodes.now in
     let r = c.args.node.now in
-    let home = r.label.module_name in
+    let home = r.label.home in
     let w : Written = written_of c.in-Some.written.now in
-    c.first_named.ensures ∙ ap (λ (h : List ℕ). find (is_named_at rows h c.as_str.result.now) c.children.result.now) c.module.ensures
+    c.first_named.ensures ∙ ap (λ (h : ℕ). find (is_named_at rows h c.as_str.result.now) c.children.result.now) c.home.ensures
     ∙ ap (λ (name : List ℕ). find (is_named_at rows home name) c.children.result.now) c.as_str.ensures.value
     ∙ ap (λ (cs : List NodeId). find (is_named_at rows home w.text) cs) c.children.ensures
     ∙ ap (λ (o : Option Written). case_among rows home o r.children) c.in-Some.ensures

@@ -23,10 +23,10 @@ returns c = λ ts i p are known at there.
     let same : row.spot.place ≡ p = let e = row.at_place in cc (e, there) in
     let label : c.args.node.now.label ≡ p.label = ap (λ (r : Row). r.label) row.is ∙ ap (λ (q : Place). q.label) same in
     let l : Label = row.spot.place.label in
-    let inner = found_by rows ts c.args.below.now 0 are known l.module_name l.defined.own_default (i + 1) row.spot.place.kids (omega arith) row.known.sit in
-    let case_is : c.default_case-case.result ≡ case_among rows l.module_name l.defined.own_default (numbers_from (i + 1) row.spot.place.kids) =
-    c.default_case-case.ensures ∙ ap (λ (r : Row). case_among rows r.label.module_name r.label.defined.own_default r.children) row.is
-    ∙ ap (case_among rows l.module_name l.defined.own_default) row.known.children in
+    let inner = found_by rows ts c.args.below.now 0 are known l.home l.defined.own_default (i + 1) row.spot.place.kids (omega arith) row.known.sit in
+    let case_is : c.default_case-case.result ≡ case_among rows l.home l.defined.own_default (numbers_from (i + 1) row.spot.place.kids) =
+    c.default_case-case.ensures ∙ ap (λ (r : Row). case_among rows r.label.home r.label.defined.own_default r.children) row.is
+    ∙ ap (case_among rows l.home l.defined.own_default) row.known.children in
     let present = ap is_some case_is ∙ inner.present ∙ ap (λ (q : Place). is_some (default_case q)) same in
     let undone_is = c.is_undone.ensures ∙ ap (is_undone_at rows c.args.below.now) case_is ∙ inner.undone ∙ ap (λ (q : Place). is_needed_in (default_case q)) same in
     let overruled = least_here code.BadMandatory _ p.label _ (is_overruled p.label) _ c.refused-overruled.ensures label (c.is_overruled.ensures ∙ ap is_overruled label) in

@@ -7,6 +7,7 @@ pub invariant_of-self : goal.invariant_of-self
 invariant_of-self c =
     let self = c.args.self.now in
     record {
+      paths_so = self.paths_so;
       scopes_so = self.scopes_so;
       kept_so = self.kept_so;
       refined_so = λ refine kept at. elim (c.put.ensures refine kept at) [

@@ -1,5 +1,6 @@
 use Rattle.std.proofs.Common.{◌≡◌, ◌++◌, List, None, Option, sym, ap, ◌∙◌, append_assoc}
-use Rattle.yv_leaf_paths.specs.Steps.{Step, names_of}
+use Rattle.yv_properties.specs.Steps.{Step}
+use Rattle.yv_leaf_paths.specs.Steps.{names_of}
 use Rattle.yv_leaf_paths.specs.InnerCut.{cut, name_in}
 use Rattle.yv_leaf_paths.proofs.Cuts.{names_cut, names_whole}
 use Rattle.yv_leaf_paths.proofs.paths.LeafPaths.names.Goals as goal

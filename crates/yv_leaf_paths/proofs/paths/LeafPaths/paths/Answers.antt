@@ -1,5 +1,6 @@
 use Rattle.std.proofs.Common.{◌≡◌, ◌++◌, List, map, None, Option, sym, ap, ◌∙◌, append_assoc}
-use Rattle.yv_leaf_paths.specs.Steps.{Step, paths_of}
+use Rattle.yv_properties.specs.Steps.{Step}
+use Rattle.yv_leaf_paths.specs.Steps.{paths_of}
 use Rattle.yv_leaf_paths.specs.InnerCut.{cut, path_in}
 use Rattle.yv_leaf_paths.proofs.Cuts.{paths_cut, paths_whole}
 use Rattle.yv_leaf_paths.proofs.paths.LeafPaths.paths.Goals as goal

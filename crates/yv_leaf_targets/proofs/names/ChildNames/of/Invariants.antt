@@ -6,5 +6,5 @@ use Rattle.yv_leaf_targets.proofs.names.ChildNames.of.Given as goal
 
 -- what is told, and after it what the nodes behind say, is what all say
 abbrev pub invariant-loop-child : goal.invariant-loop-child
-invariant-loop-child l = (home name : List ℕ)
+invariant-loop-child l = (home : ℕ) (name : List ℕ)
     → first_some (told_of l.names home name) (find (is_called_at l.nodes home name) (drop l.child-index l.children)) ≡ find (is_called_at l.nodes home name) l.children

@@ -1,14 +1,14 @@
 use Rattle.std.proofs.Common.{◌∙◌}
 use Rattle.std.proofs.lemmas.Result.{on_ok_weaker}
-use Rattle.std.specs.Rc.{rc_str_bytes}
 use Rattle.yv_pruning.specs.Families.{lists_of}
 use Rattle.yv_copies.specs.Left.{left_in}
+use Rattle.yv_schema.specs.InnerRowing.{home_in}
 use Rattle.yv_schema.proofs.Rowing.{adds_file}
 use Rattle.yv_schema.proofs.file.Builder.add.Goals as goal
 
 pub returns-clause-added : goal.returns-clause-added
 returns-clause-added c = λ b tells.
-    let home = rc_str_bytes c.args.self.now.home.now in
+    let home = home_in c.args.self.now in
     let t = left_in b.truth b.files b.trees c.args.self.now.file in
     let old = c.args.nodes.now.rows in
     let items = c.in_ok-left.ensures b tells in

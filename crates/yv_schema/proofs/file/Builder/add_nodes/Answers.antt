@@ -1,12 +1,11 @@
 use Rattle.std.proofs.Common.{◌≡◌, List, [], refl, sym, ap, ◌∙◌, ◌++◌, subst, append-nil, None, get_or}
-use Rattle.std.specs.Rc.{rc_str_bytes}
 use Rattle.yv_pruning.specs.Families.{lists_of}
 use Rattle.yv_expansion.specs.Tree.{Node}
 use Rattle.std.proofs.lemmas.List.{at_drop_all}
 use Rattle.yv_nodes.specs.declared.node.NodeId.{NodeId}
 use Rattle.yv_nodes.specs.Rows.{Row}
 use Rattle.yv_labels.specs.Above.{Seen, seen_of}
-use Rattle.yv_schema.specs.InnerRowing.{AreSeen, line_at, line_of, numbers_behind, parent_of, row_of, rows_for}
+use Rattle.yv_schema.specs.InnerRowing.{AreSeen, home_in, line_at, line_of, numbers_behind, parent_of, row_of, rows_for}
 use Rattle.yv_schema.proofs.Rowing.{all_of_home, kept_more}
 use Rattle.yv_schema.proofs.file.Builder.add_nodes.Goals as goal
 
@@ -19,7 +18,7 @@ loop-place-init c = record {
 pub loop-place-preserved : goal.loop-place-preserved
 loop-place-preserved c = record {
   kept = λ b tells.
-      let home = rc_str_bytes c.args.self.now.home.now in
+      let home = home_in c.args.self.now in
       let base = c.args.base in
       let below = lists_of c.args.below.now in
       let i = c.loop-place.place in
@@ -41,7 +40,7 @@ loop-place-preserved c = record {
 
 pub returns-clause-rows : goal.returns-clause-rows
 returns-clause-rows c = λ b tells.
-    let home = rc_str_bytes c.args.self.now.home.now in
+    let home = home_in c.args.self.now in
     let k = c.loop-place.invariant.kept b tells in
     let now = c.loop-place.nodes.rows in
     let none = at_drop_all (rows_for b home c.args.base (lists_of c.args.below.now) k.lines c.loop-place.place) c.args.items.now c.loop-place.place c.loop-place-test.false in

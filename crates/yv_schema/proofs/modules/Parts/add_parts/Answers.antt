@@ -1,8 +1,8 @@
 use Rattle.std.proofs.Common.{◌≡◌, map, sym, ap, ◌∙◌, false, true}
-use Rattle.std.specs.Rc.{rc_str_bytes}
 use Rattle.yv_copies.specs.On.{no_statement}
 use Rattle.yv_rows.specs.Files.{Files, brief_of}
 use Rattle.yv_schema.specs.Module.{is_part, parts_from}
+use Rattle.yv_schema.specs.InnerRowing.{home_in}
 use Rattle.yv_schema.proofs.Gathering.{part_more, part_other, parts_end}
 use Rattle.yv_schema.proofs.modules.Parts.add_parts.Goals as goal
 use Rattle.yv_schema.proofs.modules.Parts.add_parts.Goals.{then-is_part+in_ok-add, else-is_part}
@@ -10,7 +10,7 @@ use Rattle.yv_schema.proofs.modules.Parts.add_parts.Goals.{then-is_part+in_ok-ad
 pub loop-file-preserved : goal.loop-file-preserved
 loop-file-preserved c =
     let roots = c.args.self.now.roots.now in
-    let home = rc_str_bytes c.args.own.home.now in
+    let home = home_in c.args.own in
     let i = c.loop-file.file in
     let m = c.args.number in
     elim c.if-is_part.branch [
@@ -38,6 +38,6 @@ loop-file-preserved c =
 pub returns-clause-added : goal.returns-clause-added
 returns-clause-added c = λ b tells files.
     let roots = c.args.self.now.roots.now in
-    let home = rc_str_bytes c.args.own.home.now in
+    let home = home_in c.args.own in
     parts_end b c.args.number home roots c.loop-file.file (parts_from b c.args.number home 0 roots) c.args.nodes.now.rows c.loop-file.nodes.rows
     c.args.numbers.now.items c.loop-file.numbers.items c.loop-file-test.false (c.loop-file.invariant.rest b tells files)

@@ -1,5 +1,5 @@
 use Rattle.std.proofs.Common.{◌≡◌, drop}
-use Rattle.std.specs.Rc.{rc_str_bytes}
+use Rattle.yv_schema.specs.InnerRowing.{home_in}
 use Rattle.yv_schema.specs.InnerContext.{Tells}
 use Rattle.yv_schema.specs.Module.{Basis, parts_from}
 use Rattle.yv_schema.proofs.Growing.{Rest}
@@ -9,7 +9,7 @@ use Rattle.yv_schema.proofs.modules.Parts.add_parts.Given as goal
 abbrev pub invariant-loop-file : goal.invariant-loop-file
 invariant-loop-file l = record {
   rest : (b : Basis) → Tells b l.own.context.now → b.files ≡ l.self.roots.now
-      → Rest (parts_from b l.number (rc_str_bytes l.own.home.now) l.file (drop l.file l.self.roots.now)) (parts_from b l.number (rc_str_bytes l.own.home.now) 0 l.self.roots.now)
+      → Rest (parts_from b l.number (home_in l.own) l.file (drop l.file l.self.roots.now)) (parts_from b l.number (home_in l.own) 0 l.self.roots.now)
       l.fn.nodes.rows l.nodes.rows l.fn.numbers.items l.numbers.items;
   limit : l.nodes.limit ≡ l.fn.nodes.limit;
 }

@@ -8,7 +8,7 @@ returns-then-eq-clause-trees c =
     let root : is_root c.args.parent ≡ true = sym c.eq.ensures ∙ c.if-eq.true in
     let top : c.as_slice.result.now ≡ children_of c.args.self.now c.args.parent =
     c.as_slice.ensures.value ∙ ap (λ (s : Rows). s.top) c.self.view_is ∙ sym (children_at_root c.args.self.now c.args.parent root) in
-    children_trees c.args.self.now c.args.parent c.as_slice.result.now (rw c.self.view_is at c.self.invariant.sound) c.requires top
+    children_trees c.args.self.now c.args.parent c.as_slice.result.now (rw c.self.view_is at c.self.invariant.kept.sound) c.requires top
 
 pub returns-else-eq-clause-trees : goal.returns-else-eq-clause-trees
 returns-else-eq-clause-trees c =

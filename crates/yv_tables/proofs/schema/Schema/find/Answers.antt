@@ -14,23 +14,23 @@ returns-then-eq-clause-value c =
 
 pub returns-else-eq-clause-value : goal.returns-else-eq-clause-value
 returns-else-eq-clause-value c =
-    let s : Rows = record { nodes = c.self.inside.nodes.rows; top = c.self.inside.top.items; limit = c.self.inside.nodes.limit } in
+    let s : Rows = record { nodes = c.self.inside.nodes.rows; top = c.self.inside.top.items; limit = c.self.inside.nodes.limit; modules = c.self.inside.implemented.items; augments = c.self.inside.notes.items } in
     let inner : is_root c.args.parent ≡ false = sym c.eq.ensures ∙ c.if-eq.false in
     let within : rank c.args.parent ≤ length s.nodes = rw (← c.self.view_is) at c.requires.within in
-    let at = slice_get_read c.self.inside.tables.items (length s.nodes) c.args.parent.0 c.index.result.now (sym c.self.invariant.each) (omega (arith, within, rank_below c.args.parent inner)) c.index.ensures in
+    let at = slice_get_read c.self.inside.tables.items (length s.nodes) c.args.parent.0 c.index.result.now (sym c.self.invariant.kept.each) (omega (arith, within, rank_below c.args.parent inner)) c.index.ensures in
     rw (← c.self.view_is)
-    (c.copied.ensures ∙ c.get.ensures.value ∙ c.self.invariant.below c.args.parent c.index.result.now c.args.member.now inner at)
+    (c.copied.ensures ∙ c.get.ensures.value ∙ c.self.invariant.kept.below c.args.parent c.index.result.now c.args.member.now inner at)
 
 pub returns-then-eq-clause-child : goal.returns-then-eq-clause-child
-returns-then-eq-clause-child c = inside_named c.args.self.now c.args.parent c.args.member.now _ (rw c.self.view_is at c.self.invariant.sound) c.requires.within (returns-then-eq-clause-value c)
+returns-then-eq-clause-child c = inside_named c.args.self.now c.args.parent c.args.member.now _ (rw c.self.view_is at c.self.invariant.kept.sound) c.requires.within (returns-then-eq-clause-value c)
 
 pub returns-else-eq-clause-child : goal.returns-else-eq-clause-child
-returns-else-eq-clause-child c = inside_named c.args.self.now c.args.parent c.args.member.now _ (rw c.self.view_is at c.self.invariant.sound) c.requires.within (returns-else-eq-clause-value c)
+returns-else-eq-clause-child c = inside_named c.args.self.now c.args.parent c.args.member.now _ (rw c.self.view_is at c.self.invariant.kept.sound) c.requires.within (returns-else-eq-clause-value c)
 
 pub returns-then-eq-clause-known : goal.returns-then-eq-clause-known
 returns-then-eq-clause-known c =
-    ap is_some (returns-then-eq-clause-value c) ∙ known_is c.args.self.now c.args.parent c.args.member.now (rw c.self.view_is at c.self.invariant.sound) c.requires.within
+    ap is_some (returns-then-eq-clause-value c) ∙ known_is c.args.self.now c.args.parent c.args.member.now (rw c.self.view_is at c.self.invariant.kept.sound) c.requires.within
 
 pub returns-else-eq-clause-known : goal.returns-else-eq-clause-known
 returns-else-eq-clause-known c =
-    ap is_some (returns-else-eq-clause-value c) ∙ known_is c.args.self.now c.args.parent c.args.member.now (rw c.self.view_is at c.self.invariant.sound) c.requires.within
+    ap is_some (returns-else-eq-clause-value c) ∙ known_is c.args.self.now c.args.parent c.args.member.now (rw c.self.view_is at c.self.invariant.kept.sound) c.requires.within

@@ -1,0 +1,33 @@
+-- The `unique` statements of a block, one after the other.
+use Rattle.std.proofs.Common.{◌≡◌, ℕ, ◌+◌, ◌<◌, Bool, true, false, cond, List, [], ◌∷◌, ◌++◌, map, length, drop, get_or, add-one, refl, sym, ap, ◌∙◌, append_assoc, Option}
+use Rattle.std.proofs.Math.Seq.{drop-cons}
+use Rattle.yv_statement.specs.Tree.{Tree}
+use Rattle.yv_conform.specs.declared.keyword.Keyword.TheVariants as word
+use Rattle.yv_conform.specs.Words.{words}
+use Rattle.yv_rows.specs.Files.{Files}
+use Rattle.yv_properties.specs.Steps.{Step}
+use Rattle.yv_definitions.specs.Statements.{is_of}
+use Rattle.yv_definitions.specs.Defined.{uniques_in}
+
+-- no text has no words
+pub no_words : words [] ≡ []
+unfolding words
+no_words = refl
+
+module _ (files : Files) (file : ℕ) where
+  first : (t : Tree) (ts : List Tree) → uniques_in files file (t ∷ []) ++ uniques_in files file ts ≡ uniques_in files file (t ∷ ts)
+  first t ts = by (is_of word.Unique t) refl
+    where
+      by : (b : Bool) → is_of word.Unique t ≡ b → uniques_in files file (t ∷ []) ++ uniques_in files file ts ≡ uniques_in files file (t ∷ ts)
+      by true e = rw e refl
+      by false e = rw e refl
+
+  -- with one more statement
+  pub uniques_more : (ts : List Tree) (i : ℕ) (d : Tree) (old new all : List (List (List (Option Step)))) → i < length ts
+      → new ≡ old ++ uniques_in files file (get_or ts i d ∷ []) → old ++ uniques_in files file (drop i ts) ≡ all → new ++ uniques_in files file (drop (i + 1) ts) ≡ all
+  uniques_more ts i d old new all lt is before =
+      let cut : drop i ts ≡ get_or ts i d ∷ drop (i + 1) ts = rw (add-one, drop-cons ts i d) refl in
+      ap (λ (us : List (List (List (Option Step)))). us ++ uniques_in files file (drop (i + 1) ts)) is
+      ∙ append_assoc old (uniques_in files file (get_or ts i d ∷ [])) (uniques_in files file (drop (i + 1) ts))
+      ∙ ap (λ (us : List (List (List (Option Step)))). old ++ us) (first (get_or ts i d) (drop (i + 1) ts) ∙ ap (uniques_in files file) (sym cut))
+      ∙ before

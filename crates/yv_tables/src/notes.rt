@@ -1,0 +1,62 @@
+//! What a schema tells of its modules and augments.
+ghost use Rattle.std.specs.Prelude.{◌≡◌, [], map, IfOk};
+ghost use Rattle.yv_tables.specs.Tops.{module_of};
+
+use crate::tops::ModuleTop;
+use std::alloc::{AllocError, Global};
+use std::marker::Model;
+use std::rc::RcStr;
+use yv_nodes::NodeId;
+
+/// An implemented module.
+#[derive(Drop)]
+pub struct Module {
+    /// Its name.
+    pub name: RcStr,
+    /// Its prefix (RFC 7950, section 7.1.4).
+    pub prefix: RcStr,
+    /// The number of its file.
+    pub home: u32,
+}
+
+impl Model for Module {
+    ghost use Rattle.std.specs.Rc.{rc_str_bytes};
+    ghost use Rattle.yv_nodes.specs.Rows.{Module as RowsModule};
+
+    ghost Value = { RowsModule };
+
+    ghost view = { λ m. record { name = rc_str_bytes m.name; prefix = rc_str_bytes m.prefix; home = m.home } };
+}
+
+/// An `augment` statement at the top of a module (RFC 7950, section 7.17).
+#[derive(Drop)]
+pub struct AugmentNote {
+    /// The number of the file of the module that has it.
+    pub home: u32,
+    /// Its argument.
+    pub argument: RcStr,
+    /// The number of the node to which that leads.
+    pub target: NodeId,
+    /// The numbers of the nodes that it adds below that one.
+    pub nodes: Vec<NodeId>,
+}
+
+impl Model for AugmentNote {
+    ghost use Rattle.std.specs.Rc.{rc_str_bytes};
+    ghost use Rattle.yv_nodes.specs.Rows.{Note};
+
+    ghost Value = { Note };
+
+    ghost view = { λ n. record { home = n.home; argument = rc_str_bytes n.argument; target = n.target; nodes = n.nodes.items } };
+}
+
+/// The modules of these tops, in order.
+pub(crate) fn modules_of(alloc: Global, tops: &[ModuleTop]) -> Result<Vec<Module>, AllocError>
+    ensures { IfOk result (λ modules. modules.items ≡ map module_of tops.now) }
+{
+    let mut modules = Vec::new(alloc);
+    for top in tops {
+        modules.push(top.module()?)?;
+    }
+    Ok(modules)
+}
