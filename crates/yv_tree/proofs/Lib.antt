@@ -1,0 +1,4 @@
+pub mod Tops
+pub mod Shown
+pub mod Found
+pub mod Placing

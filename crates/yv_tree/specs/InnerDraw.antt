@@ -1,0 +1,31 @@
+-- Only private clauses cite this: the lines that are still to be drawn.
+use Rattle.std.specs.Prelude.{◌≡◌, ℕ, List, [], Bool, true, Option, Some, None}
+use Rattle.yv_nodes.specs.declared.node.NodeId.{NodeId}
+use Rattle.yv_nodes.specs.Tree.{Forest, tree}
+use Rattle.yv_nodes.specs.Rows.{Module, Rows, tree_of}
+use Rattle.yv_tables.specs.Sound.{IsChild}
+use Rattle.yv_tree.specs.Lines.{has_line, tree_lines, forest_lines}
+use Rattle.yv_tree.specs.Diagram.{text_of}
+
+-- the text of a node and of those below it
+abbrev pub tree_text : Rows → List Module → (own : ℕ) → (margin : List ℕ) → Bool → NodeId → List ℕ
+tree_text s modules own margin follows c = text_of (tree_lines modules own margin follows (tree_of s c))
+
+-- that of a node that waits for what follows it
+abbrev pub waiting_text : Rows → List Module → (own : ℕ) → (margin : List ℕ) → Bool → Option NodeId → List ℕ
+waiting_text s modules own margin follows None = []
+waiting_text s modules own margin follows (Some c) = tree_text s modules own margin follows c
+
+-- that of these nodes and of those below them
+abbrev pub trees_text : Rows → List Module → (own : ℕ) → (margin : List ℕ) → Forest → List ℕ
+trees_text s modules own margin ts = text_of (forest_lines modules own margin ts)
+
+-- these trees behind the tree of a node that waits
+abbrev pub waiting : Rows → Option NodeId → Forest → Forest
+waiting s None ts = ts
+waiting s (Some c) ts = tree (tree_of s c) ts
+
+-- a child of a node, which has a line
+pub record IsShown (s : Rows) (p c : NodeId) : Type 0 where
+  pub child : IsChild s p c
+  pub shown : has_line (tree_of s c) ≡ true

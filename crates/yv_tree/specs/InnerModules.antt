@@ -1,0 +1,14 @@
+-- Only private clauses cite this: modules by the numbers of their files.
+use Rattle.std.specs.Prelude.{◌≡◌, ℕ, ◌+◌, ◌==◌, List, [], ◌∷◌, Option, Some, None, if◌then◌else◌}
+use Rattle.std.specs.BTreeMap.{BTreeMap, get}
+use Rattle.std.specs.Ordering.{nat_cmp}
+use Rattle.yv_nodes.specs.Rows.{Module}
+
+-- the place of the first of these modules that has this number, where they begin with the place `first`
+abbrev pub place_from : (first : ℕ) → List Module → (home : ℕ) → Option ℕ
+place_from first [] home = None
+place_from first (m ∷ ms) home = if m.home == home then Some first else place_from (first + 1) ms home
+
+-- a map has the place of the first module of each number
+abbrev pub ArePlaces : List Module → BTreeMap ℕ ℕ → Type 0
+ArePlaces modules places = (home : ℕ) → get nat_cmp places home ≡ place_from 0 modules home

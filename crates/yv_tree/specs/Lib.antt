@@ -1,0 +1,5 @@
+pub mod Lines
+pub mod Diagram
+pub mod InnerModules
+pub mod InnerMargin
+pub mod InnerDraw
