@@ -1,2 +1,11 @@
-pub mod Kept
-pub mod Inside
+pub mod Apart
+pub mod Same
+pub mod Remembered
+pub mod Steps
+pub mod Beneath
+pub mod Items
+pub mod Noted
+pub mod Meeting
+pub mod Reading
+pub mod Each
+pub mod Bound

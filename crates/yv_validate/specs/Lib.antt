@@ -1,8 +1,15 @@
 pub mod Place
+pub mod Same
+pub mod Repeats
+pub mod Enforced
+pub mod Values
 pub mod Faults
+pub mod Work
 pub mod Size
 pub mod Line
 pub mod InnerTrail
-pub mod InnerWritten
+pub mod InnerWalk
+pub mod InnerMemory
+pub mod InnerNotes
 pub use Rattle.yv_nodes.specs.Tree
 pub use Rattle.yv_nodes.specs.Rows

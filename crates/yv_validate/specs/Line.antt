@@ -2,13 +2,20 @@
 use Rattle.std.specs.Prelude.{ℕ, ◌+◌, ◌-◌, ◌/◌, ◌%◌, ◌==◌, ◌&&◌, List, [], ◌∷◌, ◌++◌, Bool, not, nat_le, nat_lt, Option, Some, None, codes, decimal, if◌then◌else◌}
 use Rattle.std.specs.List.{flat_map}
 use Rattle.yv_validate.specs.declared.fault.FaultKind.{FaultKind}
-use Rattle.yv_validate.specs.declared.fault.FaultKind.TheVariants.{Unknown, Shape, Value}
+use Rattle.yv_validate.specs.declared.fault.FaultKind.TheVariants.{Unknown, Shape, Value, MissingKey, Duplicate, Unique, Mandatory, Min, Max, Choice}
 use Rattle.yv_validate.specs.Place.{Place, Flaw}
 
 abbrev pub kind_name : FaultKind → List ℕ
 kind_name Unknown = codes "unknown"
 kind_name Shape = codes "shape"
 kind_name Value = codes "value"
+kind_name MissingKey = codes "missing-key"
+kind_name Duplicate = codes "duplicate"
+kind_name Unique = codes "unique"
+kind_name Mandatory = codes "mandatory"
+kind_name Min = codes "min"
+kind_name Max = codes "max"
+kind_name Choice = codes "choice"
 
 -- a visible ASCII character but for the percent sign
 abbrev pub is_plain : ℕ → Bool

@@ -6,10 +6,25 @@ use std::marker::Model;
 pub enum FaultKind {
     /// A member names no child data node.
     Unknown,
-    /// A container, or the document, is no object.
+    /// A container, an anydata node, an entry of a list or the document is no object, or a list or leaf-list no array.
     Shape,
-    /// The types of a leaf don't read its value.
+    /// The types of a leaf, or of an item of a leaf-list, don't read its value.
     Value,
+    /// An entry of a list lacks a key (RFC 7950, section 7.8.2).
+    MissingKey,
+    /// The keys of an entry, or a value of a configuration leaf-list, are the same as earlier ones (RFC 7950, sections
+    /// 7.8.2 and 7.7).
+    Duplicate,
+    /// An entry has the same values as an earlier one for a `unique` statement (RFC 7950, section 7.8.3).
+    Unique,
+    /// A leaf, choice, anydata or anyxml node is missing that must be there (RFC 7950, sections 7.6.5 and 7.9.4).
+    Mandatory,
+    /// A list or leaf-list has too few entries (RFC 7950, section 7.7.5).
+    Min,
+    /// A list or leaf-list has too many entries (RFC 7950, section 7.7.6).
+    Max,
+    /// Two or more cases of a choice exist (RFC 7950, section 7.9).
+    Choice,
 }
 
 /// A step of a path: a member's name, and its number from 1 where it is an entry or an item of an array.
@@ -45,8 +60,8 @@ impl Model for Fault {
     ghost view = { λ f. record { kind = f.kind; path = f.path.items; number = f.number } };
 }
 
-/// The faults of a document, in their order, and how many types were tried for the values of leaves. No clause pins
-/// `steps` yet: a validation may be counted otherwise later.
+/// The faults of a document, in their order, and how many members were looked up, nodes met, types tried and tuples looked for; where
+/// there are more than 2^64 - 1, that number.
 #[derive(Drop)]
 pub struct Report {
     pub faults: Vec<Fault>,

@@ -3,12 +3,19 @@
 
 mod count;
 mod fault;
+pub mod laws;
+mod memory;
+mod nodes;
+mod notes;
+mod scope;
+mod tell;
 mod text;
 mod trail;
+mod tuples;
 mod walk;
-mod written;
 
 pub use count::size;
 pub use fault::{Fault, FaultKind, Report, Step};
+pub use scope::Scope;
 pub use text::line;
 pub use walk::validate;

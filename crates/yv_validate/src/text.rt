@@ -29,6 +29,13 @@ fn name_of(kind: FaultKind) -> &'static str
         FaultKind::Unknown => "unknown",
         FaultKind::Shape => "shape",
         FaultKind::Value => "value",
+        FaultKind::MissingKey => "missing-key",
+        FaultKind::Duplicate => "duplicate",
+        FaultKind::Unique => "unique",
+        FaultKind::Mandatory => "mandatory",
+        FaultKind::Min => "min",
+        FaultKind::Max => "max",
+        FaultKind::Choice => "choice",
     }
 }
 

@@ -1,10 +1,12 @@
 //! The way to a node, as the walk keeps it.
-ghost use Rattle.std.specs.Prelude.{◌≡◌, IfOk};
+ghost use Rattle.std.specs.Prelude.{◌≡◌, IfOk, string_bytes};
+ghost use Rattle.yv_validate.specs.Faults.{step_name};
 ghost use Rattle.yv_validate.specs.InnerTrail.{places, IsWithin};
 
 use crate::fault::Step;
 use std::alloc::{AllocError, Global};
-use yv_nodes::NodeId;
+use yv_nodes::{Node, NodeId};
+use yv_properties::NodeKind;
 use yv_tables::Schema;
 
 /// The way from the top to a node: a chain on the stack, written out only where a fault is told.
@@ -28,10 +30,24 @@ pub(crate) fn steps_of(
         Trail::Below(parent, id, item) => {
             let mut steps = steps_of(alloc, schema, parent)?;
             steps.push(Step {
-                member: schema.node(*id).member(alloc)?,
+                member: step_name(alloc, schema.node(*id))?,
                 item: *item,
             })?;
             Ok(steps)
         }
     }
+}
+
+// What a node is called in a path: a choice by its name in parentheses.
+fn step_name(alloc: Global, node: &Node) -> Result<String, AllocError>
+    ensures { IfOk result (λ text. string_bytes text ≡ step_name node.now.label) }
+{
+    let member = node.member(alloc)?;
+    if !matches!(node.kind(), NodeKind::Choice) {
+        return Ok(member);
+    }
+    let mut text = String::from_str(alloc, "(")?;
+    text.push_str(member.as_str())?;
+    text.push(')')?;
+    Ok(text)
 }

@@ -1,0 +1,28 @@
+use Rattle.std.proofs.Common.{◌≡◌, ◌+◌, ◌++◌, drop, length, map}
+use Rattle.serde_json.specs.Data.{Data}
+use Rattle.serde_json.specs.View.{view}
+use Rattle.yv_values.specs.Count.{counted}
+use Rattle.yv_validate.specs.Faults.{unique_faults}
+use Rattle.yv_validate.specs.InnerNotes.{HasTuples}
+use Rattle.yv_validate.specs.InnerTrail.{places}
+use Rattle.yv_validate.specs.InnerWalk.{leafs_at, tuple_at}
+use Rattle.yv_validate.specs.Work.{uniques_work}
+use Rattle.yv_validate.proofs.Each.{RemembersSome}
+use Rattle.yv_validate.proofs.walk.Walk.end_uniques.Given as goal
+
+-- for an entry that has these values: with the faults and the steps of the statements that are left they are those of all; the indexes of
+-- those that are done know the entry
+abbrev pub invariant-loop-number : goal.invariant-loop-number
+invariant-loop-number l =
+    let s = l.self.schema.now in
+    let f = tuple_at s l.fn.id in
+    let us = (leafs_at s l.fn.id).uniques in
+    let before = map view l.earlier in
+    record {
+      same : length l.kept.items ≡ length us;
+      each : (d : Data) → HasTuples s l.fn.id l.notes d → record {
+        faults : l.faults.items ++ unique_faults f (places s l.here) (l.number + 1) (drop l.number us) before d ≡ l.initial.faults.items ++ unique_faults f (places s l.here) 1 us before d;
+        kept : RemembersSome l.kept.items f us before d l.number;
+        steps : counted (l.meter + uniques_work f (drop l.number us) d) ≡ counted (l.initial.meter + uniques_work f us d);
+      };
+    }

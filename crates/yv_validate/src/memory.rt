@@ -1,0 +1,45 @@
+//! Items of arrays that stood before.
+ghost use Rattle.std.specs.Prelude.{◌≡◌, ◌+◌, ◌∷◌, [], IfOk, OnOk, option_map, if◌then◌else◌};
+ghost use Rattle.yv_values.specs.Count.{counted};
+ghost use Rattle.yv_validate.specs.InnerMemory.{Tells};
+ghost use Rattle.yv_validate.specs.Work.{tuple_work};
+
+use std::alloc::{AllocError, Global};
+use yv_values::{Index, Meter, Tuple, Value};
+
+/// Whether a tuple stood before; it is kept, where there is one.
+pub(crate) fn stood_before(
+    tuple: Option<Tuple>,
+    place: u64,
+    kept: &mut Index,
+    meter: &mut Meter,
+) -> Result<bool, AllocError>
+    ensures told { IfOk result (λ b. Tells kept.old kept.new tuple b) }
+    ensures steps { OnOk result (counted meter.new ≡ counted (meter.old + tuple_work tuple)) }
+{
+    match tuple {
+        None => Ok(false),
+        Some(key) => Ok(kept.keep_first(meter, key, place)?.is_some()),
+    }
+}
+
+/// A value alone as a tuple, where it is wanted.
+pub(crate) fn alone(
+    alloc: Global,
+    is_wanted: bool,
+    value: Option<Value>,
+) -> Result<Option<Tuple>, AllocError>
+    ensures { IfOk result (λ t. t ≡ (if is_wanted then option_map (λ v. v ∷ []) value else None)) }
+{
+    if !is_wanted {
+        return Ok(None);
+    }
+    match value {
+        Some(value) => {
+            let mut tuple = Tuple::new(alloc);
+            tuple.push(value)?;
+            Ok(Some(tuple))
+        }
+        None => Ok(None),
+    }
+}

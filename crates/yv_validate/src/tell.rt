@@ -1,0 +1,89 @@
+//! Faults as they are told, with the way to their place.
+ghost use Rattle.std.specs.Prelude.{◌≡◌, ◌∷◌, [], ◌++◌, map, OnOk};
+ghost use Rattle.yv_validate.specs.InnerTrail.{places, IsWithin};
+ghost use Rattle.yv_validate.specs.Faults.{flaw, under, missing as missing_faults};
+
+use crate::fault::{Fault, FaultKind, Step};
+use crate::scope::Scope;
+use crate::trail::{Trail, steps_of};
+use crate::walk::Walk;
+use std::alloc::AllocError;
+use yv_nodes::Node;
+
+impl Walk<'_> {
+    /// Tells a fault at the end of a way.
+    pub(crate) fn tell(
+        &self,
+        kind: FaultKind,
+        trail: &Trail<'_>,
+        faults: &mut Vec<Fault>,
+    ) -> Result<(), AllocError>
+        requires { IsWithin self.now.schema.now trail.now }
+        ensures { OnOk result (faults.new.items ≡ faults.old.items ++ flaw kind (places self.now.schema.now trail.now) ∷ []) }
+    {
+        faults.push(Fault {
+            kind,
+            path: steps_of(self.alloc, self.schema, trail)?,
+            number: 0,
+        })?;
+        Ok(())
+    }
+
+    /// Tells members of an object that name no node.
+    pub(crate) fn tell_unknowns(
+        &self,
+        names: &[&str],
+        trail: &Trail<'_>,
+        faults: &mut Vec<Fault>,
+    ) -> Result<(), AllocError>
+        requires { IsWithin self.now.schema.now trail.now }
+        ensures { OnOk result (faults.new.items ≡ faults.old.items
+            ++ map (λ key. flaw FaultKind.Unknown (under (places self.now.schema.now trail.now) key)) (map (λ k. k.now) names.now)) }
+    {
+        for name in names {
+            self.tell_unknown(name, trail, faults)?;
+        }
+        Ok(())
+    }
+
+    fn tell_unknown(
+        &self,
+        key: &str,
+        trail: &Trail<'_>,
+        faults: &mut Vec<Fault>,
+    ) -> Result<(), AllocError>
+        requires { IsWithin self.now.schema.now trail.now }
+        ensures { OnOk result (faults.new.items ≡ faults.old.items
+            ++ flaw FaultKind.Unknown (under (places self.now.schema.now trail.now) key.now) ∷ []) }
+    {
+        let mut path = steps_of(self.alloc, self.schema, trail)?;
+        path.push(Step {
+            member: String::from_str(self.alloc, key)?,
+            item: None,
+        })?;
+        faults.push(Fault {
+            kind: FaultKind::Unknown,
+            path,
+            number: 0,
+        })?;
+        Ok(())
+    }
+
+    /// Tells a node that is missing, where it must be there.
+    pub(crate) fn missing(
+        &self,
+        node: &Node,
+        scope: Scope,
+        trail: &Trail<'_>,
+        faults: &mut Vec<Fault>,
+    ) -> Result<(), AllocError>
+        requires { IsWithin self.now.schema.now trail.now }
+        ensures { OnOk result (faults.new.items ≡ faults.old.items
+            ++ missing_faults node.now.label scope (places self.now.schema.now trail.now)) }
+    {
+        if node.mandatory() && scope.enforces() {
+            self.tell(FaultKind::Mandatory, trail, faults)?;
+        }
+        Ok(())
+    }
+}

@@ -1,0 +1,102 @@
+//! The tuples by which entries of a list differ.
+ghost use Rattle.std.specs.Prelude.{◌≡◌, ◌∷◌, [], ◌++◌, ◌+◌, ◌<◌, length, map, min, Some, IfOk, OnOk};
+ghost use Rattle.serde_json.specs.Data.{Data};
+ghost use Rattle.serde_json.specs.View.{view};
+ghost use Rattle.yv_values.specs.Count.{counted};
+ghost use Rattle.yv_validate.specs.InnerMemory.{RemembersEach};
+ghost use Rattle.yv_validate.specs.InnerNotes.{HasTuples, tuple_in};
+ghost use Rattle.yv_validate.specs.InnerTrail.{places, IsWithin};
+ghost use Rattle.yv_validate.specs.InnerWalk.{leafs_at, tuple_at};
+ghost use Rattle.yv_validate.specs.Faults.{unique_faults, unique_if};
+ghost use Rattle.yv_validate.specs.Work.{uniques_work};
+
+use crate::fault::{Fault, FaultKind};
+use crate::memory::stood_before;
+use crate::notes::Notes;
+use crate::trail::{Trail, steps_of};
+use crate::walk::Walk;
+use serde_json::Value;
+use std::alloc::AllocError;
+use yv_nodes::NodeId;
+use yv_values::{Index, Meter, Tuple};
+
+impl Walk<'_> {
+    /// The values of these leafs at an entry, where it is an object and they are all there.
+    pub(crate) fn tuple(
+        &self,
+        notes: &Option<Notes>,
+        leafs: &[NodeId],
+    ) -> Result<Option<Tuple>, AllocError>
+        ensures { IfOk result (λ t. t ≡ tuple_in self.now.schema.now notes.now (map (λ n. Some n) leafs.now)) }
+    {
+        match notes {
+            Some(notes) => notes.tuple(self.schema, leafs),
+            None => Ok(None),
+        }
+    }
+
+    /// An empty index for each `unique` statement of a list.
+    pub(crate) fn no_tuples(&self, id: NodeId) -> Result<Vec<Index>, AllocError>
+        requires { id.0 < length self.now.schema.now.nodes }
+        ensures { IfOk result (λ v. RemembersEach v.items (tuple_at self.now.schema.now id) (leafs_at self.now.schema.now id).uniques []) }
+    {
+        let mut uniques = Vec::new(self.alloc);
+        for _statement in self.schema.uniques(id) {
+            uniques.push(Index::new(self.alloc))?;
+        }
+        Ok(uniques)
+    }
+
+    /// What stands behind an entry, whose leafs have these values, for the `unique` statements of its list.
+    pub(crate) fn end_uniques(
+        &self,
+        id: NodeId,
+        earlier: &[Value],
+        notes: &Option<Notes>,
+        kept: &mut Vec<Index>,
+        here: &Trail<'_>,
+        meter: &mut Meter,
+        faults: &mut Vec<Fault>,
+    ) -> Result<(), AllocError>
+        requires node { id.0 < length self.now.schema.now.nodes }
+        requires way { IsWithin self.now.schema.now here.now }
+        requires kept { RemembersEach kept.now.items (tuple_at self.now.schema.now id) (leafs_at self.now.schema.now id).uniques (map view earlier.now) }
+        ensures faults { OnOk result ((d : Data) → HasTuples self.now.schema.now id notes.now d → faults.new.items ≡ faults.old.items
+            ++ unique_faults (tuple_at self.now.schema.now id) (places self.now.schema.now here.now) 1 (leafs_at self.now.schema.now id).uniques
+            (map view earlier.now) d) }
+        ensures kept { OnOk result ((d : Data) → HasTuples self.now.schema.now id notes.now d → RemembersEach kept.new.items
+            (tuple_at self.now.schema.now id) (leafs_at self.now.schema.now id).uniques (map view earlier.now ++ d ∷ [])) }
+        ensures steps { OnOk result ((d : Data) → HasTuples self.now.schema.now id notes.now d → counted meter.new ≡ counted (meter.old
+            + uniques_work (tuple_at self.now.schema.now id) (leafs_at self.now.schema.now id).uniques d)) }
+    {
+        let place = earlier.len() as u64 + 1;
+        for (number, leafs) in self.schema.uniques(id).iter().enumerate() {
+            let tuple = self.tuple(notes, leafs)?;
+            let is_repeated = stood_before(tuple, place, &mut kept[number], meter)?;
+            self.tell_unique(is_repeated, number, here, faults)?;
+        }
+        Ok(())
+    }
+
+    // Tells that an entry has the values of an earlier one for the `unique` statement behind so many, where it has.
+    fn tell_unique(
+        &self,
+        is_repeated: bool,
+        before: usize,
+        here: &Trail<'_>,
+        faults: &mut Vec<Fault>,
+    ) -> Result<(), AllocError>
+        requires { IsWithin self.now.schema.now here.now }
+        ensures { OnOk result (faults.new.items ≡ faults.old.items ++ unique_if is_repeated (places self.now.schema.now here.now) (before + 1)) }
+    {
+        if !is_repeated {
+            return Ok(());
+        }
+        faults.push(Fault {
+            kind: FaultKind::Unique,
+            path: steps_of(self.alloc, self.schema, here)?,
+            number: before.saturating_add(1).min(4294967295) as u32,
+        })?;
+        Ok(())
+    }
+}
