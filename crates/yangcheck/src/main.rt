@@ -1,4 +1,4 @@
-//! Compiles YANG modules and validates JSON documents against them.
+//! Compiles YANG modules, draws their trees and validates JSON documents against them.
 #![tactic(auto)]
 
 mod program;

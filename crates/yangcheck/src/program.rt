@@ -1,7 +1,7 @@
 //! The program over a runtime: its words, its files, its standard streams and its exit status.
 ghost use Rattle.std.specs.Prelude.{◌≡◌, ◌≤◌, length, IfOk};
 ghost use Rattle.yv_outcome.specs.Status.{exit_of};
-ghost use Rattle.yv_job.specs.Jobs.{HasFiles, HasLimit, CompilesOrChecks};
+ghost use Rattle.yv_job.specs.Jobs.{HasFiles, HasLimit};
 
 use std::fmt::Display;
 use std::fs::File;
@@ -78,7 +78,6 @@ fn explained<R: Eprint>(rt: &R, ended: &Ended) -> u8
 fn done<R: Files + io::Input + Print + AllocGlobal>(rt: &R, job: &Job) -> Ended
     requires files { HasFiles job.now }
     requires limit { HasLimit job.now }
-    requires command { CompilesOrChecks job.now }
 {
     match inputs(rt, job) {
         Ok(inputs) => ran(rt, job, inputs.as_slice()),
@@ -111,7 +110,6 @@ fn ran<R: Files + io::Input + Print + AllocGlobal>(rt: &R, job: &Job, inputs: &[
     requires files { HasFiles job.now }
     requires limit { HasLimit job.now }
     requires each { length inputs.now ≡ length job.now.files.items }
-    requires command { CompilesOrChecks job.now }
 {
     match &job.command {
         Command::Validate(file) if file.as_str() == "-" => run_over(rt, job, inputs, rt.reader()),
@@ -142,7 +140,6 @@ fn run_over<R: Print + AllocGlobal, D: Read + Drop>(
     requires files { HasFiles job.now }
     requires limit { HasLimit job.now }
     requires each { length inputs.now ≡ length job.now.files.items }
-    requires command { CompilesOrChecks job.now }
 {
     let mut reader = Counted::new(data);
     let mut writer = Counted::new(io::writer(rt));

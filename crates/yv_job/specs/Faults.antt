@@ -6,7 +6,6 @@ use Rattle.clap.specs.declared.error.kind.ErrorKind.TheVariants as kind
 use Rattle.yv_job.specs.Asks.{WordsAsk}
 use Rattle.yv_job.specs.CommandLine.{yangcheck_app}
 use Rattle.yv_job.specs.Jobs.{Task}
-use Rattle.yv_job.specs.Taken.{AreTaken}
 use Rattle.yv_job.specs.declared.job.JobFault.{JobFault}
 use Rattle.yv_job.specs.declared.job.JobFault.TheVariants.{Usage, Help, NoMemory}
 
@@ -22,9 +21,9 @@ OnHelp (Usage text) P = Unit {0}
 OnHelp (Help text) P = P
 OnHelp NoMemory P = Unit {0}
 
--- the words ask for no task, or this version doesn't take them
+-- the words ask for no task
 abbrev pub AskForNothing : List Text → Type 0
-AskForNothing words = AreTaken words → (t : Task) → WordsAsk words t → ⊥
+AskForNothing words = (t : Task) → WordsAsk words t → ⊥
 
 -- what the program itself says of words that clap understands
 abbrev pub own_usage : Text

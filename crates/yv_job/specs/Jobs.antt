@@ -38,13 +38,3 @@ HasFiles j = (1 ≤ length j.files.items) × (length j.files.items ≤ 256)
 -- the limit of a job is from 1 to 1,000,000
 abbrev pub HasLimit : Job → Type 0
 HasLimit j = (1 ≤ j.limit) × (j.limit ≤ 1000000)
-
--- a command that compiles, or checks a document
-abbrev pub IsCompileOrCheck : Asked → Type 0
-IsCompileOrCheck Compiles = Unit {0}
-IsCompileOrCheck (Draws m) = ⊥
-IsCompileOrCheck (Checks f) = Unit {0}
-
--- the job compiles, or checks a document
-abbrev pub CompilesOrChecks : Job → Type 0
-CompilesOrChecks j = IsCompileOrCheck (asked_of j.command)

@@ -2,6 +2,5 @@ pub mod Names
 pub mod Jobs
 pub mod CommandLine
 pub mod Asks
-pub mod Taken
 pub mod Faults
 pub mod Matched

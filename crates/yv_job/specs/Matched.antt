@@ -6,13 +6,12 @@ use Rattle.clap.specs.declared.error.kind.ErrorKind.TheVariants as kind
 use Rattle.yv_job.specs.Asks.{AsksIn}
 use Rattle.yv_job.specs.Faults.{IsHelp}
 use Rattle.yv_job.specs.Jobs.{Task}
-use Rattle.yv_job.specs.Taken.{IsTakenIn}
 use Rattle.yv_job.specs.declared.job.JobFault.{JobFault}
 use Rattle.yv_job.specs.declared.job.JobFault.TheVariants.{Usage, Help, NoMemory}
 
--- the command that was found asks for no task, or isn't taken
+-- the command that was found asks for no task
 abbrev pub AsksForNothing : Option (Text × List Row) → Type 0
-AsksForNothing found = IsTakenIn found → (t : Task) → AsksIn found t → ⊥
+AsksForNothing found = (t : Task) → AsksIn found t → ⊥
 
 -- what an error of this kind comes to
 abbrev pub IsFaultFor : ErrorKind → JobFault → Type 0

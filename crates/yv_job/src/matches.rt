@@ -1,11 +1,10 @@
 //! A job from what clap matched.
-ghost use Rattle.std.specs.Prelude.{◌≡◌, ◌≤◌, ◌↔◌, ℕ, List, length, IsTrue, IfSome, OnSome, IfOk, MatchOption, map, option_map, string_bytes};
+ghost use Rattle.std.specs.Prelude.{◌≡◌, ◌≤◌, ℕ, List, length, IfSome, IfOk, MatchOption, map, option_map, string_bytes};
 ghost use Rattle.clap.specs.Words.{subcommand_rows_of, found_of, rows_of, all_of, first_of};
 ghost use Rattle.yv_job.specs.Asks.{AsksIn, Asks, IsChoice, IsAsked, IsFiles};
-ghost use Rattle.yv_job.specs.Jobs.{Asked, task_of, asked_of, HasFiles, HasLimit, CompilesOrChecks};
+ghost use Rattle.yv_job.specs.Jobs.{Asked, task_of, asked_of, HasFiles, HasLimit};
 ghost use Rattle.yv_selection.specs.Choice.{Choice, choice_of};
 ghost use Rattle.yv_job.specs.Matched.{AsksForNothing};
-ghost use Rattle.yv_job.specs.Taken.{IsTaken, IsTakenIn};
 
 use crate::job::{Command, Job};
 use crate::names::copied;
@@ -29,13 +28,6 @@ fn all<'m, 'a>(matches: &'m ArgMatches<'a>, id: &str) -> Option<&'m [&'a str]>
         ≡ all_of id.now (rows_of (found_of matches.now)) }
 {
     matches.get_strs(id)
-}
-
-// Whether this version takes the command of this name.
-fn is_taken(name: &str) -> bool
-    ensures { IsTrue result ↔ IsTaken name.now }
-{
-    name == "compile" || name == "validate"
 }
 
 fn command_of(
@@ -102,14 +94,9 @@ fn job_for(alloc: Global, name: &str, below: &ArgMatches<'_>) -> Result<Option<J
     ensures job { let rows = rows_of (found_of below.now) in
         IfOk result (λ o. MatchOption o (AsksForNothing (Some (name.now, rows)))
         (λ j. Asks name.now rows (task_of j))) }
-    ensures taken { IfOk result (λ o. OnSome o (IsTaken name.now)) }
     ensures files { IfOk result (λ o. IfSome o HasFiles) }
     ensures limit { IfOk result (λ o. IfSome o HasLimit) }
-    ensures command { IfOk result (λ o. IfSome o CompilesOrChecks) }
 {
-    if !is_taken(name) {
-        return Ok(None);
-    }
     let Some(limit) = limit_of(first(below, "max-nodes")) else {
         return Ok(None);
     };
@@ -130,14 +117,12 @@ fn job_for(alloc: Global, name: &str, below: &ArgMatches<'_>) -> Result<Option<J
     }))
 }
 
-/// The job that the matches ask for, where this version takes them.
+/// The job that the matches ask for.
 pub fn job_of(alloc: Global, matches: &ArgMatches<'_>) -> Result<Option<Job>, AllocError>
     ensures job { let found = subcommand_rows_of matches.now in
         IfOk result (λ o. MatchOption o (AsksForNothing found) (λ j. AsksIn found (task_of j))) }
-    ensures taken { IfOk result (λ o. OnSome o (IsTakenIn (subcommand_rows_of matches.now))) }
     ensures files { IfOk result (λ o. IfSome o HasFiles) }
     ensures limit { IfOk result (λ o. IfSome o HasLimit) }
-    ensures command { IfOk result (λ o. IfSome o CompilesOrChecks) }
 {
     match matches.subcommand() {
         Some((name, below)) => job_for(alloc, name, below),

@@ -119,7 +119,7 @@ fn tree<'a>(alloc: Global) -> Result<Command<'a>, AllocError>
         help::TREE_CLOSING,
     );
     let module = required(alloc, "module", "M", help::MODULE);
-    let drawing = with_arg(command.hide(true), module)?;
+    let drawing = with_arg(command, module)?;
     shared(alloc, drawing)
 }
 

@@ -1,12 +1,11 @@
 //! A job from the words of a command line.
-ghost use Rattle.std.specs.Prelude.{◌≡◌, ◌⊎◌, [], map, string_bytes, IfOk, OnOk, IfErr};
+ghost use Rattle.std.specs.Prelude.{◌≡◌, ◌⊎◌, [], map, string_bytes, IfOk, IfErr};
 ghost use Rattle.clap.specs.Words.{fault_of, subcommand_of, subcommand_rows_of, HasKind, kind_of};
 ghost use Rattle.yv_job.specs.Asks.{WordsAsk, AreUnderstood};
 ghost use Rattle.yv_job.specs.CommandLine.{yangcheck_app};
 ghost use Rattle.yv_job.specs.Faults.{IfUsage, OnHelp, AskForNothing, AskForHelp, AreRefused, own_usage};
-ghost use Rattle.yv_job.specs.Jobs.{task_of, HasFiles, HasLimit, CompilesOrChecks};
+ghost use Rattle.yv_job.specs.Jobs.{task_of, HasFiles, HasLimit};
 ghost use Rattle.yv_job.specs.Matched.{IsFaultFor};
-ghost use Rattle.yv_job.specs.Taken.{AreTaken};
 
 use crate::job::{Job, JobFault};
 use crate::matches::job_of;
@@ -43,10 +42,8 @@ fn refused(alloc: Global, error: &Error) -> JobFault
 /// The job that the words ask for, of which the first is the program's name.
 pub fn read_job(alloc: Global, words: &[String]) -> Result<Job, JobFault>
     ensures job { IfOk result (λ j. WordsAsk (map string_bytes words.now) (task_of j)) }
-    ensures taken { OnOk result (AreTaken (map string_bytes words.now)) }
     ensures files { IfOk result HasFiles }
     ensures limit { IfOk result HasLimit }
-    ensures command { IfOk result CompilesOrChecks }
     ensures usage { IfErr result (λ f. IfUsage f (λ _.
         AskForNothing (map string_bytes words.now))) }
     ensures own_text { IfErr result (λ f. IfUsage f (λ text.

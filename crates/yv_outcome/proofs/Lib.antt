@@ -1,3 +1,2 @@
 pub mod DocumentLemmas
-pub mod LeastUnchecked
 pub mod OneOutput

@@ -1,5 +1,5 @@
 -- Files come to one thing, and a run has one output.
-use Rattle.std.proofs.Common.{◌≡◌, ℕ, zero, suc, ◌<◌, List, [], ◌∷◌, take, Option, Some, None, sym, ◌∙◌, ap, subst, refl, arith, inl, inr}
+use Rattle.std.proofs.Common.{◌≡◌, ℕ, zero, suc, ◌<◌, List, [], ◌∷◌, take, Some, None, sym, ◌∙◌, ap, subst, refl, arith, inl, inr}
 use Rattle.std.specs.List.{AllZip, slice_get}
 use Rattle.std.proofs.lemmas.Bool.{cases_lt}
 use Rattle.yv_statement.specs.Tree.{Tree}
@@ -9,11 +9,14 @@ use Rattle.yv_source.specs.Answer.{IsBadFile, IsSpelled, IsRefused}
 use Rattle.yv_source.specs.Legal.{IsLegalFile}
 use Rattle.yv_selection.specs.Choice.{Choice}
 use Rattle.yv_schema.specs.Refuses.{Refuses}
+use Rattle.yv_schema.specs.Module.{modules_of}
 use Rattle.yv_schema.specs.Schema.{IsSchema}
 use Rattle.yv_nodes.specs.Tree.{Forest}
-use Rattle.yv_job.specs.Jobs.{Asked, Task}
+use Rattle.yv_nodes.specs.Rows.{Rows, whole}
+use Rattle.yv_nodes.specs.Numbers.{rows_of}
+use Rattle.yv_job.specs.Jobs.{Task}
 use Rattle.yv_files.specs.Read.{IsRead, IsUnread, in_file}
-use Rattle.yv_outcome.specs.Compiles.{Compiled, RefusedAt, Built, FilesCompile, RefusesFor, unread, refused, built}
+use Rattle.yv_outcome.specs.Compiles.{Compiled, RefusedAt, Built, FilesCompile, IsGiven, unread, refused, built}
 use Rattle.yv_streams.specs.Files.{File}
 use Rattle.yv_outcome.specs.Output.{Printed, IsOutput, compiled_printed}
 
@@ -35,8 +38,8 @@ pub record Once : Type 0 where
   pub schema : (choice : Choice) (files : List Tree) (limit : ℕ) (a b : Forest) → IsLeast (Refuses choice files limit) None → IsSchema choice files a → IsSchema choice files b → a ≡ b
   pub order : (r s : Refusal) → IsUpTo r s → IsUpTo s r → r ≡ s
 
-one_least : Once → (asked : Asked) (choice : Choice) (ts : List Tree) (limit : ℕ) (r s : Refusal) → IsLeast (RefusesFor asked choice ts limit) (Some r) → IsLeast (RefusesFor asked choice ts limit) (Some s) → r ≡ s
-one_least once asked choice ts limit r s p q = once.order r s (p.1 s q.0) (q.1 r p.0)
+one_least : Once → (choice : Choice) (ts : List Tree) (limit : ℕ) (r s : Refusal) → IsLeast (Refuses choice ts limit) (Some r) → IsLeast (Refuses choice ts limit) (Some s) → r ≡ s
+one_least once choice ts limit r s p q = once.order r s (p.1 s q.0) (q.1 r p.0)
 
 -- a file isn't both read and unread, and is unread in one way
 clash : Once → (f : File) (t : Tree) (r : Refusal) → IsRead f t → IsUnread f r → ⊥
@@ -90,25 +93,27 @@ one_place once files ts us n m f g r s p at a q at' b =
       ]
     ]
 
-files_once : Once → (asked : Asked) (choice : Choice) (limit : ℕ) (files : List File) (c d : Compiled) → FilesCompile asked choice limit files c → FilesCompile asked choice limit files d → c ≡ d
-files_once once asked choice limit files _ _ (unread {r} n f ts p at a) (unread {r = s} m g us q at' b) = ap RefusedAt (one_place once files ts us n m f g r s p at a q at' b)
-files_once once asked choice limit files _ _ (unread {r} n f ts p at a) (refused us q b) = absurd (not_read once files us n f r q at a)
-files_once once asked choice limit files _ _ (unread {r} n f ts p at a) (built us q b is) = absurd (not_read once files us n f r q at a)
-files_once once asked choice limit files _ _ (refused ts p a) (unread {r = s} m g us q at' b) = absurd (not_read once files ts m g s p at' b)
-files_once once asked choice limit files _ _ (refused {r} ts p a) (refused {r = s} us q b) =
-    ap RefusedAt (one_least once asked choice us limit r s (subst (λ xs. IsLeast (RefusesFor asked choice xs limit) (Some r)) (one_list once files ts us p q) a) b)
-files_once once asked choice limit files _ _ (refused {r} ts p a) (built us q b is) =
-    absurd (b r (subst (λ xs. RefusesFor asked choice xs limit r) (one_list once files ts us p q) a.0))
-files_once once asked choice limit files _ _ (built ts p a is) (unread {r = s} m g us q at' b) = absurd (not_read once files ts m g s p at' b)
-files_once once asked choice limit files _ _ (built ts p a is) (refused {r = s} us q b) =
-    absurd (a s (subst (λ xs. RefusesFor asked choice xs limit s) (sym (one_list once files ts us p q)) b.0))
-files_once once asked choice limit files _ _ (built {schema} ts p a is) (built {schema = other} us q b is') =
-    ap Built (once.schema choice us limit schema other (λ r h. b r (inl h)) (subst (λ xs. IsSchema choice xs schema) (one_list once files ts us p q) is) is')
+-- statements of which nothing is refused give one schema
+one_given : Once → (choice : Choice) (ts : List Tree) (limit : ℕ) (a b : Rows) → IsLeast (Refuses choice ts limit) None → IsGiven choice ts limit a → IsGiven choice ts limit b → a ≡ b
+one_given once choice ts limit a b clear p q =
+    p.rows ∙ ap (rows_of limit (modules_of choice ts) []) (once.schema choice ts limit (whole a) (whole b) clear p.tree q.tree) ∙ sym q.rows
 
-same_some : {A : Type 0} (o : Option A) (p q : A) → o ≡ Some p → o ≡ Some q → p ≡ q
-same_some o p q e f = let g : Some p ≡ Some q = sym e ∙ f in cc
+files_once : Once → (choice : Choice) (limit : ℕ) (files : List File) (c d : Compiled) → FilesCompile choice limit files c → FilesCompile choice limit files d → c ≡ d
+files_once once choice limit files _ _ (unread {r} n f ts p at a) (unread {r = s} m g us q at' b) = ap RefusedAt (one_place once files ts us n m f g r s p at a q at' b)
+files_once once choice limit files _ _ (unread {r} n f ts p at a) (refused us q b) = absurd (not_read once files us n f r q at a)
+files_once once choice limit files _ _ (unread {r} n f ts p at a) (built us q b is) = absurd (not_read once files us n f r q at a)
+files_once once choice limit files _ _ (refused ts p a) (unread {r = s} m g us q at' b) = absurd (not_read once files ts m g s p at' b)
+files_once once choice limit files _ _ (refused {r} ts p a) (refused {r = s} us q b) =
+    ap RefusedAt (one_least once choice us limit r s (subst (λ xs. IsLeast (Refuses choice xs limit) (Some r)) (one_list once files ts us p q) a) b)
+files_once once choice limit files _ _ (refused {r} ts p a) (built us q b is) =
+    absurd (b r (subst (λ xs. Refuses choice xs limit r) (one_list once files ts us p q) a.0))
+files_once once choice limit files _ _ (built ts p a is) (unread {r = s} m g us q at' b) = absurd (not_read once files ts m g s p at' b)
+files_once once choice limit files _ _ (built ts p a is) (refused {r = s} us q b) =
+    absurd (a s (subst (λ xs. Refuses choice xs limit s) (sym (one_list once files ts us p q)) b.0))
+files_once once choice limit files _ _ (built {schema} ts p a is) (built {schema = other} us q b is') =
+    ap Built (one_given once choice us limit schema other b (subst (λ xs. IsGiven choice xs limit schema) (one_list once files ts us p q) is) is')
 
 pub one_output : Once → (task : Task) (files : List File) (given : List ℕ) (p q : Printed) → IsOutput task files given p → IsOutput task files given q → p ≡ q
 one_output once task files given p q a b =
-    let one : a.0 ≡ b.0 = files_once once task.asked task.choice task.limit files a.0 b.0 a.1 b.1 in
-    same_some (compiled_printed task.asked files b.0 given) p q (ap (λ c. compiled_printed task.asked files c given) (sym one) ∙ a.2) b.2
+    let one : a.0 ≡ b.0 = files_once once task.choice task.limit files a.0 b.0 a.1 b.1 in
+    sym a.2 ∙ ap (λ c. compiled_printed task.asked files c given) one ∙ b.2

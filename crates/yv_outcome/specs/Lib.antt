@@ -1,5 +1,4 @@
 pub mod Document
 pub mod Status
-pub mod Unchecked
 pub mod Compiles
 pub mod Output

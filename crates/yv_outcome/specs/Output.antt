@@ -7,6 +7,8 @@ use Rattle.std.specs.Io.KnownBytes.{Appends}
 use Rattle.yv_statement.specs.Codes.{name_of}
 use Rattle.yv_statement.specs.declared.refusal.Refusal.{Refusal}
 use Rattle.yv_nodes.specs.Tree.{Forest, count as node_count}
+use Rattle.yv_nodes.specs.Rows.{Rows, whole}
+use Rattle.yv_tree.specs.Diagram.{diagram_of}
 use Rattle.yv_job.specs.Jobs.{Asked, Compiles, Draws, Checks, Task}
 use Rattle.yv_validate.specs.Place.{Flaw}
 use Rattle.yv_validate.specs.Faults.{faults}
@@ -55,32 +57,41 @@ abbrev pub bad_input : List ℕ → Printed
 bad_input text = record { text = ended_line text; verdict = BadInput }
 
 -- what is said of a document, by what its bytes are
-abbrev pub reading_printed : Forest → Reading → Printed
-reading_printed ts TooLarge = bad_input (codes "data: too large")
-reading_printed ts NotJson = bad_input (codes "data: not JSON")
-reading_printed ts (Reads d) = faults_printed (faults ts d)
+abbrev pub reading_printed : Rows → Reading → Printed
+reading_printed s TooLarge = bad_input (codes "data: too large")
+reading_printed s NotJson = bad_input (codes "data: not JSON")
+reading_printed s (Reads d) = faults_printed (faults s d)
 
-abbrev pub data_printed : Forest → List ℕ → Printed
-data_printed ts given = reading_printed ts (reading given)
+abbrev pub data_printed : Rows → List ℕ → Printed
+data_printed s given = reading_printed s (reading given)
 
 -- `nodes: N`, for as many nodes as the schema has
 abbrev pub count_printed : Forest → Printed
 count_printed ts = record { text = ended_line (codes "nodes: " ++ decimal (node_count ts)); verdict = Clean }
 
--- what is said of a schema, by what was asked: so far nothing where that is a diagram
-abbrev pub schema_printed : Asked → Forest → List ℕ → Option Printed
-schema_printed Compiles ts given = Some (count_printed ts)
-schema_printed (Draws m) ts given = None
-schema_printed (Checks f) ts given = Some (data_printed ts given)
+-- a diagram, or that there is no module to draw
+abbrev pub drawn_printed : (diagram : Option (List ℕ)) → Printed
+drawn_printed None = record { text = ended_line (codes "tree: no such module"); verdict = Refused }
+drawn_printed (Some text) = record { text = text; verdict = Clean }
+
+-- the diagram of the module of this name, where it is implemented
+abbrev pub diagram_printed : Rows → (name : List ℕ) → Printed
+diagram_printed s name = drawn_printed (diagram_of s name)
+
+-- what is said of a schema, by what was asked
+abbrev pub schema_printed : Asked → Rows → List ℕ → Printed
+schema_printed Compiles s given = count_printed (whole s)
+schema_printed (Draws name) s given = diagram_printed s name
+schema_printed (Checks f) s given = data_printed s given
 
 -- a refusal's line, or what is said of the schema
-abbrev pub compiled_printed : Asked → List File → Compiled → List ℕ → Option Printed
-compiled_printed asked files (RefusedAt r) given = Some (record { text = refusal_line files r; verdict = Refused })
-compiled_printed asked files (Built ts) given = schema_printed asked ts given
+abbrev pub compiled_printed : Asked → List File → Compiled → List ℕ → Printed
+compiled_printed asked files (RefusedAt r) given = record { text = refusal_line files r; verdict = Refused }
+compiled_printed asked files (Built s) given = schema_printed asked s given
 
 -- what a run prints that is to do this task with these files, where the document's bytes are `given`
 abbrev pub IsOutput : Task → List File → List ℕ → Printed → Type 0
-IsOutput task files given p = (c : Compiled) × FilesCompile task.asked task.choice task.limit files c × (compiled_printed task.asked files c given ≡ Some p)
+IsOutput task files given p = (c : Compiled) × FilesCompile task.choice task.limit files c × (compiled_printed task.asked files c given ≡ p)
 
 -- a document is read for this
 abbrev pub ReadsData : Asked → Type 0
@@ -90,7 +101,7 @@ ReadsData (Checks f) = Unit {0}
 
 -- the task is to check a document, and the files give a schema
 abbrev pub WantsData : Task → List File → Type 0
-WantsData task files = ReadsData task.asked × GiveSchema task.asked task.choice task.limit files
+WantsData task files = ReadsData task.asked × GiveSchema task.choice task.limit files
 
 -- the bytes that a reader gives, up to one more than a document may have, where they are known
 abbrev pub Gives : Option (List ℕ) → List ℕ → Type 0

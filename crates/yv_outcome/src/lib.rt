@@ -6,9 +6,7 @@ mod document;
 pub mod laws;
 mod print;
 mod status;
-mod unchecked;
 
 pub use document::{Document, read_document};
-pub use print::{Output, of_count, of_data, of_refusal};
+pub use print::{Output, of_count, of_data, of_diagram, of_refusal};
 pub use status::{Status, Verdict};
-pub use unchecked::first_unchecked;

@@ -1,12 +1,12 @@
 //! The text of an outcome.
-ghost use Rattle.std.specs.Prelude.{◌≡◌, ◌≤◌, map, slice_get, IfOk, string_bytes};
+ghost use Rattle.std.specs.Prelude.{◌≡◌, ◌≤◌, map, slice_get, IfOk, None, string_bytes};
 ghost use Rattle.serde_json.specs.Data.{depth};
 ghost use Rattle.serde_json.specs.View.{view};
 ghost use Rattle.yv_nodes.specs.Rows.{whole};
 ghost use Rattle.yv_validate.specs.Size.{size};
 ghost use Rattle.yv_validate.specs.Faults.{faults as faults_in};
 ghost use Rattle.yv_streams.specs.Files.{file_of};
-ghost use Rattle.yv_outcome.specs.Output.{name_of_file, refusal_line, fault_lines, faults_printed, data_printed, count_printed, bad_input as bad_input_printed, printed_of};
+ghost use Rattle.yv_outcome.specs.Output.{name_of_file, refusal_line, fault_lines, faults_printed, data_printed, count_printed, diagram_printed, drawn_printed, bad_input as bad_input_printed, printed_of};
 
 use crate::document::{Document, read_document};
 use crate::status::Verdict;
@@ -15,6 +15,7 @@ use std::alloc::{AllocError, Global};
 use yv_schema::Schema;
 use yv_statement::Refusal;
 use yv_streams::Input;
+use yv_tree::diagram;
 use yv_validate::{Fault, line, validate};
 
 /// What a run writes, and what it found.
@@ -63,9 +64,32 @@ pub fn of_count(alloc: Global, schema: &Schema) -> Result<Output, AllocError>
     })
 }
 
+/// The tree diagram of the implemented module of this name, or that there is no such module.
+pub fn of_diagram(alloc: Global, schema: &Schema, name: &str) -> Result<Output, AllocError>
+    ensures { IfOk result (λ o. printed_of o ≡ diagram_printed schema.now name.now) }
+{
+    match diagram(alloc, schema, name)? {
+        Some(text) => Ok(Output {
+            text,
+            verdict: Verdict::Clean,
+        }),
+        None => no_module(alloc),
+    }
+}
+
+fn no_module(alloc: Global) -> Result<Output, AllocError>
+    ensures { IfOk result (λ o. printed_of o ≡ drawn_printed None) }
+{
+    let text = String::from_str(alloc, "tree: no such module\n")?;
+    Ok(Output {
+        text,
+        verdict: Verdict::Refused,
+    })
+}
+
 /// What is said of a document of these bytes.
 pub fn of_data(alloc: Global, schema: &Schema, bytes: &[u8]) -> Result<Output, AllocError>
-    ensures { IfOk result (λ o. printed_of o ≡ data_printed (whole schema.now) bytes.now) }
+    ensures { IfOk result (λ o. printed_of o ≡ data_printed schema.now bytes.now) }
 {
     match read_document(alloc, bytes)? {
         Document::TooLarge => bad_input(alloc, "data: too large\n"),
@@ -87,7 +111,7 @@ fn bad_input(alloc: Global, text: &str) -> Result<Output, AllocError>
 fn of_json(alloc: Global, schema: &Schema, json: &Value) -> Result<Output, AllocError>
     requires size { size (view json.now) ≤ 16777216 }
     requires nests { depth (view json.now) ≤ 127 }
-    ensures { IfOk result (λ o. printed_of o ≡ faults_printed (faults_in (whole schema.now) (view json.now))) }
+    ensures { IfOk result (λ o. printed_of o ≡ faults_printed (faults_in schema.now (view json.now))) }
 {
     let report = validate(alloc, schema, json)?;
     of_faults(alloc, &report.faults)

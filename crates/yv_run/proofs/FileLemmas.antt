@@ -1,5 +1,5 @@
 -- What files come to, from what the layers answer.
-use Rattle.std.proofs.Common.{◌≡◌, ℕ, List, Result, Ok, Err, IfOk, OnOk, subst, sym, ap, None}
+use Rattle.std.proofs.Common.{◌≡◌, ◌∙◌, ℕ, List, [], Result, Ok, Err, IfOk, OnOk, subst, sym, ap, ap₂, None}
 use Rattle.std.specs.List.{AllZip}
 use Rattle.yv_statement.specs.Tree.{Tree}
 use Rattle.yv_statement.specs.Order.{IsLeast}
@@ -7,12 +7,16 @@ use Rattle.yv_statement.specs.declared.refusal.Refusal.{Refusal}
 use Rattle.yv_statement.specs.declared.refusal.Stop.{Stop}
 use Rattle.yv_statement.specs.declared.refusal.Stop.TheVariants.{Fault}
 use Rattle.yv_selection.specs.Choice.{Choice}
-use Rattle.yv_nodes.specs.Rows.{Rows, whole}
+use Rattle.yv_nodes.specs.Rows.{Module, Note, Row, Rows, whole}
+use Rattle.yv_nodes.specs.Numbers.{rows_of}
+use Rattle.yv_nodes.specs.declared.node.NodeId.{NodeId}
+use Rattle.yv_tables.specs.Sound.{IsSound}
+use Rattle.yv_schema.specs.Module.{modules_of}
+use Rattle.yv_schema.specs.Refuses.{Refuses}
 use Rattle.yv_schema.specs.Schema.{IsSchema}
-use Rattle.yv_job.specs.Jobs.{Asked}
 use Rattle.yv_streams.specs.Files.{File}
 use Rattle.yv_files.specs.Read.{IsRead, IsUnreadAt}
-use Rattle.yv_outcome.specs.Compiles.{Built, RefusedAt, FilesCompile, RefusesFor, unread, built}
+use Rattle.yv_outcome.specs.Compiles.{Built, RefusedAt, FilesCompile, IsGiven, unread, built}
 
 abbrev pub error_of : {A E : Type 0} → E → Result A E → E
 error_of d (Ok x) = d
@@ -31,12 +35,32 @@ pub same_fault : {A : Type 0} (r s : Refusal) → failed A Stop (Fault r) ≡ fa
 same_fault r s e = let stops : Fault r ≡ Fault s = ap (error_of (Fault r)) e in cc
 
 -- a file can't be read
-pub refuses_unread : (asked : Asked) (choice : Choice) (limit : ℕ) (files : List File) (r : Refusal) → IsUnreadAt files r → FilesCompile asked choice limit files (RefusedAt r)
-refuses_unread asked choice limit files r at =
-    subst (λ q. FilesCompile asked choice limit files (RefusedAt q)) (sym at.placed) (unread at.number at.file at.before at.read at.at at.unread)
+pub refuses_unread : (choice : Choice) (limit : ℕ) (files : List File) (r : Refusal) → IsUnreadAt files r → FilesCompile choice limit files (RefusedAt r)
+refuses_unread choice limit files r at =
+    subst (λ q. FilesCompile choice limit files (RefusedAt q)) (sym at.placed) (unread at.number at.file at.before at.read at.at at.unread)
 
--- files of which nothing is refused give their schema tree
-pub gives_schema : (asked : Asked) (choice : Choice) (limit : ℕ) (files : List File) (ts : List Tree) (answer : Result Rows Stop) → AllZip IsRead files ts → IfOk answer (λ s. IsSchema choice ts (whole s))
-    → OnOk answer (IsLeast (RefusesFor asked choice ts limit) None) → IfOk answer (λ s. FilesCompile asked choice limit files (Built (whole s)))
-gives_schema asked choice limit files ts (Ok s) read is clear = built ts read clear is
-gives_schema asked choice limit files ts (Err e) read is clear = tt
+-- a sound schema is made of its rows by number
+same_rows : (limit : ℕ) (s : Rows) → IsSound s → s.limit ≡ limit → s ≡ rows_of limit s.modules s.augments (whole s)
+same_rows limit s sound is =
+    ap₂ (λ (nodes : List Row) (top : List NodeId). record s { nodes = nodes; top = top }) sound.rows sound.top
+    ∙ ap (λ (most : ℕ). rows_of most s.modules s.augments (whole s)) is
+
+-- what a compilation answers is the schema of the statements
+pub is_given : (choice : Choice) (ts : List Tree) (limit : ℕ) (s : Rows) → IsSchema choice ts (whole s) → s.limit ≡ limit
+    → s.modules ≡ modules_of choice ts → s.augments ≡ [] → IsSound s → IsGiven choice ts limit s
+is_given choice ts limit s tree most modules augments sound = record {
+  tree = tree;
+  rows = same_rows limit s sound most ∙ ap₂ (λ (ms : List Module) (ns : List Note). rows_of limit ms ns (whole s)) modules augments;
+}
+
+pub all_given : (choice : Choice) (ts : List Tree) (limit : ℕ) (answer : Result Rows Stop) → IfOk answer (λ s. IsSchema choice ts (whole s))
+    → IfOk answer (λ s. s.limit ≡ limit) → IfOk answer (λ s. s.modules ≡ modules_of choice ts) → IfOk answer (λ s. s.augments ≡ [])
+    → IfOk answer IsSound → IfOk answer (IsGiven choice ts limit)
+all_given choice ts limit (Ok s) tree most modules augments sound = is_given choice ts limit s tree most modules augments sound
+all_given choice ts limit (Err e) tree most modules augments sound = tt
+
+-- files of which nothing is refused give their schema
+pub gives_schema : (choice : Choice) (limit : ℕ) (files : List File) (ts : List Tree) (answer : Result Rows Stop) → AllZip IsRead files ts → IfOk answer (IsGiven choice ts limit)
+    → OnOk answer (IsLeast (Refuses choice ts limit) None) → IfOk answer (λ s. FilesCompile choice limit files (Built s))
+gives_schema choice limit files ts (Ok s) read is clear = built ts read clear is
+gives_schema choice limit files ts (Err e) read is clear = tt

@@ -1,3 +1,2 @@
 pub mod FileLemmas
-pub mod Joining
 pub mod RunLemmas

@@ -4,7 +4,7 @@ use Rattle.std.specs.declared.option.Option.{Option}
 use Rattle.std.specs.declared.option.Option.TheVariants.{None, Some}
 use Rattle.yv_statement.specs.declared.refusal.Refusal.{Refusal}
 use Rattle.yv_job.specs.Jobs.{Asked, Compiles, Draws, Checks, Task}
-use Rattle.yv_nodes.specs.Tree.{Forest}
+use Rattle.yv_nodes.specs.Rows.{Rows}
 use Rattle.yv_outcome.specs.declared.print.Output.{Output}
 use Rattle.yv_outcome.specs.declared.status.Verdict.TheVariants.{Refused}
 use Rattle.yv_outcome.specs.Compiles.{FilesCompile, RefusedAt, Built}
@@ -22,26 +22,28 @@ some_given None = ([], tt)
 some_given (Some xs) = (take 16777217 xs, refl)
 
 -- a refusal is printed whatever the document is
-pub prints_refusal : (known : Option (List ℕ)) (task : Task) (files : List File) (r : Refusal) (p : Printed) → FilesCompile task.asked task.choice task.limit files (RefusedAt r)
+pub prints_refusal : (known : Option (List ℕ)) (task : Task) (files : List File) (r : Refusal) (p : Printed) → FilesCompile task.choice task.limit files (RefusedAt r)
     → p ≡ record { text = refusal_line files r; verdict = Refused } → PrintsFor known task files p
 prints_refusal known task files r p compiles is =
     let d = some_given known in
-    record { given = d.0; gives = d.1; output = (RefusedAt r, compiles, ap (λ (o : Printed). Some o) (sym is)) }
+    record { given = d.0; gives = d.1; output = (RefusedAt r, compiles, sym is) }
 
--- what is said of a schema is said of some bytes: the number of nodes of any
-says_given : (known : Option (List ℕ)) (asked : Asked) (ts : Forest) (o : Output) → SaysOf known asked ts o → (given : List ℕ) × Gives known given × (schema_printed asked ts given ≡ Some (printed_of o))
-says_given known Compiles ts o says =
+-- what is said of a schema is said of some bytes: the number of nodes and a diagram of any
+says_given : (known : Option (List ℕ)) (asked : Asked) (s : Rows) (o : Output) → SaysOf known asked s o → (given : List ℕ) × Gives known given × (schema_printed asked s given ≡ printed_of o)
+says_given known Compiles s o says =
     let d = some_given known in
-    (d.0, d.1, ap (λ (p : Printed). Some p) (sym says))
-says_given known (Draws m) ts o says = absurd says
-says_given known (Checks f) ts o says = (says.given, says.gives, ap (λ (p : Printed). Some p) (sym says.printed))
+    (d.0, d.1, sym says)
+says_given known (Draws name) s o says =
+    let d = some_given known in
+    (d.0, d.1, sym says)
+says_given known (Checks f) s o says = (says.given, says.gives, sym says.printed)
 
 -- where the files give a schema, what is said of it is printed
-pub prints_says : (known : Option (List ℕ)) (task : Task) (files : List File) (ts : Forest) (o : Output) → FilesCompile task.asked task.choice task.limit files (Built ts)
-    → SaysOf known task.asked ts o → PrintsFor known task files (printed_of o)
-prints_says known task files ts o compiles says =
-    let d = says_given known task.asked ts o says in
-    record { given = d.0; gives = d.1; output = (Built ts, compiles, d.2) }
+pub prints_says : (known : Option (List ℕ)) (task : Task) (files : List File) (s : Rows) (o : Output) → FilesCompile task.choice task.limit files (Built s)
+    → SaysOf known task.asked s o → PrintsFor known task files (printed_of o)
+prints_says known task files s o compiles says =
+    let d = says_given known task.asked s o says in
+    record { given = d.0; gives = d.1; output = (Built s, compiles, d.2) }
 
 module _ {A : Type 0} (bytes_of : A → List ℕ) (known : Option (List ℕ)) (task : Task) (files : List File) where
   -- a note on a document is one on what the run found
@@ -50,7 +52,7 @@ module _ {A : Type 0} (bytes_of : A → List ℕ) (known : Option (List ℕ)) (t
   notes_document (Some s) noted = on_document noted
 
   -- and so is one on a refusal
-  pub notes_refusal : (o : Option A) (r : Refusal) → FilesCompile task.asked task.choice task.limit files (RefusedAt r)
+  pub notes_refusal : (o : Option A) (r : Refusal) → FilesCompile task.choice task.limit files (RefusedAt r)
       → IfSome o (λ s. Explains (bytes_at (slice_get files r.file)) r (bytes_of s)) → IfSome o (λ s. Speaks files r (bytes_of s))
       → IfSome o (λ s. IsNote known task files (bytes_of s))
   notes_refusal None r refused place speaks = tt

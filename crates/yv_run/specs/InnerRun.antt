@@ -2,9 +2,9 @@
 use Rattle.std.specs.Prelude.{◌≡◌, ℕ, List, take}
 use Rattle.std.specs.declared.option.Option.{Option}
 use Rattle.std.specs.Io.KnownBytes.{Appends}
-use Rattle.yv_nodes.specs.Tree.{Forest}
+use Rattle.yv_nodes.specs.Rows.{Rows, whole}
 use Rattle.yv_job.specs.Jobs.{Asked, Compiles, Draws, Checks}
-use Rattle.yv_outcome.specs.Output.{Gives, count_printed, data_printed, printed_of}
+use Rattle.yv_outcome.specs.Output.{Gives, count_printed, data_printed, diagram_printed, printed_of}
 use Rattle.yv_outcome.specs.Status.{status_of}
 use Rattle.yv_outcome.specs.declared.print.Output.{Output}
 use Rattle.yv_outcome.specs.declared.status.Status.{Status}
@@ -20,13 +20,13 @@ pub record AppendsFront (o : Output) (old new : Option (List ℕ)) : Type 0 wher
   pub appended : Appends old new (take count (printed_of o).text)
 
 -- what is said of some bytes, which are those that the reader gives where they are known
-pub record SaysOfData (known : Option (List ℕ)) (ts : Forest) (o : Output) : Type 0 where
+pub record SaysOfData (known : Option (List ℕ)) (s : Rows) (o : Output) : Type 0 where
   pub given : List ℕ
   pub gives : Gives known given
-  pub printed : printed_of o ≡ data_printed ts given
+  pub printed : printed_of o ≡ data_printed s given
 
 -- what is said of the schema, by what was asked
-abbrev pub SaysOf : Option (List ℕ) → Asked → Forest → Output → Type 0
-SaysOf known Compiles ts o = printed_of o ≡ count_printed ts
-SaysOf known (Draws m) ts o = ⊥
-SaysOf known (Checks f) ts o = SaysOfData known ts o
+abbrev pub SaysOf : Option (List ℕ) → Asked → Rows → Output → Type 0
+SaysOf known Compiles s o = printed_of o ≡ count_printed (whole s)
+SaysOf known (Draws name) s o = printed_of o ≡ diagram_printed s name
+SaysOf known (Checks f) s o = SaysOfData known s o

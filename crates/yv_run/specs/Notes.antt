@@ -18,6 +18,6 @@ pub record NotesDocument (known : Option (List ℕ)) (text : List ℕ) : Type 0 
 
 -- the text says why the files are refused, or why the document is no JSON
 pub data IsNote (known : Option (List ℕ)) (task : Task) (files : List File) (text : List ℕ) : Type 0 where
-  on_refusal : (r : Refusal) → FilesCompile task.asked task.choice task.limit files (RefusedAt r) → Explains (bytes_at (slice_get files r.file)) r text
+  on_refusal : (r : Refusal) → FilesCompile task.choice task.limit files (RefusedAt r) → Explains (bytes_at (slice_get files r.file)) r text
       → Speaks files r text → IsNote known task files text
   on_document : NotesDocument known text → IsNote known task files text

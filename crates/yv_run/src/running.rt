@@ -1,8 +1,7 @@
 //! A run over files that were read: what it writes, and how it ends.
 ghost use Rattle.std.specs.Prelude.{◌≡◌, ◌≤◌, ◌↔◌, ◌⊎◌, true, map, length, IfOk, IfSome, IsErrOf, None, slice_get, string_bytes};
-ghost use Rattle.yv_job.specs.Jobs.{HasFiles, HasLimit, CompilesOrChecks, IsCompileOrCheck, asked_of, task_of};
+ghost use Rattle.yv_job.specs.Jobs.{HasFiles, HasLimit, asked_of, task_of};
 ghost use Rattle.yv_selection.specs.Choice.{choice_of};
-ghost use Rattle.yv_nodes.specs.Rows.{whole};
 ghost use Rattle.yv_streams.specs.Stream.{stream_inner, has_failed, IsFresh};
 ghost use Rattle.yv_streams.specs.Files.{file_of};
 ghost use Rattle.yv_outcome.specs.Compiles.{HavePattern};
@@ -19,7 +18,7 @@ use std::io::{Read, Write};
 use thiserror::Error;
 use yv_job::{Command, Job};
 use yv_messages::{explanation, why_not_json};
-use yv_outcome::{Output, Status, of_count, of_data, of_refusal};
+use yv_outcome::{Output, Status, of_count, of_data, of_diagram, of_refusal};
 use yv_schema::Schema;
 use yv_statement::{Refusal, Stop};
 use yv_streams::{Counted, Input, InputFault, read_up_to, write_whole};
@@ -75,8 +74,9 @@ struct Found {
 /// What is read of a document: one byte more than it may have, so that its being too large shows.
 const DATA_BYTES: usize = 16_777_217;
 
-/// Compiles the files of a job, and writes the outcome: the refusal's line, or how many nodes the schema has, or, where
-/// the job is to check a document, what is wrong with what the reader gives, or that it is valid. A document isn't checked
+/// Compiles the files of a job, and writes the outcome: the refusal's line, or how many nodes the schema has, or the tree
+/// diagram of one of its modules, or, where the job is to check a document, what is wrong with what the reader gives, or that it
+/// is valid. A document isn't checked
 /// against lists, leaf-lists, choices, anydata, anyxml or `mandatory` so far: files with these are then refused. After
 /// `WriteFault` the writer holds the front of that text; after `NoMemory`, `PatternBuild` and `ReadFault` nothing was
 /// written.
@@ -90,7 +90,6 @@ pub fn run<R: Read, W: Write>(
     requires files { HasFiles job.now }
     requires limit { HasLimit job.now }
     requires each { length inputs.now ≡ length job.now.files.items }
-    requires command { CompilesOrChecks job.now }
     requires reader { IsFresh reader.old }
     requires writer { IsFresh writer.old }
     ensures written { IsFinished result → WritesAll (R.remaining (stream_inner reader.old)) (task_of job.now) (map file_of inputs.now) result
@@ -101,7 +100,7 @@ pub fn run<R: Read, W: Write>(
     ensures unread { WantsData (task_of job.now) (map file_of inputs.now) ⊎ (reader.new ≡ reader.old) }
     ensures read_fault { result ≡ Status.ReadFault ↔ (has_failed reader.new ≡ true) }
     ensures write_fault { result ≡ Status.WriteFault ↔ (has_failed writer.new ≡ true) }
-    ensures built { result ≡ Status.PatternBuild → HavePattern (asked_of job.now.command) (choice_of job.now.selection) job.now.limit (map file_of inputs.now) }
+    ensures built { result ≡ Status.PatternBuild → HavePattern (choice_of job.now.selection) job.now.limit (map file_of inputs.now) }
 {
     run_with_note(alloc, job, inputs, reader, writer).status
 }
@@ -117,7 +116,6 @@ pub fn run_with_note<R: Read, W: Write>(
     requires files { HasFiles job.now }
     requires limit { HasLimit job.now }
     requires each { length inputs.now ≡ length job.now.files.items }
-    requires command { CompilesOrChecks job.now }
     requires reader { IsFresh reader.old }
     requires writer { IsFresh writer.old }
     ensures written { IsFinished result.status → WritesAll (R.remaining (stream_inner reader.old)) (task_of job.now) (map file_of inputs.now) result.status
@@ -128,7 +126,7 @@ pub fn run_with_note<R: Read, W: Write>(
     ensures unread { WantsData (task_of job.now) (map file_of inputs.now) ⊎ (reader.new ≡ reader.old) }
     ensures read_fault { result.status ≡ Status.ReadFault ↔ (has_failed reader.new ≡ true) }
     ensures write_fault { result.status ≡ Status.WriteFault ↔ (has_failed writer.new ≡ true) }
-    ensures built { result.status ≡ Status.PatternBuild → HavePattern (asked_of job.now.command) (choice_of job.now.selection) job.now.limit (map file_of inputs.now) }
+    ensures built { result.status ≡ Status.PatternBuild → HavePattern (choice_of job.now.selection) job.now.limit (map file_of inputs.now) }
     ensures note { IfSome result.note (λ s. IsNote (R.remaining (stream_inner reader.old)) (task_of job.now) (map file_of inputs.now) (string_bytes s)) }
 {
     match outcome(alloc, job, inputs, reader) {
@@ -164,15 +162,14 @@ fn outcome<R: Read>(
     inputs: &[Input],
     reader: &mut Counted<R>,
 ) -> Result<Found, Halt>
-    requires command { CompilesOrChecks job.now }
-    requires reader { IsFresh reader.old }
+    requires { IsFresh reader.old }
     ensures printed { IfOk result (λ f. PrintsFor (R.remaining (stream_inner reader.old)) (task_of job.now) (map file_of inputs.now) (printed_of f.output)) }
     ensures note { IfOk result (λ f. IfSome f.note (λ s. IsNote (R.remaining (stream_inner reader.old)) (task_of job.now) (map file_of inputs.now) (string_bytes s))) }
     ensures unread { WantsData (task_of job.now) (map file_of inputs.now) ⊎ (reader.new ≡ reader.old) }
     ensures fault { IsErrOf result Halt.Read ↔ (has_failed reader.new ≡ true) }
-    ensures built { IsErrOf result Halt.PatternBuild → HavePattern (asked_of job.now.command) (choice_of job.now.selection) job.now.limit (map file_of inputs.now) }
+    ensures built { IsErrOf result Halt.PatternBuild → HavePattern (choice_of job.now.selection) job.now.limit (map file_of inputs.now) }
 {
-    match compiled(alloc, inputs, &job.command, &job.selection, job.limit) {
+    match compiled(alloc, inputs, &job.selection, job.limit) {
         Ok(schema) => answered(alloc, &job.command, &schema, reader),
         Err(Stop::Fault(refusal)) => Ok(Found {
             output: of_refusal(alloc, inputs, &refusal)?,
@@ -190,9 +187,8 @@ fn answered<R: Read>(
     schema: &Schema,
     reader: &mut Counted<R>,
 ) -> Result<Found, Halt>
-    requires command { IsCompileOrCheck (asked_of command.now) }
-    requires reader { IsFresh reader.old }
-    ensures printed { IfOk result (λ f. SaysOf (R.remaining (stream_inner reader.old)) (asked_of command.now) (whole schema.now) f.output) }
+    requires { IsFresh reader.old }
+    ensures printed { IfOk result (λ f. SaysOf (R.remaining (stream_inner reader.old)) (asked_of command.now) schema.now f.output) }
     ensures note { IfOk result (λ f. IfSome f.note (λ s. NotesDocument (R.remaining (stream_inner reader.old)) (string_bytes s))) }
     ensures unread { ReadsData (asked_of command.now) ⊎ (reader.new ≡ reader.old) }
     ensures fault { IsErrOf result Halt.Read ↔ (has_failed reader.new ≡ true) }
@@ -203,7 +199,10 @@ fn answered<R: Read>(
             output: of_count(alloc, schema)?,
             note: None,
         }),
-        Command::Tree(_) => unreachable!(),
+        Command::Tree(name) => Ok(Found {
+            output: of_diagram(alloc, schema, name.as_str())?,
+            note: None,
+        }),
         Command::Validate(_) => validated(alloc, schema, reader),
     }
 }
@@ -215,7 +214,7 @@ fn validated<R: Read>(
     reader: &mut Counted<R>,
 ) -> Result<Found, Halt>
     requires { IsFresh reader.old }
-    ensures printed { IfOk result (λ f. SaysOfData (R.remaining (stream_inner reader.old)) (whole schema.now) f.output) }
+    ensures printed { IfOk result (λ f. SaysOfData (R.remaining (stream_inner reader.old)) schema.now f.output) }
     ensures note { IfOk result (λ f. IfSome f.note (λ s. NotesDocument (R.remaining (stream_inner reader.old)) (string_bytes s))) }
     ensures fault { IsErrOf result Halt.Read ↔ (has_failed reader.new ≡ true) }
     ensures never_built { IsErrOf result Halt.PatternBuild → ⊥ }

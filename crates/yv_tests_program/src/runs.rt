@@ -1,5 +1,5 @@
 ghost use Rattle.std.specs.Prelude.{◌≡◌, length, IfOk};
-ghost use Rattle.yv_job.specs.Jobs.{HasFiles, HasLimit, CompilesOrChecks, IsCompileOrCheck, asked_of};
+ghost use Rattle.yv_job.specs.Jobs.{HasFiles, HasLimit};
 ghost use Rattle.yv_streams.specs.Stream.{IsFresh};
 
 use crate::streams::{Endless, Sink, Source};
@@ -17,11 +17,9 @@ const MODULE: &str =
 
 // A command over one file.
 fn job(alloc: Global, command: Command) -> Result<Job, AllocError>
-    requires { IsCompileOrCheck (asked_of command) }
     ensures files { IfOk result HasFiles }
     ensures one { IfOk result (λ job. length job.files.items ≡ 1) }
     ensures limit { IfOk result HasLimit }
-    ensures command { IfOk result CompilesOrChecks }
 {
     let mut files = Vec::new(alloc);
     files.push(String::from_str(alloc, "ex.yang")?)?;
@@ -41,7 +39,6 @@ fn ended<R: Read>(
     reader: &mut Counted<R>,
     writer: &mut Counted<Sink>,
 ) -> Result<Status, AllocError>
-    requires command { IsCompileOrCheck (asked_of command) }
     requires reader { IsFresh reader.old }
     requires writer { IsFresh writer.old }
 {
@@ -54,9 +51,7 @@ fn ended<R: Read>(
 }
 
 // Checks standard input.
-fn checks(alloc: Global) -> Result<Command, AllocError>
-    ensures { IfOk result (λ c. IsCompileOrCheck (asked_of c)) }
-{
+fn checks(alloc: Global) -> Result<Command, AllocError> {
     Ok(Command::Validate(String::from_str(alloc, "-")?))
 }
 
@@ -178,6 +173,27 @@ fn documents_that_are_not_read(rt: HostRuntime) -> Result<(), Fail> {
         writer.into_inner().taken.as_slice(),
         b"ex.yang:1: Cardinality\n".as_slice()
     );
+    Ok(())
+}
+
+#[test]
+fn diagrams(rt: HostRuntime) -> Result<(), Fail> {
+    let drawn = "module: ex\n  +--rw top\n     +--rw a? string\n     +--rw b? int32\n";
+    let cases = [
+        ("ex", 100, Status::Clean, drawn),
+        ("e", 100, Status::Refused, "tree: no such module\n"),
+        ("ex", 11, Status::WriteFault, "module: ex\n"),
+    ];
+    for (name, room, status, text) in cases {
+        let mut reader = broken();
+        let mut sink = sink(rt.alloc());
+        sink.room = room;
+        let mut writer = Counted::new(sink);
+        let command = Command::Tree(String::from_str(rt.alloc(), name)?);
+        let by = ended(rt.alloc(), command, MODULE, &mut reader, &mut writer)?;
+        assert_eq!(rt; by, status);
+        assert_eq!(rt; writer.into_inner().taken.as_slice(), text.as_bytes());
+    }
     Ok(())
 }
 

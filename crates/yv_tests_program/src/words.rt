@@ -32,6 +32,10 @@ fn words_that_are_refused(rt: HostRuntime) -> Result<(), Fail> {
         "yangcheck compile --max-nodes -5 ex.yang",
         "yangcheck compile",
         "yangcheck validate ex.yang --data",
+        "yangcheck tree ex.yang",
+        "yangcheck tree --module ex",
+        "yangcheck tree --module ex --module ex ex.yang",
+        "yangcheck compile --module ex ex.yang",
     ];
     for line in cases {
         let (text, is_help) = answer(rt.alloc(), line)?.ok_or(line)?;
@@ -59,7 +63,9 @@ fn words_that_ask_for_help(rt: HostRuntime) -> Result<(), Fail> {
         ("yangcheck compile --help", " prints `nodes: N`"),
         ("yangcheck compile -h", "[default: 100000]"),
         ("yangcheck validate -h", " from 1 to 1000000 "),
-        ("yangcheck tree --help", "not take the command yet"),
+        ("yangcheck help", "\n  tree      "),
+        ("yangcheck help tree", " --module <M>\n"),
+        ("yangcheck tree --help", " is `tree: no such module`."),
     ];
     for (line, part) in cases {
         let (text, is_help) = answer(rt.alloc(), line)?.ok_or(line)?;

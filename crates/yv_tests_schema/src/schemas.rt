@@ -1,7 +1,7 @@
 //! What a schema measures, how its nodes are found, and the steps of a validation: numbers by which time is bounded.
 use crate::texts::{roots, sources};
 use serde_json::Value;
-use std::alloc::Global;
+use std::alloc::{AllocError, Global};
 use std::test::Fail;
 use yv_schema::compile;
 use yv_selection::Selection;
@@ -57,15 +57,75 @@ fn nodes_are_found_and_measured(rt: HostRuntime) -> Result<(), Fail> {
     Ok(())
 }
 
+const CASES: &str =
+    "module ex{yang-version 1.1;namespace urn:ex;prefix ex;choice h{case p{leaf a{type int8;mandatory true;}leaf b{type int8;}}case q{leaf d{type int8;}}}}";
+
+const KEYED: &str =
+    "module ex{yang-version 1.1;namespace urn:ex;prefix ex;list e{key k;leaf k{type decimal64{fraction-digits 2;}}}}";
+
+const NUMBERED: &str =
+    "module ex{yang-version 1.1;namespace urn:ex;prefix ex;list e{key k;leaf k{type int32;}leaf v{type int32;}}}";
+
+const ENTRIES: &str =
+    "module ex{yang-version 1.1;namespace urn:ex;prefix ex;list e{key k;unique v;max-elements 2;leaf k{type int8;}leaf v{type int8;}}}";
+
+// The members and items of a document, the steps of its validation, and the number of its faults.
+fn counted(alloc: Global, module: &str, text: &str) -> Result<(u64, u64, usize), Stop> {
+    let schema = compiled(alloc, &[module])?;
+    let Ok(document) = Value::from_str(alloc, text) else {
+        return Ok((0, 0, 0));
+    };
+    let members = size(&document);
+    if members > 1_000_000 {
+        return Ok((members, 0, 0));
+    }
+    let report = validate(alloc, &schema, &document)?;
+    Ok((members, report.steps, report.faults.len()))
+}
+
+// A step is a member that is looked up, a schema node that is visited in an object, a plain type that is tried, or a key or the values
+// of a `unique` statement that are looked up.
 #[test]
-fn look_ups_and_tried_types_are_steps(rt: HostRuntime) -> Result<(), Fail> {
+fn steps_are_counted(rt: HostRuntime) -> Result<(), Fail> {
     let alloc = rt.alloc();
-    let schema = compiled(alloc, &[EX])?;
-    let document = Value::from_str(alloc, "{\"ex:top\":{\"a\":\"x\",\"b\":\"3\",\"z\":1}}")?;
-    assert!(rt; size(&document) == 4);
-    // Four members are looked up, and a type is tried for each of the two leaves.
-    assert!(rt; validate(alloc, &schema, &document)?.steps == 6);
-    let nested = Value::from_str(alloc, "{\"a\":[1,{\"b\":null}],\"c\":{}}")?;
+    let cases = [
+        (EX, "{}", (0, 4, 0)),
+        (EX, "{\"ex:top\":{\"a\":\"x\",\"b\":3}}", (3, 9, 0)),
+        (EX, "{\"ex:top\":{\"a\":\"x\",\"b\":\"3\",\"z\":1}}", (4, 10, 2)),
+        (KEYED, "{\"ex:e\":[{\"k\":\"1.0\"},{\"k\":\"1.00\"}]}", (5, 10, 1)),
+        (CASES, "{\"ex:b\":1}", (1, 8, 1)),
+        (ENTRIES, "{\"ex:e\":[{\"k\":1,\"v\":1},{\"k\":1,\"v\":1},{\"v\":9,\"z\":0}]}", (10, 24, 5)),
+    ];
+    for (module, text, wanted) in cases {
+        assert!(rt; counted(alloc, module, text)? == wanted);
+    }
+    Ok(())
+}
+
+// So many entries, each with its number as key and as value.
+fn numbered(alloc: Global, count: u32) -> Result<String, AllocError> {
+    let mut text = String::from_str(alloc, "{\"ex:e\":[{\"k\":0,\"v\":0}")?;
+    for number in 1..count {
+        let entry = format!(in alloc; ",{{\"k\":{number},\"v\":{number}}}")?;
+        text.push_str(&entry)?;
+    }
+    text.push_str("]}")?;
+    Ok(text)
+}
+
+// Of the list itself two, and of each entry seven: two members, two nodes, two types and a key.
+#[test]
+fn steps_of_many_entries(rt: HostRuntime) -> Result<(), Fail> {
+    let alloc = rt.alloc();
+    let text = numbered(alloc, 100_000)?;
+    assert!(rt; counted(alloc, NUMBERED, &text)? == (300_001, 700_002, 0));
+    Ok(())
+}
+
+// Members without modules, arrays in arrays and null are counted as any others.
+#[test]
+fn any_document_has_a_size(rt: HostRuntime) -> Result<(), Fail> {
+    let nested = Value::from_str(rt.alloc(), "{\"a\":[1,{\"b\":null}],\"c\":{}}")?;
     assert!(rt; size(&nested) == 5);
     Ok(())
 }

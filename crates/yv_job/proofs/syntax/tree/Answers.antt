@@ -1,12 +1,10 @@
 use Rattle.std.proofs.Common.{ap, ap₂, ◌∙◌}
 use Rattle.std.proofs.lemmas.Result.{IfOk-weaker}
-use Rattle.clap.specs.Simple.{app_of_fields}
 use Rattle.clap.specs.Words.{with_rule}
 use Rattle.yv_job.specs.CommandLine.{with_shared}
 use Rattle.yv_job.proofs.syntax.tree.Goals as goal
 
 pub returns-clause-app : goal.returns-clause-app
 returns-clause-app c =
-    let hidden = ap app_of_fields c.hide.ensures ∙ c.command-command.ensures.app in
-    let drawing = c.in_ok-drawing.ensures.app ∙ ap₂ with_rule hidden c.required-module.ensures.rule in
+    let drawing = c.in_ok-drawing.ensures.app ∙ ap₂ with_rule c.command-command.ensures.app c.required-module.ensures.rule in
     IfOk-weaker c.shared.result _ _ (λ m h. h ∙ ap with_shared drawing) c.shared.ensures.app

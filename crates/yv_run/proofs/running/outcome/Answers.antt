@@ -2,7 +2,7 @@ use Rattle.std.proofs.Common.{ap, map, string_bytes}
 use Rattle.std.proofs.lemmas.Result.{IfOk-weaker}
 use Rattle.yv_statement.specs.declared.refusal.Stop.{Stop}
 use Rattle.yv_job.specs.Jobs.{task_of}
-use Rattle.yv_nodes.specs.Rows.{Rows, whole}
+use Rattle.yv_nodes.specs.Rows.{Rows}
 use Rattle.yv_run.proofs.FileLemmas.{failed}
 use Rattle.yv_streams.specs.Files.{file_of}
 use Rattle.yv_outcome.specs.Output.{printed_of}
@@ -22,7 +22,7 @@ returns-in_ok-of_refusal-in-Err-Fault-clause-note g c =
 pub returns-in-Ok-clause-printed : goal.returns-in-Ok-clause-printed
 returns-in-Ok-clause-printed g c =
     IfOk-weaker c.answered.result _ _
-    (λ f says. prints_says _ (task_of c.args.job.now) (map file_of c.args.inputs.now) (whole c.in-Ok.schema) f.output c.in-Ok.ensures.schema says)
+    (λ f says. prints_says _ (task_of c.args.job.now) (map file_of c.args.inputs.now) c.in-Ok.schema f.output c.in-Ok.ensures.schema says)
     c.answered.ensures.printed
 
 pub returns-in-Ok-clause-note : goal.returns-in-Ok-clause-note
