@@ -62,7 +62,7 @@ impl Node {
     ghost use Rattle.yv_properties.specs.Defined.{default_of, is_empty, paths_in, written_of};
     ghost use Rattle.yv_nodes.specs.Defaults.{defaults_of};
     ghost use Rattle.yv_nodes.specs.Refused.{refusal_of};
-    ghost use Rattle.yv_nodes.specs.Member.{row_with};
+    ghost use Rattle.yv_nodes.specs.Member.{behind, row_with};
 
     /// The node that a statement defines, in the namespace of the module of this name, the number of whose file is `home`, which
     /// stands so in the tree, with these numbers of the node above it and of those below it.
@@ -171,6 +171,17 @@ impl Node {
         }
         text.push_str(self.definition.name())?;
         Ok(text)
+    }
+
+    /// The name of the module that stands in front of the name of such a member, over the text that its nodes share, where one does.
+    pub fn shared_qualifier(&self) -> Result<Option<RcStr>, AllocError>
+        ensures { IfOk result (λ home. self.now.label.member ≡ behind (option_map rc_str_bytes home) self.now.label.defined.name) }
+    {
+        if self.standing.is_qualified {
+            Ok(Some(self.module.clone()?))
+        } else {
+            Ok(None)
+        }
     }
 
     /// The types that its value may have, in order: none at a container.
