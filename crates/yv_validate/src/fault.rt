@@ -1,5 +1,12 @@
 //! What a validation tells.
+ghost use Rattle.std.specs.Prelude.{◌≡◌, IfOk, string_bytes};
+ghost use Rattle.std.specs.Option.{option_map};
+ghost use Rattle.std.specs.Rc.{rc_str_bytes};
+ghost use Rattle.yv_nodes.specs.Member.{behind};
+
+use std::alloc::{AllocError, Global};
 use std::marker::Model;
+use std::rc::RcStr;
 
 /// What is wrong at a place of a document.
 #[derive(Clone, Copy, Debug, PartialEq, Eq)]
@@ -27,20 +34,57 @@ pub enum FaultKind {
     Choice,
 }
 
-/// A step of a path: a member's name, and its number from 1 where it is an entry or an item of an array.
+/// A step of a path: a member's name, and its number from 1 where it is an entry or an item of an array. Names of the schema are
+/// shared with it, since a name may be as long as its file, and many faults may lie below it.
 #[derive(Drop)]
 pub struct Step {
-    pub member: String,
+    /// The name of the module, where the member is written with it.
+    pub(crate) module: Option<RcStr>,
+    /// The name without its module, or all that the document has where it names no node.
+    pub(crate) name: RcStr,
+    /// Whether it is a choice, which no member writes: its name stands in parentheses.
+    pub(crate) is_choice: bool,
+    /// The number from 1 of the entry or item.
     pub item: Option<u64>,
 }
 
 impl Model for Step {
-    ghost use Rattle.std.specs.Prelude.{string_bytes};
-    ghost use Rattle.yv_validate.specs.Place.{Place};
+    ghost use Rattle.std.specs.Option.{option_map};
+    ghost use Rattle.std.specs.Rc.{rc_str_bytes};
+    ghost use Rattle.yv_validate.specs.Place.{Place, called};
 
     ghost Value = { Place };
 
-    ghost view = { λ s. record { member = string_bytes s.member; item = s.item } };
+    ghost view = { λ s. record { member = called s.is_choice (option_map rc_str_bytes s.module) (rc_str_bytes s.name); item = s.item } };
+}
+
+impl Step {
+    /// The member's name, with its module in front where it is written with it; that of a choice in parentheses.
+    /// The text is made anew.
+    pub fn member(&self, alloc: Global) -> Result<String, AllocError>
+        ensures { IfOk result (λ text. string_bytes text ≡ self.now.member) }
+    {
+        let name = qualified(alloc, &self.module, self.name.as_str())?;
+        if !self.is_choice {
+            return Ok(name);
+        }
+        let mut text = String::from_str(alloc, "(")?;
+        text.push_str(name.as_str())?;
+        text.push(')')?;
+        Ok(text)
+    }
+}
+
+fn qualified(alloc: Global, home: &Option<RcStr>, name: &str) -> Result<String, AllocError>
+    ensures { IfOk result (λ text. string_bytes text ≡ behind (option_map rc_str_bytes home.now) name.now) }
+{
+    let mut text = String::new(alloc);
+    if let Some(module) = home {
+        text.push_str(module.as_str())?;
+        text.push(':')?;
+    }
+    text.push_str(name)?;
+    Ok(text)
 }
 
 /// A fault: its kind, the steps to its place from the top, and the number of the schema statement that it

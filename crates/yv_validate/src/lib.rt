@@ -17,5 +17,5 @@ mod walk;
 pub use count::size;
 pub use fault::{Fault, FaultKind, Report, Step};
 pub use scope::Scope;
-pub use text::line;
+pub use text::{line, push_line};
 pub use walk::validate;

@@ -8,6 +8,7 @@ use crate::scope::Scope;
 use crate::trail::{Trail, steps_of};
 use crate::walk::Walk;
 use std::alloc::AllocError;
+use std::rc::RcStr;
 use yv_nodes::Node;
 
 impl Walk<'_> {
@@ -58,7 +59,9 @@ impl Walk<'_> {
     {
         let mut path = steps_of(self.alloc, self.schema, trail)?;
         path.push(Step {
-            member: String::from_str(self.alloc, key)?,
+            module: None,
+            name: RcStr::from_str(self.alloc, key)?,
+            is_choice: false,
             item: None,
         })?;
         faults.push(Fault {

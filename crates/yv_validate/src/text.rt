@@ -1,10 +1,14 @@
 //! A fault's line.
 ghost use Rattle.std.specs.Prelude.{◌≡◌, ◌++◌, ◌∷◌, [], ◌<◌, IfOk, OnOk, codes, decimal, string_bytes, IsTrue};
+ghost use Rattle.std.specs.Option.{option_map};
+ghost use Rattle.std.specs.Rc.{rc_str_bytes};
+ghost use Rattle.yv_nodes.specs.Member.{behind};
 ghost use Rattle.yv_validate.specs.Line.{kind_name, is_plain, hexadecimal, escaped_byte, escaped, item_text, place_text, places_text, path_text, line_text};
 
 use crate::fault::{Fault, FaultKind, Step};
 use itoa::Buffer;
 use std::alloc::{AllocError, Global};
+use std::rc::RcStr;
 
 /// A fault's line without its line feed: the name of its kind, a blank and its path, and behind a blank the
 /// number where it isn't 0. A path is `/`, or for each step `/` and the member's name, with the number of an
@@ -12,14 +16,23 @@ use std::alloc::{AllocError, Global};
 pub fn line(alloc: Global, fault: &Fault) -> Result<String, AllocError>
     ensures { IfOk result (λ s. string_bytes s ≡ line_text fault.now) }
 {
-    let mut text = String::from_str(alloc, name_of(fault.kind))?;
+    let mut text = String::new(alloc);
+    push_line(&mut text, fault)?;
+    Ok(text)
+}
+
+/// Writes a fault's line behind a text.
+pub fn push_line(text: &mut String, fault: &Fault) -> Result<(), AllocError>
+    ensures { OnOk result (string_bytes text.new ≡ string_bytes text.old ++ line_text fault.now) }
+{
+    text.push_str(name_of(fault.kind))?;
     text.push(' ')?;
-    push_path(&mut text, fault.path.as_slice())?;
+    push_path(text, fault.path.as_slice())?;
     if fault.number != 0 {
         text.push(' ')?;
         text.push_str(Buffer::new().format(fault.number))?;
     }
-    Ok(text)
+    Ok(())
 }
 
 fn name_of(kind: FaultKind) -> &'static str
@@ -55,8 +68,30 @@ fn push_step(text: &mut String, step: &Step) -> Result<(), AllocError>
     ensures { OnOk result (string_bytes text.new ≡ string_bytes text.old ++ place_text step.now) }
 {
     text.push('/')?;
-    push_escaped(text, step.member.as_str())?;
+    push_member(text, step)?;
     push_item(text, step.item)
+}
+
+fn push_member(text: &mut String, step: &Step) -> Result<(), AllocError>
+    ensures { OnOk result (string_bytes text.new ≡ string_bytes text.old ++ escaped step.now.member) }
+{
+    if !step.is_choice {
+        return push_qualified(text, &step.module, step.name.as_str());
+    }
+    text.push('(')?;
+    push_qualified(text, &step.module, step.name.as_str())?;
+    text.push(')')?;
+    Ok(())
+}
+
+fn push_qualified(text: &mut String, home: &Option<RcStr>, name: &str) -> Result<(), AllocError>
+    ensures { OnOk result (string_bytes text.new ≡ string_bytes text.old ++ escaped (behind (option_map rc_str_bytes home.now) name.now)) }
+{
+    if let Some(module) = home {
+        push_escaped(text, module.as_str())?;
+        text.push(':')?;
+    }
+    push_escaped(text, name)
 }
 
 fn push_item(text: &mut String, item: Option<u64>) -> Result<(), AllocError>

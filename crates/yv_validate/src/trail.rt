@@ -1,5 +1,5 @@
 //! The way to a node, as the walk keeps it.
-ghost use Rattle.std.specs.Prelude.{◌≡◌, IfOk, string_bytes};
+ghost use Rattle.std.specs.Prelude.{◌≡◌, IfOk};
 ghost use Rattle.yv_validate.specs.Faults.{step_name};
 ghost use Rattle.yv_validate.specs.InnerTrail.{places, IsWithin};
 
@@ -29,25 +29,20 @@ pub(crate) fn steps_of(
         Trail::Root => Ok(Vec::new(alloc)),
         Trail::Below(parent, id, item) => {
             let mut steps = steps_of(alloc, schema, parent)?;
-            steps.push(Step {
-                member: step_name(alloc, schema.node(*id))?,
-                item: *item,
-            })?;
+            steps.push(step_of(schema.node(*id), *item)?)?;
             Ok(steps)
         }
     }
 }
 
-// What a node is called in a path: a choice by its name in parentheses.
-fn step_name(alloc: Global, node: &Node) -> Result<String, AllocError>
-    ensures { IfOk result (λ text. string_bytes text ≡ step_name node.now.label) }
+// A node as a step, over the names of the schema.
+fn step_of(node: &Node, item: Option<u64>) -> Result<Step, AllocError>
+    ensures { IfOk result (λ step. step ≡ record { member = step_name node.now.label; item = item }) }
 {
-    let member = node.member(alloc)?;
-    if !matches!(node.kind(), NodeKind::Choice) {
-        return Ok(member);
-    }
-    let mut text = String::from_str(alloc, "(")?;
-    text.push_str(member.as_str())?;
-    text.push(')')?;
-    Ok(text)
+    Ok(Step {
+        module: node.shared_qualifier()?,
+        name: node.shared_name()?,
+        is_choice: matches!(node.kind(), NodeKind::Choice),
+        item,
+    })
 }
