@@ -16,7 +16,7 @@ use yv_schema::Schema;
 use yv_statement::Refusal;
 use yv_streams::Input;
 use yv_tree::diagram;
-use yv_validate::{Fault, line, validate};
+use yv_validate::{Fault, push_line, validate};
 
 /// What a run writes, and what it found.
 #[derive(Drop)]
@@ -142,8 +142,7 @@ fn fault_text(alloc: Global, faults: &[Fault]) -> Result<String, AllocError>
 {
     let mut text = String::new(alloc);
     for fault in faults {
-        let line = line(alloc, fault)?;
-        text.push_str(line.as_str())?;
+        push_line(&mut text, fault)?;
         text.push('\n')?;
     }
     Ok(text)
