@@ -5,3 +5,4 @@ pub mod Entering
 pub mod Refusing
 pub mod Leaving
 pub mod Asking
+pub mod Misplacing

@@ -28,7 +28,7 @@ least_at rows c P bad k so back = by (slice_get rows k) refl
         (λ f h. subst (λ (x : Row). Stands P (refusal_at c x.file x.head) f) (same_Some h.0 r (sym h.1 ∙ at)) h.2)
         (least_refused P bad (refusal_at c r.file r.head) so back)
 
-not_false : (b : Bool) → not b ≡ true → b ≡ false
+pub not_false : (b : Bool) → not b ≡ true → b ≡ false
 not_false true h = let bad : false ≡ true = h in cc
 not_false false h = refl
 

@@ -11,3 +11,5 @@ pub mod InnerFaults
 pub mod Left
 pub mod InnerLeft
 pub mod On
+pub mod Misplaced
+pub mod InnerMisplaced

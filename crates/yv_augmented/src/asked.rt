@@ -35,8 +35,8 @@ fn above_on(spots: &[Spot], marks: &[bool], parent: Option<usize>) -> bool
     }
 }
 
-// Whether a statement is an augment.
-fn is_augment(entry: &Entry<'_, '_>) -> bool
+/// Whether a statement is an augment.
+pub(crate) fn is_augment(entry: &Entry<'_, '_>) -> bool
     ensures { result ≡ is_augment (row entry.now) }
 {
     entry.statement.keyword() == "augment"

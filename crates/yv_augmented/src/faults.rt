@@ -20,8 +20,13 @@ use yv_statement::{Code, Refusal, lesser, refused};
 // The first depth that isn't kept.
 const TOO_DEEP: usize = 129;
 
-// The refusal of a numbered statement, if it is bad.
-fn refused_at(rows: &Rows<'_, '_>, code: Code, bad: bool, statement: usize) -> Option<Refusal>
+/// The refusal of a numbered statement, if it is bad.
+pub(crate) fn refused_at(
+    rows: &Rows<'_, '_>,
+    code: Code,
+    bad: bool,
+    statement: usize,
+) -> Option<Refusal>
     ensures { result ≡ refused_by code bad (slice_get (rows_in rows.now) statement) }
 {
     match rows.entries().get(statement) {

@@ -3,6 +3,7 @@ ghost use Rattle.std.specs.Prelude.{◌≡◌, List, map};
 ghost use Rattle.yv_rows.specs.Lent.{rows_in};
 ghost use Rattle.yv_rows.specs.Rows.{Row};
 ghost use Rattle.yv_paths.specs.Known.{AreNames};
+ghost use Rattle.yv_augments.specs.Labels.{is_case};
 ghost use Rattle.yv_augmented.specs.Kinds.{is_uses, kind_by, kind_in, kind_of, label_of, name_number};
 
 use yv_augments::{Kind, Label};
@@ -89,6 +90,16 @@ pub(crate) fn is_uses(kind: Kind) -> bool
 {
     match kind {
         Kind::Uses => true,
+        _ => false,
+    }
+}
+
+/// Whether an item is a case.
+pub(crate) fn is_case(kind: Kind) -> bool
+    ensures { result ≡ is_case kind }
+{
+    match kind {
+        Kind::Case => true,
         _ => false,
     }
 }

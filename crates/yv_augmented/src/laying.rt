@@ -18,8 +18,8 @@ pub(crate) struct Layout {
     pub copies: usize,
 }
 
-// The item of a number, if there is one.
-fn spot_at(spots: &[Spot], number: Option<usize>) -> Option<Spot>
+/// The item of a number, if there is one.
+pub(crate) fn spot_at(spots: &[Spot], number: Option<usize>) -> Option<Spot>
     ensures { result ≡ spot_at spots.now number }
 {
     spots.get(number?).copied()

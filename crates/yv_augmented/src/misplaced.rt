@@ -1,0 +1,141 @@
+//! What augments put where it may not stand.
+ghost use Rattle.std.specs.Prelude.{◌≡◌, slice_get};
+ghost use Rattle.yv_statement.specs.Order.{IsLeast};
+ghost use Rattle.yv_rows.specs.Lent.{rows_in};
+ghost use Rattle.yv_augmented.specs.InnerMisplaced.{misplaced_by, misplaced_in};
+ghost use Rattle.yv_augmented.specs.Misplaced.{Misplaced, augment_around, augment_at, is_action_or_notification, is_data, is_part, takes};
+ghost use Rattle.yv_augmented.specs.Spots.{spot_at};
+
+use crate::asked::is_augment;
+use crate::faults::refused_at;
+use crate::kinds::{is_case, is_uses};
+use crate::laying::spot_at;
+use crate::spot::Spot;
+use yv_augments::{Kind, Row};
+use yv_rows::Rows;
+use yv_statement::{Code, Refusal, lesser};
+
+// Whether it is a data definition, but no uses.
+fn is_data(kind: Kind) -> bool
+    ensures { result ≡ is_data kind }
+{
+    match kind {
+        Kind::Container
+        | Kind::Leaf
+        | Kind::LeafList
+        | Kind::List
+        | Kind::Choice
+        | Kind::Anydata
+        | Kind::Anyxml => true,
+        _ => false,
+    }
+}
+
+fn is_action_or_notification(kind: Kind) -> bool
+    ensures { result ≡ is_action_or_notification kind }
+{
+    match kind {
+        Kind::Action | Kind::Notification => true,
+        _ => false,
+    }
+}
+
+// Whether it is the input or output of an operation.
+fn is_part(kind: Kind) -> bool
+    ensures { result ≡ is_part kind }
+{
+    match kind {
+        Kind::Input | Kind::Output => true,
+        _ => false,
+    }
+}
+
+// Whether an item may stand below a node by an augment of the node.
+fn takes(node: Kind, given: Kind) -> bool
+    ensures { result ≡ takes node given }
+{
+    match node {
+        Kind::Choice => is_data(given) || is_case(given),
+        Kind::Container | Kind::List => {
+            is_data(given) || (is_uses(given) || is_action_or_notification(given))
+        }
+        Kind::Case | Kind::Input | Kind::Output | Kind::Notification => {
+            is_data(given) || is_uses(given)
+        }
+        Kind::Rpc | Kind::Action => is_part(given),
+        _ => false,
+    }
+}
+
+// A block, if it is that of an augment.
+fn augment_at(rows: &Rows<'_, '_>, block: usize) -> Option<usize>
+    ensures { result ≡ augment_at block (slice_get (rows_in rows.now) block) }
+{
+    match rows.entries().get(block) {
+        Some(entry) => { if is_augment(entry) { Some(block) } else { None } }
+        None => None,
+    }
+}
+
+// The augment in whose block a numbered statement stands.
+fn augment_around(rows: &Rows<'_, '_>, statement: usize) -> Option<usize>
+    ensures { result ≡ augment_around (rows_in rows.now) (slice_get (rows_in rows.now) statement) }
+{
+    match rows.entries().get(statement) {
+        Some(entry) => augment_at(rows, entry.scope),
+        None => None,
+    }
+}
+
+// The refusal of the augment that gives an item to a node that doesn't take it.
+fn misplaced_in(
+    rows: &Rows<'_, '_>,
+    node: Kind,
+    given: Kind,
+    augment: Option<usize>,
+) -> Option<Refusal>
+    ensures { result ≡ misplaced_in (rows_in rows.now) node given augment }
+{
+    match augment {
+        Some(augment) => refused_at(rows, Code::BadAugment, !takes(node, given), augment),
+        None => None,
+    }
+}
+
+// The same of an item of the final tree.
+fn misplaced_by(rows: &Rows<'_, '_>, item: Option<Spot>, node: Option<Spot>) -> Option<Refusal>
+    ensures { result ≡ misplaced_by (rows_in rows.now) item node }
+{
+    match (item, node) {
+        (Some(item), Some(node)) => misplaced_in(
+            rows,
+            node.label.kind,
+            item.label.kind,
+            augment_around(rows, item.statement),
+        ),
+        _ => None,
+    }
+}
+
+// The same, by the place of the item.
+fn misplaced(rows: &Rows<'_, '_>, spots: &[Spot], row: &Row) -> Option<Refusal>
+    ensures { result ≡ misplaced_by (rows_in rows.now) (slice_get spots.now row.now.number) (spot_at spots.now row.now.parent) }
+{
+    misplaced_by(
+        rows,
+        spots.get(row.number).copied(),
+        spot_at(spots, row.parent),
+    )
+}
+
+/// The least `BadAugment` of an augment that gives an item to a node that doesn't take it: of a `uses` or of a module, if it is there
+/// in the end and has a target. These are the items of the final tree and the spots of all items. Takes time linear in items.
+pub fn first_misplaced(rows: &Rows<'_, '_>, spots: &[Spot], tree: &[Row]) -> Option<Refusal>
+    ensures { IsLeast (Misplaced (rows_in rows.now) spots.now tree.now) result }
+{
+    let mut least = None;
+    for row in tree {
+        least = lesser(least, misplaced(rows, spots, row));
+    }
+    least
+}
