@@ -6,3 +6,4 @@ pub mod Refusing
 pub mod Leaving
 pub mod Asking
 pub mod Misplacing
+pub mod Meeting

@@ -13,3 +13,5 @@ pub mod InnerLeft
 pub mod On
 pub mod Misplaced
 pub mod InnerMisplaced
+pub mod Imposing
+pub mod InnerImposing

@@ -2,7 +2,7 @@
 ghost use Rattle.std.specs.Prelude.{◌≡◌, slice_get};
 ghost use Rattle.yv_statement.specs.Order.{IsLeast};
 ghost use Rattle.yv_rows.specs.Lent.{rows_in};
-ghost use Rattle.yv_augmented.specs.InnerMisplaced.{misplaced_by, misplaced_in};
+ghost use Rattle.yv_augmented.specs.InnerMisplaced.{misplaced_by, refused_for};
 ghost use Rattle.yv_augmented.specs.Misplaced.{Misplaced, augment_around, augment_at, is_action_or_notification, is_data, is_part, takes};
 ghost use Rattle.yv_augmented.specs.Spots.{spot_at};
 
@@ -87,30 +87,24 @@ fn augment_around(rows: &Rows<'_, '_>, statement: usize) -> Option<usize>
     }
 }
 
-// The refusal of the augment that gives an item to a node that doesn't take it.
-fn misplaced_in(
-    rows: &Rows<'_, '_>,
-    node: Kind,
-    given: Kind,
-    augment: Option<usize>,
-) -> Option<Refusal>
-    ensures { result ≡ misplaced_in (rows_in rows.now) node given augment }
+/// The refusal of an augment, if there is one and it is bad.
+pub(crate) fn refused_for(rows: &Rows<'_, '_>, bad: bool, augment: Option<usize>) -> Option<Refusal>
+    ensures { result ≡ refused_for (rows_in rows.now) bad augment }
 {
     match augment {
-        Some(augment) => refused_at(rows, Code::BadAugment, !takes(node, given), augment),
+        Some(augment) => refused_at(rows, Code::BadAugment, bad, augment),
         None => None,
     }
 }
 
-// The same of an item of the final tree.
+// The refusal of the augment that gives an item to a node that doesn't take it.
 fn misplaced_by(rows: &Rows<'_, '_>, item: Option<Spot>, node: Option<Spot>) -> Option<Refusal>
     ensures { result ≡ misplaced_by (rows_in rows.now) item node }
 {
     match (item, node) {
-        (Some(item), Some(node)) => misplaced_in(
+        (Some(item), Some(node)) => refused_for(
             rows,
-            node.label.kind,
-            item.label.kind,
+            !takes(node.label.kind, item.label.kind),
             augment_around(rows, item.statement),
         ),
         _ => None,

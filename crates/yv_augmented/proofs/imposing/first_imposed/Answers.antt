@@ -1,0 +1,38 @@
+use Rattle.std.proofs.Common.{Bool, ◌≡◌, ◌+◌, ◌-◌, ◌<◌, ℕ, List, length, drop, ◌∙◌, ap, subst, arith}
+use Rattle.std.proofs.lemmas.Option.{slice_get-get_or}
+use Rattle.yv_statement.specs.Order.{IsLeast}
+use Rattle.yv_rows.specs.Lent.{rows_in}
+use Rattle.yv_augmented.specs.InnerImposing.{ImposedIn}
+use Rattle.yv_augmented.specs.Left.{is_marked}
+use Rattle.yv_augmented.proofs.Meeting.{found_more, imposed_all, imposed_more}
+use Rattle.yv_augmented.proofs.Misplacing.{imposed_at}
+use Rattle.yv_augmented.proofs.imposing.first_imposed.Goals as goal
+
+pub loop-left-preserved : goal.loop-left-preserved
+loop-left-preserved c =
+    let rows = rows_in c.args.rows.now in
+    let spots = c.args.spots.now in
+    let augments = c.args.augments.now in
+    let marks = c.args.marks.now in
+    let tree = c.args.tree.now in
+    let left : ℕ = c.loop-left.left in
+    let n : ℕ = left - 1 in
+    let next : left ≡ n + 1 = omega (arith, c.loop-left-test.true) in
+    let inside : n < length tree = omega (arith, c.loop-left-test.true, c.loop-left.invariant.within) in
+    let at = slice_get-get_or tree n _ inside in
+    let told = c.is_marked-has.ensures ∙ ap (λ (l : List Bool). is_marked l c.in-Some.next) c.deref.ensures.value in
+    record {
+      within = omega (arith, inside);
+      found = found_more spots augments marks tree n left _ (is_marked c.loop-left.found.items) (is_marked c.meet.new.found.items) c.is_marked-has.result c.counts-counted.result
+          next at c.loop-left.invariant.found (told ∙ ap (is_marked c.loop-left.found.items) c.in-Some.ensures.1) c.counts-counted.ensures c.in_ok-meet.ensures;
+      least = imposed_more spots augments marks rows tree n left _ c.loop-left.least c.imposed.result c.lesser-least.result (is_marked c.loop-left.found.items)
+          c.is_marked-has.result c.is_required-required.result next at c.loop-left.invariant.found (told ∙ ap (is_marked c.loop-left.found.items) c.in-Some.ensures.1) c.is_required-required.ensures
+          (imposed_at rows spots augments c.is_required-required.result _ _ c.imposed.result c.imposed.ensures) c.lesser-least.ensures c.loop-left.invariant.least;
+    }
+
+pub returns : goal.returns
+returns c = λ t is. (
+    let rows = rows_in c.args.rows.now in
+    let none : c.loop-left.left ≡ 0 = omega (arith, c.loop-left-test.false) in
+    imposed_all c.args.spots.now c.args.augments.now c.args.marks.now rows t c.args.tree.now c.loop-left.least is
+    (subst (λ (n : ℕ). IsLeast (ImposedIn rows c.args.spots.now c.args.augments.now c.args.marks.now (drop n c.args.tree.now)) c.loop-left.least) none c.loop-left.invariant.least))
