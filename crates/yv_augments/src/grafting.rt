@@ -1,5 +1,6 @@
 //! What augments do to the places of items.
 ghost use Rattle.std.specs.Prelude.{◌≡◌, ◌<◌, ◌+◌, ◌&&◌, not, false, ℕ, List, length, replicate, None, IfOk, OnOk, if◌then◌else◌, slice_index_or};
+ghost use Rattle.std.specs.Option.{option_and_then};
 ghost use Rattle.yv_augments.specs.declared.label.Label.{Label};
 
 use crate::end::End;
@@ -31,7 +32,7 @@ impl Grafting {
     ghost use Rattle.yv_augments.specs.Groups.{group_of_augment, members_of};
     ghost use Rattle.yv_augments.specs.Paths.{ended};
     ghost use Rattle.yv_augments.specs.declared.end.End.TheVariants.{Start};
-    ghost use Rattle.yv_augments.specs.Turns.{State, is_applied, is_some, resolved, turn, target_of};
+    ghost use Rattle.yv_augments.specs.Turns.{State, is_applied, is_some, resolved, target, turn, target_of};
     ghost use Rattle.yv_augments.specs.Placed.{nothing, entered};
     ghost use Rattle.yv_augments.specs.InnerState.{IsGrafting, left};
     ghost use Rattle.yv_augments.specs.InnerWaiting.{KeepFirst};
@@ -52,6 +53,15 @@ impl Grafting {
             → result ≡ ended labels st.groups limit path.now (Start start) }
     {
         self.places.walk(start, limit, path)
+    }
+
+    /// The node to which an augment with this path would add in its turn, if its path ends at one that may take nodes.
+    pub fn reach(&self, start: usize, limit: usize, path: &[usize]) -> Option<usize>
+        ensures { (labels : List Label) (st : State) → IsGrafting labels st self.now
+            → result ≡ option_and_then (target labels) (ended labels st.groups limit path.now (Start start)) }
+    {
+        let end = self.walk(start, limit, path)?;
+        self.places.target(end)
     }
 
     /// An item enters a group: 0 at the top, i + 1 below item i, and behind these that of a numbered augment in whose block it stands.
