@@ -1,7 +1,7 @@
 -- Items enter one by one.
 use Rattle.std.proofs.Common.{◌≡◌, ℕ, suc, ◌+◌, ◌≤◌, Bool, true, false, List, [], ◌∷◌, length, drop, if◌then◌else◌, refl, sym, ◌∙◌, ap, subst, arith, Some, None}
 use Rattle.std.specs.List.{slice_get}
-use Rattle.std.proofs.lemmas.List.{drop_all, length-map, length-replicate}
+use Rattle.std.proofs.lemmas.List.{length-map, length-replicate}
 use Rattle.yv_expansion.specs.Tree.{Item}
 use Rattle.yv_augments.specs.declared.label.Label.{Label}
 use Rattle.yv_augments.specs.Groups.{group_of_augment, members_of}
@@ -66,29 +66,6 @@ module _ (w : Whole) (labels : List Label) (copies : ℕ) where
     pub placed_ends : (i : ℕ) (ss : List Spot) → length (placed_from w labels copies i ss).ends ≡ copies
     placed_ends i [] = length-replicate copies None
     placed_ends i (s ∷ ss) = spot_ends s (placed_from w labels copies (i + 1) ss) ∙ placed_ends (i + 1) ss
-
--- so many turns of the augments of a uses, of which all are due
-abbrev pub Turning : Whole → List Label → Spot → (place : ℕ) → List ℕ → (st now : State) → Type 0
-Turning w labels s place augments st now =
-    (length now.ends ≡ length st.ends) × (turns_from w labels s (s.first + place) (drop place augments) now ≡ turns_from w labels s s.first augments st)
-
-pub turning_more : KeepAugments → (w : Whole) (labels : List Label) (s : Spot) (place a : ℕ) (augments : List ℕ) (st now : State) → slice_get augments place ≡ Some a
-    → Turning w labels s place augments st now → Turning w labels s (place + 1) augments st (copy_turn w labels s (s.first + place) a now)
-turning_more keep w labels s place a augments st now at (kept, same) =
-    let number : ℕ = s.first + place in
-    let next : State = copy_turn w labels s number a now in
-    let ends : length next.ends ≡ length now.ends = keep labels number s.group (last_of (members_of now.groups (group_of_augment labels number))) (path_in w s.home a) now in (
-      ends ∙ kept,
-      ap (λ (n : ℕ). turns_from w labels s n (drop (place + 1) augments) next) (omega arith)
-          ∙ ap (λ (l : List ℕ). turns_from w labels s number l now) (sym (rest_of augments place a at)) ∙ same,
-    )
-
-pub turning_all : (w : Whole) (labels : List Label) (s : Spot) (place : ℕ) (augments : List ℕ) (st now : State) → length augments ≤ place → is_uses s.label.kind ≡ true
-    → augments ≡ giving w.rows s.statement → Turning w labels s place augments st now → now ≡ turns w labels s st
-turning_all w labels s place augments st now past is are (kept, same) =
-    ap (λ (l : List ℕ). turns_from w labels s (s.first + place) l now) (sym (drop_all place augments past)) ∙ same
-    ∙ ap (λ (l : List ℕ). turns_from w labels s s.first l st) are
-    ∙ ap (λ (b : Bool). if b then turns_from w labels s s.first (giving w.rows s.statement) st else st) (sym is)
 
 -- one more item enters
 pub placed_more : (w : Whole) (labels : List Label) (copies n left : ℕ) (s : Spot) (spots : List Spot) (ready : State) → left ≡ n + 1 → slice_get spots n ≡ Some s

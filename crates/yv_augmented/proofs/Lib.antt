@@ -7,3 +7,6 @@ pub mod Leaving
 pub mod Asking
 pub mod Misplacing
 pub mod Meeting
+pub mod Ending
+pub mod Turning
+pub mod Missing

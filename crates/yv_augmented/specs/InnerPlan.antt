@@ -7,6 +7,7 @@ use Rattle.yv_rows.specs.Lent.{files_in, rows_in}
 use Rattle.yv_paths.specs.Known.{AreNames, ArePaths}
 use Rattle.yv_augmented.specs.Giving.{giving_places, ordinal, place_of}
 use Rattle.yv_augmented.specs.Spots.{Whole}
+use Rattle.yv_augmented.specs.Untargeted.{augment_places}
 use Rattle.yv_augmented.specs.declared.plan.Plan.{Plan}
 
 -- for each file that of its module; a file past the last is its own
@@ -27,3 +28,6 @@ pub record IsPlan (plan : Plan) : Type 0 where
   pub ordinals : (a : ℕ) → slice_index_or plan.ordinals.items a 0 ≡ ordinal (rows_in plan.rows.now) a
   pub modules : (a : ℕ) → a < length (rows_in plan.rows.now)
       → slice_index_or plan.modules.items a None ≡ place_of plan.augments.now a
+  pub blocks : plan.blocks ≡ by_place (augment_places (rows_in plan.rows.now)) (length (rows_in plan.rows.now))
+  pub nested : (a block : ℕ) → slice_get (augment_places (rows_in plan.rows.now)) a ≡ Some (Some block)
+      → block < length (rows_in plan.rows.now)

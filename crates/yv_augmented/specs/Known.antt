@@ -1,11 +1,14 @@
 -- What is known of items when augments were applied; how, only the readers ask.
-use Rattle.std.specs.Prelude.{◌≡◌, List, length}
+use Rattle.std.specs.Prelude.{◌≡◌, ℕ, List, length, None, slice_index_or}
+use Rattle.yv_statement.specs.Order.{IsLeast}
 use Rattle.yv_expansion.specs.Tree.{Item}
 use Rattle.yv_augments.specs.Turns.{State}
 use Rattle.yv_augments.specs.Placed.{StandOnce}
 use Rattle.yv_augments.specs.InnerState.{IsGrafting}
 use Rattle.yv_augmented.specs.Spots.{Whole, labels_of, laid}
+use Rattle.yv_augmented.specs.Ends.{end_at}
 use Rattle.yv_augmented.specs.Grafted.{AreGrafted}
+use Rattle.yv_augmented.specs.Untargeted.{MissesAt}
 use Rattle.yv_augmented.specs.declared.grafts.Grafts.{Grafts}
 
 -- these items stand so, each once
@@ -14,4 +17,5 @@ pub record AreGrafts (w : Whole) (items : List Item) (st : State) (grafts : Graf
   pub each : length (laid w items).spots ≡ length items
   pub once : StandOnce (length items) st.groups
   pub spots : grafts.spots.items ≡ (laid w items).spots
+  pub missing : (i : ℕ) → IsLeast (MissesAt w (laid w items) (end_at items i) i) (slice_index_or grafts.missing.items i None)
   pub grafting : IsGrafting (labels_of (laid w items).spots) st grafts.grafting

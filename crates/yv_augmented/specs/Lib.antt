@@ -15,3 +15,7 @@ pub mod Misplaced
 pub mod InnerMisplaced
 pub mod Imposing
 pub mod InnerImposing
+pub mod Ends
+pub mod InnerEnds
+pub mod Untargeted
+pub mod InnerTurns

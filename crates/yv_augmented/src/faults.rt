@@ -57,8 +57,8 @@ fn too_deep(rows: &Rows<'_, '_>, spots: &[Spot], row: &Row) -> Option<Refusal>
     deep_by(rows, row.depth, spots.get(row.number).copied())
 }
 
-// Whether there is no node.
-fn is_absent(target: Option<usize>) -> bool
+/// Whether there is no node.
+pub(crate) fn is_absent(target: Option<usize>) -> bool
     ensures { result ≡ is_absent target }
 {
     match target {

@@ -6,6 +6,7 @@ ghost use Rattle.yv_families.specs.Families.{by_place, numbers_at};
 ghost use Rattle.yv_augmented.specs.InnerCounts.{count_at, counted};
 ghost use Rattle.yv_augmented.specs.Giving.{gives, giving_from, giving_places, is_augment, is_in, is_item, item_places, place_before, place_of};
 
+use crate::asked::is_augment;
 use crate::kinds::kind_by;
 use std::alloc::{AllocError, Global};
 use yv_families::Families;
@@ -20,6 +21,31 @@ fn item_place(entry: &Entry<'_, '_>) -> Option<usize>
     } else {
         None
     }
+}
+
+// The block in which a statement stands that is an augment.
+fn augment_place(entry: &Entry<'_, '_>) -> Option<usize>
+    ensures { result ≡ (if is_augment (row entry.now) then Some (row entry.now).scope else None) }
+{
+    if is_augment(entry) {
+        Some(entry.scope)
+    } else {
+        None
+    }
+}
+
+/// For each augment the block in which it stands.
+pub(crate) fn augment_places(
+    alloc: Global,
+    rows: &Rows<'_, '_>,
+) -> Result<Vec<Option<usize>>, AllocError>
+    ensures { IfOk result (λ places. map (λ r. if is_augment r then Some r.scope else None) (rows_in rows.now) ≡ places.items) }
+{
+    let mut places = Vec::new(alloc);
+    for entry in rows.entries() {
+        places.push(augment_place(entry))?;
+    }
+    Ok(places)
 }
 
 // That of each statement.

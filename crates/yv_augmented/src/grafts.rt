@@ -1,5 +1,7 @@
 //! Where items stand when all augments were applied.
-ghost use Rattle.std.specs.Prelude.{◌≡◌, ◌≤◌, ◌<◌, ◌+◌, List, length, map, IfOk, OnOk};
+ghost use Rattle.std.specs.Prelude.{◌≡◌, ◌≤◌, ◌<◌, ◌+◌, ℕ, true, List, length, map, if◌then◌else◌, None, replicate, set, slice_index_or, IfOk, OnOk};
+ghost use Rattle.yv_statement.specs.Order.{IsLeast};
+ghost use Rattle.yv_statement.specs.declared.refusal.Code.TheVariants.{AugmentTarget};
 ghost use Rattle.yv_rows.specs.Lent.{files_in, rows_in};
 ghost use Rattle.yv_expansion.specs.Tree.{Item};
 ghost use Rattle.yv_augments.specs.declared.label.Label.{Label};
@@ -8,8 +10,14 @@ ghost use Rattle.yv_augments.specs.Tree.{AreRows};
 ghost use Rattle.yv_augments.specs.InnerState.{IsGrafting};
 ghost use Rattle.yv_augmented.specs.Grafted.{copy_turn, last_of, module_paths, placed, turns};
 ghost use Rattle.yv_augmented.specs.Spots.{Whole, copies_of, labels_of, laid, whole};
+ghost use Rattle.yv_augmented.specs.Faults.{Refused};
+ghost use Rattle.yv_augmented.specs.Giving.{is_giving};
 ghost use Rattle.yv_augmented.specs.Known.{AreGrafts};
+ghost use Rattle.yv_augmented.specs.Untargeted.{MissesAt, MissesOf, Untargeted, limit_of, reached};
+ghost use Rattle.yv_augmented.specs.InnerTurns.{one_turn};
 
+use crate::ends::ends;
+use crate::faults::{is_absent, refused_at};
 use crate::kinds::is_uses;
 use crate::laying::Layout;
 use crate::plan::Plan;
@@ -18,12 +26,39 @@ use std::alloc::{AllocError, Global};
 use yv_augments::{Grafting, Label, Row};
 use yv_expansion::Item;
 use yv_rows::Rows;
+use yv_statement::{Code, Refusal, lesser};
 
 // The last of these; 0 where there is none.
 fn last_of(items: &[usize]) -> usize
     ensures { result ≡ last_of items.now }
 {
     items.last().copied().unwrap_or(0)
+}
+
+// The number behind the last item below this one.
+fn end_of(ends: &[usize], number: usize) -> usize
+    ensures { result ≡ slice_index_or ends.now number 0 }
+{
+    ends.get(number).copied().unwrap_or(0)
+}
+
+// So many items without a refusal.
+fn none_missing(alloc: Global, count: usize) -> Result<Vec<Option<Refusal>>, AllocError>
+    ensures { IfOk result (λ missing. missing.items ≡ replicate count None) }
+{
+    let mut missing = Vec::new(alloc);
+    for _ in 0..count {
+        missing.push(None)?;
+    }
+    Ok(missing)
+}
+
+// Keeps the least refusal of an item.
+fn note(missing: &mut Vec<Option<Refusal>>, number: usize, refusal: Option<Refusal>)
+    requires { number < length missing.old.items }
+    ensures { missing.new.items ≡ set missing.old.items number refusal }
+{
+    missing[number] = refusal;
 }
 
 // What is known of these items.
@@ -61,43 +96,131 @@ impl Plan<'_, '_, '_> {
         grafting.turn(number, spot.group, limit, &path)
     }
 
-    // The turns of the augments of a uses, in order.
-    fn turns(&self, alloc: Global, grafting: &mut Grafting, spot: &Spot) -> Result<(), AllocError>
+    // The same, if the augment gives something. The number of the next copy.
+    fn one_turn(
+        &self,
+        alloc: Global,
+        grafting: &mut Grafting,
+        spot: &Spot,
+        number: usize,
+        augment: usize,
+    ) -> Result<usize, AllocError>
         requires { IsPlan self.now }
-        ensures { (labels : List Label) (st : State) → IsGrafting labels st grafting.old → length labels ≡ self.now.items
-            → spot.now.first + copies_of (rows_in self.now.rows.now) spot.now ≤ length st.ends
-            → OnOk result (IsGrafting labels (turns (whole_in self.now) labels spot.now st) grafting.new) }
+        ensures state { (labels : List Label) (st : State) → IsGrafting labels st grafting.old → length labels ≡ self.now.items
+            → (is_giving (rows_in self.now.rows.now) spot.now.statement augment ≡ true → number < length st.ends)
+            → OnOk result (IsGrafting labels (one_turn (whole_in self.now) labels spot.now number augment st) grafting.new) }
+        ensures next { IfOk result (λ next. next
+            ≡ (if is_giving (rows_in self.now.rows.now) spot.now.statement augment then number + 1 else number)) }
     {
-        yv_augments::laws::turns_keep_augments();
-        if !is_uses(spot.label.kind) {
-            return Ok(());
+        if !self.is_giving(spot.statement, augment) {
+            return Ok(number);
         }
-        for (place, augment) in self.giving(spot.statement).iter().enumerate() {
-            let Some(number) = spot.first.checked_add(place) else {
-                return Err(AllocError);
-            };
-            self.copy_turn(alloc, grafting, spot, number, *augment)?;
+        self.copy_turn(alloc, grafting, spot, number, augment)?;
+        match number.checked_add(1) {
+            Some(next) => Ok(next),
+            None => Err(AllocError),
         }
-        Ok(())
     }
 
-    // The items enter from the last to the first, and before a uses enters its augments have their turns.
-    fn place(&self, alloc: Global, layout: &Layout) -> Result<Grafting, AllocError>
+    // Where the path of an augment of a uses may lead at its turn.
+    fn limit_of(
+        &self,
+        grafting: &Grafting,
+        spot: &Spot,
+        end: usize,
+        number: usize,
+        augment: usize,
+    ) -> Result<usize, AllocError>
+        requires { IsPlan self.now }
+        ensures { (labels : List Label) (st : State) → IsGrafting labels st grafting.now → length labels ≡ self.now.items
+            → IfOk result (λ limit. limit ≡ limit_of (whole_in self.now) labels spot.now end number augment st) }
+    {
+        if !self.is_giving(spot.statement, augment) {
+            return Ok(end);
+        }
+        let group = self.copy_group(number)?;
+        Ok(last_of(grafting.members(group)))
+    }
+
+    // The refusal of an augment of a uses that adds to no node in its turn.
+    fn missing(
+        &self,
+        alloc: Global,
+        grafting: &Grafting,
+        spot: &Spot,
+        end: usize,
+        number: usize,
+        augment: usize,
+    ) -> Result<Option<Refusal>, AllocError>
+        requires { IsPlan self.now }
+        ensures { (labels : List Label) (st : State) → IsGrafting labels st grafting.now → length labels ≡ self.now.items
+            → IfOk result (IsLeast (Refused (rows_in self.now.rows.now) AugmentTarget
+            (reached (whole_in self.now) labels spot.now end number augment st ≡ None) augment)) }
+    {
+        let path = self.path(alloc, spot.home, augment)?;
+        let limit = self.limit_of(grafting, spot, end, number, augment)?;
+        let bad = is_absent(grafting.reach(spot.group, limit, &path));
+        Ok(refused_at(self.rows, Code::AugmentTarget, bad, augment))
+    }
+
+    // The turns of the augments of a uses, in order. The least refusal of one that adds to no node.
+    fn turns(
+        &self,
+        alloc: Global,
+        grafting: &mut Grafting,
+        spot: &Spot,
+        end: usize,
+    ) -> Result<Option<Refusal>, AllocError>
+        requires { IsPlan self.now }
+        ensures state { (labels : List Label) (st : State) → IsGrafting labels st grafting.old → length labels ≡ self.now.items
+            → spot.now.first + copies_of (rows_in self.now.rows.now) spot.now ≤ length st.ends
+            → OnOk result (IsGrafting labels (turns (whole_in self.now) labels spot.now st) grafting.new) }
+        ensures missing { (labels : List Label) (st : State) → IsGrafting labels st grafting.old → length labels ≡ self.now.items
+            → spot.now.first + copies_of (rows_in self.now.rows.now) spot.now ≤ length st.ends
+            → IfOk result (IsLeast (MissesOf (whole_in self.now) labels spot.now end st)) }
+    {
+        yv_augments::laws::turns_keep_augments();
+        let mut least = None;
+        if !is_uses(spot.label.kind) {
+            return Ok(least);
+        }
+        let mut number = spot.first;
+        for augment in self.augments_in(spot.statement) {
+            let missing = self.missing(alloc, grafting, spot, end, number, *augment)?;
+            least = lesser(least, missing);
+            number = self.one_turn(alloc, grafting, spot, number, *augment)?;
+        }
+        Ok(least)
+    }
+
+    // The items enter from the last to the first, and before a uses enters its augments have their turns. For each item the least
+    // refusal of these.
+    fn place(
+        &self,
+        alloc: Global,
+        layout: &Layout,
+        ends: &[usize],
+    ) -> Result<(Grafting, Vec<Option<Refusal>>), AllocError>
         requires plan { IsPlan self.now }
         requires laid { AreLaid (whole_in self.now) (laid_in layout.now) }
-        ensures { IfOk result (IsGrafting (labels_of (laid_in layout.now).spots) (placed (whole_in self.now) (laid_in layout.now))) }
+        ensures state { IfOk result (λ told.
+            IsGrafting (labels_of (laid_in layout.now).spots) (placed (whole_in self.now) (laid_in layout.now)) told.0) }
+        ensures missing { IfOk result (λ told. (i : ℕ)
+            → IsLeast (MissesAt (whole_in self.now) (laid_in layout.now) (slice_index_or ends.now i 0) i) (slice_index_or told.1.items i None)) }
     {
         yv_augments::laws::turns_keep_augments();
         let labels = labels(alloc, &layout.spots)?;
         let mut grafting = Grafting::new(alloc, labels, layout.copies)?;
+        let mut missing = none_missing(alloc, layout.spots.len())?;
         let mut left = layout.spots.len();
         while left > 0 {
             left -= 1;
             let spot = &layout.spots[left];
-            self.turns(alloc, &mut grafting, spot)?;
+            let refusal = self.turns(alloc, &mut grafting, spot, end_of(ends, left))?;
+            note(&mut missing, left, refusal);
             grafting.enter(left, spot.group)?;
         }
-        Ok(grafting)
+        Ok((grafting, missing))
     }
 
     // The paths of the augments of modules.
@@ -118,6 +241,8 @@ impl Plan<'_, '_, '_> {
 #[derive(Drop)]
 pub struct Grafts {
     spots: Vec<Spot>,
+    // Of each item the least refusal of its augments, if it is a uses.
+    missing: Vec<Option<Refusal>>,
     grafting: Grafting,
 }
 
@@ -138,13 +263,36 @@ impl Grafts {
         self.grafting.target(place)
     }
 
+    /// The least `AugmentTarget` of an augment of a `uses` that is an item of the final tree, which this is: in its turn the augment
+    /// added to no node. Takes time linear in items.
+    pub fn first_untargeted(&self, tree: &[Row]) -> Option<Refusal>
+        ensures { (w : Whole) (items : List Item) (st : State) → AreGrafts w items st self.now → IsLeast (Untargeted w items tree.now) result }
+    {
+        let mut least = None;
+        for row in tree {
+            least = lesser(least, self.missing_of(row.number));
+        }
+        least
+    }
+
+    // The least refusal of the augments of an item.
+    fn missing_of(&self, number: usize) -> Option<Refusal>
+        ensures { result ≡ slice_index_or self.now.missing.items number None }
+    {
+        self.missing.get(number).copied().unwrap_or(None)
+    }
+
     /// The final tree in order: each item before those below it, children in the order of their numbers. A uses is among them, with
     /// nothing below it: what it gives stands beside it, behind it. What an augment without a target gives isn't among them.
     pub fn into_rows(self) -> Result<Vec<Row>, AllocError>
         ensures { (w : Whole) (items : List Item) (st : State) → AreGrafts w items st self
             → IfOk result (λ rows. AreRows st.groups rows.items) }
     {
-        let Grafts { spots: _, grafting } = self;
+        let Grafts {
+            spots: _,
+            missing: _,
+            grafting,
+        } = self;
         grafting.into_rows()
     }
 }
@@ -165,9 +313,14 @@ pub fn graft(
     yv_augments::laws::turns_keep_augments();
     let plan = Plan::read(alloc, rows, augments, items.len())?;
     let layout = plan.lay(alloc, items)?;
-    let mut grafting = plan.place(alloc, &layout)?;
+    let ends = ends(alloc, items)?;
+    let (mut grafting, missing) = plan.place(alloc, &layout, &ends)?;
     let paths = plan.module_paths(alloc)?;
     grafting.run(0, &paths)?;
     let Layout { spots, copies: _ } = layout;
-    Ok(Grafts { spots, grafting })
+    Ok(Grafts {
+        spots,
+        missing,
+        grafting,
+    })
 }

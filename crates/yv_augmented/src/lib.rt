@@ -1,9 +1,10 @@
 //! What augments make of the expansion of files: where each item stands when those of each uses were applied, and then those of
 //! modules in rounds (RFC 7950, sections 7.13 and 7.17). Takes time n log n in statements and items, an augment of a uses being
-//! counted once for each copy of it that gives something; an augment of a uses that gives nothing takes neither time nor memory.
+//! counted once for each copy; one that gives nothing takes time for its path, and no memory.
 #![tactic(auto)]
 
 mod asked;
+mod ends;
 mod faults;
 mod giving;
 mod grafts;

@@ -4,10 +4,11 @@ ghost use Rattle.yv_rows.specs.Files.{home_at};
 ghost use Rattle.yv_rows.specs.Lent.{files_in, rows_in};
 ghost use Rattle.yv_augmented.specs.Giving.{giving, is_giving, ordinal, place_of};
 ghost use Rattle.yv_augmented.specs.Grafted.{path_in, step_name};
+ghost use Rattle.yv_augmented.specs.Untargeted.{augments_in};
 ghost use Rattle.yv_augmented.specs.Spots.{own_home};
 ghost use Rattle.yv_augmented.specs.InnerPlan.{AreHomes};
 
-use crate::giving::{giving_places, is_in, ordinals, places_in};
+use crate::giving::{augment_places, giving_places, is_in, ordinals, places_in};
 use std::alloc::{AllocError, Global};
 use yv_families::Families;
 use yv_paths::{Names, Paths, Step};
@@ -52,7 +53,7 @@ fn names_of(alloc: Global, home: u32, steps: &[Option<Step>]) -> Result<Vec<usiz
 }
 
 /// Statements, the augments of modules among them, and how many items there are; for each file that of its module, the names
-/// and the paths, and which augments give something.
+/// and the paths, the augments of each block, and which of these give something.
 #[derive(Drop)]
 pub(crate) struct Plan<'r, 'a, 'b> {
     pub rows: &'r Rows<'a, 'b>,
@@ -65,6 +66,7 @@ pub(crate) struct Plan<'r, 'a, 'b> {
     pub giving: Families,
     pub ordinals: Vec<usize>,
     pub modules: Vec<Option<usize>>,
+    pub blocks: Families,
 }
 
 impl<'r, 'a, 'b> Plan<'r, 'a, 'b> {
@@ -89,6 +91,8 @@ impl<'r, 'a, 'b> Plan<'r, 'a, 'b> {
         let ordinals = ordinals(alloc, &places)?;
         let modules = places_in(alloc, augments, places.len())?;
         let homes = homes(alloc, rows)?;
+        let augment_places = augment_places(alloc, rows)?;
+        let blocks = Families::new(alloc, &augment_places, augment_places.len())?;
         Ok(Plan {
             rows,
             augments,
@@ -100,6 +104,7 @@ impl<'r, 'a, 'b> Plan<'r, 'a, 'b> {
             giving,
             ordinals,
             modules,
+            blocks,
         })
     }
 
@@ -140,6 +145,15 @@ impl<'r, 'a, 'b> Plan<'r, 'a, 'b> {
         ensures { result ≡ place_of self.now.augments.now statement }
     {
         self.modules.get(statement).copied().unwrap_or(None)
+    }
+
+    /// The augments of a block.
+    pub(crate) fn augments_in(&self, block: usize) -> &[usize]
+        requires { IsPlan self.now }
+        ensures { result.now ≡ augments_in (rows_in self.now.rows.now) block }
+    {
+        yv_families::laws::each_place_has_its_numbers();
+        self.blocks.at(block)
     }
 
     /// The augments of a block that give something.

@@ -1,7 +1,8 @@
-use Rattle.std.proofs.Common.{◌≡◌, ℕ, List, length, map, sym, ◌∙◌, ap, subst, arith}
+use Rattle.std.proofs.Common.{◌≡◌, ◌<◌, ℕ, List, None, length, get_or, map, sym, ◌∙◌, ap, subst, arith}
 use Rattle.std.specs.declared.vec.Vec.{Vec}
 use Rattle.std.specs.declared.alloc.Global.{Global}
 use Rattle.std.proofs.lemmas.List.{length-map}
+use Rattle.yv_statement.specs.Order.{IsLeast}
 use Rattle.yv_augments.specs.declared.label.Label.{Label}
 use Rattle.yv_augments.specs.Turns.{State}
 use Rattle.yv_augments.specs.Placed.{HaveEntered, StandOnce}
@@ -10,9 +11,12 @@ use Rattle.yv_augments.specs.InnerState.{IsGrafting}
 use Rattle.yv_augmented.specs.Grafted.{module_paths, placed}
 use Rattle.yv_augmented.specs.Spots.{Laid, Whole, labels_of, laid}
 use Rattle.yv_augmented.specs.Known.{AreGrafts}
-use Rattle.yv_augmented.specs.InnerLayout.{AreLaid}
+use Rattle.yv_augmented.specs.InnerLayout.{AreLaid, laid_in}
 use Rattle.yv_augmented.specs.InnerPlan.{whole_in}
 use Rattle.yv_augmented.specs.declared.grafts.Grafts.{Grafts}
+use Rattle.yv_augmented.specs.Ends.{end_at}
+use Rattle.yv_augmented.specs.Untargeted.{MissesAt}
+use Rattle.yv_augmented.proofs.Missing.{missing_same}
 use Rattle.yv_augmented.proofs.Bounds.{laid_whole}
 use Rattle.yv_augmented.proofs.Entering.{placed_ends, whole_entered}
 use Rattle.yv_augmented.proofs.grafts.graft.Goals as goal
@@ -34,11 +38,11 @@ returns c =
     let are : AreLaid w l = laid_whole w items long in
     let lists : Vec ℕ Global → List ℕ = λ p. p.items in
     let ready : IsGrafting labels old c.in_ok-grafting.grafting =
-    subst (λ (x : Laid). IsGrafting (labels_of x.spots) (placed w x) c.in_ok-grafting.grafting) c.in_ok-layout.ensures c.in_ok-grafting.ensures in
-    let paths : map lists c.deref.result.now ≡ module_paths w = ap (map lists) c.deref.ensures.value ∙ c.in_ok-paths.ensures in
+    subst (λ (x : Laid). IsGrafting (labels_of x.spots) (placed w x) c.in_ok-grafting.grafting) c.in_ok-layout.ensures c.in_ok-grafting.ensures.state in
+    let paths : map lists c.deref-2.result.now ≡ module_paths w = ap (map lists) c.deref-2.ensures.value ∙ c.in_ok-paths.ensures in
     let ends = placed_ends w labels l.copies c.turns_keep_augments.ensures 0 l.spots in
-    let count : length c.deref.result.now ≡ length w.augments =
-    sym (length-map c.deref.result.now lists) ∙ ap length paths ∙ length-map w.augments _ in
+    let count : length c.deref-2.result.now ≡ length w.augments =
+    sym (length-map c.deref-2.result.now lists) ∙ ap length paths ∙ length-map w.augments _ in
     let modules = are.modules in
     let (new, applied, grafting) = c.in_ok-run.ensures labels old ready (omega (arith, ends, count, modules)) in
     let known : AreApplied labels 0 (module_paths w) old new = subst (λ (ps : List (List ℕ)). AreApplied labels 0 ps old new) paths applied in
@@ -47,12 +51,17 @@ returns c =
     let once : StandOnce (length labels) new.groups =
     c.each_item_stands_once.ensures.applied labels l.copies 0 (module_paths w) old new entered (omega (arith, size, modules)) known in
     let all : length labels ≡ length items = length-map l.spots (λ s. s.label) ∙ are.long ∙ sym long in
-    let grafts : Grafts = record { spots = c.in_ok-layout.layout.spots; grafting = c.run.new.self } in
+    let grafts : Grafts = record { spots = c.in_ok-layout.layout.spots; missing = c.in_ok-grafting.missing; grafting = c.run.new.self } in
+    let size_of : length c.in_ok-layout.layout.spots.items ≡ length items = ap (λ (x : Laid). length x.spots) c.in_ok-layout.ensures ∙ are.long ∙ sym long in
+    let told_end : (i : ℕ) → i < length items → get_or c.deref.result.now i 0 ≡ end_at items i =
+    λ i lt. (ap (λ (xs : List ℕ). get_or xs i 0) c.deref.ensures.value ∙ c.in_ok-ends.ensures.at i lt) in
     let made : AreGrafts w items new grafts = record {
       grafted = record { applied = known };
       each = are.long ∙ sym long;
       once = subst (λ (n : ℕ). StandOnce n new.groups) all once;
       spots = ap (λ (x : Laid). x.spots) c.in_ok-layout.ensures;
+      missing = λ i. subst (λ (x : Laid). IsLeast (MissesAt w x (end_at items i) i) (get_or c.in_ok-grafting.missing.items i None)) c.in_ok-layout.ensures
+          (missing_same w (laid_in c.in_ok-layout.layout) _ (end_at items i) i _ (λ lt. told_end i (omega (arith, lt, size_of))) (c.in_ok-grafting.ensures.missing i));
       grafting = grafting;
     } in
     (new, subst (λ (v : Whole). AreGrafts v items new grafts) c.in_ok-plan.ensures.whole made)

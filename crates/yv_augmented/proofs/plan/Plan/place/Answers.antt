@@ -1,17 +1,21 @@
-use Rattle.std.proofs.Common.{◌≡◌, ◌+◌, ◌-◌, ◌<◌, ◌≤◌, ℕ, List, Some, length, drop, refl, sym, ◌∙◌, ap, subst, arith}
+use Rattle.std.proofs.Common.{◌≡◌, ◌+◌, ◌-◌, ◌<◌, ◌≤◌, ℕ, List, None, Some, length, drop, get_or, refl, sym, ◌∙◌, ap, subst, arith, length-set, Option}
 use Rattle.std.specs.List.{slice_get}
-use Rattle.std.proofs.lemmas.List.{drop_all, length-map}
+use Rattle.std.proofs.lemmas.List.{drop_all, get_or_past, length-map, length-replicate}
 use Rattle.std.proofs.lemmas.Option.{slice_get-get_or}
+use Rattle.yv_statement.specs.Order.{IsLeast}
+use Rattle.yv_statement.specs.declared.refusal.Refusal.{Refusal}
 use Rattle.yv_augments.specs.declared.label.Label.{Label}
 use Rattle.yv_augments.specs.Turns.{State}
 use Rattle.yv_augments.specs.Placed.{nothing}
 use Rattle.yv_augments.specs.InnerState.{IsGrafting}
 use Rattle.yv_augmented.specs.Grafted.{placed_from, turns}
 use Rattle.yv_augmented.specs.Spots.{Whole, copies_of, labels_of}
-use Rattle.yv_augmented.specs.InnerLayout.{Fits}
+use Rattle.yv_augmented.specs.InnerLayout.{Fits, laid_in}
 use Rattle.yv_augmented.specs.InnerPlan.{whole_in}
+use Rattle.yv_augmented.specs.Untargeted.{MissesAt, MissesOf}
 use Rattle.yv_augmented.specs.declared.spot.Spot.{Spot}
 use Rattle.yv_augmented.proofs.Entering.{placed_ends, placed_more}
+use Rattle.yv_augmented.proofs.Missing.{missing_here, missing_more, missing_past}
 use Rattle.yv_augmented.proofs.plan.Plan.place.Goals as goal
 
 pub loop-left-init : goal.loop-left-init
@@ -23,10 +27,19 @@ loop-left-init c =
     let base : IsGrafting (labels_of spots) (nothing (length (labels_of spots)) copies) c.in_ok-grafting.grafting =
     subst (λ (ls : List Label). IsGrafting ls (nothing (length ls) copies) c.in_ok-grafting.grafting) told c.in_ok-grafting.ensures in
     let none : drop c.len-left.result spots ≡ drop (length spots) spots = ap (λ (n : ℕ). drop n spots) (omega (arith, c.len-left.ensures)) in
+    let size : c.len.result ≡ length spots = omega (arith, c.len.ensures) in
     record {
       within = omega (arith, c.len-left.ensures);
+      each = ap length c.in_ok-missing.ensures ∙ length-replicate c.len.result None ∙ size;
       state = subst (λ (l : List Spot). IsGrafting (labels_of spots) (placed_from w (labels_of spots) copies c.len-left.result l) c.in_ok-grafting.grafting)
           (sym (none ∙ drop_all (length spots) spots (omega arith))) base;
+      told = λ i le. (
+          let past : length spots ≤ i = omega (arith, c.len-left.ensures, le) in
+          let empty : get_or c.in_ok-missing.missing.items i None ≡ None =
+          (let all = ap length c.in_ok-missing.ensures in let each = length-replicate {A = Option Refusal} c.len.result None in
+          get_or_past c.in_ok-missing.missing.items i None (omega (arith, all, each, size, past))) in
+          subst (IsLeast (MissesAt w (laid_in c.args.layout.now) (get_or c.args.ends.now i 0) i)) (sym empty)
+          (missing_past w (laid_in c.args.layout.now) (get_or c.args.ends.now i 0) i past));
     }
 
 pub loop-left-preserved : goal.loop-left-preserved
@@ -46,16 +59,14 @@ loop-left-preserved c =
     let long : length labels ≡ w.items = length-map spots (λ x. x.label) ∙ c.requires.laid.long in
     let ends = placed_ends w labels copies c.turns_keep_augments.ensures left (drop left spots) in
     let room : s.first + copies_of w.rows s ≤ length st.ends = (let f = fit.copies in omega (arith, f, ends)) in
-    let ready = c.in_ok-turns.ensures labels st c.loop-left.invariant.state long room in
+    let refused = subst (λ (e : ℕ). IsLeast (MissesOf w labels s e st) c.in_ok-refusal.refusal) c.end_of.ensures
+    (c.in_ok-refusal.ensures.missing labels st c.loop-left.invariant.state long room) in
+    let ready = c.in_ok-refusal.ensures.state labels st c.loop-left.invariant.state long room in
     record {
       within = omega (arith, inside);
+      each = ap length c.note.ensures ∙ length-set c.loop-left.missing.items n _ ∙ c.loop-left.invariant.each;
       state = subst (λ (x : State). IsGrafting labels x c.enter.new.self) (placed_more w labels copies n left s spots (turns w labels s st) next at refl)
           (c.in_ok-enter.ensures labels (turns w labels s st) ready);
+      told = missing_more w (laid_in c.args.layout.now) c.args.ends.now n left _ c.loop-left.missing.items _ next (omega (arith, inside, c.loop-left.invariant.each)) c.note.ensures
+          (missing_here w (laid_in c.args.layout.now) (get_or c.args.ends.now n 0) n left s _ next at refused) c.loop-left.invariant.told;
     }
-
-pub returns : goal.returns
-returns c =
-    let w : Whole = whole_in c.args.self.now in
-    let spots : List Spot = c.args.layout.now.spots.items in
-    let none : c.loop-left.left ≡ 0 = omega (arith, c.loop-left-test.false) in
-    subst (λ (n : ℕ). IsGrafting (labels_of spots) (placed_from w (labels_of spots) c.args.layout.now.copies n (drop n spots)) c.loop-left.grafting) none c.loop-left.invariant.state

@@ -1,15 +1,20 @@
-use Rattle.std.proofs.Common.{◌≤◌, length, drop}
+use Rattle.std.proofs.Common.{◌≡◌, ◌≤◌, ℕ, None, length, drop, get_or}
+use Rattle.yv_statement.specs.Order.{IsLeast}
 use Rattle.yv_augments.specs.InnerState.{IsGrafting}
 use Rattle.yv_augmented.specs.Grafted.{placed_from}
 use Rattle.yv_augmented.specs.Spots.{labels_of}
+use Rattle.yv_augmented.specs.Untargeted.{MissesAt}
+use Rattle.yv_augmented.specs.InnerLayout.{laid_in}
 use Rattle.yv_augmented.specs.InnerPlan.{whole_in}
 use Rattle.yv_augmented.proofs.plan.Plan.place.Given as goal
 
 abbrev pub invariant-loop-left : goal.invariant-loop-left
 invariant-loop-left l = record {
   within : l.left ≤ length l.layout.spots.items;
+  each : length l.missing.items ≡ length l.layout.spots.items;
   state : IsGrafting (labels_of l.layout.spots.items)
       (placed_from (whole_in l.self) (labels_of l.layout.spots.items) l.layout.copies l.left (drop l.left l.layout.spots.items)) l.grafting;
+  told : (i : ℕ) → l.left ≤ i → IsLeast (MissesAt (whole_in l.self) (laid_in l.layout) (get_or l.ends i 0) i) (get_or l.missing.items i None);
 }
 
 abbrev pub decreases-loop-left : goal.decreases-loop-left

@@ -1,11 +1,13 @@
-use Rattle.std.proofs.Common.{◌≡◌, ◌<◌, ℕ, List, Option, Some, length, sym, ◌∙◌, ap, arith}
+use Rattle.std.proofs.Common.{◌≡◌, ◌<◌, ℕ, List, Option, Some, None, if◌then◌else◌, length, sym, ◌∙◌, ap, arith}
 use Rattle.std.specs.List.{slice_get}
+use Rattle.std.proofs.lemmas.List.{length-map}
 use Rattle.std.proofs.lemmas.Option.{slice_get_within}
 use Rattle.yv_rows.specs.Rows.{Row}
 use Rattle.yv_rows.specs.Lent.{lent_in, rows_in}
 use Rattle.yv_families.specs.Families.{by_place}
-use Rattle.yv_augmented.specs.Giving.{giving_places, place_before}
-use Rattle.yv_augmented.proofs.Counting.{giving_long, giving_within}
+use Rattle.yv_augmented.specs.Giving.{giving_places, is_augment, place_before}
+use Rattle.yv_augmented.specs.Untargeted.{augment_places}
+use Rattle.yv_augmented.proofs.Counting.{augment_within, giving_long, giving_within}
 use Rattle.yv_augmented.proofs.plan.Plan.read.Goals as goal
 
 pub ordinals-requires : goal.ordinals-requires
@@ -30,6 +32,10 @@ returns-clause-plan c =
     let other : c.len-2.result ≡ length rows = omega (arith, c.len-2.ensures, size, long) in
     let nested : (k : ℕ) (r : Row) → slice_get rows k ≡ Some r → r.scope < length rows =
     λ k r there. (let l = c.blocks_are_nested.ensures (lent_in c.args.rows.now) k r there in let m = slice_get_within rows k r there in omega (arith, l, m)) in
+    let third : c.deref-3.result.now ≡ augment_places rows = c.deref-3.ensures.value ∙ sym c.in_ok-augment_places.ensures in
+    let last : c.len-3.result ≡ length rows =
+    (let all = ap length c.in_ok-augment_places.ensures in let each = length-map rows (λ (r : Row). if is_augment r then Some r.scope else None) in
+    omega (arith, c.len-3.ensures, all, each)) in
     record {
       homes = c.in_ok-homes.ensures;
       names = c.in_ok-names.ensures.names;
@@ -39,4 +45,6 @@ returns-clause-plan c =
       within = giving_within rows nested;
       ordinals = λ a. c.in_ok-ordinals.ensures a ∙ ap (λ (l : List (Option ℕ)). place_before l a (slice_get l a)) second;
       modules = λ a lt. c.in_ok-modules.ensures a (omega (arith, lt, other));
+      blocks = c.in_ok-blocks.ensures ∙ ap (λ l. by_place l c.len-3.result) third ∙ ap (by_place (augment_places rows)) last;
+      nested = augment_within rows nested;
     }
