@@ -8,7 +8,7 @@ use Rattle.std.proofs.Math.ListN.{get_or-append}
 use Rattle.std.proofs.lemmas.Option.{same_Some, slice_get-map, slice_get_within, slice_get_past, get_or_from_slice_get}
 use Rattle.yv_rows.specs.Rows.{Row}
 use Rattle.yv_families.specs.Families.{by_place, is_place, numbers_at, numbers_from}
-use Rattle.yv_augmented.specs.Giving.{gives, giving_from, giving_places, is_augment, place_before}
+use Rattle.yv_augmented.specs.Giving.{gives, giving_from, giving_places, place_before}
 use Rattle.yv_augmented.specs.InnerCounts.{count_at, counted}
 use Rattle.yv_augmented.proofs.Reading.{rest_of}
 
@@ -191,18 +191,18 @@ giving_within rows nested a p at =
     let (r, there, is) = giving_at rows 0 a p rows at in
     let l = nested a r there in omega (arith, l, is)
 
--- as each augment does
-pub augment_within : (rows : List Row) → ((k : ℕ) (r : Row) → slice_get rows k ≡ Some r → r.scope < length rows) → (a p : ℕ)
-    → slice_get (map (λ (r : Row). if is_augment r then Some r.scope else None) rows) a ≡ Some (Some p) → p < length rows
-augment_within rows nested a p at = by (slice_get rows a) refl (sym (slice_get-map (λ (r : Row). if is_augment r then Some r.scope else None) rows a) ∙ at)
+-- as does each statement that passes
+pub passing_within : (passes : Row → Bool) (rows : List Row) → ((k : ℕ) (r : Row) → slice_get rows k ≡ Some r → r.scope < length rows) → (a p : ℕ)
+    → slice_get (map (λ (r : Row). if passes r then Some r.scope else None) rows) a ≡ Some (Some p) → p < length rows
+passing_within passes rows nested a p at = by (slice_get rows a) refl (sym (slice_get-map (λ (r : Row). if passes r then Some r.scope else None) rows a) ∙ at)
   where
     one : (r : Row) (b : Bool) → (if b then Some r.scope else None) ≡ Some p → r.scope ≡ p
     one r true e = same_Some r.scope p e
     one r false e = absurd (let bad : None ≡ Some p = e in cc)
 
-    by : (o : Option Row) → slice_get rows a ≡ o → option_map (λ (r : Row). if is_augment r then Some r.scope else None) o ≡ Some (Some p) → p < length rows
+    by : (o : Option Row) → slice_get rows a ≡ o → option_map (λ (r : Row). if passes r then Some r.scope else None) o ≡ Some (Some p) → p < length rows
     by None there e = absurd (let bad : None ≡ Some (Some p) = e in cc)
-    by (Some r) there e = (let l = nested a r there in let is = one r (is_augment r) (same_Some _ _ e) in omega (arith, l, is))
+    by (Some r) there e = (let l = nested a r there in let is = one r (passes r) (same_Some _ _ e) in omega (arith, l, is))
 
 pub giving_long : (rows : List Row) → length (giving_places rows) ≡ length rows
 unfolding giving_places

@@ -10,3 +10,4 @@ pub mod Meeting
 pub mod Ending
 pub mod Turning
 pub mod Missing
+pub mod Meaning

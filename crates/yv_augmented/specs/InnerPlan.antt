@@ -7,6 +7,7 @@ use Rattle.yv_rows.specs.Lent.{files_in, rows_in}
 use Rattle.yv_paths.specs.Known.{AreNames, ArePaths}
 use Rattle.yv_augmented.specs.Giving.{giving_places, ordinal, place_of}
 use Rattle.yv_augmented.specs.Spots.{Whole}
+use Rattle.yv_augmented.specs.Refining.{refine_places}
 use Rattle.yv_augmented.specs.Untargeted.{augment_places}
 use Rattle.yv_augmented.specs.declared.plan.Plan.{Plan}
 
@@ -29,5 +30,8 @@ pub record IsPlan (plan : Plan) : Type 0 where
   pub modules : (a : ℕ) → a < length (rows_in plan.rows.now)
       → slice_index_or plan.modules.items a None ≡ place_of plan.augments.now a
   pub blocks : plan.blocks ≡ by_place (augment_places (rows_in plan.rows.now)) (length (rows_in plan.rows.now))
+  pub refines : plan.refines ≡ by_place (refine_places (rows_in plan.rows.now)) (length (rows_in plan.rows.now))
+  pub refines_nested : (a block : ℕ) → slice_get (refine_places (rows_in plan.rows.now)) a ≡ Some (Some block)
+      → block < length (rows_in plan.rows.now)
   pub nested : (a block : ℕ) → slice_get (augment_places (rows_in plan.rows.now)) a ≡ Some (Some block)
       → block < length (rows_in plan.rows.now)

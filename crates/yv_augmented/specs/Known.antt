@@ -8,6 +8,7 @@ use Rattle.yv_augments.specs.InnerState.{IsGrafting}
 use Rattle.yv_augmented.specs.Spots.{Whole, labels_of, laid}
 use Rattle.yv_augmented.specs.Ends.{end_at}
 use Rattle.yv_augmented.specs.Grafted.{AreGrafted}
+use Rattle.yv_augmented.specs.Refining.{refined_all}
 use Rattle.yv_augmented.specs.Untargeted.{MissesAt}
 use Rattle.yv_augmented.specs.declared.grafts.Grafts.{Grafts}
 
@@ -18,4 +19,5 @@ pub record AreGrafts (w : Whole) (items : List Item) (st : State) (grafts : Graf
   pub once : StandOnce (length items) st.groups
   pub spots : grafts.spots.items ≡ (laid w items).spots
   pub missing : (i : ℕ) → IsLeast (MissesAt w (laid w items) (end_at items i) i) (slice_index_or grafts.missing.items i None)
+  pub refined : grafts.refined.items ≡ refined_all w items
   pub grafting : IsGrafting (labels_of (laid w items).spots) st grafts.grafting

@@ -19,3 +19,4 @@ pub mod Ends
 pub mod InnerEnds
 pub mod Untargeted
 pub mod InnerTurns
+pub mod Refining

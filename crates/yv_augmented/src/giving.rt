@@ -5,6 +5,7 @@ ghost use Rattle.yv_rows.specs.Rows.{Row, row};
 ghost use Rattle.yv_families.specs.Families.{by_place, numbers_at};
 ghost use Rattle.yv_augmented.specs.InnerCounts.{count_at, counted};
 ghost use Rattle.yv_augmented.specs.Giving.{gives, giving_from, giving_places, is_augment, is_in, is_item, item_places, place_before, place_of};
+ghost use Rattle.yv_augmented.specs.Refining.{is_refine};
 
 use crate::asked::is_augment;
 use crate::kinds::kind_by;
@@ -44,6 +45,31 @@ pub(crate) fn augment_places(
     let mut places = Vec::new(alloc);
     for entry in rows.entries() {
         places.push(augment_place(entry))?;
+    }
+    Ok(places)
+}
+
+// The block in which a statement stands that is a refine.
+fn refine_place(entry: &Entry<'_, '_>) -> Option<usize>
+    ensures { result ≡ (if is_refine (row entry.now) then Some (row entry.now).scope else None) }
+{
+    if entry.statement.keyword() == "refine" {
+        Some(entry.scope)
+    } else {
+        None
+    }
+}
+
+/// For each refine the block in which it stands.
+pub(crate) fn refine_places(
+    alloc: Global,
+    rows: &Rows<'_, '_>,
+) -> Result<Vec<Option<usize>>, AllocError>
+    ensures { IfOk result (λ places. map (λ r. if is_refine r then Some r.scope else None) (rows_in rows.now) ≡ places.items) }
+{
+    let mut places = Vec::new(alloc);
+    for entry in rows.entries() {
+        places.push(refine_place(entry))?;
     }
     Ok(places)
 }

@@ -1,5 +1,6 @@
 //! Where items stand when all augments were applied.
-ghost use Rattle.std.specs.Prelude.{◌≡◌, ◌≤◌, ◌<◌, ◌+◌, ℕ, true, List, length, map, if◌then◌else◌, None, replicate, set, slice_index_or, IfOk, OnOk};
+ghost use Rattle.std.specs.Prelude.{◌≡◌, ◌≤◌, ◌<◌, ◌+◌, ◌++◌, ℕ, true, List, length, map, if◌then◌else◌, None, replicate, set, slice_index_or, IfOk, OnOk};
+ghost use Rattle.std.specs.Option.{option_and_then};
 ghost use Rattle.yv_statement.specs.Order.{IsLeast};
 ghost use Rattle.yv_statement.specs.declared.refusal.Code.TheVariants.{AugmentTarget};
 ghost use Rattle.yv_rows.specs.Lent.{files_in, rows_in};
@@ -15,15 +16,17 @@ ghost use Rattle.yv_augmented.specs.Giving.{is_giving};
 ghost use Rattle.yv_augmented.specs.Known.{AreGrafts};
 ghost use Rattle.yv_augmented.specs.Untargeted.{MissesAt, MissesOf, Untargeted, limit_of, reached};
 ghost use Rattle.yv_augmented.specs.InnerTurns.{one_turn};
+ghost use Rattle.yv_augmented.specs.Refining.{meant, node_at, refined, refined_all, refined_at};
 
 use crate::ends::ends;
 use crate::faults::{is_absent, refused_at};
 use crate::kinds::is_uses;
 use crate::laying::Layout;
 use crate::plan::Plan;
+use crate::refined::Refined;
 use crate::spot::Spot;
 use std::alloc::{AllocError, Global};
-use yv_augments::{Grafting, Label, Row};
+use yv_augments::{End, Grafting, Label, Row};
 use yv_expansion::Item;
 use yv_rows::Rows;
 use yv_statement::{Code, Refusal, lesser};
@@ -40,6 +43,16 @@ fn end_of(ends: &[usize], number: usize) -> usize
     ensures { result ≡ slice_index_or ends.now number 0 }
 {
     ends.get(number).copied().unwrap_or(0)
+}
+
+// The node at which a path ends; a case that is left out is none.
+fn node_at(end: Option<End>) -> Option<usize>
+    ensures { result ≡ option_and_then node_at end }
+{
+    match end {
+        Some(End::Node(item)) => Some(item),
+        _ => None,
+    }
 }
 
 // So many items without a refusal.
@@ -70,6 +83,14 @@ fn labels(alloc: Global, spots: &[Spot]) -> Result<Vec<Label>, AllocError>
         labels.push(spot.label)?;
     }
     Ok(labels)
+}
+
+// Items that have entered, the least refusal of each that is a uses, and what refines mean.
+#[derive(Drop)]
+struct Placing {
+    grafting: Grafting,
+    missing: Vec<Option<Refusal>>,
+    refined: Vec<Refined>,
 }
 
 impl Plan<'_, '_, '_> {
@@ -163,6 +184,51 @@ impl Plan<'_, '_, '_> {
         Ok(refused_at(self.rows, Code::AugmentTarget, bad, augment))
     }
 
+    // The node that a refine of a uses means.
+    fn meant(
+        &self,
+        alloc: Global,
+        grafting: &Grafting,
+        spot: &Spot,
+        end: usize,
+        refine: usize,
+    ) -> Result<Option<usize>, AllocError>
+        requires { IsPlan self.now }
+        ensures { (labels : List Label) (st : State) → IsGrafting labels st grafting.now
+            → IfOk result (λ target. target ≡ meant (whole_in self.now) labels spot.now end refine st) }
+    {
+        let path = self.path(alloc, spot.home, refine)?;
+        Ok(node_at(grafting.walk(spot.group, end, &path)))
+    }
+
+    // Notes what the refines of an item mean, if it is a uses.
+    fn refine_all(
+        &self,
+        alloc: Global,
+        grafting: &Grafting,
+        spot: &Spot,
+        item: usize,
+        end: usize,
+        refined: &mut Vec<Refined>,
+    ) -> Result<(), AllocError>
+        requires { IsPlan self.now }
+        ensures { (labels : List Label) (st : State) → IsGrafting labels st grafting.now
+            → OnOk result (refined.new.items ≡ refined.old.items ++ refined_at (whole_in self.now) labels spot.now item end st) }
+    {
+        if !is_uses(spot.label.kind) {
+            return Ok(());
+        }
+        for refine in self.refines_in(spot.statement) {
+            let target = self.meant(alloc, grafting, spot, end, *refine)?;
+            refined.push(Refined {
+                item,
+                refine: *refine,
+                target,
+            })?;
+        }
+        Ok(())
+    }
+
     // The turns of the augments of a uses, in order. The least refusal of one that adds to no node.
     fn turns(
         &self,
@@ -195,32 +261,36 @@ impl Plan<'_, '_, '_> {
 
     // The items enter from the last to the first, and before a uses enters its augments have their turns. For each item the least
     // refusal of these.
-    fn place(
-        &self,
-        alloc: Global,
-        layout: &Layout,
-        ends: &[usize],
-    ) -> Result<(Grafting, Vec<Option<Refusal>>), AllocError>
+    fn place(&self, alloc: Global, layout: &Layout, ends: &[usize]) -> Result<Placing, AllocError>
         requires plan { IsPlan self.now }
         requires laid { AreLaid (whole_in self.now) (laid_in layout.now) }
         ensures state { IfOk result (λ told.
-            IsGrafting (labels_of (laid_in layout.now).spots) (placed (whole_in self.now) (laid_in layout.now)) told.0) }
+            IsGrafting (labels_of (laid_in layout.now).spots) (placed (whole_in self.now) (laid_in layout.now)) told.grafting) }
         ensures missing { IfOk result (λ told. (i : ℕ)
-            → IsLeast (MissesAt (whole_in self.now) (laid_in layout.now) (slice_index_or ends.now i 0) i) (slice_index_or told.1.items i None)) }
+            → IsLeast (MissesAt (whole_in self.now) (laid_in layout.now) (slice_index_or ends.now i 0) i) (slice_index_or told.missing.items i None)) }
+        ensures refined { IfOk result (λ told.
+            told.refined.items ≡ refined (whole_in self.now) (laid_in layout.now) (λ i. slice_index_or ends.now i 0)) }
     {
         yv_augments::laws::turns_keep_augments();
         let labels = labels(alloc, &layout.spots)?;
         let mut grafting = Grafting::new(alloc, labels, layout.copies)?;
         let mut missing = none_missing(alloc, layout.spots.len())?;
+        let mut refined = Vec::new(alloc);
         let mut left = layout.spots.len();
         while left > 0 {
             left -= 1;
             let spot = &layout.spots[left];
-            let refusal = self.turns(alloc, &mut grafting, spot, end_of(ends, left))?;
+            let end = end_of(ends, left);
+            self.refine_all(alloc, &grafting, spot, left, end, &mut refined)?;
+            let refusal = self.turns(alloc, &mut grafting, spot, end)?;
             note(&mut missing, left, refusal);
             grafting.enter(left, spot.group)?;
         }
-        Ok((grafting, missing))
+        Ok(Placing {
+            grafting,
+            missing,
+            refined,
+        })
     }
 
     // The paths of the augments of modules.
@@ -243,6 +313,7 @@ pub struct Grafts {
     spots: Vec<Spot>,
     // Of each item the least refusal of its augments, if it is a uses.
     missing: Vec<Option<Refusal>>,
+    refined: Vec<Refined>,
     grafting: Grafting,
 }
 
@@ -252,6 +323,14 @@ impl Grafts {
         ensures { (w : Whole) (items : List Item) (st : State) → AreGrafts w items st self.now → result.now ≡ (laid w items).spots }
     {
         &self.spots
+    }
+
+    /// What the refines of each `uses` mean, those of an inner one before those of an outer one: the node at which the path of each ends,
+    /// among what the `uses` gives before its own augments.
+    pub fn refined(&self) -> &[Refined]
+        ensures { (w : Whole) (items : List Item) (st : State) → AreGrafts w items st self.now → result.now ≡ refined_all w items }
+    {
+        &self.refined
     }
 
     /// The node to which an augment of a module adds, by its place among these. None where its path leads nowhere, or ends where
@@ -291,6 +370,7 @@ impl Grafts {
         let Grafts {
             spots: _,
             missing: _,
+            refined: _,
             grafting,
         } = self;
         grafting.into_rows()
@@ -314,13 +394,18 @@ pub fn graft(
     let plan = Plan::read(alloc, rows, augments, items.len())?;
     let layout = plan.lay(alloc, items)?;
     let ends = ends(alloc, items)?;
-    let (mut grafting, missing) = plan.place(alloc, &layout, &ends)?;
+    let Placing {
+        mut grafting,
+        missing,
+        refined,
+    } = plan.place(alloc, &layout, &ends)?;
     let paths = plan.module_paths(alloc)?;
     grafting.run(0, &paths)?;
     let Layout { spots, copies: _ } = layout;
     Ok(Grafts {
         spots,
         missing,
+        refined,
         grafting,
     })
 }

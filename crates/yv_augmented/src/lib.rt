@@ -13,6 +13,7 @@ mod kinds;
 mod laying;
 mod misplaced;
 mod plan;
+mod refined;
 mod remains;
 mod spot;
 
@@ -21,5 +22,6 @@ pub use faults::first_too_deep;
 pub use grafts::{Grafts, graft};
 pub use imposing::{Marks, first_imposed};
 pub use misplaced::first_misplaced;
+pub use refined::Refined;
 pub use remains::left;
 pub use spot::Spot;

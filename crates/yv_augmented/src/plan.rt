@@ -5,10 +5,11 @@ ghost use Rattle.yv_rows.specs.Lent.{files_in, rows_in};
 ghost use Rattle.yv_augmented.specs.Giving.{giving, is_giving, ordinal, place_of};
 ghost use Rattle.yv_augmented.specs.Grafted.{path_in, step_name};
 ghost use Rattle.yv_augmented.specs.Untargeted.{augments_in};
+ghost use Rattle.yv_augmented.specs.Refining.{refines_in};
 ghost use Rattle.yv_augmented.specs.Spots.{own_home};
 ghost use Rattle.yv_augmented.specs.InnerPlan.{AreHomes};
 
-use crate::giving::{augment_places, giving_places, is_in, ordinals, places_in};
+use crate::giving::{augment_places, giving_places, is_in, ordinals, places_in, refine_places};
 use std::alloc::{AllocError, Global};
 use yv_families::Families;
 use yv_paths::{Names, Paths, Step};
@@ -53,7 +54,7 @@ fn names_of(alloc: Global, home: u32, steps: &[Option<Step>]) -> Result<Vec<usiz
 }
 
 /// Statements, the augments of modules among them, and how many items there are; for each file that of its module, the names
-/// and the paths, the augments of each block, and which of these give something.
+/// and the paths, the refines and augments of each block, and which of these give something.
 #[derive(Drop)]
 pub(crate) struct Plan<'r, 'a, 'b> {
     pub rows: &'r Rows<'a, 'b>,
@@ -67,6 +68,7 @@ pub(crate) struct Plan<'r, 'a, 'b> {
     pub ordinals: Vec<usize>,
     pub modules: Vec<Option<usize>>,
     pub blocks: Families,
+    pub refines: Families,
 }
 
 impl<'r, 'a, 'b> Plan<'r, 'a, 'b> {
@@ -93,6 +95,8 @@ impl<'r, 'a, 'b> Plan<'r, 'a, 'b> {
         let homes = homes(alloc, rows)?;
         let augment_places = augment_places(alloc, rows)?;
         let blocks = Families::new(alloc, &augment_places, augment_places.len())?;
+        let refine_places = refine_places(alloc, rows)?;
+        let refines = Families::new(alloc, &refine_places, refine_places.len())?;
         Ok(Plan {
             rows,
             augments,
@@ -105,6 +109,7 @@ impl<'r, 'a, 'b> Plan<'r, 'a, 'b> {
             ordinals,
             modules,
             blocks,
+            refines,
         })
     }
 
@@ -154,6 +159,15 @@ impl<'r, 'a, 'b> Plan<'r, 'a, 'b> {
     {
         yv_families::laws::each_place_has_its_numbers();
         self.blocks.at(block)
+    }
+
+    /// The refines of a block.
+    pub(crate) fn refines_in(&self, block: usize) -> &[usize]
+        requires { IsPlan self.now }
+        ensures { result.now ≡ refines_in (rows_in self.now.rows.now) block }
+    {
+        yv_families::laws::each_place_has_its_numbers();
+        self.refines.at(block)
     }
 
     /// The augments of a block that give something.

@@ -15,6 +15,8 @@ use Rattle.yv_augmented.specs.InnerPlan.{whole_in}
 use Rattle.yv_augmented.specs.Untargeted.{MissesAt, MissesOf}
 use Rattle.yv_augmented.specs.declared.spot.Spot.{Spot}
 use Rattle.yv_augmented.proofs.Entering.{placed_ends, placed_more}
+use Rattle.yv_augmented.specs.Refining.{refined_from}
+use Rattle.yv_augmented.proofs.Meaning.{refined_more}
 use Rattle.yv_augmented.proofs.Missing.{missing_here, missing_more, missing_past}
 use Rattle.yv_augmented.proofs.plan.Plan.place.Goals as goal
 
@@ -33,6 +35,8 @@ loop-left-init c =
       each = ap length c.in_ok-missing.ensures ∙ length-replicate c.len.result None ∙ size;
       state = subst (λ (l : List Spot). IsGrafting (labels_of spots) (placed_from w (labels_of spots) copies c.len-left.result l) c.in_ok-grafting.grafting)
           (sym (none ∙ drop_all (length spots) spots (omega arith))) base;
+      refined = c.new-refined.ensures.items ∙ sym (ap (λ (l : List Spot). refined_from w (labels_of spots) copies (λ i. get_or c.args.ends.now i 0) c.len-left.result l)
+          (none ∙ drop_all (length spots) spots (omega arith)));
       told = λ i le. (
           let past : length spots ≤ i = omega (arith, c.len-left.ensures, le) in
           let empty : get_or c.in_ok-missing.missing.items i None ≡ None =
@@ -59,7 +63,7 @@ loop-left-preserved c =
     let long : length labels ≡ w.items = length-map spots (λ x. x.label) ∙ c.requires.laid.long in
     let ends = placed_ends w labels copies c.turns_keep_augments.ensures left (drop left spots) in
     let room : s.first + copies_of w.rows s ≤ length st.ends = (let f = fit.copies in omega (arith, f, ends)) in
-    let refused = subst (λ (e : ℕ). IsLeast (MissesOf w labels s e st) c.in_ok-refusal.refusal) c.end_of.ensures
+    let refused = subst (λ (e : ℕ). IsLeast (MissesOf w labels s e st) c.in_ok-refusal.refusal) c.end_of-end.ensures
     (c.in_ok-refusal.ensures.missing labels st c.loop-left.invariant.state long room) in
     let ready = c.in_ok-refusal.ensures.state labels st c.loop-left.invariant.state long room in
     record {
@@ -67,6 +71,8 @@ loop-left-preserved c =
       each = ap length c.note.ensures ∙ length-set c.loop-left.missing.items n _ ∙ c.loop-left.invariant.each;
       state = subst (λ (x : State). IsGrafting labels x c.enter.new.self) (placed_more w labels copies n left s spots (turns w labels s st) next at refl)
           (c.in_ok-enter.ensures labels (turns w labels s st) ready);
+      refined = refined_more w labels copies (λ i. get_or c.args.ends.now i 0) n left s spots c.end_of-end.result c.loop-left.refined.items _ next at c.end_of-end.ensures
+          (c.in_ok-refine_all.ensures labels st c.loop-left.invariant.state) c.loop-left.invariant.refined;
       told = missing_more w (laid_in c.args.layout.now) c.args.ends.now n left _ c.loop-left.missing.items _ next (omega (arith, inside, c.loop-left.invariant.each)) c.note.ensures
           (missing_here w (laid_in c.args.layout.now) (get_or c.args.ends.now n 0) n left s _ next at refused) c.loop-left.invariant.told;
     }

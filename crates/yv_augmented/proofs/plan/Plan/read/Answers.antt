@@ -6,8 +6,9 @@ use Rattle.yv_rows.specs.Rows.{Row}
 use Rattle.yv_rows.specs.Lent.{lent_in, rows_in}
 use Rattle.yv_families.specs.Families.{by_place}
 use Rattle.yv_augmented.specs.Giving.{giving_places, is_augment, place_before}
+use Rattle.yv_augmented.specs.Refining.{is_refine, refine_places}
 use Rattle.yv_augmented.specs.Untargeted.{augment_places}
-use Rattle.yv_augmented.proofs.Counting.{augment_within, giving_long, giving_within}
+use Rattle.yv_augmented.proofs.Counting.{giving_long, giving_within, passing_within}
 use Rattle.yv_augmented.proofs.plan.Plan.read.Goals as goal
 
 pub ordinals-requires : goal.ordinals-requires
@@ -36,6 +37,10 @@ returns-clause-plan c =
     let last : c.len-3.result ≡ length rows =
     (let all = ap length c.in_ok-augment_places.ensures in let each = length-map rows (λ (r : Row). if is_augment r then Some r.scope else None) in
     omega (arith, c.len-3.ensures, all, each)) in
+    let fourth : c.deref-4.result.now ≡ refine_places rows = c.deref-4.ensures.value ∙ sym c.in_ok-refine_places.ensures in
+    let final : c.len-4.result ≡ length rows =
+    (let all = ap length c.in_ok-refine_places.ensures in let each = length-map rows (λ (r : Row). if is_refine r then Some r.scope else None) in
+    omega (arith, c.len-4.ensures, all, each)) in
     record {
       homes = c.in_ok-homes.ensures;
       names = c.in_ok-names.ensures.names;
@@ -46,5 +51,7 @@ returns-clause-plan c =
       ordinals = λ a. c.in_ok-ordinals.ensures a ∙ ap (λ (l : List (Option ℕ)). place_before l a (slice_get l a)) second;
       modules = λ a lt. c.in_ok-modules.ensures a (omega (arith, lt, other));
       blocks = c.in_ok-blocks.ensures ∙ ap (λ l. by_place l c.len-3.result) third ∙ ap (by_place (augment_places rows)) last;
-      nested = augment_within rows nested;
+      nested = passing_within is_augment rows nested;
+      refines = c.in_ok-refines.ensures ∙ ap (λ l. by_place l c.len-4.result) fourth ∙ ap (by_place (refine_places rows)) final;
+      refines_nested = passing_within is_refine rows nested;
     }
