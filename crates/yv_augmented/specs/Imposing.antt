@@ -46,8 +46,9 @@ has_mandatory spots augments marks (item i below behind) =
 abbrev pub is_required : List Spot → Marks → (number : ℕ) → (has_mandatory : Bool) → Bool
 is_required spots marks i has = is_mandatory spots marks i has && not (is_marked marks.states.now i)
 
--- an item that stands in the block of an augment of a module stands below a node of another module, and is required: it is refused
-abbrev pub IsImposed : List Row → List Spot → (augments : List ℕ) → (parent : Option ℕ) → (number : ℕ) → (required : Bool) → Refusal → Type 0
+-- an item in the block of an augment of a module stands below a node of another module, and is required: the augment is refused
+abbrev pub IsImposed : List Row → List Spot → (augments : List ℕ) → (parent : Option ℕ) → (number : ℕ) → (required : Bool)
+    → Refusal → Type 0
 IsImposed rows spots augments parent i required f =
     (s : Spot) × (node : Spot) × (augment : ℕ) × (slice_get spots i ≡ Some s) × (spot_at spots parent ≡ Some node)
     × (giver_of (length spots) augments (Some s) ≡ Some augment)

@@ -266,8 +266,8 @@ impl Plan<'_, '_, '_> {
         requires laid { AreLaid (whole_in self.now) (laid_in layout.now) }
         ensures state { IfOk result (λ told.
             IsGrafting (labels_of (laid_in layout.now).spots) (placed (whole_in self.now) (laid_in layout.now)) told.grafting) }
-        ensures missing { IfOk result (λ told. (i : ℕ)
-            → IsLeast (MissesAt (whole_in self.now) (laid_in layout.now) (slice_index_or ends.now i 0) i) (slice_index_or told.missing.items i None)) }
+        ensures missing { IfOk result (λ told. (i : ℕ) → IsLeast (MissesAt (whole_in self.now) (laid_in layout.now) (slice_index_or ends.now i 0) i)
+            (slice_index_or told.missing.items i None)) }
         ensures refined { IfOk result (λ told.
             told.refined.items ≡ refined (whole_in self.now) (laid_in layout.now) (λ i. slice_index_or ends.now i 0)) }
     {
@@ -345,7 +345,8 @@ impl Grafts {
     /// The least `AugmentTarget` of an augment of a `uses` that is an item of the final tree, which this is: in its turn the augment
     /// added to no node. Takes time linear in items.
     pub fn first_untargeted(&self, tree: &[Row]) -> Option<Refusal>
-        ensures { (w : Whole) (items : List Item) (st : State) → AreGrafts w items st self.now → IsLeast (Untargeted w items tree.now) result }
+        ensures { (w : Whole) (items : List Item) (st : State) → AreGrafts w items st self.now
+            → IsLeast (Untargeted w items tree.now) result }
     {
         let mut least = None;
         for row in tree {
