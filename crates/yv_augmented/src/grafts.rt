@@ -259,14 +259,14 @@ impl Plan<'_, '_, '_> {
         Ok(least)
     }
 
-    // The items enter from the last to the first, and before a uses enters its augments have their turns. For each item the least
-    // refusal of these.
+    // The items enter from the last to the first, and before a uses enters its refines are followed, and its augments have their turns.
     fn place(&self, alloc: Global, layout: &Layout, ends: &[usize]) -> Result<Placing, AllocError>
         requires plan { IsPlan self.now }
         requires laid { AreLaid (whole_in self.now) (laid_in layout.now) }
         ensures state { IfOk result (λ told.
             IsGrafting (labels_of (laid_in layout.now).spots) (placed (whole_in self.now) (laid_in layout.now)) told.grafting) }
-        ensures missing { IfOk result (λ told. (i : ℕ) → IsLeast (MissesAt (whole_in self.now) (laid_in layout.now) (slice_index_or ends.now i 0) i)
+        ensures missing { IfOk result (λ told. (i : ℕ)
+            → IsLeast (MissesAt (whole_in self.now) (laid_in layout.now) (slice_index_or ends.now i 0) i)
             (slice_index_or told.missing.items i None)) }
         ensures refined { IfOk result (λ told.
             told.refined.items ≡ refined (whole_in self.now) (laid_in layout.now) (λ i. slice_index_or ends.now i 0)) }
