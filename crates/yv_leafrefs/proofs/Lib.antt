@@ -1,0 +1,12 @@
+pub mod Placing
+pub mod Naming
+pub mod Keying
+pub mod Closing
+pub mod Finding
+pub mod Leading
+pub mod Targeting
+pub mod Edging
+pub mod Faulty
+pub mod Lawful
+pub mod Origins
+pub mod Numbering

@@ -1,0 +1,47 @@
+-- Only private clauses cite this: names of nodes as numbers.
+use Rattle.std.specs.Prelude.{◌≡◌, ◌<◌, ℕ, List, if◌then◌else◌, Option, Some, None, slice_get}
+use Rattle.std.specs.List.{slice_index_or}
+use Rattle.std.specs.Option.{option_map}
+use Rattle.std.specs.Ordering.{nat_cmp}
+use Rattle.std.specs.Cmp.Lexicographic.{slice_cmp}
+use Rattle.std.specs.BTreeMap.{BTreeMap, get_by}
+use Rattle.std.specs.Str.{bytes_eq}
+use Rattle.std.specs.Borrow.{Bor}
+use Rattle.yv_properties.specs.Steps.{Step}
+use Rattle.yv_nodes.specs.Rows.{Row}
+use Rattle.yv_leafrefs.specs.declared.names.Names.{Names}
+use Rattle.yv_leafrefs.specs.declared.strides.Stride.{Stride}
+
+-- a number for each name
+abbrev pub Told : Type 0
+Told = List ℕ → Option ℕ
+
+abbrev pub lookup_in : BTreeMap (Bor (List ℕ)) ℕ → Told
+lookup_in m name = get_by (λ k. slice_cmp nat_cmp name k.now) m
+
+abbrev pub told_of : Names → Told
+told_of names = lookup_in names.map
+
+abbrev pub first_some : Option ℕ → Option ℕ → Option ℕ
+first_some None b = b
+first_some (Some a) b = Some a
+
+-- the first number of a name is kept
+abbrev pub kept : Told → List ℕ → ℕ → Told
+kept told name number n = first_some (told n) (if bytes_eq name n then Some number else None)
+
+-- each number is that of a node of this name among the first n
+abbrev pub AreOfNodes : List Row → ℕ → Told → Type 0
+AreOfNodes rows n told = (name : List ℕ) (k : ℕ) → told name ≡ Some k → (k < n) × (r : Row) × (slice_get rows k ≡ Some r) × (r.label.defined.name ≡ name)
+
+-- these are the numbers of the names of the first n nodes
+abbrev pub AreNumbers : List Row → ℕ → Told → List ℕ → Type 0
+AreNumbers rows n told numbers = (c : ℕ) (r : Row) → c < n → slice_get rows c ≡ Some r → told r.label.defined.name ≡ Some (slice_index_or numbers c 0)
+
+abbrev pub stride_by : Option ℕ → Option ℕ → Option Stride
+stride_by home number = option_map (λ name. record { home = home; name = name }) number
+
+-- a step with the number of its name: None too where no node has that
+abbrev pub stride_of : Told → Option Step → Option Stride
+stride_of told None = None
+stride_of told (Some s) = stride_by s.home (told s.name)

@@ -1,0 +1,10 @@
+pub mod Schema
+pub mod Above
+pub mod Ways
+pub mod Targets
+pub mod Bad
+pub mod Known
+pub mod InnerOutline
+pub mod InnerNames
+pub mod InnerIndex
+pub mod InnerGraph

@@ -1,0 +1,46 @@
+//! Laws of the definitions alone: what those who follow leafrefs may rely on. These functions do nothing: the contract of each is
+//! the law.
+ghost use Rattle.std.specs.Prelude.{◌≡◌, ◌⊎◌, ◌≤◌, ℕ, Some, None, true, slice_get};
+ghost use Rattle.yv_nodes.specs.Tree.{Forest};
+ghost use Rattle.yv_nodes.specs.Rows.{Row};
+ghost use Rattle.yv_nodes.specs.Numbers.{rows_from};
+ghost use Rattle.yv_leafrefs.specs.Schema.{Schema};
+ghost use Rattle.yv_leafrefs.specs.Above.{AreBehind, IsDepth, IsInside, IsUnder};
+ghost use Rattle.yv_leafrefs.specs.Targets.{RefersTo, HasTypesOf, has_values};
+
+/// The rows of a schema tree stand each behind the one above it.
+pub fn rows_of_a_tree_are_behind()
+    ensures { (ts : Forest) → AreBehind (rows_from 0 ts) }
+{}
+
+/// The target of a leafref is a leaf or a leaf-list.
+pub fn a_target_has_values()
+    ensures { (s : Schema) (n x : ℕ) → RefersTo s n x
+        → (row : Row) × (slice_get s.rows x ≡ Some row) × (has_values row.label.defined.kind ≡ true) }
+{}
+
+/// It stands outside operations and notifications.
+pub fn a_target_is_outside()
+    ensures { (s : Schema) (n x : ℕ) → RefersTo s n x → IsInside s.rows (Some x) → ⊥ }
+{}
+
+/// It stands below the place at which the path begins: the document, or one that the leafref itself stands below.
+pub fn a_target_is_below()
+    ensures { (s : Schema) (n x : ℕ) (r : RefersTo s n x) → IsUnder s.rows r.start (Some x)
+        × ((r.start ≡ None) ⊎ IsUnder s.rows r.start (Some n)) }
+{}
+
+/// A leafref refers to one target.
+pub fn a_leafref_has_one_target()
+    ensures { (s : Schema) (n x y : ℕ) → RefersTo s n x → RefersTo s n y → x ≡ y }
+{}
+
+/// The values of a node have the types of one node.
+pub fn types_are_those_of_one_node()
+    ensures { (s : Schema) (n e f : ℕ) → HasTypesOf s n e → HasTypesOf s n f → e ≡ f }
+{}
+
+/// The path of a leafref climbs no further than to the document.
+pub fn a_path_climbs_within_the_depth()
+    ensures { (s : Schema) (n x k d : ℕ) (r : RefersTo s n x) → r.ref.climbs ≡ Some k → IsDepth s.rows (Some n) d → k ≤ d }
+{}

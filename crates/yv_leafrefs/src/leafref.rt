@@ -1,0 +1,48 @@
+//! What a leafref says.
+use std::marker::Model;
+use yv_properties::PathStep;
+
+/// What the type of a leafref says (RFC 7950, section 9.9), which the copies of a node share. Contracts see it as a `Leafref` of
+/// their own.
+#[derive(Drop)]
+pub struct Leafref {
+    /// How often `../` stands at the front of its path. None where that is absolute.
+    pub climbs: Option<u32>,
+    /// The names behind, in order: None where a prefix stands for no module.
+    pub steps: Vec<Option<PathStep>>,
+    /// What `require-instance` says.
+    pub is_required: bool,
+}
+
+impl Model for Leafref {
+    ghost use Rattle.yv_leafrefs.specs.Schema.{Referral};
+
+    ghost Value = { Referral };
+
+    ghost view = { λ l. record { climbs = l.climbs; steps = l.steps.items; is_required = l.is_required } };
+}
+
+impl Leafref {
+    ghost use Rattle.std.specs.Prelude.{◌≡◌};
+
+    /// How often `../` stands at the front of its path. None where that is absolute.
+    pub fn climbs(&self) -> Option<u32>
+        ensures { result ≡ self.now.climbs }
+    {
+        self.climbs
+    }
+
+    /// The names behind, in order: None where a prefix stands for no module.
+    pub fn steps(&self) -> &[Option<PathStep>]
+        ensures { result.now ≡ self.now.steps }
+    {
+        self.steps.as_slice()
+    }
+
+    /// What `require-instance` says.
+    pub fn is_required(&self) -> bool
+        ensures { result ≡ self.now.is_required }
+    {
+        self.is_required
+    }
+}

@@ -1,0 +1,113 @@
+//! The leafrefs of a schema tree.
+ghost use Rattle.std.specs.Prelude.{◌≡◌, ◌<◌, ◌↔◌, ◌^◌, All, ℕ, List, Option, Some, None, map, length, IfOk, slice_get, slice_index, slice_index_or};
+ghost use Rattle.std.specs.Option.{option_map};
+ghost use Rattle.yv_nodes.specs.declared.node.NodeId.{NodeId};
+ghost use Rattle.yv_nodes.specs.Rows.{Row};
+ghost use Rattle.yv_leafrefs.specs.Schema.{Referral, Schema};
+ghost use Rattle.yv_leafrefs.specs.Above.{AreBehind};
+
+use crate::draft::Draft;
+use crate::faults::first_fault;
+use crate::graph::{circles, origins};
+use crate::leafref::Leafref;
+use crate::outline::Outline;
+use crate::targets::targets;
+use std::alloc::{AllocError, Global};
+use yv_nodes::{NodeId, Nodes};
+use yv_statement::Refusal;
+
+/// What the leafrefs of a schema tree refer to, and the least that is wrong with them.
+#[derive(Drop)]
+pub struct Leafrefs {
+    targets: Vec<Option<u32>>,
+    fault: Option<Refusal>,
+}
+
+// The target of a node, if it has one.
+fn target_at(targets: &[Option<u32>], number: u32) -> Option<u32>
+    ensures { result ≡ slice_index_or targets.now number None }
+{
+    targets.get(number as usize).copied().unwrap_or(None)
+}
+
+// A number as that of a node.
+fn numbered(number: Option<u32>) -> Option<NodeId>
+    ensures { (x : NodeId) → (result ≡ Some x) ↔ (number ≡ Some x.0) }
+{
+    match number {
+        Some(number) => Some(NodeId(number)),
+        None => None,
+    }
+}
+
+// Numbers as those of nodes.
+fn all_numbered(alloc: Global, numbers: &[usize]) -> Result<Vec<NodeId>, AllocError>
+    requires { All (λ n. n < 2 ^ 32) numbers.now }
+    ensures { IfOk result (λ nodes. map (λ n. n.0) nodes.items ≡ numbers.now) }
+{
+    let mut nodes = Vec::new(alloc);
+    for number in numbers {
+        nodes.push(NodeId(*number as u32))?;
+    }
+    Ok(nodes)
+}
+
+impl Leafrefs {
+    ghost use Rattle.yv_statement.specs.Order.{IsLeast};
+    ghost use Rattle.yv_leafrefs.specs.Targets.{RefersTo, HasTypesOf};
+    ghost use Rattle.yv_leafrefs.specs.Bad.{BadLeafrefs};
+    ghost use Rattle.yv_leafrefs.specs.Known.{AreLeafrefs};
+
+    /// The leafrefs among these nodes. For each node `of` tells which of the leafrefs it is, if it is one, so that a path is read once
+    /// for all copies of a node. It takes time n log n in the nodes and in the steps of the paths of all leafrefs; a path that leads
+    /// nowhere is left where it does. A name without prefix is of the module of the node that has the path. Err for want of memory
+    /// alone.
+    pub fn read(
+        alloc: Global,
+        nodes: &Nodes,
+        of: &[Option<usize>],
+        leafrefs: &[Leafref],
+    ) -> Result<Leafrefs, AllocError>
+        requires { AreBehind nodes.now.rows }
+        ensures { IfOk result (AreLeafrefs (record { rows = nodes.now.rows; of = of.now; leafrefs = leafrefs.now })) }
+    {
+        let _count = nodes.len();
+        let outline = Outline {
+            nodes: nodes.all(),
+            of,
+            leafrefs,
+        };
+        let draft = Draft::read(alloc, &outline)?;
+        let targets = targets(alloc, &outline, &draft)?;
+        let marks = circles(alloc, &targets)?;
+        let fault = first_fault(&outline, &draft, &targets, &marks);
+        Ok(Leafrefs { targets, fault })
+    }
+
+    /// The least that is wrong: BadPath at a leafref whose path leads to no leaf or leaf-list, or from configuration to none where an
+    /// instance is required, and PathCycle at one that leads to itself along targets (RFC 7950, section 9.9).
+    pub fn fault(&self) -> Option<Refusal>
+        ensures { (s : Schema) → AreLeafrefs s self.now → IsLeast (BadLeafrefs s) result }
+    {
+        self.fault
+    }
+
+    /// The node to which a leafref refers. None for other nodes, and inside operations and notifications.
+    pub fn target(&self, node: NodeId) -> Option<NodeId>
+        ensures { (s : Schema) → AreLeafrefs s self.now → (x : NodeId) → (result ≡ Some x) ↔ RefersTo s node.0 x.0 }
+    {
+        numbered(target_at(&self.targets, node.number()))
+    }
+
+    /// For each node the one whose types its values have: itself, or the node at the end of a chain of leafrefs.
+    pub fn origins(&self, alloc: Global) -> Result<Vec<NodeId>, AllocError>
+        requires { (s : Schema) × AreLeafrefs s self.now × (self.now.fault ≡ None) }
+        ensures each { (s : Schema) → AreLeafrefs s self.now → IfOk result (λ origins. length origins.items ≡ length s.rows) }
+        ensures types { (s : Schema) → AreLeafrefs s self.now
+            → IfOk result (λ origins. (n : ℕ) (e : NodeId) → slice_get origins.items n ≡ Some e → HasTypesOf s n e.0) }
+    {
+        let origins = origins(alloc, &self.targets)?;
+        let nodes = all_numbered(alloc, &origins)?;
+        Ok(nodes)
+    }
+}
