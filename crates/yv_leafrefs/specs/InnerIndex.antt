@@ -1,5 +1,6 @@
 -- Only private clauses cite this: the first node of each key.
-use Rattle.std.specs.Prelude.{◌↔◌, length, ◌≡◌, ℕ, ◌+◌, ◌==◌, ◌<◌, ◌≤◌, ◌^◌, ◌&&◌, Bool, List, if◌then◌else◌, Option, Some, None, map, slice_get}
+use Rattle.std.specs.Prelude.{◌↔◌, length, ◌≡◌, ℕ, ◌+◌, ◌==◌, ◌<◌, ◌≤◌, ◌^◌, ◌&&◌, Bool, List, if◌then◌else◌, Option, Some, None, map}
+use Rattle.std.specs.List.{slice_get}
 use Rattle.std.specs.Ordering.{nat_cmp, ordering_then}
 use Rattle.std.specs.BTreeMap.{BTreeMap, get_by}
 use Rattle.std.specs.List.{slice_index_or}
@@ -56,7 +57,8 @@ data_key a r name = if is_data r.label.defined.kind then Some (rank_of a, r.labe
 abbrev pub AreKeys : List Row → List (Option ℕ) → List ℕ → ℕ → List (Option Key) → Type 0
 AreKeys rows above names n keys =
     (length keys ≡ n)
-    × ((c : ℕ) (r : Row) → c < n → slice_get rows c ≡ Some r → slice_get keys c ≡ Some (data_key (slice_index_or above c None) r (slice_index_or names c 0)))
+    × ((c : ℕ) (r : Row) → c < n → slice_get rows c ≡ Some r
+    → slice_get keys c ≡ Some (data_key (slice_index_or above c None) r (slice_index_or names c 0)))
 
 -- what a step is found to mean
 abbrev pub found_by : Table → (own : ℕ) → Option ℕ → Option Stride → Option ℕ
@@ -65,7 +67,8 @@ found_by table own a (Some s) = table (rank_of a, unwrap_or s.home own, s.name)
 
 -- a table finds what steps mean
 abbrev pub Finds : List Row → Told → Table → Type 0
-Finds rows told table = (own : ℕ) (a : Option ℕ) (s : Option Step) (c : ℕ) → (found_by table own a (stride_of told s) ≡ Some c) ↔ Means rows own a s c
+Finds rows told table =
+    (own : ℕ) (a : Option ℕ) (s : Option Step) (c : ℕ) → (found_by table own a (stride_of told s) ≡ Some c) ↔ Means rows own a s c
 
 -- what has been read of nodes and leafrefs
 pub record IsDraft (o : Outline) (d : Draft) : Type 0 where

@@ -22,6 +22,10 @@ lookup_in m name = get_by (λ k. slice_cmp nat_cmp name k.now) m
 abbrev pub told_of : Names → Told
 told_of names = lookup_in names.map
 
+-- the number given to a statement
+abbrev pub given_to : Names → ℕ → Option ℕ
+given_to names s = get_by (nat_cmp s) names.given
+
 abbrev pub first_some : Option ℕ → Option ℕ → Option ℕ
 first_some None b = b
 first_some (Some a) b = Some a
@@ -32,11 +36,24 @@ kept told name number n = first_some (told n) (if bytes_eq name n then Some numb
 
 -- each number is that of a node of this name among the first n
 abbrev pub AreOfNodes : List Row → ℕ → Told → Type 0
-AreOfNodes rows n told = (name : List ℕ) (k : ℕ) → told name ≡ Some k → (k < n) × (r : Row) × (slice_get rows k ≡ Some r) × (r.label.defined.name ≡ name)
+AreOfNodes rows n told =
+    (name : List ℕ) (k : ℕ) → told name ≡ Some k → (k < n) × (r : Row) × (slice_get rows k ≡ Some r) × (r.label.defined.name ≡ name)
 
 -- these are the numbers of the names of the first n nodes
 abbrev pub AreNumbers : List Row → ℕ → Told → List ℕ → Type 0
-AreNumbers rows n told numbers = (c : ℕ) (r : Row) → c < n → slice_get rows c ≡ Some r → told r.label.defined.name ≡ Some (slice_index_or numbers c 0)
+AreNumbers rows n told numbers =
+    (c : ℕ) (r : Row) → c < n → slice_get rows c ≡ Some r → told r.label.defined.name ≡ Some (slice_index_or numbers c 0)
+
+-- the number that a statement is given is that of the name of one of its nodes
+abbrev pub AreGiven : List Row → (statements : List ℕ) → Told → (ℕ → Option ℕ) → Type 0
+AreGiven rows statements told given =
+    (s k : ℕ) → given s ≡ Some k → (c : ℕ) × (r : Row) × (slice_get statements c ≡ Some s) × (slice_get rows c ≡ Some r)
+    × (told r.label.defined.name ≡ Some k)
+
+-- what is known once the names of the first n nodes are numbered
+pub record AreNumbered (rows : List Row) (statements : List ℕ) (n : ℕ) (names : Names) : Type 0 where
+  pub told : AreOfNodes rows n (told_of names)
+  pub given : AreGiven rows statements (told_of names) (given_to names)
 
 abbrev pub stride_by : Option ℕ → Option ℕ → Option Stride
 stride_by home number = option_map (λ name. record { home = home; name = name }) number

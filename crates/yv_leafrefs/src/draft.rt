@@ -1,6 +1,7 @@
 //! What is read of nodes and leafrefs before paths are followed.
 ghost use Rattle.std.specs.Prelude.{◌≡◌, ◌<◌, ◌^◌, length, IfOk};
 ghost use Rattle.yv_leafrefs.specs.Above.{AreBehind};
+ghost use Rattle.yv_leafrefs.specs.Named.{AreNamed};
 ghost use Rattle.yv_leafrefs.specs.InnerOutline.{rows_in};
 ghost use Rattle.yv_leafrefs.specs.InnerIndex.{IsDraft, AreKeys, data_key};
 
@@ -57,6 +58,7 @@ impl<'n> Draft<'n> {
     /// What is read of these.
     pub(crate) fn read(alloc: Global, outline: &Outline<'n>) -> Result<Draft<'n>, AllocError>
         requires behind { AreBehind (rows_in outline.now) }
+        requires named { AreNamed (rows_in outline.now) outline.now.statements.now }
         requires few { length (rows_in outline.now) < 2 ^ 32 }
         ensures { IfOk result (IsDraft outline.now) }
     {
@@ -64,7 +66,7 @@ impl<'n> Draft<'n> {
         let above = places_above(alloc, nodes)?;
         let inside = operations(alloc, nodes)?;
         let mut names = Names::new(alloc);
-        let numbers = number_names(alloc, nodes, &mut names)?;
+        let numbers = number_names(alloc, nodes, outline.statements, &mut names)?;
         let keys = data_keys(alloc, nodes, &above, &numbers)?;
         let index = Index::of(alloc, &keys)?;
         let strides = all_strides(alloc, &names, outline.leafrefs)?;

@@ -18,7 +18,8 @@ fn is_lost(outline: &Outline<'_>, draft: &Draft<'_>, target: Option<u32>, number
     requires draft { IsDraft outline.now draft.now }
     requires target { (x : ℕ) → (target ≡ Some x) ↔ RefersTo (schema_in outline.now) number x }
     requires within { number < length (rows_in outline.now) }
-    ensures { (row : Row) → slice_get (rows_in outline.now) number ≡ Some row → IsTrue result ↔ IsLost (schema_in outline.now) number row }
+    ensures { (row : Row) → slice_get (rows_in outline.now) number ≡ Some row
+        → IsTrue result ↔ IsLost (schema_in outline.now) number row }
 {
     if !is_leafref(outline, draft, number) {
         return false;
@@ -40,7 +41,8 @@ fn node_fault(
     requires each_mark { length marks.now ≡ length (rows_in outline.now) }
     requires marks { AreCircles (schema_in outline.now) marks.now }
     requires within { number < length (rows_in outline.now) }
-    ensures { (row : Row) → slice_get (rows_in outline.now) number ≡ Some row → IsLeast (BadLeafref (schema_in outline.now) number row) result }
+    ensures { (row : Row) → slice_get (rows_in outline.now) number ≡ Some row
+        → IsLeast (BadLeafref (schema_in outline.now) number row) result }
 {
     let node = &outline.nodes[number];
     let is_lost = is_lost(outline, draft, targets[number], number as u32);

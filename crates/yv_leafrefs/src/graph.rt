@@ -35,7 +35,8 @@ fn graph(alloc: Global, targets: &[Option<u32>]) -> Result<Vec<Vec<usize>>, Allo
 pub(crate) fn circles(alloc: Global, targets: &[Option<u32>]) -> Result<Vec<bool>, AllocError>
     requires { (s : Schema) × (length targets.now ≡ length s.rows) × AreTargets s targets.now }
     ensures each { IfOk result (λ marks. length marks.items ≡ length targets.now) }
-    ensures circles { (s : Schema) → length targets.now ≡ length s.rows → AreTargets s targets.now → IfOk result (λ marks. AreCircles s marks.items) }
+    ensures circles { (s : Schema) → length targets.now ≡ length s.rows → AreTargets s targets.now
+        → IfOk result (λ marks. AreCircles s marks.items) }
 {
     let graph = graph(alloc, targets)?;
     let marks = circular(alloc, &graph)?;

@@ -1,10 +1,12 @@
 //! The leafrefs of a schema tree.
-ghost use Rattle.std.specs.Prelude.{◌≡◌, ◌<◌, ◌↔◌, ◌^◌, All, ℕ, List, Option, Some, None, map, length, IfOk, slice_get, slice_index, slice_index_or};
+ghost use Rattle.std.specs.Prelude.{◌≡◌, ◌<◌, ◌↔◌, ◌^◌, All, ℕ, List, Option, Some, None, map, length, IfOk, slice_get};
+ghost use Rattle.std.specs.List.{slice_index_or};
 ghost use Rattle.std.specs.Option.{option_map};
 ghost use Rattle.yv_nodes.specs.declared.node.NodeId.{NodeId};
 ghost use Rattle.yv_nodes.specs.Rows.{Row};
 ghost use Rattle.yv_leafrefs.specs.Schema.{Referral, Schema};
 ghost use Rattle.yv_leafrefs.specs.Above.{AreBehind};
+ghost use Rattle.yv_leafrefs.specs.Named.{AreNamed};
 
 use crate::draft::Draft;
 use crate::faults::first_fault;
@@ -58,22 +60,25 @@ impl Leafrefs {
     ghost use Rattle.yv_leafrefs.specs.Bad.{BadLeafrefs};
     ghost use Rattle.yv_leafrefs.specs.Known.{AreLeafrefs};
 
-    /// The leafrefs among these nodes. For each node `of` tells which of the leafrefs it is, if it is one, so that a path is read once
-    /// for all copies of a node. It takes time n log n in the nodes and in the steps of the paths of all leafrefs; a path that leads
+    /// The leafrefs among these nodes. For each node `statements` has the number of the statement that defines it, so that a long name
+    /// is compared once for all copies of a node, and `of` tells which of the leafrefs it is, if it is one. It takes time n log n in the nodes and in the steps of the paths of all leafrefs; a path that leads
     /// nowhere is left where it does. A name without prefix is of the module of the node that has the path. Err for want of memory
     /// alone.
     pub fn read(
         alloc: Global,
         nodes: &Nodes,
+        statements: &[usize],
         of: &[Option<usize>],
         leafrefs: &[Leafref],
     ) -> Result<Leafrefs, AllocError>
-        requires { AreBehind nodes.now.rows }
+        requires behind { AreBehind nodes.now.rows }
+        requires named { AreNamed nodes.now.rows statements.now }
         ensures { IfOk result (AreLeafrefs (record { rows = nodes.now.rows; of = of.now; leafrefs = leafrefs.now })) }
     {
         let _count = nodes.len();
         let outline = Outline {
             nodes: nodes.all(),
+            statements,
             of,
             leafrefs,
         };

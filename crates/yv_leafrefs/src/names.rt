@@ -1,24 +1,30 @@
 //! The names of nodes as numbers.
-ghost use Rattle.std.specs.Prelude.{◌≡◌, ◌<◌, ◌^◌, ℕ, List, None, Some, length, IfOk, OnOk};
-ghost use Rattle.yv_leafrefs.specs.InnerNames.{told_of, kept, AreOfNodes, AreNumbers};
+ghost use Rattle.std.specs.Prelude.{◌≡◌, ◌==◌, ◌+◌, ◌<◌, ◌^◌, ℕ, List, None, Some, length, slice_get, IfOk, OnOk, if◌then◌else◌};
+ghost use Rattle.yv_nodes.specs.Rows.{Row};
+ghost use Rattle.yv_leafrefs.specs.Named.{AreNamed};
+ghost use Rattle.yv_leafrefs.specs.InnerNames.{told_of, given_to, kept, AreOfNodes, AreNumbers, AreNumbered};
 
 use std::alloc::{AllocError, Global};
 use std::collections::BTreeMap;
 use yv_nodes::Node;
 
-/// For each name a number. The names are borrowed.
+/// For each name a number, and for each statement that of the name that its nodes have. The names are borrowed, and one is compared
+/// once for a statement, however many nodes are copies of its node.
 #[derive(Drop)]
 pub(crate) struct Names<'n> {
     map: BTreeMap<&'n [u8], u32>,
+    given: BTreeMap<usize, u32>,
 }
 
 impl<'n> Names<'n> {
     /// No names.
     pub(crate) fn new(alloc: Global) -> Names<'n>
-        ensures { (name : List ℕ) → told_of result name ≡ None }
+        ensures told { (name : List ℕ) → told_of result name ≡ None }
+        ensures given { (statement : ℕ) → given_to result statement ≡ None }
     {
         Names {
             map: BTreeMap::new(alloc),
+            given: BTreeMap::new(alloc),
         }
     }
 
@@ -33,6 +39,7 @@ impl<'n> Names<'n> {
     fn keep(&mut self, name: &'n str, number: u32) -> Result<u32, AllocError>
         ensures told { OnOk result ((n : List ℕ) → told_of self.new n ≡ kept (told_of self.old) name.now number n) }
         ensures number { IfOk result (λ given. told_of self.new name.now ≡ Some given) }
+        ensures given { (statement : ℕ) → given_to self.new statement ≡ given_to self.old statement }
     {
         if let Some(given) = self.get(name) {
             return Ok(given);
@@ -40,23 +47,59 @@ impl<'n> Names<'n> {
         self.map.insert(name.as_bytes(), number)?;
         Ok(number)
     }
+
+    // The number given to a statement.
+    fn known(&self, statement: usize) -> Option<u32>
+        ensures { result ≡ given_to self.now statement }
+    {
+        self.given.get(&statement).copied()
+    }
+
+    // Gives a statement a number.
+    fn give(&mut self, statement: usize, number: u32) -> Result<(), AllocError>
+        ensures told { (name : List ℕ) → told_of self.new name ≡ told_of self.old name }
+        ensures given { OnOk result ((s : ℕ) → given_to self.new s ≡ (if statement == s then Some number else given_to self.old s)) }
+    {
+        self.given.insert(statement, number)?;
+        Ok(())
+    }
+
+    // The number of the name of the node of a number, which a statement defines.
+    fn of_node(&mut self, statement: usize, node: &'n Node, number: u32) -> Result<u32, AllocError>
+        ensures numbered { (rows : List Row) (statements : List ℕ) → AreNamed rows statements → slice_get rows number ≡ Some node.now
+            → slice_get statements number ≡ Some statement → AreNumbered rows statements number self.old
+            → OnOk result (AreNumbered rows statements (number + 1) self.new) }
+        ensures number { (rows : List Row) (statements : List ℕ) → AreNamed rows statements → slice_get rows number ≡ Some node.now
+            → slice_get statements number ≡ Some statement → AreNumbered rows statements number self.old
+            → IfOk result (λ given. told_of self.new node.now.label.defined.name ≡ Some given) }
+        ensures told { OnOk result ((name : List ℕ) (k : ℕ) → told_of self.old name ≡ Some k → told_of self.new name ≡ Some k) }
+    {
+        if let Some(given) = self.known(statement) {
+            return Ok(given);
+        }
+        let given = self.keep(node.name(), number)?;
+        self.give(statement, given)?;
+        Ok(given)
+    }
 }
 
 /// Numbers the names of all nodes, and answers the number of each.
 pub(crate) fn number_names<'n>(
     alloc: Global,
     nodes: &'n [Node],
+    statements: &[usize],
     names: &mut Names<'n>,
 ) -> Result<Vec<u32>, AllocError>
     requires few { length nodes.now < 2 ^ 32 }
-    requires empty { (name : List ℕ) → told_of names.old name ≡ None }
+    requires named { AreNamed nodes.now statements.now }
+    requires empty { AreNumbered nodes.now statements.now 0 names.old }
     ensures told { OnOk result (AreOfNodes nodes.now (length nodes.now) (told_of names.new)) }
     ensures each { IfOk result (λ numbers. length numbers.items ≡ length nodes.now) }
     ensures numbers { IfOk result (λ numbers. AreNumbers nodes.now (length nodes.now) (told_of names.new) numbers.items) }
 {
     let mut numbers = Vec::new(alloc);
     for (number, node) in nodes.iter().enumerate() {
-        let given = names.keep(node.name(), number as u32)?;
+        let given = names.of_node(statements[number], node, number as u32)?;
         numbers.push(given)?;
     }
     Ok(numbers)

@@ -15,7 +15,8 @@ use crate::strides::Stride;
 fn climb(draft: &Draft<'_>, number: u32, climbs: u32) -> Option<Option<u32>>
     requires within { number < length draft.now.above.items }
     requires inner { (o : Outline) × IsDraft o draft.now }
-    ensures { (o : Outline) → IsDraft o draft.now → (b : Option ℕ) → (result ≡ Some b) ↔ Climbs (rows_in o) climbs (Some number) b }
+    ensures { (o : Outline) → IsDraft o draft.now → (b : Option ℕ)
+        → (result ≡ Some b) ↔ Climbs (rows_in o) climbs (Some number) b }
 {
     let mut place = Some(number);
     for _ in 0..climbs {
@@ -59,7 +60,8 @@ pub(crate) fn walk(
     strides: &[Option<Stride>],
     start: Option<u32>,
 ) -> Option<u32>
-    ensures { (o : Outline) (steps : List (Option Step)) → IsDraft o draft.now → strides.now ≡ map (stride_of (told_of draft.now.names)) steps
+    ensures { (o : Outline) (steps : List (Option Step)) → IsDraft o draft.now
+        → strides.now ≡ map (stride_of (told_of draft.now.names)) steps
         → (c : ℕ) → (result ≡ Some c) ↔ Leads (rows_in o) own steps start (Some c) }
 {
     let mut place = start;

@@ -9,7 +9,7 @@ use Rattle.yv_leafrefs.proofs.leafrefs.Leafrefs.read.Goals as goal
 
 pub circles-requires : goal.circles-requires
 circles-requires c =
-    let s : Schema = schema_in (record { nodes = c.all.result; of = c.args.of; leafrefs = c.args.leafrefs }) in (
+    let s : Schema = schema_in (record { nodes = c.all.result; statements = c.args.statements; of = c.args.of; leafrefs = c.args.leafrefs }) in (
       s,
       ap length c.deref.ensures.value ∙ c.in_ok-targets.ensures.each,
       subst (λ (ts : List (Option ℕ)). AreTargets s ts) (sym c.deref.ensures.value) c.in_ok-targets.ensures.targets,
@@ -17,12 +17,12 @@ circles-requires c =
 
 pub first_fault-fault-requires-clause-targets : goal.first_fault-fault-requires-clause-targets
 first_fault-fault-requires-clause-targets c =
-    let s : Schema = schema_in (record { nodes = c.all.result; of = c.args.of; leafrefs = c.args.leafrefs }) in
+    let s : Schema = schema_in (record { nodes = c.all.result; statements = c.args.statements; of = c.args.of; leafrefs = c.args.leafrefs }) in
     subst (λ (ts : List (Option ℕ)). AreTargets s ts) (sym c.deref-2.ensures.value) c.in_ok-targets.ensures.targets
 
 pub first_fault-fault-requires-clause-marks : goal.first_fault-fault-requires-clause-marks
 first_fault-fault-requires-clause-marks c =
-    let s : Schema = schema_in (record { nodes = c.all.result; of = c.args.of; leafrefs = c.args.leafrefs }) in
+    let s : Schema = schema_in (record { nodes = c.all.result; statements = c.args.statements; of = c.args.of; leafrefs = c.args.leafrefs }) in
     subst (λ (ms : List Bool). AreCircles s ms) (sym c.deref-3.ensures.value)
     (c.in_ok-marks.ensures.circles s (ap length c.deref.ensures.value ∙ c.in_ok-targets.ensures.each) (subst (λ (ts : List (Option ℕ)). AreTargets s ts) (sym c.deref.ensures.value) c.in_ok-targets.ensures.targets))
 
