@@ -55,8 +55,7 @@ source_at t a b (by_step refers) = (refers.row, refers.is_leafref.at)
 source_at t a b (by_way refers rest) = (refers.row, refers.is_leafref.at)
 
 -- where nothing is wrong no leafref leads to itself
-pub clear_circle : (t : Schema) (fault : Option Refusal) → IsLeast (BadLeafrefs t) fault → fault ≡ None → (n : ℕ) → LeadsTo t n n → ⊥
-clear_circle t fault least none n w =
+pub clear_circle : (t : Schema) → IsLeast (BadLeafrefs t) None → (n : ℕ) → LeadsTo t n n → ⊥
+clear_circle t clear n w =
     let source = source_at t n n w in
-    let clear : IsLeast (BadLeafrefs t) None = subst (λ (o : Option Refusal). IsLeast (BadLeafrefs t) o) none least in
     clear (refusal_of code.PathCycle source.0.label) (n, slice_get_within t.rows n source.0 source.1, source.0, source.1, inr (w, refl))

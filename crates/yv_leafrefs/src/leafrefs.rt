@@ -75,6 +75,7 @@ impl Leafrefs {
         requires named { AreNamed nodes.now.rows statements.now }
         ensures { IfOk result (AreLeafrefs (record { rows = nodes.now.rows; of = of.now; leafrefs = leafrefs.now })) }
     {
+        // The list holds no more of them than numbers of 32 bits can tell apart.
         let _count = nodes.len();
         let outline = Outline {
             nodes: nodes.all(),
@@ -104,9 +105,10 @@ impl Leafrefs {
         numbered(target_at(&self.targets, node.number()))
     }
 
-    /// For each node the one whose types its values have: itself, or the node at the end of a chain of leafrefs.
+    /// For each node the one whose types its values have: itself, or the node at the end of a chain of leafrefs. It takes time linear in
+    /// the nodes, and nothing recurses along a chain.
     pub fn origins(&self, alloc: Global) -> Result<Vec<NodeId>, AllocError>
-        requires { (s : Schema) × AreLeafrefs s self.now × (self.now.fault ≡ None) }
+        requires { (s : Schema) × AreLeafrefs s self.now × IsLeast (BadLeafrefs s) None }
         ensures each { (s : Schema) → AreLeafrefs s self.now → IfOk result (λ origins. length origins.items ≡ length s.rows) }
         ensures types { (s : Schema) → AreLeafrefs s self.now
             → IfOk result (λ origins. (n : ℕ) (e : NodeId) → slice_get origins.items n ≡ Some e → HasTypesOf s n e.0) }

@@ -13,7 +13,7 @@ pub origins-requires : goal.origins-requires
 origins-requires c =
     let s = c.requires.0 in
     let are = c.requires.1 in
-    (s, rw c.deref.ensures.value are.each, rw c.deref.ensures.value are.exact, clear_circle s c.args.self.now.fault are.wrong c.requires.2)
+    (s, rw c.deref.ensures.value are.each, rw c.deref.ensures.value are.exact, clear_circle s c.requires.2)
 
 pub all_numbered-requires : goal.all_numbered-requires
 all_numbered-requires c k d l =
