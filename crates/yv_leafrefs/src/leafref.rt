@@ -2,8 +2,7 @@
 use std::marker::Model;
 use yv_properties::PathStep;
 
-/// What the type of a leafref says (RFC 7950, section 9.9), which the copies of a node share. Contracts see it as a `Leafref` of
-/// their own.
+/// What the type of a leafref says (RFC 7950, section 9.9), which the copies of a node share. Contracts see it as a `Referral`.
 #[derive(Drop)]
 pub struct Leafref {
     /// How often `../` stands at the front of its path. None where that is absolute.

@@ -61,9 +61,9 @@ impl Leafrefs {
     ghost use Rattle.yv_leafrefs.specs.Known.{AreLeafrefs};
 
     /// The leafrefs among these nodes. For each node `statements` has the number of the statement that defines it, so that a long name
-    /// is compared once for all copies of a node, and `of` tells which of the leafrefs it is, if it is one. It takes time n log n in the nodes and in the steps of the paths of all leafrefs; a path that leads
-    /// nowhere is left where it does. A name without prefix is of the module of the node that has the path. Err for want of memory
-    /// alone.
+    /// is compared once for all copies of a node, and `of` tells which of the leafrefs it is, if it is one. A name without prefix is of
+    /// the module of the node that has the path. It takes time n log n in the nodes and in the steps of the leafrefs; at each node so
+    /// many steps of its path are followed as nodes stand below one another, at most. Err for want of memory alone.
     pub fn read(
         alloc: Global,
         nodes: &Nodes,
@@ -75,7 +75,7 @@ impl Leafrefs {
         requires named { AreNamed nodes.now.rows statements.now }
         ensures { IfOk result (AreLeafrefs (record { rows = nodes.now.rows; of = of.now; leafrefs = leafrefs.now })) }
     {
-        // The list holds no more of them than numbers of 32 bits can tell apart.
+        // There are never more of them than numbers of 32 bits tell apart.
         let _count = nodes.len();
         let outline = Outline {
             nodes: nodes.all(),
