@@ -12,10 +12,10 @@ use Rattle.yv_augmented.specs.Left.{is_marked}
 use Rattle.yv_augmented.specs.On.{AreOn, above_on, augment_on, uses_on}
 use Rattle.yv_augmented.specs.declared.spot.Spot.{Spot}
 
-module _ (rows : List Row) (spots : List Spot) (items : List Item) (statements own : List Bool) where
+module _ (rows : List Row) (spots : List Spot) (items : List Item) (statements own : ℕ → Bool) where
   abbrev pub Told : List Bool → ℕ → Type 0
   Told marks i = (x : Item) → slice_get items i ≡ Some x
-      → is_marked marks i ≡ (is_marked own i && (above_on spots marks x.parent && augment_on rows statements (slice_get rows (number_of x.origin))))
+      → is_marked marks i ≡ (own i && (above_on spots marks x.parent && augment_on rows statements (slice_get rows (number_of x.origin))))
 
   -- the marks of the first items
   pub record Asking (i : ℕ) (marks : List Bool) : Type 0 where
@@ -28,7 +28,7 @@ module _ (rows : List Row) (spots : List Spot) (items : List Item) (statements o
   same_above marks m (Some p) within = ap (uses_on (slice_get spots p)) (get_or-append marks (m ∷ []) false p (within p refl))
 
   asking_more : ParentsComeFirst items → (i : ℕ) (x : Item) (m : Bool) (old new : List Bool) → slice_get items i ≡ Some x
-      → m ≡ (is_marked own i && (above_on spots old x.parent && augment_on rows statements (slice_get rows (number_of x.origin))))
+      → m ≡ (own i && (above_on spots old x.parent && augment_on rows statements (slice_get rows (number_of x.origin))))
       → new ≡ old ++ m ∷ [] → Asking i old → Asking (i + 1) new
   asking_more parents i x m old new at is now before = record {
     each = (let long : length (old ++ m ∷ []) ≡ length old + 1 = length-append old (m ∷ []) in omega (arith, ap length now, long, before.each));
@@ -36,7 +36,7 @@ module _ (rows : List Row) (spots : List Spot) (items : List Item) (statements o
   }
     where
       own_at : ℕ → Item → Bool → Bool
-      own_at k y above = is_marked own k && (above && augment_on rows statements (slice_get rows (number_of y.origin)))
+      own_at k y above = own k && (above && augment_on rows statements (slice_get rows (number_of y.origin)))
 
       earlier : (k : ℕ) → k < i → Told (old ++ m ∷ []) k
       earlier k lt y there =
@@ -51,12 +51,12 @@ module _ (rows : List Row) (spots : List Spot) (items : List Item) (statements o
           ∙ ap (λ (z : Item). own_at i z (above_on spots old z.parent)) same
           ∙ ap (own_at i y) (sym (same_above old m y.parent (λ p e. (let l = parents i p y there e in omega (arith, l, before.each)))))
 
-  pub asking_step : ParentsComeFirst items → (i : ℕ) (x : Item) (m mine : Bool) (old here new : List Bool) → slice_get items i ≡ Some x → mine ≡ is_marked own i → here ≡ old
+  pub asking_step : ParentsComeFirst items → (i : ℕ) (x : Item) (m mine : Bool) (old here new : List Bool) → slice_get items i ≡ Some x → mine ≡ own i → here ≡ old
       → m ≡ (mine && (above_on spots here x.parent && augment_on rows statements (slice_get rows (number_of x.origin)))) → new ≡ old ++ m ∷ [] → Asking i old → Asking (i + 1) new
   asking_step parents i x m mine old here new at own_is here_is is now before =
       asking_more parents i x m old new at
       (is ∙ ap (λ (b : Bool). b && (above_on spots here x.parent && augment_on rows statements (slice_get rows (number_of x.origin)))) own_is
-      ∙ ap (λ (l : List Bool). is_marked own i && (above_on spots l x.parent && augment_on rows statements (slice_get rows (number_of x.origin)))) here_is) now before
+      ∙ ap (λ (l : List Bool). own i && (above_on spots l x.parent && augment_on rows statements (slice_get rows (number_of x.origin)))) here_is) now before
 
   pub asking_all : (i : ℕ) (marks : List Bool) → i ≡ length items → Asking i marks → AreOn rows spots items statements own marks
   asking_all i marks all a = record {

@@ -12,7 +12,7 @@ use Rattle.yv_augmented.specs.InnerLayout.{AllFit, AreLaid, Fits}
 use Rattle.yv_augmented.specs.declared.spot.Spot.{Spot}
 use Rattle.yv_augmented.proofs.Counting.{before_within, place_within}
 
-pushed_at : {A : Type 0} (xs : List A) (y x : A) (i : ℕ) → slice_get (xs ++ y ∷ []) i ≡ Some x → (slice_get xs i ≡ Some x) ⊎ (y ≡ x)
+pub pushed_at : {A : Type 0} (xs : List A) (y x : A) (i : ℕ) → slice_get (xs ++ y ∷ []) i ≡ Some x → (slice_get xs i ≡ Some x) ⊎ (y ≡ x)
 pushed_at [] y x zero h = inr (same_Some y x h)
 pushed_at [] y x (suc i) h = absurd (let bad : None ≡ Some x = h in cc)
 pushed_at (z ∷ zs) y x zero h = inl h

@@ -20,14 +20,14 @@ abbrev pub KeepAugments : Type 0
 KeepAugments = (labels : List Label) (number start limit : ℕ) (names : List ℕ) (st : State) → length (turn labels number start limit names st).ends ≡ length st.ends
 
 module _ (w : Whole) (labels : List Label) (copies : ℕ) where
-  turns_entered : (s : Spot) (first number : ℕ) (augments : List ℕ) (st : State) → number + length augments ≤ copies → HaveEntered labels copies first st
+  pub turns_entered : (s : Spot) (first number : ℕ) (augments : List ℕ) (st : State) → number + length augments ≤ copies → HaveEntered labels copies first st
       → HaveEntered labels copies first (turns_from w labels s number augments st)
   turns_entered s first number [] st l h = h
   turns_entered s first number (a ∷ others) st l h =
       turns_entered s first (number + 1) others (copy_turn w labels s number a st) (omega (arith, l))
       (turned number s.group (last_of (members_of st.groups (group_of_augment labels number))) (path_in w s.home a) (omega (arith, l)) h)
 
-  spot_entered : (s : Spot) (first : ℕ) (st : State) → s.first + copies_of w.rows s ≤ copies → HaveEntered labels copies first st
+  pub spot_entered : (s : Spot) (first : ℕ) (st : State) → s.first + copies_of w.rows s ≤ copies → HaveEntered labels copies first st
       → HaveEntered labels copies first (turns w labels s st)
   spot_entered s first st l h = by (is_uses s.label.kind) refl
     where

@@ -11,3 +11,6 @@ pub mod Ending
 pub mod Turning
 pub mod Missing
 pub mod Meaning
+pub mod Configuring
+pub mod Given
+pub mod Deciding

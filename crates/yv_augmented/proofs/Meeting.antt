@@ -1,18 +1,19 @@
 -- Items of the final tree from the last to the first, and the tree itself.
-use Rattle.std.proofs.Common.{◌≡◌, ℕ, ◌+◌, ◌<◌, ◌==◌, ◌||◌, ◌⊎◌, inl, inr, Bool, true, false, if◌then◌else◌, List, [], ◌∷◌, ◌++◌, drop, refl, sym, ◌∙◌, ap, subst, arith, Option, Some, None, append_assoc}
+use Rattle.std.proofs.Common.{◌≡◌, ℕ, ◌+◌, ◌<◌, ◌==◌, ◌&&◌, ◌||◌, ◌⊎◌, inl, inr, Bool, true, false, if◌then◌else◌, List, [], ◌∷◌, ◌++◌, length, drop, refl, sym, ◌∙◌, ap, subst, arith, Option, Some, None, append_assoc}
 use Rattle.std.specs.List.{slice_get}
 use Rattle.std.proofs.lemmas.Bool.{eq-eqb, eqb-false, ne_eqb}
-use Rattle.std.proofs.lemmas.List.{append-nil}
+use Rattle.std.proofs.lemmas.List.{append-nil, drop_more}
 use Rattle.yv_statement.specs.Order.{IsLeast, IsLesser}
 use Rattle.yv_statement.specs.declared.refusal.Refusal.{Refusal}
 use Rattle.yv_statement.proofs.Least.{least_lesser, least_same}
 use Rattle.yv_rows.specs.Rows.{Row}
 use Rattle.yv_augments.specs.Tree.{Tree, none, item, listed}
 use Rattle.yv_augments.specs.declared.row.Row.{Row as Standing}
-use Rattle.yv_augmented.specs.Imposing.{Imposed, IsImposed, has_mandatory, is_required}
+use Rattle.yv_augmented.specs.Imposing.{Around, Imposed, IsImposed, Told, has_mandatory, inside, is_configuration, is_mandatory, nothing_around}
 use Rattle.yv_augmented.specs.InnerImposing.{ImposedIn, counts, found_in, met}
-use Rattle.yv_augmented.specs.declared.imposing.Marks.{Marks}
+use Rattle.yv_augmented.specs.Left.{is_marked}
 use Rattle.yv_augmented.specs.declared.spot.Spot.{Spot}
+use Rattle.yv_augmented.proofs.Configuring.{marks_of}
 use Rattle.yv_augmented.proofs.Reading.{rest_of}
 
 -- what is met depends on what was found alone
@@ -46,12 +47,12 @@ or_assoc : (a b c : Bool) → (a || (b || c)) ≡ ((a || b) || c)
 or_assoc true b c = refl
 or_assoc false b c = refl
 
-module _ (spots : List Spot) (augments : List ℕ) (marks : Marks) where
+module _ (spots : List Spot) (augments : List ℕ) (told : Told) where
   abbrev pub found : List Standing → ℕ → Bool
-  found xs d = found_in spots augments marks xs d
+  found xs d = found_in spots augments told xs d
 
   abbrev pub has : Tree → Bool
-  has t = has_mandatory spots augments marks t
+  has t = has_mandatory spots augments told t
 
   -- nothing is found past this depth
   abbrev pub NoneDeeper : ℕ → List Standing → Type 0
@@ -71,15 +72,15 @@ module _ (spots : List Spot) (augments : List ℕ) (marks : Marks) where
       → FoundBefore (x.depth + 1) below outer inner → FoundBefore x.depth (item i below behind) rest (x ∷ inner)
   found_item i below behind x inner outer rest is o b =
       let n : ℕ = x.depth in
-      let c : Bool → Bool = λ h. counts spots augments marks x.number h in
+      let c : Bool → Bool = λ h. counts spots augments told x.number h in
       let under : found inner (n + 1) ≡ has below = found_below i below n inner outer o.deeper b in
       let same : found inner n ≡ found outer n = b.higher n (omega arith) in
       record {
         here = met_here n (c (found inner (n + 1))) (found inner)
             ∙ ap (λ (h : Bool). c h || found inner n) under
-            ∙ ap (λ (k : ℕ). counts spots augments marks k (has below) || found inner n) is
-            ∙ ap (λ (a : Bool). counts spots augments marks i (has below) || a) (same ∙ o.here)
-            ∙ or_assoc (counts spots augments marks i (has below)) (has behind) (found rest n);
+            ∙ ap (λ (k : ℕ). counts spots augments told k (has below) || found inner n) is
+            ∙ ap (λ (a : Bool). counts spots augments told i (has below) || a) (same ∙ o.here)
+            ∙ or_assoc (counts spots augments told i (has below)) (has behind) (found rest n);
         deeper = λ d lt. met_deeper n (c (found inner (n + 1))) (found inner) d lt (λ past. b.deeper d past);
         higher = λ d lt. met_higher n (c (found inner (n + 1))) (found inner) d lt ∙ b.higher d (omega (arith, lt)) ∙ o.higher d lt;
       }
@@ -96,87 +97,110 @@ module _ (spots : List Spot) (augments : List ℕ) (marks : Marks) where
       (found_item i below behind x (inside ++ (after ++ rest)) (after ++ rest) rest refl o b)
 
   module _ (rows : List Row) where
-    abbrev pub In : List Standing → Refusal → Type 0
-    In xs f = ImposedIn rows spots augments marks xs f
+    abbrev pub In : List Bool → List Standing → Refusal → Type 0
+    In marks xs f = ImposedIn rows spots augments told marks xs f
 
-    abbrev pub Of : Option ℕ → Tree → Refusal → Type 0
-    Of parent t f = Imposed rows spots augments marks parent t f
+    abbrev pub Of : Option ℕ → Around → Tree → Refusal → Type 0
+    Of parent a t f = Imposed rows spots augments told parent a t f
 
-    abbrev pub At : Option ℕ → ℕ → Bool → Refusal → Type 0
-    At parent i h f = IsImposed rows spots augments parent i (is_required spots marks i h) f
+    abbrev pub At : Option ℕ → ℕ → Bool → Bool → Refusal → Type 0
+    At parent i h c f = IsImposed rows spots augments parent i (is_mandatory spots told i h && c) f
 
-    to_tree : (t : Tree) (depth : ℕ) (parent : Option ℕ) (rest : List Standing) (f : Refusal) → NoneDeeper depth rest
-        → In (listed parent depth t ++ rest) f → Of parent t f ⊎ In rest f
-    to_tree none depth parent rest f deeper h = inr h
-    to_tree (item i below behind) depth parent rest f deeper h =
+    to_tree : (t : Tree) (depth : ℕ) (parent : Option ℕ) (a : Around) (rest : List Standing) (marks : List Bool) (f : Refusal) → NoneDeeper depth rest
+        → In (marks_of spots told a t ++ marks) (listed parent depth t ++ rest) f → Of parent a t f ⊎ In marks rest f
+    to_tree none depth parent a rest marks f deeper h = inr h
+    to_tree (item i below behind) depth parent a rest marks f deeper h =
         let x : Standing = record { number = i; parent = parent; depth = depth } in
         let after : List Standing = listed parent depth behind in
-        let inside : List Standing = listed (Some i) (depth + 1) below in
+        let inner : List Standing = listed (Some i) (depth + 1) below in
+        let here : Around = inside spots told i a in
+        let c : Bool = is_configuration here in
+        let mine : List Bool = marks_of spots told here below in
+        let later : List Bool = marks_of spots told a behind in
         let o = found_tree behind depth parent rest deeper in
         let past : NoneDeeper (depth + 1) (after ++ rest) = λ d lt. o.deeper d (omega (arith, lt)) in
         let b = found_tree below (depth + 1) (Some i) (after ++ rest) past in
-        let under : found (inside ++ (after ++ rest)) (depth + 1) ≡ has below = found_below i below depth (inside ++ (after ++ rest)) (after ++ rest) o.deeper b in
-        let given : In (x ∷ (inside ++ (after ++ rest))) f = subst (λ (l : List Standing). In (x ∷ l) f) (append_assoc inside after rest) h in
+        let under : found (inner ++ (after ++ rest)) (depth + 1) ≡ has below = found_below i below depth (inner ++ (after ++ rest)) (after ++ rest) o.deeper b in
+        let given : In (c ∷ (mine ++ (later ++ marks))) (x ∷ (inner ++ (after ++ rest))) f =
+        subst (λ (m : List Bool). In (c ∷ m) (x ∷ (inner ++ (after ++ rest))) f) (append_assoc mine later marks)
+        (subst (λ (l : List Standing). In (c ∷ ((mine ++ later) ++ marks)) (x ∷ l) f) (append_assoc inner after rest) h) in
         elim given [
-          | inr here ↦ inl (inl (subst (λ (c : Bool). At parent i c f) under here))
-          | inl later ↦ elim (to_tree below (depth + 1) (Some i) (after ++ rest) f past later) [
-            | inl inner ↦ inl (inr (inl inner))
-            | inr next ↦ elim (to_tree behind depth parent rest f deeper next) [ inl outer ↦ inl (inr (inr outer)) | inr other ↦ inr other ]
+          | inr at ↦ inl (inl (subst (λ (m : Bool). At parent i m c f) under at))
+          | inl next ↦ elim (to_tree below (depth + 1) (Some i) here (after ++ rest) (later ++ marks) f past next) [
+            | inl within ↦ inl (inr (inl within))
+            | inr more ↦ elim (to_tree behind depth parent a rest marks f deeper more) [ inl outer ↦ inl (inr (inr outer)) | inr other ↦ inr other ]
           ]
         ]
 
-    of_tree : (t : Tree) (depth : ℕ) (parent : Option ℕ) (rest : List Standing) (f : Refusal) → NoneDeeper depth rest
-        → Of parent t f ⊎ In rest f → In (listed parent depth t ++ rest) f
-    of_tree none depth parent rest f deeper (inl h) = absurd h
-    of_tree none depth parent rest f deeper (inr h) = h
-    of_tree (item i below behind) depth parent rest f deeper h =
+    of_tree : (t : Tree) (depth : ℕ) (parent : Option ℕ) (a : Around) (rest : List Standing) (marks : List Bool) (f : Refusal) → NoneDeeper depth rest
+        → Of parent a t f ⊎ In marks rest f → In (marks_of spots told a t ++ marks) (listed parent depth t ++ rest) f
+    of_tree none depth parent a rest marks f deeper (inl h) = absurd h
+    of_tree none depth parent a rest marks f deeper (inr h) = h
+    of_tree (item i below behind) depth parent a rest marks f deeper h =
         let x : Standing = record { number = i; parent = parent; depth = depth } in
         let after : List Standing = listed parent depth behind in
-        let inside : List Standing = listed (Some i) (depth + 1) below in
+        let under_it : List Standing = listed (Some i) (depth + 1) below in
+        let here : Around = inside spots told i a in
+        let c : Bool = is_configuration here in
+        let mine : List Bool = marks_of spots told here below in
+        let later : List Bool = marks_of spots told a behind in
         let o = found_tree behind depth parent rest deeper in
         let past : NoneDeeper (depth + 1) (after ++ rest) = λ d lt. o.deeper d (omega (arith, lt)) in
         let b = found_tree below (depth + 1) (Some i) (after ++ rest) past in
-        let under : found (inside ++ (after ++ rest)) (depth + 1) ≡ has below = found_below i below depth (inside ++ (after ++ rest)) (after ++ rest) o.deeper b in
-        let inner : Of (Some i) below f ⊎ In (after ++ rest) f → In (inside ++ (after ++ rest)) f = of_tree below (depth + 1) (Some i) (after ++ rest) f past in
-        let outer : Of parent behind f ⊎ In rest f → In (after ++ rest) f = of_tree behind depth parent rest f deeper in
-        let given : In (x ∷ (inside ++ (after ++ rest))) f = elim h [
-          | inl here ↦ elim here [
-            | inl this ↦ inr (subst (λ (c : Bool). At parent i c f) (sym under) this)
-            | inr others ↦ elim others [ inl p ↦ inl (inner (inl p)) | inr q ↦ inl (inner (inr (outer (inl q)))) ]
+        let under : found (under_it ++ (after ++ rest)) (depth + 1) ≡ has below = found_below i below depth (under_it ++ (after ++ rest)) (after ++ rest) o.deeper b in
+        let inner : Of (Some i) here below f ⊎ In (later ++ marks) (after ++ rest) f → In (mine ++ (later ++ marks)) (under_it ++ (after ++ rest)) f =
+        of_tree below (depth + 1) (Some i) here (after ++ rest) (later ++ marks) f past in
+        let outer : Of parent a behind f ⊎ In marks rest f → In (later ++ marks) (after ++ rest) f = of_tree behind depth parent a rest marks f deeper in
+        let given : In (c ∷ (mine ++ (later ++ marks))) (x ∷ (under_it ++ (after ++ rest))) f = elim h [
+          | inl at ↦ elim at [
+            | inl this ↦ inr (subst (λ (m : Bool). At parent i m c f) (sym under) this)
+            | inr further ↦ elim further [ inl p ↦ inl (inner (inl p)) | inr q ↦ inl (inner (inr (outer (inl q)))) ]
           ]
           | inr other ↦ inl (inner (inr (outer (inr other))))
         ] in
-        subst (λ (l : List Standing). In (x ∷ l) f) (sym (append_assoc inside after rest)) given
+        subst (λ (l : List Standing). In (c ∷ ((mine ++ later) ++ marks)) (x ∷ l) f) (sym (append_assoc under_it after rest))
+        (subst (λ (m : List Bool). In (c ∷ m) (x ∷ (under_it ++ (after ++ rest))) f) (sym (append_assoc mine later marks)) given)
 
     -- the least of the list is that of the tree
-    pub imposed_all : (t : Tree) (tree : List Standing) (least : Option Refusal) → tree ≡ listed None 1 t → IsLeast (In tree) least → IsLeast (Of None t) least
-    imposed_all t tree least is h =
+    pub imposed_all : (t : Tree) (tree : List Standing) (marks : List Bool) (least : Option Refusal) → tree ≡ listed None 1 t
+        → marks ≡ marks_of spots told nothing_around t → IsLeast (In marks tree) least → IsLeast (Of None nothing_around t) least
+    imposed_all t tree marks least is told_are h =
         let all : tree ≡ listed None 1 t ++ [] = is ∙ sym (append-nil (listed None 1 t)) in
-        least_same (In tree) (Of None t) least
-        (λ f p. elim (to_tree t 1 None [] f (λ d lt. refl) (subst (λ (l : List Standing). In l f) all p)) [ inl q ↦ q | inr q ↦ absurd q ])
-        (λ f p. subst (λ (l : List Standing). In l f) (sym all) (of_tree t 1 None [] f (λ d lt. refl) (inl p)))
+        let each : marks ≡ marks_of spots told nothing_around t ++ [] = told_are ∙ sym (append-nil (marks_of spots told nothing_around t)) in
+        let there : (f : Refusal) → In marks tree f → In (marks_of spots told nothing_around t ++ []) (listed None 1 t ++ []) f =
+        λ f p. subst (λ (m : List Bool). In m (listed None 1 t ++ []) f) each (subst (λ (l : List Standing). In marks l f) all p) in
+        let back : (f : Refusal) → In (marks_of spots told nothing_around t ++ []) (listed None 1 t ++ []) f → In marks tree f =
+        λ f p. subst (λ (l : List Standing). In marks l f) (sym all) (subst (λ (m : List Bool). In m (listed None 1 t ++ []) f) (sym each) p) in
+        least_same (In marks tree) (Of None nothing_around t) least
+        (λ f p. elim (to_tree t 1 None nothing_around [] [] f (λ d lt. refl) (there f p)) [ inl q ↦ q | inr q ↦ absurd q ])
+        (λ f p. back f (of_tree t 1 None nothing_around [] [] f (λ d lt. refl) (inl p)))
         h
 
     -- one more item of the list
-    pub imposed_more : (tree : List Standing) (n left : ℕ) (x : Standing) (best one next : Option Refusal) (old : ℕ → Bool) (h required : Bool) → left ≡ n + 1
-        → slice_get tree n ≡ Some x → ((d : ℕ) → old d ≡ found (drop left tree) d) → h ≡ old (x.depth + 1) → required ≡ is_required spots marks x.number h
-        → IsLeast (IsImposed rows spots augments x.parent x.number required) one → IsLesser best one next → IsLeast (In (drop left tree)) best
-        → IsLeast (In (drop n tree)) next
-    imposed_more tree n left x best one next old h required later at was is told this lesser before =
+    pub imposed_more : (tree : List Standing) (marks : List Bool) (n left : ℕ) (x : Standing) (best one next : Option Refusal) (old : ℕ → Bool) (h c required : Bool)
+        → left ≡ n + 1 → slice_get tree n ≡ Some x → ((d : ℕ) → old d ≡ found (drop left tree) d) → h ≡ old (x.depth + 1) → n < length marks → c ≡ is_marked marks n
+        → required ≡ (is_mandatory spots told x.number h && c) → IsLeast (IsImposed rows spots augments x.parent x.number required) one → IsLesser best one next
+        → IsLeast (In (drop left marks) (drop left tree)) best → IsLeast (In (drop n marks) (drop n tree)) next
+    imposed_more tree marks n left x best one next old h c required later at was is within mark asked this lesser before =
         let xs : List Standing = drop left tree in
+        let ms : List Bool = drop left marks in
+        let m : Bool = is_marked marks n in
         let now : h ≡ found xs (x.depth + 1) = is ∙ was (x.depth + 1) in
-        let here : IsLeast (At x.parent x.number (found xs (x.depth + 1))) one =
-        subst (λ (b : Bool). IsLeast (IsImposed rows spots augments x.parent x.number b) one) (told ∙ ap (is_required spots marks x.number) now) this in
-        let all : drop n tree ≡ x ∷ xs = rest_of tree n x at ∙ ap (λ (m : ℕ). x ∷ drop m tree) (sym later) in
-        subst (λ (l : List Standing). IsLeast (In l) next) (sym all)
-        (least_lesser (In xs) (At x.parent x.number (found xs (x.depth + 1))) best one next lesser before here)
+        let here : IsLeast (At x.parent x.number (found xs (x.depth + 1)) m) one =
+        subst (λ (b : Bool). IsLeast (IsImposed rows spots augments x.parent x.number b) one)
+        (asked ∙ ap (λ (b : Bool). is_mandatory spots told x.number h && b) mark ∙ ap (λ (b : Bool). is_mandatory spots told x.number b && m) now) this in
+        let all : drop n tree ≡ x ∷ xs = rest_of tree n x at ∙ ap (λ (k : ℕ). x ∷ drop k tree) (sym later) in
+        let each : drop n marks ≡ m ∷ ms = drop_more marks n false within ∙ ap (λ (k : ℕ). m ∷ drop k marks) (sym later) in
+        subst (λ (l : List Bool). IsLeast (In l (drop n tree)) next) (sym each)
+        (subst (λ (l : List Standing). IsLeast (In (m ∷ ms) l) next) (sym all)
+        (least_lesser (In ms xs) (At x.parent x.number (found xs (x.depth + 1)) m) best one next lesser before here))
 
   pub found_more : (tree : List Standing) (n left : ℕ) (x : Standing) (old new : ℕ → Bool) (h counted : Bool) → left ≡ n + 1
-      → slice_get tree n ≡ Some x → ((d : ℕ) → old d ≡ found (drop left tree) d) → h ≡ old (x.depth + 1) → counted ≡ counts spots augments marks x.number h
+      → slice_get tree n ≡ Some x → ((d : ℕ) → old d ≡ found (drop left tree) d) → h ≡ old (x.depth + 1) → counted ≡ counts spots augments told x.number h
       → ((d : ℕ) → new d ≡ met x.depth counted old d) → (d : ℕ) → new d ≡ found (drop n tree) d
-  found_more tree n left x old new h counted later at was is told now d =
+  found_more tree n left x old new h counted later at was is asked now d =
       let xs : List Standing = drop left tree in
       let all : drop n tree ≡ x ∷ xs = rest_of tree n x at ∙ ap (λ (m : ℕ). x ∷ drop m tree) (sym later) in
       now d ∙ met_same x.depth counted old (found xs) d was
-      ∙ ap (λ (b : Bool). met x.depth b (found xs) d) (told ∙ ap (counts spots augments marks x.number) (is ∙ was (x.depth + 1)))
+      ∙ ap (λ (b : Bool). met x.depth b (found xs) d) (asked ∙ ap (counts spots augments told x.number) (is ∙ was (x.depth + 1)))
       ∙ ap (λ (l : List Standing). found l d) (sym all)

@@ -1,6 +1,6 @@
 -- Augments of modules that add mandatory configuration nodes to nodes of other modules (RFC 7950, sections 3 and 7.17).
-use Rattle.std.specs.Prelude.{◌≡◌, ◌≢◌, ℕ, ◌-◌, ◌&&◌, ◌||◌, ◌⊎◌, nat_lt, not, Bool, true, false, List, length, if◌then◌else◌, Option, Some, None, slice_get}
-use Rattle.std.specs.Option.{is_some}
+use Rattle.std.specs.Prelude.{◌≡◌, ◌≢◌, ℕ, ◌-◌, ◌&&◌, ◌||◌, ◌⊎◌, nat_lt, not, Bool, true, false, List, length, if◌then◌else◌, Option, Some, None, slice_get, slice_index_or}
+use Rattle.std.specs.Option.{is_some, unwrap_or}
 use Rattle.yv_statement.specs.declared.refusal.Code.TheVariants as code
 use Rattle.yv_statement.specs.declared.refusal.Refusal.{Refusal}
 use Rattle.yv_rows.specs.Rows.{Row}
@@ -22,6 +22,20 @@ giver_of items augments (Some s) = if nat_lt items s.group then slice_get augmen
 abbrev pub is_given : List Spot → (augments : List ℕ) → (number : ℕ) → Bool
 is_given spots augments i = is_some (giver_of (length spots) augments (slice_get spots i))
 
+-- what is told of numbered items, as refines have left them: whether one is mandatory by itself, whether it has a presence, and what its
+-- `config` says
+pub record Told : Type 0 where
+  pub mandatory : ℕ → Bool
+  pub presence : ℕ → Bool
+  pub config : ℕ → Option Bool
+
+abbrev pub told_in : Marks → Told
+told_in m = record {
+  mandatory = is_marked m.mandatory.now;
+  presence = is_marked m.presence.now;
+  config = λ i. slice_index_or m.config.now i None;
+}
+
 abbrev pub is_container : Kind → Bool
 is_container kind.Container = true
 is_container _ = false
@@ -31,20 +45,46 @@ is_container_without presence None = false
 is_container_without presence (Some s) = is_container s.label.kind && not presence
 
 -- an item is mandatory by itself, or as a container without presence that has a mandatory node
-abbrev pub is_mandatory : List Spot → Marks → (number : ℕ) → (has_mandatory : Bool) → Bool
-is_mandatory spots marks i has =
-    is_marked marks.mandatory.now i || (is_container_without (is_marked marks.presence.now i) (slice_get spots i) && has)
+abbrev pub is_mandatory : List Spot → Told → (number : ℕ) → (has_mandatory : Bool) → Bool
+is_mandatory spots told i has = told.mandatory i || (is_container_without (told.presence i) (slice_get spots i) && has)
 
 -- one of these items is mandatory, as things stood before any augment of a module was applied: what these give is passed over
-abbrev pub has_mandatory : List Spot → (augments : List ℕ) → Marks → Tree → Bool
-has_mandatory spots augments marks none = false
-has_mandatory spots augments marks (item i below behind) =
-    (not (is_given spots augments i) && is_mandatory spots marks i (has_mandatory spots augments marks below))
-    || has_mandatory spots augments marks behind
+abbrev pub has_mandatory : List Spot → (augments : List ℕ) → Told → Tree → Bool
+has_mandatory spots augments told none = false
+has_mandatory spots augments told (item i below behind) =
+    (not (is_given spots augments i) && is_mandatory spots told i (has_mandatory spots augments told below))
+    || has_mandatory spots augments told behind
 
--- an item is a mandatory configuration node
-abbrev pub is_required : List Spot → Marks → (number : ℕ) → (has_mandatory : Bool) → Bool
-is_required spots marks i has = is_mandatory spots marks i has && not (is_marked marks.states.now i)
+-- what is around an item: whether it is configuration without a `config` of its own, and whether it stands in an rpc, action or
+-- notification (section 7.21.1)
+pub record Around : Type 0 where
+  pub is_config : Bool
+  pub in_operation : Bool
+
+-- at the top
+abbrev pub nothing_around : Around
+nothing_around = record { is_config = true; in_operation = false }
+
+abbrev pub is_operation : Kind → Bool
+is_operation kind.Rpc = true
+is_operation kind.Action = true
+is_operation kind.Notification = true
+is_operation _ = false
+
+abbrev pub is_operation_by : Option Spot → Bool
+is_operation_by None = false
+is_operation_by (Some s) = is_operation s.label.kind
+
+-- what is around the items below an item that stands so
+abbrev pub inside : List Spot → Told → (number : ℕ) → Around → Around
+inside spots told i a = record {
+  is_config = unwrap_or (told.config i) a.is_config;
+  in_operation = is_operation_by (slice_get spots i) || a.in_operation;
+}
+
+-- an item is configuration, where what is below it stands so
+abbrev pub is_configuration : (inside : Around) → Bool
+is_configuration a = a.is_config && not a.in_operation
 
 -- an item in the block of an augment of a module stands below a node of another module, and is required: the augment is refused
 abbrev pub IsImposed : List Row → List Spot → (augments : List ℕ) → (parent : Option ℕ) → (number : ℕ) → (required : Bool)
@@ -54,9 +94,11 @@ IsImposed rows spots augments parent i required f =
     × (giver_of (length spots) augments (Some s) ≡ Some augment)
     × Refused rows code.BadAugment ((s.home ≢ node.home) × (required ≡ true)) augment f
 
--- an augment of a module adds a mandatory configuration node to a node of another module, among the items of this tree below a parent
-abbrev pub Imposed : List Row → List Spot → (augments : List ℕ) → Marks → (parent : Option ℕ) → Tree → Refusal → Type 0
-Imposed rows spots augments marks parent none f = ⊥
-Imposed rows spots augments marks parent (item i below behind) f =
-    IsImposed rows spots augments parent i (is_required spots marks i (has_mandatory spots augments marks below)) f
-    ⊎ (Imposed rows spots augments marks (Some i) below f ⊎ Imposed rows spots augments marks parent behind f)
+-- an augment of a module adds a mandatory configuration node to a node of another module, among the items of this tree below a parent,
+-- where this is around them
+abbrev pub Imposed : List Row → List Spot → (augments : List ℕ) → Told → (parent : Option ℕ) → Around → Tree → Refusal → Type 0
+Imposed rows spots augments told parent a none f = ⊥
+Imposed rows spots augments told parent a (item i below behind) f =
+    IsImposed rows spots augments parent i
+    (is_mandatory spots told i (has_mandatory spots augments told below) && is_configuration (inside spots told i a)) f
+    ⊎ (Imposed rows spots augments told (Some i) (inside spots told i a) below f ⊎ Imposed rows spots augments told parent a behind f)

@@ -17,18 +17,18 @@ abbrev pub above_on : List Spot → (marks : List Bool) → Option ℕ → Bool
 above_on spots marks None = true
 above_on spots marks (Some p) = uses_on (slice_get spots p) (is_marked marks p)
 
-abbrev pub block_on : (statements : List Bool) → (block : ℕ) → Option Row → Bool
+abbrev pub block_on : (statements : ℕ → Bool) → (block : ℕ) → Option Row → Bool
 block_on statements block None = true
-block_on statements block (Some r) = if is_augment r then is_marked statements block else true
+block_on statements block (Some r) = if is_augment r then statements block else true
 
 -- what an augment gives is there where the conditions of the augment hold
-abbrev pub augment_on : List Row → (statements : List Bool) → Option Row → Bool
+abbrev pub augment_on : List Row → (statements : ℕ → Bool) → Option Row → Bool
 augment_on rows statements None = true
 augment_on rows statements (Some r) = block_on statements r.scope (slice_get rows r.scope)
 
--- the marks of items, where statements and items have marks of their own: by the conditions of a statement, and of an item by those
--- of its statement and of the refines that change it
-pub record AreOn (rows : List Row) (spots : List Spot) (items : List Item) (statements own marks : List Bool) : Type 0 where
+-- The marks of items: an item is there where the conditions of its statement and of the refines that change it hold, as `own` tells, and
+-- those of what gave it, where `statements` tells whether those of a numbered statement hold.
+pub record AreOn (rows : List Row) (spots : List Spot) (items : List Item) (statements own : ℕ → Bool) (marks : List Bool) : Type 0 where
   pub each : length marks ≡ length items
   pub at : (i : ℕ) (x : Item) → slice_get items i ≡ Some x → is_marked marks i
-      ≡ (is_marked own i && (above_on spots marks x.parent && augment_on rows statements (slice_get rows (number_of x.origin))))
+      ≡ (own i && (above_on spots marks x.parent && augment_on rows statements (slice_get rows (number_of x.origin))))

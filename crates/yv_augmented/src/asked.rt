@@ -44,7 +44,7 @@ pub(crate) fn is_augment(entry: &Entry<'_, '_>) -> bool
 
 // Whether what stands in a block is there by the conditions of the block, if that is an augment.
 fn block_on(rows: &Rows<'_, '_>, statements: &[bool], block: usize) -> bool
-    ensures { result ≡ block_on statements.now block (slice_get (rows_in rows.now) block) }
+    ensures { result ≡ block_on (is_marked statements.now) block (slice_get (rows_in rows.now) block) }
 {
     match rows.entries().get(block) {
         Some(entry) => {
@@ -60,7 +60,7 @@ fn block_on(rows: &Rows<'_, '_>, statements: &[bool], block: usize) -> bool
 
 // The same of the block in which a numbered statement stands.
 fn augment_on(rows: &Rows<'_, '_>, statements: &[bool], statement: usize) -> bool
-    ensures { result ≡ augment_on (rows_in rows.now) statements.now (slice_get (rows_in rows.now) statement) }
+    ensures { result ≡ augment_on (rows_in rows.now) (is_marked statements.now) (slice_get (rows_in rows.now) statement) }
 {
     match rows.entries().get(statement) {
         Some(entry) => block_on(rows, statements, entry.scope),
@@ -78,7 +78,7 @@ fn item_on(
     item: &Item,
 ) -> bool
     ensures { result ≡ (own && (above_on spots.now marks.now item.now.parent
-        && augment_on (rows_in rows.now) statements.now (slice_get (rows_in rows.now) (number_of item.now.origin)))) }
+        && augment_on (rows_in rows.now) (is_marked statements.now) (slice_get (rows_in rows.now) (number_of item.now.origin)))) }
 {
     own && above_on(spots, marks, item.parent) && augment_on(rows, statements, item.origin.number())
 }
@@ -94,7 +94,8 @@ pub fn conditions(
     own: &[bool],
 ) -> Result<Vec<bool>, AllocError>
     requires { ParentsComeFirst items.now }
-    ensures { IfOk result (λ marks. AreOn (rows_in rows.now) spots.now items.now statements.now own.now marks.items) }
+    ensures { IfOk result (λ marks. AreOn (rows_in rows.now) spots.now items.now (is_marked statements.now) (is_marked own.now)
+        marks.items) }
 {
     let mut marks = Vec::new(alloc);
     for (number, item) in items.iter().enumerate() {

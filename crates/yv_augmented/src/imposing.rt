@@ -1,10 +1,11 @@
 //! Augments of modules that add mandatory nodes to nodes of other modules.
-ghost use Rattle.std.specs.Prelude.{◌≡◌, ◌+◌, ◌==◌, ◌&&◌, ◌||◌, not, ℕ, length, if◌then◌else◌, slice_get, IfOk, OnOk, None};
+ghost use Rattle.std.specs.Prelude.{◌≡◌, ◌+◌, ◌==◌, ◌&&◌, ◌||◌, not, ℕ, length, if◌then◌else◌, slice_get, slice_index_or, IfOk, OnOk, None};
+ghost use Rattle.std.specs.Option.{unwrap_or};
 ghost use Rattle.yv_statement.specs.Order.{IsLeast};
 ghost use Rattle.yv_rows.specs.Lent.{rows_in};
 ghost use Rattle.yv_augments.specs.Tree.{Tree, listed};
-ghost use Rattle.yv_augmented.specs.Imposing.{Imposed, giver_of, is_container, is_container_without, is_given, is_mandatory, is_required};
-ghost use Rattle.yv_augmented.specs.InnerImposing.{counts, imposed_by, is_imposed, met};
+ghost use Rattle.yv_augmented.specs.Imposing.{Imposed, giver_of, inside, is_configuration, is_container, is_container_without, is_given, is_mandatory, is_operation, is_operation_by, nothing_around, told_in};
+ghost use Rattle.yv_augmented.specs.InnerImposing.{around_by, configured, counts, entered, imposed_by, is_imposed, met};
 ghost use Rattle.yv_augmented.specs.Left.{is_marked};
 ghost use Rattle.yv_augmented.specs.Spots.{spot_at};
 
@@ -24,8 +25,8 @@ pub struct Marks<'m> {
     pub mandatory: &'m [bool],
     /// It has a `presence` statement.
     pub presence: &'m [bool],
-    /// It is no configuration in the final tree: state data, or in an operation or a notification.
-    pub states: &'m [bool],
+    /// What its `config` statement says, if there is one.
+    pub config: &'m [Option<bool>],
 }
 
 // The augment of a module in whose block an item stands; there are so many items.
@@ -68,24 +69,29 @@ fn is_container_without(presence: bool, spot: Option<Spot>) -> bool
 
 // Whether an item is mandatory, below which a mandatory node stands or none.
 fn is_mandatory(spots: &[Spot], marks: &Marks<'_>, number: usize, has: bool) -> bool
-    ensures { result ≡ is_mandatory spots.now marks.now number has }
+    ensures { result ≡ is_mandatory spots.now (told_in marks.now) number has }
 {
     let presence = is_marked(marks.presence, number);
     is_marked(marks.mandatory, number)
         || (is_container_without(presence, spots.get(number).copied()) && has)
 }
 
-// Whether an item is a mandatory configuration node.
-fn is_required(spots: &[Spot], marks: &Marks<'_>, number: usize, has: bool) -> bool
-    ensures { result ≡ is_required spots.now marks.now number has }
+// Whether an item is mandatory, and configuration.
+fn is_required(
+    spots: &[Spot],
+    marks: &Marks<'_>,
+    is_configuration: bool,
+    number: usize,
+    has: bool,
+) -> bool
+    ensures { result ≡ (is_mandatory spots.now (told_in marks.now) number has && is_configuration) }
 {
-    let state = is_marked(marks.states, number);
-    is_mandatory(spots, marks, number, has) && !state
+    is_mandatory(spots, marks, number, has) && is_configuration
 }
 
 // Whether an item counts as a mandatory node of the one above it.
 fn counts(spots: &[Spot], augments: &[usize], marks: &Marks<'_>, number: usize, has: bool) -> bool
-    ensures { result ≡ counts spots.now augments.now marks.now number has }
+    ensures { result ≡ counts spots.now augments.now (told_in marks.now) number has }
 {
     !is_given(spots, augments, number) && is_mandatory(spots, marks, number, has)
 }
@@ -161,9 +167,103 @@ fn meet(found: &mut Vec<bool>, depth: usize, next: usize, counts: bool) -> Resul
     Ok(())
 }
 
+// What the `config` statement of an item says.
+fn config_of(config: &[Option<bool>], number: usize) -> Option<bool>
+    ensures { result ≡ slice_index_or config.now number None }
+{
+    config.get(number).copied().unwrap_or(None)
+}
+
+// Whether an item is configuration by its `config` statement, or without one by what is around it.
+fn config_inside(marks: &Marks<'_>, number: usize, is_config: bool) -> bool
+    ensures { result ≡ unwrap_or (slice_index_or marks.now.config.now number None) is_config }
+{
+    config_of(marks.config, number).unwrap_or(is_config)
+}
+
+fn is_operation(kind: Kind) -> bool
+    ensures { result ≡ is_operation kind }
+{
+    match kind {
+        Kind::Rpc | Kind::Action | Kind::Notification => true,
+        _ => false,
+    }
+}
+
+// Whether an item is an rpc, an action or a notification.
+fn is_operation_by(spot: Option<Spot>) -> bool
+    ensures { result ≡ is_operation_by spot }
+{
+    match spot {
+        Some(spot) => is_operation(spot.label.kind),
+        None => false,
+    }
+}
+
+// Whether what stands in an item stands in an operation or a notification, by the item and by what is around it.
+fn operation_inside(spots: &[Spot], number: usize, in_operation: bool) -> bool
+    ensures { result ≡ (is_operation_by (slice_get spots.now number) || in_operation) }
+{
+    is_operation_by(spots.get(number).copied()) || in_operation
+}
+
+// Whether what stands so is configuration.
+fn is_configuration(is_config: bool, in_operation: bool) -> bool
+    ensures { result ≡ (is_config && not in_operation) }
+{
+    is_config && !in_operation
+}
+
+// The item of this row is met, where those below it stand at the next depth: whether it is configuration.
+fn enter(
+    states: &mut Vec<bool>,
+    operations: &mut Vec<bool>,
+    spots: &[Spot],
+    marks: &Marks<'_>,
+    row: &Row,
+    next: usize,
+) -> Result<bool, AllocError>
+    ensures value { IfOk result (λ mark. mark ≡ is_configuration (inside spots.now (told_in marks.now) row.now.number
+        (around_by (is_marked states.old.items) (is_marked operations.old.items) row.now.depth))) }
+    ensures around { OnOk result ((d : ℕ) → around_by (is_marked states.new.items) (is_marked operations.new.items) d
+        ≡ entered next (inside spots.now (told_in marks.now) row.now.number
+        (around_by (is_marked states.old.items) (is_marked operations.old.items) row.now.depth))
+        (around_by (is_marked states.old.items) (is_marked operations.old.items)) d) }
+{
+    let is_config = config_inside(marks, row.number, !is_marked(states, row.depth));
+    let in_operation = operation_inside(spots, row.number, is_marked(operations, row.depth));
+    put(states, next, !is_config)?;
+    put(operations, next, in_operation)?;
+    Ok(is_configuration(is_config, in_operation))
+}
+
+// A mark for each of these items that is configuration.
+fn configured(
+    alloc: Global,
+    spots: &[Spot],
+    marks: &Marks<'_>,
+    tree: &[Row],
+) -> Result<Vec<bool>, AllocError>
+    ensures { IfOk result (λ places. places.items ≡ configured spots.now (told_in marks.now) (λ d. nothing_around) tree.now) }
+{
+    let mut places = Vec::new(alloc);
+    let mut states = Vec::new(alloc);
+    let mut operations = Vec::new(alloc);
+    for row in tree {
+        // No memory holds a tree so deep.
+        let Some(next) = row.depth.checked_add(1) else {
+            return Err(AllocError);
+        };
+        let mark = enter(&mut states, &mut operations, spots, marks, row, next)?;
+        places.push(mark)?;
+    }
+    Ok(places)
+}
+
 /// The least `BadAugment` of an augment of a module that adds a mandatory configuration node to a node of another module, judged on
-/// what it gave before any augment of a module was applied: itself, and below containers without presence. These are the items of
-/// the final tree, the spots of all items, and the augments of modules. Takes time and memory linear in items.
+/// what it gave before any augment of a module was applied: itself, and below containers without presence. Whether an item is
+/// configuration is judged in the final tree: what stands in an operation or a notification is none. These are the items of the final
+/// tree, the spots of all items, and the augments of modules. Takes time and memory linear in items.
 pub fn first_imposed(
     alloc: Global,
     rows: &Rows<'_, '_>,
@@ -173,8 +273,9 @@ pub fn first_imposed(
     tree: &[Row],
 ) -> Result<Option<Refusal>, AllocError>
     ensures { (t : Tree) → tree.now ≡ listed None 1 t
-        → IfOk result (IsLeast (Imposed (rows_in rows.now) spots.now augments.now marks.now None t)) }
+        → IfOk result (IsLeast (Imposed (rows_in rows.now) spots.now augments.now (told_in marks.now) None nothing_around t)) }
 {
+    let configured = configured(alloc, spots, marks, tree)?;
     let mut found = Vec::new(alloc);
     let mut least = None;
     let mut left = tree.len();
@@ -186,7 +287,8 @@ pub fn first_imposed(
             return Err(AllocError);
         };
         let has = is_marked(&found, next);
-        let required = is_required(spots, marks, row.number, has);
+        let is_configuration = is_marked(&configured, left);
+        let required = is_required(spots, marks, is_configuration, row.number, has);
         least = lesser(least, imposed(rows, spots, augments, required, &row));
         let counted = counts(spots, augments, marks, row.number, has);
         meet(&mut found, row.depth, next, counted)?;

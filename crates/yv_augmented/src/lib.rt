@@ -10,6 +10,7 @@ mod giving;
 mod grafts;
 mod imposing;
 mod kinds;
+pub mod laws;
 mod laying;
 mod misplaced;
 mod plan;

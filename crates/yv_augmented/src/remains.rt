@@ -1,9 +1,11 @@
 //! What is left of the final tree.
-ghost use Rattle.std.specs.Prelude.{◌≡◌, ◌++◌, None, IfOk, OnOk};
+ghost use Rattle.std.specs.Prelude.{◌≡◌, ◌++◌, ◌&&◌, not, None, slice_get, IfOk, OnOk};
 ghost use Rattle.yv_augments.specs.Tree.{Tree, listed};
-ghost use Rattle.yv_augmented.specs.Left.{is_marked, left};
+ghost use Rattle.yv_augmented.specs.Left.{is_left, is_marked, is_uses_by, left};
 ghost use Rattle.yv_augmented.specs.InnerLeft.{cut_by, is_below, is_left_by, one_if, scanned};
 
+use crate::kinds::is_uses;
+use crate::spot::Spot;
 use std::alloc::{AllocError, Global};
 use yv_augments::Row;
 
@@ -22,6 +24,23 @@ pub(crate) fn is_marked(marks: &[bool], number: usize) -> bool
     ensures { result ≡ is_marked marks.now number }
 {
     marks.get(number).copied().unwrap_or(false)
+}
+
+// Whether an item is a uses, where there is one.
+fn is_uses_by(spot: Option<Spot>) -> bool
+    ensures { result ≡ is_uses_by spot }
+{
+    match spot {
+        Some(spot) => is_uses(spot.label.kind),
+        None => false,
+    }
+}
+
+// Whether an item is a node that is kept.
+fn is_left(spots: &[Spot], marks: &[bool], number: usize) -> bool
+    ensures { result ≡ is_left spots.now marks.now number }
+{
+    is_marked(marks, number) && !is_uses_by(spots.get(number).copied())
 }
 
 // The depth of the item that isn't kept behind an item of this depth, and whether that one is left.
@@ -50,23 +69,34 @@ fn add(rows: &mut Vec<Row>, row: Row, is_left: bool) -> Result<(), AllocError>
 }
 
 // The items of a list that are left.
-fn scanned(alloc: Global, tree: &[Row], kept: &[bool]) -> Result<Vec<Row>, AllocError>
-    ensures { IfOk result (λ rows. rows.items ≡ scanned (is_marked kept.now) None tree.now) }
+fn scanned(
+    alloc: Global,
+    spots: &[Spot],
+    tree: &[Row],
+    marks: &[bool],
+) -> Result<Vec<Row>, AllocError>
+    ensures { IfOk result (λ rows. rows.items ≡ scanned (is_left spots.now marks.now) None tree.now) }
 {
     let mut rows = Vec::new(alloc);
     let mut cut = None;
     for row in tree {
-        let (next, is_left) = step(cut, is_marked(kept, row.number), row.depth);
+        let (next, is_left) = step(cut, is_left(spots, marks, row.number), row.depth);
         add(&mut rows, *row, is_left)?;
         cut = next;
     }
     Ok(rows)
 }
 
-/// What is left of the final tree, as a list: an item without a mark is left out, and so is what stands below it. Takes time and
-/// memory linear in the list.
-pub fn left(alloc: Global, tree: &[Row], kept: &[bool]) -> Result<Vec<Row>, AllocError>
-    ensures { (t : Tree) → tree.now ≡ listed None 1 t → IfOk result (λ rows. rows.items ≡ listed None 1 (left (is_marked kept.now) t)) }
+/// What is left of the final tree, as a list: an item without a mark is left out, and so is a uses, which is no schema node, and what
+/// stands below either. Takes time and memory linear in the list.
+pub fn left(
+    alloc: Global,
+    spots: &[Spot],
+    tree: &[Row],
+    marks: &[bool],
+) -> Result<Vec<Row>, AllocError>
+    ensures { (t : Tree) → tree.now ≡ listed None 1 t
+        → IfOk result (λ rows. rows.items ≡ listed None 1 (left (is_left spots.now marks.now) t)) }
 {
-    scanned(alloc, tree, kept)
+    scanned(alloc, spots, tree, marks)
 }

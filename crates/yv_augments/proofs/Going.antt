@@ -1,6 +1,7 @@
 -- How rounds go on.
-use Rattle.std.proofs.Common.{◌≡◌, ℕ, zero, suc, ◌+◌, ◌≤◌, Bool, true, false, not, ◌&&◌, ◌||◌, if◌then◌else◌, List, [], ◌∷◌, drop, refl, sym, ◌∙◌, ap, subst, arith, length, Option, Some, None}
+use Rattle.std.proofs.Common.{inl, inr, ◌≡◌, ℕ, zero, suc, ◌+◌, ◌≤◌, Bool, true, false, not, ◌&&◌, ◌||◌, if◌then◌else◌, List, [], ◌∷◌, drop, refl, sym, ◌∙◌, ap, subst, arith, length, Option, Some, None}
 use Rattle.std.specs.List.{slice_get}
+use Rattle.std.proofs.lemmas.Bool.{cases_lt}
 use Rattle.std.proofs.lemmas.List.{at_drop_more, drop_all}
 use Rattle.std.proofs.lemmas.Option.{slice_get_within, get_or_from_slice_get, same_Some}
 use Rattle.yv_augments.specs.declared.label.Label.{Label}
@@ -124,3 +125,24 @@ pub nowhere : (labels : List Label) (first : ℕ) (paths : List (List ℕ)) (old
 nowhere labels first paths old new are k names at waits =
     ended_none (is_applied new (first + k)) (ended labels new.groups (length labels) names (end.Start 0)) waits
     (idle_all labels first paths k names new are.last at)
+
+-- rounds behind one that applies none change nothing
+stays : (labels : List Label) (first : ℕ) (paths : List (List ℕ)) (st : State) (n m : ℕ) → n ≤ m
+    → is_any labels first paths (rounds labels first paths n st) ≡ false → rounds labels first paths m st ≡ rounds labels first paths n st
+stays labels first paths st n zero le last = ap (λ k. rounds labels first paths k st) (let e : 0 ≡ n = omega (arith, le) in e)
+stays labels first paths st n (suc m) le last = elim (cases_lt m n) [
+  | inl past ↦ ap (λ k. rounds labels first paths k st) (let e : suc m ≡ n = omega (arith, le, past) in e)
+  | inr more ↦
+      let same : rounds labels first paths m st ≡ rounds labels first paths n st = stays labels first paths st n m more last in
+      sym (one_more labels first paths m st) ∙ ap (round labels first paths) same ∙ idle_round labels first paths (rounds labels first paths n st) last
+]
+
+pub rounds_one : (labels : List Label) (first : ℕ) (paths : List (List ℕ)) (old a b : State) → AreApplied labels first paths old a
+    → AreApplied labels first paths old b → a ≡ b
+rounds_one labels first paths old a b p q =
+    let last : is_any labels first paths (rounds labels first paths p.count old) ≡ false = ap (is_any labels first paths) (sym p.is) ∙ p.last in
+    let end : is_any labels first paths (rounds labels first paths q.count old) ≡ false = ap (is_any labels first paths) (sym q.is) ∙ q.last in
+    elim (cases_lt p.count q.count) [
+      | inl lt ↦ p.is ∙ sym (stays labels first paths old p.count q.count (omega (arith, lt)) last) ∙ sym q.is
+      | inr le ↦ p.is ∙ stays labels first paths old q.count p.count le end ∙ sym q.is
+    ]

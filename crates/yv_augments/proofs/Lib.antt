@@ -11,3 +11,5 @@ pub mod Resuming
 pub mod UnplacedLemmas
 pub mod Parents
 pub mod Unique
+pub mod Distinct
+pub mod Staying

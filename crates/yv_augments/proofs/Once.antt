@@ -73,7 +73,7 @@ turn_keeps y labels k start limit names st each l =
 pub turn_ends : (labels : List Label) (k start limit : ℕ) (names : List ℕ) (st : State) → length (turn labels k start limit names st).ends ≡ length st.ends
 turn_ends labels k start limit names st = ends_keep labels k (ended labels st.groups limit names (end.Start start)) st (is_applied st k)
 
-turn_room : (labels : List Label) (k start limit : ℕ) (names : List ℕ) (st : State) → HasRoom labels st → k < length st.ends → HasRoom labels (turn labels k start limit names st)
+pub turn_room : (labels : List Label) (k start limit : ℕ) (names : List ℕ) (st : State) → HasRoom labels st → k < length st.ends → HasRoom labels (turn labels k start limit names st)
 turn_room labels k start limit names st each l =
     let a = (turn_keeps 0 labels k start limit names st each l).each in
     let b = turn_ends labels k start limit names st in
@@ -114,7 +114,7 @@ entered_times y g i st l =
     omega (arith, e1, e2)
 
 -- the items from this number on stand once, and nothing else stands anywhere
-record StandFrom (labels : List Label) (augments first : ℕ) (st : State) : Type 0 where
+pub record StandFrom (labels : List Label) (augments first : ℕ) (st : State) : Type 0 where
   pub groups : length st.groups ≡ length labels + 1 + augments
   pub ends : length st.ends ≡ augments
   pub start : first ≤ length labels
@@ -201,7 +201,7 @@ stand_nothing labels augments = record {
   behind = λ y h. none_times y (length labels + 1 + augments);
 }
 
-stand : (labels : List Label) (augments first : ℕ) (st : State) → HaveEntered labels augments first st → StandFrom labels augments first st
+pub stand : (labels : List Label) (augments first : ℕ) (st : State) → HaveEntered labels augments first st → StandFrom labels augments first st
 stand labels augments first st none_yet = stand_nothing labels augments
 stand labels augments first st (turned {st = old} k start limit names l h) =
     stand_turned labels augments first old k start limit names l (stand labels augments first old h)

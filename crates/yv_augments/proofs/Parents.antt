@@ -7,11 +7,11 @@ use Rattle.yv_augments.specs.Groups.{Groups}
 use Rattle.yv_augments.specs.Tree.{Tree, none, item, listed, AreRows, StandsBelow, StandsInTree}
 
 -- where an element of two lists stands
-data Side {A : Type 0} (xs ys : List A) (x : A) : ℕ → Type 0 where
+pub data Side {A : Type 0} (xs ys : List A) (x : A) : ℕ → Type 0 where
   front : {k : ℕ} → slice_get xs k ≡ Some x → Side xs ys x k
   back : {k : ℕ} (j : ℕ) → k ≡ length xs + j → slice_get ys j ≡ Some x → Side xs ys x k
 
-side : {A : Type 0} (xs ys : List A) (x : A) (k : ℕ) → slice_get (xs ++ ys) k ≡ Some x → Side xs ys x k
+pub side : {A : Type 0} (xs ys : List A) (x : A) (k : ℕ) → slice_get (xs ++ ys) k ≡ Some x → Side xs ys x k
 side [] ys x k at = back k (omega arith) at
 side (z ∷ xs) ys x zero at = front at
 side (z ∷ xs) ys x (suc k) at = elim (side xs ys x k at) [ front h ↦ front h | back j e h ↦ back j (omega (arith, e)) h ]

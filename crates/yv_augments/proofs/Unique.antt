@@ -7,7 +7,7 @@ use Rattle.std.proofs.lemmas.List.Sums.{sum_by-append}
 use Rattle.std.proofs.lemmas.List.Sorted.{sum_by-IsPermutation, IsNonDecreasingBy-from_sort}
 use Rattle.yv_augments.specs.declared.row.Row.{Row}
 use Rattle.yv_augments.specs.Groups.{Groups, members_of}
-use Rattle.yv_augments.specs.Tree.{Tree, item, AreInOrder, Make, no_items, one_more, listed, AreRows}
+use Rattle.yv_augments.specs.Tree.{Tree, item, AreInOrder, Make, no_items, one_more, listed, AreRows, IsTree}
 
 abbrev one_if : Bool → ℕ
 one_if b = if b then 1 else 0
@@ -92,8 +92,11 @@ make_one groups (i ∷ others) t u (one_more {items = a} {below = below} {behind
     let rest : behind ≡ behind' = make_one groups others behind behind' r s in
     ap (λ x. item i x behind) first ∙ ap (λ x. item i below' x) rest
 
+pub tree_one : (groups : Groups) (a b : Tree) → IsTree groups a → IsTree groups b → a ≡ b
+tree_one groups a b p q =
+    let e : p.0 ≡ q.0 = order_one groups 0 p.0 q.0 p.1 q.1 in
+    make_one groups p.0 a b p.2 (subst (λ l. Make groups l b) (sym e) q.2)
+
 pub rows_one : (groups : Groups) (first second : List Row) → AreRows groups first → AreRows groups second → first ≡ second
 rows_one groups first second p q =
-    let e : p.is_tree.0 ≡ q.is_tree.0 = order_one groups 0 p.is_tree.0 q.is_tree.0 p.is_tree.1 q.is_tree.1 in
-    let trees : p.tree ≡ q.tree = make_one groups p.is_tree.0 p.tree q.tree p.is_tree.2 (subst (λ l. Make groups l q.tree) (sym e) q.is_tree.2) in
-    p.rows_are ∙ ap (listed None 1) trees ∙ sym q.rows_are
+    p.rows_are ∙ ap (listed None 1) (tree_one groups p.tree q.tree p.is_tree q.is_tree) ∙ sym q.rows_are

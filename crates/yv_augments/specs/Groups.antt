@@ -1,5 +1,5 @@
 -- Which items stand where, as augments are applied.
-use Rattle.std.specs.Prelude.{ℕ, ◌+◌, ◌==◌, ◌++◌, List, [], length, set, slice_index_or, sum_by, count_by}
+use Rattle.std.specs.Prelude.{ℕ, ◌+◌, ◌<◌, ◌==◌, ◌++◌, List, [], length, set, slice_index_or, sum_by, count_by}
 use Rattle.yv_augments.specs.declared.label.Label.{Label}
 
 -- The items of each group, by their numbers. Group 0 is the top, and group i + 1 has what stands below item i; what a uses gives
@@ -21,3 +21,7 @@ moved from to groups = set (set groups to (members_of groups to ++ members_of gr
 -- how often an item stands in groups
 abbrev pub times : (item : ℕ) → Groups → ℕ
 times item groups = sum_by (λ members. count_by (λ i. i == item) members) groups
+
+-- an item stands in a group
+abbrev pub IsIn : (item group : ℕ) → Groups → Type 0
+IsIn item g groups = 0 < count_by (λ i. i == item) (members_of groups g)

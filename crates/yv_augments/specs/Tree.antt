@@ -32,6 +32,11 @@ listed parent depth none = []
 listed parent depth (item i below behind) =
     record { number = i; parent = parent; depth = depth } ∷ (listed (Some i) (depth + 1) below ++ listed parent depth behind)
 
+-- the group of what stands below an item, or at the top
+abbrev pub group_under : (parent : Option ℕ) → ℕ
+group_under None = 0
+group_under (Some i) = i + 1
+
 -- these are the items of the final tree in order, those at the top having depth 1
 pub record AreRows (groups : Groups) (rows : List Row) : Type 0 where
   pub tree : Tree

@@ -26,6 +26,14 @@ target labels _ = None
 abbrev pub target_of : List Label → List (Option End) → ℕ → Option ℕ
 target_of labels ends k = option_and_then (target labels) (slice_index_or ends k None)
 
+abbrev pub group_by : (own : ℕ) → Option ℕ → ℕ
+group_by own None = own
+group_by own (Some i) = i + 1
+
+-- the group where what the numbered augment gives stands: that of the node to which it adds, and its own while it adds to none
+abbrev pub given_group : List Label → List (Option End) → ℕ → ℕ
+given_group labels ends k = group_by (group_of_augment labels k) (target_of labels ends k)
+
 -- what stands in a group is given to a node, if there is one
 abbrev pub given : (from : ℕ) → Option ℕ → Groups → Groups
 given from None groups = groups

@@ -1,12 +1,12 @@
 //! Laws of the definitions alone. These functions do nothing: the contract of each is the law.
-ghost use Rattle.std.specs.Prelude.{◌≡◌, ℕ, ◌+◌, ◌≤◌, List, Some, length, slice_get};
+ghost use Rattle.std.specs.Prelude.{◌≡◌, ℕ, ◌+◌, ◌<◌, ◌≤◌, List, None, Some, length, slice_get};
 ghost use Rattle.yv_augments.specs.declared.label.Label.{Label};
 ghost use Rattle.yv_augments.specs.declared.row.Row.{Row};
-ghost use Rattle.yv_augments.specs.Groups.{Groups, times};
-ghost use Rattle.yv_augments.specs.Turns.{State, turn};
-ghost use Rattle.yv_augments.specs.Placed.{HaveEntered, StandOnce};
+ghost use Rattle.yv_augments.specs.Groups.{Groups, IsIn, times};
+ghost use Rattle.yv_augments.specs.Turns.{State, given_group, turn};
+ghost use Rattle.yv_augments.specs.Placed.{HaveEntered, StandOnce, entered};
 ghost use Rattle.yv_augments.specs.Rounds.{AreApplied, LeadsNowhere};
-ghost use Rattle.yv_augments.specs.Tree.{AreRows, StandsInTree};
+ghost use Rattle.yv_augments.specs.Tree.{AreRows, IsTree, StandsInTree, Tree, group_under, listed};
 
 /// An augment of a module that was never applied has no target among what is there at the end: "never applied" can be read without
 /// rounds.
@@ -38,6 +38,14 @@ pub fn each_item_stands_once()
         → StandOnce (length labels) new.groups }
 {}
 
+/// While items enter there are as many groups and augments as at first.
+pub fn entering_keeps_groups()
+    ensures groups { (labels : List Label) (augments first : ℕ) (st : State) → HaveEntered labels augments first st
+        → length st.groups ≡ length labels + 1 + augments }
+    ensures augments { (labels : List Label) (augments first : ℕ) (st : State) → HaveEntered labels augments first st
+        → length st.ends ≡ augments }
+{}
+
 /// In the list of the final tree an item stands at the top, or behind the item below which it stands, one level deeper.
 pub fn parents_come_first()
     ensures { (groups : Groups) (rows : List Row) (k : ℕ) (row : Row) → AreRows groups rows → slice_get rows k ≡ Some row
@@ -47,4 +55,59 @@ pub fn parents_come_first()
 /// Groups have one final tree, and one list of it.
 pub fn the_final_tree_is_one()
     ensures { (groups : Groups) (first second : List Row) → AreRows groups first → AreRows groups second → first ≡ second }
+{}
+
+/// Rounds come to one: a round that applies none changes nothing.
+pub fn rounds_come_to_one()
+    ensures { (labels : List Label) (first : ℕ) (paths : List (List ℕ)) (old a b : State) → AreApplied labels first paths old a
+        → AreApplied labels first paths old b → a ≡ b }
+{}
+
+/// Groups have one tree.
+pub fn groups_have_one_tree()
+    ensures { (groups : Groups) (a b : Tree) → IsTree groups a → IsTree groups b → a ≡ b }
+{}
+
+/// Where each item stands once, none stands twice in the tree: it has no more items than there are.
+pub fn a_tree_has_no_item_twice()
+    ensures count { (groups : Groups) (items : ℕ) (t : Tree) → IsTree groups t → StandOnce items groups → length (listed None 1 t) ≤ items }
+    ensures within { (groups : Groups) (items k : ℕ) (row : Row) (t : Tree) → IsTree groups t → StandOnce items groups
+        → slice_get (listed None 1 t) k ≡ Some row → row.number < items }
+{}
+
+/// An item of the tree stands in the group of the item above it, and where each stands once, it stands in no other.
+pub fn items_stand_in_one_group()
+    ensures below { (groups : Groups) (k : ℕ) (row : Row) (t : Tree) → IsTree groups t → slice_get (listed None 1 t) k ≡ Some row
+        → IsIn row.number (group_under row.parent) groups }
+    ensures one { (groups : Groups) (items i g h : ℕ) → StandOnce items groups → IsIn i g groups → IsIn i h groups → g ≡ h }
+{}
+
+/// An item that enters a group stands there, and it still does when others enter.
+pub fn items_stay_when_others_enter()
+    ensures enters { (i g : ℕ) (st : State) → g < length st.groups → IsIn i g (entered i g st).groups }
+    ensures stays { (i g other h : ℕ) (st : State) → IsIn i g st.groups → IsIn i g (entered other h st).groups }
+{}
+
+/// What an augment gives stands in its group while it adds to no node, and then below the node to which it adds: so it is after
+/// each turn, and after the rounds.
+pub fn what_is_given_follows_the_augment()
+    ensures turned { (labels : List Label) (number start limit augment item : ℕ) (names : List ℕ) (st : State)
+        → length st.groups ≡ length labels + 1 + length st.ends → number < length st.ends → augment < length st.ends
+        → IsIn item (given_group labels st.ends augment) st.groups
+        → IsIn item (given_group labels (turn labels number start limit names st).ends augment)
+        (turn labels number start limit names st).groups }
+    ensures applied { (labels : List Label) (first augment item : ℕ) (paths : List (List ℕ)) (old new : State)
+        → AreApplied labels first paths old new → length old.groups ≡ length labels + 1 + length old.ends
+        → first + length paths ≤ length old.ends → augment < length old.ends
+        → IsIn item (given_group labels old.ends augment) old.groups → IsIn item (given_group labels new.ends augment) new.groups }
+{}
+
+/// An item at the top or below a node stays there, whatever augments do.
+pub fn items_stay_below_their_nodes()
+    ensures turned { (labels : List Label) (number start limit group item : ℕ) (names : List ℕ) (st : State)
+        → length st.groups ≡ length labels + 1 + length st.ends → number < length st.ends → group ≤ length labels
+        → IsIn item group st.groups → IsIn item group (turn labels number start limit names st).groups }
+    ensures applied { (labels : List Label) (first group item : ℕ) (paths : List (List ℕ)) (old new : State)
+        → AreApplied labels first paths old new → length old.groups ≡ length labels + 1 + length old.ends
+        → first + length paths ≤ length old.ends → group ≤ length labels → IsIn item group old.groups → IsIn item group new.groups }
 {}

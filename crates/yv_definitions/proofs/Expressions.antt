@@ -6,7 +6,7 @@ use Rattle.yv_statement.specs.Tree.{Tree, Forest, trees, name_of}
 use Rattle.yv_conform.specs.declared.keyword.Keyword.TheVariants as word
 use Rattle.yv_rows.specs.Files.{Files}
 use Rattle.yv_definitions.specs.Features.{all_expressions, expressions, joined, spaced, with_comma}
-use Rattle.yv_definitions.specs.Statements.{is_of, statement_at}
+use Rattle.yv_stated.specs.Statements.{is_of, statement_at}
 use Rattle.yv_definitions.specs.InnerKept.{gives_features, has_features}
 
 pub joined-append : (text : List ℕ) (a b : List (List ℕ)) → joined text (a ++ b) ≡ joined (joined text a) b

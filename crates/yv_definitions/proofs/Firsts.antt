@@ -7,7 +7,7 @@ use Rattle.yv_conform.specs.Names.{keyword_of, same}
 use Rattle.yv_values.specs.Types.{Plain}
 use Rattle.yv_definitions.specs.Kinds.{Kinds}
 use Rattle.yv_definitions.specs.Defined.{types_at, types_in}
-use Rattle.yv_definitions.specs.Statements.{first_of}
+use Rattle.yv_stated.specs.Statements.{first_of}
 
 module _ (kinds : Kinds) (file : ℕ) where
   -- the types that a statement stands for; none, where there is no statement

@@ -11,8 +11,8 @@ use Rattle.yv_values.specs.Values.{Val}
 use Rattle.yv_properties.specs.Defined.{Defined, Written}
 use Rattle.yv_definitions.specs.Kinds.{Typing}
 use Rattle.yv_definitions.specs.Features.{all_expressions, joined}
-use Rattle.yv_definitions.specs.Properties.{Said, elements_of, is_true, last_said, least_of, properties_of, said_at, with_properties}
-use Rattle.yv_definitions.specs.Defined.{defined, refined, written_by}
+use Rattle.yv_stated.specs.Properties.{Said, elements_of, is_true, last_said, least_of, properties_of, said_at, written_by}
+use Rattle.yv_definitions.specs.Defined.{defined, refined, with_properties}
 use Rattle.yv_definitions.specs.Values.{defaults_of, values_at, with_defaults}
 use Rattle.yv_definitions.specs.InnerChanged.{changed, changed_by}
 use Rattle.yv_definitions.specs.InnerRefined.{given_values, gives_default, last_default}

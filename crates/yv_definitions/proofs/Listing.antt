@@ -6,7 +6,7 @@ use Rattle.yv_conform.specs.declared.keyword.Keyword.TheVariants as word
 use Rattle.yv_conform.specs.Words.{words}
 use Rattle.yv_rows.specs.Files.{Files}
 use Rattle.yv_properties.specs.Steps.{Step}
-use Rattle.yv_definitions.specs.Statements.{is_of}
+use Rattle.yv_stated.specs.Statements.{is_of}
 use Rattle.yv_definitions.specs.Defined.{uniques_in}
 
 -- no text has no words

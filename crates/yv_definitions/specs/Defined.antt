@@ -1,6 +1,6 @@
 -- What the statements of files say of the schema nodes that they define (RFC 7950, sections 7.5 to 7.11, 7.13.2 to 7.16, and
 -- 7.21.2).
-use Rattle.std.specs.Prelude.{ℕ, List, [], ◌∷◌, ◌++◌, Option, Some, None, if◌then◌else◌, codes, map}
+use Rattle.std.specs.Prelude.{ℕ, false, List, [], ◌∷◌, ◌++◌, Option, Some, None, if◌then◌else◌, codes, map}
 use Rattle.std.specs.Option.{unwrap_or}
 use Rattle.std.specs.Str.{bytes_eq}
 use Rattle.yv_statement.specs.Tree.{Head, Tree, Forest, End, Then, trees, name_of}
@@ -19,9 +19,9 @@ use Rattle.yv_properties.specs.declared.kind.NodeKind.TheVariants as kind
 use Rattle.yv_properties.specs.declared.kind.NodeStatus.{NodeStatus}
 use Rattle.yv_properties.specs.declared.kind.NodeStatus.TheVariants.{Current, Deprecated, Obsolete}
 use Rattle.yv_definitions.specs.Kinds.{Kinds, TypeDefaults, Typing}
-use Rattle.yv_definitions.specs.Statements.{argument_of, arguments_among, file_at, first_of, statement_at}
+use Rattle.yv_stated.specs.Statements.{argument_of, arguments_among, file_at, first_of, statement_at}
 use Rattle.yv_definitions.specs.Features.{all_expressions, expressions, joined}
-use Rattle.yv_definitions.specs.Properties.{last_said, properties_of, said_by, with_properties}
+use Rattle.yv_stated.specs.Properties.{Properties, last_said, properties_of, said_by, written_by}
 use Rattle.yv_definitions.specs.Values.{with_defaults}
 
 -- what the statements of this keyword define, where they define nodes
@@ -79,6 +79,17 @@ keys_in files file block = names_of files file (argument_of (first_of word.Key b
 abbrev pub uniques_in : Files → (file : ℕ) → List Tree → List (List (List (Option Step)))
 uniques_in files file ts = map (paths_of files file) (arguments_among word.Unique ts)
 
+-- a definition with these properties: what isn't said isn't mandatory, and bounds no number of entries
+abbrev pub with_properties : Properties → Defined → Defined
+with_properties p d = record d {
+  stated_config = p.config;
+  is_mandatory = unwrap_or p.mandatory false;
+  has_presence = p.presence;
+  min = unwrap_or p.min 0;
+  max = unwrap_or p.max None;
+  own_default = p.default;
+}
+
 -- what a statement of a file says of the node that it defines
 abbrev pub defined_by : Typing → Files → (file : ℕ) → Tree → Defined
 defined_by typing files file t =
@@ -117,12 +128,6 @@ abbrev pub defined : Typing → Files → Origin → Defined
 defined typing files (origin.Statement number) = defined_at typing files number
 defined typing files (origin.Input number) = unwritten kind.Input files number
 defined typing files (origin.Output number) = unwritten kind.Output files number
-
--- the statements that say what a node of this origin is
-abbrev pub written_by : Origin → List ℕ
-written_by (origin.Statement number) = number ∷ []
-written_by (origin.Input number) = []
-written_by (origin.Output number) = []
 
 -- what is said of it, as these refines change it: of each property what the last of these statements says, the features
 -- of all, and the values of the default that there is then

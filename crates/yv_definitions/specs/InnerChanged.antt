@@ -3,7 +3,7 @@ use Rattle.std.specs.Prelude.{ℕ, ◌||◌, List, [], ◌∷◌}
 use Rattle.std.specs.Option.{option_or, unwrap_or}
 use Rattle.yv_rows.specs.Files.{Files}
 use Rattle.yv_properties.specs.Defined.{Defined}
-use Rattle.yv_definitions.specs.Properties.{Properties, properties_of, said_at}
+use Rattle.yv_stated.specs.Properties.{Properties, properties_of, said_at}
 
 -- a definition with those of its properties changed of which something is said
 abbrev pub changed : Properties → Defined → Defined

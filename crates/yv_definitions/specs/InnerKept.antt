@@ -10,8 +10,8 @@ use Rattle.yv_definitions.specs.declared.keeping.Kept.TheVariants.{Node, Refine}
 use Rattle.yv_definitions.specs.Kinds.{Typing}
 use Rattle.yv_definitions.specs.Defined.{defined_at}
 use Rattle.yv_definitions.specs.Values.{with_defaults}
-use Rattle.yv_definitions.specs.Properties.{Properties, properties_of, said_at}
-use Rattle.yv_definitions.specs.Statements.{first_of, statement_at}
+use Rattle.yv_stated.specs.Properties.{Properties, properties_of, said_at}
+use Rattle.yv_stated.specs.Statements.{first_of, statement_at}
 
 -- what is kept of the statement of this number is what it says, with the values of its default
 abbrev pub IsKept : Typing → Files → ℕ → Kept → Type 0

@@ -10,7 +10,7 @@ use Rattle.yv_properties.specs.Defined.{Defined}
 use Rattle.yv_definitions.specs.declared.definitions.Refined.{Refined}
 use Rattle.yv_definitions.specs.Kinds.{Typing}
 use Rattle.yv_definitions.specs.Defined.{defined, defined_at}
-use Rattle.yv_definitions.specs.Properties.{said_at}
+use Rattle.yv_stated.specs.Properties.{said_at}
 use Rattle.yv_definitions.specs.Values as values
 
 -- a numbered statement gives a default

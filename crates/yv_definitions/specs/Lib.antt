@@ -1,7 +1,5 @@
 pub mod Kinds
-pub mod Statements
 pub mod Features
-pub mod Properties
 pub mod Values
 pub mod Defined
 pub mod Known

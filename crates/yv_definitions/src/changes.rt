@@ -4,15 +4,15 @@ ghost use Rattle.std.specs.Option.{option_map, option_or};
 ghost use Rattle.yv_conform.specs.declared.keyword.Keyword.TheVariants as word;
 ghost use Rattle.yv_properties.specs.Defined.{written_of};
 ghost use Rattle.yv_definitions.specs.InnerChanged.{changed};
-ghost use Rattle.yv_definitions.specs.Properties.{elements, elements_of, is_true, least_of, properties_of, said_by, with_properties};
+ghost use Rattle.yv_stated.specs.Properties.{elements_of, is_true, least_of, properties_of, said_by};
+ghost use Rattle.yv_definitions.specs.Defined.{with_properties};
 
-use crate::substatements::{first_of, has, name_of};
 use std::alloc::{AllocError, Global};
 use std::marker::Model;
 use std::rc::RcStr;
 use yv_conform::Keyword;
-use yv_numbers::{Integer, integer_of};
 use yv_properties::{Definition, WrittenText};
+use yv_stated::{elements, first_of, has, name_of};
 use yv_statement::Statement;
 
 /// What a statement says of the properties of a node that a refine may change, each where the statement says it (RFC 7950,
@@ -31,7 +31,7 @@ pub(crate) struct Changes {
 impl Model for Changes {
     ghost use Rattle.std.specs.Option.{option_map};
     ghost use Rattle.yv_properties.specs.Defined.{written_of};
-    ghost use Rattle.yv_definitions.specs.Properties.{Properties};
+    ghost use Rattle.yv_stated.specs.Properties.{Properties};
 
     ghost Value = { Properties };
 
@@ -117,18 +117,6 @@ fn most_in(statement: &Statement<'_>) -> Option<Option<u32>>
     match first_of(Keyword::MaxElements, statement) {
         Some(found) => Some(elements(name_of(found))),
         None => None,
-    }
-}
-
-ghost use Rattle.yv_numbers.specs.Numbers.{integer_of};
-
-// A number of entries. No file that conforms has one that doesn't fit in 32 bits; `unbounded` is none.
-fn elements(text: &str) -> Option<u32>
-    ensures { result ≡ elements (integer_of text.now) }
-{
-    match integer_of(text.as_bytes()) {
-        Some(Integer::Natural(number)) if number < 1 << 32 => Some(number as u32),
-        _ => None,
     }
 }
 

@@ -6,9 +6,9 @@ ghost use Rattle.yv_statement.specs.Tree.{trees};
 ghost use Rattle.yv_rows.specs.Lent.{lent_in};
 ghost use Rattle.yv_leaf_paths.specs.Known.{AreLeafPaths};
 ghost use Rattle.yv_definitions.specs.Kinds.{typing_of};
-ghost use Rattle.yv_definitions.specs.Statements.{statement_at};
+ghost use Rattle.yv_stated.specs.Statements.{statement_at};
 ghost use Rattle.yv_definitions.specs.Features.{all_expressions, expressions, joined};
-ghost use Rattle.yv_definitions.specs.Properties.{properties_of, said_at};
+ghost use Rattle.yv_stated.specs.Properties.{properties_of, said_at};
 ghost use Rattle.yv_defaults.specs.Scopes.{AreScopes};
 ghost use Rattle.yv_definitions.specs.Defined.{defined, defined_at, refined};
 ghost use Rattle.yv_definitions.specs.Values.{with_defaults};
@@ -19,7 +19,6 @@ ghost use Rattle.yv_definitions.specs.InnerRefined.{AreRefined, GivesDefault, gi
 use crate::features::push_expressions;
 use crate::keeping::{Kept, changes_at, kept_at, stated_at, unwritten_at};
 use crate::numbered::statement_at;
-use crate::substatements::has;
 use crate::values::{defaults_of, no_values};
 use std::alloc::{AllocError, Global};
 use std::rc::{RcSlice, RcStr};
@@ -29,6 +28,7 @@ use yv_expansion::Origin;
 use yv_leaf_paths::LeafPaths;
 use yv_properties::{Definition, NodeKind};
 use yv_rows::Rows;
+use yv_stated::has;
 use yv_types::Types;
 use yv_values::{Scope, Value};
 

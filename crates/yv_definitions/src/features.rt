@@ -3,9 +3,9 @@ ghost use Rattle.std.specs.Prelude.{◌≡◌, ◌++◌, OnOk, IfOk, string_byte
 ghost use Rattle.yv_statement.specs.Tree.{trees};
 ghost use Rattle.yv_definitions.specs.Features.{expressions, is_blank, joined, spaced, with_comma};
 
-use crate::substatements::{is_of, name_of};
 use std::alloc::AllocError;
 use yv_conform::Keyword;
+use yv_stated::{is_of, name_of};
 use yv_statement::Statement;
 
 // A space, a tab, a CR or an LF.

@@ -7,12 +7,12 @@ ghost use Rattle.yv_properties.specs.Defined.{paths_in};
 ghost use Rattle.yv_definitions.specs.Defined.{keys_in, uniques_in};
 ghost use Rattle.yv_definitions.specs.InnerNamed.{AreNamed};
 
-use crate::substatements::{argument_of, is_of, name_of};
 use std::alloc::{AllocError, Global};
 use std::rc::Rc;
 use yv_conform::Keyword;
 use yv_leaf_paths::LeafPaths;
 use yv_properties::{Keys, PathStep};
+use yv_stated::{argument_of, is_of, name_of};
 use yv_statement::Statement;
 
 /// What the `key` and `unique` statements of a block name.

@@ -9,7 +9,6 @@ mod keys;
 pub mod laws;
 mod numbered;
 mod reading;
-mod substatements;
 mod values;
 
 pub use definitions::Definitions;

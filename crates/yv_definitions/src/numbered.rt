@@ -2,7 +2,7 @@
 ghost use Rattle.std.specs.Prelude.{◌≡◌};
 ghost use Rattle.std.specs.Option.{option_map, unwrap_or};
 ghost use Rattle.yv_rows.specs.Lent.{lent_in};
-ghost use Rattle.yv_definitions.specs.Statements.{file_at, no_statement, statement_at};
+ghost use Rattle.yv_stated.specs.Statements.{file_at, no_statement, statement_at};
 
 use yv_rows::Rows;
 use yv_statement::Statement;

@@ -1,14 +1,33 @@
 -- The row of a node, by what its statement says and how it stands in the tree.
-use Rattle.std.specs.Prelude.{ℕ, List, ◌∷◌, ◌++◌, Bool, true, false, Option, Some, None}
+use Rattle.std.specs.Prelude.{ℕ, ◌==◌, List, [], ◌∷◌, ◌++◌, Bool, true, false, Option, Some, None, if◌then◌else◌}
+use Rattle.yv_properties.specs.Kinds.{is_passed}
 use Rattle.yv_properties.specs.Defined.{Defined}
 use Rattle.yv_nodes.specs.declared.node.NodeId.{NodeId}
 use Rattle.yv_nodes.specs.declared.node.Standing.{Standing}
 use Rattle.yv_nodes.specs.Rows.{Row}
+use Rattle.yv_nodes.specs.Tree.{Label}
 
 -- what a JSON member is called
 abbrev pub member_of : Bool → List ℕ → List ℕ → List ℕ
 member_of true home name = home ++ 58 ∷ name
 member_of false home name = name
+
+-- In what follows modules go by the numbers of their files.
+
+-- the module of the nearest of these nodes that is no choice or case, the nearest first; none where there is none
+abbrev pub data_home : (above : List Label) → Option ℕ
+data_home [] = None
+data_home (l ∷ ls) = if is_passed l.defined.kind then data_home ls else Some l.home
+
+-- a module is this one
+abbrev pub is_home : (home : ℕ) → Option ℕ → Bool
+is_home home None = false
+is_home home (Some other) = other == home
+
+-- what a JSON member is called that writes a node of the module `home`, which has this name: the node's name, behind that of its module
+-- where there is no node of this module around it (RFC 7951, section 4)
+abbrev pub member_name : (around : Option ℕ) → (home : ℕ) → (module_name name : List ℕ) → List ℕ
+member_name around home module_name name = member_of (if is_home home around then false else true) module_name name
 
 -- the same, with the name of the module in front where there is one
 abbrev pub behind : Option (List ℕ) → List ℕ → List ℕ

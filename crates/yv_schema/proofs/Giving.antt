@@ -7,7 +7,7 @@ use Rattle.yv_statement.specs.Tree as statement
 use Rattle.yv_conform.specs.declared.keyword.Keyword.TheVariants as word
 use Rattle.yv_selection.specs.Choice.{Choice}
 use Rattle.yv_rows.specs.Files.{Files, tree_name}
-use Rattle.yv_definitions.specs.Statements.{argument_of, first_of}
+use Rattle.yv_stated.specs.Statements.{argument_of, first_of}
 use Rattle.yv_nodes.specs.Rows.{Module}
 use Rattle.yv_tables.specs.declared.tops.ModuleTop.{ModuleTop}
 use Rattle.yv_tables.specs.Tops.{module_of}

@@ -12,7 +12,7 @@ use Rattle.yv_copies.specs.Left.{left_in}
 use Rattle.yv_copies.specs.On.{Truth}
 use Rattle.yv_labels.specs.Labels.{label_of}
 use Rattle.yv_conform.specs.declared.keyword.Keyword.TheVariants as word
-use Rattle.yv_definitions.specs.Statements.{argument_of, first_of}
+use Rattle.yv_stated.specs.Statements.{argument_of, first_of}
 use Rattle.yv_nodes.specs.Rows.{Module}
 use Rattle.yv_nodes.specs.Tree.{Label, node, Forest, no_trees, tree}
 

@@ -2,7 +2,7 @@
 ghost use Rattle.std.specs.Prelude.{◌≡◌, ◌≤◌, ◌<◌, ◌++◌, [], map, length, IfOk, IfErr, OnOk};
 ghost use Rattle.std.specs.Rc.{rc_str_bytes};
 ghost use Rattle.yv_conform.specs.declared.keyword.Keyword.TheVariants as word;
-ghost use Rattle.yv_definitions.specs.Statements.{argument_of, first_of};
+ghost use Rattle.yv_stated.specs.Statements.{argument_of, first_of};
 ghost use Rattle.yv_schema.specs.InnerRowing.{home_in};
 ghost use Rattle.yv_statement.specs.declared.refusal.Stop.TheVariants.{NoMemory};
 ghost use Rattle.yv_selection.specs.Choice.{choice_of};

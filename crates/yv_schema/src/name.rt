@@ -3,7 +3,7 @@ ghost use Rattle.std.specs.Prelude.{◌≡◌};
 ghost use Rattle.std.specs.Option.{option_map};
 ghost use Rattle.yv_conform.specs.declared.keyword.Keyword.TheVariants as word;
 ghost use Rattle.yv_statement.specs.Tree.{name_of as name_at};
-ghost use Rattle.yv_definitions.specs.Statements.{argument_of, first_of, is_of};
+ghost use Rattle.yv_stated.specs.Statements.{argument_of, first_of, is_of};
 
 use yv_conform::Keyword;
 use yv_statement::Statement;

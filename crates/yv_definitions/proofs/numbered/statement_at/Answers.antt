@@ -3,7 +3,7 @@ use Rattle.std.specs.Option.{unwrap_or}
 use Rattle.std.proofs.lemmas.Option.{unwrap_or-slice_get}
 use Rattle.yv_statement.specs.Tree.{Tree}
 use Rattle.yv_rows.specs.Lent.{trees_in}
-use Rattle.yv_definitions.specs.Statements.{no_statement}
+use Rattle.yv_stated.specs.Statements.{no_statement}
 use Rattle.yv_definitions.proofs.numbered.statement_at.Goals as goal
 
 pub returns : goal.returns

@@ -1,7 +1,7 @@
 use Rattle.std.proofs.Common.{◌≡◌, Some, sym, ap, ◌∙◌}
 use Rattle.std.specs.List.{slice_get}
 use Rattle.std.proofs.lemmas.Result.{on_ok_weaker}
-use Rattle.yv_definitions.specs.Properties.{Properties}
+use Rattle.yv_stated.specs.Properties.{Properties}
 use Rattle.yv_definitions.specs.InnerChanged.{changed}
 use Rattle.yv_definitions.proofs.definitions.Definitions.change.Goals as goal
 

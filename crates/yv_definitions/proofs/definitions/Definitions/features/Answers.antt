@@ -3,7 +3,7 @@ use Rattle.std.proofs.lemmas.List.{at_drop_more}
 use Rattle.std.proofs.lemmas.Result.{IfOk-weaker}
 use Rattle.yv_statement.specs.Tree.{trees}
 use Rattle.yv_definitions.specs.Features.{all_expressions, expressions, joined}
-use Rattle.yv_definitions.specs.Statements.{statement_at}
+use Rattle.yv_stated.specs.Statements.{statement_at}
 use Rattle.yv_definitions.specs.Known.{files_in}
 use Rattle.yv_definitions.proofs.Expressions.{joined-append, no_expressions_at_all}
 use Rattle.yv_definitions.proofs.definitions.Definitions.features.Goals as goal

@@ -5,7 +5,7 @@ use Rattle.yv_properties.specs.Defined.{Defined}
 use Rattle.yv_definitions.specs.Defined.{defined_at}
 use Rattle.yv_definitions.specs.InnerChanged.{changed}
 use Rattle.yv_definitions.specs.Known.{files_in, typing_in}
-use Rattle.yv_definitions.specs.Properties.{properties_of, said_at}
+use Rattle.yv_stated.specs.Properties.{properties_of, said_at}
 use Rattle.yv_definitions.specs.Values.{defaults_of}
 use Rattle.yv_definitions.proofs.Later.{given_is}
 use Rattle.yv_definitions.proofs.definitions.Definitions.read_values.Goals as goal

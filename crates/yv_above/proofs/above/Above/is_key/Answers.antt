@@ -1,0 +1,32 @@
+use Rattle.std.proofs.Common.{◌≡◌, ℕ, List, Bool, true, false, ◌==◌, ◌||◌, ◌&&◌, Option, Some, None, sym, ap, ◌∙◌}
+use Rattle.std.specs.Rc.{rc_str_bytes}
+use Rattle.yv_properties.specs.Kinds.{is_leaf}
+use Rattle.yv_properties.specs.Steps.{Step, has_step}
+use Rattle.yv_above.specs.Labels.{has_key_called}
+use Rattle.yv_above.specs.Above.{Seen, nearest_home, nearest_keys}
+use Rattle.yv_above.proofs.Keyed.{keyed}
+use Rattle.yv_above.proofs.above.Above.is_key.Goals as goal
+
+pub returns-then-has_bare_key : goal.returns-then-has_bare_key
+returns-then-has_bare_key c = λ ls e.
+    let home : ℕ = c.args.home in
+    let name : List ℕ = c.args.definition.now.name in
+    let bare : c.has_bare_key.result ≡ (home == nearest_home ls && has_step None name (nearest_keys ls)) =
+    c.has_bare_key.ensures ∙ ap (λ (n : List ℕ). home == c.args.self.now.home && has_step None n c.args.self.now.keys) c.in_ok-bare.ensures
+    ∙ ap (λ (s : Seen). home == s.home && has_step None name s.keys) e in
+    let leaf : is_leaf c.args.definition.now.kind ≡ true = sym c.is_leaf.ensures ∙ c.if-not-is_leaf.false in
+    c.if-has_bare_key.true
+    ∙ sym (ap (λ (b : Bool). b && has_key_called ls home name) leaf ∙ keyed home ls name ∙ ap (λ (b : Bool). b || has_step (Some home) name (nearest_keys ls)) (sym bare ∙ c.if-has_bare_key.true))
+
+pub returns-else-has_bare_key : goal.returns-else-has_bare_key
+returns-else-has_bare_key c = λ ls e.
+    let home : ℕ = c.args.home in
+    let name : List ℕ = c.args.definition.now.name in
+    let bare : c.has_bare_key.result ≡ (home == nearest_home ls && has_step None name (nearest_keys ls)) =
+    c.has_bare_key.ensures ∙ ap (λ (n : List ℕ). home == c.args.self.now.home && has_step None n c.args.self.now.keys) c.in_ok-bare.ensures
+    ∙ ap (λ (s : Seen). home == s.home && has_step None name s.keys) e in
+    let leaf : is_leaf c.args.definition.now.kind ≡ true = sym c.is_leaf.ensures ∙ c.if-not-is_leaf.false in
+    let keys : c.deref.result.now ≡ nearest_keys ls = c.deref.ensures ∙ ap (λ (s : Seen). s.keys) (c.self.view_is ∙ e) in
+    let own = c.contains.ensures ∙ ap (λ (steps : List (Option Step)). has_step (Some home) (rc_str_bytes c.in_ok-name.name) steps) keys ∙ ap (λ (n : List ℕ). has_step (Some home) n (nearest_keys ls)) c.in_ok-name.ensures in
+    own
+    ∙ sym (ap (λ (b : Bool). b && has_key_called ls home name) leaf ∙ keyed home ls name ∙ ap (λ (b : Bool). b || has_step (Some home) name (nearest_keys ls)) (sym bare ∙ c.if-has_bare_key.false))

@@ -1,0 +1,159 @@
+//! What is kept of the nodes above one.
+ghost use Rattle.std.specs.Prelude.{◌≡◌, [], ◌∷◌, ◌==◌, ◌||◌, ◌&&◌, if◌then◌else◌, true, false, ℕ, List, None, IfOk};
+ghost use Rattle.std.specs.Rc.{rc_str_bytes};
+ghost use Rattle.yv_properties.specs.Kinds.{is_input, is_leaf, is_operation};
+ghost use Rattle.yv_properties.specs.Steps.{has_step};
+ghost use Rattle.yv_nodes.specs.declared.node.NodeId.{NodeId};
+ghost use Rattle.yv_nodes.specs.Tree.{Label};
+ghost use Rattle.yv_nodes.specs.Member.{data_home, is_home, row_with};
+ghost use Rattle.yv_above.specs.Labels.{has_key_called, in_input, is_configuration, label_of};
+ghost use Rattle.yv_above.specs.Above.{seen_of};
+
+use std::alloc::{AllocError, Global};
+use std::marker::Model;
+use std::rc::{Rc, RcStr};
+use yv_nodes::Standing;
+use yv_properties::{Definition, Keys, NodeKind};
+
+/// What the nodes above a schema node make of it. Contracts see it as what is seen of these nodes.
+#[derive(Drop)]
+pub struct Above {
+    // The module of the nearest that is no choice or case, by the number of its file.
+    around: Option<u32>,
+    // The module of the node just above.
+    home: u32,
+    // Whether a node without a `config` statement is configuration here.
+    is_config: bool,
+    in_operation: bool,
+    in_input: bool,
+    // The keys of the node just above.
+    keys: Rc<Keys>,
+}
+
+impl Model for Above {
+    ghost use Rattle.yv_above.specs.Above.{Seen};
+
+    ghost Value = { Seen };
+
+    ghost view = { λ a. record {
+      around = a.around;
+      home = a.home;
+      is_config = a.is_config;
+      in_operation = a.in_operation;
+      in_input = a.in_input;
+      keys = a.keys.value;
+    } };
+}
+
+impl Above {
+    /// No nodes: what stands at the top has none above it.
+    pub fn top(alloc: Global) -> Result<Above, AllocError>
+        ensures { IfOk result (λ above. above ≡ seen_of []) }
+    {
+        let keys = Keys::of(alloc, Vec::new(alloc))?;
+        Ok(Above {
+            around: None,
+            home: 0,
+            is_config: true,
+            in_operation: false,
+            in_input: false,
+            keys: Rc::new(alloc, keys)?,
+        })
+    }
+
+    /// How the node that a statement defines stands below these nodes, being of the module of which this is the number of the file.
+    /// Err for want of memory alone.
+    pub fn standing(&self, definition: &Definition, home: u32) -> Result<Standing, AllocError>
+        ensures { (ls : List Label) → self.now ≡ seen_of ls → IfOk result (λ standing.
+            (module_name : List ℕ) (parent : NodeId) (children : List NodeId)
+            → (row_with definition.now home module_name standing parent children).label ≡ label_of definition.now home module_name ls) }
+    {
+        let is_key = self.is_key(definition, home)?;
+        Ok(Standing {
+            is_qualified: self.is_qualified(home),
+            is_config: self.is_configuration(definition),
+            is_key,
+            is_input: self.is_input(definition),
+        })
+    }
+
+    // Whether a JSON member of a node of this module has the module's name in front.
+    fn is_qualified(&self, home: u32) -> bool
+        ensures { (ls : List Label) → self.now ≡ seen_of ls
+            → result ≡ (if is_home home (data_home ls) then false else true) }
+    {
+        match self.around {
+            Some(around) => around != home,
+            None => true,
+        }
+    }
+
+    // Whether the node that a statement defines is an operation's input, or stands in it.
+    fn is_input(&self, definition: &Definition) -> bool
+        ensures { (ls : List Label) → self.now ≡ seen_of ls → result ≡ (is_input definition.now.kind || in_input ls) }
+    {
+        definition.kind() == NodeKind::Input || self.in_input
+    }
+
+    // Whether the node that a statement defines is configuration.
+    fn is_configuration(&self, definition: &Definition) -> bool
+        ensures { (ls : List Label) → self.now ≡ seen_of ls → result ≡ is_configuration definition.now ls }
+    {
+        if self.in_operation || definition.kind().is_operation() {
+            return false;
+        }
+        definition.stated_config().unwrap_or(self.is_config)
+    }
+
+    // Whether it is a key of the list just above.
+    fn is_key(&self, definition: &Definition, home: u32) -> Result<bool, AllocError>
+        ensures { (ls : List Label) → self.now ≡ seen_of ls
+            → IfOk result (λ is_key. is_key ≡ (is_leaf definition.now.kind && has_key_called ls home definition.now.name)) }
+    {
+        if !is_leaf(definition) {
+            return Ok(false);
+        }
+        let bare = definition.shared_name()?;
+        let name = definition.shared_name()?;
+        Ok(self.has_bare_key(home, bare) || self.keys.contains(Some(home), name))
+    }
+
+    // Whether the list just above has a key of this name without a prefix, and is of this module.
+    fn has_bare_key(&self, home: u32, name: RcStr) -> bool
+        ensures { result ≡ (home == self.now.home && has_step None (rc_str_bytes name) self.now.keys) }
+    {
+        home == self.home && self.keys.contains(None, name)
+    }
+
+    /// These nodes and, just below them, the one that a statement defines, which is of this module and stands so.
+    pub fn below(
+        &self,
+        definition: &Definition,
+        home: u32,
+        standing: Standing,
+    ) -> Result<Above, AllocError>
+        ensures { (ls : List Label) (l : Label) → self.now ≡ seen_of ls → l.defined ≡ definition.now → l.home ≡ home
+            → l.is_config ≡ standing.is_config → l.is_input ≡ standing.is_input → IfOk result (λ above. above ≡ seen_of (l ∷ ls)) }
+    {
+        let kind = definition.kind();
+        Ok(Above {
+            around: if kind.is_passed() {
+                self.around
+            } else {
+                Some(home)
+            },
+            home,
+            is_config: standing.is_config,
+            in_operation: kind.is_operation() || self.in_operation,
+            in_input: standing.is_input,
+            keys: definition.keys.clone()?,
+        })
+    }
+}
+
+// Whether a statement defines a leaf.
+fn is_leaf(definition: &Definition) -> bool
+    ensures { result ≡ is_leaf definition.now.kind }
+{
+    definition.kind() == NodeKind::Leaf
+}

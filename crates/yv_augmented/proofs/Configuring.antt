@@ -1,0 +1,129 @@
+-- Whether items are configuration, by what is around the items of each depth, and by the tree itself.
+use Rattle.std.proofs.Common.{◌≡◌, ℕ, suc, ◌+◌, ◌≤◌, ◌==◌, not, Bool, true, false, if◌then◌else◌, List, [], ◌∷◌, ◌++◌, length, drop, refl, sym, ◌∙◌, ap, arith, Option, Some, None, append_assoc}
+use Rattle.std.specs.List.{slice_get}
+use Rattle.std.proofs.lemmas.Bool.{eq-eqb, ne_eqb}
+use Rattle.std.proofs.lemmas.List.{append-nil, drop_all}
+use Rattle.yv_augments.specs.Tree.{Tree, none, item, listed}
+use Rattle.yv_augments.specs.declared.row.Row.{Row as Standing}
+use Rattle.yv_augmented.specs.Imposing.{Around, Told, inside, is_configuration, nothing_around}
+use Rattle.yv_augmented.specs.InnerImposing.{around_by, configured, entered}
+use Rattle.yv_augmented.specs.declared.spot.Spot.{Spot}
+use Rattle.yv_augmented.proofs.Reading.{rest_of}
+
+entered_here : (depth : ℕ) (here : Around) (around : ℕ → Around) → entered depth here around depth ≡ here
+entered_here depth here around = ap (λ (b : Bool). if b then here else around depth) (eq-eqb depth depth refl)
+
+entered_other : (depth : ℕ) (here : Around) (around : ℕ → Around) (d : ℕ) → (d ≡ depth → ⊥) → entered depth here around d ≡ around d
+entered_other depth here around d apart = ap (λ (b : Bool). if b then here else around d) (ne_eqb d depth apart)
+
+entered_same : (depth : ℕ) (p q : Around) (one other : ℕ → Around) → p ≡ q → ((d : ℕ) → one d ≡ other d) → (d : ℕ)
+    → entered depth p one d ≡ entered depth q other d
+entered_same depth p q one other same h d =
+    ap (λ (z : Around). if d == depth then z else one d) same ∙ ap (λ (z : Around). if d == depth then q else z) (h d)
+
+-- two marks of a depth are written
+pub around_entered : (next : ℕ) (here : Around) (states operations new_states new_operations : ℕ → Bool) (config operation : Bool)
+    → config ≡ here.is_config → operation ≡ here.in_operation
+    → ((d : ℕ) → new_states d ≡ (if d == next then not config else states d))
+    → ((d : ℕ) → new_operations d ≡ (if d == next then operation else operations d)) → (d : ℕ)
+    → around_by new_states new_operations d ≡ entered next here (around_by states operations) d
+around_entered next here states operations new_states new_operations config operation is_config in_operation s o d =
+    ap (λ (b : Bool). record { is_config = not b; in_operation = new_operations d }) (s d)
+    ∙ ap (λ (b : Bool). record { is_config = not (if d == next then not config else states d); in_operation = b }) (o d)
+    ∙ by (d == next)
+  where
+    twice : (b : Bool) → not (not b) ≡ b
+    twice true = refl
+    twice false = refl
+
+    by : (b : Bool)
+        → (let made : Around = record { is_config = not (if b then not config else states d); in_operation = if b then operation else operations d } in made)
+        ≡ (if b then here else around_by states operations d)
+    by true =
+        ap (λ (c : Bool). record { is_config = c; in_operation = operation }) (twice config ∙ is_config)
+        ∙ ap (λ (c : Bool). record { is_config = here.is_config; in_operation = c }) in_operation
+    by false = refl
+
+module _ (spots : List Spot) (told : Told) where
+  -- a mark for each item of a tree, where this is around them
+  abbrev pub marks_of : Around → Tree → List Bool
+  marks_of a none = []
+  marks_of a (item i below behind) = is_configuration (inside spots told i a) ∷ (marks_of (inside spots told i a) below ++ marks_of a behind)
+
+  configured_same : (one other : ℕ → Around) (xs : List Standing) → ((d : ℕ) → one d ≡ other d) → configured spots told one xs ≡ configured spots told other xs
+  configured_same one other [] h = refl
+  configured_same one other (x ∷ xs) h =
+      let p : Around = inside spots told x.number (one x.depth) in
+      let q : Around = inside spots told x.number (other x.depth) in
+      let same : p ≡ q = ap (inside spots told x.number) (h x.depth) in
+      ap (λ (a : Around). is_configuration a ∷ configured spots told (entered (x.depth + 1) p one) xs) same
+      ∙ ap (λ (l : List Bool). is_configuration q ∷ l)
+      (configured_same (entered (x.depth + 1) p one) (entered (x.depth + 1) q other) xs (entered_same (x.depth + 1) p q one other same h))
+
+  -- behind a tree, what is around items no deeper is what it was
+  abbrev Configured : Tree → ℕ → Option ℕ → List Standing → (ℕ → Around) → Around → Type 0
+  Configured t depth parent rest around a =
+      (new : ℕ → Around) × ((e : ℕ) → e ≤ depth → new e ≡ around e)
+      × (configured spots told around (listed parent depth t ++ rest) ≡ marks_of a t ++ configured spots told new rest)
+
+  configured_tree : (t : Tree) (depth : ℕ) (parent : Option ℕ) (rest : List Standing) (around : ℕ → Around) (a : Around) → around depth ≡ a
+      → Configured t depth parent rest around a
+  configured_tree none depth parent rest around a is = (around, λ e le. refl, refl)
+  configured_tree (item i below behind) depth parent rest around a is =
+      let after : List Standing = listed parent depth behind in
+      let inner : List Standing = listed (Some i) (depth + 1) below in
+      let here : Around = inside spots told i (around depth) in
+      let there : Around = inside spots told i a in
+      let same : here ≡ there = ap (inside spots told i) is in
+      let under : ℕ → Around = entered (depth + 1) here around in
+      let b : Configured below (depth + 1) (Some i) (after ++ rest) under there =
+      configured_tree below (depth + 1) (Some i) (after ++ rest) under there (entered_here (depth + 1) here around ∙ same) in
+      let back : (e : ℕ) → e ≤ depth → b.0 e ≡ around e =
+      λ e le. (b.1 e (omega (arith, le)) ∙ entered_other (depth + 1) here around e (λ same. omega (arith, le, same))) in
+      let o : Configured behind depth parent rest b.0 a = configured_tree behind depth parent rest b.0 a (back depth (omega arith) ∙ is) in
+      let mine : List Bool = marks_of there below in
+      let others : List Bool = marks_of a behind in (
+        o.0,
+        λ e le. o.1 e le ∙ back e le,
+        ap (λ (z : Around). is_configuration z ∷ configured spots told under ((inner ++ after) ++ rest)) same
+            ∙ ap (λ (l : List Bool). is_configuration there ∷ l)
+            (ap (configured spots told under) (append_assoc inner after rest) ∙ b.2 ∙ ap (λ (l : List Bool). mine ++ l) o.2
+            ∙ sym (append_assoc mine others (configured spots told o.0 rest))),
+      )
+
+  pub configured_all : (t : Tree) (tree : List Standing) → tree ≡ listed None 1 t
+      → configured spots told (λ d. nothing_around) tree ≡ marks_of nothing_around t
+  configured_all t tree is =
+      let all = configured_tree t 1 None [] (λ d. nothing_around) nothing_around refl in
+      ap (configured spots told (λ d. nothing_around)) (is ∙ sym (append-nil (listed None 1 t))) ∙ all.2 ∙ append-nil (marks_of nothing_around t)
+
+  pub configured_each : (around : ℕ → Around) (xs : List Standing) → length (configured spots told around xs) ≡ length xs
+  configured_each around [] = refl
+  configured_each around (x ∷ xs) = ap suc (configured_each (entered (x.depth + 1) (inside spots told x.number (around x.depth)) around) xs)
+
+  pub configured_none : (xs : List Standing) (states operations : ℕ → Bool) → ((d : ℕ) → states d ≡ false) → ((d : ℕ) → operations d ≡ false)
+      → [] ++ configured spots told (around_by states operations) xs ≡ configured spots told (λ d. nothing_around) xs
+  configured_none xs states operations s o =
+      configured_same (around_by states operations) (λ d. nothing_around) xs
+      (λ d. ap (λ (b : Bool). record { is_config = not b; in_operation = operations d }) (s d)
+      ∙ ap (λ (b : Bool). record { is_config = true; in_operation = b }) (o d))
+
+  pub configured_more : (tree : List Standing) (i : ℕ) (x : Standing) (next : ℕ) (around new : ℕ → Around) (mark : Bool) (old now all : List Bool)
+      → slice_get tree i ≡ Some x → next ≡ x.depth + 1 → mark ≡ is_configuration (inside spots told x.number (around x.depth))
+      → ((d : ℕ) → new d ≡ entered next (inside spots told x.number (around x.depth)) around d) → now ≡ old ++ mark ∷ []
+      → old ++ configured spots told around (drop i tree) ≡ all → now ++ configured spots told new (drop (i + 1) tree) ≡ all
+  configured_more tree i x next around new mark old now all at deeper is entering more before =
+      let xs : List Standing = drop (i + 1) tree in
+      let here : Around = inside spots told x.number (around x.depth) in
+      ap (λ (l : List Bool). l ++ configured spots told new xs) more
+      ∙ append_assoc old (mark ∷ []) (configured spots told new xs)
+      ∙ ap (λ (b : Bool). old ++ b ∷ configured spots told new xs) is
+      ∙ ap (λ (l : List Bool). old ++ is_configuration here ∷ l)
+      (configured_same new (entered (x.depth + 1) here around) xs (λ d. entering d ∙ ap (λ (n : ℕ). entered n here around d) deeper))
+      ∙ ap (λ (l : List Standing). old ++ configured spots told around l) (sym (rest_of tree i x at))
+      ∙ before
+
+  pub configured_done : (tree : List Standing) (i : ℕ) (around : ℕ → Around) (marks all : List Bool) → length tree ≤ i
+      → marks ++ configured spots told around (drop i tree) ≡ all → marks ≡ all
+  configured_done tree i around marks all past h =
+      sym (append-nil marks) ∙ ap (λ (l : List Standing). marks ++ configured spots told around l) (sym (drop_all i tree past)) ∙ h

@@ -1,0 +1,269 @@
+-- A tree has no item twice where each stands once in groups.
+use Rattle.std.proofs.Common.{inl, inr, ◌≡◌, ◌≢◌, ℕ, zero, suc, ◌+◌, ◌≤◌, ◌<◌, ◌==◌, Bool, if◌then◌else◌, List, [], ◌∷◌, ◌++◌, set, length, refl, sym, ap, subst, arith, eq-eqb, length-append, Option, Some, None}
+use Rattle.std.specs.List.{count_by, slice_get}
+use Rattle.std.specs.List.Sorted.{IsPermutation}
+use Rattle.std.proofs.lemmas.Bool.{cases_eq, cases_lt, ne_eqb}
+use Rattle.std.proofs.lemmas.List.{get_or-set_other}
+use Rattle.std.proofs.lemmas.List.Sums.{sum_by-append}
+use Rattle.std.proofs.lemmas.List.Sorted.{sum_by-IsPermutation}
+use Rattle.std.proofs.lemmas.Option.{same_Some}
+use Rattle.yv_augments.specs.declared.row.Row.{Row}
+use Rattle.yv_augments.specs.Groups.{Groups, IsIn, members_of, times}
+use Rattle.yv_augments.specs.Placed.{StandOnce}
+use Rattle.yv_augments.specs.Tree.{Tree, none, item, AreInOrder, IsTree, Make, no_items, one_more, group_under, listed}
+use Rattle.yv_augments.proofs.Parents.{back, front, side}
+use Rattle.yv_augments.proofs.Taking.{sum_taken}
+
+abbrev one_if : Bool → ℕ
+one_if b = if b then 1 else 0
+
+-- how often a number stands in a list
+abbrev count : ℕ → List ℕ → ℕ
+count y xs = count_by (λ i. i == y) xs
+
+count_more : (y x : ℕ) (xs : List ℕ) → count y (x ∷ xs) ≡ one_if (x == y) + count y xs
+count_more y x xs = (let e : count y (x ∷ xs) ≡ 0 + one_if (x == y) + count y xs = sum_by-append (λ i. one_if (i == y)) (x ∷ []) xs in omega (arith, e))
+
+count_both : (y : ℕ) (xs ys : List ℕ) → count y (xs ++ ys) ≡ count y xs + count y ys
+count_both y xs ys = sum_by-append (λ i. one_if (i == y)) xs ys
+
+one_same : (y : ℕ) → one_if (y == y) ≡ 1
+one_same y = ap one_if (eq-eqb y y refl)
+
+one_other : (x y : ℕ) → x ≢ y → one_if (x == y) ≡ 0
+one_other x y ne = ap one_if (ne_eqb x y ne)
+
+-- a group that is emptied
+taken : (y g : ℕ) (groups : Groups) → times y (set groups g []) + count y (members_of groups g) ≡ times y groups
+taken y g groups = sum_taken (λ ms. count y ms) groups g refl
+
+ordered : (groups : Groups) (g : ℕ) (items : List ℕ) (y : ℕ) → AreInOrder groups g items → count y items ≡ count y (members_of groups g)
+ordered groups g items y o = sum_by-IsPermutation (λ i. one_if (i == y)) (members_of groups g) items o.permutation
+
+abbrev emptied : Groups → ℕ → Groups
+emptied groups g = set groups g []
+
+in_order_still : (groups : Groups) (g h : ℕ) (items : List ℕ) → h ≢ g → AreInOrder groups h items → AreInOrder (emptied groups g) h items
+in_order_still groups g h items ne o =
+    let same : members_of (emptied groups g) h ≡ members_of groups h = get_or-set_other groups g h [] [] ne in
+    record { permutation = subst (λ ms. IsPermutation ms items) (sym same) o.permutation; sorted = o.sorted }
+
+-- an item is in none of these groups, or once
+count_times : (y g : ℕ) (groups : Groups) → count y (members_of groups g) ≤ times y groups
+count_times y g groups = (let e = taken y g groups in omega (arith, e))
+
+-- an item that stands in no group stands nowhere below: what is below it may be taken out
+unopened : (groups : Groups) (i : ℕ) → times i groups ≡ 0 → (items : List ℕ) (t : Tree) → count i items ≡ 0 → Make groups items t
+    → Make (emptied groups (i + 1)) items t
+unopened groups i nowhere [] none absent no_items = no_items
+unopened groups i nowhere [] (item j' below behind) absent m = elim m [ ]
+unopened groups i nowhere (j ∷ others) none absent m = elim m [ ]
+unopened groups i nowhere (j ∷ others) (item j' below behind) absent (one_more {items = inner} o m r) =
+    let more = count_more i j others in
+    let rest : count i others ≡ 0 = omega (arith, more, absent) in
+    let apart : j + 1 ≢ i + 1 = λ e. (
+    let same : j ≡ i = omega (arith, e) in
+    let one : one_if (j == i) ≡ 1 = ap one_if (eq-eqb j i same) in
+    omega (arith, more, absent, one)) in
+    let least = count_times i (j + 1) groups in
+    let here : count i inner ≡ 0 = (let e = ordered groups (j + 1) inner i o in omega (arith, e, least, nowhere)) in
+    one_more (in_order_still groups (i + 1) (j + 1) inner apart o) (unopened groups i nowhere inner below here m)
+    (unopened groups i nowhere others behind rest r)
+
+-- the items of a tree, one by one
+abbrev numbers : Tree → List ℕ
+numbers none = []
+numbers (item i below behind) = i ∷ (numbers below ++ numbers behind)
+
+-- groups without the items of a tree: trees of other items are as before
+record Consumed (groups : Groups) (items : List ℕ) (t : Tree) : Type 0 where
+  left : Groups
+  each : (y : ℕ) → count y (numbers t) + times y left ≡ count y items + times y groups
+  others : (more : List ℕ) (u : Tree) → ((y : ℕ) → count y more + (count y items + times y groups) ≤ 1) → Make groups more u → Make left more u
+
+consumed : (t : Tree) (groups : Groups) (items : List ℕ) → ((y : ℕ) → count y items + times y groups ≤ 1) → Make groups items t → Consumed groups items t
+consumed none groups [] once no_items = record { left = groups; each = λ y. refl; others = λ more u h m. m }
+consumed none groups (i ∷ rest) once m = elim m [ ]
+consumed (item i' below behind) groups [] once m = elim m [ ]
+consumed (item i' below behind) groups (i ∷ rest) once (one_more {items = inner} o m r) =
+    let first : Groups = emptied groups (i + 1) in
+    let here : (y : ℕ) → count y inner + times y first ≡ times y groups = λ y. (
+    let a = taken y (i + 1) groups in
+    let b = ordered groups (i + 1) inner y o in
+    omega (arith, a, b)) in
+    let at_i : count i (i ∷ rest) + times i groups ≤ 1 = once i in
+    let mine : count i (i ∷ rest) ≡ one_if (i == i) + count i rest = count_more i i rest in
+    let one : one_if (i == i) ≡ 1 = one_same i in
+    let nowhere : times i groups ≡ 0 = omega (arith, at_i, mine, one) in
+    let apart : count i rest ≡ 0 = omega (arith, at_i, mine, one) in
+    let inside : count i inner ≡ 0 = (let a = here i in omega (arith, a, nowhere)) in
+    let b : Consumed first inner below = consumed below first inner
+    (λ y. (let a = here y in let l = once y in omega (arith, a, l))) (unopened groups i nowhere inner below inside m) in
+    let later : (y : ℕ) → count y rest + (count y inner + times y first) ≤ 1 = λ y. (
+    let a = here y in
+    let l = once y in
+    let c = count_more y i rest in
+    omega (arith, a, l, c)) in
+    let next : Make b.left rest behind = b.others rest behind later (unopened groups i nowhere rest behind apart r) in
+    let fewer : (y : ℕ) → times y b.left ≤ times y groups = λ y. (let e = b.each y in let a = here y in omega (arith, e, a)) in
+    let o : Consumed b.left rest behind = consumed behind b.left rest
+    (λ y. (let f = fewer y in let l = once y in let c = count_more y i rest in omega (arith, f, l, c))) next in
+    record {
+      left = o.left;
+      each = λ y. (
+          let c = count_more y i (numbers below ++ numbers behind) in
+          let s = count_both y (numbers below) (numbers behind) in
+          let d = count_more y i rest in
+          let p = b.each y in
+          let q = o.each y in
+          let a = here y in
+          omega (arith, c, s, d, p, q, a));
+      others = λ more u h made. (
+          let at : count i more + (count i (i ∷ rest) + times i groups) ≤ 1 = h i in
+          let none_more : count i more ≡ 0 = omega (arith, at, mine, one) in
+          o.others more u
+          (λ y. (let f = fewer y in let l = h y in let c = count_more y i rest in omega (arith, f, l, c)))
+          (b.others more u
+          (λ y. (let a = here y in let l = h y in omega (arith, a, l)))
+          (unopened groups i nowhere more u none_more made)));
+    }
+
+-- the top is no group below an item
+top_taken : (groups : Groups) (items : List ℕ) (t : Tree) → Make groups items t → Make (emptied groups 0) items t
+top_taken groups [] none no_items = no_items
+top_taken groups [] (item j' below behind) m = elim m [ ]
+top_taken groups (j ∷ others) none m = elim m [ ]
+top_taken groups (j ∷ others) (item j' below behind) (one_more {items = inner} o m r) =
+    one_more (in_order_still groups 0 (j + 1) inner (λ e. omega (arith, e)) o) (top_taken groups inner below m) (top_taken groups others behind r)
+
+-- each item stands in the tree no more often than in groups
+no_more : (groups : Groups) (t : Tree) → IsTree groups t → ((y : ℕ) → times y groups ≤ 1) → (y : ℕ) → count y (numbers t) ≤ times y groups
+no_more groups t is once y =
+    let items : List ℕ = is.0 in
+    let here : (z : ℕ) → count z items + times z (emptied groups 0) ≡ times z groups = λ z. (
+    let a = taken z 0 groups in
+    let b = ordered groups 0 items z is.1 in
+    omega (arith, a, b)) in
+    let all : Consumed (emptied groups 0) items t = consumed t (emptied groups 0) items
+    (λ z. (let a = here z in let l = once z in omega (arith, a, l))) (top_taken groups items t is.2) in
+    let e = all.each y in
+    let a = here y in
+    omega (arith, e, a)
+
+-- how often the first numbers stand in a list
+abbrev total : ℕ → List ℕ → ℕ
+total zero xs = 0
+total (suc n) xs = total n xs + count n xs
+
+total_none : (n : ℕ) → total n [] ≡ 0
+total_none zero = refl
+total_none (suc n) = (let e = total_none n in omega (arith, e))
+
+total_past : (n x : ℕ) (xs : List ℕ) → n ≤ x → total n (x ∷ xs) ≡ total n xs
+total_past zero x xs le = refl
+total_past (suc n) x xs le =
+    let e = total_past n x xs (omega (arith, le)) in
+    let c = count_more n x xs in
+    let o = one_other x n (λ same. omega (arith, same, le)) in
+    omega (arith, e, c, o)
+
+total_more : (n x : ℕ) (xs : List ℕ) → x < n → total n (x ∷ xs) ≡ 1 + total n xs
+total_more zero x xs lt = absurd (omega (arith, lt))
+total_more (suc n) x xs lt =
+    let c = count_more n x xs in
+    elim (cases_eq x n) [
+      | inl same ↦
+          let e = total_past n x xs (omega (arith, same)) in
+          let o : one_if (x == n) ≡ 1 = ap one_if (eq-eqb x n same) in
+          omega (arith, e, c, o)
+      | inr other ↦
+          let e = total_more n x xs (omega (arith, lt, other)) in
+          let o = one_other x n other in
+          omega (arith, e, c, o)
+    ]
+
+total_all : (n : ℕ) (xs : List ℕ) → ((y : ℕ) → n ≤ y → count y xs ≡ 0) → total n xs ≡ length xs
+total_all n [] h = total_none n
+total_all n (x ∷ xs) h =
+    let rest : total n xs ≡ length xs = total_all n xs (λ y le. (let a = h y le in let c = count_more y x xs in omega (arith, a, c))) in
+    elim (cases_lt x n) [
+      | inl lt ↦ (let e = total_more n x xs lt in omega (arith, e, rest))
+      | inr le ↦ absurd (let a = h x le in let c = count_more x x xs in let o = one_same x in omega (arith, a, c, o))
+    ]
+
+total_few : (n : ℕ) (xs : List ℕ) → ((y : ℕ) → count y xs ≤ 1) → total n xs ≤ n
+total_few zero xs h = omega arith
+total_few (suc n) xs h = (let e = total_few n xs h in let c = h n in omega (arith, e, c))
+
+listed_long : (parent : Option ℕ) (depth : ℕ) (t : Tree) → length (listed parent depth t) ≡ length (numbers t)
+listed_long parent depth none = refl
+listed_long parent depth (item i below behind) =
+    let inner : List Row = listed (Some i) (depth + 1) below in
+    let outer : List Row = listed parent depth behind in
+    let a = length-append inner outer in
+    let b = length-append (numbers below) (numbers behind) in
+    let p = listed_long (Some i) (depth + 1) below in
+    let q = listed_long parent depth behind in
+    omega (arith, a, b, p, q)
+
+at_most_once : (items : ℕ) (groups : Groups) → StandOnce items groups → (y : ℕ) → times y groups ≤ 1
+at_most_once items groups s y = elim (cases_lt y items) [
+  | inl lt ↦ (let e = s.once y lt in omega (arith, e))
+  | inr le ↦ (let e = s.no_other y le in omega (arith, e))
+]
+
+pub no_item_twice : (groups : Groups) (items : ℕ) (t : Tree) → IsTree groups t → StandOnce items groups → length (listed None 1 t) ≤ items
+no_item_twice groups items t is s =
+    let once : (y : ℕ) → times y groups ≤ 1 = at_most_once items groups s in
+    let few : (y : ℕ) → count y (numbers t) ≤ times y groups = no_more groups t is once in
+    let long = listed_long None 1 t in
+    let all = total_all items (numbers t) (λ y le. (let e = s.no_other y le in let f = few y in omega (arith, e, f))) in
+    let up = total_few items (numbers t) (λ y. (let o = once y in let f = few y in omega (arith, o, f))) in
+    omega (arith, long, all, up)
+
+-- each item of a tree stands in the group of the one above it
+stand_in : (groups : Groups) (parent : Option ℕ) (depth : ℕ) (items : List ℕ) (t : Tree) (k : ℕ) (w : Row) → Make groups items t
+    → ((y : ℕ) → count y items ≤ count y (members_of groups (group_under parent))) → slice_get (listed parent depth t) k ≡ Some w
+    → IsIn w.number (group_under w.parent) groups
+stand_in groups parent depth [] none k w no_items all at = absurd (let bad : None ≡ Some w = at in cc)
+stand_in groups parent depth [] (item i' below behind) k w m all at = elim m [ ]
+stand_in groups parent depth (i ∷ rest) none k w m all at = elim m [ ]
+stand_in groups parent depth (i ∷ rest) (item i' below behind) zero w (one_more {items = inner} o m r) all at =
+    let x : Row = record { number = i; parent = parent; depth = depth } in
+    let same : x ≡ w = same_Some x w at in
+    let here : IsIn i (group_under parent) groups = (let a = all i in let c = count_more i i rest in let e = one_same i in omega (arith, a, c, e)) in
+    subst (λ (z : Row). IsIn z.number (group_under z.parent) groups) same here
+stand_in groups parent depth (i ∷ rest) (item i' below behind) (suc k) w (one_more {items = inner} o m r) all at =
+    elim (side (listed (Some i) (depth + 1) below) (listed parent depth behind) w k at) [
+      | front h ↦ stand_in groups (Some i) (depth + 1) inner below k w m (λ y. (let e = ordered groups (i + 1) inner y o in omega (arith, e))) h
+      | back j e h ↦ stand_in groups parent depth rest behind j w r (λ y. (let a = all y in let c = count_more y i rest in omega (arith, a, c))) h
+    ]
+
+pub row_in : (groups : Groups) (k : ℕ) (row : Row) (t : Tree) → IsTree groups t → slice_get (listed None 1 t) k ≡ Some row
+    → IsIn row.number (group_under row.parent) groups
+row_in groups k row t is at = stand_in groups None 1 is.0 t k row is.2 (λ y. (let e = ordered groups 0 is.0 y is.1 in omega (arith, e))) at
+
+pub row_within : (groups : Groups) (items k : ℕ) (row : Row) (t : Tree) → IsTree groups t → StandOnce items groups → slice_get (listed None 1 t) k ≡ Some row
+    → row.number < items
+row_within groups items k row t is s at = elim (cases_lt row.number items) [
+  | inl lt ↦ lt
+  | inr le ↦
+      let e = s.no_other row.number le in
+      let here : 0 < count row.number (members_of groups (group_under row.parent)) = row_in groups k row t is at in
+      let least = count_times row.number (group_under row.parent) groups in
+      absurd (omega (arith, e, here, least))
+]
+
+pub one_group : (groups : Groups) (items i g h : ℕ) → StandOnce items groups → IsIn i g groups → IsIn i h groups → g ≡ h
+one_group groups items i g h s p q = elim (cases_eq g h) [
+  | inl same ↦ same
+  | inr other ↦
+      let once = at_most_once items groups s i in
+      let e = taken i g groups in
+      let there : members_of (emptied groups g) h ≡ members_of groups h = get_or-set_other groups g h [] [] (λ z. other (sym z)) in
+      let more = count_times i h (emptied groups g) in
+      let still : count i (members_of (emptied groups g) h) ≡ count i (members_of groups h) = ap (count i) there in
+      let first : 0 < count i (members_of groups g) = p in
+      let second : 0 < count i (members_of groups h) = q in
+      absurd (omega (arith, once, e, more, still, first, second))
+]

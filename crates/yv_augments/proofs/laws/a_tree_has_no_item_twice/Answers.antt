@@ -1,0 +1,8 @@
+use Rattle.yv_augments.proofs.Distinct.{no_item_twice, row_within}
+use Rattle.yv_augments.proofs.laws.a_tree_has_no_item_twice.Goals as goal
+
+pub returns-clause-count : goal.returns-clause-count
+returns-clause-count c = no_item_twice
+
+pub returns-clause-within : goal.returns-clause-within
+returns-clause-within c = row_within

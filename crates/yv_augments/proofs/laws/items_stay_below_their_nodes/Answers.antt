@@ -1,0 +1,10 @@
+use Rattle.std.proofs.Common.{arith}
+use Rattle.yv_augments.proofs.Staying.{rounds_other, turn_other}
+use Rattle.yv_augments.proofs.laws.items_stay_below_their_nodes.Goals as goal
+
+pub returns-clause-turned : goal.returns-clause-turned
+returns-clause-turned c = λ labels number start limit group item names st room fits le is.
+    turn_other labels item group number start limit names st (λ e. omega (arith, e, le)) is
+
+pub returns-clause-applied : goal.returns-clause-applied
+returns-clause-applied c = λ labels first group item paths old new are room fits le is. rounds_other labels first group item paths old new are fits le is

@@ -1,0 +1,76 @@
+-- The properties of a node that refines may change (RFC 7950, section 7.13.2), by the statements that say them.
+use Rattle.std.specs.Prelude.{ℕ, ◌^◌, nat_lt, Bool, false, ℤ, pos, List, [], ◌∷◌, Option, Some, None, is_some, codes, if◌then◌else◌}
+use Rattle.std.specs.Option.{option_map, option_or, unwrap_or}
+use Rattle.std.specs.Str.{bytes_eq}
+use Rattle.yv_statement.specs.Tree.{Tree, name_of}
+use Rattle.yv_conform.specs.declared.keyword.Keyword.{Keyword}
+use Rattle.yv_conform.specs.declared.keyword.Keyword.TheVariants as word
+use Rattle.yv_rows.specs.Files.{Files}
+use Rattle.yv_expansion.specs.declared.item.Origin.{Origin}
+use Rattle.yv_expansion.specs.declared.item.Origin.TheVariants as origin
+use Rattle.yv_numbers.specs.Numbers.{integer_of}
+use Rattle.yv_properties.specs.Defined.{Written}
+use Rattle.yv_stated.specs.Statements.{file_at, first_of, statement_at}
+
+-- what is said by a substatement of each keyword, if it is
+abbrev pub Said : Type 0
+Said = Keyword → Option Written
+
+-- the argument of a statement of a file
+abbrev pub written_in : (file : ℕ) → Tree → Written
+written_in file t = record { text = name_of t.head; file = file }
+
+-- what a statement of a file says: of each keyword, its first substatement does
+abbrev pub said_by : (file : ℕ) → Tree → Said
+said_by file t keyword = option_map (written_in file) (first_of keyword t.children)
+
+-- what a numbered statement says
+abbrev pub said_at : Files → ℕ → Said
+said_at files number = said_by (file_at files number) (statement_at files number)
+
+-- what the last of these numbered statements says that says something of this kind
+abbrev pub last_said : Files → List ℕ → Said
+last_said files [] keyword = None
+last_said files (n ∷ ns) keyword = option_or (last_said files ns keyword) (said_at files n keyword)
+
+-- the statements that say what a node of this origin is
+abbrev pub written_by : Origin → List ℕ
+written_by (origin.Statement number) = number ∷ []
+written_by (origin.Input number) = []
+written_by (origin.Output number) = []
+
+abbrev pub is_true : Written → Bool
+is_true w = bytes_eq w.text (codes "true")
+
+-- a number of 32 bits; no file that conforms has a greater one, and `unbounded` is none
+abbrev pub elements : Option ℤ → Option ℕ
+elements (Some (pos n)) = if nat_lt n (2 ^ 32) then Some n else None
+elements _ = None
+
+-- a number of list entries
+abbrev pub elements_of : Written → Option ℕ
+elements_of w = elements (integer_of w.text)
+
+-- the least number of list entries
+abbrev pub least_of : Written → ℕ
+least_of w = unwrap_or (elements_of w) 0
+
+-- what is said of each property; a `max` of none is `unbounded`
+pub record Properties : Type 0 where
+  pub config : Option Bool
+  pub mandatory : Option Bool
+  pub presence : Bool
+  pub min : Option ℕ
+  pub max : Option (Option ℕ)
+  pub default : Option Written
+
+-- sections 7.21.1, 7.6.5, 7.5.5, 7.7.5, 7.7.6 and 7.6.4
+abbrev pub properties_of : Said → Properties
+properties_of said = record {
+  config = option_map is_true (said word.Config);
+  mandatory = option_map is_true (said word.Mandatory);
+  presence = is_some (said word.Presence);
+  min = option_map least_of (said word.MinElements);
+  max = option_map elements_of (said word.MaxElements);
+  default = said word.Default;
+}

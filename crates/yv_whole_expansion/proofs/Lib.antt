@@ -1,0 +1,12 @@
+pub mod Words
+pub mod Listing
+pub mod Placing
+pub mod Referring
+pub mod Once
+pub mod Giving
+pub mod Filing
+pub mod Standing
+pub mod Pending
+pub mod Stacking
+pub mod Expanding
+pub mod Ordered

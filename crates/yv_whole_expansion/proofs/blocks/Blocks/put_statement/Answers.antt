@@ -1,0 +1,44 @@
+use Rattle.std.proofs.Common.{◌≡◌, ◌∙◌, ◌++◌, ◌∷◌, [], ℕ, List, true, false, reverse, sym, ap, slice_get, Some, None}
+use Rattle.std.proofs.lemmas.Option.{same_Some}
+use Rattle.std.proofs.lemmas.Result.{on_ok_weaker}
+use Rattle.yv_rows.specs.Lent.{lent_in, files_in, rows_in}
+use Rattle.yv_names.specs.Refers.{RefersTo}
+use Rattle.yv_expansion.specs.declared.item.Origin.{Origin}
+use Rattle.yv_expansion.specs.declared.item.Origin.TheVariants.{Input, Output}
+use Rattle.yv_whole_expansion.specs.Expands.{is_at, is_operation, part}
+use Rattle.yv_whole_expansion.specs.InnerItems.{items_below, numbers_at, origins}
+use Rattle.yv_whole_expansion.proofs.Standing.{parts_stand, uses_stand, none_stand}
+use Rattle.yv_whole_expansion.proofs.blocks.Blocks.put_statement.Goals as goal
+
+pub returns-then-is_operation_at-clause-some : goal.returns-then-is_operation_at-clause-some
+returns-then-is_operation_at-clause-some c =
+    let blocks = c.args.self.now in
+    let k = c.args.statement in
+    let these : List Origin = part (Input k) (slice_get (numbers_at blocks.inputs.items k) 0) ∷ part (Output k) (slice_get (numbers_at blocks.outputs.items k) 0) ∷ [] in
+    on_ok_weaker c.put_parts.result (λ is. (these, is)) c.put_parts.ensures
+
+pub returns-then-is_operation_at-clause-below : goal.returns-then-is_operation_at-clause-below
+returns-then-is_operation_at-clause-below c = λ these names blocks stand.
+    let is : is_at is_operation (rows_in c.args.rows.now) c.args.statement ≡ true = sym c.is_operation_at.ensures ∙ c.if-is_operation_at.true in
+    let same = parts_stand (files_in c.args.rows.now) (rows_in c.args.rows.now) c.args.self.now c.args.statement these blocks is stand in
+    on_ok_weaker c.put_parts.result (λ put. put ∙ ap (λ (l : List Origin). c.args.stack.now.items ++ reverse (items_below c.args.parent l)) (sym same)) c.put_parts.ensures
+
+pub returns-in-Some-clause-below : goal.returns-in-Some-clause-below
+returns-in-Some-clause-below c = λ these names blocks stand.
+    let isnt : is_at is_operation (rows_in c.args.rows.now) c.args.statement ≡ false = sym c.is_operation_at.ensures ∙ c.if-is_operation_at.false in
+    let refers : RefersTo (files_in c.args.rows.now) (rows_in c.args.rows.now) c.args.statement c.in-Some.grouping =
+    (c.meaning.ensures (lent_in c.args.rows.now) names c.in-Some.grouping).0 c.in-Some.is in
+    let one : (d : ℕ) → RefersTo (files_in c.args.rows.now) (rows_in c.args.rows.now) c.args.statement d → c.in-Some.grouping ≡ d =
+    λ d meant. same_Some c.in-Some.grouping d (sym c.in-Some.is ∙ (c.meaning.ensures (lent_in c.args.rows.now) names d).1 meant) in
+    let same = uses_stand (files_in c.args.rows.now) (rows_in c.args.rows.now) c.args.self.now c.args.statement c.in-Some.grouping these blocks isnt refers one stand in
+    on_ok_weaker c.put_uses.result (λ put. put ∙ ap (λ (l : List Origin). c.args.stack.now.items ++ reverse (items_below c.args.parent l)) (sym same)) c.put_uses.ensures
+
+pub returns-in-None-clause-below : goal.returns-in-None-clause-below
+returns-in-None-clause-below c = λ these names blocks stand.
+    let isnt : is_at is_operation (rows_in c.args.rows.now) c.args.statement ≡ false = sym c.is_operation_at.ensures ∙ c.if-is_operation_at.false in
+    let free : (d : ℕ) → RefersTo (files_in c.args.rows.now) (rows_in c.args.rows.now) c.args.statement d → ⊥ =
+    λ d meant. (let bad : None ≡ Some d = sym c.in-None.is ∙ (c.meaning.ensures (lent_in c.args.rows.now) names d).1 meant in cc) in
+    let same = none_stand (files_in c.args.rows.now) (rows_in c.args.rows.now) c.args.self.now c.args.statement these blocks isnt free stand in
+    let own : c.numbers_at.result.now ≡ numbers_at c.args.self.now.own.items c.args.statement = cc (c.numbers_at.ensures, c.deref.ensures.value) in
+    on_ok_weaker c.put.result (λ put. put ∙ ap (λ (l : List ℕ). c.args.stack.now.items ++ reverse (items_below c.args.parent (origins l))) own
+    ∙ ap (λ (l : List Origin). c.args.stack.now.items ++ reverse (items_below c.args.parent l)) (sym same)) c.put.ensures

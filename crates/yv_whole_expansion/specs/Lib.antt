@@ -1,0 +1,3 @@
+pub mod Expands
+pub mod Expanded
+pub mod InnerItems

@@ -1,0 +1,55 @@
+//! Laws of the definitions alone. These functions do nothing: the contract of each is the law.
+ghost use Rattle.std.specs.Prelude.{◌≡◌, ◌≤◌, ◌<◌, ℕ, All, Bool, List, Some, length, map, slice_get};
+ghost use Rattle.yv_rows.specs.Files.{Briefs, Files, brief_of};
+ghost use Rattle.yv_rows.specs.Rows.{Row};
+ghost use Rattle.yv_rows.specs.Listed.{rows_of};
+ghost use Rattle.yv_units.specs.Limit.{given_before};
+ghost use Rattle.yv_units.specs.Weigh.{Weigh};
+ghost use Rattle.yv_expansion.specs.Tree.{Item, Tree, count};
+ghost use Rattle.yv_whole_expansion.specs.Expands.{Expands};
+ghost use Rattle.yv_whole_expansion.specs.Expanded.{IsWhole};
+
+use yv_expansion::Origin;
+
+/// Statements have one expansion at most.
+pub fn an_expansion_is_one()
+    ensures { (files : Briefs) (rows : List Row) (numbers : List ℕ) (t u : Tree) → Expands files rows numbers t
+        → Expands files rows numbers u → t ≡ u }
+{
+    yv_rows::laws::a_name_means_one_thing();
+}
+
+/// An expansion has no more items than units were counted for it.
+pub fn items_are_within_units()
+    ensures { (files : Briefs) (rows : List Row) (numbers : List ℕ) (t : Tree) (n : ℕ) → Expands files rows numbers t
+        → Weigh files rows numbers n → count t ≤ n }
+{
+    yv_rows::laws::a_name_means_one_thing();
+}
+
+/// Statements whose units can be counted have an expansion.
+pub fn what_weighs_expands()
+    ensures { (files : Briefs) (rows : List Row) (numbers : List ℕ) (n : ℕ) → Weigh files rows numbers n
+        → (t : Tree) × Expands files rows numbers t }
+{}
+
+/// Files have one expansion at most in an order, of which the files' own trees are so many items.
+pub fn a_whole_is_one()
+    ensures { (files : Files) (marks : List Bool) (order : List ℕ) (own own' : ℕ) (items items' : List Item)
+        → IsWhole files marks order own items → IsWhole files marks order own' items' → (own ≡ own') × (items ≡ items') }
+{
+    yv_rows::laws::a_name_means_one_thing();
+}
+
+/// The expansion of files in an order that lists no file twice has no more items than units were counted for the files that are
+/// given. A file's units cover its own items and what stands in the blocks of its augments.
+pub fn a_whole_is_within_units()
+    ensures { (files : Files) (marks : List Bool) (order : List ℕ) (own units : ℕ) (items : List Item) → IsWhole files marks order own items
+        → All (λ file. file < length files) order
+        → ((i k n : ℕ) → slice_get order i ≡ Some n → slice_get order k ≡ Some n → i ≡ k)
+        → Weigh (map brief_of files) (rows_of files) (given_before (map brief_of files) (rows_of files) marks (length files)) units
+        → length items ≤ units }
+{
+    yv_rows::laws::a_name_means_one_thing();
+    yv_expansion::laws::a_tree_is_listed_whole::<Origin>();
+}

@@ -1,0 +1,84 @@
+//! The expansion of files.
+ghost use Rattle.std.specs.Prelude.{◌≡◌, ◌≢◌, ◌<◌, All, length, None, Some, Err, IfOk, OnOk};
+ghost use Rattle.yv_statement.specs.Order.{IsLeast};
+ghost use Rattle.yv_statement.specs.declared.refusal.Refusal.{Refusal};
+ghost use Rattle.yv_statement.specs.declared.refusal.Stop.TheVariants.{Fault, PatternBuild};
+ghost use Rattle.yv_rows.specs.Lent.{files_in, lent_in, rows_in};
+ghost use Rattle.yv_names.specs.Known.{AreNames};
+ghost use Rattle.yv_units.specs.Limit.{Fits, TooMany};
+ghost use Rattle.yv_whole_expansion.specs.Expanded.{IsWhole, augments_of};
+
+use crate::blocks::Blocks;
+use crate::expanded::Expanded;
+use crate::lists::{Wanted, firsts, firsts_in, of_files};
+use crate::spread::spread;
+use std::alloc::{AllocError, Global};
+use yv_expansion::{Expansion, Origin};
+use yv_names::Names;
+use yv_rows::Rows;
+use yv_statement::Stop;
+use yv_units::too_many;
+
+// The expansion of files whose units are within the limit.
+fn within(
+    alloc: Global,
+    rows: &Rows<'_, '_>,
+    names: &Names,
+    given: &[bool],
+    order: &[usize],
+    limit: u32,
+) -> Result<Expanded, AllocError>
+    requires { All (λ file. file < length (files_in rows.now)) order.now }
+    ensures limit { IfOk result (λ e. e.expansion.limit ≡ limit) }
+    ensures augments { IfOk result (λ e. e.augments.items ≡ augments_of (files_in rows.now) (rows_in rows.now) given.now) }
+    ensures expanded { AreNames (lent_in rows.now) names.now → Fits (lent_in rows.now) given.now limit
+        → IfOk result (λ e. IsWhole (lent_in rows.now) given.now order.now e.own e.expansion.items) }
+{
+    yv_expansion::laws::a_tree_is_listed_whole::<Origin>();
+    yv_expansion::laws::trees_are_listed_in_order::<Origin>();
+    let blocks = Blocks::read(alloc, rows)?;
+    let tops = of_files(alloc, rows, Wanted::Items)?;
+    let applied = of_files(alloc, rows, Wanted::Augments)?;
+    let mut expansion = Expansion::new(alloc, limit);
+    let own_firsts = firsts_in(alloc, &tops, given, order)?;
+    spread(alloc, rows, names, &blocks, &own_firsts, &mut expansion)?;
+    let own = expansion.len();
+    let augments = firsts(alloc, &applied, given)?;
+    let added = blocks.given_by(alloc, &augments)?;
+    spread(alloc, rows, names, &blocks, &added, &mut expansion)?;
+    Ok(Expanded {
+        expansion,
+        own,
+        augments,
+    })
+}
+
+/// The expansion of the files of an order that are marked as given, one file behind the other in this order and each item before
+/// those below it (RFC 7950, sections 7.12 and 7.13), and behind it what the augments at the tops of all files that are given
+/// give, by file and statement (section 7.17), or, where the units of these pass the limit, the refusal of the first file by number
+/// with which they do. A file without a mark isn't given. Where the order lists no file twice, an expansion has no more items than
+/// units, and it never has more than the limit: where the order lists files again and again, or the names aren't those of the
+/// files, there is no memory for more.
+pub fn expand(
+    alloc: Global,
+    rows: &Rows<'_, '_>,
+    names: &Names,
+    given: &[bool],
+    order: &[usize],
+    limit: u32,
+) -> Result<Expanded, Stop>
+    requires { All (λ file. file < length (files_in rows.now)) order.now }
+    ensures expanded { AreNames (lent_in rows.now) names.now
+        → IfOk result (λ e. IsWhole (lent_in rows.now) given.now order.now e.own e.expansion.items) }
+    ensures augments { IfOk result (λ e. e.augments.items ≡ augments_of (files_in rows.now) (rows_in rows.now) given.now) }
+    ensures limit { IfOk result (λ e. e.expansion.limit ≡ limit) }
+    ensures fits { AreNames (lent_in rows.now) names.now → OnOk result (IsLeast (TooMany (lent_in rows.now) given.now limit) None) }
+    ensures refusal { AreNames (lent_in rows.now) names.now
+        → (r : Refusal) → result ≡ Err (Fault r) → IsLeast (TooMany (lent_in rows.now) given.now limit) (Some r) }
+    ensures built { result ≢ Err PatternBuild }
+{
+    if let Some(refusal) = too_many(alloc, rows, names, given, limit)? {
+        return Err(Stop::Fault(refusal));
+    }
+    Ok(within(alloc, rows, names, given, order, limit)?)
+}
