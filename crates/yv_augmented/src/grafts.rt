@@ -7,26 +7,26 @@ ghost use Rattle.yv_rows.specs.Lent.{files_in, rows_in};
 ghost use Rattle.yv_expansion.specs.Tree.{Item};
 ghost use Rattle.yv_augments.specs.declared.label.Label.{Label};
 ghost use Rattle.yv_augments.specs.Turns.{State, target_of};
-ghost use Rattle.yv_augments.specs.Tree.{AreRows};
 ghost use Rattle.yv_augments.specs.InnerState.{IsGrafting};
 ghost use Rattle.yv_augmented.specs.Grafted.{copy_turn, last_of, module_paths, placed, turns};
 ghost use Rattle.yv_augmented.specs.Spots.{Whole, copies_of, labels_of, laid, whole};
 ghost use Rattle.yv_augmented.specs.Faults.{Refused};
 ghost use Rattle.yv_augmented.specs.Giving.{is_giving};
-ghost use Rattle.yv_augmented.specs.Known.{AreGrafts};
-ghost use Rattle.yv_augmented.specs.Untargeted.{MissesAt, MissesOf, Untargeted, limit_of, reached};
+ghost use Rattle.yv_augmented.specs.Known.{AreGrafts, AreGrown};
+ghost use Rattle.yv_augmented.specs.Untargeted.{MissesAt, MissesOf, limit_of, reached};
 ghost use Rattle.yv_augmented.specs.InnerTurns.{one_turn};
-ghost use Rattle.yv_augmented.specs.Refining.{meant, node_at, refined, refined_all, refined_at};
+ghost use Rattle.yv_augmented.specs.Refining.{meant, node_at, refined, refined_at};
 
 use crate::ends::ends;
 use crate::faults::{is_absent, refused_at};
+use crate::grown::Grown;
 use crate::kinds::is_uses;
 use crate::laying::Layout;
 use crate::plan::Plan;
 use crate::refined::Refined;
 use crate::spot::Spot;
 use std::alloc::{AllocError, Global};
-use yv_augments::{End, Grafting, Label, Row};
+use yv_augments::{End, Grafting, Label};
 use yv_expansion::Item;
 use yv_rows::Rows;
 use yv_statement::{Code, Refusal, lesser};
@@ -318,21 +318,6 @@ pub struct Grafts {
 }
 
 impl Grafts {
-    /// What is known of each item.
-    pub fn spots(&self) -> &[Spot]
-        ensures { (w : Whole) (items : List Item) (st : State) → AreGrafts w items st self.now → result.now ≡ (laid w items).spots }
-    {
-        &self.spots
-    }
-
-    /// What the refines of each `uses` mean, those of an inner one before those of an outer one: the node at which the path of each ends,
-    /// among what the `uses` gives before its own augments.
-    pub fn refined(&self) -> &[Refined]
-        ensures { (w : Whole) (items : List Item) (st : State) → AreGrafts w items st self.now → result.now ≡ refined_all w items }
-    {
-        &self.refined
-    }
-
     /// The node to which an augment of a module adds, by its place among these. None where its path leads nowhere, or ends where
     /// no augment may add.
     pub fn target(&self, place: usize) -> Option<usize>
@@ -342,39 +327,23 @@ impl Grafts {
         self.grafting.target(place)
     }
 
-    /// The least `AugmentTarget` of an augment of a `uses` that is an item of the final tree, which this is: in its turn the augment
-    /// added to no node. Takes time linear in items.
-    pub fn first_untargeted(&self, tree: &[Row]) -> Option<Refusal>
-        ensures { (w : Whole) (items : List Item) (st : State) → AreGrafts w items st self.now
-            → IsLeast (Untargeted w items tree.now) result }
-    {
-        let mut least = None;
-        for row in tree {
-            least = lesser(least, self.missing_of(row.number));
-        }
-        least
-    }
-
-    // The least refusal of the augments of an item.
-    fn missing_of(&self, number: usize) -> Option<Refusal>
-        ensures { result ≡ slice_index_or self.now.missing.items number None }
-    {
-        self.missing.get(number).copied().unwrap_or(None)
-    }
-
-    /// The final tree in order: each item before those below it, children in the order of their numbers. A uses is among them, with
-    /// nothing below it: what it gives stands beside it, behind it. What an augment without a target gives isn't among them.
-    pub fn into_rows(self) -> Result<Vec<Row>, AllocError>
-        ensures { (w : Whole) (items : List Item) (st : State) → AreGrafts w items st self
-            → IfOk result (λ rows. AreRows st.groups rows.items) }
+    /// The final tree, and what is still asked of it.
+    pub fn into_grown(self) -> Result<Grown, AllocError>
+        ensures { (w : Whole) (items : List Item) (st : State) → AreGrafts w items st self → IfOk result (AreGrown w items st) }
     {
         let Grafts {
-            spots: _,
-            missing: _,
-            refined: _,
+            spots,
+            missing,
+            refined,
             grafting,
         } = self;
-        grafting.into_rows()
+        let tree = grafting.into_rows()?;
+        Ok(Grown {
+            spots,
+            refined,
+            tree,
+            missing,
+        })
     }
 }
 

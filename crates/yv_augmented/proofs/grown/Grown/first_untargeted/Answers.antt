@@ -5,17 +5,17 @@ use Rattle.yv_statement.proofs.Least.{least_more}
 use Rattle.yv_augmented.specs.Ends.{end_at}
 use Rattle.yv_augmented.specs.Spots.{laid}
 use Rattle.yv_augmented.specs.Untargeted.{MissesAt}
-use Rattle.yv_augmented.proofs.grafts.Grafts.first_untargeted.Goals as goal
+use Rattle.yv_augmented.proofs.grown.Grown.first_untargeted.Goals as goal
 
 pub loop-row-preserved : goal.loop-row-preserved
 loop-row-preserved c = λ w items st are. (
-    let tree = c.args.tree.now in
+    let tree = c.args.self.now.tree.items in
     least_more tree (λ place x. MissesAt w (laid w items) (end_at items x.number) x.number) c.loop-row.row-index _ c.loop-row.least c.missing_of.result c.lesser-least.result
     (slice_get-get_or tree c.loop-row.row-index _ c.loop-row-test.true) c.lesser-least.ensures (c.loop-row.invariant w items st are)
     (subst (IsLeast (MissesAt w (laid w items) (end_at items _) _)) (sym c.missing_of.ensures) (are.missing _)))
 
 pub returns : goal.returns
 returns c = λ w items st are. (
-    let all : c.loop-row.row-index ≡ length c.args.tree.now = omega (arith, c.loop-row-test.false, c.loop-row.auto.row-index-end) in
-    subst (λ (n : ℕ). IsLeast (Among c.args.tree.now (λ place x. MissesAt w (laid w items) (end_at items x.number) x.number) n) c.loop-row.least) all
+    let all : c.loop-row.row-index ≡ length c.args.self.now.tree.items = omega (arith, c.loop-row-test.false, c.loop-row.auto.row-index-end) in
+    subst (λ (n : ℕ). IsLeast (Among c.args.self.now.tree.items (λ place x. MissesAt w (laid w items) (end_at items x.number) x.number) n) c.loop-row.least) all
     (c.loop-row.invariant w items st are))
