@@ -9,7 +9,7 @@ returns c = λ w items st are. (
     let all : length items ≡ length (labels_of (laid w items).spots) = sym are.each ∙ sym (length-map (laid w items).spots (λ s. s.label)) in
     record {
       grafted = are.grafted;
-      tree = c.into_rows.ensures (labels_of (laid w items).spots) st are.grafting (subst (λ (n : ℕ). StandOnce n st.groups) all are.once);
+      tree = c.in_ok-tree.ensures (labels_of (laid w items).spots) st are.grafting (subst (λ (n : ℕ). StandOnce n st.groups) all are.once);
       spots = are.spots;
       refined = are.refined;
       missing = are.missing;
