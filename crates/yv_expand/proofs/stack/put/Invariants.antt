@@ -1,9 +1,0 @@
-use Rattle.std.proofs.Common.{◌≡◌, ◌++◌, length, reverse}
-use Rattle.yv_expand.specs.InnerItems.{items_below, origins}
-use Rattle.yv_expand.proofs.stack.put.Given as goal
-
-abbrev pub invariant-loop-last : goal.invariant-loop-last
-invariant-loop-last l = l.stack.items ++ reverse (items_below l.parent (origins l.rest)) ≡ l.initial.stack.items ++ reverse (items_below l.parent (origins l.numbers))
-
-abbrev pub decreases-loop-last : goal.decreases-loop-last
-decreases-loop-last l = length l.rest

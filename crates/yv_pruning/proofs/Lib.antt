@@ -1,7 +1,0 @@
-mod Filing
-mod Running
-mod Parting
-mod Cutting
-mod Counting
-mod Marking
-mod Hanging

@@ -1,6 +1,0 @@
-pub mod Pruned
-pub mod Listed
-pub mod Families
-pub mod InnerHung
-pub mod InnerRuns
-pub mod InnerPruning
