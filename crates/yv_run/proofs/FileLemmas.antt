@@ -1,5 +1,5 @@
 -- What files come to, from what the layers answer.
-use Rattle.std.proofs.Common.{◌≡◌, ◌∙◌, ℕ, List, [], Result, Ok, Err, IfOk, OnOk, subst, sym, ap, ap₂, None}
+use Rattle.std.proofs.Common.{◌≡◌, ◌∙◌, ℕ, List, Result, Ok, Err, IfOk, OnOk, subst, sym, ap, ap₂, None}
 use Rattle.std.specs.List.{AllZip}
 use Rattle.yv_statement.specs.Tree.{Tree}
 use Rattle.yv_statement.specs.Order.{IsLeast}
@@ -7,13 +7,13 @@ use Rattle.yv_statement.specs.declared.refusal.Refusal.{Refusal}
 use Rattle.yv_statement.specs.declared.refusal.Stop.{Stop}
 use Rattle.yv_statement.specs.declared.refusal.Stop.TheVariants.{Fault}
 use Rattle.yv_selection.specs.Choice.{Choice}
-use Rattle.yv_nodes.specs.Rows.{Module, Note, Row, Rows, whole}
+use Rattle.yv_nodes.specs.Rows.{Module, Row, Rows, whole}
 use Rattle.yv_nodes.specs.Numbers.{rows_of}
 use Rattle.yv_nodes.specs.declared.node.NodeId.{NodeId}
 use Rattle.yv_tables.specs.Sound.{IsSound}
 use Rattle.yv_schema.specs.Module.{modules_of}
 use Rattle.yv_schema.specs.Refuses.{Refuses}
-use Rattle.yv_schema.specs.Schema.{IsSchema}
+use Rattle.yv_schema.specs.Schema.{AreNotes, IsSchema}
 use Rattle.yv_streams.specs.Files.{File}
 use Rattle.yv_files.specs.Read.{IsRead, IsUnreadAt}
 use Rattle.yv_outcome.specs.Compiles.{Built, RefusedAt, FilesCompile, IsGiven, unread, built}
@@ -47,14 +47,15 @@ same_rows limit s sound is =
 
 -- what a compilation answers is the schema of the statements
 pub is_given : (choice : Choice) (ts : List Tree) (limit : ℕ) (s : Rows) → IsSchema choice ts (whole s) → s.limit ≡ limit
-    → s.modules ≡ modules_of choice ts → s.augments ≡ [] → IsSound s → IsGiven choice ts limit s
+    → s.modules ≡ modules_of choice ts → AreNotes choice ts s.augments → IsSound s → IsGiven choice ts limit s
 is_given choice ts limit s tree most modules augments sound = record {
   tree = tree;
-  rows = same_rows limit s sound most ∙ ap₂ (λ (ms : List Module) (ns : List Note). rows_of limit ms ns (whole s)) modules augments;
+  augments = augments;
+  rows = same_rows limit s sound most ∙ ap (λ (ms : List Module). rows_of limit ms s.augments (whole s)) modules;
 }
 
 pub all_given : (choice : Choice) (ts : List Tree) (limit : ℕ) (answer : Result Rows Stop) → IfOk answer (λ s. IsSchema choice ts (whole s))
-    → IfOk answer (λ s. s.limit ≡ limit) → IfOk answer (λ s. s.modules ≡ modules_of choice ts) → IfOk answer (λ s. s.augments ≡ [])
+    → IfOk answer (λ s. s.limit ≡ limit) → IfOk answer (λ s. s.modules ≡ modules_of choice ts) → IfOk answer (λ s. AreNotes choice ts s.augments)
     → IfOk answer IsSound → IfOk answer (IsGiven choice ts limit)
 all_given choice ts limit (Ok s) tree most modules augments sound = is_given choice ts limit s tree most modules augments sound
 all_given choice ts limit (Err e) tree most modules augments sound = tt

@@ -8,6 +8,7 @@ returns c = one_output (record {
   spelled = c.a_text_is_spelled_or_refused_once.ensures.spelled;
   refused = c.a_text_is_spelled_or_refused_once.ensures.refused;
   apart = c.a_text_is_spelled_or_refused_once.ensures.not_both;
-  schema = c.files_have_one_schema.ensures;
+  schema = c.files_have_one_schema.ensures.tree;
+  augments = c.files_have_one_schema.ensures.augments;
   order = c.order_tells_refusals_apart.ensures;
 })
