@@ -1,47 +1,49 @@
--- A child is found by its name in its parent's table.
+-- A child is found by its member in its parent's directory.
 use Rattle.std.proofs.Common.{◌≡◌, ℕ, ◌+◌, ◌≤◌, List, [], ◌∷◌, ◌++◌, length, refl, sym, ap, ◌∙◌, arith, Bool, true, false, ◌||◌, cond, Option, Some, None, IfSome, is_some, subst, inl, inr}
 use Rattle.std.specs.List.{AllByRecursion, list_any}
 use Rattle.std.specs.Str.{bytes_eq}
-use Rattle.std.proofs.lemmas.Slice.Eq.{bytes_eq-Decides}
-use Rattle.std.proofs.lemmas.Bool.{cases_Bool, false_from_ne_true, eq-eqb}
+use Rattle.std.proofs.lemmas.Bool.{cases_Bool}
 use Rattle.yv_properties.specs.Kinds.{is_data, is_passed}
 use Rattle.yv_nodes.specs.declared.node.NodeId.{NodeId}
 use Rattle.yv_nodes.specs.Tree.{count, Forest, Label, labels, no_trees, node, tree}
-use Rattle.yv_nodes.specs.Rows.{Rows, below, is_root, root, row_at, rank}
-use Rattle.yv_tables.specs.Groups.{AreFormed}
+use Rattle.yv_nodes.specs.Rows.{Rows, below, row_at, rank}
+use Rattle.yv_tables.specs.declared.directory.Directory.{Directory}
+use Rattle.yv_tables.specs.Numbered.{AreModules, HasNoColon}
 use Rattle.yv_tables.specs.Opened.{opened_from, opened_trees}
-use Rattle.yv_tables.specs.Doubled.{opened}
 use Rattle.yv_tables.specs.Sound.{IsInside, IsSound, inside, is_known, is_object, named, object_trees}
 use Rattle.yv_tables.specs.InnerSits.{Sits}
-use Rattle.yv_tables.specs.InnerTables.{called, labels_at}
-use Rattle.yv_tables.proofs.Doubling.{IsOf, kept_each, kept_opened, opened_of}
+use Rattle.yv_tables.specs.InnerTables.{IsAnswering, IsDirectory, called, home_named, is_called, labels_at}
+use Rattle.yv_tables.proofs.Forming.{IsAround, bare_is, each_as, fronted_is, unknown_is}
 use Rattle.yv_tables.proofs.Members.{AreWithin, append_all, labels_joined, labels_opened, opened_in}
 use Rattle.yv_tables.proofs.Placed.{inside_nothing, inside_object, sits_below}
 use Rattle.yv_tables.proofs.Sitting.{room_of}
 
--- the member of a node is its name behind this text
-pub record HasFront (s : Rows) (front : List ℕ) (c : NodeId) : Type 0 where
-  pub joined : (row_at s c).label.member ≡ front ++ (row_at s c).label.defined.name
+-- the nodes of a member are those of its front and its name
+named_called : (s : Rows) (around front : Option ℕ) (cs : List NodeId) (member name : List ℕ)
+    → AllByRecursion (λ (l : Label). bytes_eq l.member member ≡ is_called around front name l) (labels_at s.nodes cs) → named s cs member ≡ called s.nodes around cs front name
+named_called s around front [] member name h = refl
+named_called s around front (c ∷ cs) member name h = rw (h.0, named_called s around front cs member name h.1) refl
 
--- texts with one front are the same where the rest is
-pub bytes_eq_front : (front a b : List ℕ) → bytes_eq (front ++ a) (front ++ b) ≡ bytes_eq a b
-bytes_eq_front [] a b = refl
-bytes_eq_front (x ∷ xs) a b = rw (eq-eqb x x refl) (bytes_eq_front xs a b)
+named_none : (s : Rows) (cs : List NodeId) (member : List ℕ) → AllByRecursion (λ (l : Label). bytes_eq l.member member ≡ false) (labels_at s.nodes cs) → named s cs member ≡ None
+named_none s [] member h = refl
+named_none s (c ∷ cs) member h = rw (h.0) (named_none s cs member h.1)
 
--- a member is found by what follows the front of its parent
-pub named_fronted : (s : Rows) (front : List ℕ) (cs : List NodeId) (name : List ℕ) → AllByRecursion (HasFront s front) cs → named s cs (front ++ name) ≡ called s.nodes cs name
-named_fronted s front [] name h = refl
-named_fronted s front (c ∷ cs) name h =
-    let same : bytes_eq (row_at s c).label.member (front ++ name) ≡ bytes_eq (row_at s c).label.defined.name name = rw h.0.joined (bytes_eq_front front _ name) in
-    rw (same, named_fronted s front cs name h.1) refl
+module _ (s : Rows) (apart : AreModules s.modules) (around : Option ℕ) (p : NodeId) (are : AllByRecursion (IsAround s.modules around) (labels_at s.nodes (inside s p))) where
+  -- the directory of what stands in an object has what members name
+  pub answering : (directory : Directory) → IsDirectory s.nodes around (inside s p) directory → IsAnswering s p directory
+  answering directory has = record {
+    bare = λ member plain.
+        has.gives None member ∙ sym (named_called s around None (inside s p) member member
+        (each_as (IsAround s.modules around) (λ (l : Label). bytes_eq l.member member ≡ is_called around None member l) (labels_at s.nodes (inside s p)) (λ l h. bare_is s.modules apart around member l plain h) are));
+    fronted = λ owner name home known.
+        has.gives (Some home) name ∙ sym (named_called s around (Some home) (inside s p) (owner ++ 58 ∷ name) name
+        (each_as (IsAround s.modules around) (λ (l : Label). bytes_eq l.member (owner ++ 58 ∷ name) ≡ is_called around (Some home) name l) (labels_at s.nodes (inside s p)) (λ l h. fronted_is s.modules apart around owner name home l known h) are));
+  }
 
--- what doesn't begin with the front names none
-pub named_other : (s : Rows) (front : List ℕ) (cs : List NodeId) (member : List ℕ) → AllByRecursion (HasFront s front) cs → ((rest : List ℕ) → member ≡ front ++ rest → ⊥) → named s cs member ≡ None
-named_other s front [] member h other = refl
-named_other s front (c ∷ cs) member h other =
-    let differs : bytes_eq (row_at s c).label.member member ≡ false =
-    false_from_ne_true _ (λ e. other (row_at s c).label.defined.name (sym ((bytes_eq-Decides _ _).0 e) ∙ h.0.joined)) in
-    rw (differs) (named_other s front cs member h.1 other)
+  pub unknown_named : (owner name : List ℕ) → HasNoColon owner → home_named s.modules owner ≡ None → named s (inside s p) (owner ++ 58 ∷ name) ≡ None
+  unknown_named owner name plain unknown =
+      named_none s (inside s p) (owner ++ 58 ∷ name)
+      (each_as (IsAround s.modules around) (λ (l : Label). bytes_eq l.member (owner ++ 58 ∷ name) ≡ false) (labels_at s.nodes (inside s p)) (λ l h. unknown_is s.modules apart around owner name l plain unknown h) are)
 
 either_holds : (P : NodeId → Type 0) (c : NodeId) (rest : Option NodeId) (b : Bool) → P c → IfSome rest P → IfSome (cond b (Some c) rest) P
 either_holds P c rest true here later = here
@@ -117,15 +119,3 @@ known_is s p member sound within = by (is_object s p) (opened_known s p member s
         → is_some (named s (cond object (opened_from (rank p) (below s p)) []) member) ≡ is_known (cond object (opened_trees (below s p)) no_trees) member
     by true e = e
     by false e = refl
-
-pub inside_root : (s : Rows) (p : NodeId) → is_root p ≡ true → inside s p ≡ inside s root
-inside_root s p at_root = rw at_root refl
-
--- nodes that have such members
-pub fronted_labels : (s : Rows) (home front : List ℕ) (cs : List NodeId) → AllByRecursion (IsOf home front) (labels_at s.nodes cs) → AllByRecursion (HasFront s front) cs
-fronted_labels s home front [] h = tt
-fronted_labels s home front (c ∷ cs) h = (record { joined = h.0.1 }, fronted_labels s home front cs h.1)
-
-pub fronted_in : (s : Rows) (home front : List ℕ) (at : ℕ) (ts : Forest) → Sits s.nodes at ts → AreFormed home front ts → AllByRecursion (HasFront s front) (opened_from at ts)
-fronted_in s home front at ts sit formed =
-    fronted_labels s home front (opened_from at ts) (rw (labels_opened s.nodes at ts sit, kept_opened ts) (kept_each (IsOf home front) (opened ts) (opened_of home front ts formed)))

@@ -1,9 +1,16 @@
--- The tables by which children are found.
-use Rattle.std.proofs.Common.{◌≡◌, ◌≢◌, ℕ, zero, suc, ◌+◌, ◌<◌, ◌≤◌, length, List, [], ◌∷◌, ◌++◌, length-append, get_or, map, take, drop, refl, sym, ap, ◌∙◌, subst, arith, add-one, ◌⊎◌, Bool, true, false, cond, Option, Some, None, is_some, inl, inr}
+-- The directories by which children are found.
+use Rattle.std.proofs.Common.{◌≡◌, ℕ, zero, suc, ◌+◌, ◌<◌, ◌≤◌, ◌==◌, ◌&&◌, length, List, [], ◌∷◌, ◌++◌, length-append, get_or, map, take, drop, refl, sym, ap, ◌∙◌, subst, arith, add-one, ◌⊎◌, Bool, true, false, cond, Option, Some, None, is_some, inl, inr}
 use Rattle.std.specs.List.{slice_get, slice_index_or}
 use Rattle.std.specs.Str.{bytes_eq}
-use Rattle.std.specs.BTreeMap.{get_by_text}
-use Rattle.std.proofs.lemmas.Bool.{cases_lt, false≢true, false_from_ne_true}
+use Rattle.std.specs.BTreeMap.{BTreeMap, UpdatesBy, get, is_at}
+use Rattle.std.specs.Cmp.Lexicographic.{slice_cmp}
+use Rattle.std.specs.Map.{lookup}
+use Rattle.std.specs.Ordering.{nat_cmp}
+use Rattle.std.specs.Rc.{rc_str_bytes}
+use Rattle.std.specs.declared.rc.RcStr.{RcStr}
+use Rattle.std.specs.declared.alloc.Global.{Global}
+use Rattle.std.proofs.lemmas.Bool.{cases_lt, false≢true}
+use Rattle.std.proofs.lemmas.Bool.Decides.{nat_tests}
 use Rattle.std.proofs.lemmas.Option.{get_or_from_slice_get, same_Some, slice_get-get_or, slice_get_within}
 use Rattle.std.proofs.Math.ListN.{get_or-append}
 use Rattle.std.proofs.Math.Seq.{get_or-append_seam}
@@ -13,34 +20,58 @@ use Rattle.yv_statement.specs.declared.refusal.Refusal.{Refusal}
 use Rattle.yv_statement.specs.Order.{Among, IsLeast, IsLesser, Stands}
 use Rattle.yv_statement.proofs.Least.{least_more, least_refused}
 use Rattle.yv_nodes.specs.declared.node.NodeId.{NodeId}
+use Rattle.yv_nodes.specs.Member.{is_home}
 use Rattle.yv_nodes.specs.Tree.{Label}
-use Rattle.yv_tables.specs.Doubled.{doubled_at}
 use Rattle.yv_nodes.specs.Rows.{Row, blank_row}
-use Rattle.yv_tables.specs.Groups.{Top}
-use Rattle.yv_tables.specs.InnerSits.{members_of}
-use Rattle.yv_tables.specs.InnerTables.{DifferInName, IsNamesake, IsTable, ModuleTable, Namesakes, Table, called, called_at, called_in, either, get_by_name, in_table, kept_first, labels_at, look_up, opened_top}
+use Rattle.yv_leaf_targets.proofs.Keeping.{put_number}
+use Rattle.yv_tables.specs.declared.directory.Directory.{Directory}
+use Rattle.yv_tables.specs.Doubled.{doubled_at}
+use Rattle.yv_tables.specs.InnerTables.{IsDirectory, IsNamesake, IsOfRow, Namesakes, Table, called, front_of, get_by_name, held, held_behind, in_table, is_called, is_front, kept_first, labels_at}
+
+pub equal : (n k : ℕ) → n ≡ k → (n == k) ≡ true
+equal n k e = grind (arith, nat_tests, e)
+
+pub equal_is : (n k : ℕ) → (n == k) ≡ true → n ≡ k
+equal_is n k e = grind (arith, nat_tests, e)
+
+-- a map without entries has nothing at any name
+pub empty_gives : {X : Type 0} (table : BTreeMap (RcStr Global) X) (name : List ℕ) → table.entries ≡ [] → get_by_name table name ≡ None
+empty_gives table name none = ap (lookup (is_at (λ k. slice_cmp nat_cmp name (rc_str_bytes k)))) none
+
+-- where something is added elsewhere, what stood stays
+pub kept_else : (b : Bool) (child : NodeId) (old : Option NodeId) → b ≡ false → old ≡ kept_first b child old
+kept_else b child None e = rw e refl
+kept_else b child (Some first) e = refl
 
 -- where nothing stood at the name, a child that is put there is the first one
-pub kept_new : (old : List ℕ → Option NodeId) (name text : List ℕ) (child : NodeId) → is_some (old name) ≡ false → cond (bytes_eq name text) (Some child) (old text) ≡ kept_first name child (old text) text
-kept_new old name text child absent = by (old text) refl
+pub kept_new : (old : List ℕ → Option NodeId) (name text : List ℕ) (child : NodeId) → is_some (old name) ≡ false → cond (bytes_eq name text) (Some child) (old text) ≡ kept_first (bytes_eq name text) child (old text)
+kept_new old name text child absent = by (old text) refl (bytes_eq name text) refl
   where
-    by : (o : Option NodeId) → old text ≡ o → cond (bytes_eq name text) (Some child) o ≡ kept_first name child o text
-    by None e = refl
-    by (Some first) e =
-        let differs : bytes_eq name text ≡ false = false_from_ne_true _ (λ h.
-        false≢true (sym absent ∙ ap (λ (t : List ℕ). is_some (old t)) ((bytes_eq-Decides name text).0 h) ∙ ap is_some e)) in
-        rw differs refl
+    by : (o : Option NodeId) → old text ≡ o → (b : Bool) → bytes_eq name text ≡ b → cond b (Some child) o ≡ kept_first b child o
+    by None e b same = refl
+    by (Some first) e false same = refl
+    by (Some first) e true same = absurd (false≢true (sym absent ∙ ap (λ (t : List ℕ). is_some (old t)) ((bytes_eq-Decides name text).0 same) ∙ ap is_some e))
 
 -- where something stood at the name, it stays
-pub kept_same : (old : List ℕ → Option NodeId) (name text : List ℕ) (child : NodeId) → is_some (old name) ≡ true → old text ≡ kept_first name child (old text) text
-kept_same old name text child present = by (old text) refl
+pub kept_same : (old : List ℕ → Option NodeId) (name text : List ℕ) (child : NodeId) → is_some (old name) ≡ true → old text ≡ kept_first (bytes_eq name text) child (old text)
+kept_same old name text child present = by (old text) refl (bytes_eq name text) refl
   where
-    by : (o : Option NodeId) → old text ≡ o → o ≡ kept_first name child o text
-    by (Some first) e = refl
-    by None e =
-        let differs : bytes_eq name text ≡ false = false_from_ne_true _ (λ h.
-        false≢true (sym (ap is_some e) ∙ sym (ap (λ (t : List ℕ). is_some (old t)) ((bytes_eq-Decides name text).0 h)) ∙ present)) in
-        rw differs refl
+    by : (o : Option NodeId) → old text ≡ o → (b : Bool) → bytes_eq name text ≡ b → o ≡ kept_first b child o
+    by (Some first) e b same = refl
+    by None e false same = refl
+    by None e true same = absurd (false≢true (sym (ap is_some e) ∙ sym (ap (λ (t : List ℕ). is_some (old t)) ((bytes_eq-Decides name text).0 same)) ∙ present))
+
+-- the tables of modules, where a child was added to that of one of them
+pub behind_put : (old new : BTreeMap ℕ Table) (home : ℕ) (name : List ℕ) (child : NodeId) (table : Table)
+    → UpdatesBy nat_cmp (nat_cmp home) old new (Some table)
+    → ((text : List ℕ) → get_by_name table text ≡ kept_first (bytes_eq name text) child (held_behind old home text))
+    → (other : ℕ) (text : List ℕ) → held_behind new other text ≡ kept_first (home == other && bytes_eq name text) child (held_behind old other text)
+behind_put old new home name child table update kept other text =
+    ap (in_table text) (put_number old new home table update other) ∙ by (home == other) refl
+  where
+    by : (b : Bool) → (home == other) ≡ b → in_table text (cond b (Some table) (get nat_cmp old other)) ≡ kept_first (b && bytes_eq name text) child (held_behind old other text)
+    by true e = kept text ∙ ap (λ (n : ℕ). kept_first (bytes_eq name text) child (held_behind old n text)) (equal_is home other e)
+    by false e = kept_else false child (held_behind old other text) refl
 
 pub map_got : {X Y : Type 0} (f : X → Y) (xs : List X) (k : ℕ) (y : Y) → slice_get (map f xs) k ≡ Some y → (x : X) × (slice_get xs k ≡ Some x) × (f x ≡ y)
 map_got f [] k y at = cc
@@ -60,23 +91,61 @@ drop_suc (y ∷ ys) (suc n) x at = drop_suc ys n x at
 pub drop_next : {X : Type 0} (xs : List X) (n : ℕ) (x : X) → slice_get xs n ≡ Some x → drop n xs ≡ x ∷ drop (n + 1) xs
 drop_next xs n x at = drop_suc xs n x at ∙ ap (λ (k : ℕ). x ∷ drop k xs) (sym (add-one n))
 
-module _ (rows : List Row) where
+module _ (rows : List Row) (around : Option ℕ) where
   abbrev label_at : NodeId → Label
   label_at c = (slice_index_or rows c.0 blank_row).label
 
-  kept_behind : (b : Bool) (d c : NodeId) (rest : Option NodeId) (name text : List ℕ) → cond b (Some d) (kept_first name c rest text) ≡ kept_first name c (cond b (Some d) rest) text
-  kept_behind true d c rest name text = refl
-  kept_behind false d c rest name text = refl
+  abbrev has : Option ℕ → List ℕ → NodeId → Bool
+  has front name c = is_called around front name (label_at c)
 
-  called_next : (cs : List NodeId) (n : ℕ) (c : NodeId) (text : List ℕ) → slice_get cs n ≡ Some c → called rows (take (suc n) cs) text ≡ kept_first (label_at c).defined.name c (called rows (take n cs) text) text
-  called_next [] n c text at = cc
-  called_next (d ∷ ds) zero c text at = let same : d ≡ c = cc in ap (λ (x : NodeId). cond (bytes_eq (label_at x).defined.name text) (Some x) None) same
-  called_next (d ∷ ds) (suc n) c text at =
-      rw (called_next ds n c text at) (kept_behind (bytes_eq (label_at d).defined.name text) d c (called rows (take n ds) text) (label_at c).defined.name text)
+  kept_behind : (b e : Bool) (d c : NodeId) (rest : Option NodeId) → cond b (Some d) (kept_first e c rest) ≡ kept_first e c (cond b (Some d) rest)
+  kept_behind true e d c rest = refl
+  kept_behind false e d c rest = refl
+
+  called_next : (cs : List NodeId) (n : ℕ) (c : NodeId) (front : Option ℕ) (text : List ℕ) → slice_get cs n ≡ Some c
+      → called rows around (take (suc n) cs) front text ≡ kept_first (has front text c) c (called rows around (take n cs) front text)
+  called_next [] n c front text at = cc
+  called_next (d ∷ ds) zero c front text at = let same : d ≡ c = cc in ap (λ (x : NodeId). cond (has front text x) (Some x) None) same
+  called_next (d ∷ ds) (suc n) c front text at =
+      rw (called_next ds n c front text at) (kept_behind (has front text d) (has front text c) d c (called rows around (take n ds) front text))
 
   -- one more child
-  pub called_more : (cs : List NodeId) (n : ℕ) (c : NodeId) (text : List ℕ) → slice_get cs n ≡ Some c → called rows (take (n + 1) cs) text ≡ kept_first (label_at c).defined.name c (called rows (take n cs) text) text
-  called_more cs n c text at = ap (λ (k : ℕ). called rows (take k cs) text) (add-one n) ∙ called_next cs n c text at
+  pub called_more : (cs : List NodeId) (n : ℕ) (c : NodeId) (front : Option ℕ) (text : List ℕ) → slice_get cs n ≡ Some c
+      → called rows around (take (n + 1) cs) front text ≡ kept_first (has front text c) c (called rows around (take n cs) front text)
+  called_more cs n c front text at = ap (λ (k : ℕ). called rows around (take k cs) front text) (add-one n) ∙ called_next cs n c front text at
+
+  fronts_same : (home a b : ℕ) (c d : Bool) → (home == a) ≡ c → (home == b) ≡ d → is_front (cond c None (Some a)) (cond d None (Some b)) ≡ true → a ≡ b
+  fronts_same home a b true true e f h = sym (equal_is home a e) ∙ equal_is home b f
+  fronts_same home a b true false e f h = absurd (false≢true h)
+  fronts_same home a b false true e f h = absurd (false≢true h)
+  fronts_same home a b false false e f h = equal_is a b h
+
+  -- nodes of one front are of one module
+  front_same : (a b : Label) → is_front (front_of around a) (front_of around b) ≡ true → a.home ≡ b.home
+  front_same a b h = by around h
+    where
+      by : (o : Option ℕ) → is_front (cond (is_home a.home o) None (Some a.home)) (cond (is_home b.home o) None (Some b.home)) ≡ true → a.home ≡ b.home
+      by None h = equal_is a.home b.home h
+      by (Some home) h = fronts_same home a.home b.home (home == a.home) (home == b.home) refl refl h
+
+  front_itself : (o : Option ℕ) → is_front o o ≡ true
+  front_itself None = refl
+  front_itself (Some n) = equal n n refl
+
+  both_parts : (b c : Bool) → (b && c) ≡ true → (b ≡ true) × (c ≡ true)
+  both_parts true c h = (refl, h)
+  both_parts false c h = absurd (false≢true h)
+
+  -- a node has the front and the name of another exactly where it has its module and its name
+  called_as : (a b : Label) → is_called around (front_of around b) b.defined.name a ≡ true → (a.home ≡ b.home) × (a.defined.name ≡ b.defined.name)
+  called_as a b h =
+      let parts = both_parts (is_front (front_of around a) (front_of around b)) (bytes_eq a.defined.name b.defined.name) h in
+      (front_same a b parts.0, (bytes_eq-Decides a.defined.name b.defined.name).0 parts.1)
+
+  as_called : (a b : Label) → a.home ≡ b.home → a.defined.name ≡ b.defined.name → is_called around (front_of around b) b.defined.name a ≡ true
+  as_called a b home name =
+      let front : is_front (front_of around a) (front_of around b) ≡ true = ap (λ (n : ℕ). is_front (cond (is_home n around) None (Some n)) (front_of around b)) home ∙ front_itself (front_of around b) in
+      rw (front, (bytes_eq-Decides a.defined.name b.defined.name).1 name) refl
 
   some_cases : (b : Bool) (d : NodeId) (rest : Option NodeId) → is_some (cond b (Some d) rest) ≡ true → (b ≡ true) ⊎ (is_some rest ≡ true)
   some_cases true d rest h = inl refl
@@ -89,49 +158,59 @@ module _ (rows : List Row) where
   some_second true d rest h = refl
   some_second false d rest h = h
 
-  -- the front has a child of this name exactly where one stands there
-  called_namesake : (cs : List NodeId) (n : ℕ) (l : Label) → is_some (called rows (take n cs) l.defined.name) ≡ true → IsNamesake (labels_at rows cs) n l
+  -- one of the first n children has the front and the name of this node
+  abbrev is_met : List NodeId → ℕ → Label → Bool
+  is_met cs n l = is_some (called rows around (take n cs) (front_of around l) l.defined.name)
+
+  -- the front has a child of this module and this name exactly where one stands there
+  called_namesake : (cs : List NodeId) (n : ℕ) (l : Label) → is_met cs n l ≡ true → IsNamesake (labels_at rows cs) n l
   called_namesake cs zero l h = absurd (false≢true h)
   called_namesake [] (suc n) l h = absurd (false≢true h)
-  called_namesake (d ∷ ds) (suc n) l h = elim (some_cases (bytes_eq (label_at d).defined.name l.defined.name) d (called rows (take n ds) l.defined.name) h) [
-    | inl here ↦ record { place = 0; first = label_at d; before = omega arith; at = refl; same_name = (bytes_eq-Decides (label_at d).defined.name l.defined.name).0 here }
+  called_namesake (d ∷ ds) (suc n) l h = elim (some_cases (has (front_of around l) l.defined.name d) d (called rows around (take n ds) (front_of around l) l.defined.name) h) [
+    | inl here ↦
+        let same = called_as (label_at d) l here in
+        record { place = 0; first = label_at d; before = omega arith; at = refl; same_home = same.0; same_name = same.1 }
     | inr later ↦
         let r : IsNamesake (labels_at rows ds) n l = called_namesake ds n l later in
-        record { place = suc r.place; first = r.first; before = omega (arith, r.before); at = r.at; same_name = r.same_name }
+        record { place = suc r.place; first = r.first; before = omega (arith, r.before); at = r.at; same_home = r.same_home; same_name = r.same_name }
   ]
 
-  namesake_at : (cs : List NodeId) (n place : ℕ) (first l : Label) → place < n → slice_get (labels_at rows cs) place ≡ Some first → first.defined.name ≡ l.defined.name → is_some (called rows (take n cs) l.defined.name) ≡ true
-  namesake_at cs zero place first l lt at same = absurd (omega arith)
-  namesake_at [] (suc n) place first l lt at same = cc
-  namesake_at (d ∷ ds) (suc n) zero first l lt at same =
+  namesake_at : (cs : List NodeId) (n place : ℕ) (first l : Label) → place < n → slice_get (labels_at rows cs) place ≡ Some first → first.home ≡ l.home → first.defined.name ≡ l.defined.name → is_met cs n l ≡ true
+  namesake_at cs zero place first l lt at home name = absurd (omega arith)
+  namesake_at [] (suc n) place first l lt at home name = cc
+  namesake_at (d ∷ ds) (suc n) zero first l lt at home name =
       let is : label_at d ≡ first = cc in
-      some_first (bytes_eq (label_at d).defined.name l.defined.name) d (called rows (take n ds) l.defined.name) ((bytes_eq-Decides (label_at d).defined.name l.defined.name).1 (ap (λ (x : Label). x.defined.name) is ∙ same))
-  namesake_at (d ∷ ds) (suc n) (suc place) first l lt at same =
-      some_second (bytes_eq (label_at d).defined.name l.defined.name) d (called rows (take n ds) l.defined.name) (namesake_at ds n place first l (omega arith) at same)
+      some_first (has (front_of around l) l.defined.name d) d (called rows around (take n ds) (front_of around l) l.defined.name)
+      (as_called (label_at d) l (ap (λ (x : Label). x.home) is ∙ home) (ap (λ (x : Label). x.defined.name) is ∙ name))
+  namesake_at (d ∷ ds) (suc n) (suc place) first l lt at home name =
+      some_second (has (front_of around l) l.defined.name d) d (called rows around (take n ds) (front_of around l) l.defined.name) (namesake_at ds n place first l (omega arith) at home name)
 
-  -- the table of the first children, and the least of what is refused at them
-  pub record Keeps (cs : List NodeId) (table : Table) (doubled : Option Refusal) (n : ℕ) : Type 0 where
-    pub met : (text : List ℕ) → get_by_name table text ≡ called rows (take n cs) text
+  -- the directory of the first children, and the least of what is refused at them
+  pub record Keeps (cs : List NodeId) (directory : Directory) (doubled : Option Refusal) (n : ℕ) : Type 0 where
+    pub met : (front : Option ℕ) (text : List ℕ) → held directory front text ≡ called rows around (take n cs) front text
     pub least : IsLeast (Among (labels_at rows cs) (λ k l. Stands (IsNamesake (labels_at rows cs) k l) (doubled_at l)) n) doubled
 
-  pub keeps_more : (cs : List NodeId) (table new : Table) (doubled here more : Option Refusal) (n : ℕ) (c : NodeId) (l : Label) (repeated : Bool) → Keeps cs table doubled n → slice_get cs n ≡ Some c
-      → l ≡ label_at c → repeated ≡ is_some (get_by_name table l.defined.name) → ((text : List ℕ) → get_by_name new text ≡ kept_first l.defined.name c (get_by_name table text) text)
+  pub keeps_more : (cs : List NodeId) (directory new : Directory) (doubled here more : Option Refusal) (n : ℕ) (c : NodeId) (l : Label) (front : Option ℕ) (repeated : Bool) → Keeps cs directory doubled n → slice_get cs n ≡ Some c
+      → l ≡ label_at c → front ≡ front_of around l → repeated ≡ is_some (held directory front l.defined.name)
+      → ((other : Option ℕ) (text : List ℕ) → held new other text ≡ kept_first (is_front front other && bytes_eq l.defined.name text) c (held directory other text))
       → here ≡ cond repeated (Some (doubled_at l)) None → IsLesser doubled here more → Keeps cs new more (n + 1)
-  keeps_more cs table new doubled here more n c l repeated h at is seen kept made lesser =
+  keeps_more cs directory new doubled here more n c l front repeated h at is fronted seen kept made lesser =
       let ls : List Label = labels_at rows cs in
       let P : Type 0 = IsNamesake ls n l in
-      let found : repeated ≡ is_some (called rows (take n cs) l.defined.name) = seen ∙ ap is_some (h.met l.defined.name) in
-      let from : P → repeated ≡ true = λ p. found ∙ namesake_at cs n p.place p.first l p.before p.at p.same_name in
+      let found : repeated ≡ is_met cs n l =
+      seen ∙ ap is_some (h.met front l.defined.name) ∙ ap (λ (o : Option ℕ). is_some (called rows around (take n cs) o l.defined.name)) fronted in
+      let from : P → repeated ≡ true = λ p. found ∙ namesake_at cs n p.place p.first l p.before p.at p.same_home p.same_name in
       let own : IsLeast (Stands P (doubled_at l)) here = rw made (least_refused P repeated (doubled_at l) (λ e. called_namesake cs n l (sym found ∙ e)) from) in
       record {
-        met = λ text. kept text ∙ ap (λ (o : Option NodeId). kept_first l.defined.name c o text) (h.met text)
-            ∙ ap (λ (x : Label). kept_first x.defined.name c (called rows (take n cs) text) text) is ∙ sym (called_more cs n c text at);
+        met = λ other text. kept other text ∙ ap (λ (o : Option NodeId). kept_first (is_front front other && bytes_eq l.defined.name text) c o) (h.met other text)
+            ∙ ap (λ (o : Option ℕ). kept_first (is_front o other && bytes_eq l.defined.name text) c (called rows around (take n cs) other text)) fronted
+            ∙ ap (λ (x : Label). kept_first (is_called around other text x) c (called rows around (take n cs) other text)) is ∙ sym (called_more cs n c other text at);
         least = least_more ls (λ k x. Stands (IsNamesake ls k x) (doubled_at x)) n l doubled here more (map_get label_at cs n c at ∙ ap Some (sym is)) lesser h.least own;
       }
 
-  pub keeps_end : (cs : List NodeId) (table : Table) (doubled : Option Refusal) (n : ℕ) → length cs ≡ n → Keeps cs table doubled n → IsTable rows cs table × IsLeast (Namesakes (labels_at rows cs)) doubled
-  keeps_end cs table doubled n all h = (
-    record { gives = λ name. h.met name ∙ ap (λ (ds : List NodeId). called rows ds name) (take_all n cs (omega (arith, all))) },
+  pub keeps_end : (cs : List NodeId) (directory : Directory) (doubled : Option Refusal) (n : ℕ) → length cs ≡ n → Keeps cs directory doubled n → IsDirectory rows around cs directory × IsLeast (Namesakes (labels_at rows cs)) doubled
+  keeps_end cs directory doubled n all h = (
+    record { gives = λ front name. h.met front name ∙ ap (λ (ds : List NodeId). called rows around ds front name) (take_all n cs (omega (arith, all))) },
     subst (λ (k : ℕ). IsLeast (Among (labels_at rows cs) (λ i l. Stands (IsNamesake (labels_at rows cs) i l) (doubled_at l)) k) doubled) (sym all ∙ sym (labels_length cs)) h.least,
   )
     where
@@ -139,76 +218,28 @@ module _ (rows : List Row) where
       labels_length [] = refl
       labels_length (d ∷ ds) = ap suc (labels_length ds)
 
-  -- a table has what is inside a node
-  abbrev pub Gives : Row → Table → Type 0
-  Gives row table = IsTable rows (members_of rows row) table
+module _ (rows : List Row) where
+  -- a directory for each of the first n nodes
+  pub record AreDirectoriesUpTo (directories : List Directory) (n : ℕ) : Type 0 where
+    pub each : length directories ≡ n
+    pub gives : (i : ℕ) (directory : Directory) → slice_get directories i ≡ Some directory → IsOfRow rows (slice_index_or rows i blank_row) directory
 
-  -- a table for each of the first n nodes
-  pub record AreTablesUpTo (tables : List Table) (n : ℕ) : Type 0 where
-    pub each : length tables ≡ n
-    pub gives : (i : ℕ) (table : Table) → slice_get tables i ≡ Some table → Gives (slice_index_or rows i blank_row) table
-
-  -- one more table
-  pub tables_more : (tables new : List Table) (n : ℕ) (table : Table) (row : Row) → AreTablesUpTo tables n → slice_get rows n ≡ Some row → Gives row table → new ≡ tables ++ table ∷ [] → AreTablesUpTo new (n + 1)
-  tables_more tables new n table row h at is pushed = record {
-    each = omega (arith, ap length pushed, length-append tables (table ∷ []), h.each);
+  -- one more directory
+  pub directories_more : (directories new : List Directory) (n : ℕ) (directory : Directory) (row : Row) → AreDirectoriesUpTo directories n → slice_get rows n ≡ Some row → IsOfRow rows row directory → new ≡ directories ++ directory ∷ [] → AreDirectoriesUpTo new (n + 1)
+  directories_more directories new n directory row h at is pushed = record {
+    each = omega (arith, ap length pushed, length-append directories (directory ∷ []), h.each);
     gives = λ i found at_i. by i found at_i (cases_lt i n);
   }
     where
-      by : (i : ℕ) (found : Table) → slice_get new i ≡ Some found → (i < n) ⊎ (n ≤ i) → Gives (slice_index_or rows i blank_row) found
+      by : (i : ℕ) (found : Directory) → slice_get new i ≡ Some found → (i < n) ⊎ (n ≤ i) → IsOfRow rows (slice_index_or rows i blank_row) found
       by i found at_i (inl less) =
-          let inner : i < length tables = omega (arith, less, h.each) in
-          h.gives i found (slice_get-get_or tables i found inner ∙ ap Some (sym (get_or-append tables (table ∷ []) found i inner))
-          ∙ sym (slice_get-get_or (tables ++ table ∷ []) i found (omega (arith, inner, length-append tables (table ∷ [])))) ∙ ap (λ (ts : List Table). slice_get ts i) (sym pushed) ∙ at_i)
+          let inner : i < length directories = omega (arith, less, h.each) in
+          h.gives i found (slice_get-get_or directories i found inner ∙ ap Some (sym (get_or-append directories (directory ∷ []) found i inner))
+          ∙ sym (slice_get-get_or (directories ++ directory ∷ []) i found (omega (arith, inner, length-append directories (directory ∷ [])))) ∙ ap (λ (ts : List Directory). slice_get ts i) (sym pushed) ∙ at_i)
       by i found at_i (inr not_less) =
           let within : i < length new = slice_get_within new i found at_i in
-          let last : i ≡ length tables = omega (arith, not_less, within, ap length pushed, length-append tables (table ∷ []), h.each) in
-          let same : table ≡ found = same_Some table found (ap Some (sym (get_or-append_seam tables table [] found)) ∙ ap (λ (k : ℕ). Some (get_or (tables ++ table ∷ []) k found)) (sym last)
-          ∙ sym (slice_get-get_or (tables ++ table ∷ []) i found (omega (arith, within, ap length pushed))) ∙ ap (λ (ts : List Table). slice_get ts i) (sym pushed) ∙ at_i) in
+          let last : i ≡ length directories = omega (arith, not_less, within, ap length pushed, length-append directories (directory ∷ []), h.each) in
+          let same : directory ≡ found = same_Some directory found (ap Some (sym (get_or-append_seam directories directory [] found)) ∙ ap (λ (k : ℕ). Some (get_or (directories ++ directory ∷ []) k found)) (sym last)
+          ∙ sym (slice_get-get_or (directories ++ directory ∷ []) i found (omega (arith, within, ap length pushed))) ∙ ap (λ (ts : List Directory). slice_get ts i) (sym pushed) ∙ at_i) in
           let here : row ≡ slice_index_or rows i blank_row = sym (get_or_from_slice_get rows n row blank_row at) ∙ ap (λ (k : ℕ). slice_index_or rows k blank_row) (sym h.each ∙ sym last) in
-          subst (λ (x : Table). Gives (slice_index_or rows i blank_row) x) same (subst (λ (r : Row). Gives r table) here is)
-
-  either_assoc : (a b c : Option NodeId) → either a (either b c) ≡ either (either a b) c
-  either_assoc None b c = refl
-  either_assoc (Some x) b c = refl
-
-  pub either_none : (a : Option NodeId) → either a None ≡ a
-  either_none None = refl
-  either_none (Some x) = refl
-
-  called_in_next : (ts : List Top) (n : ℕ) (t : Top) (name text : List ℕ) → slice_get ts n ≡ Some t → called_in rows (take (suc n) ts) name text ≡ either (called_in rows (take n ts) name text) (called_at rows t name text)
-  called_in_next [] n t name text at = cc
-  called_in_next (u ∷ us) zero t name text at = let same : u ≡ t = cc in either_none (called_at rows u name text) ∙ ap (λ (x : Top). called_at rows x name text) same
-  called_in_next (u ∷ us) (suc n) t name text at =
-      ap (either (called_at rows u name text)) (called_in_next us n t name text at)
-      ∙ either_assoc (called_at rows u name text) (called_in rows (take n us) name text) (called_at rows t name text)
-
-  -- no module of this name among the first
-  called_in_none : (ts : List Top) (n : ℕ) (name text : List ℕ) → ((i : ℕ) (u : Top) → i < n → slice_get ts i ≡ Some u → u.name ≢ name) → called_in rows (take n ts) name text ≡ None
-  called_in_none ts zero name text differ = refl
-  called_in_none [] (suc n) name text differ = refl
-  called_in_none (u ∷ us) (suc n) name text differ =
-      let other : bytes_eq u.name name ≡ false = false_from_ne_true _ (λ e. differ 0 u (omega arith) refl ((bytes_eq-Decides u.name name).0 e)) in
-      rw other (called_in_none us n name text (λ i v lt at. differ (suc i) v (omega arith) at))
-
-  -- modules whose tops are opened have the names that they had
-  pub differ_opened : (ts : List Top) → DifferInName ts → DifferInName (map (opened_top rows) ts)
-  differ_opened ts differ = λ i k t u lt at_i at_k.
-      let first = map_got (opened_top rows) ts i t at_i in
-      let second = map_got (opened_top rows) ts k u at_k in
-      λ e. differ i k first.0 second.0 lt first.1 second.1 (ap (λ (x : Top). x.name) first.2 ∙ e ∙ sym (ap (λ (x : Top). x.name) second.2))
-
-  -- the table of one more module
-  pub look_more : (ts : List Top) (n : ℕ) (t : Top) (old new : ModuleTable) (table : Table) → DifferInName ts → slice_get ts n ≡ Some t → IsTable rows t.numbers table
-      → ((name text : List ℕ) → look_up old name text ≡ called_in rows (take n ts) name text)
-      → ((name : List ℕ) → get_by_text new name ≡ cond (bytes_eq t.name name) (Some table) (get_by_text old name))
-      → (name text : List ℕ) → look_up new name text ≡ called_in rows (take (n + 1) ts) name text
-  look_more ts n t old new table differ at is known put name text =
-      ap (in_table text) (put name) ∙ by (bytes_eq t.name name) refl ∙ sym (called_in_next ts n t name text at) ∙ ap (λ (k : ℕ). called_in rows (take k ts) name text) (sym (add-one n))
-    where
-      by : (b : Bool) → bytes_eq t.name name ≡ b → in_table text (cond b (Some table) (get_by_text old name)) ≡ either (called_in rows (take n ts) name text) (called_at rows t name text)
-      by true e =
-          let same : t.name ≡ name = (bytes_eq-Decides t.name name).0 e in
-          let none : called_in rows (take n ts) name text ≡ None = called_in_none ts n name text (λ i u lt at_i h. differ i n u t lt at_i at (h ∙ sym same)) in
-          rw (none, e) (is.gives text)
-      by false e = rw e (known name text ∙ sym (either_none (called_in rows (take n ts) name text)))
+          subst (λ (x : Directory). IsOfRow rows (slice_index_or rows i blank_row) x) same (subst (λ (r : Row). IsOfRow rows r directory) here is)

@@ -10,5 +10,6 @@ pub mod Trees
 pub mod Measuring
 pub mod Grouping
 pub mod Doubling
+pub mod Forming
 pub mod Clearing
 pub mod Kept

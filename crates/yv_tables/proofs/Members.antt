@@ -1,5 +1,5 @@
 -- Opened trees, their numbers and their nodes.
-use Rattle.std.proofs.Common.{◌≡◌, ℕ, ◌+◌, ◌<◌, ◌≤◌, List, [], ◌∷◌, ◌++◌, length, refl, sym, ap, ◌∙◌, append_assoc, arith, All, Bool, true, false, cond}
+use Rattle.std.proofs.Common.{◌≡◌, ℕ, ◌+◌, ◌<◌, ◌≤◌, List, [], ◌∷◌, ◌++◌, length, refl, sym, ap, ◌∙◌, arith, All, Bool, true, false, cond}
 use Rattle.std.specs.List.{AllByRecursion, slice_index_or}
 use Rattle.std.proofs.lemmas.List.{map-append}
 use Rattle.std.proofs.lemmas.List.Elements.{All-from_recursion}
@@ -145,11 +145,3 @@ family_choice kind kids h = rw h refl
 
 pub family_other : (kind : NodeKind) (kids : Forest) → is_choice kind ≡ false → is_case kind ≡ false → family kind kids ≡ opened kids
 family_other kind kids h k = rw (h, k) refl
-
-pub opened_from_joined : (at : ℕ) (ts us : Forest) → opened_from at (joined ts us) ≡ opened_from at ts ++ opened_from (at + count ts) us
-opened_from_joined at no_trees us = ap (λ (n : ℕ). opened_from n us) (omega arith)
-opened_from_joined at (tree (node l kids) ts) us =
-    let here : List NodeId = cond (is_passed l.defined.kind) (opened_from (at + 1) kids) (cond (is_data l.defined.kind) (record { 0 = at } ∷ []) []) in
-    let end : at + 1 + count kids + count ts ≡ at + count (tree (node l kids) ts) = omega arith in
-    ap (λ (ns : List NodeId). here ++ ns) (opened_from_joined (at + 1 + count kids) ts us ∙ ap (λ (n : ℕ). opened_from (at + 1 + count kids) ts ++ opened_from n us) end)
-    ∙ sym (append_assoc here (opened_from (at + 1 + count kids) ts) (opened_from (at + count (tree (node l kids) ts)) us))

@@ -1,113 +1,133 @@
--- Only private clauses cite this: the tables by which a child is found.
-use Rattle.std.specs.Prelude.{◌≡◌, ◌≢◌, ◌<◌, ℕ, List, [], ◌∷◌, ◌++◌, map, length, Option, Some, None, String, false, if◌then◌else◌}
+-- Only private clauses cite this: the directories by which a child is found.
+use Rattle.std.specs.Prelude.{◌≡◌, ◌<◌, ◌≤◌, ℕ, ◌==◌, ◌&&◌, Bool, true, false, List, [], ◌∷◌, ◌++◌, map, length, Option, Some, None, if◌then◌else◌}
 use Rattle.std.specs.List.{slice_get, slice_index_or}
 use Rattle.std.specs.Str.{bytes_eq}
-use Rattle.std.specs.BTreeMap.{BTreeMap, get_by, get_by_text}
+use Rattle.std.specs.BTreeMap.{BTreeMap, get, get_by}
 use Rattle.std.specs.Ordering.{nat_cmp}
 use Rattle.std.specs.Cmp.Lexicographic.{slice_cmp}
 use Rattle.std.specs.Rc.{rc_str_bytes}
 use Rattle.std.specs.declared.rc.RcStr.{RcStr}
 use Rattle.std.specs.declared.alloc.Global.{Global}
-use Rattle.yv_nodes.specs.declared.node.NodeId.{NodeId}
 use Rattle.yv_statement.specs.Order.{Among, Stands}
 use Rattle.yv_statement.specs.declared.refusal.Refusal.{Refusal}
+use Rattle.yv_nodes.specs.declared.node.NodeId.{NodeId}
+use Rattle.yv_nodes.specs.Member.{is_home}
+use Rattle.yv_nodes.specs.Rows.{Module, Row, Rows, blank_row, is_root, rank, root, whole}
 use Rattle.yv_nodes.specs.Tree.{Label, count}
 use Rattle.yv_leaf_targets.specs.declared.targets.LeafTargets.{LeafTargets}
 use Rattle.yv_leaf_targets.specs.Known.{AreLeafTargets}
+use Rattle.yv_tables.specs.declared.directory.Directory.{Directory}
 use Rattle.yv_tables.specs.Doubled.{doubled_at}
-use Rattle.yv_nodes.specs.Rows.{Row, Rows, blank_row, is_root, root, whole}
-use Rattle.yv_tables.specs.Sound.{inside, named, IsSound}
-use Rattle.yv_tables.specs.InnerSits.{inside_of, members_of}
-use Rattle.yv_tables.specs.Groups.{HasNoColon, Top}
+use Rattle.yv_tables.specs.InnerSits.{members_of}
+use Rattle.yv_tables.specs.Numbered.{HasNoColon}
+use Rattle.yv_tables.specs.Sound.{IsSound, inside, named}
 
--- the first of these nodes that has this name
-abbrev pub called : List Row → List NodeId → List ℕ → Option NodeId
-called rows [] name = None
-called rows (c ∷ cs) name = if bytes_eq (slice_index_or rows c.0 blank_row).label.defined.name name then Some c else called rows cs name
+-- A front is the number of the file of the module whose name stands in front of a node's name in its member, or none where the
+-- member is the name alone.
+
+abbrev pub is_front : Option ℕ → Option ℕ → Bool
+is_front None None = true
+is_front None (Some home) = false
+is_front (Some home) None = false
+is_front (Some home) (Some other) = home == other
+
+-- the front of a node, where this module is around
+abbrev pub front_of : (around : Option ℕ) → Label → Option ℕ
+front_of around l = if is_home l.home around then None else Some l.home
+
+-- a node has this front and this name
+abbrev pub is_called : (around front : Option ℕ) → List ℕ → Label → Bool
+is_called around front name l = is_front (front_of around l) front && bytes_eq l.defined.name name
+
+-- the first of these nodes that has this front and this name
+abbrev pub called : List Row → (around : Option ℕ) → List NodeId → (front : Option ℕ) → List ℕ → Option NodeId
+called rows around [] front name = None
+called rows around (c ∷ cs) front name =
+    if is_called around front name (slice_index_or rows c.0 blank_row).label then Some c else called rows around cs front name
+
+-- what a map has at a name
+abbrev pub get_by_name : {X : Type 0} → BTreeMap (RcStr Global) X → List ℕ → Option X
+get_by_name table name = get_by (λ k. slice_cmp nat_cmp name (rc_str_bytes k)) table
 
 abbrev pub Table : Type 0
 Table = BTreeMap (RcStr Global) NodeId
 
--- what a table has at a name
-abbrev pub get_by_name : Table → List ℕ → Option NodeId
-get_by_name table name = get_by (λ k. slice_cmp nat_cmp name (rc_str_bytes k)) table
+-- what a table has at a name, where there is one
+abbrev pub in_table : List ℕ → Option Table → Option NodeId
+in_table name None = None
+in_table name (Some table) = get_by_name table name
 
--- the tables of modules, by their names
-abbrev pub ModuleTable : Type 0
-ModuleTable = BTreeMap (String Global) Table
+-- what the table of a module has at a name
+abbrev pub held_behind : BTreeMap ℕ Table → (home : ℕ) → List ℕ → Option NodeId
+held_behind others home name = in_table name (get nat_cmp others home)
 
--- the table has the first of these nodes at each name
-pub record IsTable (rows : List Row) (cs : List NodeId) (table : Table) : Type 0 where
-  pub gives : (name : List ℕ) → get_by_name table name ≡ called rows cs name
+-- what a directory has at a name behind a front
+abbrev pub held : Directory → (front : Option ℕ) → List ℕ → Option NodeId
+held directory None name = get_by_name directory.own name
+held directory (Some home) name = held_behind directory.others home name
 
--- a table for each node, with what the members of its object name
-pub record AreTables (rows : List Row) (tables : List Table) : Type 0 where
-  pub each : length tables ≡ length rows
-  pub gives : (i : ℕ) (table : Table) → slice_get tables i ≡ Some table → IsTable rows (members_of rows (slice_index_or rows i blank_row)) table
+-- the directory has the first of these nodes at each front and name
+pub record IsDirectory (rows : List Row) (around : Option ℕ) (cs : List NodeId) (directory : Directory) : Type 0 where
+  pub gives : (front : Option ℕ) (name : List ℕ) → held directory front name ≡ called rows around cs front name
 
--- what a table has at a text, where it had this there, and a child of this name was added
-abbrev pub kept_first : List ℕ → NodeId → Option NodeId → List ℕ → Option NodeId
-kept_first name child (Some first) text = Some first
-kept_first name child None text = if bytes_eq name text then Some child else None
+-- the directory of a node has what the members of its object name: its own module is around
+abbrev pub IsOfRow : List Row → Row → Directory → Type 0
+IsOfRow rows row directory = IsDirectory rows (Some row.label.home) (members_of rows row) directory
+
+-- a directory for each node
+pub record AreDirectories (rows : List Row) (directories : List Directory) : Type 0 where
+  pub each : length directories ≡ length rows
+  pub gives : (i : ℕ) (directory : Directory) → slice_get directories i ≡ Some directory → IsOfRow rows (slice_index_or rows i blank_row) directory
+
+-- what stands at a place where this stood, once a child was added there, or elsewhere: of several the first stays
+abbrev pub kept_first : (is_there : Bool) → NodeId → Option NodeId → Option NodeId
+kept_first is_there child (Some first) = Some first
+kept_first is_there child None = if is_there then Some child else None
 
 -- the nodes of these numbers without those below them
 abbrev pub labels_at : List Row → List NodeId → List Label
 labels_at rows cs = map (λ (c : NodeId). (slice_index_or rows c.0 blank_row).label) cs
 
--- a node before number k has this one's name
+-- a node before number k has this one's module, by its file, and name
 pub record IsNamesake (ls : List Label) (k : ℕ) (l : Label) : Type 0 where
   pub place : ℕ
   pub first : Label
   pub before : place < k
   pub at : slice_get ls place ≡ Some first
+  pub same_home : first.home ≡ l.home
   pub same_name : first.defined.name ≡ l.defined.name
 
--- two of these nodes have one name: the later is refused
+-- two of these nodes have one module and one name: the later is refused
 abbrev pub Namesakes : List Label → Refusal → Type 0
 Namesakes ls f = Among ls (λ k l. Stands (IsNamesake ls k l) (doubled_at l)) (length ls) f
 
--- the first of these two, where there is one
-abbrev pub either : Option NodeId → Option NodeId → Option NodeId
-either (Some first) other = Some first
-either None other = other
+-- the number of the file of the first of these modules that has this name
+abbrev pub home_named : List Module → List ℕ → Option ℕ
+home_named [] name = None
+home_named (m ∷ ms) name = if bytes_eq m.name name then Some m.home else home_named ms name
 
--- no two of these modules have one name
-abbrev pub DifferInName : List Top → Type 0
-DifferInName tops = (i k : ℕ) (t u : Top) → i < k → slice_get tops i ≡ Some t → slice_get tops k ≡ Some u → t.name ≢ u.name
+abbrev pub HomeTable : Type 0
+HomeTable = BTreeMap (RcStr Global) ℕ
 
--- a module, with the numbers at its top opened
-abbrev pub opened_top : List Row → Top → Top
-opened_top rows t = record { name = t.name; numbers = inside_of rows t.numbers }
+-- the directory has what the members of an object name: without a colon, and with a module before the first colon
+pub record IsAnswering (s : Rows) (p : NodeId) (directory : Directory) : Type 0 where
+  pub bare : (member : List ℕ) → HasNoColon member → held directory None member ≡ named s (inside s p) member
+  pub fronted : (owner name : List ℕ) (home : ℕ) → home_named s.modules owner ≡ Some home
+      → held directory (Some home) name ≡ named s (inside s p) (owner ++ 58 ∷ name)
 
--- the first node of this name at the top of a module
-abbrev pub called_at : List Row → Top → List ℕ → List ℕ → Option NodeId
-called_at rows top name text = if bytes_eq top.name name then called rows top.numbers text else None
-
--- the first node of this name at the top of the modules of a name
-abbrev pub called_in : List Row → List Top → List ℕ → List ℕ → Option NodeId
-called_in rows [] name text = None
-called_in rows (t ∷ ts) name text = either (called_at rows t name text) (called_in rows ts name text)
-
--- what a table has at a text, where there is one
-abbrev pub in_table : List ℕ → Option Table → Option NodeId
-in_table text None = None
-in_table text (Some table) = get_by_name table text
-
--- what the table of a module has at a text
-abbrev pub look_up : ModuleTable → List ℕ → List ℕ → Option NodeId
-look_up tables name text = in_table text (get_by_text tables name)
-
--- the tables of the modules and of the nodes give what members name: at the top the module stands before the first colon
-pub record IsKept (modules : ModuleTable) (tables : List Table) (s : Rows) : Type 0 where
+-- the directories of the root and of the nodes have what members name, modules are known by name, and a member with the name of
+-- no module names nothing
+pub record IsKept (homes : HomeTable) (at_top : Directory) (directories : List Directory) (s : Rows) : Type 0 where
   pub sound : IsSound s
   pub counted : length s.nodes ≡ count (whole s)
-  pub each : length tables ≡ length s.nodes
-  pub top : (home name : List ℕ) → HasNoColon home → look_up modules home name ≡ named s (inside s root) (home ++ 58 ∷ name)
-  pub none : (member : List ℕ) → HasNoColon member → named s (inside s root) member ≡ None
-  pub below : (p : NodeId) (table : Table) (member : List ℕ) → is_root p ≡ false → slice_get tables p.0 ≡ Some table
-      → get_by_name table member ≡ named s (inside s p) member
+  pub each : length directories ≡ length s.nodes
+  pub homes_are : (name : List ℕ) → get_by_name homes name ≡ home_named s.modules name
+  pub top : IsAnswering s root at_top
+  pub below : (p : NodeId) (directory : Directory) → is_root p ≡ false → slice_get directories p.0 ≡ Some directory → IsAnswering s p directory
+  pub unknown : (p : NodeId) (owner name : List ℕ) → rank p ≤ length s.nodes → HasNoColon owner → home_named s.modules owner ≡ None
+      → named s (inside s p) (owner ++ 58 ∷ name) ≡ None
 
 -- besides, what lists and choices name is kept
-pub record IsHeld (modules : ModuleTable) (tables : List Table) (leafs : LeafTargets) (s : Rows) : Type 0 where
-  pub kept : IsKept modules tables s
+pub record IsHeld (homes : HomeTable) (at_top : Directory) (directories : List Directory) (leafs : LeafTargets) (s : Rows) : Type 0 where
+  pub kept : IsKept homes at_top directories s
   pub named_leafs : AreLeafTargets s.nodes leafs

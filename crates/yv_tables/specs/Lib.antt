@@ -1,5 +1,5 @@
 pub mod Groups
-pub mod Tops
+pub mod Numbered
 pub mod Opened
 pub mod Doubled
 pub mod Bad

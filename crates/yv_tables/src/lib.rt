@@ -1,6 +1,8 @@
 //! The schema of modules: numbered nodes with the tables by which they are found, and what they measure.
 #![tactic(auto)]
 
+mod directory;
+mod homes;
 pub mod laws;
 mod measures;
 mod notes;
@@ -9,9 +11,7 @@ mod opening;
 mod schema;
 mod table;
 mod tables;
-mod tops;
 
 pub use measures::Measures;
 pub use notes::{AugmentNote, Module};
 pub use schema::Schema;
-pub use tops::ModuleTop;

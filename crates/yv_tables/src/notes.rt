@@ -1,9 +1,4 @@
 //! What a schema tells of its modules and augments.
-ghost use Rattle.std.specs.Prelude.{◌≡◌, [], map, IfOk};
-ghost use Rattle.yv_tables.specs.Tops.{module_of};
-
-use crate::tops::ModuleTop;
-use std::alloc::{AllocError, Global};
 use std::marker::Model;
 use std::rc::RcStr;
 use yv_nodes::NodeId;
@@ -48,15 +43,4 @@ impl Model for AugmentNote {
     ghost Value = { Note };
 
     ghost view = { λ n. record { home = n.home; argument = rc_str_bytes n.argument; target = n.target; nodes = n.nodes.items } };
-}
-
-/// The modules of these tops, in order.
-pub(crate) fn modules_of(alloc: Global, tops: &[ModuleTop]) -> Result<Vec<Module>, AllocError>
-    ensures { IfOk result (λ modules. modules.items ≡ map module_of tops.now) }
-{
-    let mut modules = Vec::new(alloc);
-    for top in tops {
-        modules.push(top.module()?)?;
-    }
-    Ok(modules)
 }

@@ -2,10 +2,11 @@
 ghost use Rattle.std.specs.Prelude.{◌≡◌, ◌<◌, ◌≤◌, ◌==◌, ◌+◌, length, All, IfSome};
 ghost use Rattle.yv_values.specs.Count.{counted};
 
+use crate::directory::Directory;
 use crate::notes::{AugmentNote, Module};
-use crate::table::Table;
 use std::collections::BTreeMap;
 use std::marker::Model;
+use std::rc::RcStr;
 use yv_leaf_targets::LeafTargets;
 use yv_nodes::{Node, NodeId, Nodes};
 use yv_values::Meter;
@@ -16,10 +17,12 @@ use yv_values::Meter;
 pub struct Schema {
     pub(crate) nodes: Nodes,
     pub(crate) top: Vec<NodeId>,
-    /// The data nodes at the top by name, with choices and cases opened, for each module's name.
-    pub(crate) modules: BTreeMap<String, Table>,
+    /// The numbers of the files of the modules, by name.
+    pub(crate) homes: BTreeMap<RcStr, u32>,
+    /// What the members of the root's object name, with choices and cases opened.
+    pub(crate) at_top: Directory,
     /// For each node what the members of its object name, and nothing for a choice or case.
-    pub(crate) tables: Vec<Table>,
+    pub(crate) directories: Vec<Directory>,
     /// What lists and choices name.
     pub(crate) leafs: LeafTargets,
     /// The implemented modules, by file.
@@ -42,7 +45,7 @@ impl Model for Schema {
       augments = s.notes.items;
     } };
 
-    ghost invariant = { λ s. IsHeld s.modules s.tables.items s.leafs (record {
+    ghost invariant = { λ s. IsHeld s.homes s.at_top s.directories.items s.leafs (record {
       nodes = s.nodes.rows;
       top = s.top.items;
       limit = s.nodes.limit;
@@ -52,11 +55,14 @@ impl Model for Schema {
 }
 
 impl Schema {
-    ghost use Rattle.std.specs.Prelude.{Some, is_some, map};
+    ghost use Rattle.std.specs.Prelude.{ℕ, List, ◌∷◌, ◌++◌, Some, None, is_some, map, IfNone};
     ghost use Rattle.yv_leaf_targets.specs.Numbers.{default_case_at, key_leaf_at, unique_leaf_at};
     ghost use Rattle.yv_nodes.specs.Tree.{count};
-    ghost use Rattle.yv_nodes.specs.Rows.{AreTrees, row_at, children_of, rank, root, whole};
+    ghost use Rattle.yv_nodes.specs.Rows.{AreTrees, row_at, children_of, rank, whole};
     ghost use Rattle.yv_tables.specs.Sound.{IsSound, IsChild, IsInside, IsNote, inside, is_known, named, object_trees};
+    ghost use Rattle.yv_nodes.specs.declared.node.NodeId.{NodeId};
+    ghost use Rattle.yv_tables.specs.InnerTables.{IsAnswering, home_named};
+    ghost use Rattle.yv_tables.specs.Numbered.{HasNoColon};
 
     /// The parent of the nodes at the top.
     pub const ROOT: NodeId = NodeId(u32::MAX);
@@ -169,20 +175,41 @@ impl Schema {
         ensures steps { meter.new ≡ counted (meter.old + 1) }
     {
         meter.visit();
-        if parent == Schema::ROOT {
-            self.find_at_top(member)
-        } else {
-            self.tables[parent.0 as usize].get(member).copied()
+        self.look_up(parent, member)
+    }
+
+    // The same, not counted.
+    fn look_up(&self, parent: NodeId, member: &str) -> Option<NodeId>
+        requires { rank parent ≤ length self.now.nodes }
+        ensures value { result ≡ named self.now (inside self.now parent) member.now }
+        ensures sound { IsSound self.now }
+    {
+        let directory = self.directory(parent);
+        match member.split_once(':') {
+            Some((module, name)) => directory.get(Some(self.home(module)?), name),
+            None => directory.get(None, member),
         }
     }
 
-    // The data node at the top that a JSON member of this name writes.
-    fn find_at_top(&self, member: &str) -> Option<NodeId>
-        ensures { result ≡ named self.now (inside self.now root) member.now }
+    // What the members of an object of this node, or of the root, name.
+    fn directory(&self, parent: NodeId) -> &Directory
+        requires { rank parent ≤ length self.now.nodes }
+        ensures answers { IsAnswering self.now parent result.now }
+        ensures sound { IsSound self.now }
     {
-        let modules = &self.modules;
-        let (module, name) = member.split_once(':')?;
-        let table = modules.get(module)?;
-        table.get(name).copied()
+        if parent == Schema::ROOT {
+            &self.at_top
+        } else {
+            &self.directories[parent.0 as usize]
+        }
+    }
+
+    // The number of the file of the module of this name.
+    fn home(&self, name: &str) -> Option<u32>
+        ensures value { result ≡ home_named self.now.modules name.now }
+        ensures unknown { IfNone result ((p : NodeId) (rest : List ℕ) → rank p ≤ length self.now.nodes → HasNoColon name.now
+            → named self.now (inside self.now p) (name.now ++ 58 ∷ rest) ≡ None) }
+    {
+        self.homes.get(name).copied()
     }
 }

@@ -4,7 +4,7 @@ use Rattle.yv_statement.proofs.Least.{least_more}
 use Rattle.yv_nodes.specs.Rows.{Row}
 use Rattle.yv_tables.specs.InnerTables.{Namesakes}
 use Rattle.yv_tables.specs.InnerSits.{HaveTrees, family_in}
-use Rattle.yv_tables.proofs.Keeping.{tables_more}
+use Rattle.yv_tables.proofs.Keeping.{directories_more}
 use Rattle.yv_tables.proofs.tables.node_tables.Goals as goal
 
 pub below-requires : goal.below-requires
@@ -24,7 +24,7 @@ loop-node-preserved c =
     let at_item = slice_get_read c.all-node-items.result.now _ i c.node-item.result refl c.loop-node-test.true c.node-item.is in
     let at = rw c.all-node-items.ensures at at_item in
     record {
-      built = tables_more rows c.loop-node.tables.items c.push.new.self.items i c.in_ok-family.family.table c.node-item.result c.loop-node.invariant.built at c.in_ok-family.ensures.table c.in_ok-push.ensures.items;
+      built = directories_more rows c.loop-node.directories.items c.push.new.self.items i c.in_ok-family.family.directory c.node-item.result c.loop-node.invariant.built at c.in_ok-family.ensures.directory c.in_ok-push.ensures.items;
       least = least_more rows (λ k (row : Row). Namesakes (family_in rows row)) i c.node-item.result _ _ _ at c.lesser-doubled.ensures c.loop-node.invariant.least c.in_ok-family.ensures.doubled;
     }
 

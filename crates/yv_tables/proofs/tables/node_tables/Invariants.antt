@@ -1,11 +1,11 @@
 use Rattle.yv_statement.specs.Order.{Among, IsLeast}
 use Rattle.yv_tables.specs.InnerTables.{Namesakes}
 use Rattle.yv_tables.specs.InnerSits.{family_in}
-use Rattle.yv_tables.proofs.Keeping.{AreTablesUpTo}
+use Rattle.yv_tables.proofs.Keeping.{AreDirectoriesUpTo}
 use Rattle.yv_tables.proofs.tables.node_tables.Given as goal
 
 abbrev pub invariant-loop-node : goal.invariant-loop-node
 invariant-loop-node l = record {
-  built : AreTablesUpTo l.nodes.rows l.tables.items l.node-index;
+  built : AreDirectoriesUpTo l.nodes.rows l.directories.items l.node-index;
   least : IsLeast (Among l.nodes.rows (λ k row. Namesakes (family_in l.nodes.rows row)) l.node-index) l.doubled;
 }

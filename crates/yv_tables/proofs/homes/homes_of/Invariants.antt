@@ -1,0 +1,13 @@
+use Rattle.std.proofs.Common.{◌≡◌, ◌≤◌, ℕ, List, drop, length}
+use Rattle.yv_tables.specs.InnerTables.{get_by_name, home_named}
+use Rattle.yv_tables.proofs.homes.homes_of.Given as goal
+
+-- the modules from here on are known
+abbrev pub invariant-loop-left : goal.invariant-loop-left
+invariant-loop-left l = record {
+  within : l.left ≤ length l.modules;
+  known : (name : List ℕ) → get_by_name l.homes name ≡ home_named (drop l.left l.modules) name;
+}
+
+abbrev pub decreases-loop-left : goal.decreases-loop-left
+decreases-loop-left l = l.left
