@@ -1,0 +1,4 @@
+pub mod Fit
+pub mod Changes
+pub mod Faults
+pub mod InnerFaults

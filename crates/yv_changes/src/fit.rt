@@ -1,0 +1,101 @@
+//! Which statements may refine which nodes.
+ghost use Rattle.std.specs.Prelude.{◌≡◌, map, codes, count_by};
+ghost use Rattle.std.specs.List.{list_all};
+ghost use Rattle.yv_rows.specs.Files.{has_word};
+ghost use Rattle.yv_rows.specs.Rows.{is_extended};
+ghost use Rattle.yv_rows.specs.Lent.{lent_in};
+ghost use Rattle.yv_changes.specs.Changes.{is_fit_for};
+ghost use Rattle.yv_changes.specs.Fit.{is_among, is_allowed, is_fit};
+
+use yv_augmented::Spot;
+use yv_rows::Rows;
+use yv_statement::Statement;
+
+static WITH_DEFAULT: [&str; 2] = ["leaf", "choice"];
+
+static WITH_MANDATORY: [&str; 4] = ["leaf", "choice", "anydata", "anyxml"];
+
+static WITH_PRESENCE: [&str; 1] = ["container"];
+
+static WITH_ELEMENTS: [&str; 2] = ["list", "leaf-list"];
+
+static ELEMENT_LIMITS: [&str; 2] = ["min-elements", "max-elements"];
+
+static OF_ANY_NODE: [&str; 4] = ["config", "description", "reference", "if-feature"];
+
+// Whether one of the words is the name.
+fn is_among(words: &[&str], name: &str) -> bool
+    ensures { result ≡ is_among (map (λ w. w.now) words.now) name.now }
+{
+    for word in words {
+        if *word == name {
+            return true;
+        }
+    }
+    false
+}
+
+// Whether a keyword is an extension's.
+fn is_extended(keyword: &str) -> bool
+    ensures { result ≡ is_extended keyword.now }
+{
+    keyword.as_bytes().iter().any(|byte| *byte == b':')
+}
+
+// Whether a statement of a keyword may refine a node of another keyword.
+#[tactic(auto, unfolding(crate::specs::Fit::is_allowed))]
+fn is_allowed(word: &str, target: &str) -> bool
+    ensures { result ≡ is_allowed word.now target.now }
+{
+    if word == "default" {
+        is_among(&WITH_DEFAULT, target)
+    } else if word == "mandatory" {
+        is_among(&WITH_MANDATORY, target)
+    } else if word == "presence" {
+        is_among(&WITH_PRESENCE, target)
+    } else if is_among(&ELEMENT_LIMITS, word) {
+        is_among(&WITH_ELEMENTS, target)
+    } else {
+        is_among(&OF_ANY_NODE, word) || is_extended(word)
+    }
+}
+
+// Whether each of these statements may refine a node of a keyword.
+fn is_each_allowed(target: &str, children: &[Statement<'_>]) -> bool
+    ensures { result ≡ list_all (λ c. is_allowed c.head.keyword target.now) children.now }
+{
+    children
+        .iter()
+        .all(|child| is_allowed(child.keyword(), target))
+}
+
+// How many of these statements are defaults.
+fn defaults(children: &[Statement<'_>]) -> usize
+    ensures { result ≡ count_by (λ c. has_word (codes "default") c.head) children.now }
+{
+    children
+        .iter()
+        .filter(|child| child.keyword() == "default")
+        .count()
+}
+
+// Whether a refine is fit for a node of a keyword.
+fn is_fit(target: &str, refine: &Statement<'_>) -> bool
+    ensures { result ≡ is_fit target.now refine.now }
+{
+    let children = refine.children();
+    is_each_allowed(target, children) && defaults(children) <= 1
+}
+
+/// Whether a numbered refine is fit for an item.
+pub(crate) fn is_fit_for(rows: &Rows<'_, '_>, spots: &[Spot], refine: usize, item: usize) -> bool
+    ensures { result ≡ is_fit_for (lent_in rows.now) spots.now refine item }
+{
+    let Some(spot) = spots.get(item).copied() else {
+        return false;
+    };
+    match (rows.entries().get(spot.statement), rows.statement(refine)) {
+        (Some(entry), Some(statement)) => is_fit(entry.statement.keyword(), statement),
+        _ => false,
+    }
+}

@@ -1,0 +1,116 @@
+//! Which conditions hold.
+ghost use Rattle.std.specs.Prelude.{◌≡◌, slice_get, IfOk};
+ghost use Rattle.std.specs.List.{list_all};
+ghost use Rattle.yv_statement.specs.Tree.{name_of as name_at};
+ghost use Rattle.yv_conform.specs.Names.{keyword_of};
+ghost use Rattle.yv_rows.specs.Lent.{lent_in, trees_in};
+ghost use Rattle.yv_link.specs.Linked.{truth_in};
+ghost use Rattle.yv_augmented.specs.Left.{is_marked};
+ghost use Rattle.yv_item_marks.specs.Conditions.{holds, is_on, is_on_by, item_marks, statement_marks};
+ghost use Rattle.yv_item_marks.specs.InnerConditions.{is_on_in};
+
+use std::alloc::{AllocError, Global};
+use yv_augmented::Spot;
+use yv_changes::Changes;
+use yv_conform::Keyword;
+use yv_link::Linked;
+use yv_rows::Rows;
+use yv_statement::Statement;
+
+// The name that a statement gives, or no text where it has none.
+fn name_of<'s>(statement: &'s Statement<'_>) -> &'s str
+    ensures { result.now ≡ name_at statement.now.head }
+{
+    statement.argument().unwrap_or("")
+}
+
+// Whether a statement of a block is no condition, or holds.
+fn holds<'a, 'b>(linked: &Linked<'a, 'b>, file: u32, statement: &'a Statement<'b>) -> bool
+    ensures { result ≡ holds (truth_in linked.now) file (keyword_of statement.now.head.keyword) statement.now.head }
+{
+    match Keyword::read(statement.keyword()) {
+        Keyword::IfFeature => linked.holds(file, name_of(statement)),
+        _ => true,
+    }
+}
+
+// Whether each condition of a statement of a file holds.
+fn is_on<'a, 'b>(linked: &Linked<'a, 'b>, file: u32, statement: &'a Statement<'b>) -> bool
+    ensures { result ≡ is_on (truth_in linked.now) file statement.now.children }
+{
+    for child in statement.children() {
+        if !holds(linked, file, child) {
+            return false;
+        }
+    }
+    true
+}
+
+// Whether each condition of a numbered statement of a file holds.
+fn is_statement_on<'a, 'b>(
+    linked: &Linked<'a, 'b>,
+    rows: &Rows<'a, 'b>,
+    file: u32,
+    number: usize,
+) -> bool
+    ensures { result ≡ is_on_in (truth_in linked.now) file (slice_get (trees_in rows.now) number) }
+{
+    match rows.statement(number) {
+        Some(statement) => is_on(linked, file, statement),
+        None => true,
+    }
+}
+
+/// A mark for each numbered statement whose conditions hold.
+pub fn statement_marks<'a, 'b>(
+    alloc: Global,
+    linked: &Linked<'a, 'b>,
+    rows: &Rows<'a, 'b>,
+) -> Result<Vec<bool>, AllocError>
+    ensures { IfOk result (λ marks. marks.items ≡ statement_marks (truth_in linked.now) (lent_in rows.now)) }
+{
+    yv_rows::laws::statements_have_their_rows();
+    let mut marks = Vec::new(alloc);
+    for (number, entry) in rows.entries().iter().enumerate() {
+        marks.push(is_statement_on(linked, rows, entry.file, number))?;
+    }
+    Ok(marks)
+}
+
+// Whether a number has a mark.
+fn is_marked(marks: &[bool], number: usize) -> bool
+    ensures { result ≡ is_marked marks.now number }
+{
+    marks.get(number).copied().unwrap_or(false)
+}
+
+// Whether each of these numbers has a mark.
+fn are_marked(marks: &[bool], numbers: &[usize]) -> bool
+    ensures { result ≡ list_all (is_marked marks.now) numbers.now }
+{
+    numbers.iter().all(|number| is_marked(marks, *number))
+}
+
+// Whether a statement has a mark, and each refine that changes its item.
+fn is_on_by(statements: &[bool], spot: &Spot, changes: &[usize]) -> bool
+    ensures { result ≡ is_on_by statements.now spot.now changes.now }
+{
+    is_marked(statements, spot.statement) && are_marked(statements, changes)
+}
+
+/// A mark for each item whose own conditions hold, by those of statements: that of the statement that gives it, and of each refine
+/// that changes it.
+pub fn item_marks(
+    alloc: Global,
+    statements: &[bool],
+    spots: &[Spot],
+    changes: &Changes,
+) -> Result<Vec<bool>, AllocError>
+    ensures { IfOk result (λ marks. marks.items ≡ item_marks statements.now spots.now changes.now) }
+{
+    let mut marks = Vec::new(alloc);
+    for (number, spot) in spots.iter().enumerate() {
+        marks.push(is_on_by(statements, spot, changes.of(number)))?;
+    }
+    Ok(marks)
+}

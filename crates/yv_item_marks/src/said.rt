@@ -1,0 +1,106 @@
+//! What is said of items.
+ghost use Rattle.std.specs.Prelude.{◌≡◌, ◌++◌, List, ℕ, map, IfOk};
+ghost use Rattle.yv_rows.specs.Lent.{lent_in};
+ghost use Rattle.yv_augmented.specs.Imposing.{told_in};
+ghost use Rattle.yv_stated.specs.Marks.{is_mandatory, stated_by};
+ghost use Rattle.yv_stated.specs.Properties.{last_said, said_at, written_by};
+ghost use Rattle.yv_item_marks.specs.Said.{said_of, said_of_all, told_of};
+
+use std::alloc::{AllocError, Global};
+use yv_augmented::Marks;
+use yv_changes::Changes;
+use yv_expansion::{Item, Origin};
+use yv_rows::Rows;
+use yv_stated::Stated;
+
+// What a numbered statement says; nothing where there is none.
+fn said_at(rows: &Rows<'_, '_>, number: usize) -> Stated
+    ensures { result ≡ stated_by (said_at (lent_in rows.now) number) }
+{
+    match rows.statement(number) {
+        Some(statement) => Stated::read(statement),
+        None => Stated::nothing(),
+    }
+}
+
+// What the last of these numbered statements says that says something.
+fn last_said(rows: &Rows<'_, '_>, numbers: &[usize]) -> Stated
+    ensures { result ≡ stated_by (last_said (lent_in rows.now) numbers.now) }
+{
+    yv_stated::laws::the_last_statement_stands();
+    let mut said = Stated::nothing();
+    for number in numbers {
+        said = said_at(rows, *number).over(said);
+    }
+    said
+}
+
+// What is said of an item that these refines change.
+fn said_of(rows: &Rows<'_, '_>, item: &Item, changes: &[usize]) -> Stated
+    ensures { result ≡ said_of (lent_in rows.now) item.now changes.now }
+{
+    yv_stated::laws::the_last_statement_stands();
+    let later = last_said(rows, changes);
+    match item.origin {
+        Origin::Statement(number) => later.over(said_at(rows, number)),
+        _ => later,
+    }
+}
+
+/// What is said of each item, as refines change it.
+pub fn said_of_all(
+    alloc: Global,
+    rows: &Rows<'_, '_>,
+    items: &[Item],
+    changes: &Changes,
+) -> Result<Vec<Stated>, AllocError>
+    ensures { IfOk result (λ said. said.items ≡ said_of_all (lent_in rows.now) items.now changes.now) }
+{
+    let mut said = Vec::new(alloc);
+    for (number, item) in items.iter().enumerate() {
+        said.push(said_of(rows, item, changes.of(number)))?;
+    }
+    Ok(said)
+}
+
+/// Of each item whether it is mandatory, has a presence, and states its configuration.
+#[derive(Drop)]
+pub struct Told {
+    pub mandatory: Vec<bool>,
+    pub presence: Vec<bool>,
+    pub config: Vec<Option<bool>>,
+}
+
+impl Told {
+    /// What is told of items of which this is said.
+    pub fn of(alloc: Global, said: &[Stated]) -> Result<Told, AllocError>
+        ensures mandatory { IfOk result (λ told. told.mandatory.items ≡ map is_mandatory said.now) }
+        ensures presence { IfOk result (λ told. told.presence.items ≡ map (λ (s : Stated). s.presence) said.now) }
+        ensures config { IfOk result (λ told. told.config.items ≡ map (λ (s : Stated). s.config) said.now) }
+    {
+        let mut told = Told {
+            mandatory: Vec::new(alloc),
+            presence: Vec::new(alloc),
+            config: Vec::new(alloc),
+        };
+        for stated in said {
+            told.mandatory.push(stated.is_mandatory())?;
+            told.presence.push(stated.presence)?;
+            told.config.push(stated.config)?;
+        }
+        Ok(told)
+    }
+
+    /// The same as marks that are lent.
+    pub fn marks(&self) -> Marks<'_>
+        ensures { (said : List Stated) → self.now.mandatory.items ≡ map is_mandatory said
+            → self.now.presence.items ≡ map (λ (s : Stated). s.presence) said → self.now.config.items ≡ map (λ (s : Stated). s.config) said
+            → told_in result ≡ told_of said }
+    {
+        Marks {
+            mandatory: &self.mandatory,
+            presence: &self.presence,
+            config: &self.config,
+        }
+    }
+}
