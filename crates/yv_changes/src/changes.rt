@@ -27,7 +27,7 @@ impl Model for Changes {
 
 impl Changes {
     /// Which of these refines, each at a copy of its uses, change which of the items whose spots these are: a refine changes the item
-    /// that it means, if it is fit for it, and is refused else. Takes time and memory linear in both. Err for want of memory alone.
+    /// that it means, if it is fit for it, and else nothing. Takes time and memory linear in both. Err for want of memory alone.
     pub fn read(
         alloc: Global,
         rows: &Rows<'_, '_>,
