@@ -1,0 +1,10 @@
+pub mod Giving
+pub mod Noding
+pub mod Phases
+pub mod Standing
+pub mod Finals
+pub mod Targets
+pub mod Nesting
+pub mod Homes
+pub mod Judging
+pub mod Finishing

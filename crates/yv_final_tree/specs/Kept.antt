@@ -1,0 +1,70 @@
+-- What is kept of a final tree.
+use Rattle.std.specs.Prelude.{◌≡◌, ℕ, ◌+◌, ◌-◌, ◌&&◌, nat_lt, List, [], ◌∷◌, length, if◌then◌else◌, Option, Some, None, slice_get, slice_index_or}
+use Rattle.yv_selection.specs.Choice.{Choice}
+use Rattle.yv_rows.specs.Files.{Files}
+use Rattle.yv_expansion.specs.Tree.{Item, Node, Nodes, listed}
+use Rattle.yv_expansion.specs.declared.item.Origin.{Origin}
+use Rattle.yv_expansion.specs.declared.item.Origin.TheVariants.{Statement}
+use Rattle.yv_augments.specs.Turns.{State, target_of}
+use Rattle.yv_augments.specs.declared.label.Label.{Label}
+use Rattle.yv_augmented.specs.Spots.{labels_of}
+use Rattle.yv_augmented.specs.declared.spot.Spot.{Spot}
+use Rattle.yv_item_marks.specs.Conditions.{Truth}
+use Rattle.yv_final_tree.specs.Final.{Final, IsFinal, changes_of, spots_of}
+use Rattle.yv_final_tree.specs.Left.{AreLeft}
+
+-- what contracts see of a `FinalTree`: the most items that there may be, the items, what was known of each, the augments of modules,
+-- the refines that change each item, and the nodes that are left
+pub record Kept : Type 0 where
+  pub limit : ℕ
+  pub items : List Item
+  pub spots : List Spot
+  pub augments : List ℕ
+  pub changes : List (List ℕ)
+  pub left : List Node
+
+abbrev pub targets_from : List Label → State → (place : ℕ) → (augments : List ℕ) → List (Option ℕ)
+targets_from labels st place [] = []
+targets_from labels st place (a ∷ others) = target_of labels st.ends place ∷ targets_from labels st (place + 1) others
+
+-- the items to which the augments of modules add, where they add to one
+abbrev pub targets_of : Files → Final → List (Option ℕ)
+targets_of files f = targets_from (labels_of (spots_of files f)) f.state 0 f.augments
+
+-- this is kept of what the files of implemented modules come to, where conditions hold so
+pub record AreKept (choice : Choice) (files : Files) (truth : Truth) (k : Kept) : Type 0 where
+  pub final : Final
+  pub is_final : IsFinal choice files final
+  pub items : k.items ≡ final.items
+  pub spots : k.spots ≡ spots_of files final
+  pub augments : k.augments ≡ final.augments
+  pub changes : k.changes ≡ changes_of files final
+  pub nodes : Nodes
+  pub are_left : AreLeft truth files final nodes
+  pub left : k.left ≡ listed None 0 nodes
+
+-- what stands where there is no item
+abbrev pub no_item : Item
+no_item = record { origin = Statement 0; parent = None }
+
+-- what an item is made of
+abbrev pub origin_at : List Item → (item : ℕ) → Origin
+origin_at items item = (slice_index_or items item no_item).origin
+
+abbrev pub home_by : Option Spot → ℕ
+home_by None = 0
+home_by (Some s) = s.home
+
+-- the file of the module to which an item belongs (sections 7.13 and 7.17)
+abbrev pub home_at : List Spot → (item : ℕ) → ℕ
+home_at spots item = home_by (slice_get spots item)
+
+abbrev pub giver_by : (items : ℕ) → (augments : List ℕ) → Option Spot → Option ℕ
+giver_by items augments None = None
+giver_by items augments (Some s) =
+    if nat_lt items s.group && nat_lt (s.group - items - 1) (length augments) then Some (s.group - items - 1) else None
+
+-- the place of the augment of a module in whose block an item stands, if it stands in one: what these give stands behind the groups of
+-- all items, one group for each of the augments in order
+abbrev pub giver_at : List Spot → (augments : List ℕ) → (item : ℕ) → Option ℕ
+giver_at spots augments item = giver_by (length spots) augments (slice_get spots item)

@@ -1,0 +1,6 @@
+pub mod Given
+pub mod Final
+pub mod Faults
+pub mod Left
+pub mod Kept
+pub mod InnerNodes

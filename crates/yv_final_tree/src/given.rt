@@ -1,0 +1,76 @@
+//! Which files give schema nodes, and in which order.
+ghost use Rattle.std.specs.Prelude.{◌≡◌, ◌<◌, ◌==◌, ℕ, All, length, None, Some, if◌then◌else◌, IfOk};
+ghost use Rattle.yv_selection.specs.Choice.{choice_of};
+ghost use Rattle.yv_rows.specs.Files.{home_at};
+ghost use Rattle.yv_rows.specs.Lent.{files_in, lent_in};
+ghost use Rattle.yv_final_tree.specs.Given.{is_given, marks_of, order_of, part_places};
+
+use std::alloc::{AllocError, Global};
+use yv_families::Families;
+use yv_rows::Rows;
+use yv_selection::Selection;
+use yv_statement::Statement;
+
+/// A mark for each file that belongs to a module that is implemented.
+pub(crate) fn marks(
+    alloc: Global,
+    rows: &Rows<'_, '_>,
+    selection: &Selection,
+) -> Result<Vec<bool>, AllocError>
+    ensures { IfOk result (λ marks. marks.items ≡ marks_of (choice_of selection.now) (lent_in rows.now)) }
+{
+    let mut marks = Vec::new(alloc);
+    for file in rows.files() {
+        marks.push(selection.is_implemented(file.home))?;
+    }
+    Ok(marks)
+}
+
+// The module's file, of a file that isn't that.
+fn part_place(rows: &Rows<'_, '_>, file: usize) -> Option<usize>
+    ensures { result ≡ (if home_at (files_in rows.now) file == file then None else Some (home_at (files_in rows.now) file)) }
+{
+    let home = rows.home(file);
+    if home == file { None } else { Some(home) }
+}
+
+// For each file that isn't its module's own the module's.
+fn part_places(alloc: Global, rows: &Rows<'_, '_>) -> Result<Vec<Option<usize>>, AllocError>
+    ensures { IfOk result (λ places. places.items ≡ part_places (lent_in rows.now)) }
+{
+    let mut places = Vec::new(alloc);
+    for file in 0..rows.statements().len() {
+        places.push(part_place(rows, file))?;
+    }
+    Ok(places)
+}
+
+// Whether a file is that of a module that is implemented.
+fn is_given(selection: &Selection, root: &Statement<'_>) -> bool
+    ensures { result ≡ is_given (choice_of selection.now) root.now }
+{
+    root.keyword() == "module" && selection.is_implemented(root.argument().unwrap_or(""))
+}
+
+/// The files of the implemented modules in the order of the schema: module by module, the module's own file and then those of its
+/// submodules.
+pub(crate) fn order(
+    alloc: Global,
+    rows: &Rows<'_, '_>,
+    selection: &Selection,
+) -> Result<Vec<usize>, AllocError>
+    ensures order { IfOk result (λ order. order.items ≡ order_of (choice_of selection.now) (lent_in rows.now)) }
+    ensures within { IfOk result (λ order. All (λ file. file < length (lent_in rows.now)) order.items) }
+{
+    yv_families::laws::each_place_has_its_numbers();
+    let places = part_places(alloc, rows)?;
+    let parts = Families::new(alloc, &places, places.len())?;
+    let mut order = Vec::new(alloc);
+    for (file, root) in rows.statements().iter().enumerate() {
+        if is_given(selection, root) {
+            order.push(file)?;
+            order.extend_from_slice(parts.at(file))?;
+        }
+    }
+    Ok(order)
+}

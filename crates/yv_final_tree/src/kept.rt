@@ -1,0 +1,106 @@
+//! What is kept of a final tree.
+ghost use Rattle.std.specs.Prelude.{◌≡◌, ◌≤◌, ℕ, List, [], Some, length, slice_get, slice_index_or};
+ghost use Rattle.yv_final_tree.specs.Kept.{giver_at, giver_by, home_at, origin_at};
+
+use std::marker::Model;
+use yv_augmented::Spot;
+use yv_changes::Changes;
+use yv_expansion::{Expansion, Node, Origin};
+
+/// The final tree of the files of implemented modules. Items go by their numbers in the expansion, and nodes, which are the items that are
+/// left, by their places in the order of the schema.
+#[derive(Drop)]
+pub struct FinalTree {
+    pub(crate) expansion: Expansion,
+    pub(crate) spots: Vec<Spot>,
+    pub(crate) augments: Vec<usize>,
+    pub(crate) changes: Changes,
+    pub(crate) left: Vec<Node>,
+}
+
+impl Model for FinalTree {
+    ghost use Rattle.yv_final_tree.specs.Kept.{Kept};
+
+    ghost Value = { Kept };
+
+    ghost view = { λ t. record {
+      limit = t.expansion.limit;
+      items = t.expansion.items;
+      spots = t.spots.items;
+      augments = t.augments.items;
+      changes = t.changes;
+      left = t.left.items;
+    } };
+}
+
+// The place of the augment of a module in whose block an item stands, of so many items and augments.
+fn giver_of(items: usize, augments: usize, spot: &Spot) -> Option<usize>
+    ensures { (list : List ℕ) → length list ≡ augments → result ≡ giver_by items list (Some spot.now) }
+{
+    if spot.group <= items {
+        return None;
+    }
+    let place = spot.group - items - 1;
+    if place < augments { Some(place) } else { None }
+}
+
+impl FinalTree {
+    /// How many items there are.
+    pub fn len(&self) -> u32
+        ensures count { result ≡ length self.now.items }
+        ensures within { length self.now.items ≤ self.now.limit }
+    {
+        self.expansion.len()
+    }
+
+    /// What an item is made of: the statement that it copies, or the operation that doesn't write it; statement 0 past the last item.
+    pub fn origin(&self, item: usize) -> Origin
+        ensures { result ≡ origin_at self.now.items item }
+    {
+        match self.expansion.items().get(item) {
+            Some(item) => item.origin,
+            None => Origin::Statement(0),
+        }
+    }
+
+    /// The number of the file of the module to which an item belongs; 0 past the last item.
+    pub fn home(&self, item: usize) -> u32
+        ensures { result ≡ home_at self.now.spots item }
+    {
+        match self.spots.get(item) {
+            Some(spot) => spot.home,
+            None => 0,
+        }
+    }
+
+    /// The place among the augments of modules of the one in whose block an item stands, if it stands in one; a uses there is looked
+    /// through, and what stands below a node is that node's.
+    pub fn giver(&self, item: usize) -> Option<usize>
+        ensures { result ≡ giver_at self.now.spots self.now.augments item }
+    {
+        giver_of(self.spots.len(), self.augments.len(), self.spots.get(item)?)
+    }
+
+    /// The numbers of the refines that change an item, in the order in which they do: those of an inner uses come before those of an outer
+    /// one. None past the last item.
+    pub fn changes(&self, item: usize) -> &[usize]
+        ensures { result.now ≡ slice_index_or self.now.changes item [] }
+    {
+        self.changes.of(item)
+    }
+
+    /// The statements of the augments of modules, by file and statement (RFC 7950, section 7.17).
+    pub fn augments(&self) -> &[usize]
+        ensures { result.now ≡ self.now.augments }
+    {
+        &self.augments
+    }
+
+    /// The nodes that are left, each with the number of its item as its origin and the place of the node above it. A node stands behind
+    /// the one above it, and behind all that stands before it in the schema.
+    pub fn left(&self) -> &[Node]
+        ensures { result.now ≡ self.now.left }
+    {
+        &self.left
+    }
+}

@@ -1,0 +1,14 @@
+//! What the files of implemented modules define when all augments were applied: the final tree of their expansion, what refines change of
+//! it, and which of its nodes are there by their conditions (RFC 7950, sections 5.6.5, 7.12, 7.13, 7.17 and 7.20.2). All takes time
+//! n log n in statements and items, a refine and an augment of a uses being counted once for each copy.
+#![tactic(auto)]
+
+mod given;
+mod kept;
+pub mod laws;
+mod nodes;
+mod whole;
+mod wrong;
+
+pub use kept::FinalTree;
+pub use whole::final_tree;

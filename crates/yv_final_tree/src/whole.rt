@@ -1,0 +1,179 @@
+//! The final tree of files.
+ghost use Rattle.std.specs.Prelude.{◌≡◌, ◌≢◌, None, Some, Err, length, IfOk, OnOk};
+ghost use Rattle.yv_statement.specs.Order.{IsLeast};
+ghost use Rattle.yv_statement.specs.declared.refusal.Refusal.{Refusal};
+ghost use Rattle.yv_statement.specs.declared.refusal.Stop.TheVariants.{Fault, PatternBuild};
+ghost use Rattle.yv_selection.specs.Choice.{Choice, choice_of};
+ghost use Rattle.yv_rows.specs.Lent.{files_in, lent_in, rows_in};
+ghost use Rattle.yv_names.specs.Known.{AreNames};
+ghost use Rattle.yv_link.specs.Linked.{truth_in};
+ghost use Rattle.yv_units.specs.Limit.{TooMany};
+ghost use Rattle.yv_expansion.specs.Bounded.{ParentsComeFirst};
+ghost use Rattle.yv_expansion.specs.Tree as expansion;
+ghost use Rattle.yv_whole_expansion.specs.Expanded.{IsWhole, augments_of};
+ghost use Rattle.yv_augments.specs.Turns.{State};
+ghost use Rattle.yv_augmented.specs.Faults.{BadTarget};
+ghost use Rattle.yv_augmented.specs.Known.{AreGrown};
+ghost use Rattle.yv_augmented.specs.Spots.{whole};
+ghost use Rattle.yv_final_tree.specs.Faults.{BadExpansion, BadFinal};
+ghost use Rattle.yv_final_tree.specs.Final.{Final, changes_of, standing, whole_of};
+ghost use Rattle.yv_final_tree.specs.Given.{marks_of, order_of};
+ghost use Rattle.yv_final_tree.specs.Kept.{AreKept};
+ghost use Rattle.yv_final_tree.specs.Left.{AreLeft};
+
+use crate::given::{marks, order};
+use crate::kept::FinalTree;
+use crate::nodes::nodes;
+use crate::wrong::Judged;
+use std::alloc::{AllocError, Global};
+use yv_augmented::{Grown, conditions, graft, left};
+use yv_changes::Changes;
+use yv_expansion::{Item, Node};
+use yv_item_marks::{item_marks, statement_marks};
+use yv_link::Linked;
+use yv_names::Names;
+use yv_rows::Rows;
+use yv_selection::Selection;
+use yv_statement::{Refusal, Stop};
+use yv_whole_expansion::{Expanded, expand};
+
+// The expansion of the files of implemented modules, module by module, or the refusal of the first file with which their units pass the
+// limit.
+fn expanded(
+    alloc: Global,
+    rows: &Rows<'_, '_>,
+    names: &Names,
+    selection: &Selection,
+    limit: u32,
+) -> Result<Expanded, Stop>
+    ensures whole { AreNames (lent_in rows.now) names.now
+        → IfOk result (λ e. IsWhole (lent_in rows.now) (marks_of (choice_of selection.now) (lent_in rows.now))
+        (order_of (choice_of selection.now) (lent_in rows.now)) e.own e.expansion.items) }
+    ensures augments { IfOk result (λ e. e.augments.items
+        ≡ augments_of (files_in rows.now) (rows_in rows.now) (marks_of (choice_of selection.now) (lent_in rows.now))) }
+    ensures limit { IfOk result (λ e. e.expansion.limit ≡ limit) }
+    ensures fits { AreNames (lent_in rows.now) names.now
+        → OnOk result (IsLeast (TooMany (lent_in rows.now) (marks_of (choice_of selection.now) (lent_in rows.now)) limit) None) }
+    ensures refusal { AreNames (lent_in rows.now) names.now → (r : Refusal) → result ≡ Err (Fault r)
+        → IsLeast (TooMany (lent_in rows.now) (marks_of (choice_of selection.now) (lent_in rows.now)) limit) (Some r) }
+    ensures built { result ≢ Err PatternBuild }
+{
+    let given = marks(alloc, rows, selection)?;
+    let files = order(alloc, rows, selection)?;
+    expand(alloc, rows, names, &given, &files, limit)
+}
+
+// The final tree of items, and the least refusal of an augment of a module that adds to no node.
+fn grown(
+    alloc: Global,
+    rows: &Rows<'_, '_>,
+    items: &[Item],
+    augments: &[usize],
+) -> Result<(Grown, Option<Refusal>), AllocError>
+    ensures { IfOk result (λ g. (st : State)
+        × AreGrown (whole (files_in rows.now) (rows_in rows.now) augments.now (length items.now)) items.now st g.0
+        × IsLeast (BadTarget (whole (files_in rows.now) (rows_in rows.now) augments.now (length items.now)) items.now st) g.1) }
+{
+    let grafts = graft(alloc, rows, items, augments)?;
+    let missing = grafts.first_without_target(rows, augments);
+    let grown = grafts.into_grown()?;
+    Ok((grown, missing))
+}
+
+// The nodes that are left of a final tree by the conditions of its statements.
+fn remains<'a, 'b>(
+    alloc: Global,
+    linked: &Linked<'a, 'b>,
+    judged: &Judged<'_, 'a, 'b>,
+) -> Result<Vec<Node>, AllocError>
+    requires { ParentsComeFirst judged.now.items.now }
+    ensures { (final : Final) → judged.now.items.now ≡ final.items
+        → AreGrown (whole_of (lent_in judged.now.rows.now) final) final.items final.state judged.now.grown.now
+        → judged.now.grown.now.tree.items ≡ standing final → judged.now.changes.now ≡ changes_of (lent_in judged.now.rows.now) final
+        → IfOk result (λ list. (nodes : expansion.Nodes) × AreLeft (truth_in linked.now) (lent_in judged.now.rows.now) final nodes
+        × (list.items ≡ expansion.listed None 0 nodes)) }
+{
+    let spots = &judged.grown.spots;
+    let statements = statement_marks(alloc, linked, judged.rows)?;
+    let own = item_marks(alloc, &statements, spots, judged.changes)?;
+    let on = conditions(alloc, judged.rows, spots, judged.items, &statements, &own)?;
+    let tree = left(alloc, spots, &judged.grown.tree, &on)?;
+    nodes(alloc, &tree)
+}
+
+// The final tree of an expansion, or the least of what is wrong with it.
+fn finished<'a, 'b>(
+    alloc: Global,
+    linked: &Linked<'a, 'b>,
+    rows: &Rows<'a, 'b>,
+    expanded: Expanded,
+) -> Result<FinalTree, Stop>
+    ensures kept { (choice : Choice)
+        → IsWhole (lent_in rows.now) (marks_of choice (lent_in rows.now)) (order_of choice (lent_in rows.now)) expanded.own expanded.expansion.items
+        → expanded.augments.items ≡ augments_of (files_in rows.now) (rows_in rows.now) (marks_of choice (lent_in rows.now))
+        → IfOk result (AreKept choice (lent_in rows.now) (truth_in linked.now)) }
+    ensures limit { IfOk result (λ t. t.limit ≡ expanded.expansion.limit) }
+    ensures clear { (choice : Choice)
+        → IsWhole (lent_in rows.now) (marks_of choice (lent_in rows.now)) (order_of choice (lent_in rows.now)) expanded.own expanded.expansion.items
+        → expanded.augments.items ≡ augments_of (files_in rows.now) (rows_in rows.now) (marks_of choice (lent_in rows.now))
+        → OnOk result (IsLeast (BadFinal choice (lent_in rows.now)) None) }
+    ensures refusal { (choice : Choice) (r : Refusal)
+        → IsWhole (lent_in rows.now) (marks_of choice (lent_in rows.now)) (order_of choice (lent_in rows.now)) expanded.own expanded.expansion.items
+        → expanded.augments.items ≡ augments_of (files_in rows.now) (rows_in rows.now) (marks_of choice (lent_in rows.now))
+        → result ≡ Err (Fault r) → IsLeast (BadFinal choice (lent_in rows.now)) (Some r) }
+    ensures built { result ≢ Err PatternBuild }
+{
+    crate::laws::files_have_one_final_tree();
+    let Expanded {
+        expansion,
+        own: _,
+        augments,
+    } = expanded;
+    let (grown, missing) = grown(alloc, rows, expansion.items(), &augments)?;
+    let changes = Changes::read(alloc, rows, &grown.spots, &grown.refined)?;
+    let judged = Judged {
+        rows,
+        items: expansion.items(),
+        augments: &augments,
+        grown: &grown,
+        changes: &changes,
+    };
+    if let Some(refusal) = judged.first_wrong(alloc, missing)? {
+        return Err(Stop::Fault(refusal));
+    }
+    let left = remains(alloc, linked, &judged)?;
+    Ok(FinalTree {
+        expansion,
+        spots: grown.spots,
+        augments,
+        changes,
+        left,
+    })
+}
+
+/// The final tree of the files of implemented modules (RFC 7950, sections 5.6.5, 7.12, 7.13, 7.17 and 7.20.2): their expansion, module by
+/// module in the order of the schema, with each augment applied. Where the units of these files pass the limit, the refusal of the first
+/// file with which they do; else the least refusal, by file and offset, of a schema node of the final tree that stands too deep, of a
+/// refine that means no node or isn't fit for it, and of an augment that adds to no node or adds what may not stand there.
+pub fn final_tree<'a, 'b>(
+    alloc: Global,
+    linked: &Linked<'a, 'b>,
+    rows: &Rows<'a, 'b>,
+    names: &Names,
+    selection: &Selection,
+    limit: u32,
+) -> Result<FinalTree, Stop>
+    ensures kept { AreNames (lent_in rows.now) names.now
+        → IfOk result (AreKept (choice_of selection.now) (lent_in rows.now) (truth_in linked.now)) }
+    ensures limit { IfOk result (λ t. t.limit ≡ limit) }
+    ensures clear { AreNames (lent_in rows.now) names.now
+        → OnOk result (IsLeast (BadExpansion (choice_of selection.now) (lent_in rows.now) limit) None) }
+    ensures refusal { AreNames (lent_in rows.now) names.now → (r : Refusal) → result ≡ Err (Fault r)
+        → IsLeast (BadExpansion (choice_of selection.now) (lent_in rows.now) limit) (Some r) }
+    ensures built { result ≢ Err PatternBuild }
+{
+    match expanded(alloc, rows, names, selection, limit) {
+        Ok(expanded) => finished(alloc, linked, rows, expanded),
+        Err(stop) => Err(stop),
+    }
+}
