@@ -1,12 +1,14 @@
 -- A tree has no item twice where each stands once in groups.
-use Rattle.std.proofs.Common.{inl, inr, ◌≡◌, ◌≢◌, ℕ, zero, suc, ◌+◌, ◌≤◌, ◌<◌, ◌==◌, Bool, if◌then◌else◌, List, [], ◌∷◌, ◌++◌, set, length, refl, sym, ap, subst, arith, eq-eqb, length-append, Option, Some, None}
+use Rattle.std.proofs.Common.{inl, inr, ◌≡◌, ◌≢◌, ℕ, zero, suc, ◌+◌, ◌≤◌, ◌<◌, ◌==◌, Bool, if◌then◌else◌, List, [], ◌∷◌, ◌++◌, set, map, length, refl, sym, ap, ap₂, ◌∙◌, subst, arith, eq-eqb, length-append, Option, Some, None}
 use Rattle.std.specs.List.{count_by, slice_get}
 use Rattle.std.specs.List.Sorted.{IsPermutation}
 use Rattle.std.proofs.lemmas.Bool.{cases_eq, cases_lt, ne_eqb}
 use Rattle.std.proofs.lemmas.List.{get_or-set_other}
 use Rattle.std.proofs.lemmas.List.Sums.{sum_by-append}
 use Rattle.std.proofs.lemmas.List.Sorted.{sum_by-IsPermutation}
-use Rattle.std.proofs.lemmas.Option.{same_Some}
+use Rattle.std.proofs.lemmas.List.{map-append}
+use Rattle.std.proofs.lemmas.Option.{same_Some, slice_get-map}
+use Rattle.std.specs.Option.{option_map}
 use Rattle.yv_augments.specs.declared.row.Row.{Row}
 use Rattle.yv_augments.specs.Groups.{Groups, IsIn, members_of, times}
 use Rattle.yv_augments.specs.Placed.{StandOnce}
@@ -267,3 +269,49 @@ one_group groups items i g h s p q = elim (cases_eq g h) [
       let second : 0 < count i (members_of groups h) = q in
       absurd (omega (arith, once, e, more, still, first, second))
 ]
+
+-- the numbers of the rows of a tree
+numbers_listed : (parent : Option ℕ) (depth : ℕ) (t : Tree) → map (λ (r : Row). r.number) (listed parent depth t) ≡ numbers t
+numbers_listed parent depth none = refl
+numbers_listed parent depth (item i below behind) =
+    ap (λ ns. i ∷ ns)
+    (map-append (λ (r : Row). r.number) (listed (Some i) (depth + 1) below) (listed parent depth behind)
+    ∙ ap₂ (λ ms ns. ms ++ ns) (numbers_listed (Some i) (depth + 1) below) (numbers_listed parent depth behind))
+
+there_once : (xs : List ℕ) (k n : ℕ) → slice_get xs k ≡ Some n → 0 < count n xs
+there_once [] k n at = absurd (let bad : None ≡ Some n = at in cc)
+there_once (x ∷ xs) zero n at =
+    let same : x ≡ n = same_Some x n at in
+    let c = count_more n x xs in
+    let o : one_if (x == n) ≡ 1 = ap one_if (eq-eqb x n same) in
+    omega (arith, c, o)
+there_once (x ∷ xs) (suc k) n at = (let e = there_once xs k n at in let c = count_more n x xs in omega (arith, e, c))
+
+one_place : (xs : List ℕ) → ((y : ℕ) → count y xs ≤ 1) → (i k n : ℕ) → slice_get xs i ≡ Some n → slice_get xs k ≡ Some n → i ≡ k
+one_place [] once i k n at at' = absurd (let bad : None ≡ Some n = at in cc)
+one_place (x ∷ xs) once zero zero n at at' = refl
+one_place (x ∷ xs) once zero (suc k) n at at' =
+    let c = count_more n x xs in
+    let o : one_if (x == n) ≡ 1 = ap one_if (eq-eqb x n (same_Some x n at)) in
+    let e = there_once xs k n at' in
+    let l = once n in
+    absurd (omega (arith, c, o, e, l))
+one_place (x ∷ xs) once (suc i) zero n at at' =
+    let c = count_more n x xs in
+    let o : one_if (x == n) ≡ 1 = ap one_if (eq-eqb x n (same_Some x n at')) in
+    let e = there_once xs i n at in
+    let l = once n in
+    absurd (omega (arith, c, o, e, l))
+one_place (x ∷ xs) once (suc i) (suc k) n at at' =
+    ap suc (one_place xs (λ y. (let l = once y in let c = count_more y x xs in omega (arith, l, c))) i k n at at')
+
+pub one_row : (groups : Groups) (items i k : ℕ) (a b : Row) (t : Tree) → IsTree groups t → StandOnce items groups → slice_get (listed None 1 t) i ≡ Some a
+    → slice_get (listed None 1 t) k ≡ Some b → a.number ≡ b.number → i ≡ k
+one_row groups items i k a b t is s at at' same =
+    one_place (numbers t) (λ y. (let o = at_most_once items groups s y in let f = no_more groups t is (at_most_once items groups s) y in omega (arith, o, f)))
+    i k a.number (number_at i a at) (number_at k b at' ∙ ap (λ n. Some n) (sym same))
+  where
+    number_at : (j : ℕ) (r : Row) → slice_get (listed None 1 t) j ≡ Some r → slice_get (numbers t) j ≡ Some r.number
+    number_at j r here =
+        ap (λ ns. slice_get ns j) (sym (numbers_listed None 1 t)) ∙ slice_get-map (λ (q : Row). q.number) (listed None 1 t) j
+        ∙ ap (option_map (λ (q : Row). q.number)) here

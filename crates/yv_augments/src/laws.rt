@@ -73,6 +73,8 @@ pub fn a_tree_has_no_item_twice()
     ensures count { (groups : Groups) (items : ℕ) (t : Tree) → IsTree groups t → StandOnce items groups → length (listed None 1 t) ≤ items }
     ensures within { (groups : Groups) (items k : ℕ) (row : Row) (t : Tree) → IsTree groups t → StandOnce items groups
         → slice_get (listed None 1 t) k ≡ Some row → row.number < items }
+    ensures once { (groups : Groups) (items i k : ℕ) (a b : Row) (t : Tree) → IsTree groups t → StandOnce items groups
+        → slice_get (listed None 1 t) i ≡ Some a → slice_get (listed None 1 t) k ≡ Some b → a.number ≡ b.number → i ≡ k }
 {}
 
 /// An item of the tree stands in the group of the item above it, and where each stands once, it stands in no other.

@@ -1,4 +1,4 @@
-use Rattle.yv_augments.proofs.Distinct.{no_item_twice, row_within}
+use Rattle.yv_augments.proofs.Distinct.{no_item_twice, one_row, row_within}
 use Rattle.yv_augments.proofs.laws.a_tree_has_no_item_twice.Goals as goal
 
 pub returns-clause-count : goal.returns-clause-count
@@ -6,3 +6,6 @@ returns-clause-count c = no_item_twice
 
 pub returns-clause-within : goal.returns-clause-within
 returns-clause-within c = row_within
+
+pub returns-clause-once : goal.returns-clause-once
+returns-clause-once c = one_row
