@@ -8,3 +8,4 @@ pub mod Nesting
 pub mod Homes
 pub mod Judging
 pub mod Finishing
+mod Leaving

@@ -1,5 +1,5 @@
 //! Laws of the definitions alone. These functions do nothing: the contract of each is the law.
-ghost use Rattle.std.specs.Prelude.{◌≡◌, ◌≤◌, ◌<◌, ℕ, List, true, None, Some, length, map, slice_get, slice_index_or};
+ghost use Rattle.std.specs.Prelude.{◌≡◌, ◌≤◌, ◌<◌, false, ℕ, List, true, None, Some, length, map, slice_get, slice_index_or};
 ghost use Rattle.yv_statement.specs.Codes.{phase_of};
 ghost use Rattle.yv_statement.specs.Tree.{Tree as Root};
 ghost use Rattle.yv_statement.specs.declared.refusal.Refusal.{Refusal};
@@ -8,7 +8,8 @@ ghost use Rattle.yv_rows.specs.Files.{Files, brief_of};
 ghost use Rattle.yv_rows.specs.Listed.{rows_of};
 ghost use Rattle.yv_units.specs.Limit.{given_before};
 ghost use Rattle.yv_units.specs.Weigh.{Weigh};
-ghost use Rattle.yv_expansion.specs.Tree.{Node, Nodes, count, listed};
+ghost use Rattle.yv_expansion.specs.Tree.{Item, Node, Nodes, count, listed};
+ghost use Rattle.yv_augmented.specs.Kinds.{is_uses, kind_of};
 ghost use Rattle.yv_augmented.specs.declared.spot.Spot.{Spot};
 ghost use Rattle.yv_item_marks.specs.Conditions.{Truth};
 ghost use Rattle.yv_final_tree.specs.Faults.{BadExpansion};
@@ -52,11 +53,22 @@ pub fn nodes_are_within_units()
     yv_augmented::laws::items_stand_once();
 }
 
-/// What is left are items.
-pub fn what_is_left_are_items()
+/// What is left are items that are no uses.
+pub fn what_is_left_are_nodes()
     ensures { (choice : Choice) (files : Files) (truth : Truth) (f : Final) (nodes : Nodes) (place : ℕ) (x : Node)
         → IsFinal choice files f → AreLeft truth files f nodes → slice_get (listed None 0 nodes) place ≡ Some x
-        → (s : Spot) × (slice_get (spots_of files f) x.origin ≡ Some s) }
+        → (s : Spot) × (item : Item) × (slice_get (spots_of files f) x.origin ≡ Some s) × (slice_get f.items x.origin ≡ Some item)
+        × (is_uses (kind_of (rows_of files) item.origin) ≡ false) }
+{
+    yv_augments::laws::a_tree_has_no_item_twice();
+    yv_augmented::laws::items_stand_once();
+}
+
+/// No item is left twice.
+pub fn no_item_is_left_twice()
+    ensures { (choice : Choice) (files : Files) (truth : Truth) (f : Final) (nodes : Nodes) (i k : ℕ) (x y : Node)
+        → IsFinal choice files f → AreLeft truth files f nodes → slice_get (listed None 0 nodes) i ≡ Some x
+        → slice_get (listed None 0 nodes) k ≡ Some y → x.origin ≡ y.origin → i ≡ k }
 {
     yv_augments::laws::a_tree_has_no_item_twice();
     yv_augmented::laws::items_stand_once();
