@@ -1,5 +1,5 @@
--- What is built of the files of modules is what a schema is made of.
-use Rattle.std.proofs.Common.{◌≡◌, List, subst, refl, IfOk, OnOk, Option, Some, None, inl, inr}
+-- What is built of the nodes of modules, and the first refusal of them.
+use Rattle.std.proofs.Common.{◌≡◌, subst, refl, IfOk, OnOk, Option, Some, None, inl, inr}
 use Rattle.std.specs.Option.{unwrap_or}
 use Rattle.std.specs.declared.result.Result.{Result}
 use Rattle.std.specs.declared.result.Result.TheVariants.{Ok, Err}
@@ -8,33 +8,12 @@ use Rattle.yv_statement.specs.declared.refusal.Refusal.{Refusal}
 use Rattle.yv_statement.specs.declared.refusal.Stop.{Stop}
 use Rattle.yv_statement.specs.declared.refusal.Stop.TheVariants.{Fault}
 use Rattle.yv_statement.proofs.Least.{least_lesser}
+use Rattle.yv_nodes.specs.Rows.{Rows}
 use Rattle.yv_nodes.specs.Tree.{Forest}
 use Rattle.yv_tables.specs.Bad.{BadRows}
 use Rattle.yv_tree_checks.specs.Bad.{BadTree}
 use Rattle.yv_schema.specs.Refuses.{BadNodes}
-use Rattle.yv_selection.specs.Choice.{Choice}
-use Rattle.yv_rows.specs.Files.{Files}
-use Rattle.yv_tables.specs.Groups.{AreRowsOf, Top, all_nodes, tops_from}
-use Rattle.yv_nodes.specs.Numbers.{rows_from}
-use Rattle.yv_nodes.specs.Rows.{Row, Rows}
-use Rattle.yv_schema.specs.Module.{Basis, schema_of}
-use Rattle.yv_schema.specs.InnerBuild.{AreNames, IsFirst, groups_from, of_tree, of_both}
-use Rattle.yv_schema.proofs.Formed.{all_modules, groups_different, groups_formed}
-
-module _ (b : Basis) (choice : Choice) (files : Files) where
-  -- the rows of modules whose names are in order are those of their groups
-  pub are_rows : (nodes : List Row) (tops : List Top) → AreNames choice files → nodes ≡ rows_from 0 (all_nodes (groups_from b choice 0 files)) → tops ≡ tops_from 0 (groups_from b choice 0 files)
-      → AreRowsOf (groups_from b choice 0 files) nodes tops
-  are_rows nodes tops names rows are = record {
-    formed = groups_formed b choice 0 files (record { plain = names.plain; filled = names.filled });
-    differ = groups_different b choice 0 files names.differ;
-    rows = rows;
-    are = are;
-  }
-
-  -- the nodes of the modules are the schema tree
-  pub whole_tree : b.files ≡ files → all_nodes (groups_from b choice 0 files) ≡ schema_of choice b
-  whole_tree same = subst (λ fs. all_nodes (groups_from b choice 0 fs) ≡ schema_of choice b) same (all_modules b choice 0 b.files)
+use Rattle.yv_schema.specs.InnerBuild.{IsFirst, of_tree, of_both}
 
 -- what holds of each answer holds
 pub on_ok_from : {A E : Type 0} {P : A → Type 0} {Q : Type 0} (o : Result A E) → ((x : A) → P x → Q) → IfOk o P → OnOk o Q

@@ -1,10 +1,10 @@
 -- The phases of a compilation, and what is known where the first ones refuse nothing.
 use Rattle.std.proofs.Common.{◌≡◌, ◌≢◌, ℕ, ◌<◌, ◌≤◌, ◌⊎◌, ◌&&◌, ◌==◌, not, inl, inr, Bool, true, false, List, [], ◌∷◌, length, map, Option, Some, None, refl, sym, ap, ◌∙◌, subst, arith, codes}
 use Rattle.std.specs.List.{list_all, slice_get}
-use Rattle.std.specs.Option.{unwrap_or}
+use Rattle.std.specs.Option.{option_map, unwrap_or}
 use Rattle.std.proofs.lemmas.Bool.{cases_Bool, false≢true, false_from_ne_true}
 use Rattle.std.proofs.lemmas.Bool.Decides.{nat_tests}
-use Rattle.std.proofs.lemmas.Option.{same_Some, slice_get_within}
+use Rattle.std.proofs.lemmas.Option.{same_Some, slice_get-map, slice_get_within}
 use Rattle.std.proofs.lemmas.Slice.Eq.{bytes_eq-Decides}
 use Rattle.yv_statement.specs.Tree.{Tree}
 use Rattle.yv_statement.specs.Codes.{phase_of}
@@ -29,17 +29,18 @@ use Rattle.yv_link.specs.Links.{BadLinks}
 use Rattle.yv_link.proofs.Phases.{ahead, behind}
 use Rattle.yv_names.specs.Faults.{BadSix}
 use Rattle.yv_types.specs.Faults.{BadTypes}
-use Rattle.yv_rows.specs.Rows.{Row}
-use Rattle.yv_rows.specs.Listed.{rows_of}
-use Rattle.yv_expansion.specs.Tree.{Tree as Items}
-use Rattle.yv_expand.specs.Expanded.{AreTrees}
-use Rattle.yv_copies.specs.Given.{marks_of}
-use Rattle.yv_copies.specs.Faults.{BadExpansion}
-use Rattle.yv_copies.specs.On.{Truth}
+use Rattle.yv_expansion.specs.Tree.{Nodes}
+use Rattle.yv_item_marks.specs.Conditions.{Truth}
+use Rattle.yv_final_tree.specs.Faults.{BadExpansion}
+use Rattle.yv_final_tree.specs.Final.{Final, IsFinal}
+use Rattle.yv_final_tree.specs.Given.{is_given}
+use Rattle.yv_final_tree.specs.Left.{AreLeft}
 use Rattle.yv_definitions.specs.Kinds.{AreTyped, Typing}
 use Rattle.yv_schema.specs.Truth.{IsTruth}
 use Rattle.yv_nodes.specs.Tree.{Forest, Label}
-use Rattle.yv_schema.specs.Module.{Basis, is_given, schema_of}
+use Rattle.yv_nodes.specs.Rows.{Note}
+use Rattle.yv_schema.specs.Module.{Basis, schema_of}
+use Rattle.yv_schema.specs.Notes.{notes_of}
 use Rattle.yv_nodes.specs.Places.{Place}
 use Rattle.yv_leaf_targets.specs.Bad.{BadOfLeafs}
 use Rattle.yv_tables.specs.Bad.{BadRows}
@@ -48,13 +49,11 @@ use Rattle.yv_tree_checks.specs.Above.{AtNearest, BadBelow, is_misfit}
 use Rattle.yv_tree_checks.specs.Mandatory.{BadOfDefault}
 use Rattle.yv_tree_checks.specs.Bad.{BadTree}
 use Rattle.yv_schema.specs.Refuses.{BadFile, BadNodes, BadSchema, BadTyping, Refuses, RefusesBeforeTypes}
-use Rattle.yv_schema.specs.Schema.{IsSchema}
-use Rattle.yv_tables.specs.Groups.{HasNoColon}
+use Rattle.yv_schema.specs.Schema.{AreNotes, IsBasis, IsSchema}
+use Rattle.yv_tables.specs.Numbered.{HasNoColon}
 use Rattle.yv_schema.specs.InnerBuild.{AreNames}
-use Rattle.yv_tables.proofs.Colons.{is_58}
-use Rattle.yv_tables.proofs.Keeping.{map_get}
+use Rattle.yv_schema.proofs.HomesGiven.{have_homes}
 use Rattle.yv_schema.proofs.Told.{is_own}
-use Rattle.yv_schema.proofs.Truths.{same_truth}
 use Rattle.yv_schema.proofs.TypePhases.{names_phase, types_phase}
 
 and_first : (a b : Bool) → (a && b) ≡ true → a ≡ true
@@ -64,6 +63,16 @@ and_first false b h = absurd (false≢true h)
 and_second : (a b : Bool) → (a && b) ≡ true → b ≡ true
 and_second true b h = h
 and_second false b h = absurd (false≢true h)
+
+map_get : {A B : Type 0} (f : A → B) (xs : List A) (n : ℕ) (x : A) → slice_get xs n ≡ Some x → slice_get (map f xs) n ≡ Some (f x)
+map_get f xs n x at = slice_get-map f xs n ∙ ap (option_map f) at
+
+is_58 : (b : ℕ) → (b == 58) ≡ true → b ≡ 58
+is_58 b h = grind (arith, nat_tests)
+
+-- truths that agree everywhere are one
+same_truth : (t u : Truth) → ((file : ℕ) (text : List ℕ) → t file text ≡ u file text) → t ≡ u
+same_truth t u h = λ i file text. h file text i
 
 -- what begins an identifier, and what stands in one, is no colon
 no_start : (b : ℕ) → is_start b ≡ true → (b == 58) ≡ false
@@ -76,13 +85,10 @@ no_parts : (text : List ℕ) → list_all is_part text ≡ true → HasNoColon t
 no_parts [] h = refl
 no_parts (b ∷ bs) h = rw (no_part b (and_first (is_part b) (list_all is_part bs) h)) (no_parts bs (and_second (is_part b) (list_all is_part bs) h))
 
--- an identifier has no colon, and isn't empty
+-- an identifier has no colon
 plain_name : (text : List ℕ) → is_identifier text ≡ true → HasNoColon text
 plain_name [] h = refl
 plain_name (b ∷ bs) h = rw (no_start b (and_first (is_start b) (list_all is_part bs) h)) (no_parts bs (and_second (is_start b) (list_all is_part bs) h))
-
-filled_name : (text : List ℕ) → is_identifier text ≡ true → text ≢ []
-filled_name text h e = false≢true (ap is_identifier (sym e) ∙ h)
 
 module_word : keyword_of (codes "module") ≡ word.Module
 unfolding keyword_of
@@ -127,10 +133,14 @@ own_name briefs n g h = by (named briefs g.name) refl (not_false (is_at n (named
         e ∙ ap Some same
 
 module _ (choice : Choice) (files : Files) (fine : (f : Refusal) → Among files BadFile (length files) f → ⊥) (linked : (f : Refusal) → BadLinks files f → ⊥) where
+  fine_at : (n : ℕ) (t : Tree) (f : Refusal) → slice_get files n ≡ Some t → Bad t f → ⊥
+  fine_at n t f at bad =
+      fine (record { code = f.code; file = n; offset = f.offset; line = f.line }) (n, slice_get_within files n t at, t, at, record { own = f; stands = inl bad; is = refl })
+
   identifier_at : (n : ℕ) (t : Tree) → slice_get files n ≡ Some t → is_given choice t ≡ true → is_identifier (tree_name t) ≡ true
   identifier_at n t at given =
       module_named t (and_first (is_module t) (is_implemented choice (tree_name t)) given)
-      (λ f bad. fine (record { code = f.code; file = n; offset = f.offset; line = f.line }) (n, slice_get_within files n t at, t, at, record { own = f; stands = inl bad; is = refl }))
+      (λ f bad. fine_at n t f at bad)
 
   first_named : (n : ℕ) (t : Tree) → slice_get files n ≡ Some t → named (map brief_of files) (tree_name t) ≡ Some n
   first_named n t at =
@@ -142,11 +152,12 @@ module _ (choice : Choice) (files : Files) (fine : (f : Refusal) → Among files
   -- the names of the modules of files that nothing is wrong with
   pub names_of : AreNames choice files
   names_of = record {
+    fine = fine_at;
     plain = λ n t at given. plain_name (tree_name t) (identifier_at n t at given);
-    filled = λ n t at given. filled_name (tree_name t) (identifier_at n t at given);
     differ = λ m n t u lt at_m at_n given_t given_u same.
         let one : m ≡ n = same_Some m n (sym (first_named m t at_m) ∙ ap (named (map brief_of files)) same ∙ first_named n u at_n) in
         omega (arith, lt, one);
+    homes = have_homes choice files fine_at linked;
   }
 
 -- the phases of refusals
@@ -215,9 +226,12 @@ HasOneTruth = (files : Files) (choice : Choice) (file : ℕ) (text : List ℕ) (
 abbrev pub HaveOneTyping : Type 0
 HaveOneTyping = (files : Files) (choice : Choice) (truth : Truth) (a b : Typing) → AreTyped files choice truth a → AreTyped files choice truth b → a ≡ b
 
--- files have one expansion
-abbrev pub HasOneExpansion : Type 0
-HasOneExpansion = (files : Briefs) (rows : List Row) (marks : List Bool) (a b : List Items) → AreTrees files rows marks a → AreTrees files rows marks b → a ≡ b
+-- files have one final tree, and one list of nodes is left of it
+abbrev pub HaveOneFinal : Type 0
+HaveOneFinal = (choice : Choice) (files : Files) (a b : Final) → IsFinal choice files a → IsFinal choice files b → a ≡ b
+
+abbrev pub IsOneLeft : Type 0
+IsOneLeft = (choice : Choice) (files : Files) (truth : Truth) (f : Final) (a b : Nodes) → IsFinal choice files f → AreLeft truth files f a → AreLeft truth files f b → a ≡ b
 
 module _ (choice : Choice) (files : Files) (limit : ℕ) where
   abbrev Own : Refusal → Type 0
@@ -313,38 +327,49 @@ module _ (choice : Choice) (files : Files) (limit : ℕ) (one : HasOneTruth) (be
       (λ f h. let e : phase_of f.code ≡ 9 = types_phase files h.truth f h.bad in omega (arith, e))
       (λ f h. let e : phase_of f.code ≡ 10 = schema_phase choice files f h in omega (arith, e)) (typed truth (Some r) is p))
 
-  -- files give one schema tree: whichever truth, types and expansion these are
-  pub one_schema : HaveOneTyping → HasOneExpansion → (a b : Forest) → IsSchema choice files a → IsSchema choice files b → a ≡ b
-  one_schema one_typing expansion a b p q =
-      let p_truth : IsTruth files choice p.basis.truth = subst (λ (fs : Files). IsTruth fs choice p.basis.truth) p.of_files p.is_basis.truth in
-      let q_truth : IsTruth files choice q.basis.truth = subst (λ (fs : Files). IsTruth fs choice q.basis.truth) q.of_files q.is_basis.truth in
-      let truth : p.basis.truth ≡ q.basis.truth = one_truth p.basis.truth q.basis.truth p_truth q_truth in
-      let p_typing : AreTyped files choice q.basis.truth p.basis.typing =
-      subst (λ (x : Truth). AreTyped files choice x p.basis.typing) truth (subst (λ (fs : Files). AreTyped fs choice p.basis.truth p.basis.typing) p.of_files p.is_basis.typing) in
-      let q_typing : AreTyped files choice q.basis.truth q.basis.typing = subst (λ (fs : Files). AreTyped fs choice q.basis.truth q.basis.typing) q.of_files q.is_basis.typing in
-      let typing : p.basis.typing ≡ q.basis.typing = one_typing files choice q.basis.truth p.basis.typing q.basis.typing p_typing q_typing in
-      let trees : p.basis.trees ≡ q.basis.trees =
-      expansion (map brief_of files) (rows_of files) (marks_of choice files) p.basis.trees q.basis.trees (expanded p.basis.files p.basis.trees p.of_files p.is_basis.trees) (expanded q.basis.files q.basis.trees q.of_files q.is_basis.trees) in
-      let one : p.basis ≡ q.basis =
-      ap (λ (fs : Files). basis fs p.basis.truth p.basis.typing p.basis.trees) (p.of_files ∙ sym q.of_files)
-      ∙ ap (λ (x : Truth). basis q.basis.files x p.basis.typing p.basis.trees) truth
-      ∙ ap (λ (x : Typing). basis q.basis.files q.basis.truth x p.basis.trees) typing
-      ∙ ap (λ (x : List Items). basis q.basis.files q.basis.truth q.basis.typing x) trees in
-      p.is ∙ ap (schema_of choice) one ∙ sym q.is
+  -- files have one basis: whichever truth, types, final tree and nodes these are
+  one_basis : HaveOneTyping → HaveOneFinal → IsOneLeft → (p q : Basis) → p.files ≡ files → q.files ≡ files → IsBasis choice p → IsBasis choice q → p ≡ q
+  one_basis one_typing one_final one_left p q p_files q_files is_p is_q =
+      let p_truth : IsTruth files choice p.truth = subst (λ (fs : Files). IsTruth fs choice p.truth) p_files is_p.truth in
+      let q_truth : IsTruth files choice q.truth = subst (λ (fs : Files). IsTruth fs choice q.truth) q_files is_q.truth in
+      let truth : p.truth ≡ q.truth = one_truth p.truth q.truth p_truth q_truth in
+      let p_typing : AreTyped files choice q.truth p.typing =
+      subst (λ (x : Truth). AreTyped files choice x p.typing) truth (subst (λ (fs : Files). AreTyped fs choice p.truth p.typing) p_files is_p.typing) in
+      let q_typing : AreTyped files choice q.truth q.typing = subst (λ (fs : Files). AreTyped fs choice q.truth q.typing) q_files is_q.typing in
+      let typing : p.typing ≡ q.typing = one_typing files choice q.truth p.typing q.typing p_typing q_typing in
+      let p_final : IsFinal choice files p.final = subst (λ (fs : Files). IsFinal choice fs p.final) p_files is_p.final in
+      let q_final : IsFinal choice files q.final = subst (λ (fs : Files). IsFinal choice fs q.final) q_files is_q.final in
+      let final : p.final ≡ q.final = one_final choice files p.final q.final p_final q_final in
+      let p_left : AreLeft q.truth files q.final p.nodes =
+      subst (λ (f : Final). AreLeft q.truth files f p.nodes) final
+      (subst (λ (x : Truth). AreLeft x files p.final p.nodes) truth (subst (λ (fs : Files). AreLeft p.truth fs p.final p.nodes) p_files is_p.nodes)) in
+      let q_left : AreLeft q.truth files q.final q.nodes = subst (λ (fs : Files). AreLeft q.truth fs q.final q.nodes) q_files is_q.nodes in
+      let nodes : p.nodes ≡ q.nodes = one_left choice files q.truth q.final p.nodes q.nodes q_final p_left q_left in
+      ap (λ (fs : Files). basis fs p.truth p.typing p.final p.nodes) (p_files ∙ sym q_files)
+      ∙ ap (λ (x : Truth). basis q.files x p.typing p.final p.nodes) truth
+      ∙ ap (λ (x : Typing). basis q.files q.truth x p.final p.nodes) typing
+      ∙ ap (λ (x : Final). basis q.files q.truth q.typing x p.nodes) final
+      ∙ ap (λ (x : Nodes). basis q.files q.truth q.typing q.final x) nodes
     where
-      basis : Files → Truth → Typing → List Items → Basis
-      basis files truth typing trees = record { files = files; truth = truth; typing = typing; trees = trees }
+      basis : Files → Truth → Typing → Final → Nodes → Basis
+      basis files truth typing final nodes = record { files = files; truth = truth; typing = typing; final = final; nodes = nodes }
 
-      expanded : (fs : Files) (trees : List Items) → fs ≡ files → AreTrees (map brief_of fs) (rows_of fs) (marks_of choice fs) trees → AreTrees (map brief_of files) (rows_of files) (marks_of choice files) trees
-      expanded fs trees same h = subst (λ (fs : Files). AreTrees (map brief_of fs) (rows_of fs) (marks_of choice fs) trees) same h
+  -- so they give one schema tree, and one list of augments that add to it
+  pub one_schema : HaveOneTyping → HaveOneFinal → IsOneLeft → (a b : Forest) → IsSchema choice files a → IsSchema choice files b → a ≡ b
+  one_schema one_typing one_final one_left a b p q =
+      p.is ∙ ap schema_of (one_basis one_typing one_final one_left p.basis q.basis p.of_files q.of_files p.is_basis q.is_basis) ∙ sym q.is
+
+  pub one_notes : HaveOneTyping → HaveOneFinal → IsOneLeft → (a b : List Note) → AreNotes choice files a → AreNotes choice files b → a ≡ b
+  one_notes one_typing one_final one_left a b p q =
+      p.are ∙ ap notes_of (one_basis one_typing one_final one_left p.basis q.basis p.of_files q.of_files p.is_basis q.is_basis) ∙ sym q.are
 
   -- where all this refuses nothing, the least of the schema tree is the least of all
-  pub least_last : HaveOneTyping → HasOneExpansion → (truth : Truth) (o : Option Refusal) (top : Forest) → IsTruth files choice truth → IsSchema choice files top → IsLeast (BadTypes files truth) None
+  pub least_last : HaveOneTyping → HaveOneFinal → IsOneLeft → (truth : Truth) (o : Option Refusal) (top : Forest) → IsTruth files choice truth → IsSchema choice files top → IsLeast (BadTypes files truth) None
       → IsLeast (BadNodes top) o → IsLeast (Refuses choice files limit) o
-  least_last one_typing expansion truth o top is schema p r =
+  least_last one_typing one_final one_left truth o top is schema p r =
       let least : IsLeast (BadSchema choice files) o =
       least_same (BadNodes top) (BadSchema choice files) o
       (λ f h. record { tree = top; is_schema = schema; stands = h })
-      (λ f h. subst (λ (ts : Forest). BadNodes ts f) (one_schema one_typing expansion h.tree top h.is_schema schema) h.stands) r in
+      (λ f h. subst (λ (ts : Forest). BadNodes ts f) (one_schema one_typing one_final one_left h.tree top h.is_schema schema) h.stands) r in
       behind (Before choice files limit) (Later choice files limit) o before
       (behind (BadTyping choice files) (BadSchema choice files) o (typed truth None is p) least)

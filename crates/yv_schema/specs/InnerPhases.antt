@@ -8,7 +8,7 @@ use Rattle.yv_link.specs.Links.{BadLinks}
 use Rattle.yv_link.specs.declared.linked.Linked.{Linked}
 use Rattle.yv_names.specs.Known.{AreNames}
 use Rattle.yv_names.specs.declared.known.Names.{Names}
-use Rattle.yv_copies.specs.Copies.{AreCopies, Copied}
+use Rattle.yv_final_tree.specs.Kept.{AreKept, Kept}
 use Rattle.yv_schema.specs.Refuses.{BadFile, RefusesBeforeTypes}
 
 -- files are linked, and nothing is refused so far
@@ -23,14 +23,14 @@ pub record SomeClear (choice : Choice) (linked : Linked) : Type 0 where
   pub files : Files
   pub clear : AreClear choice files linked
 
--- they are copied besides, and nothing is refused before their types
-pub record AreExpanded (choice : Choice) (files : Files) (limit : ℕ) (linked : Linked) (names : Names) (copies : Copied) : Type 0 where
+-- this is their final tree besides, and nothing is refused before their types
+pub record AreExpanded (choice : Choice) (files : Files) (limit : ℕ) (linked : Linked) (names : Names) (tree : Kept) : Type 0 where
   pub clear : AreClear choice files linked
   pub are_names : AreNames files names
-  pub are_copies : AreCopies choice files (truth_in linked) copies
+  pub are_kept : AreKept choice files (truth_in linked) tree
   pub before : IsLeast (RefusesBeforeTypes choice files limit) None
 
 -- there are such files
-pub record SomeExpanded (choice : Choice) (limit : ℕ) (linked : Linked) (names : Names) (copies : Copied) : Type 0 where
+pub record SomeExpanded (choice : Choice) (limit : ℕ) (linked : Linked) (names : Names) (tree : Kept) : Type 0 where
   pub files : Files
-  pub expanded : AreExpanded choice files limit linked names copies
+  pub expanded : AreExpanded choice files limit linked names tree

@@ -1,9 +1,10 @@
 pub mod Truth
 pub mod Module
+pub mod Notes
 pub mod Schema
 pub mod Refuses
 pub mod InnerContext
 pub mod InnerBuild
 pub mod InnerRowing
-pub mod InnerParts
+pub mod InnerHomes
 pub mod InnerPhases

@@ -13,9 +13,9 @@ use Rattle.yv_selection.specs.Choice.{Choice}
 use Rattle.yv_rows.specs.Files.{Files}
 use Rattle.yv_link.specs.Links.{BadLinks}
 use Rattle.yv_names.specs.Faults.{BadSix}
-use Rattle.yv_copies.specs.Faults.{BadExpansion}
+use Rattle.yv_final_tree.specs.Faults.{BadExpansion}
 use Rattle.yv_types.specs.Faults.{BadTypes}
-use Rattle.yv_copies.specs.On.{Truth}
+use Rattle.yv_item_marks.specs.Conditions.{Truth}
 use Rattle.yv_schema.specs.Truth.{IsTruth}
 use Rattle.yv_tables.specs.Bad.{BadRows}
 use Rattle.yv_tree_checks.specs.Bad.{BadTree}
@@ -71,6 +71,7 @@ is_taken word.Unique argument = true
 is_taken word.Grouping argument = true
 is_taken word.Uses argument = true
 is_taken word.Refine argument = true
+is_taken word.Augment argument = true
 is_taken word.Typedef argument = true
 is_taken word.Units argument = true
 is_taken word.Type None = true
@@ -123,7 +124,8 @@ pub record BadSchema (choice : Choice) (files : Files) (f : Refusal) : Type 0 wh
   pub stands : BadNodes tree f
 
 -- what is refused before types are read: every file is looked at as such, by its links to others, its features and its
--- identities, and by the names of its definitions; and then the expansion of the implemented modules within a limit
+-- identities, and by the names of its definitions; and then what the implemented modules come to within a limit when all augments were
+-- applied
 abbrev pub RefusesBeforeTypes : Choice → Files → ℕ → Refusal → Type 0
 RefusesBeforeTypes choice files limit f =
     Among files BadFile (length files) f ⊎ (BadLinks files f ⊎ (BadSix files f ⊎ BadExpansion choice files limit f))

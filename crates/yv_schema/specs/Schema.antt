@@ -1,30 +1,41 @@
 -- The schema of files under a choice (RFC 7950, section 5.6.5).
-use Rattle.std.specs.Prelude.{◌≡◌, ℕ, length, map}
+use Rattle.std.specs.Prelude.{◌≡◌, ℕ, List, length, map}
 use Rattle.yv_selection.specs.Choice.{Choice}
 use Rattle.yv_rows.specs.Files.{Files, brief_of}
 use Rattle.yv_rows.specs.Listed.{rows_of}
 use Rattle.yv_units.specs.Limit.{given_before}
 use Rattle.yv_units.specs.Weigh.{Weigh}
-use Rattle.yv_expand.specs.Expanded.{AreTrees}
-use Rattle.yv_copies.specs.Given.{marks_of}
 use Rattle.yv_definitions.specs.Kinds.{AreTyped}
-use Rattle.yv_schema.specs.Module.{Basis, schema_of}
+use Rattle.yv_nodes.specs.Rows.{Note}
 use Rattle.yv_nodes.specs.Tree.{Forest}
+use Rattle.yv_final_tree.specs.Final.{IsFinal}
+use Rattle.yv_final_tree.specs.Given.{marks_of}
+use Rattle.yv_final_tree.specs.Left.{AreLeft}
+use Rattle.yv_schema.specs.Module.{Basis, schema_of}
+use Rattle.yv_schema.specs.Notes.{notes_of}
 use Rattle.yv_schema.specs.Truth.{IsTruth}
 
--- a basis is that of files under a choice: their conditions hold so, their `type` statements stand for this, and this
--- is the expansion of the modules that are implemented
+-- a basis is that of files under a choice: their conditions hold so, their `type` statements stand for this, this is what the modules that
+-- are implemented come to, and these nodes are left of it
 pub record IsBasis (choice : Choice) (b : Basis) : Type 0 where
   pub truth : IsTruth b.files choice b.truth
   pub typing : AreTyped b.files choice b.truth b.typing
-  pub trees : AreTrees (map brief_of b.files) (rows_of b.files) (marks_of choice b.files) b.trees
+  pub final : IsFinal choice b.files b.final
+  pub nodes : AreLeft b.truth b.files b.final b.nodes
 
 -- this is the schema tree of the files
 pub record IsSchema (choice : Choice) (files : Files) (tree : Forest) : Type 0 where
   pub basis : Basis
   pub of_files : basis.files ≡ files
   pub is_basis : IsBasis choice basis
-  pub is : tree ≡ schema_of choice basis
+  pub is : tree ≡ schema_of basis
+
+-- these are the augments of the files' modules that add nodes to the schema tree
+pub record AreNotes (choice : Choice) (files : Files) (notes : List Note) : Type 0 where
+  pub basis : Basis
+  pub of_files : basis.files ≡ files
+  pub is_basis : IsBasis choice basis
+  pub are : notes ≡ notes_of basis
 
 -- the files of the implemented modules take so many units
 abbrev pub TakeUnits : Choice → Files → ℕ → Type 0

@@ -2,7 +2,7 @@
 use Rattle.std.specs.Prelude.{ℕ, List}
 use Rattle.yv_selection.specs.Choice.{Choice}
 use Rattle.yv_rows.specs.Files.{Files}
-use Rattle.yv_copies.specs.On.{Truth}
+use Rattle.yv_item_marks.specs.Conditions.{Truth}
 use Rattle.yv_features.specs.On.{Holds}
 
 -- the truth of the conditions of these files, where this is chosen of them

@@ -1,11 +1,12 @@
 //! From the statements of files to their schema.
-ghost use Rattle.std.specs.Prelude.{◌≡◌, ◌≢◌, ◌≤◌, [], length, IfOk, OnOk, Some, None, Ok, Err};
+ghost use Rattle.std.specs.Prelude.{◌≡◌, ◌≢◌, ◌≤◌, length, IfOk, OnOk, Some, None, Ok, Err};
 ghost use Rattle.yv_statement.specs.declared.refusal.Refusal.{Refusal};
 ghost use Rattle.yv_statement.specs.declared.refusal.Stop.TheVariants.{Fault, PatternBuild};
 ghost use Rattle.yv_statement.specs.Order.{IsLeast, IsLesser};
 ghost use Rattle.yv_selection.specs.Choice.{choice_of};
 ghost use Rattle.yv_rows.specs.Lent.{lent_in};
 ghost use Rattle.yv_schema.specs.Module.{Basis, modules_of, schema_of};
+ghost use Rattle.yv_schema.specs.Notes.{notes_of};
 ghost use Rattle.yv_schema.specs.Refuses.{BadNodes};
 ghost use Rattle.yv_nodes.specs.Rows.{whole};
 ghost use Rattle.yv_tables.specs.Sound.{IsSound};
@@ -13,10 +14,16 @@ ghost use Rattle.yv_schema.specs.InnerContext.{Tells, TellsOf};
 ghost use Rattle.yv_schema.specs.InnerBuild.{AreNames, IsFirst};
 
 use crate::context::Context;
-use crate::modules::Parts;
+use crate::homes::{Homes, modules};
+use crate::notes::notes;
+use crate::tree::{Builder, Numbered};
 use std::alloc::Global;
-use yv_nodes::Nodes;
+use yv_final_tree::laws::{
+    given_nodes_stand_below_their_target, homes_are_of_modules, no_item_is_left_twice,
+    what_is_left_are_nodes,
+};
 use yv_rows::Rows;
+use yv_rows::laws::statements_have_their_rows;
 use yv_selection::Selection;
 use yv_statement::{Refusal, Stop, lesser};
 use yv_tables::Schema;
@@ -32,24 +39,35 @@ pub(crate) fn build(
 ) -> Result<Schema, Stop>
     requires few { length (lent_in rows.now) ≤ 4294967296 }
     requires names { AreNames (choice_of selection.now) (lent_in rows.now) }
-    requires basis { TellsOf (lent_in rows.now) context.now }
+    requires basis { TellsOf (choice_of selection.now) (lent_in rows.now) context.now }
     ensures schema { (b : Basis) → Tells b context.now → b.files ≡ lent_in rows.now
-        → IfOk result (λ s. whole s ≡ schema_of (choice_of selection.now) b) }
+        → IfOk result (λ s. whole s ≡ schema_of b) }
     ensures limit { IfOk result (λ s. s.limit ≡ limit) }
     ensures modules { IfOk result (λ s. s.modules ≡ modules_of (choice_of selection.now) (lent_in rows.now)) }
-    ensures augments { IfOk result (λ s. s.augments ≡ []) }
+    ensures augments { (b : Basis) → Tells b context.now → b.files ≡ lent_in rows.now → IfOk result (λ s. s.augments ≡ notes_of b) }
     ensures sound { IfOk result IsSound }
     ensures clear { (b : Basis) → Tells b context.now → b.files ≡ lent_in rows.now
-        → OnOk result (IsLeast (BadNodes (schema_of (choice_of selection.now) b)) None) }
+        → OnOk result (IsLeast (BadNodes (schema_of b)) None) }
     ensures refusal { (b : Basis) → Tells b context.now → b.files ≡ lent_in rows.now
-        → (r : Refusal) → result ≡ Err (Fault r) → IsLeast (BadNodes (schema_of (choice_of selection.now) b)) (Some r) }
+        → (r : Refusal) → result ≡ Err (Fault r) → IsLeast (BadNodes (schema_of b)) (Some r) }
     ensures built { result ≢ Err PatternBuild }
 {
-    let parts = Parts::read(alloc, rows)?;
-    let mut nodes = Nodes::new(alloc, limit);
-    let tops = parts.add_modules(alloc, context, selection, &mut nodes)?;
+    homes_are_of_modules();
+    what_is_left_are_nodes();
+    given_nodes_stand_below_their_target();
+    no_item_is_left_twice();
+    statements_have_their_rows();
+    let homes = Homes::read(alloc, rows)?;
+    let builder = Builder {
+        alloc,
+        context: &*context,
+        homes: &homes,
+    };
+    let Numbered { nodes, top } = builder.numbered(limit)?;
+    let modules = modules(alloc, rows, &homes, selection)?;
+    let notes = notes(alloc, rows, context)?;
     let wrong = least_in_tree(alloc, &nodes)?;
-    with_refusal(Schema::numbered(alloc, nodes, &tops), wrong)
+    with_refusal(Schema::numbered(alloc, nodes, top, modules, notes), wrong)
 }
 
 // The lesser of both refusals, or a schema where there is none.

@@ -1,5 +1,5 @@
 //! The compilation of files.
-ghost use Rattle.std.specs.Prelude.{◌≡◌, [], IfOk, OnOk, Some, None, Err};
+ghost use Rattle.std.specs.Prelude.{◌≡◌, IfOk, OnOk, Some, None, Err};
 ghost use Rattle.yv_statement.specs.declared.refusal.Refusal.{Refusal};
 ghost use Rattle.yv_statement.specs.declared.refusal.Stop.TheVariants.{Fault, PatternBuild};
 ghost use Rattle.yv_statement.specs.Order.{IsLeast};
@@ -9,12 +9,12 @@ ghost use Rattle.yv_schema.specs.Refuses.{Refuses, RefusesBeforeTypes};
 ghost use Rattle.yv_nodes.specs.Rows.{whole};
 ghost use Rattle.yv_tables.specs.Sound.{IsSound};
 ghost use Rattle.yv_schema.specs.Module.{modules_of};
-ghost use Rattle.yv_schema.specs.Schema.{IsSchema};
+ghost use Rattle.yv_schema.specs.Schema.{AreNotes, IsSchema};
 
 use crate::conformance::first_bad_file;
 use crate::linked::of_linked;
 use std::alloc::Global;
-use yv_copies::laws::refusals_of_expansions_have_phases;
+use yv_final_tree::laws::refusals_of_expansions_have_phases;
 use yv_link::laws::links_have_phases;
 use yv_link::link;
 use yv_selection::Selection;
@@ -35,7 +35,7 @@ pub fn compile(
     ensures schema { IfOk result (λ s. IsSchema (choice_of selection.now) files.now (whole s)) }
     ensures limit { IfOk result (λ s. s.limit ≡ limit) }
     ensures modules { IfOk result (λ s. s.modules ≡ modules_of (choice_of selection.now) files.now) }
-    ensures augments { IfOk result (λ s. s.augments ≡ []) }
+    ensures augments { IfOk result (λ s. AreNotes (choice_of selection.now) files.now s.augments) }
     ensures sound { IfOk result IsSound }
     ensures clear { OnOk result (IsLeast (Refuses (choice_of selection.now) files.now limit) None) }
     ensures refusal { (r : Refusal) → result ≡ Err (Fault r)

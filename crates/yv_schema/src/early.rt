@@ -78,6 +78,7 @@ fn is_taken(keyword: Keyword, argument: Option<&str>) -> bool
             | Keyword::Grouping
             | Keyword::Uses
             | Keyword::Refine
+            | Keyword::Augment
             | Keyword::Typedef
             | Keyword::Units
             | Keyword::Range

@@ -1,22 +1,26 @@
 //! Laws of the definitions alone. These functions do nothing: the contract of each is the law.
-ghost use Rattle.std.specs.Prelude.{◌≡◌, ◌≤◌, ◌⊎◌, ℕ, None};
+ghost use Rattle.std.specs.Prelude.{◌≡◌, ◌≤◌, ◌⊎◌, ℕ, List, None};
 ghost use Rattle.yv_statement.specs.Codes.{phase_of};
 ghost use Rattle.yv_statement.specs.Order.{IsLeast};
 ghost use Rattle.yv_statement.specs.declared.refusal.Refusal.{Refusal};
 ghost use Rattle.yv_selection.specs.Choice.{Choice};
 ghost use Rattle.yv_rows.specs.Files.{Files};
 ghost use Rattle.yv_schema.specs.Refuses.{Refuses, RefusesBeforeTypes};
-ghost use Rattle.yv_schema.specs.Schema.{IsSchema, TakeUnits};
+ghost use Rattle.yv_schema.specs.Schema.{AreNotes, IsSchema, TakeUnits};
+ghost use Rattle.yv_nodes.specs.Rows.{Note};
 ghost use Rattle.yv_nodes.specs.Tree.{Forest, count};
 
-/// Where nothing is refused, files have one schema tree under a choice.
+/// Where nothing is refused, files have one schema tree under a choice, and their augments add to it in one way.
 pub fn files_have_one_schema()
-    ensures { (choice : Choice) (files : Files) (limit : ℕ) (a b : Forest) → IsLeast (Refuses choice files limit) None
+    ensures tree { (choice : Choice) (files : Files) (limit : ℕ) (a b : Forest) → IsLeast (Refuses choice files limit) None
         → IsSchema choice files a → IsSchema choice files b → a ≡ b }
+    ensures augments { (choice : Choice) (files : Files) (limit : ℕ) (a b : List Note) → IsLeast (Refuses choice files limit) None
+        → AreNotes choice files a → AreNotes choice files b → a ≡ b }
 {
     yv_features::laws::an_expression_has_one_truth();
     yv_definitions::laws::files_have_one_typing();
-    yv_copies::laws::files_have_one_expansion();
+    yv_final_tree::laws::files_have_one_final_tree();
+    yv_final_tree::laws::what_is_left_is_one();
 }
 
 /// A schema tree has no more nodes than the files of the implemented modules take units.
@@ -24,8 +28,7 @@ pub fn nodes_are_within_units()
     ensures { (choice : Choice) (files : Files) (tree : Forest) (units : ℕ) → IsSchema choice files tree
         → TakeUnits choice files units → count tree ≤ units }
 {
-    yv_expand::laws::items_are_within_units();
-    yv_pruning::laws::conditions_add_no_nodes();
+    yv_final_tree::laws::nodes_are_within_units();
 }
 
 /// What is refused only with types, or with the schema tree, comes in phase 9 or later.

@@ -6,11 +6,12 @@ mod compilation;
 mod conformance;
 mod context;
 mod early;
-mod file;
+mod homes;
 pub mod laws;
 mod linked;
-mod modules;
 mod name;
+mod notes;
+mod tree;
 
 pub use compilation::compile;
 pub use yv_nodes::{Node, NodeId};

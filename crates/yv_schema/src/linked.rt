@@ -1,5 +1,5 @@
 //! The compilation of linked files, phase by phase.
-ghost use Rattle.std.specs.Prelude.{◌≡◌, [], IfOk, OnOk, Some, None, Err};
+ghost use Rattle.std.specs.Prelude.{◌≡◌, IfOk, OnOk, Some, None, Err};
 ghost use Rattle.yv_statement.specs.declared.refusal.Refusal.{Refusal};
 ghost use Rattle.yv_statement.specs.declared.refusal.Stop.TheVariants.{Fault, PatternBuild};
 ghost use Rattle.yv_statement.specs.Order.{IsLeast};
@@ -10,16 +10,18 @@ ghost use Rattle.yv_nodes.specs.Rows.{whole};
 ghost use Rattle.yv_tables.specs.Sound.{IsSound};
 ghost use Rattle.yv_schema.specs.Refuses.{Refuses, RefusesBeforeTypes};
 ghost use Rattle.yv_schema.specs.Module.{modules_of};
-ghost use Rattle.yv_schema.specs.Schema.{IsSchema};
+ghost use Rattle.yv_schema.specs.Schema.{AreNotes, IsSchema};
 ghost use Rattle.yv_schema.specs.InnerPhases.{AreClear, AreExpanded, SomeClear, SomeExpanded};
 
 use crate::build::build;
 use crate::context::{Context, definitions_of};
 use std::alloc::Global;
-use yv_copies::laws::{files_have_one_expansion, refusals_of_expansions_have_phases};
-use yv_copies::{Copies, copies};
 use yv_definitions::laws::{files_have_one_typing, types_tell_typing};
 use yv_features::laws::an_expression_has_one_truth;
+use yv_final_tree::laws::{
+    files_have_one_final_tree, refusals_of_expansions_have_phases, what_is_left_is_one,
+};
+use yv_final_tree::{FinalTree, final_tree};
 use yv_link::Linked;
 use yv_link::laws::{linked_files_tell_what_holds, links_have_phases};
 use yv_names::{Names, names};
@@ -41,7 +43,8 @@ pub(crate) fn of_linked(
     ensures limit { IfOk result (λ s. s.limit ≡ limit) }
     ensures modules { (files : Files) → AreClear (choice_of selection.now) files linked.now
         → IfOk result (λ s. s.modules ≡ modules_of (choice_of selection.now) files) }
-    ensures augments { IfOk result (λ s. s.augments ≡ []) }
+    ensures augments { (files : Files) → AreClear (choice_of selection.now) files linked.now
+        → IfOk result (λ s. AreNotes (choice_of selection.now) files s.augments) }
     ensures sound { IfOk result IsSound }
     ensures clear { (files : Files) → AreClear (choice_of selection.now) files linked.now
         → OnOk result (IsLeast (Refuses (choice_of selection.now) files limit) None) }
@@ -58,11 +61,11 @@ pub(crate) fn of_linked(
         Ok(names) => names,
         Err(stop) => return Err(stop),
     };
-    let copies = match copies(alloc, linked, linked.rows(), &names, selection, limit) {
-        Ok(copies) => copies,
+    let tree = match final_tree(alloc, linked, linked.rows(), &names, selection, limit) {
+        Ok(tree) => tree,
         Err(stop) => return Err(stop),
     };
-    of_expanded(alloc, linked, &names, &copies, selection, limit)
+    of_expanded(alloc, linked, &names, &tree, selection, limit)
 }
 
 // The schema of expanded files in which nothing is refused so far, or the least refusal of their types and their nodes.
@@ -70,35 +73,37 @@ fn of_expanded(
     alloc: Global,
     linked: &Linked<'_, '_>,
     names: &Names,
-    copies: &Copies,
+    tree: &FinalTree,
     selection: &Selection,
     limit: u32,
 ) -> Result<Schema, Stop>
-    requires { SomeExpanded (choice_of selection.now) limit linked.now names.now copies.now }
-    ensures schema { (files : Files) → AreExpanded (choice_of selection.now) files limit linked.now names.now copies.now
+    requires { SomeExpanded (choice_of selection.now) limit linked.now names.now tree.now }
+    ensures schema { (files : Files) → AreExpanded (choice_of selection.now) files limit linked.now names.now tree.now
         → IfOk result (λ s. IsSchema (choice_of selection.now) files (whole s)) }
     ensures limit { IfOk result (λ s. s.limit ≡ limit) }
-    ensures modules { (files : Files) → AreExpanded (choice_of selection.now) files limit linked.now names.now copies.now
+    ensures modules { (files : Files) → AreExpanded (choice_of selection.now) files limit linked.now names.now tree.now
         → IfOk result (λ s. s.modules ≡ modules_of (choice_of selection.now) files) }
-    ensures augments { IfOk result (λ s. s.augments ≡ []) }
+    ensures augments { (files : Files) → AreExpanded (choice_of selection.now) files limit linked.now names.now tree.now
+        → IfOk result (λ s. AreNotes (choice_of selection.now) files s.augments) }
     ensures sound { IfOk result IsSound }
-    ensures clear { (files : Files) → AreExpanded (choice_of selection.now) files limit linked.now names.now copies.now
+    ensures clear { (files : Files) → AreExpanded (choice_of selection.now) files limit linked.now names.now tree.now
         → OnOk result (IsLeast (Refuses (choice_of selection.now) files limit) None) }
-    ensures refusal { (files : Files) → AreExpanded (choice_of selection.now) files limit linked.now names.now copies.now
+    ensures refusal { (files : Files) → AreExpanded (choice_of selection.now) files limit linked.now names.now tree.now
         → (r : Refusal) → result ≡ Err (Fault r) → IsLeast (Refuses (choice_of selection.now) files limit) (Some r) }
-    ensures built { (files : Files) → AreExpanded (choice_of selection.now) files limit linked.now names.now copies.now
+    ensures built { (files : Files) → AreExpanded (choice_of selection.now) files limit linked.now names.now tree.now
         → result ≡ Err PatternBuild → HasTypePattern files }
 {
     linked_files_tell_what_holds();
     an_expression_has_one_truth();
     types_tell_typing();
     files_have_one_typing();
-    files_have_one_expansion();
+    files_have_one_final_tree();
+    what_is_left_is_one();
     let types = match types(alloc, linked, names) {
         Ok(types) => types,
         Err(stop) => return Err(stop),
     };
-    let definitions = definitions_of(alloc, linked.rows(), &types, copies)?;
-    let context = Context::new(&definitions, copies);
+    let definitions = definitions_of(alloc, linked.rows(), &types, tree)?;
+    let context = Context::new(&definitions, tree);
     build(alloc, linked.rows(), &context, selection, limit)
 }

@@ -40,6 +40,12 @@ returns-clause-schema c =
     let clear : AreClear (choice_of c.args.selection.now) c.args.files.now c.in-Ok.linked = record { few = omega arith; own = own; links = c.in-Ok.ensures.clear; are = c.in-Ok.ensures.linked } in
     c.of_linked.ensures.schema c.args.files.now clear
 
+pub returns-clause-augments : goal.returns-clause-augments
+returns-clause-augments c =
+    let own = rw c.in_default.is at c.first_bad_file.ensures in
+    let clear : AreClear (choice_of c.args.selection.now) c.args.files.now c.in-Ok.linked = record { few = omega arith; own = own; links = c.in-Ok.ensures.clear; are = c.in-Ok.ensures.linked } in
+    c.of_linked.ensures.augments c.args.files.now clear
+
 pub returns-clause-clear : goal.returns-clause-clear
 returns-clause-clear c =
     let own = rw c.in_default.is at c.first_bad_file.ensures in

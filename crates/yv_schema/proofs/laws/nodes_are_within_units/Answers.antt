@@ -1,5 +1,14 @@
-use Rattle.yv_schema.proofs.Within.{nodes_within}
+use Rattle.std.proofs.Common.{◌≡◌, ◌∙◌, [], ap, sym, arith, subst}
+use Rattle.yv_rows.specs.Files.{Files}
+use Rattle.yv_nodes.specs.Tree.{count}
+use Rattle.yv_schema.specs.Schema.{TakeUnits}
+use Rattle.yv_schema.proofs.Counting.{count_labelled}
 use Rattle.yv_schema.proofs.laws.nodes_are_within_units.Goals as goal
 
 pub returns : goal.returns
-returns c = λ choice files tree units is w. nodes_within choice files tree units c.conditions_add_no_nodes.ensures c.items_are_within_units.ensures is w
+returns c = λ choice files tree units is w. (
+    let b = is.basis in
+    let few = c.nodes_are_within_units.ensures choice b.files b.truth b.final b.nodes units is.is_basis.final is.is_basis.nodes
+    (subst (λ (fs : Files). TakeUnits choice fs units) (sym is.of_files) w) in
+    let same = ap count is.is ∙ count_labelled b [] b.nodes in
+    omega (arith, few, same))

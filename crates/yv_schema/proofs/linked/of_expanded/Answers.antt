@@ -6,11 +6,12 @@ use Rattle.yv_link.specs.Linked.{truth_in}
 use Rattle.yv_link.proofs.Phases.{err_again}
 use Rattle.yv_types.specs.Faults.{BadTypes}
 use Rattle.yv_definitions.specs.Kinds.{AreTyped, typing_of}
-use Rattle.yv_copies.specs.Copies.{AreCopies}
+use Rattle.yv_final_tree.specs.Kept.{AreKept}
 use Rattle.yv_nodes.specs.Rows.{whole}
 use Rattle.yv_schema.specs.Module.{Basis, schema_of}
+use Rattle.yv_schema.specs.Notes.{notes_of}
 use Rattle.yv_schema.specs.Truth.{IsTruth}
-use Rattle.yv_schema.specs.Schema.{IsBasis, IsSchema}
+use Rattle.yv_schema.specs.Schema.{AreNotes, IsBasis, IsSchema}
 use Rattle.yv_schema.specs.InnerContext.{Tells, TellsOf}
 use Rattle.yv_schema.proofs.Phases.{least_last, least_typed, names_of}
 use Rattle.yv_schema.proofs.linked.of_expanded.Goals as goal
@@ -47,15 +48,16 @@ build-requires-clause-basis c =
     let clear = given.clear in
     let truth = truth_in c.args.linked.now in
     let is : IsTruth files choice truth = c.linked_files_tell_what_holds.ensures files choice c.args.linked.now clear.are in
-    let k : AreCopies choice files truth c.args.copies.now = given.are_copies in
+    let k : AreKept choice files truth c.args.tree.now = given.are_kept in
     let are : AreTyped files choice truth (typing_of c.in-Ok.types) =
     c.types_tell_typing.ensures files choice truth c.in-Ok.types (c.in-Ok.ensures.made files choice clear.are given.are_names) in
-    let b : Basis = record { files = files; truth = truth; typing = typing_of c.in-Ok.types; trees = k.trees } in
-    let is_basis : IsBasis choice b = record { truth = is; typing = are; trees = k.expanded } in
+    let b : Basis = record { files = files; truth = truth; typing = typing_of c.in-Ok.types; final = k.final; nodes = k.nodes } in
+    let is_basis : IsBasis choice b = record { truth = is; typing = are; final = k.is_final; nodes = k.are_left } in
     let read = c.rows.ensures files choice clear.are in
-    let tells : Tells b c.new-context.result = c.new-context.ensures b choice (c.in_ok-definitions.ensures.files ∙ read) c.in_ok-definitions.ensures.typing k refl in
+    let said = c.new-context.ensures b choice (c.in_ok-definitions.ensures.files ∙ read) c.in_ok-definitions.ensures.typing k refl refl in
+    let tells : Tells b c.new-context.result = said.0 in
     let built = c.rows-2.ensures files choice clear.are in
-    let told : TellsOf files c.new-context.result = record { basis = b; of_files = refl; tells = tells } in
+    let told : TellsOf choice files c.new-context.result = record { basis = b; of_files = refl; tells = tells; chosen = said.1 } in
     rw built told
 
 pub returns-clause-schema : goal.returns-clause-schema
@@ -65,16 +67,36 @@ returns-clause-schema c = λ files given.
     let clear = given.clear in
     let truth = truth_in c.args.linked.now in
     let is : IsTruth files choice truth = c.linked_files_tell_what_holds.ensures files choice c.args.linked.now clear.are in
-    let k : AreCopies choice files truth c.args.copies.now = given.are_copies in
+    let k : AreKept choice files truth c.args.tree.now = given.are_kept in
     let are : AreTyped files choice truth (typing_of c.in-Ok.types) =
     c.types_tell_typing.ensures files choice truth c.in-Ok.types (c.in-Ok.ensures.made files choice clear.are given.are_names) in
-    let b : Basis = record { files = files; truth = truth; typing = typing_of c.in-Ok.types; trees = k.trees } in
-    let is_basis : IsBasis choice b = record { truth = is; typing = are; trees = k.expanded } in
+    let b : Basis = record { files = files; truth = truth; typing = typing_of c.in-Ok.types; final = k.final; nodes = k.nodes } in
+    let is_basis : IsBasis choice b = record { truth = is; typing = are; final = k.is_final; nodes = k.are_left } in
     let read = c.rows.ensures files choice clear.are in
-    let tells : Tells b c.new-context.result = c.new-context.ensures b choice (c.in_ok-definitions.ensures.files ∙ read) c.in_ok-definitions.ensures.typing k refl in
+    let said = c.new-context.ensures b choice (c.in_ok-definitions.ensures.files ∙ read) c.in_ok-definitions.ensures.typing k refl refl in
+    let tells : Tells b c.new-context.result = said.0 in
     let built = c.rows-2.ensures files choice clear.are in
     let found = rw built at c.build.ensures.schema in
     IfOk-weaker c.build.result _ _ (λ s e. let x : IsSchema choice files (whole s) = record { basis = b; of_files = refl; is_basis = is_basis; is = e } in x) (found b tells refl)
+
+pub returns-clause-augments : goal.returns-clause-augments
+returns-clause-augments c = λ files given.
+    let choice = choice_of c.args.selection.now in
+    let limit = c.args.limit in
+    let clear = given.clear in
+    let truth = truth_in c.args.linked.now in
+    let is : IsTruth files choice truth = c.linked_files_tell_what_holds.ensures files choice c.args.linked.now clear.are in
+    let k : AreKept choice files truth c.args.tree.now = given.are_kept in
+    let are : AreTyped files choice truth (typing_of c.in-Ok.types) =
+    c.types_tell_typing.ensures files choice truth c.in-Ok.types (c.in-Ok.ensures.made files choice clear.are given.are_names) in
+    let b : Basis = record { files = files; truth = truth; typing = typing_of c.in-Ok.types; final = k.final; nodes = k.nodes } in
+    let is_basis : IsBasis choice b = record { truth = is; typing = are; final = k.is_final; nodes = k.are_left } in
+    let read = c.rows.ensures files choice clear.are in
+    let said = c.new-context.ensures b choice (c.in_ok-definitions.ensures.files ∙ read) c.in_ok-definitions.ensures.typing k refl refl in
+    let tells : Tells b c.new-context.result = said.0 in
+    let built = c.rows-2.ensures files choice clear.are in
+    let found = rw built at c.build.ensures.augments in
+    IfOk-weaker c.build.result _ _ (λ s e. let x : AreNotes choice files s.augments = record { basis = b; of_files = refl; is_basis = is_basis; are = e } in x) (found b tells refl)
 
 pub returns-clause-clear : goal.returns-clause-clear
 returns-clause-clear c = λ files given.
@@ -83,19 +105,20 @@ returns-clause-clear c = λ files given.
     let clear = given.clear in
     let truth = truth_in c.args.linked.now in
     let is : IsTruth files choice truth = c.linked_files_tell_what_holds.ensures files choice c.args.linked.now clear.are in
-    let k : AreCopies choice files truth c.args.copies.now = given.are_copies in
+    let k : AreKept choice files truth c.args.tree.now = given.are_kept in
     let are : AreTyped files choice truth (typing_of c.in-Ok.types) =
     c.types_tell_typing.ensures files choice truth c.in-Ok.types (c.in-Ok.ensures.made files choice clear.are given.are_names) in
-    let b : Basis = record { files = files; truth = truth; typing = typing_of c.in-Ok.types; trees = k.trees } in
-    let is_basis : IsBasis choice b = record { truth = is; typing = are; trees = k.expanded } in
+    let b : Basis = record { files = files; truth = truth; typing = typing_of c.in-Ok.types; final = k.final; nodes = k.nodes } in
+    let is_basis : IsBasis choice b = record { truth = is; typing = are; final = k.is_final; nodes = k.are_left } in
     let read = c.rows.ensures files choice clear.are in
-    let tells : Tells b c.new-context.result = c.new-context.ensures b choice (c.in_ok-definitions.ensures.files ∙ read) c.in_ok-definitions.ensures.typing k refl in
+    let said = c.new-context.ensures b choice (c.in_ok-definitions.ensures.files ∙ read) c.in_ok-definitions.ensures.typing k refl refl in
+    let tells : Tells b c.new-context.result = said.0 in
     let built = c.rows-2.ensures files choice clear.are in
-    let schema : IsSchema choice files (schema_of choice b) = record { basis = b; of_files = refl; is_basis = is_basis; is = refl } in
+    let schema : IsSchema choice files (schema_of b) = record { basis = b; of_files = refl; is_basis = is_basis; is = refl } in
     let typed : IsLeast (BadTypes files truth) None = c.in-Ok.ensures.clear files choice clear.are given.are_names in
     let found = rw built at c.build.ensures.clear in
     on_ok_weaker c.build.result
-    (λ h. least_last choice files limit c.an_expression_has_one_truth.ensures given.before c.files_have_one_typing.ensures c.files_have_one_expansion.ensures truth None _ is schema typed h) (found b tells refl)
+    (λ h. least_last choice files limit c.an_expression_has_one_truth.ensures given.before c.files_have_one_typing.ensures c.files_have_one_final_tree.ensures c.what_is_left_is_one.ensures truth None _ is schema typed h) (found b tells refl)
 
 pub returns-clause-refusal : goal.returns-clause-refusal
 returns-clause-refusal c = λ files given r e.
@@ -104,18 +127,19 @@ returns-clause-refusal c = λ files given r e.
     let clear = given.clear in
     let truth = truth_in c.args.linked.now in
     let is : IsTruth files choice truth = c.linked_files_tell_what_holds.ensures files choice c.args.linked.now clear.are in
-    let k : AreCopies choice files truth c.args.copies.now = given.are_copies in
+    let k : AreKept choice files truth c.args.tree.now = given.are_kept in
     let are : AreTyped files choice truth (typing_of c.in-Ok.types) =
     c.types_tell_typing.ensures files choice truth c.in-Ok.types (c.in-Ok.ensures.made files choice clear.are given.are_names) in
-    let b : Basis = record { files = files; truth = truth; typing = typing_of c.in-Ok.types; trees = k.trees } in
-    let is_basis : IsBasis choice b = record { truth = is; typing = are; trees = k.expanded } in
+    let b : Basis = record { files = files; truth = truth; typing = typing_of c.in-Ok.types; final = k.final; nodes = k.nodes } in
+    let is_basis : IsBasis choice b = record { truth = is; typing = are; final = k.is_final; nodes = k.are_left } in
     let read = c.rows.ensures files choice clear.are in
-    let tells : Tells b c.new-context.result = c.new-context.ensures b choice (c.in_ok-definitions.ensures.files ∙ read) c.in_ok-definitions.ensures.typing k refl in
+    let said = c.new-context.ensures b choice (c.in_ok-definitions.ensures.files ∙ read) c.in_ok-definitions.ensures.typing k refl refl in
+    let tells : Tells b c.new-context.result = said.0 in
     let built = c.rows-2.ensures files choice clear.are in
-    let schema : IsSchema choice files (schema_of choice b) = record { basis = b; of_files = refl; is_basis = is_basis; is = refl } in
+    let schema : IsSchema choice files (schema_of b) = record { basis = b; of_files = refl; is_basis = is_basis; is = refl } in
     let typed : IsLeast (BadTypes files truth) None = c.in-Ok.ensures.clear files choice clear.are given.are_names in
     let found = rw built at c.build.ensures.refusal in
-    least_last choice files limit c.an_expression_has_one_truth.ensures given.before c.files_have_one_typing.ensures c.files_have_one_expansion.ensures truth (Some r) _ is schema typed (found b tells refl r e)
+    least_last choice files limit c.an_expression_has_one_truth.ensures given.before c.files_have_one_typing.ensures c.files_have_one_final_tree.ensures c.what_is_left_is_one.ensures truth (Some r) _ is schema typed (found b tells refl r e)
 
 pub returns-clause-modules : goal.returns-clause-modules
 returns-clause-modules c = λ files given.

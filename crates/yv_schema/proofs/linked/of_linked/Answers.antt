@@ -16,8 +16,8 @@ returns-in-Err-clause-refusal c = λ files clear.
     let named = rw rows at c.in-Err.ensures.refusal in
     λ r e. least_first choice files limit phases r (least_named choice files limit phases r clear.own clear.links (named r (err_again _ _ e)))
 
-pub returns-in-Err-copies-clause-refusal : goal.returns-in-Err-copies-clause-refusal
-returns-in-Err-copies-clause-refusal c = λ files clear.
+pub returns-in-Err-final_tree-clause-refusal : goal.returns-in-Err-final_tree-clause-refusal
+returns-in-Err-final_tree-clause-refusal c = λ files clear.
     let choice = choice_of c.args.selection.now in
     let limit = c.args.limit in
     let phases : HavePhases = record { first = c.links_have_phases.ensures.first; last = c.links_have_phases.ensures.last; expansion = c.refusals_of_expansions_have_phases.ensures } in
@@ -25,7 +25,7 @@ returns-in-Err-copies-clause-refusal c = λ files clear.
     let named = rw rows at c.in-Ok.ensures.clear in
     let names = rw rows at c.in-Ok.ensures.made in
     let lent = c.rows-2.ensures files choice clear.are in
-    let expanded = rw lent at c.in-Err-copies.ensures.refusal in
+    let expanded = rw lent at c.in-Err-final_tree.ensures.refusal in
     λ r e. least_first choice files limit phases r (least_expanded choice files limit (Some r) clear.own clear.links named (expanded names r (err_again _ _ e)))
 
 pub of_expanded-requires : goal.of_expanded-requires
@@ -38,10 +38,10 @@ of_expanded-requires c =
     let named = rw rows at c.in-Ok.ensures.clear in
     let names = rw rows at c.in-Ok.ensures.made in
     let lent = c.rows-2.ensures files choice clear.are in
-    let cleared = rw lent at c.in-Ok-copies.ensures.clear in
-    let copied = rw lent at c.in-Ok-copies.ensures.copied in
+    let cleared = rw lent at c.in-Ok-final_tree.ensures.clear in
+    let copied = rw lent at c.in-Ok-final_tree.ensures.kept in
     let before : IsLeast (RefusesBeforeTypes choice files limit) None = least_expanded choice files limit None clear.own clear.links named (cleared names) in
-    let expanded : AreExpanded choice files limit c.args.linked.now c.in-Ok.names c.in-Ok-copies.copies = record { clear = clear; are_names = names; are_copies = copied names; before = before } in
+    let expanded : AreExpanded choice files limit c.args.linked.now c.in-Ok.names c.in-Ok-final_tree.tree = record { clear = clear; are_names = names; are_kept = copied names; before = before } in
     record { files = files; expanded = expanded }
 
 pub returns-clause-schema : goal.returns-clause-schema
@@ -52,11 +52,25 @@ returns-clause-schema c = λ files clear.
     let named = rw rows at c.in-Ok.ensures.clear in
     let names = rw rows at c.in-Ok.ensures.made in
     let lent = c.rows-2.ensures files choice clear.are in
-    let cleared = rw lent at c.in-Ok-copies.ensures.clear in
-    let copied = rw lent at c.in-Ok-copies.ensures.copied in
+    let cleared = rw lent at c.in-Ok-final_tree.ensures.clear in
+    let copied = rw lent at c.in-Ok-final_tree.ensures.kept in
     let before : IsLeast (RefusesBeforeTypes choice files limit) None = least_expanded choice files limit None clear.own clear.links named (cleared names) in
-    let expanded : AreExpanded choice files limit c.args.linked.now c.in-Ok.names c.in-Ok-copies.copies = record { clear = clear; are_names = names; are_copies = copied names; before = before } in
+    let expanded : AreExpanded choice files limit c.args.linked.now c.in-Ok.names c.in-Ok-final_tree.tree = record { clear = clear; are_names = names; are_kept = copied names; before = before } in
     c.of_expanded.ensures.schema files expanded
+
+pub returns-clause-augments : goal.returns-clause-augments
+returns-clause-augments c = λ files clear.
+    let choice = choice_of c.args.selection.now in
+    let limit = c.args.limit in
+    let rows = c.rows.ensures files choice clear.are in
+    let named = rw rows at c.in-Ok.ensures.clear in
+    let names = rw rows at c.in-Ok.ensures.made in
+    let lent = c.rows-2.ensures files choice clear.are in
+    let cleared = rw lent at c.in-Ok-final_tree.ensures.clear in
+    let copied = rw lent at c.in-Ok-final_tree.ensures.kept in
+    let before : IsLeast (RefusesBeforeTypes choice files limit) None = least_expanded choice files limit None clear.own clear.links named (cleared names) in
+    let expanded : AreExpanded choice files limit c.args.linked.now c.in-Ok.names c.in-Ok-final_tree.tree = record { clear = clear; are_names = names; are_kept = copied names; before = before } in
+    c.of_expanded.ensures.augments files expanded
 
 pub returns-clause-clear : goal.returns-clause-clear
 returns-clause-clear c = λ files clear.
@@ -66,10 +80,10 @@ returns-clause-clear c = λ files clear.
     let named = rw rows at c.in-Ok.ensures.clear in
     let names = rw rows at c.in-Ok.ensures.made in
     let lent = c.rows-2.ensures files choice clear.are in
-    let cleared = rw lent at c.in-Ok-copies.ensures.clear in
-    let copied = rw lent at c.in-Ok-copies.ensures.copied in
+    let cleared = rw lent at c.in-Ok-final_tree.ensures.clear in
+    let copied = rw lent at c.in-Ok-final_tree.ensures.kept in
     let before : IsLeast (RefusesBeforeTypes choice files limit) None = least_expanded choice files limit None clear.own clear.links named (cleared names) in
-    let expanded : AreExpanded choice files limit c.args.linked.now c.in-Ok.names c.in-Ok-copies.copies = record { clear = clear; are_names = names; are_copies = copied names; before = before } in
+    let expanded : AreExpanded choice files limit c.args.linked.now c.in-Ok.names c.in-Ok-final_tree.tree = record { clear = clear; are_names = names; are_kept = copied names; before = before } in
     c.of_expanded.ensures.clear files expanded
 
 pub returns-clause-refusal : goal.returns-clause-refusal
@@ -80,10 +94,10 @@ returns-clause-refusal c = λ files clear.
     let named = rw rows at c.in-Ok.ensures.clear in
     let names = rw rows at c.in-Ok.ensures.made in
     let lent = c.rows-2.ensures files choice clear.are in
-    let cleared = rw lent at c.in-Ok-copies.ensures.clear in
-    let copied = rw lent at c.in-Ok-copies.ensures.copied in
+    let cleared = rw lent at c.in-Ok-final_tree.ensures.clear in
+    let copied = rw lent at c.in-Ok-final_tree.ensures.kept in
     let before : IsLeast (RefusesBeforeTypes choice files limit) None = least_expanded choice files limit None clear.own clear.links named (cleared names) in
-    let expanded : AreExpanded choice files limit c.args.linked.now c.in-Ok.names c.in-Ok-copies.copies = record { clear = clear; are_names = names; are_copies = copied names; before = before } in
+    let expanded : AreExpanded choice files limit c.args.linked.now c.in-Ok.names c.in-Ok-final_tree.tree = record { clear = clear; are_names = names; are_kept = copied names; before = before } in
     c.of_expanded.ensures.refusal files expanded
 
 pub returns-clause-built : goal.returns-clause-built
@@ -94,10 +108,10 @@ returns-clause-built c = λ files clear.
     let named = rw rows at c.in-Ok.ensures.clear in
     let names = rw rows at c.in-Ok.ensures.made in
     let lent = c.rows-2.ensures files choice clear.are in
-    let cleared = rw lent at c.in-Ok-copies.ensures.clear in
-    let copied = rw lent at c.in-Ok-copies.ensures.copied in
+    let cleared = rw lent at c.in-Ok-final_tree.ensures.clear in
+    let copied = rw lent at c.in-Ok-final_tree.ensures.kept in
     let before : IsLeast (RefusesBeforeTypes choice files limit) None = least_expanded choice files limit None clear.own clear.links named (cleared names) in
-    let expanded : AreExpanded choice files limit c.args.linked.now c.in-Ok.names c.in-Ok-copies.copies = record { clear = clear; are_names = names; are_copies = copied names; before = before } in
+    let expanded : AreExpanded choice files limit c.args.linked.now c.in-Ok.names c.in-Ok-final_tree.tree = record { clear = clear; are_names = names; are_kept = copied names; before = before } in
     c.of_expanded.ensures.built files expanded
 
 pub returns-clause-before : goal.returns-clause-before
@@ -108,10 +122,10 @@ returns-clause-before c = λ files clear.
     let named = rw rows at c.in-Ok.ensures.clear in
     let names = rw rows at c.in-Ok.ensures.made in
     let lent = c.rows-2.ensures files choice clear.are in
-    let cleared = rw lent at c.in-Ok-copies.ensures.clear in
-    let copied = rw lent at c.in-Ok-copies.ensures.copied in
+    let cleared = rw lent at c.in-Ok-final_tree.ensures.clear in
+    let copied = rw lent at c.in-Ok-final_tree.ensures.kept in
     let before : IsLeast (RefusesBeforeTypes choice files limit) None = least_expanded choice files limit None clear.own clear.links named (cleared names) in
-    let expanded : AreExpanded choice files limit c.args.linked.now c.in-Ok.names c.in-Ok-copies.copies = record { clear = clear; are_names = names; are_copies = copied names; before = before } in
+    let expanded : AreExpanded choice files limit c.args.linked.now c.in-Ok.names c.in-Ok-final_tree.tree = record { clear = clear; are_names = names; are_kept = copied names; before = before } in
     λ e. before
 
 pub returns-clause-modules : goal.returns-clause-modules
@@ -122,8 +136,8 @@ returns-clause-modules c = λ files clear.
     let named = rw rows at c.in-Ok.ensures.clear in
     let names = rw rows at c.in-Ok.ensures.made in
     let lent = c.rows-2.ensures files choice clear.are in
-    let cleared = rw lent at c.in-Ok-copies.ensures.clear in
-    let copied = rw lent at c.in-Ok-copies.ensures.copied in
+    let cleared = rw lent at c.in-Ok-final_tree.ensures.clear in
+    let copied = rw lent at c.in-Ok-final_tree.ensures.kept in
     let before : IsLeast (RefusesBeforeTypes choice files limit) None = least_expanded choice files limit None clear.own clear.links named (cleared names) in
-    let expanded : AreExpanded choice files limit c.args.linked.now c.in-Ok.names c.in-Ok-copies.copies = record { clear = clear; are_names = names; are_copies = copied names; before = before } in
+    let expanded : AreExpanded choice files limit c.args.linked.now c.in-Ok.names c.in-Ok-final_tree.tree = record { clear = clear; are_names = names; are_kept = copied names; before = before } in
     c.of_expanded.ensures.modules files expanded

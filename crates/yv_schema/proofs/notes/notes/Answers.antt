@@ -1,0 +1,45 @@
+use Rattle.std.proofs.Common.{◌≡◌, ◌<◌, ◌≤◌, ◌++◌, ◌∷◌, ◌∙◌, sym, ap, List, ℕ, [], length, get_or, map, refl, append-nil, subst, Option}
+use Rattle.std.specs.List.{slice_get}
+use Rattle.std.specs.Option.{option_and_then, option_to_list}
+use Rattle.yv_rows.specs.Files.{Files}
+use Rattle.yv_rows.specs.Listed.{rows_of}
+use Rattle.yv_rows.specs.Lent.{rows_in}
+use Rattle.yv_expansion.specs.Tree.{Node}
+use Rattle.yv_nodes.specs.Rows.{Note}
+use Rattle.yv_schema.specs.InnerRowing.{numbers_at}
+use Rattle.yv_schema.specs.Notes.{added_by, note_by, notes_of, target_of}
+use Rattle.yv_schema.proofs.Noting.{family_is, givers_kept, note_is, notes_end, notes_more}
+use Rattle.yv_schema.proofs.Telling.{follows, kept}
+use Rattle.yv_schema.proofs.notes.notes.Goals as goal
+use Rattle.yv_schema.proofs.notes.notes.Goals.{in-Some+in_ok-push, in_default}
+
+pub loop-place-preserved : goal.loop-place-preserved
+loop-place-preserved c = λ b tells files.
+    let so = follows b c.args.context.now tells c.given_nodes_stand_below_their_target.ensures c.no_item_is_left_twice.ensures in
+    let k = kept b c.args.context.now tells in
+    let i = c.loop-place.place in
+    let augments : c.augments-augments.result.now ≡ b.final.augments = c.augments-augments.ensures ∙ k.augments_are in
+    let lt : i < length b.final.augments = subst (λ (ns : List ℕ). i < length ns) augments c.loop-place-test.true in
+    let a = get_or b.final.augments i 0 in
+    let found = c.deref.ensures.value ∙ c.in_ok-givers.ensures ∙ givers_kept b so _ _ _ k in
+    let nodes = family_is b so c.deref.result.now (length c.augments-augments.result.now) i c.in_ok-added.added c.at-nodes.result.now found c.in_ok-added.ensures c.loop-place-test.true c.at-nodes.ensures in
+    let one = note_is b so (rows_in c.args.rows.now) c.augments-augments.result.now i _ _ c.target_of-target.result c.at-nodes.result.now (option_to_list c.in_ok-note.field-0) (ap rows_of files) augments c.loop-place-test.true
+    k.left_are c.target_of-target.ensures nodes (c.in_ok-note.ensures.note b files) in
+    elim c.match-branch-4.branch [
+      | in-Some+in_ok-push w ↦
+          let more = notes_more b so b.final.augments i a c.loop-place.notes.items w.push.new.self.items (w.in-Some.note ∷ []) (notes_of b) lt refl w.in_ok-push.ensures.items
+          (sym (ap (λ (o : Option Note). option_to_list o) w.in-Some.is) ∙ one) (c.loop-place.invariant b tells files) in
+          (rw w.notes-is more)
+      | in_default w ↦
+          let more = notes_more b so b.final.augments i a c.loop-place.notes.items c.loop-place.notes.items [] (notes_of b) lt refl (sym (append-nil c.loop-place.notes.items))
+          (sym (ap (λ (o : Option Note). option_to_list o) w.in_default.is) ∙ one) (c.loop-place.invariant b tells files) in
+          (rw w.notes-is more)
+    ]
+
+pub returns-clause-notes : goal.returns-clause-notes
+returns-clause-notes c = λ b tells files.
+    let so = follows b c.args.context.now tells c.given_nodes_stand_below_their_target.ensures c.no_item_is_left_twice.ensures in
+    let k = kept b c.args.context.now tells in
+    let augments : c.augments-augments.result.now ≡ b.final.augments = c.augments-augments.ensures ∙ k.augments_are in
+    notes_end b so b.final.augments c.loop-place.place c.loop-place.notes.items (notes_of b)
+    (subst (λ (ns : List ℕ). length ns ≤ c.loop-place.place) augments c.loop-place-test.false) (c.loop-place.invariant b tells files)

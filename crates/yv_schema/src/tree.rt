@@ -1,0 +1,167 @@
+//! The nodes of a schema.
+ghost use Rattle.std.specs.Prelude.{◌≡◌, [], ◌∷◌, ◌++◌, List, IfOk, IfErr, OnOk, slice_index_or};
+ghost use Rattle.std.specs.Rc.{rc_str_bytes};
+ghost use Rattle.yv_statement.specs.declared.refusal.Stop.TheVariants.{NoMemory};
+ghost use Rattle.yv_children.specs.Families.{lists_of};
+ghost use Rattle.yv_nodes.specs.Numbers.{numbers_from, rows_from};
+ghost use Rattle.yv_nodes.specs.Tree.{Label};
+ghost use Rattle.yv_above.specs.Above.{seen_of};
+ghost use Rattle.yv_schema.specs.Module.{Basis, label_at, schema_of};
+ghost use Rattle.yv_schema.specs.InnerContext.{Tells};
+ghost use Rattle.yv_schema.specs.InnerHomes.{AreHomes};
+ghost use Rattle.yv_schema.specs.InnerRowing.{AreSeen, line_at, number_at, numbers_at, parent_of, row_of, rows_for};
+
+use crate::context::Context;
+use crate::homes::Homes;
+use std::alloc::{AllocError, Global};
+use yv_above::Above;
+use yv_children::families_of;
+use yv_expansion::Node as LeftNode;
+use yv_nodes::{Node, NodeId, Nodes};
+use yv_statement::Stop;
+use yv_tables::Schema;
+
+/// The nodes of a final tree, numbered, and the numbers of those at the top.
+#[derive(Drop)]
+pub(crate) struct Numbered {
+    pub(crate) nodes: Nodes,
+    pub(crate) top: Vec<NodeId>,
+}
+
+/// What nodes are built of.
+#[derive(Clone, Copy)]
+pub(crate) struct Builder<'c, 'a, 'b> {
+    pub(crate) alloc: Global,
+    pub(crate) context: &'c Context<'c, 'a, 'b>,
+    pub(crate) homes: &'c Homes,
+}
+
+impl Builder<'_, '_, '_> {
+    /// The nodes that are left, each before those below it: as many as that is, and no more than the limit.
+    pub(crate) fn numbered(&self, limit: u32) -> Result<Numbered, Stop>
+        ensures rows { (b : Basis) → Tells b self.now.context.now → AreHomes b.files self.now.homes.now
+            → IfOk result (λ n. n.nodes.rows ≡ rows_from 0 (schema_of b)) }
+        ensures top { (b : Basis) → Tells b self.now.context.now → AreHomes b.files self.now.homes.now
+            → IfOk result (λ n. n.top.items ≡ numbers_from 0 (schema_of b)) }
+        ensures limit { IfOk result (λ n. n.nodes.limit ≡ limit) }
+        ensures memory { IfErr result (λ stop. stop ≡ NoMemory) }
+    {
+        let left = self.context.left();
+        let families = families_of(self.alloc, left)?;
+        let mut nodes = Nodes::new(self.alloc, limit);
+        self.add_nodes(left, &families.below, &mut nodes)?;
+        let top = numbers_at(self.alloc, &families.top)?;
+        Ok(Numbered { nodes, top })
+    }
+
+    // Adds the nodes of items, below which stand those in these places.
+    fn add_nodes(
+        &self,
+        items: &[LeftNode],
+        below: &[Vec<usize>],
+        nodes: &mut Nodes,
+    ) -> Result<(), Stop>
+        ensures rows { (b : Basis) → Tells b self.now.context.now → AreHomes b.files self.now.homes.now → OnOk result (nodes.new.rows
+            ≡ nodes.old.rows ++ rows_for b (lists_of below.now) [] 0 items.now) }
+        ensures limit { nodes.new.limit ≡ nodes.old.limit }
+        ensures memory { IfErr result (λ stop. stop ≡ NoMemory) }
+    {
+        let top = Above::top(self.alloc)?;
+        let mut aboves = Vec::new(self.alloc);
+        for (place, item) in items.iter().enumerate() {
+            let above = above_at(&top, &aboves, item.parent);
+            let parent = parent_of(item.parent)?;
+            let children = numbers_at(self.alloc, places_at(below, place))?;
+            let made = self.node(item, above, parent, children)?;
+            aboves.push(made.above_others)?;
+            nodes.push(made.node)?;
+        }
+        Ok(())
+    }
+
+    // The node of an item below these, with this parent and these children.
+    fn node(
+        &self,
+        item: &LeftNode,
+        above: &Above,
+        parent: NodeId,
+        children: Vec<NodeId>,
+    ) -> Result<Made, AllocError>
+        ensures node { (b : Basis) (ls : List Label) → Tells b self.now.context.now → AreHomes b.files self.now.homes.now
+            → above.now ≡ seen_of ls → IfOk result (λ made. made.node ≡ row_of b ls item.now parent children.items) }
+        ensures above { (b : Basis) (ls : List Label) → Tells b self.now.context.now → AreHomes b.files self.now.homes.now
+            → above.now ≡ seen_of ls → IfOk result (λ made. made.above_others ≡ seen_of (label_at b ls item.now.origin ∷ ls)) }
+    {
+        let definition = self.context.definition(item.origin)?;
+        let home = self.context.home(item.origin);
+        let name = self.homes.name(home)?;
+        let standing = above.standing(&definition, home)?;
+        let above_others = above.below(&definition, home, standing)?;
+        Ok(Made {
+            node: Node::new(definition, home, name, standing, parent, children),
+            above_others,
+        })
+    }
+}
+
+// What an item gives: its node, and what this and the nodes above it make of those below.
+#[derive(Drop)]
+struct Made {
+    node: Node,
+    above_others: Above,
+}
+
+// What the nodes above an item make of it, by the place of the item above it; none are above one at the top.
+fn above_at<'k>(top: &'k Above, aboves: &'k [Above], parent: Option<usize>) -> &'k Above
+    ensures { (lines : List (List Label)) → top.now ≡ seen_of [] → AreSeen lines aboves.now
+        → result.now ≡ seen_of (line_at lines parent) }
+{
+    match parent {
+        Some(place) => aboves.get(place).unwrap_or(top),
+        None => top,
+    }
+}
+
+// The places of the nodes below one.
+fn places_at(below: &[Vec<usize>], place: usize) -> &[usize]
+    ensures { result.now ≡ slice_index_or (lists_of below.now) place [] }
+{
+    match below.get(place) {
+        Some(places) => places,
+        None => &[],
+    }
+}
+
+/// The number of the node at a place: no memory, where it has more than 32 bits.
+pub(crate) fn number_at(place: usize) -> Result<NodeId, Stop>
+    ensures number { IfOk result (λ id. id ≡ number_at place) }
+    ensures memory { IfErr result (λ stop. stop ≡ NoMemory) }
+{
+    if place > u32::MAX as usize {
+        return Err(Stop::NoMemory);
+    }
+    Ok(NodeId(place as u32))
+}
+
+// The number of the node above one: the root's at the top.
+fn parent_of(place: Option<usize>) -> Result<NodeId, Stop>
+    ensures number { IfOk result (λ id. id ≡ parent_of place) }
+    ensures memory { IfErr result (λ stop. stop ≡ NoMemory) }
+{
+    match place {
+        Some(place) => number_at(place),
+        None => Ok(Schema::ROOT),
+    }
+}
+
+/// The numbers of the nodes at these places.
+pub(crate) fn numbers_at(alloc: Global, places: &[usize]) -> Result<Vec<NodeId>, Stop>
+    ensures numbers { IfOk result (λ numbers. numbers.items ≡ numbers_at places.now) }
+    ensures memory { IfErr result (λ stop. stop ≡ NoMemory) }
+{
+    let mut numbers = Vec::new(alloc);
+    for place in places {
+        numbers.push(number_at(*place)?)?;
+    }
+    Ok(numbers)
+}
