@@ -1,5 +1,5 @@
 -- What is left of a tree: each item once, and no uses.
-use Rattle.std.proofs.Common.{inl, inr, ◌≡◌, ℕ, zero, suc, ◌+◌, ◌<◌, ◌&&◌, ◌⊎◌, not, Bool, true, false, if◌then◌else◌, List, [], ◌∷◌, ◌++◌, map, length, Option, Some, None, refl, sym, ap, ap₂, subst, ◌∙◌, arith}
+use Rattle.std.proofs.Common.{inl, inr, ◌≡◌, ℕ, zero, suc, ◌+◌, ◌&&◌, ◌⊎◌, not, Bool, true, false, if◌then◌else◌, List, [], ◌∷◌, ◌++◌, map, length, Option, Some, None, refl, sym, ap, ap₂, subst, ◌∙◌, arith}
 use Rattle.std.specs.List.{slice_get}
 use Rattle.std.specs.Option.{option_map}
 use Rattle.std.proofs.lemmas.Bool.{false≢true}
@@ -35,9 +35,10 @@ among_second n xs ys (k, at) = (length xs + k, in_second xs ys (length xs + k) k
 
 both_once : (xs ys : List ℕ) → AreOnce xs → AreOnce ys → ((n : ℕ) → IsIn n xs → IsIn n ys → ⊥) → AreOnce (xs ++ ys)
 both_once [] ys p q apart = q
-both_once (x ∷ xs) ys p q apart =
-    ((λ there. elim (either x xs ys there) [ inl h ↦ p.0 h | inr h ↦ apart x (0, refl) h ]),
-    both_once xs ys p.1 q (λ n a b. apart n (suc a.0, a.1) b))
+both_once (x ∷ xs) ys p q apart = (
+  (λ there. elim (either x xs ys there) [ inl h ↦ p.0 h | inr h ↦ apart x (0, refl) h ]),
+  both_once xs ys p.1 q (λ n a b. apart n (suc a.0, a.1) b),
+)
 
 first_once : (xs ys : List ℕ) → AreOnce (xs ++ ys) → AreOnce xs
 first_once [] ys p = tt
@@ -61,9 +62,10 @@ one_place (x ∷ xs) p (suc i) (suc k) n at at' = ap suc (one_place xs p.1 i k n
 
 by_place : (xs : List ℕ) → ((i k n : ℕ) → slice_get xs i ≡ Some n → slice_get xs k ≡ Some n → i ≡ k) → AreOnce xs
 by_place [] one = tt
-by_place (x ∷ xs) one =
-    ((λ there. let bad : 0 ≡ suc there.0 = one 0 (suc there.0) x refl there.1 in absurd (omega (arith, bad))),
-    by_place xs (λ i k n at at'. let same : suc i ≡ suc k = one (suc i) (suc k) n at at' in omega (arith, same)))
+by_place (x ∷ xs) one = (
+  (λ there. let bad : 0 ≡ suc there.0 = one 0 (suc there.0) x refl there.1 in absurd (omega (arith, bad))),
+  by_place xs (λ i k n at at'. let same : suc i ≡ suc k = one (suc i) (suc k) n at at' in omega (arith, same)),
+)
 
 -- the numbers of a tree's items, in order
 abbrev numbers : Tree → List ℕ
@@ -115,13 +117,14 @@ left_once keep (item i below behind) p =
     by : (b : Bool) → AreOnce (numbers (left keep below)) → AreOnce (numbers (left keep behind))
         → AreOnce (numbers (if b then item i (left keep below) (left keep behind) else left keep behind))
     by false inner outer = outer
-    by true inner outer =
-        ((λ there. elim (either i (numbers (left keep below)) (numbers (left keep behind)) there) [
-          | inl h ↦ p.0 (among_first i (numbers below) (numbers behind) (left_in keep below i h).0)
-          | inr h ↦ p.0 (among_second i (numbers below) (numbers behind) (left_in keep behind i h).0)
-        ]),
-        both_once (numbers (left keep below)) (numbers (left keep behind)) inner outer
-        (λ n a b. apart_once (numbers below) (numbers behind) p.1 n (left_in keep below n a).0 (left_in keep behind n b).0))
+    by true inner outer = (
+      (λ there. elim (either i (numbers (left keep below)) (numbers (left keep behind)) there) [
+        | inl h ↦ p.0 (among_first i (numbers below) (numbers behind) (left_in keep below i h).0)
+        | inr h ↦ p.0 (among_second i (numbers below) (numbers behind) (left_in keep behind i h).0)
+      ]),
+      both_once (numbers (left keep below)) (numbers (left keep behind)) inner outer
+          (λ n a b. apart_once (numbers below) (numbers behind) p.1 n (left_in keep below n a).0 (left_in keep behind n b).0),
+    )
 
 abbrev RowsOnce : Tree → Type 0
 RowsOnce t = (i k : ℕ) (a b : Standing) → slice_get (listed None 1 t) i ≡ Some a → slice_get (listed None 1 t) k ≡ Some b → a.number ≡ b.number → i ≡ k

@@ -1,5 +1,5 @@
 -- What a schema is built of is in order.
-use Rattle.std.proofs.Common.{◌≡◌, ℕ, List, [], refl, sym, ap, ◌∙◌, subst, map, false, true, Some, None, All}
+use Rattle.std.proofs.Common.{◌≡◌, ℕ, List, [], sym, ap, ◌∙◌, subst, map, false, true, Some, None, All}
 use Rattle.std.specs.List.{slice_get}
 use Rattle.yv_statement.specs.Tree.{Tree}
 use Rattle.yv_selection.specs.Choice.{Choice}
@@ -18,14 +18,13 @@ use Rattle.yv_nodes.specs.Rows.{Module, Note, Row, blank_row}
 use Rattle.yv_tables.specs.Numbered.{AreFormed, AreModules, AreNumbered, made_of}
 use Rattle.yv_tables.specs.Sound.{IsNote}
 use Rattle.yv_schema.specs.InnerBuild.{AreNames}
-use Rattle.yv_schema.specs.InnerContext.{Tells, TellsOf}
+use Rattle.yv_schema.specs.InnerContext.{TellsOf}
 use Rattle.yv_schema.specs.Module.{Basis, modules_of, schema_of}
 use Rattle.yv_schema.specs.Notes.{notes_of}
 use Rattle.yv_schema.specs.declared.context.Context.{Context}
 use Rattle.yv_schema.proofs.Forming.{are_formed, are_modules}
 use Rattle.yv_schema.proofs.Noting.{are_notes}
 use Rattle.yv_schema.proofs.Parenting.{count_rows, row_parent}
-use Rattle.yv_schema.proofs.Plain.{Fine}
 use Rattle.yv_schema.proofs.Telling.{NoneTwice, StandBelow, final_is, follows, left_is}
 
 -- an item belongs to a module that is implemented

@@ -1,14 +1,13 @@
 -- The names of files, and the modules of those that are implemented.
-use Rattle.std.proofs.Common.{◌≡◌, ◌≢◌, ℕ, zero, suc, ◌+◌, ◌<◌, ◌≤◌, Bool, true, false, cond, List, [], ◌∷◌, ◌++◌, map, length, drop, get_or, Option, Some, None, refl, sym, ap, ◌∙◌, subst, arith, add-one, append_assoc, append-nil, Result, Ok, Err, IfOk, Global}
+use Rattle.std.proofs.Common.{◌≡◌, ℕ, suc, ◌+◌, ◌<◌, ◌≤◌, true, false, List, [], ◌∷◌, ◌++◌, map, length, drop, get_or, Option, Some, None, refl, sym, ap, ◌∙◌, add-one, append_assoc, append-nil, Result, Ok, Err, IfOk, Global}
 use Rattle.std.specs.List.{slice_get}
 use Rattle.std.specs.Option.{option_map, unwrap_or}
 use Rattle.std.specs.Rc.{rc_str_bytes}
 use Rattle.std.specs.Result.{MatchResult}
 use Rattle.std.specs.declared.rc.RcStr.{RcStr}
 use Rattle.std.proofs.Math.Seq.{drop-cons}
-use Rattle.std.proofs.lemmas.Bool.{false≢true}
 use Rattle.std.proofs.lemmas.List.{at_drop_all}
-use Rattle.std.proofs.lemmas.Option.{same_Some, slice_get-map, slice_get_past, slice_get_read}
+use Rattle.std.proofs.lemmas.Option.{slice_get-map, slice_get_past, slice_get_read}
 use Rattle.yv_statement.specs.Tree as statement
 use Rattle.yv_conform.specs.declared.keyword.Keyword.TheVariants as word
 use Rattle.yv_selection.specs.Choice.{Choice}
@@ -16,9 +15,7 @@ use Rattle.yv_rows.specs.Files.{Files, tree_name}
 use Rattle.yv_stated.specs.Statements.{argument_of, first_of}
 use Rattle.yv_nodes.specs.Rows.{Module}
 use Rattle.yv_final_tree.specs.Given.{is_given}
-use Rattle.yv_schema.specs.Module.{given_from, home_name, modules_of, name_by}
-use Rattle.yv_schema.specs.InnerBuild.{AreNames}
-use Rattle.yv_tables.specs.Numbered.{AreModules, HasNoColon, IsNamed}
+use Rattle.yv_schema.specs.Module.{given_from, home_name, name_by}
 
 -- what a call gives where it gives something
 pub matched : {A E : Type 0} (o : Result A E) (P Q : A → Type 0) (R : E → Type 0) → MatchResult o P R → ((x : A) → P x → Q x) → IfOk o Q

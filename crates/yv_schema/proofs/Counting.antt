@@ -1,5 +1,5 @@
 -- How many nodes a schema tree has.
-use Rattle.std.proofs.Common.{◌≡◌, ℕ, ◌+◌, List, ◌∷◌, refl, arith}
+use Rattle.std.proofs.Common.{◌≡◌, List, ◌∷◌, refl, arith}
 use Rattle.yv_expansion.specs.Tree as left
 use Rattle.yv_expansion.specs.Tree.{Nodes}
 use Rattle.yv_nodes.specs.Tree.{Label, count}

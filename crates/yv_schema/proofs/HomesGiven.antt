@@ -1,5 +1,5 @@
 -- The files of implemented modules belong to modules whose own files are there.
-use Rattle.std.proofs.Common.{◌≡◌, ◌≢◌, ℕ, zero, suc, ◌+◌, ◌<◌, ◌⊎◌, ◌&&◌, ◌||◌, ◌==◌, not, inl, inr, Bool, true, false, List, [], ◌∷◌, ◌++◌, map, length, if◌then◌else◌, Option, Some, None, refl, sym, ap, ◌∙◌, subst, arith, codes}
+use Rattle.std.proofs.Common.{◌≡◌, ◌≢◌, ℕ, zero, suc, ◌+◌, ◌⊎◌, ◌&&◌, ◌||◌, ◌==◌, not, inl, inr, Bool, true, false, List, [], ◌∷◌, ◌++◌, map, length, if◌then◌else◌, Option, Some, None, refl, sym, ap, ◌∙◌, subst, arith, codes}
 use Rattle.std.specs.List.{find, list_all, list_any, position_from, slice_get}
 use Rattle.std.specs.Option.{is_none, option_and_then, option_map, unwrap_or}
 use Rattle.std.specs.Str.{bytes_eq}
@@ -15,12 +15,12 @@ use Rattle.yv_conform.specs.Names.{keyword_in, keyword_of, names, same}
 use Rattle.yv_conform.specs.contracts.keyword.Keyword.{the_type}
 use Rattle.yv_conform.specs.declared.keyword.Keyword.{Keyword}
 use Rattle.yv_conform.specs.declared.keyword.Keyword.TheVariants as word
-use Rattle.yv_conform.specs.Faults.{Bad, has, keyword_at, number, own}
+use Rattle.yv_conform.specs.Faults.{Bad, has, keyword_at, number}
 use Rattle.yv_conform.specs.Faults.{is_module as is_module_word}
 use Rattle.yv_conform.specs.Table.{is_one}
 use Rattle.yv_conform.specs.Table.{rows_of as table_of}
 use Rattle.yv_link.specs.Links.{BadLinks}
-use Rattle.yv_modules.specs.Links.{is_link, is_missing, is_wrong, is_wrong_link, wrong_at}
+use Rattle.yv_modules.specs.Links.{is_link, is_wrong, is_wrong_link, wrong_at}
 use Rattle.yv_selection.specs.Choice.{Choice, is_implemented}
 use Rattle.yv_rows.specs.Files.{Brief, Briefs, Files, brief_of, first_name, has_word, home_at, home_in, is_module, module_name, named, tree_name}
 use Rattle.yv_rows.specs.Rows.{Row, is_extended, listed, name_in}

@@ -1,5 +1,5 @@
 -- The notes of the augments that add nodes.
-use Rattle.std.proofs.Common.{◌≡◌, ℕ, zero, suc, ◌+◌, ◌==◌, ◌<◌, ◌≤◌, Bool, true, false, cond, List, [], ◌∷◌, ◌++◌, length, get_or, drop, map, refl, sym, ap, ◌∙◌, subst, arith, add-one, append_assoc, append-nil, inl, inr, Option, Some, None}
+use Rattle.std.proofs.Common.{◌≡◌, ℕ, zero, suc, ◌+◌, ◌<◌, ◌≤◌, Bool, true, false, cond, List, [], ◌∷◌, ◌++◌, length, get_or, drop, map, refl, sym, ap, ◌∙◌, subst, arith, add-one, append_assoc, append-nil, inl, inr, Option, Some, None}
 use Rattle.std.specs.List.{slice_get, slice_index_or, All}
 use Rattle.std.specs.Option.{option_and_then}
 use Rattle.std.proofs.Math.Seq.{drop-cons}
@@ -17,7 +17,7 @@ use Rattle.yv_augmented.specs.declared.spot.Spot.{Spot}
 use Rattle.yv_final_tree.specs.Final.{spots_of}
 use Rattle.yv_final_tree.specs.Kept.{giver_at, targets_of}
 use Rattle.yv_nodes.specs.declared.node.NodeId.{NodeId}
-use Rattle.yv_nodes.specs.Rows.{Note, Rows, blank_row, is_root, rank, row_at}
+use Rattle.yv_nodes.specs.Rows.{Note, Rows, blank_row, is_root, rank}
 use Rattle.yv_tables.specs.Sound.{IsChild, IsNote}
 use Rattle.yv_schema.specs.InnerRowing.{number_at, parent_of}
 use Rattle.yv_schema.specs.InnerRowing as rowing

@@ -1,5 +1,5 @@
 -- Statements of files in which nothing is bad have the arguments that the tables want.
-use Rattle.std.proofs.Common.{◌≡◌, ◌≢◌, ℕ, zero, suc, ◌⊎◌, ◌&&◌, ◌==◌, inl, inr, Bool, true, false, List, [], ◌∷◌, ◌++◌, map, if◌then◌else◌, Option, Some, None, refl, sym, ap, ◌∙◌, subst, arith, codes, ◌||◌, not}
+use Rattle.std.proofs.Common.{◌≡◌, ◌≢◌, ℕ, zero, suc, ◌&&◌, ◌==◌, inl, inr, Bool, true, false, List, [], ◌∷◌, ◌++◌, map, if◌then◌else◌, Option, Some, None, refl, sym, ap, ◌∙◌, subst, arith, ◌||◌}
 use Rattle.std.specs.List.{list_any, list_all, slice_get}
 use Rattle.std.specs.Option.{unwrap_or, option_map}
 use Rattle.std.specs.Str.{bytes_eq}
@@ -15,7 +15,7 @@ use Rattle.yv_conform.specs.declared.keyword.Keyword.{Keyword}
 use Rattle.yv_conform.specs.declared.keyword.Keyword.TheVariants as word
 use Rattle.yv_conform.specs.declared.form.Form.TheVariants as form
 use Rattle.yv_conform.specs.Names.{keyword_in, keyword_of, names}
-use Rattle.yv_conform.specs.Argument.{ArgumentFits, argument_has}
+use Rattle.yv_conform.specs.Argument.{argument_has}
 use Rattle.yv_conform.specs.Faults.{Bad, Faulty, is_module, keyword_at, own, below}
 use Rattle.yv_conform.specs.Forms.{form_of}
 use Rattle.yv_conform.specs.Texts.{is_identifier, is_part, is_start}

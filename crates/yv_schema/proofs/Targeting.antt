@@ -1,10 +1,9 @@
 -- The nodes to which augments add.
-use Rattle.std.proofs.Common.{◌≡◌, ℕ, zero, suc, ◌+◌, ◌==◌, Bool, true, false, List, [], ◌∷◌, if◌then◌else◌, Option, Some, None, refl, sym, ap, ◌∙◌, subst, arith}
+use Rattle.std.proofs.Common.{◌≡◌, ℕ, zero, suc, ◌+◌, ◌==◌, Bool, true, false, List, [], ◌∷◌, if◌then◌else◌, Some, None, refl, ap, ◌∙◌, arith}
 use Rattle.std.specs.List.{position_from, slice_get, slice_index_or}
 use Rattle.std.specs.Option.{option_and_then}
 use Rattle.std.proofs.lemmas.Bool.Decides.{nat_tests}
 use Rattle.std.proofs.lemmas.Option.{same_Some}
-use Rattle.yv_rows.specs.Names.{first_where}
 use Rattle.yv_expansion.specs.Tree.{Node}
 use Rattle.yv_final_tree.specs.Final.{spots_of}
 use Rattle.yv_final_tree.specs.Kept.{giver_at, targets_of}

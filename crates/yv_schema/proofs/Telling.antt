@@ -1,5 +1,5 @@
 -- What a context tells of its basis.
-use Rattle.std.proofs.Common.{◌≡◌, ℕ, List, refl, sym, ap, ◌∙◌, subst, Some, None}
+use Rattle.std.proofs.Common.{◌≡◌, ℕ, ap, ◌∙◌, subst, Some, None}
 use Rattle.std.specs.List.{slice_get, slice_index_or}
 use Rattle.yv_selection.specs.Choice.{Choice}
 use Rattle.yv_rows.specs.Files.{Files}

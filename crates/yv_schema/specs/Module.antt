@@ -1,8 +1,8 @@
 -- The schema tree that the statements of files give (RFC 7950, sections 5.6.5, 7.5 to 7.17).
-use Rattle.std.specs.Prelude.{ℕ, ◌+◌, Bool, ◌&&◌, List, [], ◌∷◌, Option, Some, None, if◌then◌else◌, slice_get, slice_index_or}
+use Rattle.std.specs.Prelude.{ℕ, ◌+◌, List, [], ◌∷◌, Option, Some, None, if◌then◌else◌, slice_get, slice_index_or}
 use Rattle.yv_statement.specs.Tree as statement
-use Rattle.yv_selection.specs.Choice.{Choice, is_implemented}
-use Rattle.yv_rows.specs.Files.{Files, is_module, tree_name}
+use Rattle.yv_selection.specs.Choice.{Choice}
+use Rattle.yv_rows.specs.Files.{Files, tree_name}
 use Rattle.yv_expansion.specs.Tree.{Nodes}
 use Rattle.yv_expansion.specs.Tree as left
 use Rattle.yv_definitions.specs.Kinds.{Typing}

@@ -1,4 +1,4 @@
-use Rattle.std.proofs.Common.{◌≡◌, ◌∙◌, ap, sym, None, false}
+use Rattle.std.proofs.Common.{◌∙◌, ap, sym, None}
 use Rattle.std.specs.List.{slice_get}
 use Rattle.yv_expansion.specs.Tree as expansion
 use Rattle.yv_augmented.specs.Kinds.{is_uses}

@@ -1,4 +1,4 @@
-use Rattle.std.proofs.Common.{◌≡◌, sym, ap, ◌∙◌, subst, OnOk, Some, None}
+use Rattle.std.proofs.Common.{sym, subst, OnOk, None}
 use Rattle.std.specs.declared.option.Option.{Option}
 use Rattle.std.specs.declared.result.Result.{Result}
 use Rattle.yv_selection.specs.Choice.{choice_of}

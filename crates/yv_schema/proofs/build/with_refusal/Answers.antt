@@ -1,5 +1,4 @@
-use Rattle.std.proofs.Common.{◌≡◌, Err, Some, ap, ◌∙◌, subst}
-use Rattle.yv_statement.specs.declared.refusal.Stop.{Stop}
+use Rattle.std.proofs.Common.{◌≡◌, Err, Some, ap, ◌∙◌}
 use Rattle.yv_statement.specs.declared.refusal.Stop.TheVariants.{Fault, NoMemory}
 use Rattle.yv_schema.specs.InnerBuild.{of_both, of_tree}
 use Rattle.yv_schema.proofs.Built.{fault_in, stop_in}

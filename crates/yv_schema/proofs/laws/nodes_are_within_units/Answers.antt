@@ -1,4 +1,4 @@
-use Rattle.std.proofs.Common.{◌≡◌, ◌∙◌, [], ap, sym, arith, subst}
+use Rattle.std.proofs.Common.{◌∙◌, [], ap, sym, arith, subst}
 use Rattle.yv_rows.specs.Files.{Files}
 use Rattle.yv_nodes.specs.Tree.{count}
 use Rattle.yv_schema.specs.Schema.{TakeUnits}

@@ -9,7 +9,6 @@ use Rattle.yv_definitions.specs.Kinds.{AreTyped, typing_of}
 use Rattle.yv_final_tree.specs.Kept.{AreKept}
 use Rattle.yv_nodes.specs.Rows.{whole}
 use Rattle.yv_schema.specs.Module.{Basis, schema_of}
-use Rattle.yv_schema.specs.Notes.{notes_of}
 use Rattle.yv_schema.specs.Truth.{IsTruth}
 use Rattle.yv_schema.specs.Schema.{AreNotes, IsBasis, IsSchema}
 use Rattle.yv_schema.specs.InnerContext.{Tells, TellsOf}

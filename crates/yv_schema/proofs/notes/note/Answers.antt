@@ -1,4 +1,4 @@
-use Rattle.std.proofs.Common.{◌≡◌, ◌==◌, ◌∙◌, sym, ap, List, [], length, map, subst, true, false}
+use Rattle.std.proofs.Common.{◌≡◌, ◌==◌, ◌∙◌, sym, ap, List, [], length, map}
 use Rattle.std.proofs.lemmas.Bool.{false≢true}
 use Rattle.yv_names.proofs.Words.{row_read}
 use Rattle.yv_rows.specs.Files.{Files, brief_of, home_at}

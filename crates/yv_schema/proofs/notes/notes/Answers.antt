@@ -1,13 +1,9 @@
-use Rattle.std.proofs.Common.{◌≡◌, ◌<◌, ◌≤◌, ◌++◌, ◌∷◌, ◌∙◌, sym, ap, List, ℕ, [], length, get_or, map, refl, append-nil, subst, Option}
-use Rattle.std.specs.List.{slice_get}
-use Rattle.std.specs.Option.{option_and_then, option_to_list}
-use Rattle.yv_rows.specs.Files.{Files}
+use Rattle.std.proofs.Common.{◌≡◌, ◌<◌, ◌≤◌, ◌∷◌, ◌∙◌, sym, ap, List, ℕ, [], length, get_or, refl, append-nil, subst, Option}
+use Rattle.std.specs.Option.{option_to_list}
 use Rattle.yv_rows.specs.Listed.{rows_of}
 use Rattle.yv_rows.specs.Lent.{rows_in}
-use Rattle.yv_expansion.specs.Tree.{Node}
 use Rattle.yv_nodes.specs.Rows.{Note}
-use Rattle.yv_schema.specs.InnerRowing.{numbers_at}
-use Rattle.yv_schema.specs.Notes.{added_by, note_by, notes_of, target_of}
+use Rattle.yv_schema.specs.Notes.{notes_of}
 use Rattle.yv_schema.proofs.Noting.{family_is, givers_kept, note_is, notes_end, notes_more}
 use Rattle.yv_schema.proofs.Telling.{follows, kept}
 use Rattle.yv_schema.proofs.notes.notes.Goals as goal

@@ -1,5 +1,4 @@
-use Rattle.std.proofs.Common.{◌≡◌, ◌∙◌, sym, ap, subst, length, arith, List, Global}
-use Rattle.std.specs.declared.rc.RcStr.{RcStr}
+use Rattle.std.proofs.Common.{◌∙◌, sym}
 use Rattle.yv_schema.proofs.Called.{matched, named_here, named_past}
 use Rattle.yv_schema.proofs.homes.Homes.name.Goals as goal
 

@@ -1,4 +1,4 @@
-use Rattle.std.proofs.Common.{◌≡◌, List, [], ap, sym, ◌∙◌, ◌++◌}
+use Rattle.std.proofs.Common.{List, [], ap, ◌∙◌, ◌++◌}
 use Rattle.yv_nodes.specs.Rows.{Row}
 use Rattle.yv_children.specs.Families.{lists_of}
 use Rattle.yv_schema.specs.InnerRowing.{numbers_at, rows_for}
