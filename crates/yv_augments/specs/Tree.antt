@@ -6,8 +6,7 @@ use Rattle.yv_augments.specs.declared.row.Row.{Row}
 use Rattle.yv_augments.specs.Groups.{Groups, members_of}
 
 -- The items of a group in order, which is that of their numbers: what a block gives comes before what augments of uses give, inner
--- ones first, and this before what the augments of modules give, by file and statement. But what an earlier augment of a module adds to a
--- node that a later one gives comes before the node's own, and shouldn't.
+-- ones first. The order that nodes have in the schema is told once conditions are known, of those that are left (yv_siblings).
 pub record AreInOrder (groups : Groups) (g : ℕ) (items : List ℕ) : Type 0 where
   pub permutation : IsPermutation (members_of groups g) items
   pub sorted : IsSorted nat_cmp items

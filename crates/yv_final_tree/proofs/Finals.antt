@@ -13,6 +13,9 @@ use Rattle.yv_augments.specs.Tree.{IsTree, Tree, none, item, listed}
 use Rattle.yv_augments.specs.Turns.{State}
 use Rattle.yv_augments.specs.declared.row.Row.{Row as Standing}
 use Rattle.yv_augmented.specs.Grafted.{AreGrafted}
+use Rattle.yv_augmented.specs.Imposing.{is_given}
+use Rattle.yv_siblings.specs.Arranged.{arranged}
+use Rattle.yv_final_tree.proofs.Arranging.{count_arranged}
 use Rattle.yv_augmented.specs.Left.{is_left, left}
 use Rattle.yv_augmented.specs.Spots.{Whole, whole}
 use Rattle.yv_augmented.specs.declared.spot.Spot.{Spot}
@@ -21,7 +24,7 @@ use Rattle.yv_item_marks.specs.Conditions.{Truth}
 use Rattle.yv_final_tree.specs.Final.{Final, IsFinal, spots_of, whole_of}
 use Rattle.yv_final_tree.specs.Given.{marks_of, order_of}
 use Rattle.yv_final_tree.specs.Left.{AreLeft, nodes_of}
-use Rattle.yv_final_tree.proofs.Standing.{every_left, every_node, every_row, Stands}
+use Rattle.yv_final_tree.proofs.Standing.{every_arranged, every_left, every_node, every_row, Stands}
 
 pub slice_get_absent : {X : Type 0} (xs : List X) (i : ℕ) → slice_get xs i ≡ None → length xs ≤ i
 slice_get_absent [] i e = omega arith
@@ -91,8 +94,9 @@ module _ (choice : Choice) (files : Files) (truth : Truth) (f : Final) (is : IsF
   pub left_within : Once → Counted → (nodes : Nodes) → AreLeft truth files f nodes → count nodes ≤ length f.items
   left_within once counted nodes are =
       let kept : ℕ → Bool = is_left (spots_of files f) are.marks in
-      let e : count nodes ≡ count (nodes_of (left kept f.tree)) = ap count are.are in
-      omega (arith, e, count_left kept f.tree, count_listed None 1 f.tree, counted f.state.groups (length f.items) f.tree is.is_tree (stand_once once))
+      let given : ℕ → Bool = is_given (spots_of files f) f.augments in
+      let e : count nodes ≡ count (nodes_of (arranged given (left kept f.tree))) = ap count are.are in
+      omega (arith, e, count_arranged given (left kept f.tree), count_left kept f.tree, count_listed None 1 f.tree, counted f.state.groups (length f.items) f.tree is.is_tree (stand_once once))
 
   -- what is left stands as it does in the final tree
   pub left_stands : (P : Option ℕ → ℕ → Type 0) → ((k : ℕ) (row : Standing) → slice_get (listed None 1 f.tree) k ≡ Some row → P row.parent row.number)
@@ -100,8 +104,9 @@ module _ (choice : Choice) (files : Files) (truth : Truth) (f : Final) (is : IsF
       → Stands P None None 0 (expansion.listed None 0 nodes) x
   left_stands P all nodes are k x at =
       let kept : ℕ → Bool = is_left (spots_of files f) are.marks in
+      let given : ℕ → Bool = is_given (spots_of files f) f.augments in
       subst (λ (n : Nodes). Stands P None None 0 (expansion.listed None 0 n) x) (sym are.are)
-      (every_node P None None 0 (left kept f.tree) (every_left P kept None f.tree (every_row P None 1 f.tree all)) k x
+      (every_node P None None 0 (arranged given (left kept f.tree)) (every_arranged P given None (left kept f.tree) (every_left P kept None f.tree (every_row P None 1 f.tree all))) k x
       (ap (λ (n : Nodes). slice_get (expansion.listed None 0 n) k) (sym are.are) ∙ at))
 
   pub item_spot : (i : ℕ) → i < length f.items → (s : Spot) × (slice_get (spots_of files f) i ≡ Some s)

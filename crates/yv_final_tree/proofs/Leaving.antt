@@ -1,9 +1,9 @@
 -- What is left of a tree: each item once, and no uses.
-use Rattle.std.proofs.Common.{inl, inr, ◌≡◌, ℕ, zero, suc, ◌+◌, ◌&&◌, ◌⊎◌, not, Bool, true, false, if◌then◌else◌, List, [], ◌∷◌, ◌++◌, map, length, Option, Some, None, refl, sym, ap, ap₂, subst, ◌∙◌, arith}
+use Rattle.std.proofs.Common.{inl, inr, ◌≡◌, ℕ, zero, suc, ◌+◌, ◌&&◌, ◌⊎◌, not, Bool, true, false, if◌then◌else◌, List, [], ◌∷◌, ◌++◌, map, length, Some, None, refl, sym, ap, subst, ◌∙◌, arith}
 use Rattle.std.specs.List.{slice_get}
 use Rattle.std.specs.Option.{option_map}
 use Rattle.std.proofs.lemmas.Bool.{false≢true}
-use Rattle.std.proofs.lemmas.List.{length-append, map-append}
+use Rattle.std.proofs.lemmas.List.{length-append}
 use Rattle.std.proofs.lemmas.Option.{same_Some, slice_get-map}
 use Rattle.yv_expansion.specs.Tree as expansion
 use Rattle.yv_expansion.specs.Tree.{Item, Node, Nodes, count}
@@ -14,77 +14,10 @@ use Rattle.yv_augmented.specs.Left.{is_left, is_marked, is_uses_by, left}
 use Rattle.yv_augmented.specs.Spots.{Laid, Whole, laid, laid_from, one_more, spot_of}
 use Rattle.yv_augmented.specs.declared.spot.Spot.{Spot}
 use Rattle.yv_final_tree.specs.Left.{nodes_of}
-use Rattle.yv_final_tree.proofs.Standing.{in_first, in_lists, in_second}
-
-abbrev IsIn : ℕ → List ℕ → Type 0
-IsIn n xs = (k : ℕ) × (slice_get xs k ≡ Some n)
-
--- no number stands twice
-abbrev AreOnce : List ℕ → Type 0
-AreOnce [] = Unit {0}
-AreOnce (x ∷ xs) = (IsIn x xs → ⊥) × AreOnce xs
-
-either : (n : ℕ) (xs ys : List ℕ) → IsIn n (xs ++ ys) → IsIn n xs ⊎ IsIn n ys
-either n xs ys (k, at) = elim (in_lists xs ys k n at) [ inl h ↦ inl (k, h) | inr h ↦ inr (h.0, h.2) ]
-
-among_first : (n : ℕ) (xs ys : List ℕ) → IsIn n xs → IsIn n (xs ++ ys)
-among_first n xs ys (k, at) = (k, in_first xs ys k n at)
-
-among_second : (n : ℕ) (xs ys : List ℕ) → IsIn n ys → IsIn n (xs ++ ys)
-among_second n xs ys (k, at) = (length xs + k, in_second xs ys (length xs + k) k n refl at)
-
-both_once : (xs ys : List ℕ) → AreOnce xs → AreOnce ys → ((n : ℕ) → IsIn n xs → IsIn n ys → ⊥) → AreOnce (xs ++ ys)
-both_once [] ys p q apart = q
-both_once (x ∷ xs) ys p q apart = (
-  (λ there. elim (either x xs ys there) [ inl h ↦ p.0 h | inr h ↦ apart x (0, refl) h ]),
-  both_once xs ys p.1 q (λ n a b. apart n (suc a.0, a.1) b),
-)
-
-first_once : (xs ys : List ℕ) → AreOnce (xs ++ ys) → AreOnce xs
-first_once [] ys p = tt
-first_once (x ∷ xs) ys p = ((λ h. p.0 (among_first x xs ys h)), first_once xs ys p.1)
-
-second_once : (xs ys : List ℕ) → AreOnce (xs ++ ys) → AreOnce ys
-second_once [] ys p = p
-second_once (x ∷ xs) ys p = second_once xs ys p.1
-
-apart_once : (xs ys : List ℕ) → AreOnce (xs ++ ys) → (n : ℕ) → IsIn n xs → IsIn n ys → ⊥
-apart_once [] ys p n (k, at) b = absurd (let bad : None ≡ Some n = at in cc)
-apart_once (x ∷ xs) ys p n (zero, at) b = p.0 (among_second x xs ys (subst (λ m. IsIn m ys) (sym (same_Some x n at)) b))
-apart_once (x ∷ xs) ys p n (suc k, at) b = apart_once xs ys p.1 n (k, at) b
-
-one_place : (xs : List ℕ) → AreOnce xs → (i k n : ℕ) → slice_get xs i ≡ Some n → slice_get xs k ≡ Some n → i ≡ k
-one_place [] p i k n at at' = absurd (let bad : None ≡ Some n = at in cc)
-one_place (x ∷ xs) p zero zero n at at' = refl
-one_place (x ∷ xs) p zero (suc k) n at at' = absurd (p.0 (k, at' ∙ ap (λ m. Some m) (sym (same_Some x n at))))
-one_place (x ∷ xs) p (suc i) zero n at at' = absurd (p.0 (i, at ∙ ap (λ m. Some m) (sym (same_Some x n at'))))
-one_place (x ∷ xs) p (suc i) (suc k) n at at' = ap suc (one_place xs p.1 i k n at at')
-
-by_place : (xs : List ℕ) → ((i k n : ℕ) → slice_get xs i ≡ Some n → slice_get xs k ≡ Some n → i ≡ k) → AreOnce xs
-by_place [] one = tt
-by_place (x ∷ xs) one = (
-  (λ there. let bad : 0 ≡ suc there.0 = one 0 (suc there.0) x refl there.1 in absurd (omega (arith, bad))),
-  by_place xs (λ i k n at at'. let same : suc i ≡ suc k = one (suc i) (suc k) n at at' in omega (arith, same)),
-)
-
--- the numbers of a tree's items, in order
-abbrev numbers : Tree → List ℕ
-numbers none = []
-numbers (item i below behind) = i ∷ (numbers below ++ numbers behind)
-
-rows_numbers : (parent : Option ℕ) (depth : ℕ) (t : Tree) → map (λ (r : Standing). r.number) (listed parent depth t) ≡ numbers t
-rows_numbers parent depth none = refl
-rows_numbers parent depth (item i below behind) =
-    ap (λ ns. i ∷ ns)
-    (map-append (λ (r : Standing). r.number) (listed (Some i) (depth + 1) below) (listed parent depth behind)
-    ∙ ap₂ (λ ms ns. ms ++ ns) (rows_numbers (Some i) (depth + 1) below) (rows_numbers parent depth behind))
-
-nodes_numbers : (up : Option ℕ) (first : ℕ) (t : Tree) → map (λ (x : Node). x.origin) (expansion.listed up first (nodes_of t)) ≡ numbers t
-nodes_numbers up first none = refl
-nodes_numbers up first (item i below behind) =
-    ap (λ ns. i ∷ ns)
-    (map-append (λ (x : Node). x.origin) (expansion.listed (Some first) (first + 1) (nodes_of below)) (expansion.listed up (first + 1 + count (nodes_of below)) (nodes_of behind))
-    ∙ ap₂ (λ ms ns. ms ++ ns) (nodes_numbers (Some first) (first + 1) below) (nodes_numbers up (first + 1 + count (nodes_of below)) behind))
+use Rattle.yv_siblings.specs.Arranged.{arranged}
+use Rattle.yv_final_tree.proofs.Arranging.{arranged_in, arranged_once}
+use Rattle.yv_final_tree.proofs.Numbering.{among_first, among_second, apart_once, AreOnce, both_once, by_place, either, first_once, IsIn, nodes_numbers, numbers, one_place, rows_numbers, second_once}
+use Rattle.yv_final_tree.proofs.Standing.{in_lists}
 
 -- what is left are items of the tree, each is kept, and each stands there once
 left_in : (keep : ℕ → Bool) (t : Tree) (n : ℕ) → IsIn n (numbers (left keep t)) → IsIn n (numbers t) × (keep n ≡ true)
@@ -143,17 +76,19 @@ tree_once t one = by_place (numbers t) (λ i k n at at'.
     let b = at_number (λ (r : Standing). r.number) (listed None 1 t) k n (ap (λ l. slice_get l k) (rows_numbers None 1 t) ∙ at') in
     one i k a.0 b.0 a.1 b.1 (a.2 ∙ sym b.2))
 
-pub no_node_twice : (keep : ℕ → Bool) (t : Tree) → RowsOnce t → (i k : ℕ) (x y : Node) → slice_get (expansion.listed None 0 (nodes_of (left keep t))) i ≡ Some x
-    → slice_get (expansion.listed None 0 (nodes_of (left keep t))) k ≡ Some y → x.origin ≡ y.origin → i ≡ k
-no_node_twice keep t one i k x y at at' same =
-    let all : List Node = expansion.listed None 0 (nodes_of (left keep t)) in
-    let is = nodes_numbers None 0 (left keep t) in
-    one_place (numbers (left keep t)) (left_once keep t (tree_once t one)) i k x.origin (number_at (λ (z : Node). z.origin) all _ i x is at)
+pub no_node_twice : (g keep : ℕ → Bool) (t : Tree) → RowsOnce t → (i k : ℕ) (x y : Node) → slice_get (expansion.listed None 0 (nodes_of (arranged g (left keep t)))) i ≡ Some x
+    → slice_get (expansion.listed None 0 (nodes_of (arranged g (left keep t)))) k ≡ Some y → x.origin ≡ y.origin → i ≡ k
+no_node_twice g keep t one i k x y at at' same =
+    let u : Tree = arranged g (left keep t) in
+    let all : List Node = expansion.listed None 0 (nodes_of u) in
+    let is = nodes_numbers None 0 u in
+    one_place (numbers u) (arranged_once g (left keep t) (left_once keep t (tree_once t one))) i k x.origin (number_at (λ (z : Node). z.origin) all _ i x is at)
     (number_at (λ (z : Node). z.origin) all _ k y is at' ∙ ap (λ n. Some n) (sym same))
 
-pub node_kept : (keep : ℕ → Bool) (t : Tree) (k : ℕ) (x : Node) → slice_get (expansion.listed None 0 (nodes_of (left keep t))) k ≡ Some x → keep x.origin ≡ true
-node_kept keep t k x at =
-    (left_in keep t x.origin (k, number_at (λ (z : Node). z.origin) (expansion.listed None 0 (nodes_of (left keep t))) _ k x (nodes_numbers None 0 (left keep t)) at)).1
+pub node_kept : (g keep : ℕ → Bool) (t : Tree) (k : ℕ) (x : Node) → slice_get (expansion.listed None 0 (nodes_of (arranged g (left keep t)))) k ≡ Some x → keep x.origin ≡ true
+node_kept g keep t k x at =
+    let u : Tree = arranged g (left keep t) in
+    (left_in keep t x.origin (arranged_in g (left keep t) x.origin (k, number_at (λ (z : Node). z.origin) (expansion.listed None 0 (nodes_of u)) _ k x (nodes_numbers None 0 u) at))).1
 
 -- what is known of a spot is known of its item
 module _ (w : Whole) where

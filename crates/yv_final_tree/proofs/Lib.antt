@@ -8,4 +8,7 @@ pub mod Nesting
 pub mod Homes
 pub mod Judging
 pub mod Finishing
+mod Numbering
+mod Arranging
+mod Marking
 mod Leaving

@@ -34,7 +34,7 @@ impl Model for FinalTree {
 }
 
 // The place of the augment of a module in whose block an item stands, of so many items and augments.
-fn giver_of(items: usize, augments: usize, spot: &Spot) -> Option<usize>
+pub(crate) fn giver_of(items: usize, augments: usize, spot: &Spot) -> Option<usize>
     ensures { (list : List ℕ) → length list ≡ augments → result ≡ giver_by items list (Some spot.now) }
 {
     if spot.group <= items {

@@ -1,5 +1,5 @@
 //! The final tree of files.
-ghost use Rattle.std.specs.Prelude.{◌≡◌, ◌≢◌, None, Some, Err, length, IfOk, OnOk};
+ghost use Rattle.std.specs.Prelude.{◌≡◌, ◌≢◌, ℕ, None, Some, Err, length, IfOk, OnOk};
 ghost use Rattle.yv_statement.specs.Order.{IsLeast};
 ghost use Rattle.yv_statement.specs.declared.refusal.Refusal.{Refusal};
 ghost use Rattle.yv_statement.specs.declared.refusal.Stop.TheVariants.{Fault, PatternBuild};
@@ -13,6 +13,8 @@ ghost use Rattle.yv_expansion.specs.Tree as expansion;
 ghost use Rattle.yv_whole_expansion.specs.Expanded.{IsWhole, augments_of};
 ghost use Rattle.yv_augments.specs.Turns.{State};
 ghost use Rattle.yv_augmented.specs.Faults.{BadTarget};
+ghost use Rattle.yv_augmented.specs.Imposing.{is_given};
+ghost use Rattle.yv_augmented.specs.Left.{is_marked};
 ghost use Rattle.yv_augmented.specs.Known.{AreGrown};
 ghost use Rattle.yv_augmented.specs.Spots.{whole};
 ghost use Rattle.yv_final_tree.specs.Faults.{BadExpansion, BadFinal};
@@ -22,11 +24,11 @@ ghost use Rattle.yv_final_tree.specs.Kept.{AreKept};
 ghost use Rattle.yv_final_tree.specs.Left.{AreLeft};
 
 use crate::given::{marks, order};
-use crate::kept::FinalTree;
+use crate::kept::{FinalTree, giver_of};
 use crate::nodes::nodes;
 use crate::wrong::Judged;
 use std::alloc::{AllocError, Global};
-use yv_augmented::{Grown, conditions, graft, left};
+use yv_augmented::{Grown, Spot, conditions, graft, left};
 use yv_changes::Changes;
 use yv_expansion::{Item, Node};
 use yv_item_marks::{item_marks, statement_marks};
@@ -34,6 +36,7 @@ use yv_link::Linked;
 use yv_names::Names;
 use yv_rows::Rows;
 use yv_selection::Selection;
+use yv_siblings::arranged;
 use yv_statement::{Refusal, Stop};
 use yv_whole_expansion::{Expanded, expand};
 
@@ -80,7 +83,18 @@ fn grown(
     Ok((grown, missing))
 }
 
-// The nodes that are left of a final tree by the conditions of its statements.
+// Of each item whether an augment of a module gives it.
+fn given(alloc: Global, spots: &[Spot], augments: &[usize]) -> Result<Vec<bool>, AllocError>
+    ensures { IfOk result (λ marks. (i : ℕ) → is_marked marks.items i ≡ is_given spots.now augments.now i) }
+{
+    let mut marks = Vec::new(alloc);
+    for spot in spots {
+        marks.push(giver_of(spots.len(), augments.len(), spot).is_some())?;
+    }
+    Ok(marks)
+}
+
+// The nodes that are left of a final tree by the conditions of its statements, in order.
 fn remains<'a, 'b>(
     alloc: Global,
     linked: &Linked<'a, 'b>,
@@ -89,7 +103,8 @@ fn remains<'a, 'b>(
     requires { ParentsComeFirst judged.now.items.now }
     ensures { (final : Final) → judged.now.items.now ≡ final.items
         → AreGrown (whole_of (lent_in judged.now.rows.now) final) final.items final.state judged.now.grown.now
-        → judged.now.grown.now.tree.items ≡ standing final → judged.now.changes.now ≡ changes_of (lent_in judged.now.rows.now) final
+        → judged.now.augments.now ≡ final.augments → judged.now.grown.now.tree.items ≡ standing final
+        → judged.now.changes.now ≡ changes_of (lent_in judged.now.rows.now) final
         → IfOk result (λ list. (nodes : expansion.Nodes) × AreLeft (truth_in linked.now) (lent_in judged.now.rows.now) final nodes
         × (list.items ≡ expansion.listed None 0 nodes)) }
 {
@@ -98,6 +113,8 @@ fn remains<'a, 'b>(
     let own = item_marks(alloc, &statements, spots, judged.changes)?;
     let on = conditions(alloc, judged.rows, spots, judged.items, &statements, &own)?;
     let tree = left(alloc, spots, &judged.grown.tree, &on)?;
+    let given = given(alloc, spots, judged.augments)?;
+    let tree = arranged(alloc, &given, &tree)?;
     nodes(alloc, &tree)
 }
 

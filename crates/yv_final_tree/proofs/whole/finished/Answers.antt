@@ -34,7 +34,7 @@ returns-clause-kept c = λ choice whole are. (
     let is = is_final files g c.in_ok-grown.missing choice c.args.expanded.own items augments known whole are in
     let changes = changes_are files g c.in_ok-grown.missing items augments known c.deref-2.result.now c.deref-3.result.now c.in_ok-changes.changes
     c.deref-2.ensures.value c.deref-3.ensures.value c.in_ok-changes.ensures in
-    let left = c.in_ok-left.ensures final c.items-2.ensures.items known.1 known.1.tree.rows_are changes in
+    let left = c.in_ok-left.ensures final c.items-2.ensures.items known.1 c.deref-4.ensures.value known.1.tree.rows_are changes in
     record {
       final = final;
       is_final = is;
