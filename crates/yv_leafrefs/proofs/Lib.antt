@@ -10,3 +10,4 @@ pub mod Faulty
 pub mod Lawful
 pub mod Origins
 pub mod Numbering
+pub mod Resolving

@@ -3,6 +3,7 @@ pub mod Above
 pub mod Ways
 pub mod Targets
 pub mod Bad
+pub mod Resolved
 pub mod Named
 pub mod Known
 pub mod InnerOutline

@@ -1,12 +1,14 @@
 //! Laws of the definitions alone: what those who follow leafrefs may rely on. These functions do nothing: the contract of each is
 //! the law.
-ghost use Rattle.std.specs.Prelude.{◌≡◌, ◌⊎◌, ◌≤◌, ℕ, Some, None, true, slice_get};
+ghost use Rattle.std.specs.Prelude.{List, ◌≡◌, ◌⊎◌, ◌≤◌, ℕ, Some, None, true, slice_get};
 ghost use Rattle.yv_nodes.specs.Tree.{Forest};
 ghost use Rattle.yv_nodes.specs.Rows.{Row};
 ghost use Rattle.yv_nodes.specs.Numbers.{rows_from};
 ghost use Rattle.yv_leafrefs.specs.Schema.{Schema};
 ghost use Rattle.yv_leafrefs.specs.Above.{AreBehind, IsDepth, IsInside, IsUnder};
 ghost use Rattle.yv_leafrefs.specs.Targets.{RefersTo, HasTypesOf, has_values};
+ghost use Rattle.yv_leafrefs.specs.Resolved.{IsResolved, typed_from, typed_rows};
+ghost use Rattle.yv_values.specs.Types.{Plain};
 
 /// The rows of a schema tree stand each behind the one above it.
 pub fn rows_of_a_tree_are_behind()
@@ -43,4 +45,14 @@ pub fn types_are_those_of_one_node()
 /// The path of a leafref climbs no further than to the document.
 pub fn a_path_climbs_within_the_depth()
     ensures { (s : Schema) (n x k d : ℕ) (r : RefersTo s n x) → r.ref.climbs ≡ Some k → IsDepth s.rows (Some n) d → k ≤ d }
+{}
+
+/// A schema tree is resolved to one.
+pub fn a_tree_is_resolved_once()
+    ensures { (s : Schema) (stated a b : Forest) → IsResolved s stated a → IsResolved s stated b → a ≡ b }
+{}
+
+/// The rows of a resolved tree are those of the stated one with other types.
+pub fn rows_are_typed()
+    ensures { (types : ℕ → List Plain) (ts : Forest) → rows_from 0 (typed_from types 0 ts) ≡ typed_rows types 0 (rows_from 0 ts) }
 {}

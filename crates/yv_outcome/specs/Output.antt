@@ -12,11 +12,13 @@ use Rattle.yv_tree.specs.Diagram.{diagram_of}
 use Rattle.yv_job.specs.Jobs.{Asked, Compiles, Draws, Checks, Task}
 use Rattle.yv_validate.specs.Place.{Flaw}
 use Rattle.yv_validate.specs.Faults.{faults}
-use Rattle.yv_validate.specs.Line.{line_text}
+use Rattle.yv_fault_lines.specs.Lines.{ended_line, faults_text}
 use Rattle.yv_outcome.specs.Compiles.{Compiled, RefusedAt, Built, FilesCompile, GiveSchema}
 use Rattle.yv_outcome.specs.Document.{Reading, TooLarge, NotJson, Reads, reading}
 use Rattle.yv_streams.specs.Files.{File}
 use Rattle.yv_outcome.specs.Status.{status_of}
+use Rattle.yv_outcome.specs.declared.print.Body.{Body}
+use Rattle.yv_outcome.specs.declared.print.Body.TheVariants.{Text, Faults}
 use Rattle.yv_outcome.specs.declared.print.Output.{Output}
 use Rattle.yv_outcome.specs.declared.status.Status.{Status}
 use Rattle.yv_outcome.specs.declared.status.Status.TheVariants as ended
@@ -28,10 +30,6 @@ pub record Printed : Type 0 where
   pub text : List ℕ
   pub verdict : Verdict
 
--- a line ends by a line feed
-abbrev pub ended_line : List ℕ → List ℕ
-ended_line text = text ++ 10 ∷ []
-
 -- the name of a file, where there is one
 abbrev pub name_of_file : Option File → List ℕ
 name_of_file None = []
@@ -41,17 +39,10 @@ name_of_file (Some f) = f.name
 abbrev pub refusal_line : List File → Refusal → List ℕ
 refusal_line files r = ended_line (name_of_file (slice_get files r.file) ++ (58 ∷ decimal r.line ++ codes ": " ++ name_of r.code))
 
--- a line for each fault
-abbrev pub fault_lines : List Flaw → List ℕ
-fault_lines flaws = flat_map (λ f. ended_line (line_text f)) flaws
-
 -- `valid`, or the faults' lines and how many they are
 abbrev pub faults_printed : List Flaw → Printed
 faults_printed [] = record { text = ended_line (codes "valid"); verdict = Clean }
-faults_printed (f ∷ fs) = record {
-  text = fault_lines (f ∷ fs) ++ ended_line (codes "faults: " ++ decimal (length (f ∷ fs)));
-  verdict = Refused;
-}
+faults_printed (f ∷ fs) = record { text = faults_text (f ∷ fs); verdict = Refused }
 
 abbrev pub bad_input : List ℕ → Printed
 bad_input text = record { text = ended_line text; verdict = BadInput }
@@ -147,5 +138,10 @@ IsStopped ended.PatternBuild = Unit {0}
 IsStopped ended.ReadFault = Unit {0}
 IsStopped ended.WriteFault = ⊥
 
+-- the bytes of a text, or of the lines of faults
+abbrev pub body_text : Body → List ℕ
+body_text (Text text) = string_bytes text
+body_text (Faults list) = faults_text list.items
+
 abbrev pub printed_of : Output → Printed
-printed_of o = record { text = string_bytes o.text; verdict = o.verdict }
+printed_of o = record { text = body_text o.body; verdict = o.verdict }

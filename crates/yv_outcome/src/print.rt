@@ -6,7 +6,7 @@ ghost use Rattle.yv_nodes.specs.Rows.{whole};
 ghost use Rattle.yv_validate.specs.Size.{size};
 ghost use Rattle.yv_validate.specs.Faults.{faults as faults_in};
 ghost use Rattle.yv_streams.specs.Files.{file_of};
-ghost use Rattle.yv_outcome.specs.Output.{name_of_file, refusal_line, fault_lines, faults_printed, data_printed, count_printed, diagram_printed, drawn_printed, bad_input as bad_input_printed, printed_of};
+ghost use Rattle.yv_outcome.specs.Output.{name_of_file, refusal_line, faults_printed, data_printed, count_printed, diagram_printed, drawn_printed, bad_input as bad_input_printed, printed_of};
 
 use crate::document::{Document, read_document};
 use crate::status::Verdict;
@@ -16,12 +16,21 @@ use yv_schema::Schema;
 use yv_statement::Refusal;
 use yv_streams::Input;
 use yv_tree::diagram;
-use yv_validate::{Fault, push_line, validate};
+use yv_validate::{Fault, validate};
+
+/// What is written of an outcome. The lines of faults are no text: they may be more than memory holds, since each has all the names on its
+/// way.
+#[derive(Drop)]
+pub enum Body {
+    Text(String),
+    /// The faults of a document, one or more.
+    Faults(Vec<Fault>),
+}
 
 /// What a run writes, and what it found.
 #[derive(Drop)]
 pub struct Output {
-    pub text: String,
+    pub body: Body,
     pub verdict: Verdict,
 }
 
@@ -37,7 +46,7 @@ pub fn of_refusal(alloc: Global, inputs: &[Input], refusal: &Refusal) -> Result<
     let code = refusal.code.name();
     let text = format!(in alloc; "{name}:{line}: {code}\n")?;
     Ok(Output {
-        text,
+        body: Body::Text(text),
         verdict: Verdict::Refused,
     })
 }
@@ -59,7 +68,7 @@ pub fn of_count(alloc: Global, schema: &Schema) -> Result<Output, AllocError>
     let count = schema.len();
     let text = format!(in alloc; "nodes: {count}\n")?;
     Ok(Output {
-        text,
+        body: Body::Text(text),
         verdict: Verdict::Clean,
     })
 }
@@ -70,7 +79,7 @@ pub fn of_diagram(alloc: Global, schema: &Schema, name: &str) -> Result<Output, 
 {
     match diagram(alloc, schema, name)? {
         Some(text) => Ok(Output {
-            text,
+            body: Body::Text(text),
             verdict: Verdict::Clean,
         }),
         None => no_module(alloc),
@@ -82,7 +91,7 @@ fn no_module(alloc: Global) -> Result<Output, AllocError>
 {
     let text = String::from_str(alloc, "tree: no such module\n")?;
     Ok(Output {
-        text,
+        body: Body::Text(text),
         verdict: Verdict::Refused,
     })
 }
@@ -103,7 +112,7 @@ fn bad_input(alloc: Global, text: &str) -> Result<Output, AllocError>
 {
     let text = String::from_str(alloc, text)?;
     Ok(Output {
-        text,
+        body: Body::Text(text),
         verdict: Verdict::BadInput,
     })
 }
@@ -114,36 +123,21 @@ fn of_json(alloc: Global, schema: &Schema, json: &Value) -> Result<Output, Alloc
     ensures { IfOk result (λ o. printed_of o ≡ faults_printed (faults_in schema.now (view json.now))) }
 {
     let report = validate(alloc, schema, json)?;
-    of_faults(alloc, &report.faults)
+    of_faults(alloc, report.faults)
 }
 
-fn of_faults(alloc: Global, faults: &[Fault]) -> Result<Output, AllocError>
-    ensures { IfOk result (λ o. printed_of o ≡ faults_printed faults.now) }
+fn of_faults(alloc: Global, faults: Vec<Fault>) -> Result<Output, AllocError>
+    ensures { IfOk result (λ o. printed_of o ≡ faults_printed faults.items) }
 {
     if faults.is_empty() {
         let text = String::from_str(alloc, "valid\n")?;
         return Ok(Output {
-            text,
+            body: Body::Text(text),
             verdict: Verdict::Clean,
         });
     }
-    let mut text = fault_text(alloc, faults)?;
-    let count = faults.len();
-    let last = format!(in alloc; "faults: {count}\n")?;
-    text.push_str(last.as_str())?;
     Ok(Output {
-        text,
+        body: Body::Faults(faults),
         verdict: Verdict::Refused,
     })
-}
-
-fn fault_text(alloc: Global, faults: &[Fault]) -> Result<String, AllocError>
-    ensures { IfOk result (λ s. string_bytes s ≡ fault_lines faults.now) }
-{
-    let mut text = String::new(alloc);
-    for fault in faults {
-        push_line(&mut text, fault)?;
-        text.push('\n')?;
-    }
-    Ok(text)
 }

@@ -1,7 +1,8 @@
 //! A run over files that were read: what it writes, and how it ends.
-ghost use Rattle.std.specs.Prelude.{◌≡◌, ◌≤◌, ◌↔◌, ◌⊎◌, true, map, length, IfOk, IfSome, IsErrOf, None, slice_get, string_bytes};
+ghost use Rattle.std.specs.Prelude.{◌≡◌, ◌≤◌, ◌↔◌, ◌⊎◌, ℕ, true, false, map, take, length, IfOk, IfSome, IsErrOf, None, slice_get, string_bytes};
 ghost use Rattle.yv_job.specs.Jobs.{HasFiles, HasLimit, asked_of, task_of};
 ghost use Rattle.yv_selection.specs.Choice.{choice_of};
+ghost use Rattle.std.specs.Io.KnownBytes.{Appends};
 ghost use Rattle.yv_streams.specs.Stream.{stream_inner, has_failed, IsFresh};
 ghost use Rattle.yv_streams.specs.Files.{file_of};
 ghost use Rattle.yv_outcome.specs.Compiles.{HavePattern};
@@ -10,15 +11,16 @@ ghost use Rattle.yv_messages.specs.Excerpt.{Explains};
 ghost use Rattle.yv_messages.specs.Explained.{Speaks, bytes_at};
 ghost use Rattle.yv_run.specs.InnerRun.{AppendsAll, AppendsFront, SaysOf, SaysOfData};
 ghost use Rattle.yv_run.specs.Notes.{IsNote, NotesDocument};
-ghost use Rattle.yv_outcome.specs.Output.{PrintsFor, ReadsData, WantsData, WritesAll, WritesFront, IsFinished, IsStopped, printed_of};
+ghost use Rattle.yv_outcome.specs.Output.{PrintsFor, ReadsData, WantsData, WritesAll, WritesFront, IsFinished, IsStopped, body_text, printed_of};
 
 use crate::compiling::compiled;
 use std::alloc::{AllocError, Global};
 use std::io::{Read, Write};
 use thiserror::Error;
+use yv_fault_lines::write_faults;
 use yv_job::{Command, Job};
 use yv_messages::{explanation, why_not_json};
-use yv_outcome::{Output, Status, of_count, of_data, of_diagram, of_refusal};
+use yv_outcome::{Body, Output, Status, of_count, of_data, of_diagram, of_refusal};
 use yv_schema::Schema;
 use yv_statement::{Refusal, Stop};
 use yv_streams::{Counted, Input, InputFault, read_up_to, write_whole};
@@ -148,10 +150,23 @@ fn written<W: Write>(output: &Output, writer: &mut Counted<W>) -> Status
     ensures fault { result ≡ Status.WriteFault ↔ (has_failed writer.new ≡ true) }
     ensures not_stopped { IsStopped result → ⊥ }
 {
-    if write_whole(writer, output.text.as_bytes()) {
+    if write_body(writer, &output.body) {
         output.verdict.status()
     } else {
         Status::WriteFault
+    }
+}
+
+// Writes a text, or the lines of faults, and answers whether all was taken.
+fn write_body<W: Write>(writer: &mut Counted<W>, body: &Body) -> bool
+    requires { has_failed writer.old ≡ false }
+    ensures done { result ≡ true → Appends (W.contents (stream_inner writer.old)) (W.contents (stream_inner writer.new)) (body_text body.now) }
+    ensures part { (n : ℕ) × Appends (W.contents (stream_inner writer.old)) (W.contents (stream_inner writer.new)) (take n (body_text body.now)) }
+    ensures fault { result ≡ false ↔ (has_failed writer.new ≡ true) }
+{
+    match body {
+        Body::Text(text) => write_whole(writer, text.as_bytes()),
+        Body::Faults(faults) => write_faults(writer, faults),
     }
 }
 

@@ -92,6 +92,8 @@ fn is_taken(keyword: Keyword, argument: Option<&str>) -> bool
             | Keyword::Bit
             | Keyword::Position
             | Keyword::FractionDigits
+            | Keyword::Path
+            | Keyword::RequireInstance
             | Keyword::Extended
             | Keyword::Unknown,
             _,

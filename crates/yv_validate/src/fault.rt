@@ -34,6 +34,39 @@ pub enum FaultKind {
     Choice,
 }
 
+impl FaultKind {
+    ghost use Rattle.yv_validate.specs.Line.{kind_name};
+
+    /// What the kind is called in a line.
+    pub fn name(self) -> &'static str
+        ensures { result.now ≡ kind_name self }
+    {
+        match self {
+            FaultKind::Unknown => "unknown",
+            FaultKind::Shape => "shape",
+            FaultKind::Value => "value",
+            FaultKind::MissingKey => "missing-key",
+            FaultKind::Duplicate => "duplicate",
+            FaultKind::Unique => "unique",
+            FaultKind::Mandatory => "mandatory",
+            FaultKind::Min => "min",
+            FaultKind::Max => "max",
+            FaultKind::Choice => "choice",
+        }
+    }
+}
+
+/// What a member is called, in parts that the schema has.
+#[derive(Clone, Copy)]
+pub struct MemberName<'s> {
+    /// The name of the module, where the member is written with it.
+    pub module: Option<&'s str>,
+    /// The name without its module, or all that the document has where it names no node.
+    pub name: &'s str,
+    /// Whether it is a choice, which no member writes: its name stands in parentheses.
+    pub is_choice: bool,
+}
+
 /// A step of a path: a member's name, and its number from 1 where it is an entry or an item of an array. Names of the schema are
 /// shared with it, since a name may be as long as its file, and many faults may lie below it.
 #[derive(Drop)]
@@ -59,6 +92,19 @@ impl Model for Step {
 }
 
 impl Step {
+    ghost use Rattle.yv_validate.specs.Place.{called};
+
+    /// The parts of the member's name. It takes no memory.
+    pub fn parts(&self) -> MemberName<'_>
+        ensures { self.now.member ≡ called result.is_choice (option_map (λ m. m.now) result.module) result.name.now }
+    {
+        MemberName {
+            module: text_of(&self.module),
+            name: self.name.as_str(),
+            is_choice: self.is_choice,
+        }
+    }
+
     /// The member's name, with its module in front where it is written with it; that of a choice in parentheses.
     /// The text is made anew.
     pub fn member(&self, alloc: Global) -> Result<String, AllocError>
@@ -72,6 +118,16 @@ impl Step {
         text.push_str(name.as_str())?;
         text.push(')')?;
         Ok(text)
+    }
+}
+
+// A shared text, where there is one.
+fn text_of(shared: &Option<RcStr>) -> Option<&str>
+    ensures { option_map (λ t. t.now) result ≡ option_map rc_str_bytes shared.now }
+{
+    match shared {
+        Some(text) => Some(text.as_str()),
+        None => None,
     }
 }
 

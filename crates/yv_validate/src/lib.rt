@@ -15,7 +15,7 @@ mod tuples;
 mod walk;
 
 pub use count::size;
-pub use fault::{Fault, FaultKind, Report, Step};
+pub use fault::{Fault, FaultKind, MemberName, Report, Step};
 pub use scope::Scope;
 pub use text::{line, push_line};
 pub use walk::validate;

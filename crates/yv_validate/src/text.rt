@@ -3,9 +3,9 @@ ghost use Rattle.std.specs.Prelude.{◌≡◌, ◌++◌, ◌∷◌, [], ◌<◌,
 ghost use Rattle.std.specs.Option.{option_map};
 ghost use Rattle.std.specs.Rc.{rc_str_bytes};
 ghost use Rattle.yv_nodes.specs.Member.{behind};
-ghost use Rattle.yv_validate.specs.Line.{kind_name, is_plain, hexadecimal, escaped_byte, escaped, item_text, place_text, places_text, path_text, line_text};
+ghost use Rattle.yv_validate.specs.Line.{is_plain, hexadecimal, escaped_byte, escaped, item_text, place_text, places_text, path_text, line_text};
 
-use crate::fault::{Fault, FaultKind, Step};
+use crate::fault::{Fault, Step};
 use itoa::Buffer;
 use std::alloc::{AllocError, Global};
 use std::rc::RcStr;
@@ -25,7 +25,7 @@ pub fn line(alloc: Global, fault: &Fault) -> Result<String, AllocError>
 pub fn push_line(text: &mut String, fault: &Fault) -> Result<(), AllocError>
     ensures { OnOk result (string_bytes text.new ≡ string_bytes text.old ++ line_text fault.now) }
 {
-    text.push_str(name_of(fault.kind))?;
+    text.push_str(fault.kind.name())?;
     text.push(' ')?;
     push_path(text, fault.path.as_slice())?;
     if fault.number != 0 {
@@ -33,23 +33,6 @@ pub fn push_line(text: &mut String, fault: &Fault) -> Result<(), AllocError>
         text.push_str(Buffer::new().format(fault.number))?;
     }
     Ok(())
-}
-
-fn name_of(kind: FaultKind) -> &'static str
-    ensures { result.now ≡ kind_name kind }
-{
-    match kind {
-        FaultKind::Unknown => "unknown",
-        FaultKind::Shape => "shape",
-        FaultKind::Value => "value",
-        FaultKind::MissingKey => "missing-key",
-        FaultKind::Duplicate => "duplicate",
-        FaultKind::Unique => "unique",
-        FaultKind::Mandatory => "mandatory",
-        FaultKind::Min => "min",
-        FaultKind::Max => "max",
-        FaultKind::Choice => "choice",
-    }
 }
 
 fn push_path(text: &mut String, path: &[Step]) -> Result<(), AllocError>

@@ -1,0 +1,4 @@
+pub mod Paged
+pub mod Lines
+pub mod InnerPage
+pub mod InnerNumbers

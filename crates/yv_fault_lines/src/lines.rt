@@ -1,0 +1,168 @@
+//! Faults as lines on a page.
+ghost use Rattle.std.specs.Prelude.{◌≡◌, ◌<◌, ◌↔◌, ◌++◌, ◌∷◌, [], ℕ, List, Option, true, false, codes, decimal, take};
+ghost use Rattle.std.specs.Io.KnownBytes.{Appends};
+ghost use Rattle.std.specs.Option.{option_map};
+ghost use Rattle.yv_nodes.specs.Member.{behind};
+ghost use Rattle.yv_validate.specs.Line.{escaped, escaped_byte, hexadecimal, is_plain, item_text, line_text, path_text, place_text, places_text};
+ghost use Rattle.yv_validate.specs.Place.{called};
+ghost use Rattle.yv_streams.specs.Stream.{has_failed, stream_inner};
+ghost use Rattle.yv_fault_lines.specs.Paged.{Adds, held};
+ghost use Rattle.yv_fault_lines.specs.Lines.{ended_line, fault_lines, faults_text};
+ghost use Rattle.yv_fault_lines.specs.InnerNumbers.{number_text};
+
+use crate::page::Page;
+use itoa::Buffer;
+use std::io::Write;
+use yv_streams::Counted;
+use yv_validate::{Fault, MemberName, Step};
+
+/// Writes the lines of faults and how many they are, and answers whether all was taken. It takes no memory, however much text that is.
+pub fn write_faults<W: Write>(writer: &mut Counted<W>, faults: &[Fault]) -> bool
+    requires { has_failed writer.old ≡ false }
+    ensures done { result ≡ true → Appends (W.contents (stream_inner writer.old)) (W.contents (stream_inner writer.new)) (faults_text faults.now) }
+    ensures part { (n : ℕ) × Appends (W.contents (stream_inner writer.old)) (W.contents (stream_inner writer.new)) (take n (faults_text faults.now)) }
+    ensures fault { result ≡ false ↔ (has_failed writer.new ≡ true) }
+{
+    let mut page = Page::new();
+    put_lines(&mut page, writer, faults);
+    put_count(&mut page, writer, faults.len());
+    page.turn(writer);
+    !writer.has_failed()
+}
+
+// The line of how many faults there are.
+fn put_count<W: Write>(page: &mut Page, writer: &mut Counted<W>, count: usize)
+    ensures { Adds (ended_line (codes "faults: " ++ decimal count)) (held (W.contents (stream_inner writer.old)) (has_failed writer.old) page.old)
+        (held (W.contents (stream_inner writer.new)) (has_failed writer.new) page.new) }
+{
+    page.put(writer, b"faults: ");
+    page.put(writer, Buffer::new().format(count).as_bytes());
+    page.put(writer, b"\n");
+}
+
+// Puts the lines of faults behind what a page holds, each with a line feed, and writes each full page.
+fn put_lines<W: Write>(page: &mut Page, writer: &mut Counted<W>, faults: &[Fault])
+    ensures { Adds (fault_lines faults.now) (held (W.contents (stream_inner writer.old)) (has_failed writer.old) page.old)
+        (held (W.contents (stream_inner writer.new)) (has_failed writer.new) page.new) }
+{
+    for fault in faults {
+        put_line(page, writer, fault);
+    }
+}
+
+fn put_line<W: Write>(page: &mut Page, writer: &mut Counted<W>, fault: &Fault)
+    ensures { Adds ((line_text fault.now ++ 10 ∷ [])) (held (W.contents (stream_inner writer.old)) (has_failed writer.old) page.old)
+        (held (W.contents (stream_inner writer.new)) (has_failed writer.new) page.new) }
+{
+    page.put(writer, fault.kind.name().as_bytes());
+    page.put(writer, b" ");
+    put_path(page, writer, fault.path.as_slice());
+    put_number(page, writer, fault.number);
+    page.put(writer, b"\n");
+}
+
+// The number of a statement, where there is one.
+fn put_number<W: Write>(page: &mut Page, writer: &mut Counted<W>, number: u32)
+    ensures { Adds (number_text number) (held (W.contents (stream_inner writer.old)) (has_failed writer.old) page.old)
+        (held (W.contents (stream_inner writer.new)) (has_failed writer.new) page.new) }
+{
+    if number != 0 {
+        page.put(writer, b" ");
+        page.put(writer, Buffer::new().format(number).as_bytes());
+    }
+}
+
+fn put_path<W: Write>(page: &mut Page, writer: &mut Counted<W>, path: &[Step])
+    ensures { Adds (path_text path.now) (held (W.contents (stream_inner writer.old)) (has_failed writer.old) page.old)
+        (held (W.contents (stream_inner writer.new)) (has_failed writer.new) page.new) }
+{
+    if path.is_empty() {
+        page.put(writer, b"/");
+    } else {
+        put_steps(page, writer, path);
+    }
+}
+
+fn put_steps<W: Write>(page: &mut Page, writer: &mut Counted<W>, path: &[Step])
+    ensures { Adds (places_text path.now) (held (W.contents (stream_inner writer.old)) (has_failed writer.old) page.old)
+        (held (W.contents (stream_inner writer.new)) (has_failed writer.new) page.new) }
+{
+    for step in path {
+        put_step(page, writer, step);
+    }
+}
+
+fn put_step<W: Write>(page: &mut Page, writer: &mut Counted<W>, step: &Step)
+    ensures { Adds (place_text step.now) (held (W.contents (stream_inner writer.old)) (has_failed writer.old) page.old)
+        (held (W.contents (stream_inner writer.new)) (has_failed writer.new) page.new) }
+{
+    page.put(writer, b"/");
+    put_name(page, writer, &step.parts());
+    put_item(page, writer, step.item);
+}
+
+fn put_name<W: Write>(page: &mut Page, writer: &mut Counted<W>, name: &MemberName<'_>)
+    ensures { Adds (escaped (called name.now.is_choice (option_map (λ m. m.now) name.now.module) name.now.name.now)) (held (W.contents (stream_inner writer.old)) (has_failed writer.old) page.old)
+        (held (W.contents (stream_inner writer.new)) (has_failed writer.new) page.new) }
+{
+    if name.is_choice {
+        page.put(writer, b"(");
+        put_qualified(page, writer, name);
+        page.put(writer, b")");
+    } else {
+        put_qualified(page, writer, name);
+    }
+}
+
+fn put_qualified<W: Write>(page: &mut Page, writer: &mut Counted<W>, name: &MemberName<'_>)
+    ensures { Adds (escaped (behind (option_map (λ m. m.now) name.now.module) name.now.name.now)) (held (W.contents (stream_inner writer.old)) (has_failed writer.old) page.old)
+        (held (W.contents (stream_inner writer.new)) (has_failed writer.new) page.new) }
+{
+    if let Some(module) = name.module {
+        put_escaped(page, writer, module.as_bytes());
+        page.put(writer, b":");
+    }
+    put_escaped(page, writer, name.name.as_bytes());
+}
+
+fn put_item<W: Write>(page: &mut Page, writer: &mut Counted<W>, item: Option<u64>)
+    ensures { Adds (item_text item) (held (W.contents (stream_inner writer.old)) (has_failed writer.old) page.old)
+        (held (W.contents (stream_inner writer.new)) (has_failed writer.new) page.new) }
+{
+    if let Some(place) = item {
+        page.put(writer, b"[");
+        page.put(writer, Buffer::new().format(place).as_bytes());
+        page.put(writer, b"]");
+    }
+}
+
+fn put_escaped<W: Write>(page: &mut Page, writer: &mut Counted<W>, name: &[u8])
+    ensures { Adds (escaped name.now) (held (W.contents (stream_inner writer.old)) (has_failed writer.old) page.old)
+        (held (W.contents (stream_inner writer.new)) (has_failed writer.new) page.new) }
+{
+    for byte in name {
+        put_escaped_byte(page, writer, *byte);
+    }
+}
+
+fn put_escaped_byte<W: Write>(page: &mut Page, writer: &mut Counted<W>, byte: u8)
+    ensures { Adds (escaped_byte byte) (held (W.contents (stream_inner writer.old)) (has_failed writer.old) page.old)
+        (held (W.contents (stream_inner writer.new)) (has_failed writer.new) page.new) }
+{
+    if b'!' <= byte && byte <= b'~' && byte != b'%' {
+        page.put(writer, &[byte]);
+    } else {
+        page.put(writer, &[b'%', digit(byte / 16), digit(byte % 16)]);
+    }
+}
+
+fn digit(value: u8) -> u8
+    requires { value < 16 }
+    ensures { result ≡ hexadecimal value }
+{
+    if value < 10 {
+        b'0' + value
+    } else {
+        b'A' + value - 10
+    }
+}
