@@ -50,8 +50,18 @@ fn put_lines<W: Write>(page: &mut Page, writer: &mut Counted<W>, faults: &[Fault
     }
 }
 
+// The line of a fault. Nothing is done for a writer that has failed, since it gets no more.
 fn put_line<W: Write>(page: &mut Page, writer: &mut Counted<W>, fault: &Fault)
     ensures { Adds ((line_text fault.now ++ 10 ∷ [])) (held (W.contents (stream_inner writer.old)) (has_failed writer.old) page.old)
+        (held (W.contents (stream_inner writer.new)) (has_failed writer.new) page.new) }
+{
+    if !writer.has_failed() {
+        put_whole_line(page, writer, fault);
+    }
+}
+
+fn put_whole_line<W: Write>(page: &mut Page, writer: &mut Counted<W>, fault: &Fault)
+    ensures { Adds (ended_line (line_text fault.now)) (held (W.contents (stream_inner writer.old)) (has_failed writer.old) page.old)
         (held (W.contents (stream_inner writer.new)) (has_failed writer.new) page.new) }
 {
     page.put(writer, fault.kind.name().as_bytes());
