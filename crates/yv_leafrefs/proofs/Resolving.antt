@@ -7,7 +7,8 @@ use Rattle.yv_nodes.specs.Rows.{root, Row}
 use Rattle.yv_nodes.specs.Tree.{count, Forest, no_trees, node, tree}
 use Rattle.yv_leafrefs.specs.Schema.{Schema}
 use Rattle.yv_leafrefs.specs.Targets.{HasTypesOf}
-use Rattle.yv_leafrefs.specs.Resolved.{IsResolved, typed, typed_from, typed_rows, types_at}
+use Rattle.yv_nodes.specs.Typed.{typed, typed_rows, types_at}
+use Rattle.yv_leafrefs.specs.Resolved.{IsResolved, typed_from}
 
 rows_long : (parent : NodeId) (first : ℕ) (ts : Forest) → length (rows_below parent first ts) ≡ count ts
 rows_long parent first no_trees = refl

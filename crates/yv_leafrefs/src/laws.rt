@@ -4,10 +4,11 @@ ghost use Rattle.std.specs.Prelude.{List, ◌≡◌, ◌⊎◌, ◌≤◌, ℕ, 
 ghost use Rattle.yv_nodes.specs.Tree.{Forest};
 ghost use Rattle.yv_nodes.specs.Rows.{Row};
 ghost use Rattle.yv_nodes.specs.Numbers.{rows_from};
+ghost use Rattle.yv_nodes.specs.Typed.{typed_rows};
 ghost use Rattle.yv_leafrefs.specs.Schema.{Schema};
 ghost use Rattle.yv_leafrefs.specs.Above.{AreBehind, IsDepth, IsInside, IsUnder};
 ghost use Rattle.yv_leafrefs.specs.Targets.{RefersTo, HasTypesOf, has_values};
-ghost use Rattle.yv_leafrefs.specs.Resolved.{IsResolved, typed_from, typed_rows};
+ghost use Rattle.yv_leafrefs.specs.Resolved.{IsResolved, typed_from};
 ghost use Rattle.yv_values.specs.Types.{Plain};
 
 /// The rows of a schema tree stand each behind the one above it.

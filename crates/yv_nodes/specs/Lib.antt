@@ -5,3 +5,5 @@ pub mod Numbers
 pub mod Member
 pub mod Refused
 pub mod Defaults
+pub mod Typed
+pub mod InnerTyped

@@ -1,11 +1,11 @@
 //! A schema node, and its number.
 ghost use Rattle.std.specs.Prelude.{◌≡◌, Some, None, IfOk, not, map, string_bytes, if◌then◌else◌};
 ghost use Rattle.std.specs.Option.{option_map};
-ghost use Rattle.std.specs.Rc.{rc_str_bytes};
+ghost use Rattle.std.specs.Rc.{rc_slice_items, rc_str_bytes};
 
 use std::alloc::{AllocError, Global};
 use std::marker::Model;
-use std::rc::RcStr;
+use std::rc::{RcSlice, RcStr};
 use yv_properties::{Definition, NodeKind, NodeStatus, PathStep, WrittenText};
 use yv_statement::{Code, Refusal};
 use yv_values::{PlainType, Value};
@@ -63,6 +63,7 @@ impl Node {
     ghost use Rattle.yv_nodes.specs.Defaults.{defaults_of};
     ghost use Rattle.yv_nodes.specs.Refused.{refusal_of};
     ghost use Rattle.yv_nodes.specs.Member.{behind, row_with};
+    ghost use Rattle.yv_nodes.specs.Typed.{typed_row};
 
     /// The node that a statement defines, in the namespace of the module of this name, the number of whose file is `home`, which
     /// stands so in the tree, with these numbers of the node above it and of those below it.
@@ -316,6 +317,20 @@ impl Node {
             return &[];
         }
         self.definition.defaults()
+    }
+
+    /// The list of its types, over the memory in which it is kept: to be shared by other nodes.
+    pub(crate) fn shared_types(&self) -> Result<RcSlice<PlainType>, AllocError>
+        ensures { IfOk result (λ types. map plain_of (rc_slice_items types) ≡ self.now.label.defined.types) }
+    {
+        self.definition.types.clone()
+    }
+
+    /// Gives it other types.
+    pub(crate) fn set_types(&mut self, types: RcSlice<PlainType>)
+        ensures { self.new ≡ typed_row (map plain_of (rc_slice_items types)) self.old }
+    {
+        self.definition.types = types;
     }
 
     /// The number of the node above it, or that of the root.

@@ -1,11 +1,55 @@
 //! Numbered nodes.
-ghost use Rattle.std.specs.Prelude.{◌≡◌, ◌<◌, ◌≤◌, [], ◌∷◌, ◌++◌, length, IfErr, OnOk};
+ghost use Rattle.std.specs.Prelude.{◌≡◌, ◌≢◌, ◌<◌, ◌≤◌, All, ℕ, [], ◌∷◌, ◌++◌, length, map, slice_get, IfErr, IfOk, OnOk};
+ghost use Rattle.std.specs.Option.{option_map};
 ghost use Rattle.yv_statement.specs.declared.refusal.Stop.TheVariants.{NoMemory};
+ghost use Rattle.yv_nodes.specs.Typed.{typed_row, types_at};
+ghost use Rattle.yv_nodes.specs.InnerTyped.{retyped, types_in};
 
 use crate::node::{Node, NodeId};
-use std::alloc::Global;
+use std::alloc::{AllocError, Global};
 use std::marker::Model;
+use std::rc::RcSlice;
 use yv_statement::Stop;
+use yv_values::PlainType;
+
+// The types of the nodes to which these numbers lead.
+fn types_of(
+    alloc: Global,
+    nodes: &[Node],
+    origins: &[NodeId],
+) -> Result<Vec<RcSlice<PlainType>>, AllocError>
+    requires { All (λ origin. origin.0 < length nodes.now) origins.now }
+    ensures { IfOk result (λ lists. map types_in lists.items ≡ map (λ origin. types_at nodes.now origin.0) origins.now) }
+{
+    let mut lists = Vec::new(alloc);
+    for origin in origins {
+        let types = nodes[origin.number() as usize].shared_types()?;
+        lists.push(types)?;
+    }
+    Ok(lists)
+}
+
+// Gives each node the types of its number, from the last one on.
+fn set_types(nodes: &mut Vec<Node>, mut lists: Vec<RcSlice<PlainType>>)
+    requires { length lists.items ≡ length nodes.now.items }
+    ensures each { length nodes.new.items ≡ length nodes.old.items }
+    ensures rows { (n : ℕ) → slice_get nodes.new.items n ≡ option_map (retyped (map types_in lists.items) n) (slice_get nodes.old.items n) }
+{
+    while let Some(types) = lists.pop() {
+        retype(nodes, lists.len(), types);
+    }
+}
+
+// Gives the node of a number, where there is one, these types.
+fn retype(nodes: &mut Vec<Node>, number: usize, types: RcSlice<PlainType>)
+    ensures each { length nodes.new.items ≡ length nodes.old.items }
+    ensures here { slice_get nodes.new.items number ≡ option_map (typed_row (types_in types)) (slice_get nodes.old.items number) }
+    ensures elsewhere { (n : ℕ) → n ≢ number → slice_get nodes.new.items n ≡ slice_get nodes.old.items n }
+{
+    if number < nodes.len() {
+        nodes[number].set_types(types);
+    }
+}
 
 /// Nodes with numbers from 0, never more than a limit, so that none has the root's number.
 #[derive(Drop)]
@@ -28,6 +72,7 @@ impl Model for Nodes {
 impl Nodes {
     ghost use Rattle.std.specs.List.{slice_index_or};
     ghost use Rattle.yv_nodes.specs.Rows.{blank_row};
+    ghost use Rattle.yv_nodes.specs.Typed.{typed_rows, types_from};
 
     /// No nodes.
     pub fn new(alloc: Global, limit: u32) -> Nodes
@@ -66,6 +111,20 @@ impl Nodes {
             return Err(Stop::NoMemory);
         }
         self.nodes.push(node)?;
+        Ok(())
+    }
+
+    /// Gives each node the types of the node to which these numbers, one for each in order, lead: a list of types is shared and not
+    /// copied, so that it takes time and memory linear in the nodes. After Err, for want of memory alone, all is as before.
+    pub fn resolve(&mut self, alloc: Global, origins: &[NodeId]) -> Result<(), AllocError>
+        requires each { length origins.now ≡ length self.now.rows }
+        requires within { All (λ origin. origin.0 < length self.now.rows) origins.now }
+        ensures rows { OnOk result (self.new.rows ≡ typed_rows (types_from self.old.rows origins.now) 0 self.old.rows) }
+        ensures limit { self.new.limit ≡ self.old.limit }
+        ensures kept { IfErr result (λ error. self.new.rows ≡ self.old.rows) }
+    {
+        let types = types_of(alloc, &self.nodes, origins)?;
+        set_types(&mut self.nodes, types);
         Ok(())
     }
 

@@ -1,0 +1,59 @@
+-- Nodes whose values have other types than their statements say (RFC 7950, section 9.9: a leafref has its target's).
+use Rattle.std.specs.Prelude.{ℕ, ◌+◌, List, [], ◌∷◌}
+use Rattle.std.specs.List.{slice_index_or}
+use Rattle.yv_values.specs.Types.{Plain}
+use Rattle.yv_properties.specs.Defined.{Defined}
+use Rattle.yv_nodes.specs.declared.node.NodeId.{NodeId}
+use Rattle.yv_nodes.specs.Rows.{Row, blank_row, root}
+use Rattle.yv_nodes.specs.Tree.{Label}
+
+-- what is said of a node, but that its values have these types
+abbrev pub with_types : List Plain → Defined → Defined
+with_types types d = record {
+  file = d.file;
+  offset = d.offset;
+  line = d.line;
+  kind = d.kind;
+  name = d.name;
+  types = types;
+  has_presence = d.has_presence;
+  status = d.status;
+  features = d.features;
+  type_text = d.type_text;
+  stated_config = d.stated_config;
+  is_mandatory = d.is_mandatory;
+  min = d.min;
+  max = d.max;
+  keys = d.keys;
+  uniques = d.uniques;
+  own_default = d.own_default;
+  type_default = d.type_default;
+  defaults = d.defaults;
+}
+
+abbrev pub typed : List Plain → Label → Label
+typed types l = record {
+  defined = with_types types l.defined;
+  home = l.home;
+  module_name = l.module_name;
+  member = l.member;
+  is_config = l.is_config;
+  is_key = l.is_key;
+  is_input = l.is_input;
+}
+
+abbrev pub typed_row : List Plain → Row → Row
+typed_row types r = record { label = typed types r.label; parent = r.parent; children = r.children }
+
+-- rows with the types that are told of their numbers, the first of which is `first`
+abbrev pub typed_rows : (types : ℕ → List Plain) → (first : ℕ) → List Row → List Row
+typed_rows types first [] = []
+typed_rows types first (r ∷ rs) = typed_row (types first) r ∷ typed_rows types (first + 1) rs
+
+-- the types that the row of a number has by itself
+abbrev pub types_at : List Row → ℕ → List Plain
+types_at rows n = (slice_index_or rows n blank_row).label.defined.types
+
+-- for each number the types that the row has to which these lead
+abbrev pub types_from : List Row → (origins : List NodeId) → ℕ → List Plain
+types_from rows origins n = types_at rows (slice_index_or origins n root).0
