@@ -11,3 +11,4 @@ pub mod Lawful
 pub mod Origins
 pub mod Numbering
 pub mod Resolving
+mod Alike

@@ -9,6 +9,7 @@ use Rattle.yv_leafrefs.specs.Schema.{Schema}
 use Rattle.yv_leafrefs.specs.Targets.{HasTypesOf}
 use Rattle.yv_nodes.specs.Typed.{typed, typed_rows, types_at}
 use Rattle.yv_leafrefs.specs.Resolved.{IsResolved, typed_from}
+use Rattle.yv_leafrefs.proofs.Alike.{types_alike}
 
 rows_long : (parent : NodeId) (first : ℕ) (ts : Forest) → length (rows_below parent first ts) ≡ count ts
 rows_long parent first no_trees = refl
@@ -26,13 +27,17 @@ same_types f g first (tree (node l kids) ts) agree =
     (same_types f g (first + 1) kids (λ n low high. agree n (omega (arith, low)) (omega (arith, high))))
     (same_types f g (first + 1 + count kids) ts (λ n low high. agree n (omega (arith, low)) (omega (arith, high))))
 
-pub resolved_once : ((s : Schema) (n e f : ℕ) → HasTypesOf s n e → HasTypesOf s n f → e ≡ f) → (s : Schema) (stated a b : Forest)
-    → IsResolved s stated a → IsResolved s stated b → a ≡ b
-resolved_once one s stated a b p q =
+pub resolved_once : ((s : Schema) (n e f : ℕ) → HasTypesOf s n e → HasTypesOf s n f → e ≡ f) → (s t : Schema) (stated a b : Forest)
+    → ((n : ℕ) → s.says n ≡ t.says n) → IsResolved s stated a → IsResolved t stated b → a ≡ b
+resolved_once one s t stated a b says p q =
+    let rows : t.rows ≡ s.rows = q.rows ∙ sym p.rows in
     let long : length s.rows ≡ count stated = ap length p.rows ∙ rows_long root 0 stated in
     p.is
-    ∙ same_types (λ n. types_at s.rows (p.origin n)) (λ n. types_at s.rows (q.origin n)) 0 stated
-    (λ n low high. (let within : n < length s.rows = (omega (arith, high, long)) in ap (types_at s.rows) (one s n (p.origin n) (q.origin n) (p.each n within) (q.each n within))))
+    ∙ same_types (λ n. types_at s.rows (p.origin n)) (λ n. types_at t.rows (q.origin n)) 0 stated
+    (λ n low high.
+    let within : n < length s.rows = omega (arith, high, long) in
+    let of_same : HasTypesOf s n (q.origin n) = types_alike t s n (q.origin n) (record { rows = rows; says = λ k. sym (says k) }) (q.each n (omega (arith, within, ap length rows))) in
+    ap (types_at s.rows) (one s n (p.origin n) (q.origin n) (p.each n within) of_same) ∙ ap (λ (rs : List Row). types_at rs (q.origin n)) (sym rows))
     ∙ sym q.is
 
 module _ (types : ℕ → List Plain) where

@@ -4,6 +4,7 @@ use Rattle.std.proofs.lemmas.Bool.{cases_lt, false≢true}
 use Rattle.std.proofs.lemmas.List.{get_or_append_left}
 use Rattle.std.proofs.lemmas.Option.{same_Some, none-some, slice_get_within}
 use Rattle.std.specs.List.{slice_get, slice_index_or}
+use Rattle.std.specs.Option.{option_and_then}
 use Rattle.yv_nodes.specs.Rows.{Row}
 use Rattle.yv_properties.specs.Steps.{Step}
 use Rattle.yv_leafrefs.specs.Schema.{Referral, Schema}
@@ -24,9 +25,7 @@ same_row : (t : Schema) (n : ℕ) (r s : Row) (p q : Referral) → IsLeafref t n
 same_row t n r s p q a b = same_Some r s (sym a.at ∙ b.at)
 
 same_ref : (t : Schema) (n : ℕ) (r s : Row) (p q : Referral) → IsLeafref t n r p → IsLeafref t n s q → p ≡ q
-same_ref t n r s p q a b =
-    let number : a.number ≡ b.number = same_Some a.number b.number (sym a.numbered ∙ b.numbered) in
-    same_Some p q (sym a.says ∙ ap (slice_get t.leafrefs) number ∙ b.says)
+same_ref t n r s p q a b = same_Some p q (sym a.says ∙ b.says)
 
 -- the ways of a leafref that says this
 abbrev pub Follows : Schema → ℕ → Row → Referral → ℕ → Type 0
@@ -129,7 +128,7 @@ got (x ∷ xs) zero l = (x, refl)
 got (x ∷ xs) (suc k) l = got xs k (omega (arith, l))
 
 -- a node outside operations is a leafref exactly where it says something
-pub one_exactly : (o : Outline) (d : Draft) (n k : ℕ) (r : Row) → IsDraft o d → slice_get (rows_in o) n ≡ Some r → slice_index_or d.inside.items n false ≡ false → slice_index_or (schema_in o).of n None ≡ Some k
+pub one_exactly : (o : Outline) (d : Draft) (n k : ℕ) (r : Row) → IsDraft o d → slice_get (rows_in o) n ≡ Some r → slice_index_or d.inside.items n false ≡ false → slice_index_or o.of.now n None ≡ Some k
     → ((k < length (leafrefs_in o)) → IsOne (schema_in o) n) × (IsOne (schema_in o) n → k < length (leafrefs_in o))
 one_exactly o d n k r draft at outside says = (
   (λ l.
@@ -138,27 +137,14 @@ one_exactly o d n k r draft at outside says = (
         both.0,
         record {
           at = at;
-          number = k;
-          numbered = says;
-          says = both.1;
+          says = ap (option_and_then (slice_get (leafrefs_in o))) says ∙ both.1;
           outside = λ i. false≢true (sym outside ∙ (draft.inside n (slice_get_within (rows_in o) n r at)).1 i);
         },
       )),
   (λ (row, ref, one).
-      let number : one.number ≡ k = same_Some one.number k (sym one.numbered ∙ says) in
-      subst (λ m. m < length (leafrefs_in o)) number (slice_get_within (leafrefs_in o) one.number ref one.says)),
+      slice_get_within (leafrefs_in o) k ref (sym (ap (option_and_then (slice_get (leafrefs_in o))) says) ∙ one.says)),
 )
 
--- a node that says nothing is no leafref
-pub silent : (s : Schema) (n : ℕ) → slice_index_or s.of n None ≡ None → IsOne s n → ⊥
-silent s n none (row, ref, one) = none-some one.number (sym none ∙ one.numbered)
-
--- nor is one whose number is that of nothing said
-pub unsaid : (s : Schema) (n k : ℕ) → slice_index_or s.of n None ≡ Some k → slice_get s.leafrefs k ≡ None → IsOne s n → ⊥
-unsaid s n k says none (row, ref, one) =
-    let number : one.number ≡ k = same_Some one.number k (sym one.numbered ∙ says) in
-    none-some ref (sym none ∙ ap (slice_get s.leafrefs) (sym number) ∙ one.says)
-
--- and none but leafrefs refer
+-- none but leafrefs refer
 pub one_of : (s : Schema) (n x : ℕ) → RefersTo s n x → IsOne s n
 one_of s n x refers = (refers.row, refers.ref, refers.is_leafref)

@@ -2,7 +2,7 @@
 use Rattle.std.specs.Prelude.{◌≡◌, ◌↔◌, ℕ, ◌<◌, Bool, true, false, List, Option, Some, None, slice_get}
 use Rattle.std.specs.List.{slice_index_or}
 use Rattle.yv_nodes.specs.Rows.{Row}
-use Rattle.yv_leafrefs.specs.Schema.{Referral, Schema}
+use Rattle.yv_leafrefs.specs.Schema.{Referral, Schema, said_by}
 use Rattle.yv_leafrefs.specs.Above.{parent_of, Closest, IsInside}
 use Rattle.yv_leafrefs.specs.declared.outline.Outline.{Outline}
 
@@ -13,7 +13,7 @@ abbrev pub leafrefs_in : Outline → List Referral
 leafrefs_in o = o.leafrefs.now
 
 abbrev pub schema_in : Outline → Schema
-schema_in o = record { rows = o.nodes.now; of = o.of.now; leafrefs = o.leafrefs.now }
+schema_in o = record { rows = o.nodes.now; says = said_by o.of.now o.leafrefs.now }
 
 -- for each of the first nodes the place above it
 abbrev pub AreAbove : List Row → ℕ → List (Option ℕ) → Type 0

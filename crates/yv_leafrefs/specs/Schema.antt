@@ -1,5 +1,7 @@
 -- The rows of a schema tree, and what the leafrefs among them say (RFC 7950, section 9.9).
-use Rattle.std.specs.Prelude.{ℕ, List, Bool, Option}
+use Rattle.std.specs.Prelude.{◌≡◌, ℕ, List, Bool, Option, None, slice_get}
+use Rattle.std.specs.List.{slice_index_or}
+use Rattle.std.specs.Option.{option_and_then}
 use Rattle.yv_properties.specs.Steps.{Step}
 use Rattle.yv_nodes.specs.Rows.{Row}
 
@@ -10,8 +12,16 @@ pub record Referral : Type 0 where
   pub steps : List (Option Step)
   pub is_required : Bool
 
--- numbered rows, and for each the number of what it says as a leafref, if it is one; copies of a node share that
+-- numbered rows, and what the row of a number says as a leafref, if it is one
 pub record Schema : Type 0 where
   pub rows : List Row
-  pub of : List (Option ℕ)
-  pub leafrefs : List Referral
+  pub says : ℕ → Option Referral
+
+-- what is said where copies of a node share it: for each row its number among these, if the row is a leafref
+abbrev pub said_by : (of : List (Option ℕ)) → (leafrefs : List Referral) → ℕ → Option Referral
+said_by of leafrefs n = option_and_then (slice_get leafrefs) (slice_index_or of n None)
+
+-- two schemas with the same rows, which say the same
+pub record AreAlike (s t : Schema) : Type 0 where
+  pub rows : s.rows ≡ t.rows
+  pub says : (n : ℕ) → s.says n ≡ t.says n

@@ -1,6 +1,5 @@
 -- What leafrefs refer to (RFC 7950, section 9.9).
 use Rattle.std.specs.Prelude.{◌≡◌, ℕ, ◌&&◌, not, ◌||◌, Bool, true, false, Option, Some, None, slice_get}
-use Rattle.std.specs.List.{slice_index_or}
 use Rattle.yv_properties.specs.declared.kind.NodeKind.{NodeKind}
 use Rattle.yv_properties.specs.declared.kind.NodeKind.TheVariants as kind
 use Rattle.yv_nodes.specs.Rows.{Row}
@@ -17,9 +16,7 @@ has_values _ = false
 -- the node is a leafref, and says this. Inside operations and notifications none is asked for
 pub record IsLeafref (s : Schema) (n : ℕ) (row : Row) (ref : Referral) : Type 0 where
   pub at : slice_get s.rows n ≡ Some row
-  pub number : ℕ
-  pub numbered : slice_index_or s.of n None ≡ Some number
-  pub says : slice_get s.leafrefs number ≡ Some ref
+  pub says : s.says n ≡ Some ref
   pub outside : IsInside s.rows (Some n) → ⊥
 
 -- a node may be the target of a leafref: it has values, and where an instance is required that of configuration is configuration

@@ -48,9 +48,9 @@ pub fn a_path_climbs_within_the_depth()
     ensures { (s : Schema) (n x k d : ℕ) (r : RefersTo s n x) → r.ref.climbs ≡ Some k → IsDepth s.rows (Some n) d → k ≤ d }
 {}
 
-/// A schema tree is resolved to one.
+/// A schema tree is resolved to one, by what its leafrefs say.
 pub fn a_tree_is_resolved_once()
-    ensures { (s : Schema) (stated a b : Forest) → IsResolved s stated a → IsResolved s stated b → a ≡ b }
+    ensures { (s t : Schema) (stated a b : Forest) → ((n : ℕ) → s.says n ≡ t.says n) → IsResolved s stated a → IsResolved t stated b → a ≡ b }
 {}
 
 /// The rows of a resolved tree are those of the stated one with other types.

@@ -4,7 +4,7 @@ ghost use Rattle.std.specs.List.{slice_index_or};
 ghost use Rattle.std.specs.Option.{option_map};
 ghost use Rattle.yv_nodes.specs.declared.node.NodeId.{NodeId};
 ghost use Rattle.yv_nodes.specs.Rows.{Row};
-ghost use Rattle.yv_leafrefs.specs.Schema.{Referral, Schema};
+ghost use Rattle.yv_leafrefs.specs.Schema.{Referral, Schema, said_by};
 ghost use Rattle.yv_leafrefs.specs.Above.{AreBehind};
 ghost use Rattle.yv_leafrefs.specs.Named.{AreNamed};
 
@@ -73,7 +73,7 @@ impl Leafrefs {
     ) -> Result<Leafrefs, AllocError>
         requires behind { AreBehind nodes.now.rows }
         requires named { AreNamed nodes.now.rows statements.now }
-        ensures { IfOk result (AreLeafrefs (record { rows = nodes.now.rows; of = of.now; leafrefs = leafrefs.now })) }
+        ensures { IfOk result (AreLeafrefs (record { rows = nodes.now.rows; says = said_by of.now leafrefs.now })) }
     {
         // There are never more of them than numbers of 32 bits tell apart.
         let _count = nodes.len();

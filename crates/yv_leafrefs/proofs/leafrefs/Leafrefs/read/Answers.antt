@@ -1,6 +1,6 @@
 use Rattle.std.proofs.Common.{List, Option, ℕ, Bool, length, ◌∙◌, ap, sym, subst}
 use Rattle.yv_nodes.specs.Rows.{Row}
-use Rattle.yv_leafrefs.specs.Schema.{Schema}
+use Rattle.yv_leafrefs.specs.Schema.{Schema, said_by}
 use Rattle.yv_leafrefs.specs.Known.{AreLeafrefs}
 use Rattle.yv_leafrefs.specs.InnerOutline.{schema_in}
 use Rattle.yv_leafrefs.specs.InnerGraph.{AreTargets, AreCircles}
@@ -29,7 +29,7 @@ first_fault-fault-requires-clause-marks c =
 pub returns : goal.returns
 returns c =
     let l : Leafrefs = record { targets = c.in_ok-targets.targets; fault = c.first_fault-fault.result } in
-    subst (λ (rs : List Row). AreLeafrefs (record { rows = rs; of = c.args.of.now; leafrefs = c.args.leafrefs.now }) l) c.all.ensures (record {
+    subst (λ (rs : List Row). AreLeafrefs (record { rows = rs; says = said_by c.args.of.now c.args.leafrefs.now }) l) c.all.ensures (record {
       few = c.in_ok-draft.ensures.few;
       each = c.in_ok-targets.ensures.each;
       exact = c.in_ok-targets.ensures.targets;

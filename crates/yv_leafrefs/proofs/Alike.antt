@@ -1,0 +1,35 @@
+-- Schemas that say the same.
+use Rattle.std.proofs.Common.{◌≡◌, ℕ, List, Some, sym, ap, subst, ◌∙◌}
+use Rattle.std.specs.List.{slice_get}
+use Rattle.yv_nodes.specs.Rows.{Row}
+use Rattle.yv_leafrefs.specs.Schema.{AreAlike, Referral, Schema}
+use Rattle.yv_leafrefs.specs.Above.{IsInside}
+use Rattle.yv_leafrefs.specs.Ways.{Begins, Leads}
+use Rattle.yv_leafrefs.specs.Targets.{HasTypesOf, IsLeafref, RefersTo, own, along}
+
+pub turned : (s t : Schema) → AreAlike s t → AreAlike t s
+turned s t alike = record { rows = sym alike.rows; says = λ n. sym (alike.says n) }
+
+leafref_alike : (s t : Schema) (n : ℕ) (row : Row) (ref : Referral) → AreAlike s t → IsLeafref s n row ref → IsLeafref t n row ref
+leafref_alike s t n row ref alike is = record {
+  at = ap (λ (rows : List Row). slice_get rows n) (sym alike.rows) ∙ is.at;
+  says = sym (alike.says n) ∙ is.says;
+  outside = λ i. is.outside (subst (λ (rows : List Row). IsInside rows (Some n)) (sym alike.rows) i);
+}
+
+refers_alike : (s t : Schema) (n x : ℕ) → AreAlike s t → RefersTo s n x → RefersTo t n x
+refers_alike s t n x alike r = record {
+  row = r.row;
+  ref = r.ref;
+  is_leafref = leafref_alike s t n r.row r.ref alike r.is_leafref;
+  start = r.start;
+  begins = subst (λ (rows : List Row). Begins rows n r.ref.climbs r.start) alike.rows r.begins;
+  leads = subst (λ (rows : List Row). Leads rows r.row.label.home r.ref.steps r.start (Some x)) alike.rows r.leads;
+  found = r.found;
+  at = ap (λ (rows : List Row). slice_get rows x) (sym alike.rows) ∙ r.at;
+  fit = r.fit;
+}
+
+pub types_alike : (s t : Schema) (n e : ℕ) → AreAlike s t → HasTypesOf s n e → HasTypesOf t n e
+types_alike s t n e alike (own none) = own (λ x r. none x (refers_alike t s n x (turned s t alike) r))
+types_alike s t n e alike (along {target = x} r h) = along (refers_alike s t n x alike r) (types_alike s t x e alike h)
