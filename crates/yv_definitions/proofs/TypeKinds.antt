@@ -12,7 +12,10 @@ use Rattle.yv_listed.specs.Types.{Truth}
 use Rattle.yv_properties.specs.Defined.{Written}
 use Rattle.yv_defaults.specs.Defaults.{HasDefault}
 use Rattle.yv_types.specs.Known.{IsDefault}
-use Rattle.yv_definitions.specs.Kinds.{AreKinds, AreTypeDefaults, AreTyped, IsKind, IsKindOf, Kinds, TypeDefaults, Typing}
+use Rattle.yv_types.specs.Known.{IsReferring}
+use Rattle.yv_leafref_types.specs.Referrals.{HasReferral}
+use Rattle.yv_leafref_types.specs.declared.referring.Referring.{Referring}
+use Rattle.yv_definitions.specs.Kinds.{AreKinds, AreTypeDefaults, AreTyped, AreTypeReferrals, IsKind, IsKindOf, Kinds, TypeDefaults, TypeReferrals, Typing}
 
 -- types that agree everywhere are one
 pub same_kinds : (a b : Kinds) → ((file offset : ℕ) → a file offset ≡ b file offset) → a ≡ b
@@ -67,9 +70,27 @@ module _ (files : Files) (one : HasOneDefault) where
   one_defaults a b p q =
       same_defaults a b (λ file offset. one_default_of (number_at (rows_of files) (codes "type") file offset) (a file offset) (b file offset) (p file offset) (q file offset))
 
-pub one_typing : (files : Files) (choice : Choice) (truth : Truth) → HasOneSpace → HasOneDefault → (a b : Typing) → AreTyped files choice truth a
+-- a type says one thing as a leafref
+abbrev pub SaysOneThing : Type 0
+SaysOneThing = (files : Files) (k : ℕ) (v w : Option Referring) → HasReferral files k v → HasReferral files k w → v ≡ w
+
+-- what agrees everywhere is one
+same_referrals : (a b : TypeReferrals) → ((file offset : ℕ) → a file offset ≡ b file offset) → a ≡ b
+same_referrals a b h = λ i file offset. h file offset i
+
+module _ (files : Files) (one : SaysOneThing) where
+  one_referral_of : (number : Option ℕ) (v w : Option Referring) → IsReferring files number v → IsReferring files number w → v ≡ w
+  one_referral_of None v w a b = a ∙ sym b
+  one_referral_of (Some k) v w a b = one files k v w a b
+
+  one_referrals : (a b : TypeReferrals) → AreTypeReferrals files a → AreTypeReferrals files b → a ≡ b
+  one_referrals a b p q =
+      same_referrals a b (λ file offset. one_referral_of (number_at (rows_of files) (codes "type") file offset) (a file offset) (b file offset) (p file offset) (q file offset))
+
+pub one_typing : (files : Files) (choice : Choice) (truth : Truth) → HasOneSpace → HasOneDefault → SaysOneThing → (a b : Typing) → AreTyped files choice truth a
     → AreTyped files choice truth b → a ≡ b
-one_typing files choice truth spaces defaults a b p q =
+one_typing files choice truth spaces defaults says a b p q =
     let kinds : a.kinds ≡ b.kinds = one_kinds files choice truth spaces a.kinds b.kinds p.kinds q.kinds in
     let told : a.defaults ≡ b.defaults = one_defaults files defaults a.defaults b.defaults p.defaults q.defaults in
-    λ i. record { kinds = kinds i; defaults = told i }
+    let said : a.referrals ≡ b.referrals = one_referrals files says a.referrals b.referrals p.referrals q.referrals in
+    λ i. record { kinds = kinds i; defaults = told i; referrals = said i }

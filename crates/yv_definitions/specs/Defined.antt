@@ -12,13 +12,14 @@ use Rattle.yv_expansion.specs.declared.item.Origin.{Origin}
 use Rattle.yv_expansion.specs.declared.item.Origin.TheVariants as origin
 use Rattle.yv_values.specs.Types.{Plain}
 use Rattle.yv_leaf_paths.specs.Steps.{names_of, paths_of}
+use Rattle.yv_leafref_types.specs.declared.referring.Referring.{Referring}
 use Rattle.yv_properties.specs.Steps.{Step}
 use Rattle.yv_properties.specs.Defined.{Defined, Written, blank}
 use Rattle.yv_properties.specs.declared.kind.NodeKind.{NodeKind}
 use Rattle.yv_properties.specs.declared.kind.NodeKind.TheVariants as kind
 use Rattle.yv_properties.specs.declared.kind.NodeStatus.{NodeStatus}
 use Rattle.yv_properties.specs.declared.kind.NodeStatus.TheVariants.{Current, Deprecated, Obsolete}
-use Rattle.yv_definitions.specs.Kinds.{Kinds, TypeDefaults, Typing}
+use Rattle.yv_definitions.specs.Kinds.{Kinds, TypeDefaults, TypeReferrals, Typing}
 use Rattle.yv_stated.specs.Statements.{argument_of, arguments_among, file_at, first_of, statement_at}
 use Rattle.yv_definitions.specs.Features.{all_expressions, expressions, joined}
 use Rattle.yv_stated.specs.Properties.{Properties, last_said, properties_of, said_by, written_by}
@@ -136,3 +137,15 @@ refined typing files from refines =
     let d : Defined = defined typing files from in
     with_defaults files (with_properties (properties_of (last_said files (written_by from ++ refines)))
     (record d { features = joined d.features (all_expressions files refines) }))
+
+-- what a `type` statement of a file says as a leafref; nothing, where there is no statement
+abbrev pub referring_by : TypeReferrals → ℕ → Option Tree → Option Referring
+referring_by referrals file None = None
+referring_by referrals file (Some t) = referrals file t.head.offset
+
+-- what the type of a node of this origin says as a leafref (section 9.9)
+abbrev pub referring : Typing → Files → Origin → Option Referring
+referring typing files (origin.Statement number) =
+    referring_by typing.referrals (file_at files number) (first_of word.Type (statement_at files number).children)
+referring typing files (origin.Input number) = None
+referring typing files (origin.Output number) = None

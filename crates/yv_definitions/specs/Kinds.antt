@@ -1,4 +1,5 @@
--- What the `type` statements of files stand for: plain types, and a default (RFC 7950, sections 7.3.4, 7.4 and 9).
+-- What the `type` statements of files stand for: plain types, a default, and what they say as leafrefs (RFC 7950, sections 7.3.4, 7.4
+-- and 9).
 use Rattle.std.specs.Prelude.{◌≡◌, ◌⊎◌, ℕ, List, [], Option, Some, None, codes}
 use Rattle.std.specs.Option.{unwrap_or}
 use Rattle.yv_selection.specs.Choice.{Choice}
@@ -7,10 +8,11 @@ use Rattle.yv_rows.specs.Listed.{rows_of}
 use Rattle.yv_names.specs.References.{number_at}
 use Rattle.yv_listed.specs.Types.{Truth}
 use Rattle.yv_values.specs.Types.{Plain}
-use Rattle.yv_types.specs.Known.{IsDefault, default_at, space_at}
+use Rattle.yv_types.specs.Known.{IsDefault, IsReferring, default_at, referring_at, space_at}
 use Rattle.yv_types.specs.Spaces.{Space}
 use Rattle.yv_types.specs.declared.known.Types.{Types}
 use Rattle.yv_properties.specs.Defined.{Written}
+use Rattle.yv_leafref_types.specs.declared.referring.Referring.{Referring}
 
 -- the plain types of the `type` statement at an offset of a file
 abbrev pub Kinds : Type 0
@@ -44,16 +46,27 @@ abbrev pub AreTypeDefaults : Files → TypeDefaults → Type 0
 AreTypeDefaults files defaults =
     (file offset : ℕ) → IsDefault files (number_at (rows_of files) (codes "type") file offset) (defaults file offset)
 
+-- what the `type` statement at an offset of a file says as a leafref
+abbrev pub TypeReferrals : Type 0
+TypeReferrals = ℕ → ℕ → Option Referring
+
+-- what all `type` statements of these files say so
+abbrev pub AreTypeReferrals : Files → TypeReferrals → Type 0
+AreTypeReferrals files referrals =
+    (file offset : ℕ) → IsReferring files (number_at (rows_of files) (codes "type") file offset) (referrals file offset)
+
 -- what `type` statements stand for
 pub record Typing : Type 0 where
   pub kinds : Kinds
   pub defaults : TypeDefaults
+  pub referrals : TypeReferrals
 
 -- this is what the `type` statements of these files stand for
 pub record AreTyped (files : Files) (choice : Choice) (truth : Truth) (typing : Typing) : Type 0 where
   pub kinds : AreKinds files choice truth typing.kinds
   pub defaults : AreTypeDefaults files typing.defaults
+  pub referrals : AreTypeReferrals files typing.referrals
 
 -- what is told of them
 abbrev pub typing_of : Types → Typing
-typing_of types = record { kinds = kinds_of types; defaults = default_at types }
+typing_of types = record { kinds = kinds_of types; defaults = default_at types; referrals = referring_at types }

@@ -6,11 +6,12 @@ ghost use Rattle.yv_statement.specs.Tree.{trees};
 ghost use Rattle.yv_rows.specs.Lent.{lent_in};
 ghost use Rattle.yv_leaf_paths.specs.Known.{AreLeafPaths};
 ghost use Rattle.yv_definitions.specs.Kinds.{typing_of};
-ghost use Rattle.yv_stated.specs.Statements.{statement_at};
+ghost use Rattle.yv_conform.specs.declared.keyword.Keyword.TheVariants as word;
+ghost use Rattle.yv_stated.specs.Statements.{file_at, first_of, statement_at};
 ghost use Rattle.yv_definitions.specs.Features.{all_expressions, expressions, joined};
 ghost use Rattle.yv_stated.specs.Properties.{properties_of, said_at};
 ghost use Rattle.yv_defaults.specs.Scopes.{AreScopes};
-ghost use Rattle.yv_definitions.specs.Defined.{defined, defined_at, refined};
+ghost use Rattle.yv_definitions.specs.Defined.{defined, defined_at, referring, referring_by, refined};
 ghost use Rattle.yv_definitions.specs.Values.{with_defaults};
 ghost use Rattle.yv_definitions.specs.InnerKept.{AreKept, gives_features, has_features};
 ghost use Rattle.yv_definitions.specs.InnerChanged.{changed, changed_by};
@@ -18,7 +19,7 @@ ghost use Rattle.yv_definitions.specs.InnerRefined.{AreRefined, GivesDefault, gi
 
 use crate::features::push_expressions;
 use crate::keeping::{Kept, changes_at, kept_at, stated_at, unwritten_at};
-use crate::numbered::statement_at;
+use crate::numbered::{file_at, statement_at};
 use crate::values::{defaults_of, no_values};
 use std::alloc::{AllocError, Global};
 use std::rc::{RcSlice, RcStr};
@@ -26,9 +27,10 @@ use yv_conform::Keyword;
 use yv_defaults::scopes_of;
 use yv_expansion::Origin;
 use yv_leaf_paths::LeafPaths;
+use yv_leafref_types::Referring;
 use yv_properties::{Definition, NodeKind};
 use yv_rows::Rows;
-use yv_stated::has;
+use yv_stated::{first_of, has};
 use yv_types::Types;
 use yv_values::{Scope, Value};
 
@@ -132,6 +134,26 @@ impl<'r, 'a, 'b> Definitions<'r, 'a, 'b> {
             changed.defaults = self.values(origin, refine)?;
         }
         Ok(changed)
+    }
+
+    /// What the type of a node of this origin says as a leafref (RFC 7950, section 9.9): None where it is none.
+    pub fn referring(&self, origin: Origin) -> Option<Referring>
+        ensures { result ≡ referring (typing_in self.now) (files_in self.now) origin }
+    {
+        match origin {
+            Origin::Statement(number) => self.referring_at(number),
+            _ => None,
+        }
+    }
+
+    // What the type of the numbered statement says so.
+    fn referring_at(&self, number: usize) -> Option<Referring>
+        ensures { result ≡ referring_by (typing_in self.now).referrals (file_at (files_in self.now) number)
+            (first_of word.Type (statement_at (files_in self.now) number).children) }
+    {
+        let found = first_of(Keyword::Type, statement_at(self.rows, number)?)?;
+        self.types
+            .referring_at(file_at(self.rows, number), found.offset())
     }
 
     // The values that the default of a refine gives a node of this origin.

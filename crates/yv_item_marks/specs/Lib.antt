@@ -1,3 +1,4 @@
 pub mod Conditions
 pub mod Said
 pub mod InnerConditions
+pub mod InnerSaid

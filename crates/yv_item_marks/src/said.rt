@@ -5,6 +5,7 @@ ghost use Rattle.yv_augmented.specs.Imposing.{told_in};
 ghost use Rattle.yv_stated.specs.Marks.{is_mandatory, stated_by};
 ghost use Rattle.yv_stated.specs.Properties.{last_said, said_at, written_by};
 ghost use Rattle.yv_item_marks.specs.Said.{said_of, said_of_all, told_of};
+ghost use Rattle.yv_item_marks.specs.InnerSaid.{AreSaid};
 
 use std::alloc::{AllocError, Global};
 use yv_augmented::Marks;
@@ -23,31 +24,55 @@ fn said_at(rows: &Rows<'_, '_>, number: usize) -> Stated
     }
 }
 
+// What each numbered statement says: a long block is searched once, however many items its statement gives.
+fn all_said(alloc: Global, rows: &Rows<'_, '_>) -> Result<Vec<Stated>, AllocError>
+    ensures { IfOk result (λ each. AreSaid (lent_in rows.now) each.items) }
+{
+    let mut each = Vec::new(alloc);
+    for number in 0..rows.entries().len() {
+        each.push(said_at(rows, number))?;
+    }
+    Ok(each)
+}
+
+// What a numbered statement says, where these were read.
+fn known_at(rows: &Rows<'_, '_>, each: &[Stated], number: usize) -> Stated
+    requires { AreSaid (lent_in rows.now) each.now }
+    ensures { result ≡ stated_by (said_at (lent_in rows.now) number) }
+{
+    match each.get(number) {
+        Some(said) => *said,
+        None => said_at(rows, number),
+    }
+}
+
 // What the last of these numbered statements says that says something.
-fn last_said(rows: &Rows<'_, '_>, numbers: &[usize]) -> Stated
+fn last_said(rows: &Rows<'_, '_>, each: &[Stated], numbers: &[usize]) -> Stated
+    requires { AreSaid (lent_in rows.now) each.now }
     ensures { result ≡ stated_by (last_said (lent_in rows.now) numbers.now) }
 {
     yv_stated::laws::the_last_statement_stands();
     let mut said = Stated::nothing();
     for number in numbers {
-        said = said_at(rows, *number).over(said);
+        said = known_at(rows, each, *number).over(said);
     }
     said
 }
 
 // What is said of an item that these refines change.
-fn said_of(rows: &Rows<'_, '_>, item: &Item, changes: &[usize]) -> Stated
+fn said_of(rows: &Rows<'_, '_>, each: &[Stated], item: &Item, changes: &[usize]) -> Stated
+    requires { AreSaid (lent_in rows.now) each.now }
     ensures { result ≡ said_of (lent_in rows.now) item.now changes.now }
 {
     yv_stated::laws::the_last_statement_stands();
-    let later = last_said(rows, changes);
+    let later = last_said(rows, each, changes);
     match item.origin {
-        Origin::Statement(number) => later.over(said_at(rows, number)),
+        Origin::Statement(number) => later.over(known_at(rows, each, number)),
         _ => later,
     }
 }
 
-/// What is said of each item, as refines change it.
+/// What is said of each item, as refines change it. Each statement is read once.
 pub fn said_of_all(
     alloc: Global,
     rows: &Rows<'_, '_>,
@@ -56,9 +81,10 @@ pub fn said_of_all(
 ) -> Result<Vec<Stated>, AllocError>
     ensures { IfOk result (λ said. said.items ≡ said_of_all (lent_in rows.now) items.now changes.now) }
 {
+    let each = all_said(alloc, rows)?;
     let mut said = Vec::new(alloc);
     for (number, item) in items.iter().enumerate() {
-        said.push(said_of(rows, item, changes.of(number)))?;
+        said.push(said_of(rows, &each, item, changes.of(number)))?;
     }
     Ok(said)
 }

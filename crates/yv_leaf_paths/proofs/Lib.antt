@@ -1,3 +1,4 @@
 pub mod Cuts
 pub mod Reading
 pub mod Homing
+pub mod Referring

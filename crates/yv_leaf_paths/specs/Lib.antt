@@ -1,4 +1,5 @@
 pub mod Steps
+pub mod Referral
 pub mod Known
 pub mod InnerHomes
 pub mod InnerKnown

@@ -1,8 +1,11 @@
-//! The paths that the arguments of `key` and `unique` statements have (RFC 7950, sections 7.8.2 and 7.8.3).
+//! The paths that the arguments of `key`, `unique` and `path` statements have (RFC 7950, sections 7.8.2, 7.8.3 and 9.9.2).
 #![tactic(auto)]
 
 mod cut;
 mod homes;
 mod paths;
+mod referral;
+mod steps;
 
 pub use paths::LeafPaths;
+pub use referral::LeafrefPath;

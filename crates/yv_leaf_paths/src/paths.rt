@@ -1,82 +1,17 @@
 //! The paths of arguments.
-ghost use Rattle.std.specs.Prelude.{◌≡◌, ◌++◌, Some, None, map, IfOk, OnOk};
-ghost use Rattle.std.specs.Option.{option_map};
+ghost use Rattle.std.specs.Prelude.{◌≡◌, ◌++◌, map, IfOk, OnOk};
 ghost use Rattle.yv_rows.specs.Files.{Files};
 ghost use Rattle.yv_rows.specs.Lent.{lent_in};
-ghost use Rattle.yv_leaf_paths.specs.Steps.{path_of, step_by, step_of, texts_of};
-ghost use Rattle.yv_properties.specs.Steps.{Step};
 ghost use Rattle.yv_leaf_paths.specs.InnerKnown.{AreHomes};
 ghost use Rattle.yv_leaf_paths.specs.InnerCut.{name_in, path_in};
 
 use crate::cut::cut;
 use crate::homes::Homes;
+use crate::referral::{LeafrefPath, read_referral};
+use crate::steps::{read_path, read_step};
 use std::alloc::{AllocError, Global};
-use std::rc::RcStr;
 use yv_properties::PathStep;
-use yv_rows::{Rows, local, prefix_of};
-
-// A step without a prefix.
-fn bare_step(alloc: Global, name: &str) -> Result<PathStep, AllocError>
-    ensures { IfOk result (λ step. step ≡ record { home = None; name = name.now }) }
-{
-    Ok(PathStep {
-        home: None,
-        name: RcStr::from_str(alloc, name)?,
-    })
-}
-
-// A step whose prefix stands for a module, if it does.
-fn step_in(alloc: Global, home: Option<u32>, name: &str) -> Result<Option<PathStep>, AllocError>
-    ensures { IfOk result (λ step. step ≡ option_map (λ number. record { home = Some number; name = name.now }) home) }
-{
-    match home {
-        Some(home) => Ok(Some(PathStep {
-            home: Some(home),
-            name: RcStr::from_str(alloc, name)?,
-        })),
-        None => Ok(None),
-    }
-}
-
-// The step of a path in a file that is written so.
-fn read_step<'a>(
-    alloc: Global,
-    homes: &Homes<'a>,
-    file: usize,
-    text: &'a str,
-) -> Result<Option<PathStep>, AllocError>
-    ensures { (files : Files) → AreHomes files homes.now → IfOk result (λ step. step ≡ step_of files file text.now) }
-{
-    let name = local(text);
-    match prefix_of(text) {
-        Some(prefix) => step_in(alloc, homes.get(file, prefix), name),
-        None => Ok(Some(bare_step(alloc, name)?)),
-    }
-}
-
-// The text of each step of a path.
-fn steps(alloc: Global, text: &str) -> Result<Vec<&str>, AllocError>
-    ensures { IfOk result (λ steps. map (λ s. s.now) steps.items ≡ texts_of text.now) }
-{
-    text.split('/').collect(alloc)
-}
-
-// The path in a file that is written so.
-fn read_path<'a>(
-    alloc: Global,
-    homes: &Homes<'a>,
-    file: usize,
-    text: &'a str,
-) -> Result<Vec<Option<PathStep>>, AllocError>
-    ensures { (files : Files) → AreHomes files homes.now → IfOk result (λ path. path.items ≡ path_of files file text.now) }
-{
-    let texts = steps(alloc, text)?;
-    let mut path = Vec::new(alloc);
-    for step in &texts {
-        path.push(read_step(alloc, homes, file, step)?)?;
-    }
-    Ok(path)
-}
+use yv_rows::Rows;
 
 // Adds the path that a text without blanks is. An empty one is none.
 fn push_path<'a>(
@@ -119,6 +54,7 @@ pub struct LeafPaths<'a> {
 
 impl<'a> LeafPaths<'a> {
     ghost use Rattle.yv_leaf_paths.specs.Known.{AreLeafPaths};
+    ghost use Rattle.yv_leaf_paths.specs.Referral.{climbs_of, steps_in};
     ghost use Rattle.yv_leaf_paths.specs.Steps.{names_of, paths_of};
 
     /// The prefixes that files declare, in time n log n and memory linear in the text. Err for want of memory alone.
@@ -168,5 +104,21 @@ impl<'a> LeafPaths<'a> {
         }
         push_name(alloc, &self.homes, file, &mut names, rest)?;
         Ok(names)
+    }
+
+    /// The path that the argument of a `path` statement in a file is, in time and memory linear in the text (RFC 7950, section 9.9.2).
+    /// A step is None where its prefix stands for no module. Err for want of memory alone, and no memory where the path climbs
+    /// 2 to the 32 times or more.
+    pub fn referral(
+        &self,
+        alloc: Global,
+        file: usize,
+        text: &'a str,
+    ) -> Result<LeafrefPath, AllocError>
+        ensures climbs { IfOk result (λ path. path.climbs ≡ climbs_of text.now) }
+        ensures steps { (files : Files) → AreLeafPaths files self.now
+            → IfOk result (λ path. path.steps.items ≡ steps_in files file text.now) }
+    {
+        read_referral(alloc, &self.homes, file, text)
     }
 }

@@ -1,11 +1,13 @@
 -- Schemas that say the same.
-use Rattle.std.proofs.Common.{◌≡◌, ℕ, List, Some, sym, ap, subst, ◌∙◌}
+use Rattle.std.proofs.Common.{◌≡◌, ◌<◌, ℕ, List, length, Some, inl, inr, sym, ap, subst, ◌∙◌}
 use Rattle.std.specs.List.{slice_get}
+use Rattle.yv_statement.specs.declared.refusal.Refusal.{Refusal}
 use Rattle.yv_nodes.specs.Rows.{Row}
 use Rattle.yv_leafrefs.specs.Schema.{AreAlike, Referral, Schema}
 use Rattle.yv_leafrefs.specs.Above.{IsInside}
 use Rattle.yv_leafrefs.specs.Ways.{Begins, Leads}
-use Rattle.yv_leafrefs.specs.Targets.{HasTypesOf, IsLeafref, RefersTo, own, along}
+use Rattle.yv_leafrefs.specs.Targets.{HasTypesOf, IsLeafref, LeadsTo, RefersTo, own, along, by_step, by_way}
+use Rattle.yv_leafrefs.specs.Bad.{BadLeafref, BadLeafrefs, IsLost}
 
 pub turned : (s t : Schema) → AreAlike s t → AreAlike t s
 turned s t alike = record { rows = sym alike.rows; says = λ n. sym (alike.says n) }
@@ -33,3 +35,28 @@ refers_alike s t n x alike r = record {
 pub types_alike : (s t : Schema) (n e : ℕ) → AreAlike s t → HasTypesOf s n e → HasTypesOf t n e
 types_alike s t n e alike (own none) = own (λ x r. none x (refers_alike t s n x (turned s t alike) r))
 types_alike s t n e alike (along {target = x} r h) = along (refers_alike s t n x alike r) (types_alike s t x e alike h)
+
+leads_alike : (s t : Schema) (n m : ℕ) → AreAlike s t → LeadsTo s n m → LeadsTo t n m
+leads_alike s t n m alike (by_step r) = by_step (refers_alike s t n m alike r)
+leads_alike s t n m alike (by_way {b = b} r rest) = by_way (refers_alike s t n b alike r) (leads_alike s t b m alike rest)
+
+lost_alike : (s t : Schema) (n : ℕ) (row : Row) → AreAlike s t → IsLost s n row → IsLost t n row
+lost_alike s t n row alike is = record {
+  ref = is.ref;
+  is_leafref = leafref_alike s t n row is.ref alike is.is_leafref;
+  lost = λ x r. is.lost x (refers_alike t s n x (turned s t alike) r);
+}
+
+one_alike : (s t : Schema) (n : ℕ) (row : Row) (f : Refusal) → AreAlike s t → BadLeafref s n row f → BadLeafref t n row f
+one_alike s t n row f alike (inl bad) = inl (lost_alike s t n row alike bad.0, bad.1)
+one_alike s t n row f alike (inr bad) = inr (leads_alike s t n n alike bad.0, bad.1)
+
+-- the same is wrong with them
+pub bad_alike : (s t : Schema) (f : Refusal) → AreAlike s t → BadLeafrefs s f → BadLeafrefs t f
+bad_alike s t f alike (n, within, row, at, bad) = (
+  n,
+  subst (λ (rows : List Row). n < length rows) alike.rows within,
+  row,
+  ap (λ (rows : List Row). slice_get rows n) (sym alike.rows) ∙ at,
+  one_alike s t n row f alike bad,
+)

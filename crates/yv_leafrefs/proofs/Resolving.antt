@@ -1,15 +1,16 @@
 -- Trees with other types, and their rows.
-use Rattle.std.proofs.Common.{◌≡◌, ℕ, ◌+◌, ◌<◌, ◌≤◌, List, [], ◌∷◌, ◌++◌, length, length-append, refl, sym, ap, ap₂, ◌∙◌, arith}
+use Rattle.std.proofs.Common.{◌≡◌, ℕ, ◌+◌, ◌<◌, ◌≤◌, List, [], ◌∷◌, ◌++◌, length, length-append, Some, slice_get, slice_index_or, refl, sym, ap, ap₂, ◌∙◌, arith}
+use Rattle.std.proofs.lemmas.Option.{slice_get-get_or, slice_get_within}
 use Rattle.yv_values.specs.Types.{Plain}
 use Rattle.yv_nodes.specs.declared.node.NodeId.{NodeId}
 use Rattle.yv_nodes.specs.Numbers.{numbers_from, rows_below, rows_from}
 use Rattle.yv_nodes.specs.Rows.{root, Row}
 use Rattle.yv_nodes.specs.Tree.{count, Forest, no_trees, node, tree}
-use Rattle.yv_leafrefs.specs.Schema.{Schema}
-use Rattle.yv_leafrefs.specs.Targets.{HasTypesOf}
-use Rattle.yv_nodes.specs.Typed.{typed, typed_rows, types_at}
-use Rattle.yv_leafrefs.specs.Resolved.{IsResolved, typed_from}
-use Rattle.yv_leafrefs.proofs.Alike.{types_alike}
+use Rattle.yv_leafrefs.specs.Schema.{AreAlike, Schema}
+use Rattle.yv_leafrefs.specs.Targets.{HasTypesOf, own, along}
+use Rattle.yv_nodes.specs.Typed.{typed, typed_from, typed_rows, types_at, types_from}
+use Rattle.yv_leafrefs.specs.Resolved.{IsResolved, IsTyped, resolved, refused}
+use Rattle.yv_leafrefs.proofs.Alike.{bad_alike, turned, types_alike}
 
 rows_long : (parent : NodeId) (first : ℕ) (ts : Forest) → length (rows_below parent first ts) ≡ count ts
 rows_long parent first no_trees = refl
@@ -39,6 +40,13 @@ resolved_once one s t stated a b says p q =
     let of_same : HasTypesOf s n (q.origin n) = types_alike t s n (q.origin n) (record { rows = rows; says = λ k. sym (says k) }) (q.each n (omega (arith, within, ap length rows))) in
     ap (types_at s.rows) (one s n (p.origin n) (q.origin n) (p.each n within) of_same) ∙ ap (λ (rs : List Row). types_at rs (q.origin n)) (sym rows))
     ∙ sym q.is
+
+pub typed_once : ((s : Schema) (n e f : ℕ) → HasTypesOf s n e → HasTypesOf s n f → e ≡ f) → (s t : Schema) (stated a b : Forest)
+    → AreAlike s t → IsTyped s stated a → IsTyped t stated b → a ≡ b
+typed_once one s t stated a b alike (resolved p q) (resolved p' q') = resolved_once one s t stated a b alike.says q q'
+typed_once one s t stated a b alike (resolved p q) (refused {f = f} bad) = absurd (p f (bad_alike t s f (turned s t alike) bad))
+typed_once one s t stated a b alike (refused {f = f} bad) (resolved p q) = absurd (p f (bad_alike s t f alike bad))
+typed_once one s t stated a b alike (refused bad) (refused other) = refl
 
 module _ (types : ℕ → List Plain) where
   count_typed : (first : ℕ) (ts : Forest) → count (typed_from types first ts) ≡ count ts
@@ -77,3 +85,28 @@ module _ (types : ℕ → List Plain) where
 
   pub rows_typed : (ts : Forest) → rows_from 0 (typed_from types 0 ts) ≡ typed_rows types 0 (rows_from 0 ts)
   rows_typed ts = typed_below root 0 ts
+
+-- by the nodes whose types the others have
+pub resolved_by : (s : Schema) (stated : Forest) (origins : List NodeId) → length origins ≡ length s.rows
+    → ((n : ℕ) (e : NodeId) → slice_get origins n ≡ Some e → HasTypesOf s n e.0) → s.rows ≡ rows_from 0 stated
+    → IsResolved s stated (typed_from (types_from s.rows origins) 0 stated)
+resolved_by s stated origins long has rows = record {
+  rows = rows;
+  origin = λ n. (slice_index_or origins n root).0;
+  each = λ n within. has n (slice_index_or origins n root) (slice_get-get_or origins n root (omega (arith, within, long)));
+  is = refl;
+}
+
+-- its rows
+pub rows_by : (rows : List Row) (stated : Forest) (origins : List NodeId) → rows ≡ rows_from 0 stated
+    → typed_rows (types_from rows origins) 0 rows ≡ rows_from 0 (typed_from (types_from rows origins) 0 stated)
+rows_by rows stated origins are =
+    ap (typed_rows (types_from rows origins) 0) are ∙ sym (rows_typed (types_from rows origins) stated)
+
+-- the node whose types a node has is one of them
+pub origin_within : (s : Schema) (n e : ℕ) → HasTypesOf s n e → n < length s.rows → e < length s.rows
+origin_within s n e (own none) within = within
+origin_within s n e (along {target = x} refers rest) within = origin_within s x e rest (slice_get_within s.rows x refers.found refers.at)
+
+pub tops_typed : (types : ℕ → List Plain) (ts : Forest) → numbers_from 0 (typed_from types 0 ts) ≡ numbers_from 0 ts
+tops_typed types ts = numbers_typed types 0 ts

@@ -1,17 +1,13 @@
 -- A schema tree whose leafrefs are resolved: the values of each have the types of its target (RFC 7950, section 9.9).
-use Rattle.std.specs.Prelude.{◌≡◌, ℕ, ◌+◌, ◌<◌, List, length}
-use Rattle.yv_values.specs.Types.{Plain}
+use Rattle.std.specs.Prelude.{◌≡◌, ℕ, ◌<◌, length, None}
+use Rattle.yv_statement.specs.Order.{IsLeast}
+use Rattle.yv_statement.specs.declared.refusal.Refusal.{Refusal}
 use Rattle.yv_nodes.specs.Numbers.{rows_from}
-use Rattle.yv_nodes.specs.Tree.{count, Forest, no_trees, node, tree}
-use Rattle.yv_nodes.specs.Typed.{typed, types_at}
+use Rattle.yv_nodes.specs.Tree.{Forest}
+use Rattle.yv_nodes.specs.Typed.{typed_from, types_at}
 use Rattle.yv_leafrefs.specs.Schema.{Schema}
 use Rattle.yv_leafrefs.specs.Targets.{HasTypesOf}
-
--- trees whose nodes have the types that are told of their numbers, the first of which is `first`
-abbrev pub typed_from : (types : ℕ → List Plain) → (first : ℕ) → Forest → Forest
-typed_from types first no_trees = no_trees
-typed_from types first (tree (node l kids) ts) =
-    tree (node (typed (types first) l) (typed_from types (first + 1) kids)) (typed_from types (first + 1 + count kids) ts)
+use Rattle.yv_leafrefs.specs.Bad.{BadLeafrefs}
 
 -- these are the trees of a schema with its leafrefs resolved
 pub record IsResolved (s : Schema) (stated resolved : Forest) : Type 0 where
@@ -19,3 +15,9 @@ pub record IsResolved (s : Schema) (stated resolved : Forest) : Type 0 where
   pub origin : ℕ → ℕ
   pub each : (n : ℕ) → n < length s.rows → HasTypesOf s n (origin n)
   pub is : resolved ≡ typed_from (λ n. types_at s.rows (origin n)) 0 stated
+
+-- the tree that a schema comes to: with its leafrefs resolved where nothing is wrong with them, and else as it is stated, since it is
+-- refused
+pub data IsTyped (s : Schema) (stated : Forest) : Forest → Type 0 where
+  resolved : {tree : Forest} → IsLeast (BadLeafrefs s) None → IsResolved s stated tree → IsTyped s stated tree
+  refused : {f : Refusal} → BadLeafrefs s f → IsTyped s stated stated

@@ -3,12 +3,12 @@
 ghost use Rattle.std.specs.Prelude.{List, ◌≡◌, ◌⊎◌, ◌≤◌, ℕ, Some, None, true, slice_get};
 ghost use Rattle.yv_nodes.specs.Tree.{Forest};
 ghost use Rattle.yv_nodes.specs.Rows.{Row};
-ghost use Rattle.yv_nodes.specs.Numbers.{rows_from};
-ghost use Rattle.yv_nodes.specs.Typed.{typed_rows};
-ghost use Rattle.yv_leafrefs.specs.Schema.{Schema};
+ghost use Rattle.yv_nodes.specs.Numbers.{numbers_from, rows_from};
+ghost use Rattle.yv_nodes.specs.Typed.{typed_from, typed_rows};
+ghost use Rattle.yv_leafrefs.specs.Schema.{AreAlike, Schema};
 ghost use Rattle.yv_leafrefs.specs.Above.{AreBehind, IsDepth, IsInside, IsUnder};
 ghost use Rattle.yv_leafrefs.specs.Targets.{RefersTo, HasTypesOf, has_values};
-ghost use Rattle.yv_leafrefs.specs.Resolved.{IsResolved, typed_from};
+ghost use Rattle.yv_leafrefs.specs.Resolved.{IsResolved, IsTyped};
 ghost use Rattle.yv_values.specs.Types.{Plain};
 
 /// The rows of a schema tree stand each behind the one above it.
@@ -51,6 +51,16 @@ pub fn a_path_climbs_within_the_depth()
 /// A schema tree is resolved to one, by what its leafrefs say.
 pub fn a_tree_is_resolved_once()
     ensures { (s t : Schema) (stated a b : Forest) → ((n : ℕ) → s.says n ≡ t.says n) → IsResolved s stated a → IsResolved t stated b → a ≡ b }
+{}
+
+/// A schema comes to one tree, by what its leafrefs say.
+pub fn a_tree_is_typed_once()
+    ensures { (s t : Schema) (stated a b : Forest) → AreAlike s t → IsTyped s stated a → IsTyped t stated b → a ≡ b }
+{}
+
+/// Its nodes at the top have the numbers of those of the stated one.
+pub fn tops_are_typed()
+    ensures { (types : ℕ → List Plain) (ts : Forest) → numbers_from 0 (typed_from types 0 ts) ≡ numbers_from 0 ts }
 {}
 
 /// The rows of a resolved tree are those of the stated one with other types.

@@ -1,9 +1,11 @@
 //! The leafrefs of a schema tree.
-ghost use Rattle.std.specs.Prelude.{◌≡◌, ◌<◌, ◌↔◌, ◌^◌, All, ℕ, List, Option, Some, None, map, length, IfOk, slice_get};
+ghost use Rattle.std.specs.Prelude.{◌≡◌, ◌<◌, ◌↔◌, ◌^◌, All, ℕ, List, Option, Some, None, map, length, IfErr, IfOk, OnOk, slice_get};
 ghost use Rattle.std.specs.List.{slice_index_or};
 ghost use Rattle.std.specs.Option.{option_map};
 ghost use Rattle.yv_nodes.specs.declared.node.NodeId.{NodeId};
+ghost use Rattle.yv_nodes.specs.Numbers.{rows_from};
 ghost use Rattle.yv_nodes.specs.Rows.{Row};
+ghost use Rattle.yv_nodes.specs.Tree.{Forest};
 ghost use Rattle.yv_leafrefs.specs.Schema.{Referral, Schema, said_by};
 ghost use Rattle.yv_leafrefs.specs.Above.{AreBehind};
 ghost use Rattle.yv_leafrefs.specs.Named.{AreNamed};
@@ -59,6 +61,7 @@ impl Leafrefs {
     ghost use Rattle.yv_leafrefs.specs.Targets.{RefersTo, HasTypesOf};
     ghost use Rattle.yv_leafrefs.specs.Bad.{BadLeafrefs};
     ghost use Rattle.yv_leafrefs.specs.Known.{AreLeafrefs};
+    ghost use Rattle.yv_leafrefs.specs.Resolved.{IsTyped};
 
     /// The leafrefs among these nodes. For each node `statements` has the number of the statement that defines it, so that a long name
     /// is compared once for all copies of a node, and `of` tells which of the leafrefs it is, if it is one. A name without prefix is of
@@ -116,5 +119,24 @@ impl Leafrefs {
         let origins = origins(alloc, &self.targets)?;
         let nodes = all_numbered(alloc, &origins)?;
         Ok(nodes)
+    }
+
+    /// Gives each leafref among the nodes that were read the types of its target, where nothing is wrong with leafrefs (RFC 7950,
+    /// section 9.9): else the nodes stay as they are. It takes time linear in the nodes. Err for want of memory alone.
+    pub fn resolve(&self, alloc: Global, nodes: &mut Nodes) -> Result<(), AllocError>
+        requires { (s : Schema) × AreLeafrefs s self.now × (s.rows ≡ nodes.old.rows) }
+        ensures typed { (s : Schema) (stated : Forest) → AreLeafrefs s self.now → s.rows ≡ nodes.old.rows → s.rows ≡ rows_from 0 stated
+            → OnOk result ((tree : Forest) × IsTyped s stated tree × (nodes.new.rows ≡ rows_from 0 tree)) }
+        ensures limit { nodes.new.limit ≡ nodes.old.limit }
+        ensures kept { IfErr result (λ error. nodes.new.rows ≡ nodes.old.rows) }
+    {
+        match self.fault {
+            Some(_) => Ok(()),
+            None => {
+                let origins = self.origins(alloc)?;
+                nodes.resolve(alloc, &origins)?;
+                Ok(())
+            }
+        }
     }
 }

@@ -5,7 +5,7 @@ use Rattle.yv_values.specs.Types.{Plain}
 use Rattle.yv_properties.specs.Defined.{Defined}
 use Rattle.yv_nodes.specs.declared.node.NodeId.{NodeId}
 use Rattle.yv_nodes.specs.Rows.{Row, blank_row, root}
-use Rattle.yv_nodes.specs.Tree.{Label}
+use Rattle.yv_nodes.specs.Tree.{count, Forest, Label, no_trees, node, tree}
 
 -- what is said of a node, but that its values have these types
 abbrev pub with_types : List Plain → Defined → Defined
@@ -49,6 +49,12 @@ typed_row types r = record { label = typed types r.label; parent = r.parent; chi
 abbrev pub typed_rows : (types : ℕ → List Plain) → (first : ℕ) → List Row → List Row
 typed_rows types first [] = []
 typed_rows types first (r ∷ rs) = typed_row (types first) r ∷ typed_rows types (first + 1) rs
+
+-- trees whose nodes have the types that are told of their numbers, the first of which is `first`
+abbrev pub typed_from : (types : ℕ → List Plain) → (first : ℕ) → Forest → Forest
+typed_from types first no_trees = no_trees
+typed_from types first (tree (node l kids) ts) =
+    tree (node (typed (types first) l) (typed_from types (first + 1) kids)) (typed_from types (first + 1 + count kids) ts)
 
 -- the types that the row of a number has by itself
 abbrev pub types_at : List Row → ℕ → List Plain

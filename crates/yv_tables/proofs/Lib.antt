@@ -13,3 +13,4 @@ pub mod Doubling
 pub mod Forming
 pub mod Clearing
 pub mod Kept
+pub mod Typing

@@ -12,6 +12,10 @@ use Rattle.yv_listed.specs.Known.{AreLists}
 use Rattle.yv_properties.specs.Defined.{Written}
 use Rattle.yv_defaults.specs.Defaults.{HasDefault}
 use Rattle.yv_defaults.specs.Known.{AreDefaults, found_in}
+use Rattle.yv_leafref_types.specs.Known.{AreLeafrefTypes}
+use Rattle.yv_leafref_types.specs.Known.{found_in as leafref_in}
+use Rattle.yv_leafref_types.specs.Referrals.{HasReferral}
+use Rattle.yv_leafref_types.specs.declared.referring.Referring.{Referring}
 use Rattle.yv_types.specs.InnerPlaces.{placed_in}
 use Rattle.yv_values.specs.Types.{Plain}
 use Rattle.yv_types.specs.InnerTables.{AreSpaces, plains_at}
@@ -25,10 +29,12 @@ pub record AreLayers (files : Files) (truth : Truth) (layers : Layers) : Type 0 
   pub faceted : AreFaceted files layers.faceted
   pub listed : AreLists files truth layers.lists
 
--- these are the plain types and the defaults of the types of these files, and the places of these; how, only the readers ask
+-- these are the plain types and the defaults of the types of these files, what these say as leafrefs, and their places; how, only the
+-- readers ask
 pub record AreTypes (files : Files) (choice : Choice) (truth : Truth) (types : Types) : Type 0 where
   pub spaces : AreSpaces files truth choice types.spaces.items
   pub defaults : AreDefaults files types.defaults
+  pub leafrefs : AreLeafrefTypes files types.leafrefs
   pub places : (file offset : ℕ) → placed_in types.places file offset ≡ number_at (rows_of files) (codes "type") file offset
 
 -- the plain types that are told of the type statement at an offset of a file
@@ -50,3 +56,12 @@ default_at types file offset = option_and_then (found_in types.defaults) (placed
 abbrev pub IsDefault : Files → Option ℕ → Option Written → Type 0
 IsDefault files None default = default ≡ None
 IsDefault files (Some k) default = HasDefault files k default
+
+-- what is told of the type statement at an offset of a file as a leafref
+abbrev pub referring_at : Types → ℕ → ℕ → Option Referring
+referring_at types file offset = option_and_then (leafref_in types.leafrefs) (placed_in types.places file offset)
+
+-- this is what the type of this number says as a leafref; nothing, where there is no type
+abbrev pub IsReferring : Files → Option ℕ → Option Referring → Type 0
+IsReferring files None found = found ≡ None
+IsReferring files (Some k) found = HasReferral files k found

@@ -11,21 +11,23 @@ ghost use Rattle.yv_listed.specs.Types.{Truth};
 ghost use Rattle.yv_values.specs.Types.{Plain, plain_of};
 ghost use Rattle.yv_types.specs.Spaces.{Space};
 ghost use Rattle.yv_properties.specs.Defined.{written_of};
-ghost use Rattle.yv_types.specs.Known.{AreTypes, default_at, space_at};
+ghost use Rattle.yv_types.specs.Known.{AreTypes, default_at, referring_at, space_at};
 
 use crate::places::Places;
 use crate::table::{Shared, get, list_at};
 use std::alloc::AllocError;
 use std::rc::RcSlice;
 use yv_defaults::Defaults;
+use yv_leafref_types::{LeafrefTypes, Referring};
 use yv_properties::WrittenText;
 use yv_values::PlainType;
 
-/// The plain types and the defaults of the types of files in which nothing is wrong with types.
+/// The plain types and the defaults of the types of files in which nothing is wrong with types, and what they say as leafrefs.
 #[derive(Drop)]
 pub struct Types {
     pub(crate) spaces: Vec<Option<Shared>>,
     pub(crate) defaults: Defaults,
+    pub(crate) leafrefs: LeafrefTypes,
     pub(crate) places: Places,
 }
 
@@ -73,5 +75,14 @@ impl Types {
     {
         let number = self.places.get(file, offset)?;
         self.defaults.of(number)
+    }
+
+    /// What the type statement that stands first at an offset (bytes) of a file says as a leafref, by itself or along its typedefs
+    /// (RFC 7950, sections 9.9.2 and 9.9.3). None where there is no type, and where it leads to no leafref.
+    pub fn referring_at(&self, file: u32, offset: u64) -> Option<Referring>
+        ensures { result ≡ referring_at self.now file offset }
+    {
+        let number = self.places.get(file, offset)?;
+        self.leafrefs.of(number)
     }
 }

@@ -7,7 +7,7 @@ ghost use Rattle.yv_names.specs.References.{number_at};
 ghost use Rattle.yv_listed.specs.Types.{Truth};
 ghost use Rattle.yv_values.specs.Types.{Plain};
 ghost use Rattle.yv_types.specs.Spaces.{Space};
-ghost use Rattle.yv_types.specs.Known.{AreTypes, IsDefault, IsTold, default_at, space_at};
+ghost use Rattle.yv_types.specs.Known.{AreTypes, IsDefault, IsReferring, IsTold, default_at, referring_at, space_at};
 ghost use Rattle.yv_types.specs.declared.known.Types.{Types};
 
 /// A type has one list of plain types.
@@ -34,4 +34,11 @@ pub fn types_tell_defaults()
     ensures { (files : Files) (choice : Choice) (truth : Truth) (types : Types) → AreTypes files choice truth types
         → (file offset : ℕ) → IsDefault files (number_at (rows_of files) (codes "type") file offset)
         (default_at types file offset) }
+{}
+
+/// What is told of the type statement at an offset of a file as a leafref is what it says by itself or along its typedefs.
+pub fn types_tell_leafrefs()
+    ensures { (files : Files) (choice : Choice) (truth : Truth) (types : Types) → AreTypes files choice truth types
+        → (file offset : ℕ) → IsReferring files (number_at (rows_of files) (codes "type") file offset)
+        (referring_at types file offset) }
 {}

@@ -16,11 +16,12 @@ use crate::layers::Layers;
 use crate::places::Places;
 use std::alloc::Global;
 use yv_defaults::Defaults;
+use yv_leafref_types::LeafrefTypes;
 use yv_link::Linked;
 use yv_names::Names;
 use yv_statement::Stop;
 
-/// The plain types and the defaults of the types of linked files, the names being theirs, or the least refusal of these (RFC 7950, section
+/// The plain types and the defaults of the types of linked files, and what they say as leafrefs, the names being theirs, or the least refusal of these (RFC 7950, section
 /// 9). `PatternBuild` says that `regex` doesn't build the translation of a pattern of the dialect. Types that are derived
 /// from unions and identityrefs share the lists of these, and so do identityrefs with the same bases; each with bases of its own
 /// takes the time that `Identities::of` names.
@@ -44,10 +45,12 @@ pub fn types(alloc: Global, linked: &Linked<'_, '_>, names: &Names) -> Result<Ty
     }
     let spaces = layers.spaces(alloc, linked)?;
     let defaults = Defaults::read(alloc, linked.rows(), names, &layers.bases)?;
+    let leafrefs = LeafrefTypes::read(alloc, linked.rows(), &layers.bases)?;
     let places = Places::read(alloc, linked.rows())?;
     Ok(Types {
         spaces,
         defaults,
+        leafrefs,
         places,
     })
 }

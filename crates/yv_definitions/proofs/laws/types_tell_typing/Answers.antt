@@ -6,4 +6,5 @@ pub returns : goal.returns
 returns c = λ files choice truth types are. record {
   kinds = told_kinds files choice truth (space_at types) (c.types_tell_spaces.ensures files choice truth types are);
   defaults = c.types_tell_defaults.ensures files choice truth types are;
+  referrals = c.types_tell_leafrefs.ensures files choice truth types are;
 }

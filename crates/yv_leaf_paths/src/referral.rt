@@ -1,0 +1,99 @@
+//! The paths of leafrefs.
+ghost use Rattle.std.specs.Prelude.{◌≡◌, ◌≤◌, true, false, Some, None, drop, length, map, IfOk, MatchOption};
+ghost use Rattle.std.specs.List.{prefix_len};
+ghost use Rattle.yv_rows.specs.Files.{Files};
+ghost use Rattle.yv_leaf_paths.specs.InnerKnown.{AreHomes};
+ghost use Rattle.yv_leaf_paths.specs.Referral.{climbs_of, is_absolute, is_up, names_behind, steps_in, ups_of};
+ghost use Rattle.yv_leaf_paths.specs.Steps.{path_of, step_of};
+
+use crate::homes::Homes;
+use crate::steps::{read_path, read_steps, texts_of};
+use std::alloc::{AllocError, Global};
+use yv_properties::PathStep;
+
+/// The path of a leafref (RFC 7950, section 9.9.2).
+#[derive(Drop)]
+pub struct LeafrefPath {
+    /// How often `../` stands at its front. None where it is absolute.
+    pub climbs: Option<u32>,
+    /// The names behind, in order: None where a prefix stands for no module.
+    pub steps: Vec<Option<PathStep>>,
+}
+
+// What stands behind the '/' with which an absolute path begins.
+fn behind_root(text: &str) -> Option<&str>
+    ensures { MatchOption result (is_absolute text.now ≡ false) (λ names. (is_absolute text.now ≡ true) × (names.now ≡ drop 1 text.now)) }
+{
+    text.strip_prefix('/')
+}
+
+// How many texts at the front are `..`.
+fn ups(texts: &[&str]) -> usize
+    ensures count { result ≡ prefix_len is_up (map (λ t. t.now) texts.now) }
+    ensures within { result ≤ length texts.now }
+{
+    texts.iter().take_while(|text| **text == "..").count()
+}
+
+// How often a path climbs; no memory where that is 2 to the 32 times or more.
+fn climbs(ups: usize) -> Result<u32, AllocError>
+    ensures { IfOk result (λ climbs. climbs ≡ ups) }
+{
+    match u32::try_from(ups) {
+        Ok(climbs) => Ok(climbs),
+        Err(_) => Err(AllocError),
+    }
+}
+
+// The absolute path with these names.
+fn absolute<'a>(
+    alloc: Global,
+    homes: &Homes<'a>,
+    file: usize,
+    names: &'a str,
+) -> Result<LeafrefPath, AllocError>
+    ensures climbs { IfOk result (λ path. path.climbs ≡ None) }
+    ensures steps { (files : Files) → AreHomes files homes.now → IfOk result (λ path. path.steps.items ≡ path_of files file names.now) }
+{
+    Ok(LeafrefPath {
+        climbs: None,
+        steps: read_path(alloc, homes, file, names)?,
+    })
+}
+
+// The relative path that is written so.
+fn relative<'a>(
+    alloc: Global,
+    homes: &Homes<'a>,
+    file: usize,
+    text: &'a str,
+) -> Result<LeafrefPath, AllocError>
+    ensures climbs { IfOk result (λ path. path.climbs ≡ Some (ups_of text.now)) }
+    ensures steps { (files : Files) → AreHomes files homes.now
+        → IfOk result (λ path. path.steps.items ≡ map (step_of files file) (names_behind text.now)) }
+{
+    let texts = texts_of(alloc, text)?;
+    let ups = ups(&texts);
+    let climbs = climbs(ups)?;
+    let steps = read_steps(alloc, homes, file, &texts[ups..])?;
+    Ok(LeafrefPath {
+        climbs: Some(climbs),
+        steps,
+    })
+}
+
+/// The path of a leafref in a file that is written so.
+pub(crate) fn read_referral<'a>(
+    alloc: Global,
+    homes: &Homes<'a>,
+    file: usize,
+    text: &'a str,
+) -> Result<LeafrefPath, AllocError>
+    ensures climbs { IfOk result (λ path. path.climbs ≡ climbs_of text.now) }
+    ensures steps { (files : Files) → AreHomes files homes.now → IfOk result (λ path. path.steps.items ≡ steps_in files file text.now) }
+{
+    match behind_root(text) {
+        Some(names) => absolute(alloc, homes, file, names),
+        None => relative(alloc, homes, file, text),
+    }
+}

@@ -1,0 +1,47 @@
+use Rattle.std.proofs.Common.{◌<◌, inl, ℕ, List, length, map, refl, subst, sym, ◌∙◌, arith}
+use Rattle.std.specs.List.{slice_index}
+use Rattle.std.proofs.lemmas.Option.{slice_get_within}
+use Rattle.yv_rows.specs.Files.{Files, brief_of}
+use Rattle.yv_rows.specs.Listed.{rows_of}
+use Rattle.yv_rows.specs.Lent.{lent_in}
+use Rattle.yv_bases.specs.Known.{AreBases}
+use Rattle.yv_bases.specs.Types.{IsOrderOfTypes, IsTypeAt}
+use Rattle.yv_leafref_types.specs.InnerTables.{AreFound, at}
+use Rattle.yv_leafref_types.specs.Known.{AreLeafrefTypes}
+use Rattle.yv_leafref_types.specs.Referrals.{FollowsIn, HasReferral}
+use Rattle.yv_leafref_types.specs.declared.known.LeafrefTypes.{LeafrefTypes}
+use Rattle.yv_leafref_types.proofs.Walking.{blank_more, found_all, found_more, item_in}
+use Rattle.yv_leafref_types.proofs.known.LeafrefTypes.read.Goals as goal
+
+pub loop-number-preserved : goal.loop-number-preserved
+loop-number-preserved c =
+    let files : Files = lent_in c.args.rows.now in
+    let order : List ℕ = c.order-order.result.now in
+    let i : ℕ = c.loop-number.number-index in
+    let n : ℕ = slice_index order i in
+    let type_of : AreBases files c.args.bases.now → IsTypeAt (rows_of files) n = λ bases.
+    ((c.order-order.ensures files bases).exact n).0 (item_in order i c.loop-number-test.true) in
+    record {
+      each = c.put.ensures.each ∙ c.loop-number.invariant.each;
+      told = λ bases.
+          let behind : IsOrderOfTypes (map brief_of files) (rows_of files) order = c.order-order.ensures files bases in
+          let type : IsTypeAt (rows_of files) n = type_of bases in
+          let within : n < length c.loop-number.found.items = let w = slice_get_within (rows_of files) n type.0 type.1 in omega (arith, w, c.loop-number.invariant.each) in
+          let known : AreFound files (FollowsIn files n) c.loop-number.found.items = λ j f. c.loop-number.invariant.told bases j (behind.behind i j c.loop-number-test.true (inl f)) in
+          let gives : HasReferral files n c.found_at-referring.result =
+          c.found_at-referring.ensures bases (subst (AreFound files (FollowsIn files n)) (sym c.deref.ensures.value) known) in
+          let here : HasReferral files n (at c.put.new.slots.items n) =
+          subst (HasReferral files n) (sym (c.put.ensures.here within)) gives in
+          found_more files order i n c.loop-number.found.items c.put.new.slots.items c.loop-number-test.true refl here c.put.ensures.elsewhere (c.loop-number.invariant.told bases);
+      blank = λ bases. blank_more (rows_of files) n c.loop-number.found.items c.put.new.slots.items (type_of bases) c.put.ensures.elsewhere (c.loop-number.invariant.blank bases);
+    }
+
+pub returns : goal.returns
+returns c = λ files is bases.
+    let own : Files = lent_in c.args.rows.now in
+    let based : AreBases own c.args.bases.now = subst (λ (fs : Files). AreBases fs c.args.bases.now) (sym is) bases in
+    let types : LeafrefTypes = record { found = c.loop-number.found } in
+    let all : AreLeafrefTypes own types = record {
+      each = found_all own c.order-order.result.now c.loop-number.number-index c.loop-number.found.items c.loop-number-test.false ((c.order-order.ensures own based).exact) (c.loop-number.invariant.told based) (c.loop-number.invariant.blank based);
+    } in
+    subst (λ (fs : Files). AreLeafrefTypes fs types) is all

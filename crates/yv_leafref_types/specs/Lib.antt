@@ -1,0 +1,3 @@
+pub mod Referrals
+pub mod Known
+pub mod InnerTables

@@ -1,0 +1,51 @@
+//! What types say as leafrefs, and what readers ask of them.
+ghost use Rattle.std.specs.Prelude.{◌≡◌, IfOk};
+ghost use Rattle.yv_rows.specs.Files.{Files};
+ghost use Rattle.yv_rows.specs.Lent.{lent_in};
+ghost use Rattle.yv_bases.specs.Known.{AreBases};
+
+use crate::found::found_at;
+use crate::referring::Referring;
+use crate::table::{get, nothing, put};
+use std::alloc::{AllocError, Global};
+use yv_bases::Bases;
+use yv_rows::Rows;
+
+/// What the types of files say as leafrefs, by number.
+#[derive(Drop)]
+pub struct LeafrefTypes {
+    pub(crate) found: Vec<Option<Referring>>,
+}
+
+impl LeafrefTypes {
+    ghost use Rattle.yv_leafref_types.specs.Known.{AreLeafrefTypes, found_in};
+    ghost use Rattle.yv_leafref_types.specs.Referrals.{HasReferral};
+
+    /// Reads what the types of these statements say, the bases being theirs, in time and memory linear in statements: no way
+    /// along typedefs is gone twice. Err for want of memory alone.
+    pub fn read(
+        alloc: Global,
+        rows: &Rows<'_, '_>,
+        bases: &Bases,
+    ) -> Result<LeafrefTypes, AllocError>
+        ensures { IfOk result (λ types. (files : Files) → lent_in rows.now ≡ files → AreBases files bases.now → AreLeafrefTypes files types) }
+    {
+        let order = bases.order();
+        let mut found = nothing(alloc, rows.entries().len())?;
+        for number in order {
+            let referring = found_at(rows, bases, &found, *number);
+            put(&mut found, *number, referring);
+        }
+        Ok(LeafrefTypes { found })
+    }
+
+    /// What the type of this number says as a leafref (RFC 7950, sections 9.9.2 and 9.9.3): the statement whose path it has,
+    /// its own or that of the leafref to which it leads along typedefs, and what the nearest `require-instance` on this way says.
+    /// None for types that lead to no leafref, and for other statements.
+    pub fn of(&self, number: usize) -> Option<Referring>
+        ensures told { (files : Files) → AreLeafrefTypes files self.now → HasReferral files number result }
+        ensures same { result ≡ found_in self.now number }
+    {
+        get(&self.found, number)
+    }
+}

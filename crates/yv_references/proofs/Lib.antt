@@ -1,0 +1,11 @@
+pub mod Paths
+pub mod Near
+pub mod Ends
+pub mod Counted
+pub mod Rowed
+pub mod Answered
+pub mod Marked
+pub mod Same
+pub mod Judged
+pub mod Told
+pub mod Walked

@@ -1,0 +1,5 @@
+use Rattle.yv_references.proofs.Ends.{positions_length}
+use Rattle.yv_references.proofs.laws.counted.Goals as goal
+
+pub returns : goal.returns
+returns c = positions_length

@@ -1,0 +1,10 @@
+pub mod Place
+pub mod Same
+pub mod InUse
+pub mod Link
+pub mod Reached
+pub mod References
+pub mod Lookups
+pub mod InnerPositions
+pub mod InnerNotes
+pub mod InnerFound

@@ -1,0 +1,195 @@
+//! The values of leafrefs that reach nothing.
+ghost use Rattle.std.specs.Prelude.{◌≡◌, ◌+◌, [], ◌∷◌, ◌++◌, List, IfOk, OnOk};
+ghost use Rattle.serde_json.specs.Data.{Members, object};
+ghost use Rattle.yv_nodes.specs.Rows.{whole};
+ghost use Rattle.yv_values.specs.Count.{counted};
+ghost use Rattle.yv_references.specs.InnerFound.{Gains, HasMet};
+ghost use Rattle.yv_references.specs.InnerNotes.{asked, asked_once, climbed_to, further_out, judge, judged, path_to, place_at, position_at};
+ghost use Rattle.yv_references.specs.InnerPositions.{Kept};
+ghost use Rattle.yv_references.specs.Link.{AreLinked, link_in};
+ghost use Rattle.yv_references.specs.Lookups.{all_lookups};
+ghost use Rattle.yv_references.specs.References.{all_references, paths_in};
+
+use crate::found::{Found, Note, Position};
+use crate::link::Links;
+use crate::place::Step;
+use crate::targets::Targets;
+use std::alloc::{AllocError, Global};
+use std::rc::RcStr;
+use yv_nodes::NodeId;
+use yv_tables::Schema;
+use yv_values::{Meter, Tuple};
+
+/// The paths of the values of leafrefs that are the same as none that their own paths reach (RFC 7950, section 9.9), in the order in
+/// which a walk found them. Each value of a leafref that it found is looked up once, in time log n, which is one step; a path is made only
+/// for a value that is told. It fails only where memory does.
+pub fn answer(
+    alloc: Global,
+    schema: &Schema,
+    links: &Links,
+    found: Found,
+    meter: &mut Meter,
+) -> Result<Vec<Vec<Step>>, AllocError>
+    ensures told { IfOk result (λ paths. (ms : Members) → HasMet schema.now links.now ms found → AreLinked (link_in links.now) (whole schema.now)
+        → paths_in paths.items ≡ all_references schema.now (link_in links.now) (object ms)) }
+    ensures steps { OnOk result ((ms : Members) → HasMet schema.now links.now ms found
+        → counted meter.new ≡ counted (meter.old + all_lookups schema.now (link_in links.now) (object ms))) }
+{
+    let Found {
+        alloc: _,
+        positions,
+        targets,
+        notes,
+    } = found;
+    let answers = Answers {
+        alloc,
+        schema,
+        links,
+        positions,
+        targets,
+    };
+    let _nodes = schema.children(Schema::ROOT);
+    answers.all(notes, meter)
+}
+
+/// What answers rest on.
+#[derive(Drop)]
+struct Answers<'a> {
+    alloc: Global,
+    schema: &'a Schema,
+    links: &'a Links,
+    positions: Vec<Position>,
+    targets: Targets,
+}
+
+impl Answers<'_> {
+    fn all(&self, notes: Vec<Note>, meter: &mut Meter) -> Result<Vec<Vec<Step>>, AllocError>
+        ensures told { IfOk result (λ paths. (ks : List Kept) → Gains [] self.now.targets ks
+            → paths_in paths.items ≡ judged self.now.schema.now (link_in self.now.links.now) ks self.now.positions.items notes.items) }
+        ensures steps { OnOk result (counted meter.new ≡ counted (meter.old + asked (link_in self.now.links.now) notes.items)) }
+    {
+        let mut paths = Vec::new(self.alloc);
+        for note in notes {
+            self.one(note, &mut paths, meter)?;
+        }
+        Ok(paths)
+    }
+
+    fn one(
+        &self,
+        note: Note,
+        paths: &mut Vec<Vec<Step>>,
+        meter: &mut Meter,
+    ) -> Result<(), AllocError>
+        ensures told { OnOk result ((ks : List Kept) → Gains [] self.now.targets ks
+            → paths_in paths.new.items ≡ paths_in paths.old.items ++ judge self.now.schema.now (link_in self.now.links.now) ks self.now.positions.items note) }
+        ensures steps { OnOk result (counted meter.new ≡ counted (meter.old + asked_once (link_in self.now.links.now note.node))) }
+    {
+        let link = match self.links.link(note.node) {
+            Some(link) => link,
+            None => return Ok(()),
+        };
+        let Note {
+            position,
+            node,
+            item,
+            value,
+        } = note;
+        let from = self.climbed_to(link.climbs, position);
+        let mut key = Tuple::new(self.alloc);
+        key.push(value)?;
+        if self
+            .targets
+            .within(meter, link.target, &key, from, self.last_of(from))
+        {
+            return Ok(());
+        }
+        paths.push(self.path_of(position, node, item)?)?;
+        Ok(())
+    }
+
+    // The object that a path climbs to from another; the first `../` only leaves the leafref itself.
+    fn climbed_to(&self, climbs: Option<u32>, position: u64) -> u64
+        ensures { result ≡ climbed_to self.now.positions.items climbs position }
+    {
+        match climbs {
+            Some(climbs) => self.further_out(climbs.saturating_sub(1), position),
+            None => 0,
+        }
+    }
+
+    fn further_out(&self, many: u32, position: u64) -> u64
+        ensures { result ≡ further_out self.now.positions.items many position }
+    {
+        let mut outer = position;
+        for _ in 0..many {
+            outer = self.parent_of(outer);
+        }
+        outer
+    }
+
+    fn parent_of(&self, position: u64) -> u64
+        ensures { result ≡ (position_at self.now.positions.items position).parent }
+    {
+        match self.positions.get(position as usize) {
+            Some(found) => found.parent,
+            None => 0,
+        }
+    }
+
+    fn last_of(&self, position: u64) -> u64
+        ensures { result ≡ (position_at self.now.positions.items position).last }
+    {
+        match self.positions.get(position as usize) {
+            Some(found) => found.last,
+            None => 0,
+        }
+    }
+
+    fn path_of(
+        &self,
+        position: u64,
+        node: NodeId,
+        item: Option<u64>,
+    ) -> Result<Vec<Step>, AllocError>
+        ensures { IfOk result (λ path. path.items
+            ≡ path_to self.now.schema.now self.now.positions.items position position ++ place_at self.now.schema.now node.0 item ∷ []) }
+    {
+        let mut path = self.path_to(position, position)?;
+        path.push(self.step(node, item)?)?;
+        Ok(path)
+    }
+
+    // The path of an object, which stands in at most so many others.
+    fn path_to(&self, most: u64, position: u64) -> Result<Vec<Step>, AllocError>
+        ensures { IfOk result (λ path. path.items ≡ path_to self.now.schema.now self.now.positions.items most position) }
+    {
+        if most == 0 || position == 0 {
+            return Ok(Vec::new(self.alloc));
+        }
+        let mut path = self.path_to(most - 1, self.parent_of(position))?;
+        path.push(self.step_at(position)?)?;
+        Ok(path)
+    }
+
+    fn step_at(&self, position: u64) -> Result<Step, AllocError>
+        ensures { IfOk result (λ step. step ≡ place_at self.now.schema.now
+            (position_at self.now.positions.items position).node (position_at self.now.positions.items position).item) }
+    {
+        match self.positions.get(position as usize) {
+            Some(found) => self.step(found.node, found.item),
+            None => self.step(NodeId(0), None),
+        }
+    }
+
+    // A node as a step. What the schema doesn't have, and no walk notes, has no name.
+    fn step(&self, node: NodeId, item: Option<u64>) -> Result<Step, AllocError>
+        ensures { IfOk result (λ step. step ≡ place_at self.now.schema.now node.0 item) }
+    {
+        if node.number() < self.schema.len() {
+            Step::of(self.schema.node(node), item)
+        } else {
+            Ok(Step::named(RcStr::from_str(self.alloc, "")?, item))
+        }
+    }
+}

@@ -1,0 +1,180 @@
+//! What a walk finds of references and of their targets.
+ghost use Rattle.std.specs.Prelude.{◌≡◌, ◌<◌, [], ◌∷◌, ◌++◌, length, Some, IfOk, OnOk};
+ghost use Rattle.yv_nodes.specs.Rows.{row_at};
+ghost use Rattle.yv_references.specs.InUse.{default_value};
+ghost use Rattle.yv_references.specs.Reached.{some_value};
+ghost use Rattle.yv_references.specs.InnerFound.{ended, Meets, none_found, opened};
+ghost use Rattle.yv_references.specs.InnerNotes.{value_notes};
+ghost use Rattle.yv_references.specs.InnerPositions.{kept_if};
+ghost use Rattle.yv_references.specs.Link.{is_target, link_in};
+
+use crate::link::Links;
+use crate::targets::Targets;
+use std::alloc::{AllocError, Global};
+use std::marker::Model;
+use yv_nodes::NodeId;
+use yv_tables::Schema;
+use yv_values::Value;
+
+/// An object that was entered.
+#[derive(Drop)]
+pub(crate) struct Position {
+    /// The number of the object around it.
+    pub(crate) parent: u64,
+    /// The container, or the list that it is an entry of.
+    pub(crate) node: NodeId,
+    /// Its number from 1, where it is an entry.
+    pub(crate) item: Option<u64>,
+    /// The number of the last object in it, once it was left.
+    pub(crate) last: u64,
+}
+
+impl Model for Position {
+    ghost use Rattle.yv_references.specs.InnerNotes as notes;
+
+    ghost Value = { notes.Position };
+
+    ghost view = { λ p. record { parent = p.parent; node = p.node.0; item = p.item; last = p.last } };
+}
+
+/// A value of a leafref that was read.
+#[derive(Drop)]
+pub(crate) struct Note {
+    /// The number of the object that it stands in.
+    pub(crate) position: u64,
+    /// The leafref.
+    pub(crate) node: NodeId,
+    /// Its number from 1, where it is an item of a leaf-list.
+    pub(crate) item: Option<u64>,
+    pub(crate) value: Value,
+}
+
+impl Model for Note {
+    ghost use Rattle.yv_references.specs.InnerNotes.{Noted};
+
+    ghost Value = { Noted };
+
+    ghost view = { λ n. record { position = n.position; node = n.node.0; item = n.item; value = n.value } };
+}
+
+/// What a walk over a document finds: the objects that it enters, with numbers from 0 on in the order in which it enters them, the
+/// document first; the values of targets; and the values of leafrefs. Beside values it keeps a few numbers of each, and no path.
+#[derive(Drop)]
+pub struct Found {
+    pub(crate) alloc: Global,
+    pub(crate) positions: Vec<Position>,
+    pub(crate) targets: Targets,
+    pub(crate) notes: Vec<Note>,
+}
+
+impl Model for Found {
+    ghost use Rattle.yv_references.specs.InnerFound.{Findings};
+
+    ghost Value = { Findings };
+
+    ghost view = { λ f. record { indexes = f.targets; positions = f.positions.items; notes = f.notes.items } };
+}
+
+impl Found {
+    /// Nothing.
+    pub fn new(alloc: Global) -> Found
+        ensures { result ≡ none_found }
+    {
+        Found {
+            alloc,
+            positions: Vec::new(alloc),
+            targets: Targets::new(alloc),
+            notes: Vec::new(alloc),
+        }
+    }
+
+    /// Enters an object of this container or list, which stands in the object with the number `parent`; with its number from 1, where it
+    /// is an entry. It answers the number of the object. The document is entered first, with the root as its
+    /// node and 0 as its parent.
+    pub fn enter(&mut self, parent: u64, node: NodeId, item: Option<u64>) -> Result<u64, AllocError>
+        ensures number { IfOk result (λ n. n ≡ length self.old.positions) }
+        ensures positions { OnOk result (self.new.positions ≡ self.old.positions ++ opened parent node.0 item ∷ []) }
+        ensures indexes { self.new.indexes ≡ self.old.indexes }
+        ensures notes { self.new.notes ≡ self.old.notes }
+    {
+        let number = self.positions.len() as u64;
+        self.positions.push(Position {
+            parent,
+            node,
+            item,
+            last: 0,
+        })?;
+        Ok(number)
+    }
+
+    /// Leaves the object with this number: the last object that was entered is the last one in it.
+    pub fn leave(&mut self, number: u64)
+        requires { number < length self.old.positions }
+        ensures positions { self.new.positions ≡ ended self.old.positions number }
+        ensures indexes { self.new.indexes ≡ self.old.indexes }
+        ensures notes { self.new.notes ≡ self.old.notes }
+    {
+        let last = self.positions.len() as u64 - 1;
+        self.positions[number as usize].last = last;
+    }
+
+    /// Keeps a value of a node in the object with this number, where the node is a target.
+    pub fn keep(
+        &mut self,
+        links: &Links,
+        node: NodeId,
+        value: &Value,
+        position: u64,
+    ) -> Result<(), AllocError>
+        ensures { OnOk result (Meets self.old self.new (kept_if (is_target links.now node.0) node.0 position (value.now ∷ [])) [] []) }
+    {
+        if !links.is_target(node) {
+            return Ok(());
+        }
+        self.targets.keep(node, value.copy(self.alloc)?, position)
+    }
+
+    /// Keeps the default of a leaf for the object with this number, in which it is in use, where the leaf is a target and has one. It takes
+    /// the time of a copy of the default, and keeps one copy for each target.
+    pub fn keep_default(
+        &mut self,
+        schema: &Schema,
+        links: &Links,
+        node: NodeId,
+        position: u64,
+    ) -> Result<(), AllocError>
+        requires { node.0 < length schema.now.nodes }
+        ensures { OnOk result (Meets self.old self.new
+            (kept_if (is_target links.now node.0) node.0 position (some_value (default_value (row_at schema.now node).label))) [] []) }
+    {
+        match schema.node(node).defaults().first() {
+            Some(default) => self.keep(links, node, default, position),
+            None => Ok(()),
+        }
+    }
+
+    /// Notes a value of a leafref in the object with this number, where the leafref has a link; with its number from 1, where it is an
+    /// item of a leaf-list.
+    pub fn note(
+        &mut self,
+        links: &Links,
+        node: NodeId,
+        item: Option<u64>,
+        value: &Value,
+        position: u64,
+    ) -> Result<(), AllocError>
+        ensures { OnOk result (Meets self.old self.new [] [] (value_notes (link_in links.now node.0) position node.0 item (Some value.now))) }
+    {
+        if links.link(node).is_none() {
+            return Ok(());
+        }
+        let value = value.copy(self.alloc)?;
+        self.notes.push(Note {
+            position,
+            node,
+            item,
+            value,
+        })?;
+        Ok(())
+    }
+}

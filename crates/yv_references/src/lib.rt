@@ -1,0 +1,16 @@
+//! The values of leafrefs in a JSON document, and those of their targets (RFC 7950, sections 9.9 and 9.9.3).
+#![tactic(auto)]
+
+mod answers;
+mod found;
+pub mod laws;
+mod link;
+mod place;
+mod scope;
+mod targets;
+
+pub use answers::answer;
+pub use found::Found;
+pub use link::{Link, Links};
+pub use place::{MemberName, Step};
+pub use scope::Scope;

@@ -1,0 +1,100 @@
+//! What the statements of nodes say as leafrefs.
+ghost use Rattle.std.specs.Prelude.{◌≡◌, IfOk, OnOk};
+ghost use Rattle.yv_rows.specs.Lent.{lent_in};
+ghost use Rattle.yv_expansion.specs.declared.item.Origin.{Origin};
+ghost use Rattle.yv_definitions.specs.Known.{files_in, typing_in};
+ghost use Rattle.yv_referrals.specs.Said.{said};
+ghost use Rattle.yv_referrals.specs.InnerNumbered.{IsNumbered, KeepsNumbers};
+ghost use Rattle.yv_referrals.specs.InnerDraft.{IsDraft, leafrefs_in, number_at};
+
+use crate::numbered::Numbered;
+use std::alloc::{AllocError, Global};
+use std::collections::BTreeMap;
+use yv_definitions::Definitions;
+use yv_expansion::Origin;
+use yv_leafrefs::Leafref;
+use yv_rows::Rows;
+
+/// What the statements of nodes say. Each is asked once, however many nodes are copies of its node, since its `type` may stand behind
+/// much else in its block.
+#[derive(Drop)]
+pub(crate) struct Draft<'a> {
+    numbered: Numbered<'a>,
+    // By the number of a statement.
+    known: BTreeMap<usize, Option<usize>>,
+}
+
+impl<'a> Draft<'a> {
+    /// Nothing is said yet.
+    pub(crate) fn new(
+        alloc: Global,
+        rows: &Rows<'a, '_>,
+        definitions: &Definitions<'_, 'a, '_>,
+    ) -> Result<Draft<'a>, AllocError>
+        ensures { IfOk result (IsDraft (typing_in definitions.now) (lent_in rows.now)) }
+    {
+        Ok(Draft {
+            numbered: Numbered::new(alloc, rows)?,
+            known: BTreeMap::new(alloc),
+        })
+    }
+
+    // The number of what a statement says, if it was asked.
+    fn known(&self, statement: usize) -> Option<Option<usize>>
+        ensures { result ≡ number_at self.now statement }
+    {
+        self.known.get(&statement).copied()
+    }
+
+    // Asks a statement.
+    fn ask(
+        &mut self,
+        alloc: Global,
+        rows: &Rows<'a, '_>,
+        definitions: &Definitions<'_, 'a, '_>,
+        statement: usize,
+    ) -> Result<Option<usize>, AllocError>
+        requires same { files_in definitions.now ≡ lent_in rows.now }
+        requires draft { IsDraft (typing_in definitions.now) (lent_in rows.now) self.old }
+        ensures draft { OnOk result (IsDraft (typing_in definitions.now) (lent_in rows.now) self.new) }
+        ensures kept { OnOk result (KeepsNumbers (leafrefs_in self.old) (leafrefs_in self.new)) }
+        ensures number { IfOk result (λ number. IsNumbered (leafrefs_in self.new) number
+            (said (typing_in definitions.now) (lent_in rows.now) (Origin.Statement statement))) }
+    {
+        let referring = definitions.referring(Origin::Statement(statement));
+        let number = self.numbered.of(alloc, rows, referring)?;
+        self.known.insert(statement, number)?;
+        Ok(number)
+    }
+
+    /// The number of what a node of this origin says. None where it is no leafref.
+    pub(crate) fn of(
+        &mut self,
+        alloc: Global,
+        rows: &Rows<'a, '_>,
+        definitions: &Definitions<'_, 'a, '_>,
+        origin: Origin,
+    ) -> Result<Option<usize>, AllocError>
+        requires same { files_in definitions.now ≡ lent_in rows.now }
+        requires draft { IsDraft (typing_in definitions.now) (lent_in rows.now) self.old }
+        ensures draft { OnOk result (IsDraft (typing_in definitions.now) (lent_in rows.now) self.new) }
+        ensures kept { OnOk result (KeepsNumbers (leafrefs_in self.old) (leafrefs_in self.new)) }
+        ensures number { IfOk result (λ number. IsNumbered (leafrefs_in self.new) number
+            (said (typing_in definitions.now) (lent_in rows.now) origin)) }
+    {
+        let Origin::Statement(statement) = origin else {
+            return Ok(None);
+        };
+        match self.known(statement) {
+            Some(number) => Ok(number),
+            None => self.ask(alloc, rows, definitions, statement),
+        }
+    }
+
+    /// What is said, by number.
+    pub(crate) fn leafrefs(self) -> Vec<Leafref>
+        ensures { result.items ≡ leafrefs_in self.entry }
+    {
+        self.numbered.leafrefs
+    }
+}

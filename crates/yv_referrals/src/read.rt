@@ -1,0 +1,40 @@
+//! What nodes say as leafrefs.
+ghost use Rattle.std.specs.Prelude.{◌≡◌, ℕ, length, slice_get, IfOk};
+ghost use Rattle.std.specs.Option.{option_and_then};
+ghost use Rattle.yv_rows.specs.Lent.{lent_in};
+ghost use Rattle.yv_definitions.specs.Known.{files_in, typing_in};
+ghost use Rattle.yv_leafrefs.specs.Schema.{said_by};
+ghost use Rattle.yv_referrals.specs.Said.{said};
+
+use crate::draft::Draft;
+use crate::known::Referrals;
+use std::alloc::{AllocError, Global};
+use yv_definitions::Definitions;
+use yv_expansion::Origin;
+use yv_rows::Rows;
+
+/// What nodes of these origins say as leafrefs (RFC 7950, section 9.9), the definitions being those of these statements. A
+/// statement is asked for its type once, and a path is read once, or twice where types that share it differ in whether an instance is
+/// required, however many nodes and typedefs share it: it takes time n log n, and memory linear in the nodes and the texts. Err for
+/// want of memory alone.
+pub fn referrals<'a>(
+    alloc: Global,
+    rows: &Rows<'a, '_>,
+    definitions: &Definitions<'_, 'a, '_>,
+    origins: &[Origin],
+) -> Result<Referrals, AllocError>
+    requires { files_in definitions.now ≡ lent_in rows.now }
+    ensures each { IfOk result (λ r. length r.of.items ≡ length origins.now) }
+    ensures said { IfOk result (λ r. (n : ℕ) → said_by r.of.items r.leafrefs.items n
+        ≡ option_and_then (said (typing_in definitions.now) (files_in definitions.now)) (slice_get origins.now n)) }
+{
+    let mut draft = Draft::new(alloc, rows, definitions)?;
+    let mut of = Vec::new(alloc);
+    for origin in origins {
+        of.push(draft.of(alloc, rows, definitions, *origin)?)?;
+    }
+    Ok(Referrals {
+        of,
+        leafrefs: draft.leafrefs(),
+    })
+}
