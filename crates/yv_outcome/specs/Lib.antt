@@ -2,3 +2,4 @@ pub mod Document
 pub mod Status
 pub mod Compiles
 pub mod Output
+pub mod Told

@@ -8,5 +8,5 @@ mod print;
 mod status;
 
 pub use document::{Document, read_document};
-pub use print::{Body, Output, of_count, of_data, of_diagram, of_refusal};
+pub use print::{Body, Checked, Output, of_count, of_data, of_diagram, of_refusal};
 pub use status::{Status, Verdict};

@@ -1,5 +1,5 @@
 //! The text of an outcome.
-ghost use Rattle.std.specs.Prelude.{◌≡◌, ◌≤◌, map, slice_get, IfOk, None, string_bytes};
+ghost use Rattle.std.specs.Prelude.{◌≡◌, ◌≤◌, map, slice_get, IfOk, IfSome, None, string_bytes};
 ghost use Rattle.serde_json.specs.Data.{depth};
 ghost use Rattle.serde_json.specs.View.{view};
 ghost use Rattle.yv_nodes.specs.Rows.{whole};
@@ -7,11 +7,14 @@ ghost use Rattle.yv_validate.specs.Size.{size};
 ghost use Rattle.yv_validate.specs.Faults.{faults as faults_in};
 ghost use Rattle.yv_streams.specs.Files.{file_of};
 ghost use Rattle.yv_outcome.specs.Output.{name_of_file, refusal_line, faults_printed, data_printed, count_printed, diagram_printed, drawn_printed, bad_input as bad_input_printed, printed_of};
+ghost use Rattle.yv_outcome.specs.Told.{TellsData};
+ghost use Rattle.yv_fault_sentences.specs.Told.{Tells};
 
 use crate::document::{Document, read_document};
 use crate::status::Verdict;
 use serde_json::Value;
 use std::alloc::{AllocError, Global};
+use yv_fault_sentences::sentences;
 use yv_schema::Schema;
 use yv_statement::Refusal;
 use yv_streams::Input;
@@ -96,9 +99,18 @@ fn no_module(alloc: Global) -> Result<Output, AllocError>
     })
 }
 
+/// What is said of a document, and what helps a person to mend it.
+#[derive(Drop)]
+pub struct Checked {
+    pub output: Output,
+    /// Sentences on the first faults, where there are faults and there is memory for it.
+    pub told: Option<String>,
+}
+
 /// What is said of a document of these bytes.
-pub fn of_data(alloc: Global, schema: &Schema, bytes: &[u8]) -> Result<Output, AllocError>
-    ensures { IfOk result (λ o. printed_of o ≡ data_printed schema.now bytes.now) }
+pub fn of_data(alloc: Global, schema: &Schema, bytes: &[u8]) -> Result<Checked, AllocError>
+    ensures printed { IfOk result (λ c. printed_of c.output ≡ data_printed schema.now bytes.now) }
+    ensures told { IfOk result (λ c. IfSome c.told (λ text. TellsData schema.now bytes.now (string_bytes text))) }
 {
     match read_document(alloc, bytes)? {
         Document::TooLarge => bad_input(alloc, "data: too large\n"),
@@ -107,23 +119,42 @@ pub fn of_data(alloc: Global, schema: &Schema, bytes: &[u8]) -> Result<Output, A
     }
 }
 
-fn bad_input(alloc: Global, text: &str) -> Result<Output, AllocError>
-    ensures { IfOk result (λ o. printed_of o ≡ record { text = text.now; verdict = Verdict.BadInput }) }
+// What is said of a document that can't be read.
+fn bad_input(alloc: Global, text: &str) -> Result<Checked, AllocError>
+    ensures printed { IfOk result (λ c. printed_of c.output ≡ record { text = text.now; verdict = Verdict.BadInput }) }
+    ensures told { IfOk result (λ c. c.told ≡ None) }
 {
     let text = String::from_str(alloc, text)?;
-    Ok(Output {
+    let output = Output {
         body: Body::Text(text),
         verdict: Verdict::BadInput,
-    })
+    };
+    Ok(Checked { output, told: None })
 }
 
-fn of_json(alloc: Global, schema: &Schema, json: &Value) -> Result<Output, AllocError>
+fn of_json(alloc: Global, schema: &Schema, json: &Value) -> Result<Checked, AllocError>
     requires size { size (view json.now) ≤ 16777216 }
     requires nests { depth (view json.now) ≤ 127 }
-    ensures { IfOk result (λ o. printed_of o ≡ faults_printed (faults_in schema.now (view json.now))) }
+    ensures printed { IfOk result (λ c. printed_of c.output ≡ faults_printed (faults_in schema.now (view json.now))) }
+    ensures told { IfOk result (λ c. IfSome c.told (λ text. Tells (faults_in schema.now (view json.now)) (string_bytes text))) }
 {
     let report = validate(alloc, schema, json)?;
-    of_faults(alloc, report.faults)
+    let told = told_of(alloc, schema, json, &report.faults);
+    let output = of_faults(alloc, report.faults)?;
+    Ok(Checked { output, told })
+}
+
+// Sentences on faults, where there are some, and memory to say it.
+fn told_of(alloc: Global, schema: &Schema, json: &Value, faults: &[Fault]) -> Option<String>
+    ensures { IfSome result (λ text. Tells faults.now (string_bytes text)) }
+{
+    if faults.is_empty() {
+        return None;
+    }
+    match sentences(alloc, schema, json, faults) {
+        Ok(text) => Some(text),
+        Err(_) => None,
+    }
 }
 
 fn of_faults(alloc: Global, faults: Vec<Fault>) -> Result<Output, AllocError>

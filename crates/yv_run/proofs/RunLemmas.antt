@@ -1,5 +1,5 @@
 -- What a run leaves, by what was to be written.
-use Rattle.std.proofs.Common.{◌≡◌, ℕ, List, [], take, refl, sym, ap, IfSome, slice_get}
+use Rattle.std.proofs.Common.{◌≡◌, ℕ, List, [], take, refl, sym, IfSome, slice_get}
 use Rattle.std.specs.declared.option.Option.{Option}
 use Rattle.std.specs.declared.option.Option.TheVariants.{None, Some}
 use Rattle.yv_statement.specs.declared.refusal.Refusal.{Refusal}
@@ -10,10 +10,9 @@ use Rattle.yv_outcome.specs.declared.status.Verdict.TheVariants.{Refused}
 use Rattle.yv_outcome.specs.Compiles.{FilesCompile, RefusedAt, Built}
 use Rattle.yv_streams.specs.Files.{File}
 use Rattle.yv_run.specs.InnerRun.{SaysOf}
-use Rattle.yv_run.specs.Notes.{IsNote, NotesDocument, on_refusal, on_document}
+use Rattle.yv_run.specs.Notes.{IsNote, NotesDocument, NotesGiven, on_refusal, on_document}
 use Rattle.yv_messages.specs.Excerpt.{Explains}
 use Rattle.yv_messages.specs.Explained.{Speaks, bytes_at}
-use Rattle.yv_messages.specs.Document.{SaysWhy}
 use Rattle.yv_outcome.specs.Output.{Printed, Gives, PrintsFor, refusal_line, printed_of, schema_printed}
 
 -- some bytes are what a reader gives
@@ -47,19 +46,20 @@ prints_says known task files s o compiles says =
 
 module _ {A : Type 0} (bytes_of : A → List ℕ) (known : Option (List ℕ)) (task : Task) (files : List File) where
   -- a note on a document is one on what the run found
-  pub notes_document : (o : Option A) → IfSome o (λ s. NotesDocument known (bytes_of s)) → IfSome o (λ s. IsNote known task files (bytes_of s))
-  notes_document None noted = tt
-  notes_document (Some s) noted = on_document noted
+  pub notes_document : (s : Rows) → FilesCompile task.choice task.limit files (Built s) → (o : Option A) → IfSome o (λ t. NotesDocument known s (bytes_of t))
+      → IfSome o (λ t. IsNote known task files (bytes_of t))
+  notes_document s compiles None noted = tt
+  notes_document s compiles (Some t) noted = on_document s compiles noted
 
   -- and so is one on a refusal
   pub notes_refusal : (o : Option A) (r : Refusal) → FilesCompile task.choice task.limit files (RefusedAt r)
       → IfSome o (λ s. Explains (bytes_at (slice_get files r.file)) r (bytes_of s)) → IfSome o (λ s. Speaks files r (bytes_of s))
       → IfSome o (λ s. IsNote known task files (bytes_of s))
-  notes_refusal None r refused place speaks = tt
-  notes_refusal (Some s) r refused place speaks = on_refusal r refused place speaks
+  notes_refusal None r compiles place speaks = tt
+  notes_refusal (Some s) r compiles place speaks = on_refusal r compiles place speaks
 
 -- what is said of the bytes that were given is said of the document
-pub notes_given : {A : Type 0} (bytes_of : A → List ℕ) (known : Option (List ℕ)) (given : List ℕ) (o : Option A) → Gives known given
-    → IfSome o (λ s. SaysWhy given (bytes_of s)) → IfSome o (λ s. NotesDocument known (bytes_of s))
-notes_given bytes_of known given None gives why = tt
-notes_given bytes_of known given (Some s) gives why = record { given = given; gives = gives; why = why }
+pub notes_given : {A : Type 0} (bytes_of : A → List ℕ) (known : Option (List ℕ)) (s : Rows) (given : List ℕ) → Gives known given → (o : Option A)
+    → IfSome o (λ t. NotesGiven s given (bytes_of t)) → IfSome o (λ t. NotesDocument known s (bytes_of t))
+notes_given bytes_of known s given gives None notes = tt
+notes_given bytes_of known s given gives (Some t) notes = record { given = given; gives = gives; notes = notes }

@@ -1,5 +1,5 @@
 //! A run over files that were read: what it writes, and how it ends.
-ghost use Rattle.std.specs.Prelude.{◌≡◌, ◌≤◌, ◌↔◌, ◌⊎◌, ℕ, true, false, map, take, length, IfOk, IfSome, IsErrOf, None, slice_get, string_bytes};
+ghost use Rattle.std.specs.Prelude.{◌≡◌, ◌≤◌, ◌↔◌, ◌⊎◌, ℕ, true, false, map, take, length, IfErr, IfOk, IfSome, IsErrOf, None, slice_get, string_bytes};
 ghost use Rattle.yv_job.specs.Jobs.{HasFiles, HasLimit, asked_of, task_of};
 ghost use Rattle.yv_selection.specs.Choice.{choice_of};
 ghost use Rattle.std.specs.Io.KnownBytes.{Appends};
@@ -10,8 +10,8 @@ ghost use Rattle.yv_messages.specs.Document.{SaysWhy};
 ghost use Rattle.yv_messages.specs.Excerpt.{Explains};
 ghost use Rattle.yv_messages.specs.Explained.{Speaks, bytes_at};
 ghost use Rattle.yv_run.specs.InnerRun.{AppendsAll, AppendsFront, SaysOf, SaysOfData};
-ghost use Rattle.yv_run.specs.Notes.{IsNote, NotesDocument};
-ghost use Rattle.yv_outcome.specs.Output.{PrintsFor, ReadsData, WantsData, WritesAll, WritesFront, IsFinished, IsStopped, body_text, printed_of};
+ghost use Rattle.yv_run.specs.Notes.{IsNote, NotesDocument, NotesGiven};
+ghost use Rattle.yv_outcome.specs.Output.{PrintsFor, ReadsData, WantsData, WritesAll, WritesFront, IsFinished, IsStopped, body_text, data_printed, printed_of};
 
 use crate::compiling::compiled;
 use std::alloc::{AllocError, Global};
@@ -51,8 +51,8 @@ impl From<AllocError> for Halt {
 #[derive(Drop)]
 pub struct Ended {
     pub status: Status,
-    /// Where the files were refused, the place and what the refusal means; where the document is no JSON, the place and why.
-    /// None else, and where there is no memory for it.
+    /// Where the files were refused, the place and what the refusal means; where the document is no JSON, the place and why;
+    /// where it has faults, sentences on the first of them. None else, and where there is no memory for it.
     pub note: Option<String>,
 }
 
@@ -78,10 +78,8 @@ const DATA_BYTES: usize = 16_777_217;
 
 /// Compiles the files of a job, and writes the outcome: the refusal's line, or how many nodes the schema has, or the tree
 /// diagram of one of its modules, or, where the job is to check a document, what is wrong with what the reader gives, or that it
-/// is valid. A document isn't checked
-/// against lists, leaf-lists, choices, anydata, anyxml or `mandatory` so far: files with these are then refused. After
-/// `WriteFault` the writer holds the front of that text; after `NoMemory`, `PatternBuild` and `ReadFault` nothing was
-/// written.
+/// is valid. Files with a `type leafref`, or a `default` of a leaf-list, are refused as unsupported so far. After `WriteFault` the
+/// writer holds the front of that text; after `NoMemory`, `PatternBuild` and `ReadFault` nothing was written.
 pub fn run<R: Read, W: Write>(
     alloc: Global,
     job: &Job,
@@ -107,7 +105,8 @@ pub fn run<R: Read, W: Write>(
     run_with_note(alloc, job, inputs, reader, writer).status
 }
 
-/// Does what `run` does, and tells besides what helps a person: why the files are refused, or the document is no JSON.
+/// Does what `run` does, and tells besides what helps a person: why the files are refused, or the document is no JSON, or what is
+/// wrong with it.
 pub fn run_with_note<R: Read, W: Write>(
     alloc: Global,
     job: &Job,
@@ -204,7 +203,7 @@ fn answered<R: Read>(
 ) -> Result<Found, Halt>
     requires { IsFresh reader.old }
     ensures printed { IfOk result (λ f. SaysOf (R.remaining (stream_inner reader.old)) (asked_of command.now) schema.now f.output) }
-    ensures note { IfOk result (λ f. IfSome f.note (λ s. NotesDocument (R.remaining (stream_inner reader.old)) (string_bytes s))) }
+    ensures note { IfOk result (λ f. IfSome f.note (λ s. NotesDocument (R.remaining (stream_inner reader.old)) schema.now (string_bytes s))) }
     ensures unread { ReadsData (asked_of command.now) ⊎ (reader.new ≡ reader.old) }
     ensures fault { IsErrOf result Halt.Read ↔ (has_failed reader.new ≡ true) }
     ensures never_built { IsErrOf result Halt.PatternBuild → ⊥ }
@@ -230,18 +229,31 @@ fn validated<R: Read>(
 ) -> Result<Found, Halt>
     requires { IsFresh reader.old }
     ensures printed { IfOk result (λ f. SaysOfData (R.remaining (stream_inner reader.old)) schema.now f.output) }
-    ensures note { IfOk result (λ f. IfSome f.note (λ s. NotesDocument (R.remaining (stream_inner reader.old)) (string_bytes s))) }
+    ensures note { IfOk result (λ f. IfSome f.note (λ s. NotesDocument (R.remaining (stream_inner reader.old)) schema.now (string_bytes s))) }
     ensures fault { IsErrOf result Halt.Read ↔ (has_failed reader.new ≡ true) }
     ensures never_built { IsErrOf result Halt.PatternBuild → ⊥ }
 {
     match read_up_to(alloc, DATA_BYTES, reader) {
-        Ok(bytes) => Ok(Found {
-            output: of_data(alloc, schema, bytes.as_slice())?,
-            note: note_on(alloc, bytes.as_slice()),
-        }),
+        Ok(bytes) => noted(alloc, schema, bytes.as_slice()),
         Err(InputFault::Read) => Err(Halt::Read),
         Err(InputFault::NoMemory) => Err(Halt::NoMemory),
     }
+}
+
+// What is said of a document of these bytes, with the note on it.
+fn noted(alloc: Global, schema: &Schema, bytes: &[u8]) -> Result<Found, Halt>
+    ensures printed { IfOk result (λ f. printed_of f.output ≡ data_printed schema.now bytes.now) }
+    ensures note { IfOk result (λ f. IfSome f.note (λ s. NotesGiven schema.now bytes.now (string_bytes s))) }
+    ensures no_memory { IfErr result (λ h. h ≡ Halt.NoMemory) }
+{
+    let checked = of_data(alloc, schema, bytes)?;
+    Ok(Found {
+        output: checked.output,
+        note: match checked.told {
+            Some(told) => Some(told),
+            None => note_on(alloc, bytes),
+        },
+    })
 }
 
 // Why a document is no JSON, where there is memory to say it.

@@ -28,5 +28,5 @@ returns-in-Ok-clause-printed g c =
 pub returns-in-Ok-clause-note : goal.returns-in-Ok-clause-note
 returns-in-Ok-clause-note g c =
     IfOk-weaker c.answered.result _ _
-    (λ f noted. notes_document string_bytes _ (task_of c.args.job.now) (map file_of c.args.inputs.now) f.note noted)
+    (λ f noted. notes_document string_bytes _ (task_of c.args.job.now) (map file_of c.args.inputs.now) c.in-Ok.schema c.in-Ok.ensures.schema f.note noted)
     c.answered.ensures.note

@@ -1,0 +1,20 @@
+//! What a person is told of the faults of a document, besides their lines: what is wrong at each place and what to do. However long
+//! names and paths are, the text has some kilobytes.
+#![tactic(auto)]
+
+mod beside;
+mod choices;
+mod clear;
+mod earlier;
+mod front;
+mod likeness;
+mod numbers;
+mod repeated;
+mod spot;
+mod telling;
+mod told;
+mod types;
+mod unknown;
+mod words;
+
+pub use telling::sentences;

@@ -1,0 +1,122 @@
+//! What is said of a fault.
+use crate::choices::{push_choice, push_missing_choice};
+use crate::front::left_out;
+use crate::repeated::{push_duplicate, push_keys, push_unique};
+use crate::spot::{Spot, items_of, node_at};
+use crate::types::push_type;
+use crate::unknown::push_unknown;
+use itoa::Buffer;
+use serde_json::Value;
+use std::alloc::{AllocError, Global};
+use yv_messages::push_quoted;
+use yv_properties::NodeKind;
+use yv_tables::Schema;
+use yv_validate::{Fault, FaultKind, MemberName};
+
+/// What is wrong at a fault, and what to do.
+pub(crate) fn told(
+    alloc: Global,
+    schema: &Schema,
+    document: &Value,
+    fault: &Fault,
+) -> Result<String, AllocError> {
+    let path = fault.path.as_slice();
+    let mut text = String::new(alloc);
+    let spot = Spot::find(alloc, schema, document, path)?;
+    match path.last() {
+        Some(step) => {
+            let name = step.parts();
+            if left_out(path) == path.len() {
+                push_quoted(&mut text, name.name)?;
+                text.push_str(": ")?;
+            }
+            push_told(alloc, &mut text, schema, &spot, &name, fault)?;
+        }
+        None => text.push_str("the document has to be an object in braces")?,
+    }
+    Ok(text)
+}
+
+// Adds what is said of a fault at the end of a path that isn't empty.
+fn push_told(
+    alloc: Global,
+    text: &mut String,
+    schema: &Schema,
+    spot: &Spot<'_>,
+    name: &MemberName<'_>,
+    fault: &Fault,
+) -> Result<(), AllocError> {
+    match fault.kind {
+        FaultKind::Unknown => push_unknown(alloc, text, schema, spot.around, name.name),
+        FaultKind::Shape => push_shape(text, schema, spot),
+        FaultKind::Value => push_value(text, schema, spot),
+        FaultKind::MissingKey => push_keys(text, schema, spot.around),
+        FaultKind::Duplicate => push_duplicate(alloc, text, schema, spot),
+        FaultKind::Unique => push_unique(alloc, text, schema, spot, fault.number),
+        FaultKind::Mandatory if name.is_choice => {
+            push_missing_choice(alloc, text, schema, spot, name)
+        }
+        FaultKind::Mandatory => push_mandatory(text, schema, spot),
+        FaultKind::Min => push_few(text, schema, spot),
+        FaultKind::Max => push_many(text, schema, spot),
+        FaultKind::Choice => push_choice(alloc, text, schema, spot, name),
+    }
+}
+
+// Adds what shape a node is written in.
+fn push_shape(text: &mut String, schema: &Schema, spot: &Spot<'_>) -> Result<(), AllocError> {
+    if spot.item.is_some() {
+        return text.push_str("each entry has to be an object in braces");
+    }
+    match node_at(schema, spot.node) {
+        Some(node) if matches!(node.kind(), NodeKind::List) => {
+            text.push_str("write an array in brackets, with an object in braces for each entry")
+        }
+        Some(node) if matches!(node.kind(), NodeKind::LeafList) => {
+            text.push_str("write an array in brackets, with a value for each item")
+        }
+        _ => text.push_str("write an object in braces"),
+    }
+}
+
+// Adds what values a node has.
+fn push_value(text: &mut String, schema: &Schema, spot: &Spot<'_>) -> Result<(), AllocError> {
+    match node_at(schema, spot.node) {
+        Some(node) => push_type(text, node, spot.value),
+        None => text.push_str("its type takes other values"),
+    }
+}
+
+// Adds that a node must be there, and what values it has.
+fn push_mandatory(text: &mut String, schema: &Schema, spot: &Spot<'_>) -> Result<(), AllocError> {
+    text.push_str("write it, since it must be there")?;
+    match node_at(schema, spot.node) {
+        Some(node) if matches!(node.kind(), NodeKind::Leaf) => {
+            text.push_str("; ")?;
+            push_type(text, node, None)
+        }
+        _ => Ok(()),
+    }
+}
+
+// Adds how many entries there are, and how few there may be.
+fn push_few(text: &mut String, schema: &Schema, spot: &Spot<'_>) -> Result<(), AllocError> {
+    let least = match node_at(schema, spot.node) {
+        Some(node) => node.min(),
+        None => 0,
+    };
+    text.push_str("at least ")?;
+    text.push_str(Buffer::new().format(least))?;
+    text.push_str(" must be there, and there are ")?;
+    text.push_str(Buffer::new().format(items_of(spot.written).len()))
+}
+
+// Adds how many entries there are, and how many there may be.
+fn push_many(text: &mut String, schema: &Schema, spot: &Spot<'_>) -> Result<(), AllocError> {
+    text.push_str("at most ")?;
+    if let Some(node) = node_at(schema, spot.node) {
+        text.push_str(Buffer::new().format(node.max().unwrap_or(u32::MAX)))?;
+    }
+    text.push_str(" may be there, and there are ")?;
+    text.push_str(Buffer::new().format(items_of(spot.written).len()))
+}

@@ -1,0 +1,60 @@
+//! Lists of names.
+use crate::spot::node_at;
+use std::alloc::{AllocError, Global};
+use yv_messages::push_quoted;
+use yv_nodes::NodeId;
+use yv_tables::Schema;
+
+/// How many names are told.
+const MOST_NAMES: usize = 8;
+
+/// Adds the names of the nodes of these numbers in quotes, of many the first 8.
+pub(crate) fn push_names(
+    text: &mut String,
+    schema: &Schema,
+    ids: &[NodeId],
+) -> Result<(), AllocError> {
+    for (place, id) in ids.iter().enumerate() {
+        if place >= MOST_NAMES {
+            return text.push_str(" and others");
+        }
+        push_between(text, place, ids.len())?;
+        push_name(text, schema, *id)?;
+    }
+    Ok(())
+}
+
+// Adds what stands between the name of this place and the one before it.
+fn push_between(text: &mut String, place: usize, count: usize) -> Result<(), AllocError> {
+    if place == 0 {
+        Ok(())
+    } else if place.saturating_add(1) == count {
+        text.push_str(" and ")
+    } else {
+        text.push_str(", ")
+    }
+}
+
+/// Adds the name of a node in quotes.
+pub(crate) fn push_name(text: &mut String, schema: &Schema, id: NodeId) -> Result<(), AllocError> {
+    match node_at(schema, Some(id)) {
+        Some(node) => push_quoted(text, node.name()),
+        None => text.push_str("a node"),
+    }
+}
+
+/// Adds what a JSON member that writes a node is called, in quotes.
+pub(crate) fn push_member(
+    alloc: Global,
+    text: &mut String,
+    schema: &Schema,
+    id: NodeId,
+) -> Result<(), AllocError> {
+    match node_at(schema, Some(id)) {
+        Some(node) => {
+            let member = node.member(alloc)?;
+            push_quoted(text, member.as_str())
+        }
+        None => text.push_str("a node"),
+    }
+}
