@@ -12,8 +12,9 @@ use Rattle.yv_expansion.specs.declared.item.Origin.{Origin}
 use Rattle.yv_expansion.specs.declared.item.Origin.TheVariants as origin
 use Rattle.yv_values.specs.Types.{Plain}
 use Rattle.yv_leaf_paths.specs.Steps.{names_of, paths_of}
+use Rattle.yv_leaf_paths.specs.Referral.{pieces_of}
 use Rattle.yv_leafref_types.specs.declared.referring.Referring.{Referring}
-use Rattle.yv_properties.specs.Steps.{Step}
+use Rattle.yv_properties.specs.Steps.{Piece, Step}
 use Rattle.yv_properties.specs.Defined.{Defined, Written, blank}
 use Rattle.yv_properties.specs.declared.kind.NodeKind.{NodeKind}
 use Rattle.yv_properties.specs.declared.kind.NodeKind.TheVariants as kind
@@ -80,6 +81,19 @@ keys_in files file block = names_of files file (argument_of (first_of word.Key b
 abbrev pub uniques_in : Files → (file : ℕ) → List Tree → List (List (List (Option Step)))
 uniques_in files file ts = map (paths_of files file) (arguments_among word.Unique ts)
 
+-- the pieces of the path of a `type` statement of a file, where that is written as a leafref (section 9.9.2)
+abbrev pub path_of_type : Files → (file : ℕ) → Tree → List Piece
+path_of_type files file t =
+    if bytes_eq (name_of t.head) (codes "leafref") then pieces_of files file (argument_of (first_of word.Path t.children)) else []
+
+abbrev pub path_by : Files → (file : ℕ) → Option Tree → List Piece
+path_by files file None = []
+path_by files file (Some t) = path_of_type files file t
+
+-- those of the `type` statement of a block
+abbrev pub path_in : Files → (file : ℕ) → Forest → List Piece
+path_in files file block = path_by files file (first_of word.Type block)
+
 -- a definition with these properties: what isn't said isn't mandatory, and bounds no number of entries
 abbrev pub with_properties : Properties → Defined → Defined
 with_properties p d = record d {
@@ -105,6 +119,7 @@ defined_by typing files file t =
       status = status_of (argument_of (first_of word.Status t.children));
       features = joined [] (expressions (trees t.children));
       type_text = argument_of (first_of word.Type t.children);
+      path = path_in files file t.children;
       keys = keys_in files file t.children;
       uniques = uniques_in files file (trees t.children);
       type_default = default_by typing.defaults file (first_of word.Type t.children);

@@ -12,7 +12,7 @@ ghost use Rattle.yv_definitions.specs.Values.{with_defaults};
 ghost use Rattle.yv_definitions.specs.InnerKept.{IsKept};
 
 use crate::changes::Changes;
-use crate::keys::ListNames;
+use crate::keys::BlockPaths;
 use crate::numbered::{file_at, statement_at};
 use crate::reading::{blank, define, node_kind, node_name};
 use crate::values::defaults_of;
@@ -50,11 +50,11 @@ fn define_at<'a>(
     let file = file_at(rows, number);
     match statement_at(rows, number) {
         Some(statement) => {
-            let names = ListNames::read(alloc, paths, file, statement)?;
+            let names = BlockPaths::read(alloc, paths, file, statement)?;
             define(alloc, types, file, statement, names)
         }
         None => {
-            let names = ListNames::none(alloc)?;
+            let names = BlockPaths::none(alloc)?;
             define(alloc, types, file, &Statement::new(alloc, "", 0, 0), names)
         }
     }

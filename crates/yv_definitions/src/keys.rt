@@ -1,49 +1,60 @@
-//! What the keys and `unique` statements of lists name.
+//! The paths that stand in blocks: those of keys, of `unique` statements and of leafrefs.
 ghost use Rattle.std.specs.Prelude.{◌≡◌, ◌∷◌, [], ◌++◌, ℕ, map, IfOk, OnOk};
 ghost use Rattle.yv_statement.specs.Tree.{End, trees};
 ghost use Rattle.yv_rows.specs.Files.{Files};
 ghost use Rattle.yv_leaf_paths.specs.Known.{AreLeafPaths};
 ghost use Rattle.yv_properties.specs.Defined.{paths_in};
-ghost use Rattle.yv_definitions.specs.Defined.{keys_in, uniques_in};
+ghost use Rattle.yv_definitions.specs.Defined.{keys_in, path_in, path_of_type, uniques_in};
 ghost use Rattle.yv_definitions.specs.InnerNamed.{AreNamed};
 
 use std::alloc::{AllocError, Global};
 use std::rc::Rc;
 use yv_conform::Keyword;
 use yv_leaf_paths::LeafPaths;
-use yv_properties::{Keys, PathStep};
-use yv_stated::{argument_of, is_of, name_of};
+use yv_properties::{Keys, PathPiece, PathStep};
+use yv_stated::{argument_of, first_of, is_of, name_of};
 use yv_statement::Statement;
 
-/// What the `key` and `unique` statements of a block name.
+/// What the `key` and `unique` statements of a block name, and the path of the leafref that it has as its type.
 #[derive(Drop)]
-pub(crate) struct ListNames {
+pub(crate) struct BlockPaths {
     pub(crate) keys: Rc<Keys>,
     pub(crate) uniques: Rc<Vec<Vec<Vec<Option<PathStep>>>>>,
+    pub(crate) path: Rc<Vec<PathPiece>>,
 }
 
-impl ListNames {
+impl BlockPaths {
     /// What those of this block name, as they are written in this file.
     pub(crate) fn read<'a>(
         alloc: Global,
         paths: &LeafPaths<'a>,
         file: u32,
         statement: &'a Statement<'_>,
-    ) -> Result<ListNames, AllocError>
+    ) -> Result<BlockPaths, AllocError>
         ensures { (files : Files) → AreLeafPaths files paths.now → IfOk result (AreNamed files file statement.now.children) }
     {
         let keys = keys_in(alloc, paths, file, statement)?;
         let uniques = uniques_in(alloc, paths, file, statement)?;
-        Ok(ListNames { keys, uniques })
+        let path = path_in(alloc, paths, file, statement)?;
+        Ok(BlockPaths {
+            keys,
+            uniques,
+            path,
+        })
     }
 
     /// Nothing.
-    pub(crate) fn none(alloc: Global) -> Result<ListNames, AllocError>
+    pub(crate) fn none(alloc: Global) -> Result<BlockPaths, AllocError>
         ensures { (files : Files) (file : ℕ) → IfOk result (AreNamed files file End) }
     {
         let keys = no_keys(alloc)?;
         let uniques = no_uniques(alloc)?;
-        Ok(ListNames { keys, uniques })
+        let path = no_path(alloc)?;
+        Ok(BlockPaths {
+            keys,
+            uniques,
+            path,
+        })
     }
 }
 
@@ -108,6 +119,46 @@ fn push_unique<'a>(
 /// No paths.
 pub(crate) fn no_uniques(alloc: Global) -> Result<Rc<Vec<Vec<Vec<Option<PathStep>>>>>, AllocError>
     ensures { IfOk result (λ uniques. map paths_in uniques.value.items ≡ []) }
+{
+    Ok(Rc::new(alloc, Vec::new(alloc))?)
+}
+
+// The pieces of the path of the leafref that its block has as its type, as it is written in this file: nothing, where that isn't written
+// as a leafref.
+fn path_in<'a>(
+    alloc: Global,
+    paths: &LeafPaths<'a>,
+    file: u32,
+    statement: &'a Statement<'_>,
+) -> Result<Rc<Vec<PathPiece>>, AllocError>
+    ensures { (files : Files) → AreLeafPaths files paths.now
+        → IfOk result (λ path. path.value.items ≡ path_in files file statement.now.children) }
+{
+    match first_of(Keyword::Type, statement) {
+        Some(found) => path_of_type(alloc, paths, file, found),
+        None => no_path(alloc),
+    }
+}
+
+// The same of a `type` statement.
+fn path_of_type<'a>(
+    alloc: Global,
+    paths: &LeafPaths<'a>,
+    file: u32,
+    found: &'a Statement<'_>,
+) -> Result<Rc<Vec<PathPiece>>, AllocError>
+    ensures { (files : Files) → AreLeafPaths files paths.now → IfOk result (λ path. path.value.items ≡ path_of_type files file found.now) }
+{
+    if name_of(found) != "leafref" {
+        return no_path(alloc);
+    }
+    let pieces = paths.pieces(alloc, file as usize, argument_of(Keyword::Path, found))?;
+    Ok(Rc::new(alloc, pieces)?)
+}
+
+/// No path.
+pub(crate) fn no_path(alloc: Global) -> Result<Rc<Vec<PathPiece>>, AllocError>
+    ensures { IfOk result (λ path. path.value.items ≡ []) }
 {
     Ok(Rc::new(alloc, Vec::new(alloc))?)
 }

@@ -18,7 +18,7 @@ ghost use Rattle.yv_definitions.specs.Defined.{default_by, defined_by, kind_of, 
 
 use crate::changes::Changes;
 use crate::features::push_expressions;
-use crate::keys::{ListNames, no_keys, no_uniques};
+use crate::keys::{BlockPaths, no_keys, no_path, no_uniques};
 use crate::values::no_values;
 use std::alloc::{AllocError, Global};
 use std::rc::{RcSlice, RcStr};
@@ -170,6 +170,7 @@ pub(crate) fn blank(alloc: Global) -> Result<Definition, AllocError>
         status: NodeStatus::Current,
         features: RcStr::from_str(alloc, "")?,
         type_text: RcStr::from_str(alloc, "")?,
+        path: no_path(alloc)?,
         stated_config: None,
         is_mandatory: false,
         min: 0,
@@ -189,7 +190,7 @@ pub(crate) fn define(
     types: &Types,
     file: u32,
     statement: &Statement<'_>,
-    names: ListNames,
+    names: BlockPaths,
 ) -> Result<Definition, AllocError>
     ensures { (files : Files) → AreNamed files file statement.now.children names
         → IfOk result (λ d. d ≡ defined_by (typing_of types.now) files file statement.now) }
@@ -207,6 +208,7 @@ pub(crate) fn define(
         status: status_of(argument_of(Keyword::Status, statement)),
         features: RcStr::from_string(features_in(alloc, statement)?)?,
         type_text: RcStr::from_str(alloc, argument_of(Keyword::Type, statement))?,
+        path: names.path,
         stated_config: changes.config,
         is_mandatory: changes.mandatory.unwrap_or(false),
         min: changes.min.unwrap_or(0),

@@ -4,6 +4,7 @@
 mod cut;
 mod homes;
 mod paths;
+mod pieces;
 mod referral;
 mod steps;
 

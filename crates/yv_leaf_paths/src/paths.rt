@@ -7,10 +7,11 @@ ghost use Rattle.yv_leaf_paths.specs.InnerCut.{name_in, path_in};
 
 use crate::cut::cut;
 use crate::homes::Homes;
+use crate::pieces::read_pieces;
 use crate::referral::{LeafrefPath, read_referral};
 use crate::steps::{read_path, read_step};
 use std::alloc::{AllocError, Global};
-use yv_properties::PathStep;
+use yv_properties::{PathPiece, PathStep};
 use yv_rows::Rows;
 
 // Adds the path that a text without blanks is. An empty one is none.
@@ -54,7 +55,7 @@ pub struct LeafPaths<'a> {
 
 impl<'a> LeafPaths<'a> {
     ghost use Rattle.yv_leaf_paths.specs.Known.{AreLeafPaths};
-    ghost use Rattle.yv_leaf_paths.specs.Referral.{climbs_of, steps_in};
+    ghost use Rattle.yv_leaf_paths.specs.Referral.{climbs_of, pieces_of, steps_in};
     ghost use Rattle.yv_leaf_paths.specs.Steps.{names_of, paths_of};
 
     /// The prefixes that files declare, in time n log n and memory linear in the text. Err for want of memory alone.
@@ -120,5 +121,18 @@ impl<'a> LeafPaths<'a> {
             → IfOk result (λ path. path.steps.items ≡ steps_in files file text.now) }
     {
         read_referral(alloc, &self.homes, file, text)
+    }
+
+    /// The pieces of the path that the argument of a `path` statement in a file is, as it is written, for those who show it (RFC 7950,
+    /// section 9.9.2). It takes time and memory linear in the text. Err for want of memory alone.
+    pub fn pieces(
+        &self,
+        alloc: Global,
+        file: usize,
+        text: &'a str,
+    ) -> Result<Vec<PathPiece>, AllocError>
+        ensures { (files : Files) → AreLeafPaths files self.now → IfOk result (λ pieces. pieces.items ≡ pieces_of files file text.now) }
+    {
+        read_pieces(alloc, &self.homes, file, text)
     }
 }

@@ -1,13 +1,16 @@
 -- Schemas that say the same.
-use Rattle.std.proofs.Common.{◌≡◌, ◌<◌, ℕ, List, length, Some, inl, inr, sym, ap, subst, ◌∙◌}
+use Rattle.std.proofs.Common.{◌≡◌, ◌<◌, ◌^◌, ℕ, List, length, Some, inl, inr, sym, ap, subst, ◌∙◌}
 use Rattle.std.specs.List.{slice_get}
 use Rattle.yv_statement.specs.declared.refusal.Refusal.{Refusal}
+use Rattle.yv_statement.proofs.Least.{least_same}
 use Rattle.yv_nodes.specs.Rows.{Row}
 use Rattle.yv_leafrefs.specs.Schema.{AreAlike, Referral, Schema}
 use Rattle.yv_leafrefs.specs.Above.{IsInside}
 use Rattle.yv_leafrefs.specs.Ways.{Begins, Leads}
 use Rattle.yv_leafrefs.specs.Targets.{HasTypesOf, IsLeafref, LeadsTo, RefersTo, own, along, by_step, by_way}
 use Rattle.yv_leafrefs.specs.Bad.{BadLeafref, BadLeafrefs, IsLost}
+use Rattle.yv_leafrefs.specs.Known.{AreLeafrefs}
+use Rattle.yv_leafrefs.specs.declared.leafrefs.Leafrefs.{Leafrefs}
 
 pub turned : (s t : Schema) → AreAlike s t → AreAlike t s
 turned s t alike = record { rows = sym alike.rows; says = λ n. sym (alike.says n) }
@@ -60,3 +63,12 @@ bad_alike s t f alike (n, within, row, at, bad) = (
   ap (λ (rows : List Row). slice_get rows n) (sym alike.rows) ∙ at,
   one_alike s t n row f alike bad,
 )
+
+-- and the same was read
+pub leafrefs_alike : (s t : Schema) (l : Leafrefs) → AreAlike s t → AreLeafrefs s l → AreLeafrefs t l
+leafrefs_alike s t l alike are = record {
+  few = subst (λ (rows : List Row). length rows < 2 ^ 32) alike.rows are.few;
+  each = are.each ∙ ap length alike.rows;
+  exact = λ n x. ((λ e. refers_alike s t n x alike ((are.exact n x).0 e)), λ r. (are.exact n x).1 (refers_alike t s n x (turned s t alike) r));
+  wrong = least_same (BadLeafrefs s) (BadLeafrefs t) l.fault (λ f. bad_alike s t f alike) (λ f. bad_alike t s f (turned s t alike)) are.wrong;
+}

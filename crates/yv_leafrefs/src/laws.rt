@@ -8,6 +8,8 @@ ghost use Rattle.yv_nodes.specs.Typed.{typed_from, typed_rows};
 ghost use Rattle.yv_leafrefs.specs.Schema.{AreAlike, Schema};
 ghost use Rattle.yv_leafrefs.specs.Above.{AreBehind, IsDepth, IsInside, IsUnder};
 ghost use Rattle.yv_leafrefs.specs.Targets.{RefersTo, HasTypesOf, has_values};
+ghost use Rattle.yv_leafrefs.specs.Known.{AreLeafrefs};
+ghost use Rattle.yv_leafrefs.specs.declared.leafrefs.Leafrefs.{Leafrefs};
 ghost use Rattle.yv_leafrefs.specs.Resolved.{IsResolved, IsTyped};
 ghost use Rattle.yv_values.specs.Types.{Plain};
 
@@ -46,6 +48,11 @@ pub fn types_are_those_of_one_node()
 /// The path of a leafref climbs no further than to the document.
 pub fn a_path_climbs_within_the_depth()
     ensures { (s : Schema) (n x k d : ℕ) (r : RefersTo s n x) → r.ref.climbs ≡ Some k → IsDepth s.rows (Some n) d → k ≤ d }
+{}
+
+/// Schemas with the same rows, which say the same, have the same leafrefs.
+pub fn alike_schemas_have_the_same_leafrefs()
+    ensures { (s t : Schema) (l : Leafrefs) → AreAlike s t → AreLeafrefs s l → AreLeafrefs t l }
 {}
 
 /// A schema tree is resolved to one, by what its leafrefs say.

@@ -1,5 +1,6 @@
 pub mod Tree
 pub mod Places
+pub mod Link
 pub mod Rows
 pub mod Numbers
 pub mod Member

@@ -1,7 +1,8 @@
 -- How a schema tree is numbered, each node before those below it.
-use Rattle.std.specs.Prelude.{ℕ, ◌+◌, List, [], ◌∷◌, ◌++◌}
+use Rattle.std.specs.Prelude.{ℕ, ◌+◌, List, [], ◌∷◌, ◌++◌, Option}
 use Rattle.yv_nodes.specs.declared.node.NodeId.{NodeId}
 use Rattle.yv_nodes.specs.Tree.{Forest, count, no_trees, tree, node}
+use Rattle.yv_nodes.specs.Link.{Link}
 use Rattle.yv_nodes.specs.Rows.{Module, Note, Row, Rows, root}
 
 -- the numbers of the trees' own nodes, where the first has the number `first`
@@ -20,12 +21,13 @@ rows_below parent first (tree (node l kids) ts) =
 abbrev pub rows_from : ℕ → Forest → List Row
 rows_from first ts = rows_below root first ts
 
--- the rows of a schema tree within a limit, with these modules and augments
-abbrev pub rows_of : (limit : ℕ) → List Module → List Note → Forest → Rows
-rows_of limit modules augments ts = record {
+-- the rows of a schema tree within a limit, with these modules, augments and links
+abbrev pub rows_of : (limit : ℕ) → List Module → List Note → List (Option Link) → Forest → Rows
+rows_of limit modules augments links ts = record {
   nodes = rows_from 0 ts;
   top = numbers_from 0 ts;
   limit = limit;
   modules = modules;
   augments = augments;
+  links = links;
 }

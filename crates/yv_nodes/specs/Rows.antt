@@ -1,8 +1,9 @@
 -- A schema as numbered rows: what contracts see of a `Schema`, and the tree that it stands for.
-use Rattle.std.specs.Prelude.{◌≡◌, ℕ, ◌+◌, ◌-◌, ◌<◌, ◌==◌, List, [], ◌∷◌, length, drop, Bool, false, if◌then◌else◌}
+use Rattle.std.specs.Prelude.{◌≡◌, ℕ, ◌+◌, ◌-◌, ◌<◌, ◌==◌, List, [], ◌∷◌, length, drop, Bool, false, Option, if◌then◌else◌}
 use Rattle.std.specs.List.{slice_index_or}
 use Rattle.yv_nodes.specs.declared.node.NodeId.{NodeId}
 use Rattle.yv_properties.specs.Defined.{blank as blank_defined}
+use Rattle.yv_nodes.specs.Link.{Link}
 use Rattle.yv_nodes.specs.Tree.{Label, Tree, node, Forest, no_trees, tree}
 
 -- a schema node, the number of the node above it, and the numbers of the nodes below it, in order
@@ -31,13 +32,14 @@ pub record Note : Type 0 where
   pub nodes : List NodeId
 
 -- the rows by number, from 0, the numbers of the nodes at the top, in order, the most nodes that there may be, the implemented modules
--- by file, and the augments in order
+-- by file, the augments in order, and for each leafref that requires an instance where its path leads
 pub record Rows : Type 0 where
   pub nodes : List Row
   pub top : List NodeId
   pub limit : ℕ
   pub modules : List Module
   pub augments : List Note
+  pub links : List (Option Link)
 
 -- the root, the parent of the nodes at the top, has the last number of 32 bits
 abbrev pub root : NodeId

@@ -20,6 +20,7 @@ with_types types d = record {
   status = d.status;
   features = d.features;
   type_text = d.type_text;
+  path = d.path;
   stated_config = d.stated_config;
   is_mandatory = d.is_mandatory;
   min = d.min;

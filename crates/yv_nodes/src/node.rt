@@ -6,7 +6,7 @@ ghost use Rattle.std.specs.Rc.{rc_slice_items, rc_str_bytes};
 use std::alloc::{AllocError, Global};
 use std::marker::Model;
 use std::rc::{RcSlice, RcStr};
-use yv_properties::{Definition, NodeKind, NodeStatus, PathStep, WrittenText};
+use yv_properties::{Definition, NodeKind, NodeStatus, PathPiece, PathStep, WrittenText};
 use yv_statement::{Code, Refusal};
 use yv_values::{PlainType, Value};
 
@@ -220,6 +220,14 @@ impl Node {
         ensures { result.now ≡ self.now.label.defined.type_text }
     {
         self.definition.type_text()
+    }
+
+    /// The pieces of the path of its leafref, as it is written, between `/` (RFC 7950, section 9.9.2): nothing where its type isn't
+    /// written as a leafref.
+    pub fn path(&self) -> &[PathPiece]
+        ensures { result.now ≡ self.now.label.defined.path }
+    {
+        self.definition.path()
     }
 
     /// What its `config` statement says, or the last of its refines with one.

@@ -1,5 +1,5 @@
 -- Files come to one thing, and a run has one output.
-use Rattle.std.proofs.Common.{◌≡◌, ℕ, zero, suc, ◌<◌, List, [], ◌∷◌, take, Some, None, sym, ◌∙◌, ap, ap₂, subst, refl, arith, inl, inr}
+use Rattle.std.proofs.Common.{◌≡◌, ℕ, zero, suc, ◌<◌, List, [], ◌∷◌, take, Option, Some, None, sym, ◌∙◌, ap, ap₂, subst, refl, arith, inl, inr}
 use Rattle.std.specs.List.{AllZip, slice_get}
 use Rattle.std.proofs.lemmas.Bool.{cases_lt}
 use Rattle.yv_statement.specs.Tree.{Tree}
@@ -10,7 +10,8 @@ use Rattle.yv_source.specs.Legal.{IsLegalFile}
 use Rattle.yv_selection.specs.Choice.{Choice}
 use Rattle.yv_schema.specs.Refuses.{Refuses}
 use Rattle.yv_schema.specs.Module.{modules_of}
-use Rattle.yv_schema.specs.Schema.{AreNotes, IsSchema}
+use Rattle.yv_schema.specs.Schema.{AreNotes, AreReferences, IsSchema}
+use Rattle.yv_nodes.specs.Link.{Link}
 use Rattle.yv_nodes.specs.Tree.{Forest}
 use Rattle.yv_nodes.specs.Rows.{Note, Rows, whole}
 use Rattle.yv_nodes.specs.Numbers.{rows_of}
@@ -37,6 +38,7 @@ pub record Once : Type 0 where
   pub apart : (text : List ℕ) (t : Tree) (r : Refusal) → IsSpelled text t → IsRefused text r → ⊥
   pub schema : (choice : Choice) (files : List Tree) (limit : ℕ) (a b : Forest) → IsLeast (Refuses choice files limit) None → IsSchema choice files a → IsSchema choice files b → a ≡ b
   pub augments : (choice : Choice) (files : List Tree) (limit : ℕ) (a b : List Note) → IsLeast (Refuses choice files limit) None → AreNotes choice files a → AreNotes choice files b → a ≡ b
+  pub references : (choice : Choice) (files : List Tree) (limit : ℕ) (a b : List (Option Link)) → IsLeast (Refuses choice files limit) None → AreReferences choice files a → AreReferences choice files b → a ≡ b
   pub order : (r s : Refusal) → IsUpTo r s → IsUpTo s r → r ≡ s
 
 one_least : Once → (choice : Choice) (ts : List Tree) (limit : ℕ) (r s : Refusal) → IsLeast (Refuses choice ts limit) (Some r) → IsLeast (Refuses choice ts limit) (Some s) → r ≡ s
@@ -98,8 +100,9 @@ one_place once files ts us n m f g r s p at a q at' b =
 one_given : Once → (choice : Choice) (ts : List Tree) (limit : ℕ) (a b : Rows) → IsLeast (Refuses choice ts limit) None → IsGiven choice ts limit a → IsGiven choice ts limit b → a ≡ b
 one_given once choice ts limit a b clear p q =
     p.rows
-    ∙ ap₂ (rows_of limit (modules_of choice ts)) (once.augments choice ts limit a.augments b.augments clear p.augments q.augments)
-    (once.schema choice ts limit (whole a) (whole b) clear p.tree q.tree)
+    ∙ ap₂ (λ (notes : List Note) (links : List (Option Link)). rows_of limit (modules_of choice ts) notes links (whole a)) (once.augments choice ts limit a.augments b.augments clear p.augments q.augments)
+    (once.references choice ts limit a.links b.links clear p.references q.references)
+    ∙ ap (rows_of limit (modules_of choice ts) b.augments b.links) (once.schema choice ts limit (whole a) (whole b) clear p.tree q.tree)
     ∙ sym q.rows
 
 files_once : Once → (choice : Choice) (limit : ℕ) (files : List File) (c d : Compiled) → FilesCompile choice limit files c → FilesCompile choice limit files d → c ≡ d

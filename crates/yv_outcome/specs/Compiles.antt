@@ -9,7 +9,7 @@ use Rattle.yv_faceted.specs.Types.{HasTypePattern}
 use Rattle.yv_nodes.specs.Rows.{Rows, whole}
 use Rattle.yv_nodes.specs.Numbers.{rows_of}
 use Rattle.yv_schema.specs.Module.{modules_of}
-use Rattle.yv_schema.specs.Schema.{AreNotes, IsSchema}
+use Rattle.yv_schema.specs.Schema.{AreNotes, AreReferences, IsSchema}
 use Rattle.yv_schema.specs.Refuses.{Refuses, RefusesBeforeTypes}
 use Rattle.yv_streams.specs.Files.{File}
 use Rattle.yv_files.specs.Read.{IsRead, IsUnread, in_file}
@@ -19,12 +19,13 @@ pub data Compiled : Type 0 where
   RefusedAt : Refusal → Compiled
   Built : Rows → Compiled
 
--- the schema of statements within a limit: the numbered rows of their schema tree, with the modules that are implemented and the augments
--- that add nodes
+-- the schema of statements within a limit: the numbered rows of their schema tree, with the modules that are implemented, the augments
+-- that add nodes, and where leafrefs lead
 pub record IsGiven (choice : Choice) (ts : List Tree) (limit : ℕ) (s : Rows) : Type 0 where
   pub tree : IsSchema choice ts (whole s)
   pub augments : AreNotes choice ts s.augments
-  pub rows : s ≡ rows_of limit (modules_of choice ts) s.augments (whole s)
+  pub references : AreReferences choice ts s.links
+  pub rows : s ≡ rows_of limit (modules_of choice ts) s.augments s.links (whole s)
 
 -- What files come to under a choice and a limit of what they may expand to: one of them can't be read, though those before it can; or their statements are refused; or they give their schema.
 pub data FilesCompile (choice : Choice) (limit : ℕ) (files : List File) : Compiled → Type 0 where

@@ -6,7 +6,7 @@ use Rattle.std.specs.declared.vec.Vec.{Vec}
 use Rattle.std.specs.declared.alloc.Global.{Global}
 use Rattle.yv_values.specs.Types.{Plain}
 use Rattle.yv_values.specs.Values.{Val}
-use Rattle.yv_properties.specs.Steps.{Step}
+use Rattle.yv_properties.specs.Steps.{Piece, Step}
 use Rattle.yv_properties.specs.declared.kind.NodeKind.{NodeKind}
 use Rattle.yv_properties.specs.declared.kind.NodeKind.TheVariants.{Leaf}
 use Rattle.yv_properties.specs.declared.kind.NodeStatus.{NodeStatus}
@@ -23,7 +23,8 @@ written_of w = record { text = rc_str_bytes w.text; file = w.file }
 
 -- what a statement says of the schema node that it defines: `file`, `offset` and `line` say where its keyword stands. `keys` has the
 -- names of its `key` statement, each the one step of a path, and `uniques` the paths of each `unique` statement. A step is None where
--- its prefix stands for no module
+-- its prefix stands for no module. `path` has the pieces of the path of its leafref, as it is written: nothing where its type isn't
+-- written as a leafref
 pub record Defined : Type 0 where
   pub file : ℕ
   pub offset : ℕ
@@ -35,6 +36,7 @@ pub record Defined : Type 0 where
   pub status : NodeStatus
   pub features : List ℕ
   pub type_text : List ℕ
+  pub path : List Piece
   pub stated_config : Option Bool
   pub is_mandatory : Bool
   pub min : ℕ
@@ -70,6 +72,7 @@ blank = record {
   status = Current;
   features = [];
   type_text = [];
+  path = [];
   stated_config = None;
   is_mandatory = false;
   min = 0;

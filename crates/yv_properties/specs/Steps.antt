@@ -8,6 +8,13 @@ pub record Step : Type 0 where
   pub home : Option ℕ
   pub name : List ℕ
 
+-- a piece of the path of a leafref as it is written, between two `/`: its prefix, where it has one, the number of the file of the module
+-- for which that stands, if it stands for one, and the name behind it (section 9.9.2)
+pub record Piece : Type 0 where
+  pub prefix : Option (List ℕ)
+  pub home : Option ℕ
+  pub name : List ℕ
+
 abbrev pub is_home : Option ℕ → Option ℕ → Bool
 is_home None None = true
 is_home (Some a) (Some b) = a == b

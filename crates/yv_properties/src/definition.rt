@@ -8,6 +8,7 @@ ghost use Rattle.yv_properties.specs.Steps.{has_step};
 
 use crate::keys::Keys;
 use crate::kind::{NodeKind, NodeStatus};
+use crate::piece::PathPiece;
 use crate::step::PathStep;
 use std::alloc::AllocError;
 use std::marker::Model;
@@ -47,6 +48,8 @@ pub struct Definition {
     pub features: RcStr,
     /// The name of its type as it is written.
     pub type_text: RcStr,
+    /// The pieces of the path of its leafref, as it is written: nothing where its type isn't written as a leafref.
+    pub path: Rc<Vec<PathPiece>>,
     /// What its `config` statement says.
     pub stated_config: Option<bool>,
     /// Whether its `mandatory` statement says true.
@@ -87,6 +90,7 @@ impl Model for Definition {
       status = d.status;
       features = rc_str_bytes d.features;
       type_text = rc_str_bytes d.type_text;
+      path = d.path.value.items;
       stated_config = d.stated_config;
       is_mandatory = d.is_mandatory;
       min = d.min;
@@ -169,6 +173,14 @@ impl Definition {
         ensures { result.now ≡ self.now.type_text }
     {
         self.type_text.as_str()
+    }
+
+    /// The pieces of the path of its leafref, as it is written, between `/` (RFC 7950, section 9.9.2): nothing where its type isn't
+    /// written as a leafref.
+    pub fn path(&self) -> &[PathPiece]
+        ensures { result.now ≡ self.now.path }
+    {
+        self.path.as_slice()
     }
 
     /// What its `config` statement says, where it has one (RFC 7950, section 7.21.1).
@@ -273,6 +285,7 @@ impl Definition {
             status: self.status,
             features: self.features.clone()?,
             type_text: self.type_text.clone()?,
+            path: self.path.clone()?,
             stated_config: self.stated_config,
             is_mandatory: self.is_mandatory,
             min: self.min,

@@ -4,9 +4,11 @@
 mod definition;
 mod keys;
 mod kind;
+mod piece;
 mod step;
 
 pub use definition::{Definition, WrittenText};
 pub use keys::Keys;
 pub use kind::{NodeKind, NodeStatus};
+pub use piece::PathPiece;
 pub use step::PathStep;

@@ -12,7 +12,7 @@ use Rattle.yv_nodes.specs.Tree.{count, Label, node, Tree, Forest, no_trees, tree
 use Rattle.yv_references.specs.declared.scope.Scope.{Scope}
 use Rattle.yv_references.specs.declared.scope.Scope.TheVariants.{Always}
 use Rattle.yv_references.specs.InUse.{case_scope, value_of}
-use Rattle.yv_references.specs.Link.{AreLinked, AreLinkedBelow, climbed, Ground, IsLinked, KindLinked, Leads, Link}
+use Rattle.yv_nodes.specs.Link.{AreLinked, AreLinkedBelow, climbed, Ground, IsLinked, KindLinked, Leads, Link}
 use Rattle.yv_references.specs.Place.{Place, step_name, under}
 use Rattle.yv_references.specs.Reached.{is_among}
 use Rattle.yv_references.specs.References.{all_references, entries_references, found_from, item_references, kind_references, leaf_references, Level, listed_references, object_references, references, told_unless, top_level, value_references}

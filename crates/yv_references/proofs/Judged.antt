@@ -10,7 +10,7 @@ use Rattle.yv_nodes.specs.Rows.{Rows}
 use Rattle.yv_references.specs.InnerFound.{Gains, index_of, Indexes, IsKept}
 use Rattle.yv_references.specs.InnerNotes.{asked, asked_once, climbed_to, judge, judged, Noted, path_of, Position, position_at}
 use Rattle.yv_references.specs.InnerPositions.{is_it, is_within, Kept}
-use Rattle.yv_references.specs.Link.{Link}
+use Rattle.yv_nodes.specs.Link.{Link}
 use Rattle.yv_references.specs.Place.{Place}
 use Rattle.yv_references.specs.References.{paths_in, told_unless}
 use Rattle.yv_references.specs.Same.{same_value}

@@ -8,7 +8,7 @@ use Rattle.yv_references.specs.declared.scope.Scope.TheVariants.{Always}
 use Rattle.yv_references.specs.InnerFound.{Findings, HasMet}
 use Rattle.yv_references.specs.InnerNotes.{all_positions, asked, judged, Noted, Position}
 use Rattle.yv_references.specs.InnerPositions.{Kept, kept}
-use Rattle.yv_references.specs.Link.{AreLinked, is_target, Link, link_in}
+use Rattle.yv_nodes.specs.Link.{AreLinked, is_target, Link, link_in}
 use Rattle.yv_references.specs.Lookups.{all_lookups}
 use Rattle.yv_references.specs.References.{all_references}
 use Rattle.yv_references.proofs.Answered.{all_answered}

@@ -12,7 +12,7 @@ use Rattle.yv_references.specs.declared.scope.Scope.TheVariants.{Always}
 use Rattle.yv_references.specs.InnerFound.{ended, Findings, Gains, Indexes, IsKept, Meets, opened, with_last}
 use Rattle.yv_references.specs.InnerNotes.{kind_notes, Noted, notes, object_positions, Position, position_at, positions}
 use Rattle.yv_references.specs.InnerPositions.{entered, Kept, kept, tree_entered}
-use Rattle.yv_references.specs.Link.{Link}
+use Rattle.yv_nodes.specs.Link.{Link}
 use Rattle.yv_references.proofs.Ends.{from_head, join_length, move, positions_length}
 
 kept_left : (xs ys : List Kept) (n : ℕ) (v : Val) (p : ℕ) → IsKept xs n v p → IsKept (xs ++ ys) n v p

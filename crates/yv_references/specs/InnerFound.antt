@@ -11,7 +11,7 @@ use Rattle.yv_nodes.specs.Rows.{Rows, whole}
 use Rattle.yv_references.specs.declared.scope.Scope.TheVariants.{Always}
 use Rattle.yv_references.specs.InnerNotes.{all_positions, Noted, notes, Position, position_at}
 use Rattle.yv_references.specs.InnerPositions.{Kept, kept}
-use Rattle.yv_references.specs.Link.{is_target, Link, link_in}
+use Rattle.yv_nodes.specs.Link.{is_target, Link, link_in}
 
 -- this value of this target was kept at this place
 abbrev pub IsKept : List Kept → ℕ → Val → ℕ → Type 0

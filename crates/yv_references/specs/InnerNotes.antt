@@ -10,7 +10,7 @@ use Rattle.yv_nodes.specs.Rows.{Rows, row_at}
 use Rattle.yv_nodes.specs.Tree.{count, Label, node, Forest, no_trees, tree}
 use Rattle.yv_references.specs.InUse.{value_of}
 use Rattle.yv_references.specs.InnerPositions.{entered, entry_entered, is_within, Kept, tree_entered}
-use Rattle.yv_references.specs.Link.{Link}
+use Rattle.yv_nodes.specs.Link.{Link}
 use Rattle.yv_references.specs.Place.{Place, step_name}
 use Rattle.yv_references.specs.References.{told_unless}
 

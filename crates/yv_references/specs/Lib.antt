@@ -1,7 +1,6 @@
 pub mod Place
 pub mod Same
 pub mod InUse
-pub mod Link
 pub mod Reached
 pub mod References
 pub mod Lookups

@@ -8,7 +8,7 @@ use Rattle.yv_values.specs.Values.{Val}
 use Rattle.yv_nodes.specs.Rows.{Rows, whole}
 use Rattle.yv_nodes.specs.Tree.{count, Label, node, Forest, no_trees, tree}
 use Rattle.yv_references.specs.InUse.{value_of}
-use Rattle.yv_references.specs.Link.{Link}
+use Rattle.yv_nodes.specs.Link.{Link}
 
 abbrev pub value_lookups : Option Link → Option Val → ℕ
 value_lookups (Some link) (Some v) = 1

@@ -10,7 +10,7 @@ use Rattle.yv_nodes.specs.Rows.{Rows, whole}
 use Rattle.yv_nodes.specs.Tree.{count, Label, node, Forest, no_trees, tree}
 use Rattle.yv_references.specs.declared.scope.Scope.TheVariants.{Always}
 use Rattle.yv_references.specs.InUse.{value_of}
-use Rattle.yv_references.specs.Link.{climbed, Ground, ground, Link}
+use Rattle.yv_nodes.specs.Link.{climbed, Ground, ground, Link}
 use Rattle.yv_references.specs.Place.{at_item, Place, step_name, under}
 use Rattle.yv_references.specs.Reached.{is_among, values}
 

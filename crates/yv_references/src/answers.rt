@@ -6,17 +6,16 @@ ghost use Rattle.yv_values.specs.Count.{counted};
 ghost use Rattle.yv_references.specs.InnerFound.{Gains, HasMet};
 ghost use Rattle.yv_references.specs.InnerNotes.{asked, asked_once, climbed_to, further_out, judge, judged, path_to, place_at, position_at};
 ghost use Rattle.yv_references.specs.InnerPositions.{Kept};
-ghost use Rattle.yv_references.specs.Link.{AreLinked, link_in};
+ghost use Rattle.yv_nodes.specs.Link.{AreLinked, link_in};
 ghost use Rattle.yv_references.specs.Lookups.{all_lookups};
 ghost use Rattle.yv_references.specs.References.{all_references, paths_in};
 
 use crate::found::{Found, Note, Position};
-use crate::link::Links;
 use crate::place::Step;
 use crate::targets::Targets;
 use std::alloc::{AllocError, Global};
 use std::rc::RcStr;
-use yv_nodes::NodeId;
+use yv_nodes::{Links, NodeId};
 use yv_tables::Schema;
 use yv_values::{Meter, Tuple};
 

@@ -6,13 +6,12 @@ ghost use Rattle.yv_references.specs.Reached.{some_value};
 ghost use Rattle.yv_references.specs.InnerFound.{ended, Meets, none_found, opened};
 ghost use Rattle.yv_references.specs.InnerNotes.{value_notes};
 ghost use Rattle.yv_references.specs.InnerPositions.{kept_if};
-ghost use Rattle.yv_references.specs.Link.{is_target, link_in};
+ghost use Rattle.yv_nodes.specs.Link.{is_target, link_in};
 
-use crate::link::Links;
 use crate::targets::Targets;
 use std::alloc::{AllocError, Global};
 use std::marker::Model;
-use yv_nodes::NodeId;
+use yv_nodes::{Links, NodeId};
 use yv_tables::Schema;
 use yv_values::Value;
 

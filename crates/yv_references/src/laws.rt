@@ -9,7 +9,7 @@ ghost use Rattle.yv_references.specs.declared.scope.Scope.TheVariants.{Always};
 ghost use Rattle.yv_references.specs.InnerFound.{ended, Findings, Meets, opened};
 ghost use Rattle.yv_references.specs.InnerNotes.{AreTargets, Noted, Position, all_positions, judged, notes, object_positions, positions};
 ghost use Rattle.yv_references.specs.InnerPositions.{Kept, entered, kept, values_of};
-ghost use Rattle.yv_references.specs.Link.{AreLinked, Leads, Link};
+ghost use Rattle.yv_nodes.specs.Link.{AreLinked, Leads, Link};
 ghost use Rattle.yv_references.specs.Lookups.{lookups};
 ghost use Rattle.yv_references.specs.Reached.{values};
 ghost use Rattle.yv_references.specs.References.{all_references};

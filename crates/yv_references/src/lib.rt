@@ -4,13 +4,11 @@
 mod answers;
 mod found;
 pub mod laws;
-mod link;
 mod place;
 mod scope;
 mod targets;
 
 pub use answers::answer;
 pub use found::Found;
-pub use link::{Link, Links};
 pub use place::{MemberName, Step};
 pub use scope::Scope;

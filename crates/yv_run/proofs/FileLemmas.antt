@@ -13,7 +13,7 @@ use Rattle.yv_nodes.specs.declared.node.NodeId.{NodeId}
 use Rattle.yv_tables.specs.Sound.{IsSound}
 use Rattle.yv_schema.specs.Module.{modules_of}
 use Rattle.yv_schema.specs.Refuses.{Refuses}
-use Rattle.yv_schema.specs.Schema.{AreNotes, IsSchema}
+use Rattle.yv_schema.specs.Schema.{AreNotes, AreReferences, IsSchema}
 use Rattle.yv_streams.specs.Files.{File}
 use Rattle.yv_files.specs.Read.{IsRead, IsUnreadAt}
 use Rattle.yv_outcome.specs.Compiles.{Built, RefusedAt, FilesCompile, IsGiven, unread, built}
@@ -40,25 +40,26 @@ refuses_unread choice limit files r at =
     subst (λ q. FilesCompile choice limit files (RefusedAt q)) (sym at.placed) (unread at.number at.file at.before at.read at.at at.unread)
 
 -- a sound schema is made of its rows by number
-same_rows : (limit : ℕ) (s : Rows) → IsSound s → s.limit ≡ limit → s ≡ rows_of limit s.modules s.augments (whole s)
+same_rows : (limit : ℕ) (s : Rows) → IsSound s → s.limit ≡ limit → s ≡ rows_of limit s.modules s.augments s.links (whole s)
 same_rows limit s sound is =
     ap₂ (λ (nodes : List Row) (top : List NodeId). record s { nodes = nodes; top = top }) sound.rows sound.top
-    ∙ ap (λ (most : ℕ). rows_of most s.modules s.augments (whole s)) is
+    ∙ ap (λ (most : ℕ). rows_of most s.modules s.augments s.links (whole s)) is
 
 -- what a compilation answers is the schema of the statements
 pub is_given : (choice : Choice) (ts : List Tree) (limit : ℕ) (s : Rows) → IsSchema choice ts (whole s) → s.limit ≡ limit
-    → s.modules ≡ modules_of choice ts → AreNotes choice ts s.augments → IsSound s → IsGiven choice ts limit s
-is_given choice ts limit s tree most modules augments sound = record {
+    → s.modules ≡ modules_of choice ts → AreNotes choice ts s.augments → AreReferences choice ts s.links → IsSound s → IsGiven choice ts limit s
+is_given choice ts limit s tree most modules augments references sound = record {
   tree = tree;
   augments = augments;
-  rows = same_rows limit s sound most ∙ ap (λ (ms : List Module). rows_of limit ms s.augments (whole s)) modules;
+  references = references;
+  rows = same_rows limit s sound most ∙ ap (λ (ms : List Module). rows_of limit ms s.augments s.links (whole s)) modules;
 }
 
 pub all_given : (choice : Choice) (ts : List Tree) (limit : ℕ) (answer : Result Rows Stop) → IfOk answer (λ s. IsSchema choice ts (whole s))
     → IfOk answer (λ s. s.limit ≡ limit) → IfOk answer (λ s. s.modules ≡ modules_of choice ts) → IfOk answer (λ s. AreNotes choice ts s.augments)
-    → IfOk answer IsSound → IfOk answer (IsGiven choice ts limit)
-all_given choice ts limit (Ok s) tree most modules augments sound = is_given choice ts limit s tree most modules augments sound
-all_given choice ts limit (Err e) tree most modules augments sound = tt
+    → IfOk answer (λ s. AreReferences choice ts s.links) → IfOk answer IsSound → IfOk answer (IsGiven choice ts limit)
+all_given choice ts limit (Ok s) tree most modules augments references sound = is_given choice ts limit s tree most modules augments references sound
+all_given choice ts limit (Err e) tree most modules augments references sound = tt
 
 -- files of which nothing is refused give their schema
 pub gives_schema : (choice : Choice) (limit : ℕ) (files : List File) (ts : List Tree) (answer : Result Rows Stop) → AllZip IsRead files ts → IfOk answer (IsGiven choice ts limit)

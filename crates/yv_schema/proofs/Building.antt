@@ -1,5 +1,5 @@
 -- What a schema is built of is in order.
-use Rattle.std.proofs.Common.{◌≡◌, ℕ, List, [], sym, ap, ◌∙◌, subst, map, false, true, Some, None, All}
+use Rattle.std.proofs.Common.{◌≡◌, ℕ, List, [], refl, sym, ap, ◌∙◌, subst, map, false, true, Option, Some, None, All}
 use Rattle.std.specs.List.{slice_get}
 use Rattle.yv_statement.specs.Tree.{Tree}
 use Rattle.yv_selection.specs.Choice.{Choice}
@@ -13,18 +13,22 @@ use Rattle.yv_final_tree.specs.Final.{Final, IsFinal, spots_of}
 use Rattle.yv_final_tree.specs.Given.{HaveHomes, is_given}
 use Rattle.yv_final_tree.specs.Left.{AreLeft}
 use Rattle.yv_nodes.specs.declared.node.NodeId.{NodeId}
+use Rattle.yv_nodes.specs.Link.{AreLinked, Link, link_in}
 use Rattle.yv_nodes.specs.Numbers.{numbers_from, rows_from}
 use Rattle.yv_nodes.specs.Rows.{Module, Note, Row, blank_row}
+use Rattle.yv_nodes.specs.Tree.{Forest}
+use Rattle.yv_leafrefs.specs.Resolved.{IsTyped}
 use Rattle.yv_tables.specs.Numbered.{AreFormed, AreModules, AreNumbered, made_of}
 use Rattle.yv_tables.specs.Sound.{IsNote}
 use Rattle.yv_schema.specs.InnerBuild.{AreNames}
 use Rattle.yv_schema.specs.InnerContext.{TellsOf}
-use Rattle.yv_schema.specs.Module.{Basis, modules_of, schema_of}
+use Rattle.yv_schema.specs.Module.{Basis, leafrefs_of, modules_of, stated_of}
 use Rattle.yv_schema.specs.Notes.{notes_of}
 use Rattle.yv_schema.specs.declared.context.Context.{Context}
 use Rattle.yv_schema.proofs.Forming.{are_formed, are_modules}
 use Rattle.yv_schema.proofs.Noting.{are_notes}
 use Rattle.yv_schema.proofs.Parenting.{count_rows, row_parent}
+use Rattle.yv_schema.proofs.Typing.{FormsStay, NotesStay, RowsStay, TopsStay, forms_resolved, notes_resolved, tops_resolved}
 use Rattle.yv_schema.proofs.Telling.{NoneTwice, StandBelow, final_is, follows, left_is}
 
 -- an item belongs to a module that is implemented
@@ -55,21 +59,27 @@ module _ (choice : Choice) (files : Files) (c : Context) (names : AreNames choic
   own_final : IsFinal choice b.files b.final
   own_final = subst (λ (x : Choice). IsFinal x b.files b.final) told.chosen (final_is b c told.tells)
 
-  pub formed : AreOfModules → AreNodes → HaveRows → AreFormed (modules_of choice b.files) [] (schema_of b)
+  pub formed : AreOfModules → AreNodes → HaveRows → AreFormed (modules_of choice b.files) [] (stated_of b)
   formed of_modules nodes rows =
       are_formed choice b (record { fine = own_names.fine; heads = rows b.files }) (λ i s at. of_modules choice b.files b.final i s own_names.homes own_final at)
       (λ k x at. nodes choice b.files b.truth b.final b.nodes k x own_final (left_is b c told.tells) at)
 
-  pub numbered_in_order : AreOfModules → AreNodes → HaveRows → (modules : List Module) (nodes : List Row) (top : List NodeId) → modules ≡ modules_of choice files
-      → nodes ≡ rows_from 0 (schema_of b) → top ≡ numbers_from 0 (schema_of b) → AreNumbered modules nodes top
-  numbered_in_order of_modules left rows modules nodes top are rows_are top_is = record {
-    trees = schema_of b;
-    formed = subst (λ (ms : List Module). AreFormed ms [] (schema_of b)) (ap (modules_of choice) told.of_files ∙ sym are) (formed of_modules left rows);
+  pub numbered_in_order : AreOfModules → AreNodes → HaveRows → TopsStay → FormsStay → (modules : List Module) (nodes : List Row) (top : List NodeId) (links : List (Option Link)) (whole : Forest)
+      → IsTyped (leafrefs_of b) (stated_of b) whole → AreLinked (link_in links) whole → modules ≡ modules_of choice files → nodes ≡ rows_from 0 whole → top ≡ numbers_from 0 (stated_of b) → AreNumbered modules nodes top links
+  numbered_in_order of_modules left rows tops forms modules nodes top links whole is linked are rows_are top_is = record {
+    trees = whole;
+    formed = forms_resolved forms (leafrefs_of b) modules (stated_of b) whole is
+        (subst (λ (ms : List Module). AreFormed ms [] (stated_of b)) (ap (modules_of choice) told.of_files ∙ sym are) (formed of_modules left rows));
     rows = rows_are;
-    top_is = top_is;
+    top_is = top_is ∙ sym (tops_resolved tops (leafrefs_of b) (stated_of b) whole is);
+    linked = linked;
   }
 
-  pub notes_in_order : StandBelow → NoneTwice → (nodes : List Row) (top : List NodeId) (limit : ℕ) (modules : List Module) (notes : List Note) → nodes ≡ rows_from 0 (schema_of b)
-      → notes ≡ notes_of b → All (IsNote (made_of nodes top limit modules notes)) notes
-  notes_in_order below twice nodes top limit modules notes rows_are are =
-      are_notes b (follows b c told.tells below twice) (made_of nodes top limit modules notes) (count_rows b nodes rows_are) (λ k x at. row_parent b nodes k x blank_row rows_are at) notes are
+  pub notes_in_order : StandBelow → NoneTwice → RowsStay → NotesStay → (nodes : List Row) (top : List NodeId) (limit : ℕ) (modules : List Module) (notes : List Note) (links : List (Option Link)) (whole : Forest)
+      → IsTyped (leafrefs_of b) (stated_of b) whole → nodes ≡ rows_from 0 whole → notes ≡ notes_of b → All (IsNote (made_of nodes top limit modules notes links)) notes
+  notes_in_order below twice rows stay nodes top limit modules notes links whole is rows_are are =
+      let stated : List Row = rows_from 0 (stated_of b) in
+      let given : All (IsNote (made_of stated top limit modules notes links)) notes =
+      are_notes b (follows b c told.tells below twice) (made_of stated top limit modules notes links) (count_rows b stated refl) (λ k x at. row_parent b stated k x blank_row refl at) notes are in
+      subst (λ (rs : List Row). All (IsNote (made_of rs top limit modules notes links)) notes) (sym rows_are)
+      (notes_resolved rows stay (leafrefs_of b) (stated_of b) whole top limit modules notes links is given)

@@ -1,5 +1,4 @@
 pub mod Blocks
-pub mod Untaken
 pub mod Told
 pub mod TypePhases
 pub mod Plain
@@ -14,4 +13,6 @@ pub mod Telling
 pub mod Built
 pub mod Building
 pub mod Phases
+pub mod Resolving
+pub mod Typing
 pub mod Counting

@@ -21,8 +21,8 @@ use Rattle.yv_nodes.specs.Rows.{Note, Rows, blank_row, is_root, rank}
 use Rattle.yv_tables.specs.Sound.{IsChild, IsNote}
 use Rattle.yv_schema.specs.InnerRowing.{number_at, parent_of}
 use Rattle.yv_schema.specs.InnerRowing as rowing
-use Rattle.yv_schema.specs.Module.{Basis}
-use Rattle.yv_schema.specs.Notes.{added_by, nodes_in, note_by, notes_from, notes_of, target_of}
+use Rattle.yv_schema.specs.Module.{Basis, nodes_in}
+use Rattle.yv_schema.specs.Notes.{added_by, note_by, notes_from, notes_of, target_of}
 use Rattle.yv_schema.proofs.Parenting.{in_one, made_at, parent_first}
 use Rattle.yv_schema.proofs.Targeting.{target_known}
 

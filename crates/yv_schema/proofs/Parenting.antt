@@ -11,8 +11,7 @@ use Rattle.yv_nodes.specs.Numbers.{rows_below, rows_from}
 use Rattle.yv_nodes.specs.Rows.{Row}
 use Rattle.yv_nodes.specs.Tree.{count, Label}
 use Rattle.yv_schema.specs.InnerRowing.{number_at, parent_of}
-use Rattle.yv_schema.specs.Module.{Basis, label_at, labelled, schema_of}
-use Rattle.yv_schema.specs.Notes.{nodes_in}
+use Rattle.yv_schema.specs.Module.{Basis, label_at, labelled, stated_of, nodes_in}
 use Rattle.yv_schema.proofs.Rowing.{IsWithin, count_labelled, within_more}
 
 -- what stands in one list behind another stands in one of them
@@ -76,14 +75,14 @@ module _ (b : Basis) where
       ∙ ap (λ (ps : List NodeId). map (λ (x : Node). parent_of x.parent) (items.listed (Some first) (first + 1) below) ++ ps) (row_parents parent second above behind)
       ∙ sym (map-append (λ (x : Node). parent_of x.parent) (items.listed (Some first) (first + 1) below) (items.listed parent second behind)))
 
-  pub count_rows : (rows : List Row) → rows ≡ rows_from 0 (schema_of b) → length rows ≡ length (nodes_in b)
+  pub count_rows : (rows : List Row) → rows ≡ rows_from 0 (stated_of b) → length rows ≡ length (nodes_in b)
   count_rows rows are =
       sym (length-map rows (λ (r : Row). r.parent))
       ∙ ap (λ (rs : List Row). length (map (λ (r : Row). r.parent) rs)) are
       ∙ ap length (row_parents None 0 [] b.nodes)
       ∙ length-map (nodes_in b) (λ (x : Node). parent_of x.parent)
 
-  pub row_parent : (rows : List Row) (k : ℕ) (x : Node) (d : Row) → rows ≡ rows_from 0 (schema_of b) → slice_get (nodes_in b) k ≡ Some x → (get_or rows k d).parent ≡ parent_of x.parent
+  pub row_parent : (rows : List Row) (k : ℕ) (x : Node) (d : Row) → rows ≡ rows_from 0 (stated_of b) → slice_get (nodes_in b) k ≡ Some x → (get_or rows k d).parent ≡ parent_of x.parent
   row_parent rows k x d are at =
       let there : slice_get (map (λ (r : Row). r.parent) rows) k ≡ Some (parent_of x.parent) =
       ap (λ (rs : List Row). slice_get (map (λ (r : Row). r.parent) rs) k) are ∙ ap (λ (ps : List NodeId). slice_get ps k) (row_parents None 0 [] b.nodes)

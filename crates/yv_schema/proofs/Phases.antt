@@ -39,7 +39,12 @@ use Rattle.yv_definitions.specs.Kinds.{AreTyped, Typing}
 use Rattle.yv_schema.specs.Truth.{IsTruth}
 use Rattle.yv_nodes.specs.Tree.{Forest, Label}
 use Rattle.yv_nodes.specs.Rows.{Note}
-use Rattle.yv_schema.specs.Module.{Basis, schema_of}
+use Rattle.yv_leafrefs.specs.Bad.{BadLeafrefs}
+use Rattle.yv_leafrefs.specs.Resolved.{IsTyped}
+use Rattle.yv_leafrefs.specs.Schema.{AreAlike, Schema}
+use Rattle.yv_leafref_links.specs.Links.{AreLinks}
+use Rattle.yv_nodes.specs.Link.{Link}
+use Rattle.yv_schema.specs.Module.{Basis, leafrefs_of, stated_of}
 use Rattle.yv_schema.specs.Notes.{notes_of}
 use Rattle.yv_nodes.specs.Places.{Place}
 use Rattle.yv_leaf_targets.specs.Bad.{BadOfLeafs}
@@ -49,7 +54,7 @@ use Rattle.yv_tree_checks.specs.Above.{AtNearest, BadBelow, is_misfit}
 use Rattle.yv_tree_checks.specs.Mandatory.{BadOfDefault}
 use Rattle.yv_tree_checks.specs.Bad.{BadTree}
 use Rattle.yv_schema.specs.Refuses.{BadFile, BadNodes, BadSchema, BadTyping, Refuses, RefusesBeforeTypes}
-use Rattle.yv_schema.specs.Schema.{AreNotes, IsBasis, IsSchema}
+use Rattle.yv_schema.specs.Schema.{AreNotes, AreReferences, IsBasis, IsSchema}
 use Rattle.yv_tables.specs.Numbered.{HasNoColon}
 use Rattle.yv_schema.specs.InnerBuild.{AreNames}
 use Rattle.yv_schema.proofs.HomesGiven.{have_homes}
@@ -135,7 +140,7 @@ own_name briefs n g h = by (named briefs g.name) refl (not_false (is_at n (named
 module _ (choice : Choice) (files : Files) (fine : (f : Refusal) → Among files BadFile (length files) f → ⊥) (linked : (f : Refusal) → BadLinks files f → ⊥) where
   fine_at : (n : ℕ) (t : Tree) (f : Refusal) → slice_get files n ≡ Some t → Bad t f → ⊥
   fine_at n t f at bad =
-      fine (record { code = f.code; file = n; offset = f.offset; line = f.line }) (n, slice_get_within files n t at, t, at, record { own = f; stands = inl bad; is = refl })
+      fine (record { code = f.code; file = n; offset = f.offset; line = f.line }) (n, slice_get_within files n t at, t, at, record { own = f; stands = bad; is = refl })
 
   identifier_at : (n : ℕ) (t : Tree) → slice_get files n ≡ Some t → is_given choice t ≡ true → is_identifier (tree_name t) ≡ true
   identifier_at n t at given =
@@ -201,8 +206,14 @@ rows_phase top f h = elim h [ inl x ↦ doubled_phase top f x | inr x ↦ leafs_
 tree_phase : (top : Forest) (f : Refusal) → BadTree top f → phase_of f.code ≡ 10
 tree_phase top f h = elim h [ inl x ↦ below_phase x.2 f x.4 | inr x ↦ default_phase x.2 f x.4 ]
 
+leafrefs_phase : (s : Schema) (f : Refusal) → BadLeafrefs s f → phase_of f.code ≡ 10
+leafrefs_phase s f h = elim h.4 [ inl x ↦ of_phase f _ x.1 refl | inr x ↦ of_phase f _ x.1 refl ]
+
 schema_phase : (choice : Choice) (files : Files) (f : Refusal) → BadSchema choice files f → phase_of f.code ≡ 10
-schema_phase choice files f h = elim h.stands [ inl x ↦ rows_phase h.tree f x | inr x ↦ tree_phase h.tree f x ]
+schema_phase choice files f h = elim h.stands [
+  | inl x ↦ rows_phase h.tree f x
+  | inr x ↦ elim x [ inl y ↦ tree_phase h.tree f y | inr y ↦ leafrefs_phase (leafrefs_of h.schema.basis) f y ]
+]
 
 -- what is refused only with types or with the schema tree comes late
 pub comes_late : (choice : Choice) (files : Files) (limit : ℕ) (f : Refusal) → Refuses choice files limit f → RefusesBeforeTypes choice files limit f ⊎ (9 ≤ phase_of f.code)
@@ -232,6 +243,13 @@ HaveOneFinal = (choice : Choice) (files : Files) (a b : Final) → IsFinal choic
 
 abbrev pub IsOneLeft : Type 0
 IsOneLeft = (choice : Choice) (files : Files) (truth : Truth) (f : Final) (a b : Nodes) → IsFinal choice files f → AreLeft truth files f a → AreLeft truth files f b → a ≡ b
+
+-- a schema comes to one tree, and its leafrefs lead one way
+abbrev pub IsTypedOnce : Type 0
+IsTypedOnce = (s t : Schema) (stated a b : Forest) → AreAlike s t → IsTyped s stated a → IsTyped t stated b → a ≡ b
+
+abbrev pub HasOneList : Type 0
+HasOneList = (s t : Schema) (a b : List (Option Link)) → AreAlike s t → AreLinks s a → AreLinks t b → a ≡ b
 
 module _ (choice : Choice) (files : Files) (limit : ℕ) where
   abbrev Own : Refusal → Type 0
@@ -355,21 +373,31 @@ module _ (choice : Choice) (files : Files) (limit : ℕ) (one : HasOneTruth) (be
       basis files truth typing final nodes = record { files = files; truth = truth; typing = typing; final = final; nodes = nodes }
 
   -- so they give one schema tree, and one list of augments that add to it
-  pub one_schema : HaveOneTyping → HaveOneFinal → IsOneLeft → (a b : Forest) → IsSchema choice files a → IsSchema choice files b → a ≡ b
-  one_schema one_typing one_final one_left a b p q =
-      p.is ∙ ap schema_of (one_basis one_typing one_final one_left p.basis q.basis p.of_files q.of_files p.is_basis q.is_basis) ∙ sym q.is
+  pub one_schema : HaveOneTyping → HaveOneFinal → IsOneLeft → IsTypedOnce → (a b : Forest) → IsSchema choice files a → IsSchema choice files b → a ≡ b
+  one_schema one_typing one_final one_left once a b p q =
+      let same : p.basis ≡ q.basis = one_basis one_typing one_final one_left p.basis q.basis p.of_files q.of_files p.is_basis q.is_basis in
+      let is : IsTyped (leafrefs_of q.basis) (stated_of q.basis) a = subst (λ (x : Basis). IsTyped (leafrefs_of x) (stated_of x) a) same p.is in
+      once (leafrefs_of q.basis) (leafrefs_of q.basis) (stated_of q.basis) a b (record { rows = refl; says = λ n. refl }) is q.is
+
+  pub one_list : HaveOneTyping → HaveOneFinal → IsOneLeft → HasOneList → (a b : List (Option Link)) → AreReferences choice files a → AreReferences choice files b → a ≡ b
+  one_list one_typing one_final one_left one a b p q =
+      let same : p.basis ≡ q.basis = one_basis one_typing one_final one_left p.basis q.basis p.of_files q.of_files p.is_basis q.is_basis in
+      let are : AreLinks (leafrefs_of q.basis) a = subst (λ (x : Basis). AreLinks (leafrefs_of x) a) same p.are in
+      one (leafrefs_of q.basis) (leafrefs_of q.basis) a b (record { rows = refl; says = λ n. refl }) are q.are
 
   pub one_notes : HaveOneTyping → HaveOneFinal → IsOneLeft → (a b : List Note) → AreNotes choice files a → AreNotes choice files b → a ≡ b
   one_notes one_typing one_final one_left a b p q =
       p.are ∙ ap notes_of (one_basis one_typing one_final one_left p.basis q.basis p.of_files q.of_files p.is_basis q.is_basis) ∙ sym q.are
 
   -- where all this refuses nothing, the least of the schema tree is the least of all
-  pub least_last : HaveOneTyping → HaveOneFinal → IsOneLeft → (truth : Truth) (o : Option Refusal) (top : Forest) → IsTruth files choice truth → IsSchema choice files top → IsLeast (BadTypes files truth) None
-      → IsLeast (BadNodes top) o → IsLeast (Refuses choice files limit) o
-  least_last one_typing one_final one_left truth o top is schema p r =
+  pub least_last : HaveOneTyping → HaveOneFinal → IsOneLeft → IsTypedOnce → (truth : Truth) (o : Option Refusal) (top : Forest) → IsTruth files choice truth → (schema : IsSchema choice files top)
+      → IsLeast (BadTypes files truth) None → IsLeast (BadNodes schema.basis top) o → IsLeast (Refuses choice files limit) o
+  least_last one_typing one_final one_left once truth o top is schema p r =
       let least : IsLeast (BadSchema choice files) o =
-      least_same (BadNodes top) (BadSchema choice files) o
-      (λ f h. record { tree = top; is_schema = schema; stands = h })
-      (λ f h. subst (λ (ts : Forest). BadNodes ts f) (one_schema one_typing one_final one_left h.tree top h.is_schema schema) h.stands) r in
+      least_same (BadNodes schema.basis top) (BadSchema choice files) o
+      (λ f h. record { tree = top; schema = schema; stands = h })
+      (λ f h. subst (λ (ts : Forest). BadNodes schema.basis ts f) (one_schema one_typing one_final one_left once h.tree top h.schema schema)
+      (subst (λ (x : Basis). BadNodes x h.tree f)
+      (one_basis one_typing one_final one_left h.schema.basis schema.basis h.schema.of_files schema.of_files h.schema.is_basis schema.is_basis) h.stands)) r in
       behind (Before choice files limit) (Later choice files limit) o before
       (behind (BadTyping choice files) (BadSchema choice files) o (typed truth None is p) least)

@@ -12,7 +12,7 @@ use Rattle.yv_nodes.specs.Member.{row_with}
 use Rattle.yv_properties.specs.Defined.{Defined}
 use Rattle.yv_above.specs.Above.{Seen, seen_of}
 use Rattle.yv_above.specs.Labels.{label_of}
-use Rattle.yv_schema.specs.Module.{Basis, label_at, labelled, schema_of}
+use Rattle.yv_schema.specs.Module.{Basis, label_at, labelled, stated_of}
 use Rattle.yv_nodes.specs.Numbers.{numbers_from, rows_below, rows_from}
 use Rattle.yv_schema.specs.InnerRowing.{AreSeen, line_at, line_of, number_at, numbers_at, parent_of, row_of, rows_for}
 
@@ -140,7 +140,7 @@ module _ (b : Basis) where
       ∙ ap (λ (rs : List Row). row_of b above x above_id (numbers_from (first + 1) inside) ∷ rs) tail
 
   -- the rows of all items are those of the schema tree
-  pub rows_whole : (xs : List Node) (below : List (List ℕ)) → xs ≡ items.listed None 0 b.nodes → below ≡ families.below_from 0 b.nodes → rows_for b below [] 0 xs ≡ rows_from 0 (schema_of b)
+  pub rows_whole : (xs : List Node) (below : List (List ℕ)) → xs ≡ items.listed None 0 b.nodes → below ≡ families.below_from 0 b.nodes → rows_for b below [] 0 xs ≡ rows_from 0 (stated_of b)
   rows_whole xs below are hung =
       let flat : below ≡ [] ++ families.below_from 0 b.nodes ++ [] = hung ∙ sym (append-nil (families.below_from 0 b.nodes)) in
       ap (λ (bs : List (List ℕ)). rows_for b bs [] 0 xs) flat
@@ -148,7 +148,7 @@ module _ (b : Basis) where
       ∙ rows_labelled None [] 0 b.nodes [] [] [] [] refl refl tt refl ∙ append-nil _
 
   -- the numbers of those at the top are those of its nodes at the top
-  pub top_whole : (top : List ℕ) → top ≡ families.numbers_from 0 b.nodes → numbers_at top ≡ numbers_from 0 (schema_of b)
+  pub top_whole : (top : List ℕ) → top ≡ families.numbers_from 0 b.nodes → numbers_at top ≡ numbers_from 0 (stated_of b)
   top_whole top are = ap numbers_at are ∙ numbers_labelled [] 0 b.nodes
 
 map_one : (lines : List (List Label)) (line : List Label) → map seen_of (lines ++ line ∷ []) ≡ map seen_of lines ++ seen_of line ∷ []

@@ -7,8 +7,8 @@ use Rattle.std.proofs.lemmas.Option.{same_Some}
 use Rattle.yv_expansion.specs.Tree.{Node}
 use Rattle.yv_final_tree.specs.Final.{spots_of}
 use Rattle.yv_final_tree.specs.Kept.{giver_at, targets_of}
-use Rattle.yv_schema.specs.Module.{Basis}
-use Rattle.yv_schema.specs.Notes.{node_of, nodes_in, target_of}
+use Rattle.yv_schema.specs.Module.{Basis, nodes_in}
+use Rattle.yv_schema.specs.Notes.{node_of, target_of}
 
 -- what passes a test alone is the first that does
 only : {A : Type 0} (p : A → Bool) (i : ℕ) (xs : List A) (k : ℕ) (x : A) → slice_get xs k ≡ Some x → p x ≡ true

@@ -9,7 +9,7 @@ use Rattle.yv_statement.specs.declared.refusal.Code.TheVariants as code
 use Rattle.yv_statement.specs.Order.{IsLeast, IsUpTo, Stands, refusal_at}
 use Rattle.yv_conform.specs.declared.keyword.Keyword.{Keyword}
 use Rattle.yv_conform.specs.Faults.{Bad, Faulty, own, number, below}
-use Rattle.yv_schema.specs.Refuses.{BadFile, Early, in_file, untaken, untaken_below}
+use Rattle.yv_schema.specs.Refuses.{BadFile, in_file}
 
 -- it is of the second phase, and names the file as 0
 pub record IsOwn (r : Refusal) : Type 0 where
@@ -30,16 +30,9 @@ faulty_own {parent} {s} {f} (number plain h) = elim h [
 ]
 faulty_own (below k c plain at_k h) = faulty_own h
 
-early_own : {s : Tree} {f : Refusal} → Early s f → IsOwn f
-early_own {s} {f} (untaken h) = record { first = refl; phase = refl }
-early_own (untaken_below k c plain at_k h) = early_own h
-
 -- what stands in a file as such is
-pub is_own : (t : Tree) (f : Refusal) → Bad t f ⊎ Early t f → IsOwn f
-is_own t f h = elim h [
-  | inl x ↦ elim x [ inl y ↦ own_at _ code.Cardinality t.head f refl y | inr y ↦ faulty_own y ]
-  | inr x ↦ early_own x
-]
+pub is_own : (t : Tree) (f : Refusal) → Bad t f → IsOwn f
+is_own t f h = elim h [ inl y ↦ own_at _ code.Cardinality t.head f refl y | inr y ↦ faulty_own y ]
 
 up_to_told : (n : ℕ) (r s : Refusal) → r.file ≡ s.file → IsUpTo r s → IsUpTo (in_file n r) (in_file n s)
 up_to_told n r s same (inl phase) = inl phase
@@ -47,7 +40,7 @@ up_to_told n r s same (inr (phase, inl file)) = absurd (omega (arith, same, file
 up_to_told n r s same (inr (phase, inr (file, rest))) = inr (phase, inr (refl, rest))
 
 -- the least of a file's refusals is the least as they are told of its number
-pub least_told : (n : ℕ) (t : Tree) (o : Option Refusal) → IsLeast (λ r. Bad t r ⊎ Early t r) o → IsLeast (BadFile n t) (option_map (in_file n) o)
+pub least_told : (n : ℕ) (t : Tree) (o : Option Refusal) → IsLeast (Bad t) o → IsLeast (BadFile n t) (option_map (in_file n) o)
 least_told n t None h = λ s b. h b.own b.stands
 least_told n t (Some r) h = (
   record { own = r; stands = h.0; is = refl },

@@ -8,12 +8,16 @@ use Rattle.yv_final_tree.specs.Given.{HaveHomes, is_given}
 use Rattle.std.specs.declared.option.Option.{Option}
 use Rattle.std.specs.declared.result.Result.{Result}
 use Rattle.std.specs.declared.result.Result.TheVariants.{Ok, Err}
-use Rattle.yv_statement.specs.Order.{IsLesser}
+use Rattle.yv_statement.specs.Order.{IsLeast, IsLesser}
 use Rattle.yv_statement.specs.declared.refusal.Refusal.{Refusal}
 use Rattle.yv_statement.specs.declared.refusal.Stop.{Stop}
 use Rattle.yv_statement.specs.declared.refusal.Stop.TheVariants.{Fault}
 use Rattle.yv_nodes.specs.Rows.{Rows}
+use Rattle.yv_nodes.specs.Tree.{Forest}
+use Rattle.yv_leafrefs.specs.Resolved.{IsTyped}
 use Rattle.yv_tables.specs.Numbered.{HasNoColon}
+use Rattle.yv_schema.specs.Module.{Basis, leafrefs_of, stated_of}
+use Rattle.yv_schema.specs.Refuses.{BadNodes}
 
 -- the modules of files: nothing is wrong with a file as such, the names of modules have no colon and differ, and the files of those that
 -- are implemented have these
@@ -23,6 +27,12 @@ pub record AreNames (choice : Choice) (files : Files) : Type 0 where
   pub differ : (m n : ℕ) (t u : statement.Tree) → m < n → slice_get files m ≡ Some t → slice_get files n ≡ Some u
       → is_given choice t ≡ true → is_given choice u ≡ true → tree_name t ≢ tree_name u
   pub homes : HaveHomes choice files
+
+-- the least of what is wrong with the schema tree of a basis
+pub record HasLeast (b : Basis) (o : Option Refusal) : Type 0 where
+  pub tree : Forest
+  pub is : IsTyped (leafrefs_of b) (stated_of b) tree
+  pub least : IsLeast (BadNodes b tree) o
 
 -- the first refusal of what is built of nodes, or of what is wrong with them
 pub data IsFirst (numbered : Result Rows Stop) (wrong : Option Refusal) (r : Refusal) : Type 0 where

@@ -5,6 +5,7 @@ pub mod Schema
 pub mod Refuses
 pub mod InnerContext
 pub mod InnerBuild
+pub mod InnerResolved
 pub mod InnerRowing
 pub mod InnerHomes
 pub mod InnerPhases

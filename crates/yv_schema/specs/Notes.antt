@@ -6,16 +6,12 @@ use Rattle.yv_rows.specs.Files.{brief_of, home_at}
 use Rattle.yv_rows.specs.Listed.{rows_of}
 use Rattle.yv_rows.specs.Names.{first_where}
 use Rattle.yv_rows.specs.Rows.{Row, name_in}
-use Rattle.yv_expansion.specs.Tree.{Node, listed}
+use Rattle.yv_expansion.specs.Tree.{Node}
 use Rattle.yv_nodes.specs.declared.node.NodeId.{NodeId}
 use Rattle.yv_nodes.specs.Rows.{Note}
 use Rattle.yv_final_tree.specs.Final.{spots_of}
 use Rattle.yv_final_tree.specs.Kept.{giver_at, targets_of}
-use Rattle.yv_schema.specs.Module.{Basis}
-
--- the nodes that are left, in order: a node's number is its place among these
-abbrev pub nodes_in : Basis → List Node
-nodes_in b = listed None 0 b.nodes
+use Rattle.yv_schema.specs.Module.{Basis, nodes_in}
 
 -- the nodes that the augment at this place among those of modules adds, and that are left
 abbrev pub added_by : Basis → (place : ℕ) → List NodeId

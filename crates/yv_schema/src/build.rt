@@ -2,38 +2,42 @@
 ghost use Rattle.std.specs.Prelude.{◌≡◌, ◌≢◌, ◌≤◌, length, IfOk, OnOk, Some, None, Ok, Err};
 ghost use Rattle.yv_statement.specs.declared.refusal.Refusal.{Refusal};
 ghost use Rattle.yv_statement.specs.declared.refusal.Stop.TheVariants.{Fault, PatternBuild};
-ghost use Rattle.yv_statement.specs.Order.{IsLeast, IsLesser};
+ghost use Rattle.yv_statement.specs.Order.{IsLesser};
 ghost use Rattle.yv_selection.specs.Choice.{choice_of};
 ghost use Rattle.yv_rows.specs.Lent.{lent_in};
-ghost use Rattle.yv_schema.specs.Module.{Basis, modules_of, schema_of};
+ghost use Rattle.yv_schema.specs.Module.{Basis, leafrefs_of, modules_of, stated_of};
 ghost use Rattle.yv_schema.specs.Notes.{notes_of};
-ghost use Rattle.yv_schema.specs.Refuses.{BadNodes};
 ghost use Rattle.yv_nodes.specs.Rows.{whole};
+ghost use Rattle.yv_leafrefs.specs.Resolved.{IsTyped};
+ghost use Rattle.yv_leafref_links.specs.Links.{AreLinks};
 ghost use Rattle.yv_tables.specs.Sound.{IsSound};
 ghost use Rattle.yv_schema.specs.InnerContext.{Tells, TellsOf};
-ghost use Rattle.yv_schema.specs.InnerBuild.{AreNames, IsFirst};
+ghost use Rattle.yv_schema.specs.InnerBuild.{AreNames, HasLeast, IsFirst};
 
 use crate::context::Context;
 use crate::homes::{Homes, modules};
 use crate::notes::notes;
+use crate::resolved::{Resolved, resolve};
 use crate::tree::{Builder, Numbered};
 use std::alloc::Global;
 use yv_final_tree::laws::{
     given_nodes_stand_below_their_target, homes_are_of_modules, no_item_is_left_twice,
     what_is_left_are_nodes,
 };
+use yv_leafrefs::laws::{rows_are_typed, tops_are_typed};
 use yv_rows::Rows;
 use yv_rows::laws::statements_have_their_rows;
 use yv_selection::Selection;
 use yv_statement::{Refusal, Stop, lesser};
 use yv_tables::Schema;
+use yv_tables::laws::{types_leave_forms, types_leave_notes};
 use yv_tree_checks::least_in_tree;
 
 /// The schema of the implemented modules, or the least refusal of what is wrong with its nodes.
-pub(crate) fn build(
+pub(crate) fn build<'a>(
     alloc: Global,
-    rows: &Rows<'_, '_>,
-    context: &Context<'_, '_, '_>,
+    rows: &Rows<'a, '_>,
+    context: &Context<'_, 'a, '_>,
     selection: &Selection,
     limit: u32,
 ) -> Result<Schema, Stop>
@@ -41,15 +45,15 @@ pub(crate) fn build(
     requires names { AreNames (choice_of selection.now) (lent_in rows.now) }
     requires basis { TellsOf (choice_of selection.now) (lent_in rows.now) context.now }
     ensures schema { (b : Basis) → Tells b context.now → b.files ≡ lent_in rows.now
-        → IfOk result (λ s. whole s ≡ schema_of b) }
+        → IfOk result (λ s. IsTyped (leafrefs_of b) (stated_of b) (whole s)) }
     ensures limit { IfOk result (λ s. s.limit ≡ limit) }
     ensures modules { IfOk result (λ s. s.modules ≡ modules_of (choice_of selection.now) (lent_in rows.now)) }
     ensures augments { (b : Basis) → Tells b context.now → b.files ≡ lent_in rows.now → IfOk result (λ s. s.augments ≡ notes_of b) }
+    ensures references { (b : Basis) → Tells b context.now → b.files ≡ lent_in rows.now → IfOk result (λ s. AreLinks (leafrefs_of b) s.links) }
     ensures sound { IfOk result IsSound }
-    ensures clear { (b : Basis) → Tells b context.now → b.files ≡ lent_in rows.now
-        → OnOk result (IsLeast (BadNodes (schema_of b)) None) }
+    ensures clear { (b : Basis) → Tells b context.now → b.files ≡ lent_in rows.now → OnOk result (HasLeast b None) }
     ensures refusal { (b : Basis) → Tells b context.now → b.files ≡ lent_in rows.now
-        → (r : Refusal) → result ≡ Err (Fault r) → IsLeast (BadNodes (schema_of b)) (Some r) }
+        → (r : Refusal) → result ≡ Err (Fault r) → HasLeast b (Some r) }
     ensures built { result ≢ Err PatternBuild }
 {
     homes_are_of_modules();
@@ -57,17 +61,29 @@ pub(crate) fn build(
     given_nodes_stand_below_their_target();
     no_item_is_left_twice();
     statements_have_their_rows();
+    rows_are_typed();
+    tops_are_typed();
+    types_leave_forms();
+    types_leave_notes();
     let homes = Homes::read(alloc, rows)?;
     let builder = Builder {
         alloc,
         context: &*context,
         homes: &homes,
     };
-    let Numbered { nodes, top } = builder.numbered(limit)?;
+    let Numbered { nodes: stated, top } = builder.numbered(limit)?;
+    let Resolved {
+        nodes,
+        links,
+        fault,
+    } = resolve(alloc, rows, context, stated)?;
     let modules = modules(alloc, rows, &homes, selection)?;
     let notes = notes(alloc, rows, context)?;
-    let wrong = least_in_tree(alloc, &nodes)?;
-    with_refusal(Schema::numbered(alloc, nodes, top, modules, notes), wrong)
+    let wrong = lesser(least_in_tree(alloc, &nodes)?, fault);
+    with_refusal(
+        Schema::numbered(alloc, nodes, top, modules, notes, links),
+        wrong,
+    )
 }
 
 // The lesser of both refusals, or a schema where there is none.

@@ -9,7 +9,7 @@ ghost use Rattle.yv_schema.specs.Refuses.{Refuses, RefusesBeforeTypes};
 ghost use Rattle.yv_nodes.specs.Rows.{whole};
 ghost use Rattle.yv_tables.specs.Sound.{IsSound};
 ghost use Rattle.yv_schema.specs.Module.{modules_of};
-ghost use Rattle.yv_schema.specs.Schema.{AreNotes, IsSchema};
+ghost use Rattle.yv_schema.specs.Schema.{AreNotes, AreReferences, IsSchema};
 
 use crate::conformance::first_bad_file;
 use crate::linked::of_linked;
@@ -22,8 +22,8 @@ use yv_statement::{Statement, Stop};
 use yv_tables::Schema;
 
 /// The schema of the modules that are implemented, by the statements of the files of all modules (RFC 7950,
-/// sections 5.1 and 7.1), or the least refusal by phase, file, offset and code. Statements that this version doesn't
-/// take are refused as `Unsupported`. Where what these modules expand to needs more units than the limit, that is refused
+/// sections 5.1 and 7.1), or the least refusal by phase, file, offset and code. Statements that the
+/// profile leaves out, as `must`, are refused as `Unsupported`. Where what these modules expand to needs more units than the limit, that is refused
 /// as `TooManyNodes` before anything is built. `PatternBuild` says that the library of regular expressions doesn't build a
 /// pattern of the dialect. A schema of more than 2^32 files is none for want of memory.
 pub fn compile(
@@ -36,6 +36,7 @@ pub fn compile(
     ensures limit { IfOk result (λ s. s.limit ≡ limit) }
     ensures modules { IfOk result (λ s. s.modules ≡ modules_of (choice_of selection.now) files.now) }
     ensures augments { IfOk result (λ s. AreNotes (choice_of selection.now) files.now s.augments) }
+    ensures references { IfOk result (λ s. AreReferences (choice_of selection.now) files.now s.links) }
     ensures sound { IfOk result IsSound }
     ensures clear { OnOk result (IsLeast (Refuses (choice_of selection.now) files.now limit) None) }
     ensures refusal { (r : Refusal) → result ≡ Err (Fault r)

@@ -4,11 +4,10 @@ ghost use Rattle.std.specs.Option.{option_map};
 ghost use Rattle.yv_statement.specs.Order.{Among, IsLeast};
 ghost use Rattle.yv_schema.specs.Refuses.{BadFile, in_file};
 
-use crate::early::first_early;
 use yv_conform::conform;
 use yv_statement::{Refusal, Statement, lesser};
 
-/// The least refusal of statements that aren't as the tables of the language say, or that aren't taken so far.
+/// The least refusal of statements that aren't as the tables of the language say.
 pub(crate) fn first_bad_file(files: &[Statement<'_>]) -> Option<Refusal>
     requires { length files.now ≤ 4294967296 }
     ensures { IsLeast (Among files.now BadFile (length files.now)) result }
@@ -25,9 +24,7 @@ pub(crate) fn first_bad_file(files: &[Statement<'_>]) -> Option<Refusal>
 fn bad_file(number: u32, file: &Statement<'_>) -> Option<Refusal>
     ensures { IsLeast (BadFile number file.now) result }
 {
-    let bad = conform(file).err();
-    let early = first_early(file);
-    let own = lesser(bad, early);
+    let own = conform(file).err();
     told_of(number, own)
 }
 

@@ -64,6 +64,13 @@ impl<'c, 'a, 'b> Context<'c, 'a, 'b> {
         self.tree.left()
     }
 
+    /// What statements say of nodes.
+    pub(crate) fn definitions(&self) -> &'c Definitions<'c, 'a, 'b>
+        ensures { result.now ≡ self.now.definitions.now }
+    {
+        self.definitions
+    }
+
     /// The number of the file of the module to which an item belongs.
     pub(crate) fn home(&self, item: usize) -> u32
         ensures { (b : Basis) → Tells b self.now → result ≡ home_of b item }

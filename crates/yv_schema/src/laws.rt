@@ -1,26 +1,32 @@
 //! Laws of the definitions alone. These functions do nothing: the contract of each is the law.
-ghost use Rattle.std.specs.Prelude.{◌≡◌, ◌≤◌, ◌⊎◌, ℕ, List, None};
+ghost use Rattle.std.specs.Prelude.{◌≡◌, ◌≤◌, ◌⊎◌, ℕ, List, Option, None};
 ghost use Rattle.yv_statement.specs.Codes.{phase_of};
 ghost use Rattle.yv_statement.specs.Order.{IsLeast};
 ghost use Rattle.yv_statement.specs.declared.refusal.Refusal.{Refusal};
 ghost use Rattle.yv_selection.specs.Choice.{Choice};
 ghost use Rattle.yv_rows.specs.Files.{Files};
 ghost use Rattle.yv_schema.specs.Refuses.{Refuses, RefusesBeforeTypes};
-ghost use Rattle.yv_schema.specs.Schema.{AreNotes, IsSchema, TakeUnits};
+ghost use Rattle.yv_schema.specs.Schema.{AreNotes, AreReferences, IsSchema, TakeUnits};
+ghost use Rattle.yv_nodes.specs.Link.{Link};
 ghost use Rattle.yv_nodes.specs.Rows.{Note};
 ghost use Rattle.yv_nodes.specs.Tree.{Forest, count};
 
-/// Where nothing is refused, files have one schema tree under a choice, and their augments add to it in one way.
+/// Where nothing is refused, files have one schema tree under a choice, their augments add to it in one way, and its leafrefs lead one
+/// way.
 pub fn files_have_one_schema()
     ensures tree { (choice : Choice) (files : Files) (limit : ℕ) (a b : Forest) → IsLeast (Refuses choice files limit) None
         → IsSchema choice files a → IsSchema choice files b → a ≡ b }
     ensures augments { (choice : Choice) (files : Files) (limit : ℕ) (a b : List Note) → IsLeast (Refuses choice files limit) None
         → AreNotes choice files a → AreNotes choice files b → a ≡ b }
+    ensures references { (choice : Choice) (files : Files) (limit : ℕ) (a b : List (Option Link)) → IsLeast (Refuses choice files limit) None
+        → AreReferences choice files a → AreReferences choice files b → a ≡ b }
 {
     yv_features::laws::an_expression_has_one_truth();
     yv_definitions::laws::files_have_one_typing();
     yv_final_tree::laws::files_have_one_final_tree();
     yv_final_tree::laws::what_is_left_is_one();
+    yv_leafrefs::laws::a_tree_is_typed_once();
+    yv_leafref_links::laws::a_schema_has_one_list_of_links();
 }
 
 /// A schema tree has no more nodes than the files of the implemented modules take units.

@@ -5,12 +5,12 @@ mod build;
 mod compilation;
 mod conformance;
 mod context;
-mod early;
 mod homes;
 pub mod laws;
 mod linked;
 mod name;
 mod notes;
+mod resolved;
 mod tree;
 
 pub use compilation::compile;

@@ -10,7 +10,7 @@ ghost use Rattle.yv_nodes.specs.Rows.{whole};
 ghost use Rattle.yv_tables.specs.Sound.{IsSound};
 ghost use Rattle.yv_schema.specs.Refuses.{Refuses, RefusesBeforeTypes};
 ghost use Rattle.yv_schema.specs.Module.{modules_of};
-ghost use Rattle.yv_schema.specs.Schema.{AreNotes, IsSchema};
+ghost use Rattle.yv_schema.specs.Schema.{AreNotes, AreReferences, IsSchema};
 ghost use Rattle.yv_schema.specs.InnerPhases.{AreClear, AreExpanded, SomeClear, SomeExpanded};
 
 use crate::build::build;
@@ -22,6 +22,7 @@ use yv_final_tree::laws::{
     files_have_one_final_tree, refusals_of_expansions_have_phases, what_is_left_is_one,
 };
 use yv_final_tree::{FinalTree, final_tree};
+use yv_leafrefs::laws::a_tree_is_typed_once;
 use yv_link::Linked;
 use yv_link::laws::{linked_files_tell_what_holds, links_have_phases};
 use yv_names::{Names, names};
@@ -45,6 +46,8 @@ pub(crate) fn of_linked(
         → IfOk result (λ s. s.modules ≡ modules_of (choice_of selection.now) files) }
     ensures augments { (files : Files) → AreClear (choice_of selection.now) files linked.now
         → IfOk result (λ s. AreNotes (choice_of selection.now) files s.augments) }
+    ensures references { (files : Files) → AreClear (choice_of selection.now) files linked.now
+        → IfOk result (λ s. AreReferences (choice_of selection.now) files s.links) }
     ensures sound { IfOk result IsSound }
     ensures clear { (files : Files) → AreClear (choice_of selection.now) files linked.now
         → OnOk result (IsLeast (Refuses (choice_of selection.now) files limit) None) }
@@ -85,6 +88,8 @@ fn of_expanded(
         → IfOk result (λ s. s.modules ≡ modules_of (choice_of selection.now) files) }
     ensures augments { (files : Files) → AreExpanded (choice_of selection.now) files limit linked.now names.now tree.now
         → IfOk result (λ s. AreNotes (choice_of selection.now) files s.augments) }
+    ensures references { (files : Files) → AreExpanded (choice_of selection.now) files limit linked.now names.now tree.now
+        → IfOk result (λ s. AreReferences (choice_of selection.now) files s.links) }
     ensures sound { IfOk result IsSound }
     ensures clear { (files : Files) → AreExpanded (choice_of selection.now) files limit linked.now names.now tree.now
         → OnOk result (IsLeast (Refuses (choice_of selection.now) files limit) None) }
@@ -99,6 +104,7 @@ fn of_expanded(
     files_have_one_typing();
     files_have_one_final_tree();
     what_is_left_is_one();
+    a_tree_is_typed_once();
     let types = match types(alloc, linked, names) {
         Ok(types) => types,
         Err(stop) => return Err(stop),

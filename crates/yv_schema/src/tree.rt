@@ -6,7 +6,7 @@ ghost use Rattle.yv_children.specs.Families.{lists_of};
 ghost use Rattle.yv_nodes.specs.Numbers.{numbers_from, rows_from};
 ghost use Rattle.yv_nodes.specs.Tree.{Label};
 ghost use Rattle.yv_above.specs.Above.{seen_of};
-ghost use Rattle.yv_schema.specs.Module.{Basis, label_at, schema_of};
+ghost use Rattle.yv_schema.specs.Module.{Basis, label_at, stated_of};
 ghost use Rattle.yv_schema.specs.InnerContext.{Tells};
 ghost use Rattle.yv_schema.specs.InnerHomes.{AreHomes};
 ghost use Rattle.yv_schema.specs.InnerRowing.{AreSeen, line_at, number_at, numbers_at, parent_of, row_of, rows_for};
@@ -40,9 +40,9 @@ impl Builder<'_, '_, '_> {
     /// The nodes that are left, each before those below it: as many as that is, and no more than the limit.
     pub(crate) fn numbered(&self, limit: u32) -> Result<Numbered, Stop>
         ensures rows { (b : Basis) → Tells b self.now.context.now → AreHomes b.files self.now.homes.now
-            → IfOk result (λ n. n.nodes.rows ≡ rows_from 0 (schema_of b)) }
+            → IfOk result (λ n. n.nodes.rows ≡ rows_from 0 (stated_of b)) }
         ensures top { (b : Basis) → Tells b self.now.context.now → AreHomes b.files self.now.homes.now
-            → IfOk result (λ n. n.top.items ≡ numbers_from 0 (schema_of b)) }
+            → IfOk result (λ n. n.top.items ≡ numbers_from 0 (stated_of b)) }
         ensures limit { IfOk result (λ n. n.nodes.limit ≡ limit) }
         ensures memory { IfErr result (λ stop. stop ≡ NoMemory) }
     {

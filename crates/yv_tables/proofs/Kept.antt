@@ -13,6 +13,7 @@ use Rattle.yv_nodes.specs.Member.{data_home}
 use Rattle.yv_nodes.specs.Tree.{count, Forest, Label, labels, node, no_trees, tree}
 use Rattle.yv_nodes.specs.Places.{Place, places}
 use Rattle.yv_nodes.specs.Rows.{below, children_of, is_root, Module, Note, rank, root, Row, row_at, Rows, whole}
+use Rattle.yv_nodes.specs.Link.{AreLinked, Link, link_in}
 use Rattle.yv_nodes.specs.Numbers.{numbers_from, rows_below, rows_from, rows_of}
 use Rattle.yv_leaf_targets.specs.Named.{HaveLeafs}
 use Rattle.yv_leaf_targets.specs.Bad.{BadLeafs}
@@ -54,15 +55,15 @@ pub record IsBuilt (limit : ℕ) (modules : List Module) (ts : Forest) (nodes : 
 -- rows have one tree
 one_tree : (nodes : List Row) (top : List NodeId) (ts us : Forest) → nodes ≡ rows_from 0 ts → top ≡ numbers_from 0 ts → nodes ≡ rows_from 0 us → top ≡ numbers_from 0 us → ts ≡ us
 one_tree nodes top ts us rows_ts top_ts rows_us top_us =
-    sym (whole_rows 0 [] [] ts)
+    sym (whole_rows 0 [] [] [] ts)
     ∙ ap (λ (rs : List Row). picked rs (numbers_from 0 ts)) (sym rows_ts ∙ rows_us)
     ∙ ap (λ (cs : List NodeId). picked (rows_from 0 us) cs) (sym top_ts ∙ top_us)
-    ∙ whole_rows 0 [] [] us
+    ∙ whole_rows 0 [] [] [] us
 
 -- so what is formed is the tree that is asked for
-pub built_of : (limit : ℕ) (modules : List Module) (nodes : List Row) (top : List NodeId) (ts : Forest) → AreModules modules → AreNumbered modules nodes top → length nodes ≤ 4294967295 → length nodes ≤ limit
+pub built_of : (limit : ℕ) (modules : List Module) (nodes : List Row) (top : List NodeId) (links : List (Option Link)) (ts : Forest) → AreModules modules → AreNumbered modules nodes top links → length nodes ≤ 4294967295 → length nodes ≤ limit
     → nodes ≡ rows_from 0 ts → top ≡ numbers_from 0 ts → IsBuilt limit modules ts nodes top
-built_of limit modules nodes top ts apart are small limited rows top_is = record {
+built_of limit modules nodes top links ts apart are small limited rows top_is = record {
   apart = apart;
   formed = subst (λ (us : Forest). AreFormed modules [] us) (one_tree nodes top are.trees ts are.rows are.top_is rows top_is) are.formed;
   rows = rows;
@@ -130,14 +131,14 @@ module _ (limit : ℕ) (modules : List Module) (all : Forest) (nodes : List Row)
   built_bad first second doubled leafs every lesser other p q r =
       least_lesser (Doubled all) (BadLeafs all) doubled leafs every other (built_doubled first second doubled lesser p q) r
 
-  same : (notes : List Note) → rows_of limit modules notes all ≡ made_of nodes top limit modules notes
-  same notes = ap (λ (ns : List Row). made_of ns (numbers_from 0 all) limit modules notes) (sym b.rows)
-      ∙ ap (λ (cs : List NodeId). made_of nodes cs limit modules notes) (sym b.top_is)
+  same : (notes : List Note) (links : List (Option Link)) → rows_of limit modules notes links all ≡ made_of nodes top limit modules notes links
+  same notes links = ap (λ (ns : List Row). made_of ns (numbers_from 0 all) limit modules notes links) (sym b.rows)
+      ∙ ap (λ (cs : List NodeId). made_of nodes cs limit modules notes links) (sym b.top_is)
 
-  pub whole_made : (notes : List Note) → whole (made_of nodes top limit modules notes) ≡ all
-  whole_made notes = ap whole (sym (same notes)) ∙ whole_rows limit modules notes all
+  pub whole_made : (notes : List Note) (links : List (Option Link)) → whole (made_of nodes top limit modules notes links) ≡ all
+  whole_made notes links = ap whole (sym (same notes links)) ∙ whole_rows limit modules notes links all
 
-  module _ (clear : (f : Refusal) → Doubled all f → ⊥) (leafs : HaveLeafs nodes) (notes : List Note) where
+  module _ (clear : (f : Refusal) → Doubled all f → ⊥) (leafs : HaveLeafs nodes) (notes : List Note) (links : List (Option Link)) (linked : AreLinked (link_in links) all) where
     none_top : AreDistinct (labels (opened_trees all))
     none_top = distinct_in modules b.apart None all (opened_of modules [] all b.formed) (λ f p. clear f (inl (pair_repeated (opened all) f p)))
 
@@ -148,7 +149,7 @@ module _ (limit : ℕ) (modules : List Module) (all : Forest) (nodes : List Row)
         (λ f p. clear f (inr (any_among (places all) (λ r. Repeated (family_at r)) (length (places all)) f refl (k, q, at, subst (λ (ls : List Label). Repeated ls f) (sym is) (pair_repeated (opened q.kids) f p)))))
 
     abbrev built : Rows
-    built = rows_of limit modules notes all
+    built = rows_of limit modules notes links all
 
     -- nodes that are opened where they sit
     around_sit : (above : List Label) (at : ℕ) (ts : Forest) → AreFormed modules above ts → Sits built.nodes at ts → AllByRecursion (IsAround modules (data_home above)) (labels_at built.nodes (opened_from at ts))
@@ -156,7 +157,7 @@ module _ (limit : ℕ) (modules : List Module) (all : Forest) (nodes : List Row)
         rw (labels_opened built.nodes at ts here, kept_opened ts) (kept_each (IsAround modules (data_home above)) (opened ts) (opened_of modules above ts formed))
 
     inside_top : inside built root ≡ opened_from 0 all
-    inside_top = ap (opened_from 0) (whole_rows limit modules notes all)
+    inside_top = ap (opened_from 0) (whole_rows limit modules notes links all)
 
     around_top : AllByRecursion (IsAround modules None) (labels_at built.nodes (inside built root))
     around_top = subst (λ (cs : List NodeId). AllByRecursion (IsAround modules None) (labels_at built.nodes cs)) (sym inside_top) (around_sit [] 0 all b.formed (all_sit all))
@@ -167,8 +168,8 @@ module _ (limit : ℕ) (modules : List Module) (all : Forest) (nodes : List Row)
     around_object : (p : NodeId) → rank p ≤ length built.nodes → is_root p ≡ false → is_passed (row_at built p).label.defined.kind ≡ false
         → AllByRecursion (IsAround modules (home_at p)) (labels_at built.nodes (opened_from (rank p) (below built p)))
     around_object p within inner met =
-        let parent : IsParent built all p = parent_in limit modules notes all p within in
-        rw (below_in limit modules notes all p parent) (by parent.kids parent.which parent.sit)
+        let parent : IsParent built all p = parent_in limit modules notes links all p within in
+        rw (below_in limit modules notes links all p parent) (by parent.kids parent.which parent.sit)
       where
         by : (kids : Forest) → ((is_root p ≡ true) × (kids ≡ all)) ⊎ IsPlaced built all p kids → Sits built.nodes (rank p) kids → AllByRecursion (IsAround modules (home_at p)) (labels_at built.nodes (opened_from (rank p) kids))
         by kids (inl h) here = absurd (false≢true (sym inner ∙ h.0))
@@ -200,7 +201,7 @@ module _ (limit : ℕ) (modules : List Module) (all : Forest) (nodes : List Row)
           let object : is_object built p ≡ true = rw (inner, met) refl in
           let first : members_of built.nodes (row_at built p) ≡ inside_of built.nodes (row_at built p).children = rw met refl in
           let children : children_of built p ≡ (row_at built p).children = rw inner refl in
-          first ∙ ap (inside_of built.nodes) (sym children) ∙ inside_parent limit modules notes all p within object
+          first ∙ ap (inside_of built.nodes) (sym children) ∙ inside_parent limit modules notes links all p within object
     ]
 
     unknown_built : (p : NodeId) (owner name : List ℕ) → rank p ≤ length built.nodes → HasNoColon owner → home_named modules owner ≡ None → named built (inside built p) (owner ++ 58 ∷ name) ≡ None
@@ -214,10 +215,10 @@ module _ (limit : ℕ) (modules : List Module) (all : Forest) (nodes : List Row)
     kept_built : All (IsNote built) notes → (homes : HomeTable) (at_top : Directory) (directories : List Directory) → ((name : List ℕ) → get_by_name homes name ≡ home_named modules name)
         → IsDirectory built.nodes None (inside_of built.nodes built.top) at_top → AreDirectories built.nodes directories → IsKept homes at_top directories built
     kept_built given homes at_top directories known first are =
-        let at_root : inside_of built.nodes built.top ≡ inside built root = inside_parent limit modules notes all root (omega arith) refl in
+        let at_root : inside_of built.nodes built.top ≡ inside built root = inside_parent limit modules notes links all root (omega arith) refl in
         record {
-          sound = sound_rows limit modules notes all none_top none_below (omega (arith, b.small, many)) (omega (arith, b.limited, many)) (subst HaveLeafs b.rows leafs) given;
-          counted = length_rows root 0 all ∙ ap count (sym (whole_rows limit modules notes all));
+          sound = sound_rows limit modules notes links all none_top none_below (omega (arith, b.small, many)) (omega (arith, b.limited, many)) (subst HaveLeafs b.rows leafs) given linked;
+          counted = length_rows root 0 all ∙ ap count (sym (whole_rows limit modules notes links all));
           each = are.each;
           homes_are = known;
           top = answering built b.apart None root around_top at_top (subst (λ (cs : List NodeId). IsDirectory built.nodes None cs at_top) at_root first);
@@ -228,9 +229,9 @@ module _ (limit : ℕ) (modules : List Module) (all : Forest) (nodes : List Row)
           unknown = unknown_built;
         }
 
-    pub kept_made : All (IsNote (made_of nodes top limit modules notes)) notes → (homes : HomeTable) (at_top : Directory) (directories : List Directory) → ((name : List ℕ) → get_by_name homes name ≡ home_named modules name)
-        → IsDirectory nodes None (inside_of nodes top) at_top → AreDirectories nodes directories → IsKept homes at_top directories (made_of nodes top limit modules notes)
+    pub kept_made : All (IsNote (made_of nodes top limit modules notes links)) notes → (homes : HomeTable) (at_top : Directory) (directories : List Directory) → ((name : List ℕ) → get_by_name homes name ≡ home_named modules name)
+        → IsDirectory nodes None (inside_of nodes top) at_top → AreDirectories nodes directories → IsKept homes at_top directories (made_of nodes top limit modules notes links)
     kept_made given homes at_top directories known first are =
-        subst (λ (s : Rows). IsKept homes at_top directories s) (same notes)
-        (kept_built (subst (λ (s : Rows). All (IsNote s) notes) (sym (same notes)) given) homes at_top directories known
-        (subst (λ (s : Rows). IsDirectory s.nodes None (inside_of s.nodes s.top) at_top) (sym (same notes)) first) (subst (λ (rows : List Row). AreDirectories rows directories) b.rows are))
+        subst (λ (s : Rows). IsKept homes at_top directories s) (same notes links)
+        (kept_built (subst (λ (s : Rows). All (IsNote s) notes) (sym (same notes links)) given) homes at_top directories known
+        (subst (λ (s : Rows). IsDirectory s.nodes None (inside_of s.nodes s.top) at_top) (sym (same notes links)) first) (subst (λ (rows : List Row). AreDirectories rows directories) b.rows are))

@@ -1,8 +1,9 @@
 -- The rows of a schema tree stand for that tree.
-use Rattle.std.proofs.Common.{◌≡◌, ℕ, ◌+◌, ◌-◌, List, [], ◌∷◌, ◌++◌, length, get_or, refl, sym, ap, ◌∙◌, arith, append_assoc, append-nil, length-append}
+use Rattle.std.proofs.Common.{Option, ◌≡◌, ℕ, ◌+◌, ◌-◌, List, [], ◌∷◌, ◌++◌, length, get_or, refl, sym, ap, ◌∙◌, arith, append_assoc, append-nil, length-append}
 use Rattle.yv_nodes.specs.declared.node.NodeId.{NodeId}
 use Rattle.yv_nodes.specs.Tree.{count, Tree, node, Forest, no_trees, tree}
 use Rattle.yv_nodes.specs.Rows.{blank, Module, Note, pick, root, Row, trees_from, whole}
+use Rattle.yv_nodes.specs.Link.{Link}
 use Rattle.yv_nodes.specs.Numbers.{numbers_from, rows_below, rows_from, rows_of}
 
 pub length_rows : (parent : NodeId) (first : ℕ) (ts : Forest) → length (rows_below parent first ts) ≡ count ts
@@ -58,8 +59,8 @@ trees_rows parent first (tree (node l kids) ts) rest =
     rw (tail, inner, kids_trees, others, end) (ap (λ xs. node l kids ∷ xs) (sym (append_assoc (all_trees kids) (all_trees ts) _)))
 
 -- the rows of a schema tree stand for it
-pub whole_rows : (limit : ℕ) (modules : List Module) (notes : List Note) (ts : Forest) → whole (rows_of limit modules notes ts) ≡ ts
-whole_rows limit modules notes ts =
+pub whole_rows : (limit : ℕ) (modules : List Module) (notes : List Note) (links : List (Option Link)) (ts : Forest) → whole (rows_of limit modules notes links ts) ≡ ts
+whole_rows limit modules notes links ts =
     let trees : trees_from 0 (rows_from 0 ts) ≡ all_trees ts ++ [] =
     ap (trees_from 0) (sym (append-nil (rows_from 0 ts))) ∙ trees_rows root 0 ts [] in
     ap (λ (xs : List Tree). pick 0 xs (numbers_from 0 ts)) trees ∙ pick_all 0 0 [] [] ts (omega arith)

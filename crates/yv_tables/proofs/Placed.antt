@@ -1,5 +1,5 @@
 -- The rows of a schema tree are sound where the members in each object differ.
-use Rattle.std.proofs.Common.{◌≡◌, ◌≢◌, ℕ, zero, suc, ◌+◌, ◌-◌, ◌<◌, ◌≤◌, ◌⊎◌, List, [], ◌∷◌, ◌++◌, length, get_or, refl, sym, ap, ◌∙◌, subst, arith, append-nil, length-append, Bool, true, false, not, ◌||◌, cond, Some, All, inl, inr}
+use Rattle.std.proofs.Common.{Option, ◌≡◌, ◌≢◌, ℕ, zero, suc, ◌+◌, ◌-◌, ◌<◌, ◌≤◌, ◌⊎◌, List, [], ◌∷◌, ◌++◌, length, get_or, refl, sym, ap, ◌∙◌, subst, arith, append-nil, length-append, Bool, true, false, not, ◌||◌, cond, Some, All, inl, inr}
 use Rattle.std.specs.List.{AllByRecursion, slice_get}
 use Rattle.std.specs.Str.{bytes_eq}
 use Rattle.std.proofs.lemmas.List.Elements.{All-from_recursion, recursion_from_All}
@@ -11,6 +11,7 @@ use Rattle.yv_nodes.specs.declared.node.NodeId.{NodeId}
 use Rattle.yv_nodes.specs.Tree.{count, Label, node, Forest, labels, no_trees, tree}
 use Rattle.yv_nodes.specs.Places.{Place, places, places_below}
 use Rattle.yv_nodes.specs.Rows.{below, blank_row, children_of, is_root, Module, Note, rank, root, Row, row_at, Rows, whole}
+use Rattle.yv_nodes.specs.Link.{AreLinked, Link, link_in}
 use Rattle.yv_nodes.specs.Numbers.{numbers_from, rows_below, rows_from, rows_of}
 use Rattle.yv_tables.specs.Opened.{opened_from, opened_trees}
 use Rattle.yv_leaf_targets.specs.Named.{HaveLeafs}
@@ -146,11 +147,11 @@ pub record IsParent (s : Rows) (ts : Forest) (p : NodeId) : Type 0 where
   pub above : sit.parent ≡ p
   pub which : ((is_root p ≡ true) × (kids ≡ ts)) ⊎ IsPlaced s ts p kids
 
-module _ (limit : ℕ) (modules : List Module) (notes : List Note) (ts : Forest) where
-  parent_at_root : (p : NodeId) → is_root p ≡ true → IsParent (rows_of limit modules notes ts) ts p
+module _ (limit : ℕ) (modules : List Module) (notes : List Note) (links : List (Option Link)) (ts : Forest) where
+  parent_at_root : (p : NodeId) → is_root p ≡ true → IsParent (rows_of limit modules notes links ts) ts p
   parent_at_root p at_root =
       let first : rank p ≡ 0 = rw at_root refl in
-      let at_top : children_of (rows_of limit modules notes ts) p ≡ numbers_from 0 ts = rw at_root refl in
+      let at_top : children_of (rows_of limit modules notes links ts) p ≡ numbers_from 0 ts = rw at_root refl in
       let number : 4294967295 ≡ p.0 = grind (arith, nat_tests) in
       let same : root ≡ p = ap (λ (n : ℕ). let q : NodeId = record { 0 = n } in q) number in
       record {
@@ -167,10 +168,10 @@ module _ (limit : ℕ) (modules : List Module) (notes : List Note) (ts : Forest)
         which = inl (at_root, refl);
       }
 
-  parent_below : (p : NodeId) → rank p ≤ count ts → is_root p ≡ false → IsParent (rows_of limit modules notes ts) ts p
+  parent_below : (p : NodeId) → rank p ≤ count ts → is_root p ≡ false → IsParent (rows_of limit modules notes links ts) ts p
   parent_below p within other =
       let next : rank p ≡ p.0 + 1 = rw other refl in
-      let own_children : children_of (rows_of limit modules notes ts) p ≡ (get_or (rows_from 0 ts) p.0 blank_row).children = rw other refl in
+      let own_children : children_of (rows_of limit modules notes links ts) p ≡ (get_or (rows_from 0 ts) p.0 blank_row).children = rw other refl in
       let row : IsRow (rows_from 0 ts) (places ts) p.0 p.0 = row_in (rows_from 0 ts) [] 0 p.0 p.0 ts (omega (arith, next)) (omega arith) (all_sit ts) in
       record {
         kids = row.place.kids;
@@ -186,28 +187,28 @@ module _ (limit : ℕ) (modules : List Module) (notes : List Note) (ts : Forest)
         which = inr (record { index = p.0; place = row.place; found = row.found; is_below = refl; inner = other; label = ap (λ (r : Row). r.label) row.is });
       }
 
-  pub parent_in : (p : NodeId) → rank p ≤ length (rows_from 0 ts) → IsParent (rows_of limit modules notes ts) ts p
+  pub parent_in : (p : NodeId) → rank p ≤ length (rows_from 0 ts) → IsParent (rows_of limit modules notes links ts) ts p
   parent_in p within =
       elim (cases_Bool (is_root p)) [ inl at_root ↦ parent_at_root p at_root | inr other ↦ parent_below p (omega (arith, length_rows root 0 ts)) other ]
 
   -- what stands below a parent
-  pub below_in : (p : NodeId) (parent : IsParent (rows_of limit modules notes ts) ts p) → below (rows_of limit modules notes ts) p ≡ parent.kids
+  pub below_in : (p : NodeId) (parent : IsParent (rows_of limit modules notes links ts) ts p) → below (rows_of limit modules notes links ts) p ≡ parent.kids
   below_in p parent = ap (picked (rows_from 0 ts)) parent.are ∙ picked_sit (rows_from 0 ts) (rank p) parent.kids parent.sit
 
-  pub inside_parent : (p : NodeId) → rank p ≤ length (rows_from 0 ts) → is_object (rows_of limit modules notes ts) p ≡ true
-      → inside_of (rows_from 0 ts) (children_of (rows_of limit modules notes ts) p) ≡ inside (rows_of limit modules notes ts) p
+  pub inside_parent : (p : NodeId) → rank p ≤ length (rows_from 0 ts) → is_object (rows_of limit modules notes links ts) p ≡ true
+      → inside_of (rows_from 0 ts) (children_of (rows_of limit modules notes links ts) p) ≡ inside (rows_of limit modules notes links ts) p
   inside_parent p within object =
-      let parent : IsParent (rows_of limit modules notes ts) ts p = parent_in p within in
-      inside_have (rows_from 0 ts) (children_of (rows_of limit modules notes ts) p) (record { at = rank p; trees = parent.kids; are = parent.are; sit = parent.sit }) ∙ ap (opened_from (rank p)) (sym (below_in p parent))
-      ∙ sym (inside_object (rows_of limit modules notes ts) p object)
+      let parent : IsParent (rows_of limit modules notes links ts) ts p = parent_in p within in
+      inside_have (rows_from 0 ts) (children_of (rows_of limit modules notes links ts) p) (record { at = rank p; trees = parent.kids; are = parent.are; sit = parent.sit }) ∙ ap (opened_from (rank p)) (sym (below_in p parent))
+      ∙ sym (inside_object (rows_of limit modules notes links ts) p object)
 
   child_each : (p : NodeId) (at n : ℕ) (cs : List NodeId) → rank p ≤ at → n ≤ length (rows_from 0 ts) → AllByRecursion (λ (c : NodeId). (at ≤ c.0) × (c.0 < n)) cs
-      → AllByRecursion (λ (c : NodeId). (row_at (rows_of limit modules notes ts) c).parent ≡ p) cs → AllByRecursion (IsChild (rows_of limit modules notes ts) p) cs
+      → AllByRecursion (λ (c : NodeId). (row_at (rows_of limit modules notes links ts) c).parent ≡ p) cs → AllByRecursion (IsChild (rows_of limit modules notes links ts) p) cs
   child_each p at n [] le room h k = tt
   child_each p at n (c ∷ cs) le room h k = (record { behind = omega (arith, h.0); within = omega (arith, h.0); above = k.0 }, child_each p at n cs le room h.1 k.1)
 
   -- a fact of each number where the children sit is one of each child
-  of_children : (p : NodeId) (parent : IsParent (rows_of limit modules notes ts) ts p) (P : NodeId → Type 0) → AllByRecursion P (numbers_from (rank p) parent.kids) → All P (children_of (rows_of limit modules notes ts) p)
+  of_children : (p : NodeId) (parent : IsParent (rows_of limit modules notes links ts) ts p) (P : NodeId → Type 0) → AllByRecursion P (numbers_from (rank p) parent.kids) → All P (children_of (rows_of limit modules notes links ts) p)
   of_children p parent P h = subst (λ (cs : List NodeId). All P cs) (sym parent.are) (All-from_recursion P (numbers_from (rank p) parent.kids) h)
 
   module _ (top : AreDistinct (labels (opened_trees ts))) (inner : (k : ℕ) (q : Place) → slice_get (places ts) k ≡ Some q → is_passed q.label.defined.kind ≡ false → AreDistinct (labels (opened_trees q.kids))) where
@@ -216,48 +217,49 @@ module _ (limit : ℕ) (modules : List Module) (notes : List Note) (ts : Forest)
     object_met false true e h = absurd (false≢true h)
     object_met false false e h = refl
 
-    distinct_in : (p : NodeId) (kids : Forest) → ((is_root p ≡ true) × (kids ≡ ts)) ⊎ IsPlaced (rows_of limit modules notes ts) ts p kids → is_object (rows_of limit modules notes ts) p ≡ true → AreDistinct (labels (opened_trees kids))
+    distinct_in : (p : NodeId) (kids : Forest) → ((is_root p ≡ true) × (kids ≡ ts)) ⊎ IsPlaced (rows_of limit modules notes links ts) ts p kids → is_object (rows_of limit modules notes links ts) p ≡ true → AreDistinct (labels (opened_trees kids))
     distinct_in p kids (inl same) object = subst (λ (us : Forest). AreDistinct (labels (opened_trees us))) (sym same.1) top
     distinct_in p kids (inr h) object =
-        let met : is_passed (row_at (rows_of limit modules notes ts) p).label.defined.kind ≡ false = object_met (is_root p) (is_passed (row_at (rows_of limit modules notes ts) p).label.defined.kind) h.inner object in
+        let met : is_passed (row_at (rows_of limit modules notes links ts) p).label.defined.kind ≡ false = object_met (is_root p) (is_passed (row_at (rows_of limit modules notes links ts) p).label.defined.kind) h.inner object in
         let kept : is_passed h.place.label.defined.kind ≡ false = ap (λ (l : Label). is_passed l.defined.kind) (sym h.label) ∙ met in
         subst (λ (us : Forest). AreDistinct (labels (opened_trees us))) h.is_below (inner h.index h.place h.found kept)
 
-    object_found : (p : NodeId) → rank p ≤ length (rows_from 0 ts) → is_object (rows_of limit modules notes ts) p ≡ true → All (IsFound (rows_of limit modules notes ts) p) (inside (rows_of limit modules notes ts) p)
+    object_found : (p : NodeId) → rank p ≤ length (rows_from 0 ts) → is_object (rows_of limit modules notes links ts) p ≡ true → All (IsFound (rows_of limit modules notes links ts) p) (inside (rows_of limit modules notes links ts) p)
     object_found p within object =
-        let s : Rows = rows_of limit modules notes ts in
+        let s : Rows = rows_of limit modules notes links ts in
         let parent : IsParent s ts p = parent_in p within in
         let numbers : inside s p ≡ opened_from (rank p) parent.kids = inside_object s p object ∙ ap (opened_from (rank p)) (below_in p parent) in
         let apart : AreDistinct (labels_at s.nodes (inside s p)) =
         rw numbers (rw (labels_opened (rows_from 0 ts) (rank p) parent.kids parent.sit) (distinct_in p parent.kids parent.which object)) in
         All-from_recursion (IsFound s p) (inside s p) (found_each s (inside s p) apart)
 
-    found_in : (p : NodeId) → rank p ≤ length (rows_from 0 ts) → All (IsFound (rows_of limit modules notes ts) p) (inside (rows_of limit modules notes ts) p)
+    found_in : (p : NodeId) → rank p ≤ length (rows_from 0 ts) → All (IsFound (rows_of limit modules notes links ts) p) (inside (rows_of limit modules notes links ts) p)
     found_in p within =
-        let s : Rows = rows_of limit modules notes ts in
+        let s : Rows = rows_of limit modules notes links ts in
         elim (cases_Bool (is_object s p)) [
           | inl object ↦ object_found p within object
           | inr none ↦ subst (λ (cs : List NodeId). All (IsFound s p) cs) (sym (inside_nothing s p none)) (All-from_recursion (IsFound s p) [] tt)
         ]
 
     pub sound_rows : count ts ≤ 4294967295 → count ts ≤ limit → HaveLeafs (rows_from 0 ts)
-        → All (IsNote (rows_of limit modules notes ts)) notes → IsSound (rows_of limit modules notes ts)
-    sound_rows small limited leafs given = record {
+        → All (IsNote (rows_of limit modules notes links ts)) notes → AreLinked (link_in links) ts → IsSound (rows_of limit modules notes links ts)
+    sound_rows small limited leafs given linked = record {
       leafs = leafs;
-      members = subst MembersDiffer (sym (whole_rows limit modules notes ts)) (record { top = top; below = inner });
+      members = subst MembersDiffer (sym (whole_rows limit modules notes links ts)) (record { top = top; below = inner });
       notes = given;
+      linked = subst (AreLinked (link_in links)) (sym (whole_rows limit modules notes links ts)) linked;
       small = omega (arith, length_rows root 0 ts);
       limited = omega (arith, length_rows root 0 ts);
-      rows = ap (rows_from 0) (sym (whole_rows limit modules notes ts));
-      top = ap (numbers_from 0) (sym (whole_rows limit modules notes ts));
+      rows = ap (rows_from 0) (sym (whole_rows limit modules notes links ts));
+      top = ap (numbers_from 0) (sym (whole_rows limit modules notes links ts));
       children = λ p within.
-          let parent : IsParent (rows_of limit modules notes ts) ts p = parent_in p within in
-          of_children p parent (IsChild (rows_of limit modules notes ts) p)
+          let parent : IsParent (rows_of limit modules notes links ts) ts p = parent_in p within in
+          of_children p parent (IsChild (rows_of limit modules notes links ts) p)
           (child_each p (rank p) (rank p + count parent.kids) (numbers_from (rank p) parent.kids) (omega arith) (room_of (rows_from 0 ts) (rank p) parent.kids parent.sit) (numbers_in (rank p) parent.kids)
-          (subst (λ (q : NodeId). AllByRecursion (λ (c : NodeId). (row_at (rows_of limit modules notes ts) c).parent ≡ q) (numbers_from (rank p) parent.kids)) parent.above (above_each (rows_of limit modules notes ts) (rank p) parent.kids parent.sit)));
+          (subst (λ (q : NodeId). AllByRecursion (λ (c : NodeId). (row_at (rows_of limit modules notes links ts) c).parent ≡ q) (numbers_from (rank p) parent.kids)) parent.above (above_each (rows_of limit modules notes links ts) (rank p) parent.kids parent.sit)));
       found = found_in;
       found_below = λ p within object.
-          let s : Rows = rows_of limit modules notes ts in
+          let s : Rows = rows_of limit modules notes links ts in
           let parent : IsParent s ts p = parent_in p within in
           let numbers : inside s p ≡ opened_from (rank p) parent.kids = inside_object s p object ∙ ap (opened_from (rank p)) (below_in p parent) in
           of_children p parent (IsFoundBelow s p)
@@ -268,10 +270,10 @@ module _ (limit : ℕ) (modules : List Module) (notes : List Note) (ts : Forest)
 pub sits_below : (s : Rows) (p : NodeId) → IsSound s → rank p ≤ length s.nodes → Sits s.nodes (rank p) (below s p)
 sits_below s p sound within =
     let W : Forest = whole s in
-    let rows : Rows = rows_of s.limit s.modules s.augments W in
+    let rows : Rows = rows_of s.limit s.modules s.augments s.links W in
     let same : rows ≡ s =
-    ap (λ (ns : List Row). let r : Rows = record { nodes = ns; top = numbers_from 0 W; limit = s.limit; modules = s.modules; augments = s.augments } in r) (sym sound.rows)
-    ∙ ap (λ (cs : List NodeId). let r : Rows = record { nodes = s.nodes; top = cs; limit = s.limit; modules = s.modules; augments = s.augments } in r) (sym sound.top) in
-    let parent : IsParent rows W p = parent_in s.limit s.modules s.augments W p (omega (arith, within, ap length sound.rows)) in
-    let here : Sits rows.nodes (rank p) (below rows p) = rw (below_in s.limit s.modules s.augments W p parent) parent.sit in
+    ap (λ (ns : List Row). let r : Rows = record { nodes = ns; top = numbers_from 0 W; limit = s.limit; modules = s.modules; augments = s.augments; links = s.links } in r) (sym sound.rows)
+    ∙ ap (λ (cs : List NodeId). let r : Rows = record { nodes = s.nodes; top = cs; limit = s.limit; modules = s.modules; augments = s.augments; links = s.links } in r) (sym sound.top) in
+    let parent : IsParent rows W p = parent_in s.limit s.modules s.augments s.links W p (omega (arith, within, ap length sound.rows)) in
+    let here : Sits rows.nodes (rank p) (below rows p) = rw (below_in s.limit s.modules s.augments s.links W p parent) parent.sit in
     subst (λ (t : Rows). Sits t.nodes (rank p) (below t p)) same here

@@ -7,6 +7,7 @@ use Rattle.yv_nodes.specs.Member.{data_home, member_name}
 use Rattle.yv_nodes.specs.Rows.{Module, Note, Row, Rows, blank_row}
 use Rattle.yv_nodes.specs.Tree.{count, Forest, Label, no_trees, node, tree}
 use Rattle.yv_nodes.specs.Typed.{typed, typed_from, typed_rows}
+use Rattle.yv_nodes.specs.Link.{Link}
 use Rattle.yv_tables.specs.Numbered.{AreFormed, IsFormed, made_of}
 use Rattle.yv_tables.specs.Sound.{IsChild, IsNote}
 
@@ -38,12 +39,12 @@ module _ (types : ℕ → List Plain) where
   same_parent first zero (r ∷ rs) = refl
   same_parent first (suc n) (r ∷ rs) = same_parent (first + 1) n rs
 
-  module _ (nodes : List Row) (top : List NodeId) (limit : ℕ) (modules : List Module) (notes : List Note) where
+  module _ (nodes : List Row) (top : List NodeId) (limit : ℕ) (modules : List Module) (notes : List Note) (links : List (Option Link)) where
     abbrev stated : Rows
-    stated = made_of nodes top limit modules notes
+    stated = made_of nodes top limit modules notes links
 
     abbrev retyped : Rows
-    retyped = made_of (typed_rows types 0 nodes) top limit modules notes
+    retyped = made_of (typed_rows types 0 nodes) top limit modules notes links
 
     within : (n : ℕ) → n < length nodes → n < length (typed_rows types 0 nodes)
     within n l = subst (λ (m : ℕ). n < m) (sym (long 0 nodes)) l
@@ -54,5 +55,5 @@ module _ (types : ℕ → List Plain) where
     note : (n : Note) → IsNote stated n → IsNote retyped n
     note n is = record { target = within n.target.0 is.target; given = λ k d l. child n.target (slice_index_or n.nodes k d) (is.given k d l) }
 
-    pub all_notes : All (IsNote (made_of nodes top limit modules notes)) notes → All (IsNote (made_of (typed_rows types 0 nodes) top limit modules notes)) notes
+    pub all_notes : All (IsNote (made_of nodes top limit modules notes links)) notes → All (IsNote (made_of (typed_rows types 0 nodes) top limit modules notes links)) notes
     all_notes are = λ k d l. note (slice_index_or notes k d) (are k d l)

@@ -1,7 +1,8 @@
 -- Nodes of several modules, which may stand below one another, and their numbers.
-use Rattle.std.specs.Prelude.{◌≡◌, ◌≢◌, ◌<◌, ℕ, ◌==◌, List, [], ◌∷◌, All, false, Some, slice_get}
+use Rattle.std.specs.Prelude.{◌≡◌, ◌≢◌, ◌<◌, ℕ, ◌==◌, List, [], ◌∷◌, All, false, Option, Some, slice_get}
 use Rattle.std.specs.List.{list_any}
 use Rattle.yv_nodes.specs.declared.node.NodeId.{NodeId}
+use Rattle.yv_nodes.specs.Link.{Link, AreLinked, link_in}
 use Rattle.yv_nodes.specs.Member.{data_home, member_name}
 use Rattle.yv_nodes.specs.Numbers.{numbers_from, rows_from}
 use Rattle.yv_nodes.specs.Rows.{Module, Note, Row, Rows}
@@ -37,13 +38,14 @@ pub record AreModules (modules : List Module) : Type 0 where
   pub names : (i k : ℕ) (a b : Module) → i < k → slice_get modules i ≡ Some a → slice_get modules k ≡ Some b → a.name ≢ b.name
   pub homes : (i k : ℕ) (a b : Module) → i < k → slice_get modules i ≡ Some a → slice_get modules k ≡ Some b → a.home ≢ b.home
 
--- these are the rows of nodes of the modules, and the numbers of those at the top
-pub record AreNumbered (modules : List Module) (nodes : List Row) (top : List NodeId) : Type 0 where
+-- these are the rows of nodes of the modules, the numbers of those at the top, and where the paths of leafrefs among them lead
+pub record AreNumbered (modules : List Module) (nodes : List Row) (top : List NodeId) (links : List (Option Link)) : Type 0 where
   pub trees : Forest
   pub formed : AreFormed modules [] trees
   pub rows : nodes ≡ rows_from 0 trees
   pub top_is : top ≡ numbers_from 0 trees
+  pub linked : AreLinked (link_in links) trees
 
 -- what contracts see of a schema that has these
-abbrev pub made_of : List Row → List NodeId → (limit : ℕ) → List Module → List Note → Rows
-made_of nodes top limit modules notes = record { nodes = nodes; top = top; limit = limit; modules = modules; augments = notes }
+abbrev pub made_of : List Row → List NodeId → (limit : ℕ) → List Module → List Note → List (Option Link) → Rows
+made_of nodes top limit modules notes links = record { nodes = nodes; top = top; limit = limit; modules = modules; augments = notes; links = links }

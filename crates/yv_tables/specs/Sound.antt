@@ -3,6 +3,7 @@ use Rattle.std.specs.Prelude.{◌≡◌, ◌≢◌, ◌≤◌, ◌<◌, ℕ, Lis
 use Rattle.std.specs.Str.{bytes_eq}
 use Rattle.yv_properties.specs.Kinds.{is_data, is_passed}
 use Rattle.yv_nodes.specs.declared.node.NodeId.{NodeId}
+use Rattle.yv_nodes.specs.Link.{AreLinked, link_in}
 use Rattle.yv_nodes.specs.Tree.{Forest, Label, labels, no_trees, node, tree}
 use Rattle.yv_nodes.specs.Places.{Place, places}
 use Rattle.yv_nodes.specs.Numbers.{numbers_from, rows_from}
@@ -68,8 +69,8 @@ pub record IsNote (s : Rows) (n : Note) : Type 0 where
   pub given : All (IsChild s n.target) n.nodes
 
 -- there are at most as many nodes as the limit and as numbers, they are numbered as their tree is, children stand behind
--- their parents, no two of one object have one member, each name of a key and each path of a `unique` statement is that of a leaf, and
--- augments add children to nodes
+-- their parents, no two of one object have one member, each name of a key and each path of a `unique` statement is that of a leaf,
+-- augments add children to nodes, and the paths of leafrefs lead from where they climb to, to leafs and leaf-lists
 pub record IsSound (s : Rows) : Type 0 where
   pub small : length s.nodes ≤ 4294967295
   pub limited : length s.nodes ≤ s.limit
@@ -81,3 +82,4 @@ pub record IsSound (s : Rows) : Type 0 where
   pub leafs : HaveLeafs s.nodes
   pub members : MembersDiffer (whole s)
   pub notes : All (IsNote s) s.augments
+  pub linked : AreLinked (link_in s.links) (whole s)

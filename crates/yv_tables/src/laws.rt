@@ -1,7 +1,8 @@
 //! Laws of the definitions alone. These functions do nothing: the contract of each is the law.
-ghost use Rattle.std.specs.Prelude.{ℕ, List, [], All};
+ghost use Rattle.std.specs.Prelude.{ℕ, List, [], All, Option};
 ghost use Rattle.yv_values.specs.Types.{Plain};
 ghost use Rattle.yv_nodes.specs.declared.node.NodeId.{NodeId};
+ghost use Rattle.yv_nodes.specs.Link.{AreLinked, Link};
 ghost use Rattle.yv_nodes.specs.Rows.{AreTrees, Module, Note, Row, Rows};
 ghost use Rattle.yv_nodes.specs.Tree.{Forest};
 ghost use Rattle.yv_nodes.specs.Typed.{typed_from, typed_rows};
@@ -22,6 +23,7 @@ pub fn types_leave_forms()
 /// What augments add stays where it is where nodes get other types.
 pub fn types_leave_notes()
     ensures { (types : ℕ → List Plain) (nodes : List Row) (top : List NodeId) (limit : ℕ) (modules : List Module) (notes : List Note)
-        → All (IsNote (made_of nodes top limit modules notes)) notes
-        → All (IsNote (made_of (typed_rows types 0 nodes) top limit modules notes)) notes }
+        (links : List (Option Link))
+        → All (IsNote (made_of nodes top limit modules notes links)) notes
+        → All (IsNote (made_of (typed_rows types 0 nodes) top limit modules notes links)) notes }
 {}

@@ -8,7 +8,7 @@ use std::collections::BTreeMap;
 use std::marker::Model;
 use std::rc::RcStr;
 use yv_leaf_targets::LeafTargets;
-use yv_nodes::{Node, NodeId, Nodes};
+use yv_nodes::{Link, Links, Node, NodeId, Nodes};
 use yv_values::Meter;
 
 /// The schema of modules: nodes with numbers from 0, each behind its parent. Contracts see its rows, and
@@ -29,6 +29,8 @@ pub struct Schema {
     pub(crate) implemented: Vec<Module>,
     /// The augments.
     pub(crate) notes: Vec<AugmentNote>,
+    /// Where the paths of leafrefs lead.
+    pub(crate) links: Links,
 }
 
 impl Model for Schema {
@@ -43,6 +45,7 @@ impl Model for Schema {
       limit = s.nodes.limit;
       modules = s.implemented.items;
       augments = s.notes.items;
+      links = s.links;
     } };
 
     ghost invariant = { λ s. IsHeld s.homes s.at_top s.directories.items s.leafs (record {
@@ -51,12 +54,15 @@ impl Model for Schema {
       limit = s.nodes.limit;
       modules = s.implemented.items;
       augments = s.notes.items;
+      links = s.links;
     }) };
 }
 
 impl Schema {
+    ghost use Rattle.std.specs.Option.{option_map};
     ghost use Rattle.std.specs.Prelude.{ℕ, List, ◌∷◌, ◌++◌, Some, None, is_some, map, IfNone};
     ghost use Rattle.yv_leaf_targets.specs.Numbers.{default_case_at, key_leaf_at, unique_leaf_at};
+    ghost use Rattle.yv_nodes.specs.Link.{AreLinked, link_in};
     ghost use Rattle.yv_nodes.specs.Tree.{count};
     ghost use Rattle.yv_nodes.specs.Rows.{AreTrees, row_at, children_of, rank, whole};
     ghost use Rattle.yv_tables.specs.Sound.{IsSound, IsChild, IsInside, IsNote, inside, is_known, named, object_trees};
@@ -162,6 +168,23 @@ impl Schema {
         ensures sound { IsSound self.now }
     {
         self.notes.as_slice()
+    }
+
+    /// Where the paths of the leafrefs lead that require an instance.
+    pub fn links(&self) -> &Links
+        ensures value { result.now ≡ self.now.links }
+        ensures linked { AreLinked (link_in result.now) (whole self.now) }
+        ensures sound { IsSound self.now }
+    {
+        &self.links
+    }
+
+    /// Where the path of a leafref leads, where it requires an instance (RFC 7950, sections 9.9.2 and 9.9.3): None of other nodes, and
+    /// inside operations and notifications. Takes constant time.
+    pub fn reference(&self, leafref: NodeId) -> Option<&Link>
+        ensures { option_map (λ link. link.now) result ≡ link_in self.now.links leafref.0 }
+    {
+        self.links.link(leafref)
     }
 
     /// The data node that a JSON member of this name writes in an object of this node, or in that of the root: a child, or what

@@ -1,6 +1,6 @@
 -- The lines of schema nodes in a tree diagram (RFC 8340, section 2.6).
 use Rattle.std.specs.Prelude.{ℕ, List, [], ◌∷◌, ◌++◌, Bool, true, false, ◌||◌, ◌==◌, Option, Some, None, map, if◌then◌else◌, codes}
-use Rattle.yv_properties.specs.Steps.{Step}
+use Rattle.yv_properties.specs.Steps.{Piece, Step, is_home}
 use Rattle.yv_properties.specs.declared.kind.NodeKind.{NodeKind}
 use Rattle.yv_properties.specs.declared.kind.NodeKind.TheVariants as kinds
 use Rattle.yv_properties.specs.declared.kind.NodeStatus.{NodeStatus}
@@ -51,15 +51,15 @@ shown_name _ modules own l = full_name modules own l
 abbrev pub optional : Label → List ℕ
 optional l = if l.defined.is_mandatory || l.is_key then [] else codes "?"
 
--- each name with a blank in front
-abbrev pub behind_each : List (List ℕ) → List ℕ
-behind_each [] = []
-behind_each (name ∷ names) = codes " " ++ name ++ behind_each names
+-- each text with this mark in front
+abbrev pub behind_each : (mark : List ℕ) → List (List ℕ) → List ℕ
+behind_each mark [] = []
+behind_each mark (text ∷ texts) = mark ++ text ++ behind_each mark texts
 
--- names with a blank between them
-abbrev pub spaced : List (List ℕ) → List ℕ
-spaced [] = []
-spaced (name ∷ names) = name ++ behind_each names
+-- texts with this mark between them
+abbrev pub between : (mark : List ℕ) → List (List ℕ) → List ℕ
+between mark [] = []
+between mark (text ∷ texts) = text ++ behind_each mark texts
 
 -- the name of a key, without the prefix that it may have where it is written
 abbrev pub key_name : Option Step → List ℕ
@@ -68,7 +68,7 @@ key_name (Some step) = step.name
 
 -- a star, and the names of the keys between brackets
 abbrev pub list_options : List (Option Step) → List ℕ
-list_options keys = codes "* [" ++ spaced (map key_name keys) ++ codes "]"
+list_options keys = codes "* [" ++ between (codes " ") (map key_name keys) ++ codes "]"
 
 abbrev pub options : NodeKind → Label → List ℕ
 options kinds.Container l = if l.defined.has_presence then codes "!" else []
@@ -85,6 +85,20 @@ abbrev pub behind : List ℕ → List ℕ
 behind [] = []
 behind (b ∷ bs) = codes " " ++ b ∷ bs
 
+-- a prefix with its colon, or nothing without one
+abbrev pub written_prefix : Option (List ℕ) → List ℕ
+written_prefix None = []
+written_prefix (Some prefix) = prefix ++ codes ":"
+
+-- a piece of the path of a leafref as it is written, but without a prefix that stands for the module of the leaf itself
+abbrev pub shown_piece : (home : ℕ) → Piece → List ℕ
+shown_piece home p = (if is_home (Some home) p.home then [] else written_prefix p.prefix) ++ p.name
+
+-- a leafref is shown as an arrow and its path, any other type as it is written
+abbrev pub shown_type : (path : List Piece) → Label → List ℕ
+shown_type [] l = l.defined.type_text
+shown_type (p ∷ ps) l = codes "-> " ++ between (codes "/") (map (shown_piece l.home) (p ∷ ps))
+
 -- the field of the if-features, or nothing without any
 abbrev pub condition : List ℕ → List ℕ
 condition [] = []
@@ -94,7 +108,7 @@ condition (b ∷ bs) = codes " {" ++ b ∷ bs ++ codes "}?"
 abbrev pub line : List Module → (own : ℕ) → Label → List ℕ
 line modules own l =
     status_mark l.defined.status ++ codes "--" ++ opening l.defined.kind l ++ shown_name l.defined.kind modules own l
-    ++ options l.defined.kind l ++ behind l.defined.type_text ++ condition l.defined.features
+    ++ options l.defined.kind l ++ behind (shown_type l.defined.path l) ++ condition l.defined.features
 
 -- there is a tree
 abbrev pub are_some : Forest → Bool

@@ -1,11 +1,12 @@
 //! A node's line.
-ghost use Rattle.std.specs.Prelude.{◌≡◌, ◌++◌, OnOk, map, string_bytes};
-ghost use Rattle.yv_tree.specs.Lines.{status_mark, access, flags, opening, lead, full_name, shown_name, options, optional, list_options, key_name, spaced, behind, behind_each, condition, line};
+ghost use Rattle.std.specs.Prelude.{◌≡◌, ◌++◌, OnOk, Some, codes, map, string_bytes};
+ghost use Rattle.yv_properties.specs.Steps.{is_home};
+ghost use Rattle.yv_tree.specs.Lines.{status_mark, access, flags, opening, lead, full_name, shown_name, options, optional, list_options, key_name, between, behind, behind_each, written_prefix, shown_piece, shown_type, condition, line};
 
 use crate::modules::Modules;
 use std::alloc::AllocError;
 use yv_nodes::Node;
-use yv_properties::{NodeKind, NodeStatus, PathStep};
+use yv_properties::{NodeKind, NodeStatus, PathPiece, PathStep};
 
 /// Adds the line of a node in a diagram of the module of this number, without its margin and its line feed.
 pub(crate) fn push_line(
@@ -21,7 +22,7 @@ pub(crate) fn push_line(
     push_opening(node, text)?;
     push_name(modules, own, node, text)?;
     push_options(node, text)?;
-    push_field(node.type_text(), text)?;
+    push_type(node, text)?;
     push_condition(node.features(), text)
 }
 
@@ -149,7 +150,7 @@ fn push_list_options(keys: &[Option<PathStep>], text: &mut String) -> Result<(),
 }
 
 fn push_keys(keys: &[Option<PathStep>], text: &mut String) -> Result<(), AllocError>
-    ensures { OnOk result (string_bytes text.new ≡ string_bytes text.old ++ spaced (map key_name keys.now)) }
+    ensures { OnOk result (string_bytes text.new ≡ string_bytes text.old ++ between (codes " ") (map key_name keys.now)) }
 {
     match keys.split_first() {
         Some((first, others)) => {
@@ -161,7 +162,7 @@ fn push_keys(keys: &[Option<PathStep>], text: &mut String) -> Result<(), AllocEr
 }
 
 fn push_others(keys: &[Option<PathStep>], text: &mut String) -> Result<(), AllocError>
-    ensures { OnOk result (string_bytes text.new ≡ string_bytes text.old ++ behind_each (map key_name keys.now)) }
+    ensures { OnOk result (string_bytes text.new ≡ string_bytes text.old ++ behind_each (codes " ") (map key_name keys.now)) }
 {
     for key in keys {
         text.push_str(" ")?;
@@ -188,6 +189,63 @@ fn push_field(field: &str, text: &mut String) -> Result<(), AllocError>
     }
     text.push_str(" ")?;
     text.push_str(field)
+}
+
+// The field of the type: of a leafref an arrow and its path.
+fn push_type(node: &Node, text: &mut String) -> Result<(), AllocError>
+    ensures { OnOk result (string_bytes text.new ≡ string_bytes text.old
+        ++ behind (shown_type node.now.label.defined.path node.now.label)) }
+{
+    match node.path().split_first() {
+        Some((first, others)) => {
+            text.push_str(" -> ")?;
+            push_piece(node.home(), first, text)?;
+            push_pieces(node.home(), others, text)
+        }
+        None => push_field(node.type_text(), text),
+    }
+}
+
+// Pieces of the path of a leafref of the module of this number, each behind a slash.
+fn push_pieces(home: u32, pieces: &[PathPiece], text: &mut String) -> Result<(), AllocError>
+    ensures { OnOk result (string_bytes text.new ≡ string_bytes text.old ++ behind_each (codes "/") (map (shown_piece home) pieces.now)) }
+{
+    for piece in pieces {
+        text.push_str("/")?;
+        push_piece(home, piece, text)?;
+    }
+    Ok(())
+}
+
+fn push_piece(home: u32, piece: &PathPiece, text: &mut String) -> Result<(), AllocError>
+    ensures { OnOk result (string_bytes text.new ≡ string_bytes text.old ++ shown_piece home piece.now) }
+{
+    if !is_of(piece, home) {
+        push_prefix(piece, text)?;
+    }
+    text.push_str(piece.name())
+}
+
+// Whether a piece has a prefix that stands for the module of this number.
+fn is_of(piece: &PathPiece, home: u32) -> bool
+    ensures { result ≡ is_home (Some home) piece.now.home }
+{
+    match piece.home() {
+        Some(of) => home == of,
+        None => false,
+    }
+}
+
+fn push_prefix(piece: &PathPiece, text: &mut String) -> Result<(), AllocError>
+    ensures { OnOk result (string_bytes text.new ≡ string_bytes text.old ++ written_prefix piece.now.prefix) }
+{
+    match piece.prefix() {
+        Some(prefix) => {
+            text.push_str(prefix)?;
+            text.push_str(":")
+        }
+        None => Ok(()),
+    }
 }
 
 fn push_condition(features: &str, text: &mut String) -> Result<(), AllocError>

@@ -10,5 +10,6 @@ returns c = one_output (record {
   apart = c.a_text_is_spelled_or_refused_once.ensures.not_both;
   schema = c.files_have_one_schema.ensures.tree;
   augments = c.files_have_one_schema.ensures.augments;
+  references = c.files_have_one_schema.ensures.references;
   order = c.order_tells_refusals_apart.ensures;
 })

@@ -13,7 +13,7 @@ returns-in-Ok-clause-schema c =
     gives_schema (choice_of c.args.selection.now) c.args.limit (map file_of c.args.inputs.now) c.in-Ok.statements.items c.compile.result read
     (all_given (choice_of c.args.selection.now) c.in-Ok.statements.items c.args.limit c.compile.result
     (rw (c.deref.ensures.value) at c.compile.ensures.schema) c.compile.ensures.limit (rw (c.deref.ensures.value) at c.compile.ensures.modules)
-    (rw (c.deref.ensures.value) at c.compile.ensures.augments) c.compile.ensures.sound)
+    (rw (c.deref.ensures.value) at c.compile.ensures.augments) (rw (c.deref.ensures.value) at c.compile.ensures.references) c.compile.ensures.sound)
     (rw (c.deref.ensures.value) at c.compile.ensures.clear)
 
 pub returns-in-Ok-clause-refused : goal.returns-in-Ok-clause-refused

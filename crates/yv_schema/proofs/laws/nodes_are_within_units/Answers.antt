@@ -1,7 +1,9 @@
 use Rattle.std.proofs.Common.{◌∙◌, [], ap, sym, arith, subst}
 use Rattle.yv_rows.specs.Files.{Files}
 use Rattle.yv_nodes.specs.Tree.{count}
+use Rattle.yv_schema.specs.Module.{leafrefs_of, stated_of}
 use Rattle.yv_schema.specs.Schema.{TakeUnits}
+use Rattle.yv_schema.proofs.Typing.{count_resolved}
 use Rattle.yv_schema.proofs.Counting.{count_labelled}
 use Rattle.yv_schema.proofs.laws.nodes_are_within_units.Goals as goal
 
@@ -10,5 +12,5 @@ returns c = λ choice files tree units is w. (
     let b = is.basis in
     let few = c.nodes_are_within_units.ensures choice b.files b.truth b.final b.nodes units is.is_basis.final is.is_basis.nodes
     (subst (λ (fs : Files). TakeUnits choice fs units) (sym is.of_files) w) in
-    let same = ap count is.is ∙ count_labelled b [] b.nodes in
+    let same = count_resolved (leafrefs_of b) (stated_of b) tree is.is ∙ count_labelled b [] b.nodes in
     omega (arith, few, same))

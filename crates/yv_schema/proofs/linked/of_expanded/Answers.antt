@@ -8,9 +8,9 @@ use Rattle.yv_types.specs.Faults.{BadTypes}
 use Rattle.yv_definitions.specs.Kinds.{AreTyped, typing_of}
 use Rattle.yv_final_tree.specs.Kept.{AreKept}
 use Rattle.yv_nodes.specs.Rows.{whole}
-use Rattle.yv_schema.specs.Module.{Basis, schema_of}
+use Rattle.yv_schema.specs.Module.{Basis}
 use Rattle.yv_schema.specs.Truth.{IsTruth}
-use Rattle.yv_schema.specs.Schema.{AreNotes, IsBasis, IsSchema}
+use Rattle.yv_schema.specs.Schema.{AreNotes, AreReferences, IsBasis, IsSchema}
 use Rattle.yv_schema.specs.InnerContext.{Tells, TellsOf}
 use Rattle.yv_schema.proofs.Phases.{least_last, least_typed, names_of}
 use Rattle.yv_schema.proofs.linked.of_expanded.Goals as goal
@@ -97,6 +97,25 @@ returns-clause-augments c = λ files given.
     let found = rw built at c.build.ensures.augments in
     IfOk-weaker c.build.result _ _ (λ s e. let x : AreNotes choice files s.augments = record { basis = b; of_files = refl; is_basis = is_basis; are = e } in x) (found b tells refl)
 
+pub returns-clause-references : goal.returns-clause-references
+returns-clause-references c = λ files given.
+    let choice = choice_of c.args.selection.now in
+    let limit = c.args.limit in
+    let clear = given.clear in
+    let truth = truth_in c.args.linked.now in
+    let is : IsTruth files choice truth = c.linked_files_tell_what_holds.ensures files choice c.args.linked.now clear.are in
+    let k : AreKept choice files truth c.args.tree.now = given.are_kept in
+    let are : AreTyped files choice truth (typing_of c.in-Ok.types) =
+    c.types_tell_typing.ensures files choice truth c.in-Ok.types (c.in-Ok.ensures.made files choice clear.are given.are_names) in
+    let b : Basis = record { files = files; truth = truth; typing = typing_of c.in-Ok.types; final = k.final; nodes = k.nodes } in
+    let is_basis : IsBasis choice b = record { truth = is; typing = are; final = k.is_final; nodes = k.are_left } in
+    let read = c.rows.ensures files choice clear.are in
+    let said = c.new-context.ensures b choice (c.in_ok-definitions.ensures.files ∙ read) c.in_ok-definitions.ensures.typing k refl refl in
+    let tells : Tells b c.new-context.result = said.0 in
+    let built = c.rows-2.ensures files choice clear.are in
+    let found = rw built at c.build.ensures.references in
+    IfOk-weaker c.build.result _ _ (λ s e. let x : AreReferences choice files s.links = record { basis = b; of_files = refl; is_basis = is_basis; are = e } in x) (found b tells refl)
+
 pub returns-clause-clear : goal.returns-clause-clear
 returns-clause-clear c = λ files given.
     let choice = choice_of c.args.selection.now in
@@ -113,11 +132,12 @@ returns-clause-clear c = λ files given.
     let said = c.new-context.ensures b choice (c.in_ok-definitions.ensures.files ∙ read) c.in_ok-definitions.ensures.typing k refl refl in
     let tells : Tells b c.new-context.result = said.0 in
     let built = c.rows-2.ensures files choice clear.are in
-    let schema : IsSchema choice files (schema_of b) = record { basis = b; of_files = refl; is_basis = is_basis; is = refl } in
     let typed : IsLeast (BadTypes files truth) None = c.in-Ok.ensures.clear files choice clear.are given.are_names in
     let found = rw built at c.build.ensures.clear in
     on_ok_weaker c.build.result
-    (λ h. least_last choice files limit c.an_expression_has_one_truth.ensures given.before c.files_have_one_typing.ensures c.files_have_one_final_tree.ensures c.what_is_left_is_one.ensures truth None _ is schema typed h) (found b tells refl)
+    (λ h. let schema : IsSchema choice files h.tree = record { basis = b; of_files = refl; is_basis = is_basis; is = h.is } in
+    least_last choice files limit c.an_expression_has_one_truth.ensures given.before c.files_have_one_typing.ensures c.files_have_one_final_tree.ensures c.what_is_left_is_one.ensures
+    c.a_tree_is_typed_once.ensures truth None h.tree is schema typed h.least) (found b tells refl)
 
 pub returns-clause-refusal : goal.returns-clause-refusal
 returns-clause-refusal c = λ files given r e.
@@ -135,10 +155,12 @@ returns-clause-refusal c = λ files given r e.
     let said = c.new-context.ensures b choice (c.in_ok-definitions.ensures.files ∙ read) c.in_ok-definitions.ensures.typing k refl refl in
     let tells : Tells b c.new-context.result = said.0 in
     let built = c.rows-2.ensures files choice clear.are in
-    let schema : IsSchema choice files (schema_of b) = record { basis = b; of_files = refl; is_basis = is_basis; is = refl } in
     let typed : IsLeast (BadTypes files truth) None = c.in-Ok.ensures.clear files choice clear.are given.are_names in
     let found = rw built at c.build.ensures.refusal in
-    least_last choice files limit c.an_expression_has_one_truth.ensures given.before c.files_have_one_typing.ensures c.files_have_one_final_tree.ensures c.what_is_left_is_one.ensures truth (Some r) _ is schema typed (found b tells refl r e)
+    let h = found b tells refl r e in
+    let schema : IsSchema choice files h.tree = record { basis = b; of_files = refl; is_basis = is_basis; is = h.is } in
+    least_last choice files limit c.an_expression_has_one_truth.ensures given.before c.files_have_one_typing.ensures c.files_have_one_final_tree.ensures c.what_is_left_is_one.ensures
+    c.a_tree_is_typed_once.ensures truth (Some r) h.tree is schema typed h.least
 
 pub returns-clause-modules : goal.returns-clause-modules
 returns-clause-modules c = λ files given.

@@ -72,6 +72,20 @@ returns-clause-augments c = λ files clear.
     let expanded : AreExpanded choice files limit c.args.linked.now c.in-Ok.names c.in-Ok-final_tree.tree = record { clear = clear; are_names = names; are_kept = copied names; before = before } in
     c.of_expanded.ensures.augments files expanded
 
+pub returns-clause-references : goal.returns-clause-references
+returns-clause-references c = λ files clear.
+    let choice = choice_of c.args.selection.now in
+    let limit = c.args.limit in
+    let rows = c.rows.ensures files choice clear.are in
+    let named = rw rows at c.in-Ok.ensures.clear in
+    let names = rw rows at c.in-Ok.ensures.made in
+    let lent = c.rows-2.ensures files choice clear.are in
+    let cleared = rw lent at c.in-Ok-final_tree.ensures.clear in
+    let copied = rw lent at c.in-Ok-final_tree.ensures.kept in
+    let before : IsLeast (RefusesBeforeTypes choice files limit) None = least_expanded choice files limit None clear.own clear.links named (cleared names) in
+    let expanded : AreExpanded choice files limit c.args.linked.now c.in-Ok.names c.in-Ok-final_tree.tree = record { clear = clear; are_names = names; are_kept = copied names; before = before } in
+    c.of_expanded.ensures.references files expanded
+
 pub returns-clause-clear : goal.returns-clause-clear
 returns-clause-clear c = λ files clear.
     let choice = choice_of c.args.selection.now in

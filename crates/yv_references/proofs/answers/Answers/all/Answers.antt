@@ -1,4 +1,4 @@
-use Rattle.yv_references.specs.Link.{link_in}
+use Rattle.yv_nodes.specs.Link.{link_in}
 use Rattle.yv_references.specs.References.{paths_in}
 use Rattle.yv_references.proofs.Judged.{one_asked, one_judged}
 use Rattle.yv_references.proofs.answers.Answers.all.Goals as goal

@@ -14,7 +14,7 @@ returns-then-eq-clause-answers c =
 
 pub returns-else-eq-clause-answers : goal.returns-else-eq-clause-answers
 returns-else-eq-clause-answers c =
-    let s : Rows = record { nodes = c.self.inside.nodes.rows; top = c.self.inside.top.items; limit = c.self.inside.nodes.limit; modules = c.self.inside.implemented.items; augments = c.self.inside.notes.items } in
+    let s : Rows = record { nodes = c.self.inside.nodes.rows; top = c.self.inside.top.items; limit = c.self.inside.nodes.limit; modules = c.self.inside.implemented.items; augments = c.self.inside.notes.items; links = c.self.inside.links } in
     let inner : is_root c.args.parent ≡ false = sym c.eq.ensures ∙ c.if-eq.false in
     let within : rank c.args.parent ≤ length s.nodes = rw (← c.self.view_is) at c.requires in
     let at = slice_get_read c.self.inside.directories.items (length s.nodes) c.args.parent.0 c.index.result.now (sym c.self.invariant.kept.each) (omega (arith, within, rank_below c.args.parent inner)) c.index.ensures in

@@ -1,0 +1,7 @@
+use Rattle.std.proofs.Common.{map, sym, ap, ◌∙◌}
+use Rattle.yv_leaf_paths.specs.Steps.{step_of}
+use Rattle.yv_definitions.proofs.Listing.{no_words}
+use Rattle.yv_definitions.proofs.keys.BlockPaths.none.Goals as goal
+
+pub returns : goal.returns
+returns c = λ files file. record { keys = c.in_ok-keys.ensures ∙ sym (ap (map (step_of files file)) no_words); uniques = c.in_ok-uniques.ensures; path = c.in_ok-path.ensures }

@@ -1,0 +1,31 @@
+//! Laws of the definitions alone: what those who follow links may rely on. These functions do nothing: the contract of each is the law.
+ghost use Rattle.std.specs.Prelude.{◌≡◌, ℕ, List, Option};
+ghost use Rattle.yv_values.specs.Types.{Plain};
+ghost use Rattle.yv_nodes.specs.Link.{AreLinked, Link, link_in};
+ghost use Rattle.yv_nodes.specs.Numbers.{rows_from};
+ghost use Rattle.yv_nodes.specs.Tree.{Forest};
+ghost use Rattle.yv_nodes.specs.Typed.{typed_from};
+ghost use Rattle.yv_leafrefs.specs.Schema.{AreAlike, Schema};
+ghost use Rattle.yv_leafref_links.specs.Links.{AreLinks};
+
+/// The links of a schema lead in its trees from where they climb to, to their targets.
+pub fn links_lead()
+    ensures { (s : Schema) (ts : Forest) (links : List (Option Link)) → s.rows ≡ rows_from 0 ts → AreLinks s links
+        → AreLinked (link_in links) ts }
+{}
+
+/// They do so whatever types the values of nodes have.
+pub fn types_leave_links()
+    ensures { (types : ℕ → List Plain) (links : ℕ → Option Link) (ts : Forest) → AreLinked links ts
+        → AreLinked links (typed_from types 0 ts) }
+{}
+
+/// Leafrefs have the same links, by what a schema says.
+pub fn a_schema_has_one_list_of_links()
+    ensures { (s t : Schema) (a b : List (Option Link)) → AreAlike s t → AreLinks s a → AreLinks t b → a ≡ b }
+{}
+
+/// The links of a schema are those of one with the same rows that says the same.
+pub fn alike_schemas_have_the_same_links()
+    ensures { (s t : Schema) (links : List (Option Link)) → AreAlike s t → AreLinks s links → AreLinks t links }
+{}

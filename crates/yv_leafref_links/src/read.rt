@@ -1,0 +1,73 @@
+//! The links of a schema's leafrefs.
+ghost use Rattle.std.specs.Prelude.{◌≡◌, ◌↔◌, Some, length, IfOk};
+ghost use Rattle.std.specs.Option.{option_map};
+ghost use Rattle.yv_nodes.specs.Link as spec;
+ghost use Rattle.yv_leafrefs.specs.Above.{AreBehind};
+ghost use Rattle.yv_leafrefs.specs.Known.{AreLeafrefs};
+ghost use Rattle.yv_leafrefs.specs.Schema.{Schema, said_by};
+ghost use Rattle.yv_leafref_links.specs.Links.{AreLinks, IsLinkOf};
+ghost use Rattle.yv_leafref_links.specs.InnerWays.{AreAbove};
+
+use crate::above::inner_above;
+use crate::link::link_to;
+use std::alloc::{AllocError, Global};
+use yv_leafrefs::{Leafref, Leafrefs};
+use yv_nodes::{Link, Links, NodeId, Nodes};
+
+// What a node says as a leafref.
+fn said<'a>(of: &[Option<usize>], leafrefs: &'a [Leafref], node: NodeId) -> Option<&'a Leafref>
+    ensures { option_map (λ leafref. leafref.now) result ≡ said_by of.now leafrefs.now node.0 }
+{
+    let says = of.get(node.number() as usize).copied().unwrap_or(None)?;
+    leafrefs.get(says)
+}
+
+// The link of a node, if it has one.
+fn link_of(
+    alloc: Global,
+    above: &[Option<u32>],
+    of: &[Option<usize>],
+    leafrefs: &[Leafref],
+    resolved: &Leafrefs,
+    node: NodeId,
+) -> Result<Option<Link>, AllocError>
+    ensures { (s : Schema) → AreLeafrefs s resolved.now → s.says node.0 ≡ said_by of.now leafrefs.now node.0
+        → AreAbove s.rows (length s.rows) above.now
+        → IfOk result (λ found. (link : spec.Link) → (found ≡ Some link) ↔ IsLinkOf s node.0 link) }
+{
+    let Some(target) = resolved.target(node) else {
+        return Ok(None);
+    };
+    match said(of, leafrefs, node) {
+        None => Ok(None),
+        Some(leafref) => {
+            let link = link_to(alloc, above, leafref, target)?;
+            Ok(link)
+        }
+    }
+}
+
+/// The links of the leafrefs among these nodes that require an instance, `of` telling of each node which of the leafrefs it is, if it is
+/// one, and `resolved` what they refer to (RFC 7950, sections 9.9.2 and 9.9.3). It takes time and memory linear in the nodes and in the
+/// steps of the links, of which none has more than nodes stand below one another, and time n log n in the links. Err for want of memory
+/// alone.
+pub fn links(
+    alloc: Global,
+    nodes: &Nodes,
+    of: &[Option<usize>],
+    leafrefs: &[Leafref],
+    resolved: &Leafrefs,
+) -> Result<Links, AllocError>
+    requires behind { AreBehind nodes.now.rows }
+    requires resolved { AreLeafrefs (record { rows = nodes.now.rows; says = said_by of.now leafrefs.now }) resolved.now }
+    ensures { IfOk result (AreLinks (record { rows = nodes.now.rows; says = said_by of.now leafrefs.now })) }
+{
+    let above = inner_above(alloc, nodes.all())?;
+    let mut links = Vec::new(alloc);
+    for number in 0..nodes.len() {
+        let link = link_of(alloc, &above, of, leafrefs, resolved, NodeId(number))?;
+        links.push(link)?;
+    }
+    let made = Links::new(alloc, links)?;
+    Ok(made)
+}

@@ -1,0 +1,109 @@
+//! Where the paths of leafrefs lead.
+ghost use Rattle.std.specs.Prelude.{◌≡◌, ◌||◌, ℕ, IfOk, OnOk};
+ghost use Rattle.std.specs.BTreeSet.{contains};
+ghost use Rattle.std.specs.Option.{option_map};
+ghost use Rattle.std.specs.Ordering.{nat_cmp};
+ghost use Rattle.yv_nodes.specs.Link.{is_target, leads_to, link_in};
+
+use crate::node::NodeId;
+use std::alloc::{AllocError, Global};
+use std::collections::BTreeSet;
+use std::marker::Model;
+
+/// The path of a leafref that requires an instance (RFC 7950, sections 9.9.2 and 9.9.3).
+#[derive(Drop)]
+pub struct Link {
+    /// How many `../` it begins with, each of which leaves one data node; None where it is absolute.
+    pub climbs: Option<u32>,
+    /// The data nodes on its way down, to the target.
+    pub steps: Vec<NodeId>,
+    /// The leaf or leaf-list to which it leads.
+    pub target: NodeId,
+}
+
+impl Model for Link {
+    ghost use Rattle.std.specs.Prelude.{map};
+    ghost use Rattle.yv_nodes.specs.Link as spec;
+
+    ghost Value = { spec.Link };
+
+    ghost view = { λ l. record { climbs = l.climbs; steps = map (λ n. n.0) l.steps.items; target = l.target.0 } };
+}
+
+/// The links of a schema's leafrefs, and which nodes are targets.
+#[derive(Drop)]
+pub struct Links {
+    links: Vec<Option<Link>>,
+    targets: BTreeSet<u32>,
+}
+
+impl Model for Links {
+    ghost use Rattle.std.specs.Prelude.{◌≡◌, ℕ, List, Option};
+    ghost use Rattle.std.specs.BTreeSet.{contains};
+    ghost use Rattle.std.specs.Ordering.{nat_cmp};
+    ghost use Rattle.yv_nodes.specs.Link as spec;
+
+    ghost Value = { List (Option spec.Link) };
+
+    ghost view = { λ l. l.links.items };
+
+    ghost invariant = { λ l. (n : ℕ) → contains nat_cmp l.targets n ≡ spec.is_target l.links.items n };
+}
+
+impl Links {
+    ghost use Rattle.std.specs.Prelude.{[]};
+
+    /// No links.
+    pub fn none(alloc: Global) -> Links
+        ensures { result ≡ [] }
+    {
+        Links {
+            links: Vec::new(alloc),
+            targets: BTreeSet::new(alloc),
+        }
+    }
+
+    /// The links of nodes, each at the number of its leafref, and None at other nodes. It takes time n log n.
+    pub fn new(alloc: Global, links: Vec<Option<Link>>) -> Result<Links, AllocError>
+        ensures { IfOk result (λ made. made ≡ links.items) }
+    {
+        let targets = targets_of(alloc, links.as_slice())?;
+        Ok(Links { links, targets })
+    }
+
+    /// The link of a leafref; None where the node has none.
+    pub fn link(&self, node: NodeId) -> Option<&Link>
+        ensures { option_map (λ link. link.now) result ≡ link_in self.now node.0 }
+    {
+        match self.links.get(node.0 as usize) {
+            Some(link) => link.as_ref(),
+            None => None,
+        }
+    }
+
+    /// Whether some link has the node as its target. It takes time log n.
+    pub fn is_target(&self, node: NodeId) -> bool
+        ensures { result ≡ is_target self.now node.0 }
+    {
+        self.targets.contains(&node.0)
+    }
+}
+
+fn targets_of(alloc: Global, links: &[Option<Link>]) -> Result<BTreeSet<u32>, AllocError>
+    ensures { IfOk result (λ targets. (n : ℕ) → contains nat_cmp targets n ≡ is_target links.now n) }
+{
+    let mut targets = BTreeSet::new(alloc);
+    for link in links {
+        add_target(link, &mut targets)?;
+    }
+    Ok(targets)
+}
+
+fn add_target(link: &Option<Link>, targets: &mut BTreeSet<u32>) -> Result<(), AllocError>
+    ensures { OnOk result ((n : ℕ) → contains nat_cmp targets.new n ≡ (leads_to n link.now || contains nat_cmp targets.old n)) }
+{
+    if let Some(link) = link {
+        targets.insert(link.target.0)?;
+    }
+    Ok(())
+}

@@ -1,0 +1,120 @@
+-- The leafrefs of a basis, and those that are read of its nodes.
+use Rattle.std.proofs.Common.{◌≡◌, ◌≢◌, ◌⊎◌, inl, inr, ℕ, ◌+◌, List, [], ◌∷◌, ◌++◌, length, map, refl, sym, ap, ◌∙◌, subst, arith, Option, Some, None}
+use Rattle.std.specs.List.{slice_get}
+use Rattle.std.specs.Option.{option_and_then, option_map}
+use Rattle.std.proofs.lemmas.List.{length-map, map-append}
+use Rattle.std.proofs.lemmas.Option.{slice_get-map}
+use Rattle.yv_statement.specs.Order.{IsLeast}
+use Rattle.yv_statement.specs.declared.refusal.Refusal.{Refusal}
+use Rattle.yv_rows.specs.Files.{Files}
+use Rattle.yv_expansion.specs.Tree as items
+use Rattle.yv_expansion.specs.Tree.{Item, Node}
+use Rattle.yv_expansion.specs.declared.item.Origin.{Origin}
+use Rattle.yv_expansion.specs.declared.item.Origin.TheVariants as origin
+use Rattle.yv_definitions.specs.Defined.{defined}
+use Rattle.yv_definitions.specs.Kinds.{Typing}
+use Rattle.yv_final_tree.specs.Final.{Final}
+use Rattle.yv_final_tree.specs.Kept.{origin_at}
+use Rattle.yv_nodes.specs.declared.node.NodeId.{NodeId}
+use Rattle.yv_nodes.specs.Numbers.{rows_below, rows_from}
+use Rattle.yv_nodes.specs.Rows.{Row, root}
+use Rattle.yv_nodes.specs.Tree.{count, Label}
+use Rattle.yv_nodes.specs.Link.{Link}
+use Rattle.yv_leafrefs.specs.Bad.{BadLeafrefs}
+use Rattle.yv_leafrefs.specs.Named.{AreNamed}
+use Rattle.yv_leafrefs.specs.Schema.{AreAlike, Referral, Schema, said_by}
+use Rattle.yv_leafref_links.specs.Links.{AreLinks}
+use Rattle.yv_referrals.specs.Said.{said}
+use Rattle.yv_schema.specs.InnerResolved.{origins_of, schema_by, statement_number}
+use Rattle.yv_schema.specs.Module.{Basis, label_at, labelled, leafrefs_of, nodes_in, said_of, stated_of}
+use Rattle.yv_schema.specs.InnerContext.{Tells}
+use Rattle.yv_schema.specs.declared.context.Context.{Context}
+use Rattle.yv_schema.proofs.Parenting.{count_rows, made_at}
+use Rattle.yv_schema.proofs.Rowing.{count_labelled}
+
+-- what follows from a part of what may be there
+then_mapped : {X Y Z : Type 0} (f : X → Y) (g : Y → Option Z) (o : Option X) → option_and_then g (option_map f o) ≡ option_and_then (λ x. g (f x)) o
+then_mapped f g None = refl
+then_mapped f g (Some x) = refl
+
+-- nodes of one number have one name
+same_name : (typing : Typing) (files : Files) (p q : Origin) → statement_number p ≡ statement_number q → (defined typing files p).name ≡ (defined typing files q).name
+same_name typing files (origin.Statement m) (origin.Statement n) same = let is : m ≡ n = omega (arith, same) in ap (λ k. (defined typing files (origin.Statement k)).name) is
+same_name typing files (origin.Statement m) (origin.Input n) same = absurd (omega (arith, same))
+same_name typing files (origin.Statement m) (origin.Output n) same = absurd (omega (arith, same))
+same_name typing files (origin.Input m) (origin.Statement n) same = absurd (omega (arith, same))
+same_name typing files (origin.Input m) (origin.Input n) same = refl
+same_name typing files (origin.Input m) (origin.Output n) same = absurd (omega (arith, same))
+same_name typing files (origin.Output m) (origin.Statement n) same = absurd (omega (arith, same))
+same_name typing files (origin.Output m) (origin.Input n) same = absurd (omega (arith, same))
+same_name typing files (origin.Output m) (origin.Output n) same = refl
+
+module _ (b : Basis) where
+  abbrev origin_of : Node → Origin
+  origin_of x = origin_at b.final.items x.origin
+
+  abbrev name_of : Node → List ℕ
+  name_of x = (defined b.typing b.files (origin_of x)).name
+
+  -- the names of the rows of a tree are those that the statements of its nodes say
+  row_names : (parent : NodeId) (place : Option ℕ) (first : ℕ) (above : List Label) (t : items.Nodes)
+      → map (λ (r : Row). r.label.defined.name) (rows_below parent first (labelled b above t)) ≡ map name_of (items.listed place first t)
+  row_names parent place first above items.none = refl
+  row_names parent place first above (items.item number below behind) =
+      let line : List Label = label_at b above number ∷ above in
+      let own : NodeId = record { 0 = first } in
+      let inner : List Row = rows_below own (first + 1) (labelled b line below) in
+      let second : ℕ = first + 1 + items.count below in
+      let at : first + 1 + count (labelled b line below) ≡ second = omega (arith, count_labelled b line below) in
+      ap (λ (ns : List (List ℕ)). (label_at b above number).defined.name ∷ ns)
+      (map-append (λ (r : Row). r.label.defined.name) inner (rows_below parent (first + 1 + count (labelled b line below)) (labelled b above behind))
+      ∙ ap (λ (n : ℕ). map (λ (r : Row). r.label.defined.name) inner ++ map (λ (r : Row). r.label.defined.name) (rows_below parent n (labelled b above behind))) at
+      ∙ ap (λ (ns : List (List ℕ)). ns ++ map (λ (r : Row). r.label.defined.name) (rows_below parent second (labelled b above behind))) (row_names own (Some first) (first + 1) line below)
+      ∙ ap (λ (ns : List (List ℕ)). map name_of (items.listed (Some first) (first + 1) below) ++ ns) (row_names parent place second above behind)
+      ∙ sym (map-append name_of (items.listed (Some first) (first + 1) below) (items.listed place second behind)))
+
+  -- a row has the name of its node
+  row_name : (rows : List Row) (n : ℕ) (r : Row) (x : Node) → rows ≡ rows_from 0 (stated_of b) → slice_get rows n ≡ Some r → slice_get (nodes_in b) n ≡ Some x → r.label.defined.name ≡ name_of x
+  row_name rows n r x are at there =
+      let of_row : slice_get (map (λ (r : Row). r.label.defined.name) rows) n ≡ Some r.label.defined.name =
+      slice_get-map (λ (r : Row). r.label.defined.name) rows n ∙ ap (option_map (λ (r : Row). r.label.defined.name)) at in
+      let of_node : slice_get (map (λ (r : Row). r.label.defined.name) rows) n ≡ Some (name_of x) =
+      ap (λ (rs : List Row). slice_get (map (λ (r : Row). r.label.defined.name) rs) n) are ∙ ap (λ (ns : List (List ℕ)). slice_get ns n) (row_names root None 0 [] b.nodes)
+      ∙ slice_get-map name_of (nodes_in b) n ∙ ap (option_map name_of) there in
+      let same : Some r.label.defined.name ≡ Some (name_of x) = sym of_row ∙ of_node in
+      cc
+
+  -- nodes that one statement defines have one name
+  pub are_named : (rows : List Row) (statements : List ℕ) → rows ≡ rows_from 0 (stated_of b) → statements ≡ map statement_number (origins_of b) → AreNamed rows statements
+  are_named rows statements are numbers = record {
+    each =
+        ap length numbers ∙ length-map (origins_of b) statement_number ∙ length-map (nodes_in b) origin_of ∙ sym (count_rows b rows are);
+    same = λ n m k r q at_n at_m row_n row_m.
+        let (p, p_at, p_is) = made_at statement_number (origins_of b) n k (ap (λ (ns : List ℕ). slice_get ns n) (sym numbers) ∙ at_n) in
+        let (o, o_at, o_is) = made_at statement_number (origins_of b) m k (ap (λ (ns : List ℕ). slice_get ns m) (sym numbers) ∙ at_m) in
+        let (x, x_at, x_is) = made_at origin_of (nodes_in b) n p p_at in
+        let (y, y_at, y_is) = made_at origin_of (nodes_in b) m o o_at in
+        row_name rows n r x are row_n x_at
+        ∙ same_name b.typing b.files (origin_of x) (origin_of y) (ap statement_number x_is ∙ p_is ∙ sym (ap statement_number y_is ∙ o_is))
+        ∙ sym (row_name rows m q y are row_m y_at);
+  }
+
+  -- what is read of the nodes' origins is what the nodes say
+  pub are_alike : (rows : List Row) (of : List (Option ℕ)) (leafrefs : List Referral) → rows ≡ rows_from 0 (stated_of b)
+      → ((n : ℕ) → said_by of leafrefs n ≡ option_and_then (said b.typing b.files) (slice_get (origins_of b) n)) → AreAlike (schema_by rows of leafrefs) (leafrefs_of b)
+  are_alike rows of leafrefs are told = record {
+    rows = are;
+    says = λ n. told n ∙ ap (option_and_then (said b.typing b.files)) (slice_get-map origin_of (nodes_in b) n) ∙ then_mapped origin_of (said b.typing b.files) (slice_get (nodes_in b) n);
+  }
+
+-- the origins of the nodes that are left, as a context tells them
+pub origins_told : (b : Basis) (c : Context) → Tells b c → map (λ (x : Node). origin_at c.tree.now.items x.origin) c.tree.now.left ≡ origins_of b
+origins_told b c tells =
+    ap (λ (is : List Item). map (λ (x : Node). origin_at is x.origin) c.tree.now.left) (tells.kept.items ∙ ap (λ (f : Final). f.items) tells.final)
+    ∙ ap (map (λ (x : Node). origin_at b.final.items x.origin)) (tells.kept.left ∙ ap (items.listed None 0) tells.nodes)
+
+-- links are those of the leafrefs where nothing is wrong with these, and else there are none
+pub links_are : (b : Basis) (s : Schema) (o : Option Refusal) (links : List (Option Link)) → IsLeast (BadLeafrefs (leafrefs_of b)) o → (AreLinks s links → AreLinks (leafrefs_of b) links)
+    → (o ≡ None → AreLinks s links) → (o ≢ None → links ≡ []) → (IsLeast (BadLeafrefs (leafrefs_of b)) None × AreLinks (leafrefs_of b) links) ⊎ (links ≡ [])
+links_are b s None links least same some none = inl (least, same (some refl))
+links_are b s (Some r) links least same some none = inr (none (λ e. let bad : Some r ≡ None = e in cc))

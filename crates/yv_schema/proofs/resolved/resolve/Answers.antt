@@ -1,0 +1,63 @@
+use Rattle.std.proofs.Common.{◌≡◌, ◌⊎◌, ℕ, List, Option, None, map, refl, sym, ap, ap₂, ◌∙◌, subst}
+use Rattle.std.specs.List.{slice_get}
+use Rattle.std.specs.Option.{option_and_then}
+use Rattle.yv_rows.specs.Files.{Files}
+use Rattle.yv_rows.specs.Lent.{lent_in}
+use Rattle.yv_expansion.specs.declared.item.Origin.{Origin}
+use Rattle.yv_definitions.specs.Kinds.{Typing}
+use Rattle.yv_definitions.specs.Known.{files_in, typing_in}
+use Rattle.yv_nodes.specs.Rows.{Row}
+use Rattle.yv_leafrefs.specs.Above.{AreBehind}
+use Rattle.yv_leafrefs.specs.Known.{AreLeafrefs}
+use Rattle.yv_leafrefs.specs.Schema.{AreAlike, Referral, Schema, said_by}
+use Rattle.yv_referrals.specs.Said.{said}
+use Rattle.yv_schema.specs.InnerResolved.{origins_of, schema_by, statement_number}
+use Rattle.yv_schema.specs.Module.{leafrefs_of, stated_of}
+use Rattle.yv_schema.proofs.Resolving.{are_alike, are_named, links_are, origins_told}
+use Rattle.yv_schema.proofs.Typing.{links_resolved}
+use Rattle.yv_schema.proofs.resolved.resolve.Goals as goal
+
+pub read-requires-clause-behind : goal.read-requires-clause-behind
+read-requires-clause-behind c =
+    subst (λ (rows : List Row). AreBehind rows) (sym c.requires.are) (c.rows_of_a_tree_are_behind.ensures (stated_of c.requires.basis))
+
+pub read-requires-clause-named : goal.read-requires-clause-named
+read-requires-clause-named c =
+    let b = c.requires.basis in
+    let origins : c.in_ok-origins.origins.items ≡ origins_of b = c.in_ok-origins.ensures ∙ origins_told b c.args.context.now c.requires.tells in
+    let numbers : c.in_ok-statements.statements.items ≡ map statement_number (origins_of b) =
+    c.in_ok-statements.ensures ∙ ap (map statement_number) (c.deref.ensures.value ∙ origins) in
+    rw (c.deref-3.ensures.value) (are_named b c.args.nodes.rows c.in_ok-statements.statements.items c.requires.are numbers)
+
+pub links_unless-requires-clause-behind : goal.links_unless-requires-clause-behind
+links_unless-requires-clause-behind c =
+    subst (λ (rows : List Row). AreBehind rows) (sym c.requires.are) (c.rows_of_a_tree_are_behind.ensures (stated_of c.requires.basis))
+
+pub returns-clause-answered : goal.returns-clause-answered
+returns-clause-answered c = λ b tells files are.
+    let rows = c.args.nodes.rows in
+    let of = c.in_ok-said.said.of.items in
+    let leafrefs = c.in_ok-said.said.leafrefs.items in
+    let s : Schema = schema_by rows of leafrefs in
+    let read = rw (c.deref-4.ensures.value, c.deref-5.ensures.value) at c.in_ok-leafrefs.ensures in
+    let origins : c.deref-2.result.now ≡ origins_of b = c.deref-2.ensures.value ∙ c.in_ok-origins.ensures ∙ origins_told b c.args.context.now tells in
+    let typing : typing_in c.definitions.result.now ≡ b.typing = ap typing_in c.definitions.ensures ∙ tells.typing in
+    let of_files : files_in c.definitions.result.now ≡ b.files = ap files_in c.definitions.ensures ∙ tells.files in
+    let told : (n : ℕ) → said_by of leafrefs n ≡ option_and_then (said b.typing b.files) (slice_get (origins_of b) n) =
+    λ n. c.in_ok-said.ensures.said n
+    ∙ ap₂ (λ (t : Typing) (fs : Files). option_and_then (said t fs) (slice_get c.deref-2.result.now n)) typing of_files
+    ∙ ap (λ (os : List Origin). option_and_then (said b.typing b.files) (slice_get os n)) origins in
+    let alike : AreAlike s (leafrefs_of b) = are_alike b rows of leafrefs are told in
+    let known : AreLeafrefs (leafrefs_of b) c.in_ok-leafrefs.leafrefs = c.alike_schemas_have_the_same_leafrefs.ensures s (leafrefs_of b) c.in_ok-leafrefs.leafrefs alike read in
+    let typed = c.in_ok-resolve.ensures.typed (leafrefs_of b) (stated_of b) known (sym are) refl in
+    let least = c.fault-fault.ensures (leafrefs_of b) known in
+    let links = c.in_ok-links.links in
+    let made = links_are b s c.fault-fault.result links least (c.alike_schemas_have_the_same_links.ensures s (leafrefs_of b) links alike) c.in_ok-links.ensures.some c.in_ok-links.ensures.none in
+    record {
+      tree = typed.0;
+      is = typed.1;
+      rows = typed.2;
+      fault = least;
+      linked = links_resolved c.links_lead.ensures c.types_leave_links.ensures (leafrefs_of b) (stated_of b) typed.0 links refl typed.1 made;
+      links = λ none. c.alike_schemas_have_the_same_links.ensures s (leafrefs_of b) links alike (c.in_ok-links.ensures.some none);
+    }

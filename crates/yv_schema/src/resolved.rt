@@ -1,0 +1,121 @@
+//! The leafrefs of a schema tree, resolved.
+ghost use Rattle.std.specs.Prelude.{◌≡◌, ◌≢◌, [], None, map, IfOk};
+ghost use Rattle.yv_rows.specs.Lent.{lent_in};
+ghost use Rattle.yv_final_tree.specs.Kept.{origin_at};
+ghost use Rattle.yv_nodes.specs.Numbers.{rows_from};
+ghost use Rattle.yv_leafrefs.specs.Above.{AreBehind};
+ghost use Rattle.yv_leafrefs.specs.Known.{AreLeafrefs};
+ghost use Rattle.yv_leafref_links.specs.Links.{AreLinks};
+ghost use Rattle.yv_schema.specs.Module.{Basis, stated_of};
+ghost use Rattle.yv_schema.specs.InnerContext.{Tells};
+ghost use Rattle.yv_schema.specs.InnerResolved.{AreStated, IsAnswered, schema_by, statement_number};
+
+use crate::context::Context;
+use std::alloc::{AllocError, Global};
+use yv_expansion::Origin;
+use yv_final_tree::FinalTree;
+use yv_leafref_links::laws::{alike_schemas_have_the_same_links, links_lead, types_leave_links};
+use yv_leafref_links::links;
+use yv_leafrefs::Leafrefs;
+use yv_leafrefs::laws::{alike_schemas_have_the_same_leafrefs, rows_of_a_tree_are_behind};
+use yv_nodes::{Links, Nodes};
+use yv_referrals::{Referrals, referrals};
+use yv_rows::Rows;
+use yv_statement::Refusal;
+
+/// Nodes whose leafrefs are resolved where nothing is wrong with these, where the paths of those lead that require an instance, and
+/// the least that is wrong.
+#[derive(Drop)]
+pub(crate) struct Resolved {
+    pub(crate) nodes: Nodes,
+    pub(crate) links: Links,
+    pub(crate) fault: Option<Refusal>,
+}
+
+// The origins of the nodes that are left, in order.
+fn origins(alloc: Global, tree: &FinalTree) -> Result<Vec<Origin>, AllocError>
+    ensures { IfOk result (λ origins. origins.items ≡ map (λ x. origin_at tree.now.items x.origin) tree.now.left) }
+{
+    let mut origins = Vec::new(alloc);
+    for node in tree.left() {
+        origins.push(tree.origin(node.origin))?;
+    }
+    Ok(origins)
+}
+
+// A number for the statement that defines a node: all inputs have one, and all outputs, since these have one name.
+fn statement_number(origin: Origin) -> Result<usize, AllocError>
+    ensures { IfOk result (λ number. number ≡ statement_number origin) }
+{
+    match origin {
+        Origin::Input(_) => Ok(0),
+        Origin::Output(_) => Ok(1),
+        Origin::Statement(number) => match number.checked_add(2) {
+            Some(number) => Ok(number),
+            None => Err(AllocError),
+        },
+    }
+}
+
+// Those of nodes of these origins.
+fn statement_numbers(alloc: Global, origins: &[Origin]) -> Result<Vec<usize>, AllocError>
+    ensures { IfOk result (λ numbers. numbers.items ≡ map statement_number origins.now) }
+{
+    let mut numbers = Vec::new(alloc);
+    for origin in origins {
+        numbers.push(statement_number(*origin)?)?;
+    }
+    Ok(numbers)
+}
+
+/// Resolves the leafrefs among the nodes of a tree as it is stated (RFC 7950, section 9.9): where something is wrong with one, the nodes
+/// stay as they are.
+pub(crate) fn resolve<'a>(
+    alloc: Global,
+    rows: &Rows<'a, '_>,
+    context: &Context<'_, 'a, '_>,
+    nodes: Nodes,
+) -> Result<Resolved, AllocError>
+    requires { AreStated (lent_in rows.now) context.now nodes.rows }
+    ensures answered { (b : Basis) → Tells b context.now → b.files ≡ lent_in rows.now → nodes.rows ≡ rows_from 0 (stated_of b)
+        → IfOk result (IsAnswered b) }
+    ensures limit { IfOk result (λ r. r.nodes.limit ≡ nodes.limit) }
+{
+    rows_of_a_tree_are_behind();
+    alike_schemas_have_the_same_leafrefs();
+    alike_schemas_have_the_same_links();
+    links_lead();
+    types_leave_links();
+    let mut nodes = nodes;
+    let origins = origins(alloc, context.tree)?;
+    let statements = statement_numbers(alloc, &origins)?;
+    let said = referrals(alloc, rows, context.definitions(), &origins)?;
+    let leafrefs = Leafrefs::read(alloc, &nodes, &statements, &said.of, &said.leafrefs)?;
+    let fault = leafrefs.fault();
+    let links = links_unless(alloc, fault, &nodes, &said, &leafrefs)?;
+    leafrefs.resolve(alloc, &mut nodes)?;
+    Ok(Resolved {
+        nodes,
+        links,
+        fault,
+    })
+}
+
+// Where the paths of leafrefs lead; no links where something is wrong with leafrefs.
+fn links_unless(
+    alloc: Global,
+    fault: Option<Refusal>,
+    nodes: &Nodes,
+    said: &Referrals,
+    leafrefs: &Leafrefs,
+) -> Result<Links, AllocError>
+    requires behind { AreBehind nodes.now.rows }
+    requires read { AreLeafrefs (schema_by nodes.now.rows said.now.of.items said.now.leafrefs.items) leafrefs.now }
+    ensures some { fault ≡ None → IfOk result (AreLinks (schema_by nodes.now.rows said.now.of.items said.now.leafrefs.items)) }
+    ensures none { fault ≢ None → IfOk result (λ links. links ≡ []) }
+{
+    match fault {
+        Some(_) => Ok(Links::none(alloc)),
+        None => links(alloc, nodes, &said.of, &said.leafrefs, leafrefs),
+    }
+}
