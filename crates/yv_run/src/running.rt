@@ -78,7 +78,7 @@ const DATA_BYTES: usize = 16_777_217;
 
 /// Compiles the files of a job, and writes the outcome: the refusal's line, or how many nodes the schema has, or the tree
 /// diagram of one of its modules, or, where the job is to check a document, what is wrong with what the reader gives, or that it
-/// is valid. Files with a `type leafref`, or a `default` of a leaf-list, are refused as unsupported so far. After `WriteFault` the
+/// is valid. A `default` of a leaf-list is refused as unsupported so far. After `WriteFault` the
 /// writer holds the front of that text; after `NoMemory`, `PatternBuild` and `ReadFault` nothing was written.
 pub fn run<R: Read, W: Write>(
     alloc: Global,
