@@ -4,7 +4,7 @@ ghost use Rattle.std.specs.Io.KnownBytes.{Appends};
 ghost use Rattle.std.specs.Option.{option_map};
 ghost use Rattle.yv_nodes.specs.Member.{behind};
 ghost use Rattle.yv_validate.specs.Line.{escaped, escaped_byte, hexadecimal, is_plain, item_text, line_text, path_text, place_text, places_text};
-ghost use Rattle.yv_validate.specs.Place.{called};
+ghost use Rattle.yv_references.specs.Place.{called};
 ghost use Rattle.yv_streams.specs.Stream.{has_failed, stream_inner};
 ghost use Rattle.yv_fault_lines.specs.Paged.{Adds, held};
 ghost use Rattle.yv_fault_lines.specs.Lines.{ended_line, fault_lines, faults_text};

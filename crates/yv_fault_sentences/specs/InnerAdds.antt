@@ -1,6 +1,6 @@
 -- Only private clauses cite this: sentences behind others.
 use Rattle.std.specs.Prelude.{◌++◌, List, ℕ}
-use Rattle.yv_validate.specs.Place.{Flaw}
+use Rattle.yv_validate.specs.Flaw.{Flaw}
 use Rattle.yv_fault_sentences.specs.Told.{AreSentences}
 
 -- sentences on these faults were put behind those on others

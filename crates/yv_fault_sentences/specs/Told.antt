@@ -1,7 +1,7 @@
 -- What a person is told of the faults of a document.
 use Rattle.std.specs.Prelude.{◌≡◌, ℕ, ◌-◌, ◌==◌, ◌||◌, List, [], ◌++◌, Bool, length, take, nat_lt, codes, decimal, if◌then◌else◌}
 use Rattle.std.specs.List.{AllZip, flat_map, list_all}
-use Rattle.yv_validate.specs.Place.{Flaw}
+use Rattle.yv_validate.specs.Flaw.{Flaw}
 use Rattle.yv_fault_sentences.specs.Line.{IsSentence, cleared_line, is_visible}
 
 abbrev pub joined : List (List ℕ) → List ℕ

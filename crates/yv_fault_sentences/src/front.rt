@@ -3,7 +3,7 @@ ghost use Rattle.std.specs.Prelude.{◌≡◌, ◌≤◌, ◌<◌, ◌++◌, len
 ghost use Rattle.std.specs.Option.{option_map};
 ghost use Rattle.yv_nodes.specs.Member.{behind};
 ghost use Rattle.yv_validate.specs.Line.{escaped, escaped_byte, hexadecimal, item_text, place_text, places_text};
-ghost use Rattle.yv_validate.specs.Place.{called};
+ghost use Rattle.yv_references.specs.Place.{called};
 ghost use Rattle.yv_fault_sentences.specs.Line.{Begins, number_text, shortened};
 
 use itoa::Buffer;

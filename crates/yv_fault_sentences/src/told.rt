@@ -5,10 +5,12 @@ use crate::repeated::{push_duplicate, push_keys, push_unique};
 use crate::spot::{Spot, items_of, node_at};
 use crate::types::push_type;
 use crate::unknown::push_unknown;
+use crate::words::push_name;
 use itoa::Buffer;
 use serde_json::Value;
 use std::alloc::{AllocError, Global};
 use yv_messages::push_quoted;
+use yv_nodes::NodeId;
 use yv_properties::NodeKind;
 use yv_tables::Schema;
 use yv_validate::{Fault, FaultKind, MemberName};
@@ -60,6 +62,7 @@ fn push_told(
         FaultKind::Min => push_few(text, schema, spot),
         FaultKind::Max => push_many(text, schema, spot),
         FaultKind::Choice => push_choice(alloc, text, schema, spot, name),
+        FaultKind::Reference => push_reference(text, schema, spot),
     }
 }
 
@@ -119,4 +122,27 @@ fn push_many(text: &mut String, schema: &Schema, spot: &Spot<'_>) -> Result<(), 
     }
     text.push_str(" may be there, and there are ")?;
     text.push_str(Buffer::new().format(items_of(spot.written).len()))
+}
+
+// Adds which node has no such value where the path of a leafref leads.
+fn push_reference(text: &mut String, schema: &Schema, spot: &Spot<'_>) -> Result<(), AllocError> {
+    text.push_str("no ")?;
+    push_target(text, schema, spot.node)?;
+    text.push_str(" that its path leads to has this value; write one that is there")
+}
+
+// Adds the name of the node that the path of a leafref leads to.
+fn push_target(
+    text: &mut String,
+    schema: &Schema,
+    leafref: Option<NodeId>,
+) -> Result<(), AllocError> {
+    let link = match leafref {
+        Some(leafref) => schema.reference(leafref),
+        None => None,
+    };
+    match link {
+        Some(link) => push_name(text, schema, link.target),
+        None => text.push_str("node"),
+    }
 }

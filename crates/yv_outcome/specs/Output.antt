@@ -10,7 +10,7 @@ use Rattle.yv_nodes.specs.Tree.{Forest, count as node_count}
 use Rattle.yv_nodes.specs.Rows.{Rows, whole}
 use Rattle.yv_tree.specs.Diagram.{diagram_of}
 use Rattle.yv_job.specs.Jobs.{Asked, Compiles, Draws, Checks, Task}
-use Rattle.yv_validate.specs.Place.{Flaw}
+use Rattle.yv_validate.specs.Flaw.{Flaw}
 use Rattle.yv_validate.specs.Faults.{faults}
 use Rattle.yv_fault_lines.specs.Lines.{ended_line, faults_text}
 use Rattle.yv_outcome.specs.Compiles.{Compiled, RefusedAt, Built, FilesCompile, GiveSchema}

@@ -16,8 +16,8 @@ use Rattle.yv_nodes.specs.Link.{AreLinked, AreLinkedBelow, climbed, Ground, IsLi
 use Rattle.yv_references.specs.Place.{Place, step_name, under}
 use Rattle.yv_references.specs.Reached.{is_among}
 use Rattle.yv_references.specs.References.{all_references, entries_references, found_from, item_references, kind_references, leaf_references, Level, listed_references, object_references, references, told_unless, top_level, value_references}
-use Rattle.yv_references.specs.InnerPositions.{entered, entries_entered, entries_kept, entry_entered, entry_kept, is_within, Kept, kept, kind_entered, kind_kept, tree_entered}
-use Rattle.yv_references.specs.InnerNotes.{all_positions, AreTargets, climbed_to, entries_notes, entries_positions, entry_notes, entry_positions, further_out, item_notes, judge, judged, kind_notes, kind_positions, leaf_notes, listed_notes, Noted, notes, object_positions, path_of, path_to, place_at, Position, position_at, positions, value_notes}
+use Rattle.yv_references.specs.Positions.{entered, entries_entered, entries_kept, entry_entered, entry_kept, is_within, Kept, kept, kind_entered, kind_kept, tree_entered}
+use Rattle.yv_references.specs.Notes.{all_positions, AreTargets, climbed_to, entries_notes, entries_positions, entry_notes, entry_positions, further_out, item_notes, judge, judged, kind_notes, kind_positions, leaf_notes, listed_notes, Noted, notes, object_positions, path_of, path_to, place_at, Position, position_at, positions, value_notes}
 use Rattle.yv_references.proofs.Paths.{reached}
 use Rattle.yv_references.proofs.Near.{Agree, agree_first, agree_rest, all_in, entries_near, entry_near, near, tree_near, within_in}
 use Rattle.yv_references.proofs.Ends.{entry_length, positions_length, Reads, reads_first, reads_rest, reads_self, tree_length}

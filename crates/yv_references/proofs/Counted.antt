@@ -8,8 +8,8 @@ use Rattle.yv_values.specs.Values.{Val}
 use Rattle.yv_nodes.specs.Tree.{count, Label, node, Forest, no_trees, tree}
 use Rattle.yv_references.specs.InUse.{value_of}
 use Rattle.yv_nodes.specs.Link.{Link}
-use Rattle.yv_references.specs.InnerPositions.{entered, entry_entered, tree_entered}
-use Rattle.yv_references.specs.InnerNotes.{asked, asked_once, entries_notes, entry_notes, item_notes, kind_notes, Noted, notes, value_notes}
+use Rattle.yv_references.specs.Positions.{entered, entry_entered, tree_entered}
+use Rattle.yv_references.specs.Notes.{asked, asked_once, entries_notes, entry_notes, item_notes, kind_notes, Noted, notes, value_notes}
 use Rattle.yv_references.specs.Lookups.{entries_lookups, item_lookups, kind_lookups, lookups, object_lookups, value_lookups}
 
 -- it counts notes

@@ -5,8 +5,8 @@ use Rattle.serde_json.specs.Find.{get_member}
 use Rattle.yv_properties.specs.declared.kind.NodeKind.{NodeKind}
 use Rattle.yv_properties.specs.declared.kind.NodeKind.TheVariants as kind
 use Rattle.yv_nodes.specs.Tree.{count, Label, node, Forest, no_trees, tree}
-use Rattle.yv_references.specs.InnerPositions.{container_entered, entered, entries_entered, entry_entered, kind_entered, list_entered, tree_entered}
-use Rattle.yv_references.specs.InnerNotes.{container_positions, entries_positions, entry_positions, kind_positions, list_positions, object_positions, Position, position_at, positions}
+use Rattle.yv_references.specs.Positions.{container_entered, entered, entries_entered, entry_entered, kind_entered, list_entered, tree_entered}
+use Rattle.yv_references.specs.Notes.{container_positions, entries_positions, entry_positions, kind_positions, list_positions, object_positions, Position, position_at, positions}
 
 -- these stand there from `next` on
 abbrev pub Reads : List Position → ℕ → List Position → Type 0

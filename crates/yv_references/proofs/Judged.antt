@@ -7,9 +7,9 @@ use Rattle.yv_values.specs.Count.{counted}
 use Rattle.yv_values.specs.Pairs.{IsWithin, Keeps}
 use Rattle.yv_values.specs.Values.{Val}
 use Rattle.yv_nodes.specs.Rows.{Rows}
-use Rattle.yv_references.specs.InnerFound.{Gains, index_of, Indexes, IsKept}
-use Rattle.yv_references.specs.InnerNotes.{asked, asked_once, climbed_to, judge, judged, Noted, path_of, Position, position_at}
-use Rattle.yv_references.specs.InnerPositions.{is_it, is_within, Kept}
+use Rattle.yv_references.specs.Findings.{Gains, index_of, Indexes, IsKept}
+use Rattle.yv_references.specs.Notes.{asked, asked_once, climbed_to, judge, judged, Noted, path_of, Position, position_at}
+use Rattle.yv_references.specs.Positions.{is_it, is_within, Kept}
 use Rattle.yv_nodes.specs.Link.{Link}
 use Rattle.yv_references.specs.Place.{Place}
 use Rattle.yv_references.specs.References.{paths_in, told_unless}

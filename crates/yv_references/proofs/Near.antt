@@ -14,7 +14,7 @@ use Rattle.yv_references.specs.declared.scope.Scope.TheVariants.{Always}
 use Rattle.yv_references.specs.InUse.{case_scope, leaf_value}
 use Rattle.yv_references.specs.Same.{same_value}
 use Rattle.yv_references.specs.Reached.{is_among, listed_values, some_value}
-use Rattle.yv_references.specs.InnerPositions.{container_entered, container_kept, entered, entries_entered, entries_kept, entry_entered, entry_kept, is_it, is_within, Kept, kept, kept_at, kept_if, kind_entered, kind_kept, list_entered, list_kept, tree_entered, values_of}
+use Rattle.yv_references.specs.Positions.{container_entered, container_kept, entered, entries_entered, entries_kept, entry_entered, entry_kept, is_it, is_within, Kept, kept, kept_at, kept_if, kind_entered, kind_kept, list_entered, list_kept, tree_entered, values_of}
 
 -- at the object itself, or at one below it
 abbrev pub IsNear : ℕ → ℕ → ℕ → ℕ → Type 0

@@ -12,7 +12,7 @@ use Rattle.yv_references.specs.declared.scope.Scope.{Scope}
 use Rattle.yv_references.specs.declared.scope.Scope.TheVariants.{Always}
 use Rattle.yv_references.specs.InUse.{case_scope, leaf_value}
 use Rattle.yv_references.specs.Reached.{container_values, entry_values, entries_values, handed_on, kind_values, list_values, listed_values, some_value, stepped, values}
-use Rattle.yv_references.specs.InnerPositions.{container_kept, entry_entered, entry_kept, entries_kept, Kept, kept, kept_at, kept_if, kind_kept, list_kept, tree_entered, values_of}
+use Rattle.yv_references.specs.Positions.{container_kept, entry_entered, entry_kept, entries_kept, Kept, kept, kept_at, kept_if, kind_kept, list_kept, tree_entered, values_of}
 use Rattle.yv_nodes.specs.Link.{KindLeads, Leads}
 
 -- ---- numbers outside of so many from the first on

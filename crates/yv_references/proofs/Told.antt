@@ -5,9 +5,9 @@ use Rattle.yv_values.specs.Count.{counted}
 use Rattle.yv_nodes.specs.Numbers.{rows_from}
 use Rattle.yv_nodes.specs.Rows.{Rows, whole}
 use Rattle.yv_references.specs.declared.scope.Scope.TheVariants.{Always}
-use Rattle.yv_references.specs.InnerFound.{Findings, HasMet}
-use Rattle.yv_references.specs.InnerNotes.{all_positions, asked, judged, Noted, Position}
-use Rattle.yv_references.specs.InnerPositions.{Kept, kept}
+use Rattle.yv_references.specs.Findings.{Findings, HasMet}
+use Rattle.yv_references.specs.Notes.{all_positions, asked, judged, Noted, Position}
+use Rattle.yv_references.specs.Positions.{Kept, kept}
 use Rattle.yv_nodes.specs.Link.{AreLinked, is_target, Link, link_in}
 use Rattle.yv_references.specs.Lookups.{all_lookups}
 use Rattle.yv_references.specs.References.{all_references}

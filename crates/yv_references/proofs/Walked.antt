@@ -9,9 +9,9 @@ use Rattle.yv_values.specs.Values.{Val}
 use Rattle.yv_nodes.specs.Rows.{Rows}
 use Rattle.yv_nodes.specs.Tree.{count, Label, node, Forest, no_trees, tree}
 use Rattle.yv_references.specs.declared.scope.Scope.TheVariants.{Always}
-use Rattle.yv_references.specs.InnerFound.{ended, Findings, Gains, Indexes, IsKept, Meets, opened, with_last}
-use Rattle.yv_references.specs.InnerNotes.{kind_notes, Noted, notes, object_positions, Position, position_at, positions}
-use Rattle.yv_references.specs.InnerPositions.{entered, Kept, kept, tree_entered}
+use Rattle.yv_references.specs.Findings.{ended, Findings, Gains, Indexes, IsKept, Meets, opened, with_last}
+use Rattle.yv_references.specs.Notes.{kind_notes, Noted, notes, object_positions, Position, position_at, positions}
+use Rattle.yv_references.specs.Positions.{entered, Kept, kept, tree_entered}
 use Rattle.yv_nodes.specs.Link.{Link}
 use Rattle.yv_references.proofs.Ends.{from_head, join_length, move, positions_length}
 

@@ -4,6 +4,6 @@ pub mod InUse
 pub mod Reached
 pub mod References
 pub mod Lookups
-pub mod InnerPositions
-pub mod InnerNotes
-pub mod InnerFound
+pub mod Positions
+pub mod Notes
+pub mod Findings

@@ -3,9 +3,9 @@ ghost use Rattle.std.specs.Prelude.{◌≡◌, ◌+◌, [], ◌∷◌, ◌++◌,
 ghost use Rattle.serde_json.specs.Data.{Members, object};
 ghost use Rattle.yv_nodes.specs.Rows.{whole};
 ghost use Rattle.yv_values.specs.Count.{counted};
-ghost use Rattle.yv_references.specs.InnerFound.{Gains, HasMet};
-ghost use Rattle.yv_references.specs.InnerNotes.{asked, asked_once, climbed_to, further_out, judge, judged, path_to, place_at, position_at};
-ghost use Rattle.yv_references.specs.InnerPositions.{Kept};
+ghost use Rattle.yv_references.specs.Findings.{Gains, HasMet};
+ghost use Rattle.yv_references.specs.Notes.{asked, asked_once, climbed_to, further_out, judge, judged, path_to, place_at, position_at};
+ghost use Rattle.yv_references.specs.Positions.{Kept};
 ghost use Rattle.yv_nodes.specs.Link.{AreLinked, link_in};
 ghost use Rattle.yv_references.specs.Lookups.{all_lookups};
 ghost use Rattle.yv_references.specs.References.{all_references, paths_in};

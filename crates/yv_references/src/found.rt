@@ -3,9 +3,9 @@ ghost use Rattle.std.specs.Prelude.{◌≡◌, ◌<◌, [], ◌∷◌, ◌++◌,
 ghost use Rattle.yv_nodes.specs.Rows.{row_at};
 ghost use Rattle.yv_references.specs.InUse.{default_value};
 ghost use Rattle.yv_references.specs.Reached.{some_value};
-ghost use Rattle.yv_references.specs.InnerFound.{ended, Meets, none_found, opened};
-ghost use Rattle.yv_references.specs.InnerNotes.{value_notes};
-ghost use Rattle.yv_references.specs.InnerPositions.{kept_if};
+ghost use Rattle.yv_references.specs.Findings.{ended, Meets, none_found, opened};
+ghost use Rattle.yv_references.specs.Notes.{value_notes};
+ghost use Rattle.yv_references.specs.Positions.{kept_if};
 ghost use Rattle.yv_nodes.specs.Link.{is_target, link_in};
 
 use crate::targets::Targets;
@@ -29,7 +29,7 @@ pub(crate) struct Position {
 }
 
 impl Model for Position {
-    ghost use Rattle.yv_references.specs.InnerNotes as notes;
+    ghost use Rattle.yv_references.specs.Notes as notes;
 
     ghost Value = { notes.Position };
 
@@ -49,7 +49,7 @@ pub(crate) struct Note {
 }
 
 impl Model for Note {
-    ghost use Rattle.yv_references.specs.InnerNotes.{Noted};
+    ghost use Rattle.yv_references.specs.Notes.{Noted};
 
     ghost Value = { Noted };
 
@@ -67,7 +67,7 @@ pub struct Found {
 }
 
 impl Model for Found {
-    ghost use Rattle.yv_references.specs.InnerFound.{Findings};
+    ghost use Rattle.yv_references.specs.Findings.{Findings};
 
     ghost Value = { Findings };
 

@@ -3,7 +3,7 @@ ghost use Rattle.std.specs.Prelude.{◌≡◌, ◌+◌, [], ◌∷◌, OnOk, IsT
 ghost use Rattle.yv_values.specs.Count.{counted};
 ghost use Rattle.yv_values.specs.Pairs.{IsWithin};
 ghost use Rattle.yv_values.specs.Values.{Val};
-ghost use Rattle.yv_references.specs.InnerFound.{Gains, index_of};
+ghost use Rattle.yv_references.specs.Findings.{Gains, index_of};
 
 use std::alloc::{AllocError, Global};
 use std::collections::BTreeMap;
@@ -19,7 +19,7 @@ pub(crate) struct Targets {
 }
 
 impl Model for Targets {
-    ghost use Rattle.yv_references.specs.InnerFound.{Indexes};
+    ghost use Rattle.yv_references.specs.Findings.{Indexes};
 
     ghost Value = { Indexes };
 

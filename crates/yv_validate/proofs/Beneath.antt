@@ -2,7 +2,7 @@
 use Rattle.std.proofs.Common.{◌≡◌, ℕ, suc, ◌+◌, ◌<◌, ◌==◌, List, [], ◌∷◌, ◌++◌, length, get_or, drop, drop-cons, add-one, All, Bool, false, cond, Option, None, refl, sym, ap, ◌∙◌, subst, arith}
 use Rattle.std.specs.List.{AllByRecursion}
 use Rattle.std.proofs.lemmas.Bool.Decides.{nat_tests}
-use Rattle.std.proofs.lemmas.List.Elements.{recursion_from_All}
+use Rattle.std.proofs.lemmas.List.Elements.{All-get_or, recursion_from_All}
 use Rattle.serde_json.specs.Data.{Data, Members}
 use Rattle.yv_properties.specs.Kinds.{is_data}
 use Rattle.yv_properties.specs.declared.kind.NodeKind.{NodeKind}
@@ -12,10 +12,13 @@ use Rattle.yv_nodes.specs.Numbers.{numbers_from}
 use Rattle.yv_nodes.specs.Rows.{AreTrees, Rows, below, children_of, forest, rank, tree_of}
 use Rattle.yv_nodes.specs.Tree.{count, Forest, Label, Tree, tree}
 use Rattle.yv_tables.specs.Sound.{IsChild, IsSound}
-use Rattle.yv_validate.specs.declared.scope.Scope.{Scope}
+use Rattle.yv_references.specs.declared.scope.Scope.{Scope}
 use Rattle.yv_validate.specs.Faults.{forest_faults, kind_faults}
+use Rattle.yv_references.specs.Positions.{tree_entered}
+use Rattle.yv_validate.specs.InnerMet.{Met, both, forest_met, inside_at, kind_met, node_met, node_met_from, nodes_met, nothing}
 use Rattle.yv_validate.specs.InnerWalk.{object_costs, object_parts, object_values, node_faults, node_faults_from, node_value, node_value_from, node_work, node_work_from, nodes_faults, nodes_value, nodes_work}
-use Rattle.yv_validate.specs.Place.{Place, Flaw}
+use Rattle.yv_references.specs.Place.{Place}
+use Rattle.yv_validate.specs.Flaw.{Flaw}
 use Rattle.yv_validate.specs.Values.{forest_value, kind_value}
 use Rattle.yv_validate.specs.Work.{forest_work, kind_work}
 use Rattle.yv_values.specs.Reads.{or_else}
@@ -93,6 +96,21 @@ values_from s leaf scope_of ms at (c ∷ cs) sound within trees are =
     ∙ ap (λ n. forest_value s leaf scope_of n (tree (tree_of s c) (forest s cs)) ms) (sym h.first)
     ∙ ap (λ ts. forest_value s leaf scope_of at ts ms) (sym h.here)
 
+met_from : (s : Rows) (scope_of : ℕ → Tree → Scope) (here next : ℕ) (ms : Members) (at : ℕ) (cs : List NodeId) → IsSound s
+    → AllByRecursion (λ (c : NodeId). c.0 < length s.nodes) cs
+    → AreTrees s cs → cs ≡ numbers_from at (forest s cs)
+    → nodes_met s scope_of here next cs ms ≡ forest_met s scope_of here next at (forest s cs) ms
+met_from s scope_of here next ms at [] sound within trees are = refl
+met_from s scope_of here next ms at (c ∷ cs) sound within trees are =
+    let h : Splits s at c cs = split_of s at c cs trees are in
+    let scope : Scope = scope_of c.0 (tree_of s c) in
+    let later : ℕ = next + tree_entered (tree_of s c) ms in
+    ap (λ r. both (node_met_from s scope here next c r ms) (nodes_met s scope_of here later cs ms)) (rank_is s c sound within.0)
+    ∙ ap (λ (m : Met). both (node_met_from s scope here next c (c.0 + 1) ms) m)
+    (met_from s scope_of here later ms (c.0 + 1 + count (below s c)) cs sound within.1 (trees_behind s c cs trees) h.later)
+    ∙ ap (λ n. forest_met s scope_of here next n (tree (tree_of s c) (forest s cs)) ms) (sym h.first)
+    ∙ ap (λ ts. forest_met s scope_of here next at ts ms) (sym h.here)
+
 children_within : (s : Rows) (p : NodeId) (cs : List NodeId) → AllByRecursion (IsChild s p) cs → AllByRecursion (λ (c : NodeId). c.0 < length s.nodes) cs
 children_within s p [] h = h
 children_within s p (c ∷ cs) h = (h.0.within, children_within s p cs h.1)
@@ -116,6 +134,13 @@ pub values_all : (s : Rows) (p : NodeId) (leaf : ℕ) (scope_of : ℕ → Tree �
     → nodes_value s scope_of (children_of s p) ms leaf ≡ forest_value s leaf scope_of (rank p) (below s p) ms
 values_all s p leaf scope_of ms sound each trees are = values_from s leaf scope_of ms (rank p) (children_of s p) sound (within_of s p each) trees are
 
+pub met_all : (s : Rows) (p : NodeId) (scope_of : ℕ → Tree → Scope) (here next : ℕ) (ms : Members) → IsSound s
+    → All (IsChild s p) (children_of s p)
+    → AreTrees s (children_of s p) → children_of s p ≡ numbers_from (rank p) (below s p)
+    → nodes_met s scope_of here next (children_of s p) ms ≡ forest_met s scope_of here next (rank p) (below s p) ms
+met_all s p scope_of here next ms sound each trees are = met_from s scope_of here next ms (rank p) (children_of s p) sound
+    (within_of s p each) trees are
+
 -- the first of the nodes that are left
 split_at : (cs : List NodeId) (i : ℕ) (d : NodeId) → i < length cs → drop i cs ≡ get_or cs i d ∷ drop (i + 1) cs
 split_at cs i d lt = rw (add-one) (drop-cons cs i d lt)
@@ -133,6 +158,13 @@ pub values_drop : (s : Rows) (scope_of : ℕ → Tree → Scope) (cs : List Node
     → nodes_value s scope_of (drop i cs) ms leaf
     ≡ or_else (nodes_value s scope_of (drop (i + 1) cs) ms leaf) (node_value s (scope_of (get_or cs i d).0 (tree_of s (get_or cs i d))) (get_or cs i d) ms leaf)
 values_drop s scope_of cs i d ms leaf lt = ap (λ ns. nodes_value s scope_of ns ms leaf) (split_at cs i d lt)
+
+pub met_drop : (s : Rows) (scope_of : ℕ → Tree → Scope) (here next : ℕ) (cs : List NodeId) (i : ℕ) (d : NodeId) (ms : Members)
+    → i < length cs
+    → nodes_met s scope_of here next (drop i cs) ms
+    ≡ both (node_met s (scope_of (get_or cs i d).0 (tree_of s (get_or cs i d))) here next (get_or cs i d) ms)
+    (nodes_met s scope_of here (next + tree_entered (tree_of s (get_or cs i d)) ms) (drop (i + 1) cs) ms)
+met_drop s scope_of here next cs i d ms lt = ap (λ ns. nodes_met s scope_of here next ns ms) (split_at cs i d lt)
 
 -- ---- the children of a node, as they are read
 
@@ -162,13 +194,26 @@ pub values_start : (s : Rows) (p : NodeId) (cs : List NodeId) (leaf : ℕ) (scop
 values_start s p cs leaf scope_of ms k =
     ap (λ xs. nodes_value s scope_of xs ms leaf) k.same ∙ values_all s p leaf scope_of ms k.sound (each_child s p cs k) (all_trees s p cs k) k.numbers
 
+pub met_start : (s : Rows) (p : NodeId) (cs : List NodeId) (scope_of : ℕ → Tree → Scope) (here next : ℕ) (ms : Members) → AreKids s p cs
+    → nodes_met s scope_of here next cs ms ≡ forest_met s scope_of here next (rank p) (below s p) ms
+met_start s p cs scope_of here next ms k =
+    ap (λ xs. nodes_met s scope_of here next xs ms) k.same ∙ met_all s p scope_of here next ms k.sound (each_child s p cs k)
+    (all_trees s p cs k) k.numbers
+
+-- the first number below a child
+pub child_rank : (s : Rows) (p : NodeId) (cs : List NodeId) (i : ℕ) (d : NodeId) → All (IsChild s p) cs → IsSound s → i < length cs
+    → rank (get_or cs i d) ≡ (get_or cs i d).0 + 1
+child_rank s p cs i d each sound lt = rank_is s (get_or cs i d) sound (All-get_or (IsChild s p) cs i d lt each).within
+
 -- ---- nodes of other kinds than those of data trees
 
--- of these nothing is told, and they take no steps and have no value
+-- of these nothing is told, and they take no steps, have no value and meet nothing
 pub record TellsNothing (k : NodeKind) : Type 0 where
   pub faults : (n : NodeId) (l : Label) (scope : Scope) (path : List Place) (found : Option Data) (s : Rows) → kind_faults k n l scope path found (object_parts s n) ≡ []
   pub value : (is_it : Bool) (l : Label) (scope : Scope) (found : Option Data) (s : Rows) (leaf : ℕ) (n : NodeId) → kind_value k is_it l scope found (object_values s leaf n) ≡ None
   pub work : (l : Label) (found : Option Data) (s : Rows) (n : NodeId) → kind_work k l found (object_costs s n) ≡ 0
+  pub met : (s : Rows) (n : NodeId) (l : Label) (here next : ℕ) (scope : Scope) (found : Option Data)
+      → kind_met k s n l here next scope found (inside_at s n) nothing nothing ≡ nothing
 
 quiet : (k : NodeKind) → is_data k ≡ false → TellsNothing k
 quiet kind.Container e = cc
@@ -177,7 +222,7 @@ quiet kind.LeafList e = cc
 quiet kind.List e = cc
 quiet kind.Anydata e = cc
 quiet kind.Anyxml e = cc
-quiet _ e = record { faults = λ n l scope path found s. refl; value = λ is_it l scope found s leaf n. refl; work = λ l found s n. refl }
+quiet _ e = record { faults = λ n l scope path found s. refl; value = λ is_it l scope found s leaf n. refl; work = λ l found s n. refl; met = λ s n l here next scope found. refl }
 
 -- a kind that is none of these
 pub others_quiet : (k : NodeKind) → (k ≡ kind.Container → ⊥) → (k ≡ kind.Leaf → ⊥) → (k ≡ kind.LeafList → ⊥) → (k ≡ kind.List → ⊥) → (k ≡ kind.Anydata → ⊥) → (k ≡ kind.Anyxml → ⊥) → TellsNothing k

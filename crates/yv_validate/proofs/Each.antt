@@ -7,7 +7,7 @@ use Rattle.yv_values.specs.Pairs.{Pair}
 use Rattle.yv_values.specs.Values.{Val}
 use Rattle.yv_validate.specs.Faults.{unique_faults, unique_if}
 use Rattle.yv_validate.specs.InnerMemory.{Remembers, RemembersEach}
-use Rattle.yv_validate.specs.Place.{Place}
+use Rattle.yv_references.specs.Place.{Place}
 use Rattle.yv_validate.specs.Repeats.{repeats}
 use Rattle.yv_validate.specs.Work.{tuple_work, uniques_work}
 use Rattle.yv_validate.proofs.Remembered.{nothing_yet}

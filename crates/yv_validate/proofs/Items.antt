@@ -8,12 +8,13 @@ use Rattle.yv_nodes.specs.declared.node.NodeId.{NodeId}
 use Rattle.yv_nodes.specs.Tree.{Label}
 use Rattle.yv_values.specs.Count.{counted}
 use Rattle.yv_values.specs.Values.{Val}
-use Rattle.yv_validate.specs.declared.scope.Scope.{Scope}
-use Rattle.yv_validate.specs.declared.scope.Scope.TheVariants.{Always}
+use Rattle.yv_references.specs.declared.scope.Scope.{Scope}
+use Rattle.yv_references.specs.declared.scope.Scope.TheVariants.{Always}
 use Rattle.yv_validate.specs.declared.fault.FaultKind.TheVariants.{Duplicate}
-use Rattle.yv_validate.specs.Faults.{Leafs, each_after, end_faults, entry_faults, flaw_if, item_place, list_faults, step_name, unique_faults}
+use Rattle.yv_validate.specs.Faults.{Leafs, each_after, end_faults, entry_faults, flaw_if, item_place, list_faults, unique_faults}
+use Rattle.yv_references.specs.Place.{Place, step_name}
 use Rattle.yv_validate.specs.Repeats.{repeats}
-use Rattle.yv_validate.specs.Place.{Place, Flaw}
+use Rattle.yv_validate.specs.Flaw.{Flaw}
 use Rattle.yv_validate.specs.Work.{entries_work}
 use Rattle.yv_validate.proofs.Steps.{steps_on, told_both}
 

@@ -8,4 +8,5 @@ pub mod Noted
 pub mod Meeting
 pub mod Reading
 pub mod Each
+pub mod Found
 pub mod Bound

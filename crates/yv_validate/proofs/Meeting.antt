@@ -12,10 +12,10 @@ use Rattle.yv_walk.specs.Context.{IsContext, parent_of}
 use Rattle.yv_walk.specs.Standing.{kind_standing, passes, standing, stands_in, tree_standing}
 use Rattle.yv_walk.specs.declared.context.Context.{Context}
 use Rattle.yv_walk.specs.declared.standing.Standing.{Standing}
-use Rattle.yv_validate.specs.Enforced.{is_number}
+use Rattle.yv_references.specs.InUse.{is_number}
 use Rattle.yv_validate.specs.InnerWalk.{Meets, MeetsBelow}
-use Rattle.yv_validate.specs.declared.scope.Scope.{Scope}
-use Rattle.yv_validate.specs.declared.scope.Scope.TheVariants.{InCase, InDefault}
+use Rattle.yv_references.specs.declared.scope.Scope.{Scope}
+use Rattle.yv_references.specs.declared.scope.Scope.TheVariants.{InCase, InDefault}
 use Rattle.yv_validate.proofs.Beneath.{rank_is}
 
 -- a child

@@ -1,23 +1,17 @@
 -- What is read of a leaf, or of an item of a leaf-list.
-use Rattle.std.proofs.Common.{◌≡◌, ℕ, List, [], ◌∷◌, ◌++◌, Bool, true, false, cond, Result, Ok, Err, IfOk, Option, None, is_some, option_map, sym, ap, ◌∙◌}
+use Rattle.std.proofs.Common.{◌≡◌, List, [], ◌∷◌, ◌++◌, Bool, true, false, cond, Result, Ok, Err, IfOk, Option, None, is_some, option_map, sym, ap, ◌∙◌}
 use Rattle.serde_json.specs.Data.{Data, Members, no_members}
 use Rattle.yv_nodes.specs.Rows.{Row}
 use Rattle.yv_nodes.specs.Tree.{Label}
-use Rattle.yv_values.specs.Reads.{first_read}
-use Rattle.yv_values.specs.Types.{Plain}
 use Rattle.yv_values.specs.Values.{Val}
 use Rattle.yv_validate.specs.Faults.{flaw, flaw_if, item_faults, item_tuple}
-use Rattle.yv_validate.specs.Place.{Place, Flaw}
+use Rattle.yv_references.specs.Place.{Place}
+use Rattle.yv_validate.specs.Flaw.{Flaw}
 use Rattle.yv_validate.specs.Repeats.{repeats}
-use Rattle.yv_validate.specs.Values.{container_value, value_of}
-use Rattle.yv_validate.specs.declared.scope.Scope.{Scope}
+use Rattle.yv_validate.specs.Values.{container_value}
+use Rattle.yv_references.specs.InUse.{value_of}
+use Rattle.yv_references.specs.declared.scope.Scope.{Scope}
 use Rattle.yv_validate.specs.declared.fault.FaultKind.TheVariants.{Duplicate, Value}
-
--- by the types and the module of a row
-pub read_is : (r q : Row) (types : List Plain) (home : List ℕ) (d : Data) → r ≡ q → types ≡ r.label.defined.types → home ≡ r.label.module_name
-    → first_read types home d ≡ value_of q.label d
-read_is r q types home d row are is =
-    ap (λ ts. first_read ts home d) are ∙ ap (λ m. first_read r.label.defined.types m d) is ∙ ap (λ (x : Row). value_of x.label d) row
 
 -- its value alone, as a tuple
 pub alone_is : (r q : Row) (d : Data) (is_config : Bool) (read : Option Val) (made : Option (List Val)) → r ≡ q → is_config ≡ r.label.is_config → read ≡ value_of q.label d

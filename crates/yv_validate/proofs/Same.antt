@@ -7,7 +7,7 @@ use Rattle.std.specs.Str.{bytes_eq}
 use Rattle.std.proofs.lemmas.Slice.Eq.{bytes_eq-Decides}
 use Rattle.std.proofs.lemmas.Bool.Decides.{Decides-eqb, Decides-int_eq}
 use Rattle.yv_values.specs.Values.{Val, whole, decimal, text, boolean, name, bits, binary, identity, empty}
-use Rattle.yv_validate.specs.Same.{same_value, same_values}
+use Rattle.yv_references.specs.Same.{same_value, same_values}
 
 along : {P Q : Type 0} (b : Bool) → Decides b P → (P → Q) → (Q → P) → Decides b Q
 along b d f g = (λ t. f (d.0 t), λ q. d.1 (g q))

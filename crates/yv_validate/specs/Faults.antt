@@ -1,9 +1,8 @@
 -- The faults of a document, by the tree of its schema (RFC 7950, sections 7.5 to 7.11 and 9; RFC 7951, sections 4 to 6).
-use Rattle.std.specs.Prelude.{ℕ, zero, suc, ◌+◌, min, nat_lt, ◌&&◌, List, [], ◌∷◌, ◌++◌, length, map, Bool, false, Option, Some, None, is_some, option_map, unwrap_or, codes, if◌then◌else◌}
+use Rattle.std.specs.Prelude.{ℕ, zero, suc, ◌+◌, min, nat_lt, ◌&&◌, List, [], ◌∷◌, ◌++◌, length, map, Bool, false, Option, Some, None, is_some, option_map, unwrap_or, if◌then◌else◌}
 use Rattle.serde_json.specs.Data.{Data, array, object, Items, no_items, item, Members, no_members}
 use Rattle.serde_json.specs.Events.{items_len}
 use Rattle.serde_json.specs.Find.{get_member}
-use Rattle.yv_properties.specs.Kinds.{is_choice}
 use Rattle.yv_properties.specs.declared.kind.NodeKind.{NodeKind}
 use Rattle.yv_properties.specs.declared.kind.NodeKind.TheVariants as kind
 use Rattle.yv_values.specs.Values.{Val}
@@ -14,24 +13,20 @@ use Rattle.yv_tables.specs.Opened.{opened_trees}
 use Rattle.yv_walk.specs.Context.{unknown_names}
 use Rattle.yv_walk.specs.Standing.{count_standing}
 use Rattle.yv_validate.specs.declared.fault.FaultKind.{FaultKind}
-use Rattle.yv_validate.specs.declared.fault.FaultKind.TheVariants.{Unknown, Shape, Value, MissingKey, Duplicate, Unique, Mandatory, Min, Max, Choice}
-use Rattle.yv_validate.specs.declared.scope.Scope.{Scope}
-use Rattle.yv_validate.specs.declared.scope.Scope.TheVariants.{Always}
-use Rattle.yv_validate.specs.Enforced.{case_scope, enforces, enforces_beside}
-use Rattle.yv_validate.specs.Place.{Place, Flaw}
+use Rattle.yv_validate.specs.declared.fault.FaultKind.TheVariants.{Unknown, Shape, Value, MissingKey, Duplicate, Unique, Mandatory, Min, Max, Choice, Reference}
+use Rattle.yv_references.specs.declared.scope.Scope.{Scope}
+use Rattle.yv_references.specs.declared.scope.Scope.TheVariants.{Always}
+use Rattle.yv_references.specs.InUse.{case_scope, enforces, enforces_beside, value_of}
+use Rattle.yv_nodes.specs.Link.{link_in}
+use Rattle.yv_references.specs.Place.{at_item, Place, step_name, under}
+use Rattle.yv_references.specs.References.{all_references}
+use Rattle.yv_validate.specs.Flaw.{Flaw}
 use Rattle.yv_validate.specs.Repeats.{repeats}
-use Rattle.yv_validate.specs.Values.{entry_tuple, key_leafs, unique_leafs, value_of}
-
-abbrev pub under : List Place → List ℕ → List Place
-under path name = path ++ record { member = name; item = None } ∷ []
-
--- what a node is called in a path: a choice, which no member writes, by its name in parentheses
-abbrev pub step_name : Label → List ℕ
-step_name l = if is_choice l.defined.kind then codes "(" ++ l.member ++ codes ")" else l.member
+use Rattle.yv_validate.specs.Values.{entry_tuple, key_leafs, unique_leafs}
 
 -- the place of an item behind these
 abbrev pub item_place : List Place → Label → List Data → List Place
-item_place path l before = path ++ record { member = step_name l; item = Some (length before + 1) } ∷ []
+item_place path l before = at_item path (step_name l) (length before + 1)
 
 abbrev pub flaw : FaultKind → List Place → Flaw
 flaw kind path = record { kind = kind; path = path; number = 0 }
@@ -176,7 +171,16 @@ forest_faults s scope_of path first (tree (node l kids) ts) ms =
 abbrev pub object_faults : Rows → Scope → List Place → ℕ → Forest → Members → List Flaw
 object_faults s scope path first ts ms = unknowns path ts ms ++ forest_faults s (λ at t. scope) path first ts ms
 
--- the faults of a whole document
+-- what is wrong with the data of a whole document, whatever other data it refers to
+abbrev pub data_faults : Rows → Data → List Flaw
+data_faults s (object ms) = object_faults s Always [] 0 (whole s) ms
+data_faults s _ = flaw Shape [] ∷ []
+
+-- references that reach nothing, at these paths (section 9.9)
+abbrev pub reference_faults : List (List Place) → List Flaw
+reference_faults paths = map (λ path. flaw Reference path) paths
+
+-- the faults of a whole document: what is wrong with its data, and behind it the values of leafrefs that are the same as none that their
+-- paths reach
 abbrev pub faults : Rows → Data → List Flaw
-faults s (object ms) = object_faults s Always [] 0 (whole s) ms
-faults s _ = flaw Shape [] ∷ []
+faults s d = data_faults s d ++ reference_faults (all_references s (link_in s.links) d)

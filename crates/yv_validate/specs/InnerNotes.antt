@@ -7,7 +7,8 @@ use Rattle.yv_nodes.specs.declared.node.NodeId.{NodeId}
 use Rattle.yv_values.specs.Reads.{or_else}
 use Rattle.yv_values.specs.Values.{Val}
 use Rattle.yv_nodes.specs.Rows.{Rows, below, rank, row_at}
-use Rattle.yv_validate.specs.Values.{default_value, entry_tuple, tuple_of}
+use Rattle.yv_references.specs.InUse.{default_value}
+use Rattle.yv_validate.specs.Values.{entry_tuple, tuple_of}
 use Rattle.yv_validate.specs.declared.notes.Notes.{Notes}
 
 -- what a note at this number says: nothing, that the default is in use, or a value

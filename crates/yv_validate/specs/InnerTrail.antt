@@ -1,8 +1,7 @@
 -- Only private clauses cite this: the way to a node, as the walk keeps it.
 use Rattle.std.specs.Prelude.{◌<◌, List, [], ◌∷◌, ◌++◌, length}
 use Rattle.yv_nodes.specs.Rows.{Rows, row_at}
-use Rattle.yv_validate.specs.Place.{Place}
-use Rattle.yv_validate.specs.Faults.{step_name}
+use Rattle.yv_references.specs.Place.{Place, step_name}
 use Rattle.yv_validate.specs.declared.trail.Trail.{Trail, Root, Below'}
 
 -- the places on a way

@@ -11,10 +11,11 @@ use Rattle.yv_nodes.specs.Tree.{Tree}
 use Rattle.yv_walk.specs.Context.{IsContext, parent_of}
 use Rattle.yv_walk.specs.Standing.{count_standing, stands_in}
 use Rattle.yv_walk.specs.declared.context.Context.{Context}
-use Rattle.yv_validate.specs.declared.scope.Scope.{Scope}
-use Rattle.yv_validate.specs.Enforced.{case_scope}
+use Rattle.yv_references.specs.declared.scope.Scope.{Scope}
+use Rattle.yv_references.specs.InUse.{case_scope}
 use Rattle.yv_validate.specs.Faults.{Leafs, leafs_of, Parts, forest_faults, kind_faults, object_faults}
-use Rattle.yv_validate.specs.Place.{Place, Flaw}
+use Rattle.yv_references.specs.Place.{Place}
+use Rattle.yv_validate.specs.Flaw.{Flaw}
 use Rattle.yv_validate.specs.Values.{Values, entry_tuple, forest_value, kind_value}
 use Rattle.yv_validate.specs.Work.{Costs, forest_work, kind_work, object_work}
 use Rattle.yv_values.specs.Values.{Val}

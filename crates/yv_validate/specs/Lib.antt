@@ -1,7 +1,5 @@
-pub mod Place
-pub mod Same
+pub mod Flaw
 pub mod Repeats
-pub mod Enforced
 pub mod Values
 pub mod Faults
 pub mod Work
@@ -11,5 +9,6 @@ pub mod InnerTrail
 pub mod InnerWalk
 pub mod InnerMemory
 pub mod InnerNotes
+pub mod InnerMet
 pub use Rattle.yv_nodes.specs.Tree
 pub use Rattle.yv_nodes.specs.Rows

@@ -1,32 +1,18 @@
 -- The values that leafs have in an object, by the leafs' numbers, defaults in use among them (RFC 7950, section 7.6.1).
-use Rattle.std.specs.Prelude.{ℕ, ◌+◌, ◌==◌, List, [], ◌∷◌, Bool, Option, Some, None, slice_get, map, if◌then◌else◌}
+use Rattle.std.specs.Prelude.{ℕ, ◌+◌, ◌==◌, List, [], ◌∷◌, Bool, Option, Some, None, map, if◌then◌else◌}
 use Rattle.yv_leaf_targets.specs.Numbers.{key_leaf_at, unique_leaf_at}
 use Rattle.yv_nodes.specs.declared.node.NodeId.{NodeId}
 use Rattle.serde_json.specs.Data.{Data, object, Members, no_members}
 use Rattle.serde_json.specs.Find.{get_member}
 use Rattle.yv_properties.specs.declared.kind.NodeKind.{NodeKind}
 use Rattle.yv_properties.specs.declared.kind.NodeKind.TheVariants as kind
-use Rattle.yv_values.specs.Reads.{first_read, or_else}
+use Rattle.yv_values.specs.Reads.{or_else}
 use Rattle.yv_values.specs.Values.{Val}
-use Rattle.yv_nodes.specs.Defaults.{defaults_of}
 use Rattle.yv_nodes.specs.Rows.{Rows}
 use Rattle.yv_nodes.specs.Tree.{count, Label, Tree, node, Forest, no_trees, tree}
-use Rattle.yv_validate.specs.declared.scope.Scope.{Scope}
-use Rattle.yv_validate.specs.declared.scope.Scope.TheVariants.{Always}
-use Rattle.yv_validate.specs.Enforced.{case_scope, uses_defaults}
-
--- the value that a leaf, or an item of a leaf-list, has by its types (RFC 7951, section 6)
-abbrev pub value_of : Label → Data → Option Val
-value_of l d = first_read l.defined.types l.module_name d
-
--- the default of a leaf: a key and a mandatory leaf have none
-abbrev pub default_value : Label → Option Val
-default_value l = slice_get (defaults_of l) 0
-
--- what is written is read, and where nothing is the default counts, if it is in use
-abbrev pub leaf_value : Label → Scope → Option Data → Option Val
-leaf_value l scope None = if uses_defaults scope then default_value l else None
-leaf_value l scope (Some d) = value_of l d
+use Rattle.yv_references.specs.declared.scope.Scope.{Scope}
+use Rattle.yv_references.specs.declared.scope.Scope.TheVariants.{Always}
+use Rattle.yv_references.specs.InUse.{case_scope, leaf_value}
 
 abbrev pub container_value : Label → Scope → Option Data → (Scope → Members → Option Val) → Option Val
 container_value l scope None inner = if l.defined.has_presence then None else inner scope no_members

@@ -1,5 +1,5 @@
 -- The steps of a validation: one for each member that is looked up, for each node that is met at an object, for each type that is tried,
--- and for each tuple that is looked up among those before it.
+-- for each tuple that is looked up among those before it, and for each value of a leafref that is looked up among those of its target.
 use Rattle.std.specs.Prelude.{ℕ, ◌+◌, List, [], ◌∷◌, Option, Some, None, if◌then◌else◌}
 use Rattle.serde_json.specs.Data.{Data, array, object, Items, no_items, item, Members, no_members}
 use Rattle.serde_json.specs.Find.{get_member}
@@ -11,6 +11,8 @@ use Rattle.yv_values.specs.Values.{Val}
 use Rattle.yv_nodes.specs.declared.node.NodeId.{NodeId}
 use Rattle.yv_nodes.specs.Rows.{Rows, whole}
 use Rattle.yv_nodes.specs.Tree.{count, Label, node, Forest, no_trees, tree}
+use Rattle.yv_nodes.specs.Link.{link_in}
+use Rattle.yv_references.specs.Lookups.{all_lookups}
 use Rattle.yv_walk.specs.Context.{members_len}
 use Rattle.yv_validate.specs.Faults.{Leafs, item_tuple, leafs_of}
 use Rattle.yv_validate.specs.Values.{entry_tuple}
@@ -95,7 +97,11 @@ forest_work s first (tree (node l kids) ts) ms =
 abbrev pub object_work : Rows → ℕ → Forest → Members → ℕ
 object_work s first ts ms = members_len ms + forest_work s first ts ms
 
+-- those at the data of a whole document
+abbrev pub data_work : Rows → Data → ℕ
+data_work s (object ms) = object_work s 0 (whole s) ms
+data_work s _ = 0
+
 -- those of a whole document
 abbrev pub work : Rows → Data → ℕ
-work s (object ms) = object_work s 0 (whole s) ms
-work s _ = 0
+work s d = data_work s d + all_lookups s (link_in s.links) d

@@ -1,12 +1,8 @@
 //! What a validation tells.
-ghost use Rattle.std.specs.Prelude.{◌≡◌, IfOk, string_bytes};
-ghost use Rattle.std.specs.Option.{option_map};
-ghost use Rattle.std.specs.Rc.{rc_str_bytes};
-ghost use Rattle.yv_nodes.specs.Member.{behind};
+ghost use Rattle.std.specs.Prelude.{◌≡◌};
 
-use std::alloc::{AllocError, Global};
 use std::marker::Model;
-use std::rc::RcStr;
+use yv_references::Step;
 
 /// What is wrong at a place of a document.
 #[derive(Clone, Copy, Debug, PartialEq, Eq)]
@@ -32,6 +28,9 @@ pub enum FaultKind {
     Max,
     /// Two or more cases of a choice exist (RFC 7950, section 7.9).
     Choice,
+    /// The value of a leafref, or of an item of a leaf-list of them, is the same as none that its path reaches (RFC 7950, sections
+    /// 9.9 and 9.9.3).
+    Reference,
 }
 
 impl FaultKind {
@@ -52,95 +51,9 @@ impl FaultKind {
             FaultKind::Min => "min",
             FaultKind::Max => "max",
             FaultKind::Choice => "choice",
+            FaultKind::Reference => "reference",
         }
     }
-}
-
-/// What a member is called, in parts that the schema has.
-#[derive(Clone, Copy)]
-pub struct MemberName<'s> {
-    /// The name of the module, where the member is written with it.
-    pub module: Option<&'s str>,
-    /// The name without its module, or all that the document has where it names no node.
-    pub name: &'s str,
-    /// Whether it is a choice, which no member writes: its name stands in parentheses.
-    pub is_choice: bool,
-}
-
-/// A step of a path: a member's name, and its number from 1 where it is an entry or an item of an array. Names of the schema are
-/// shared with it, since a name may be as long as its file, and many faults may lie below it.
-#[derive(Drop)]
-pub struct Step {
-    /// The name of the module, where the member is written with it.
-    pub(crate) module: Option<RcStr>,
-    /// The name without its module, or all that the document has where it names no node.
-    pub(crate) name: RcStr,
-    /// Whether it is a choice, which no member writes: its name stands in parentheses.
-    pub(crate) is_choice: bool,
-    /// The number from 1 of the entry or item.
-    pub item: Option<u64>,
-}
-
-impl Model for Step {
-    ghost use Rattle.std.specs.Option.{option_map};
-    ghost use Rattle.std.specs.Rc.{rc_str_bytes};
-    ghost use Rattle.yv_validate.specs.Place.{Place, called};
-
-    ghost Value = { Place };
-
-    ghost view = { λ s. record { member = called s.is_choice (option_map rc_str_bytes s.module) (rc_str_bytes s.name); item = s.item } };
-}
-
-impl Step {
-    ghost use Rattle.yv_validate.specs.Place.{called};
-
-    /// The parts of the member's name. It takes no memory.
-    pub fn parts(&self) -> MemberName<'_>
-        ensures { self.now.member ≡ called result.is_choice (option_map (λ m. m.now) result.module) result.name.now }
-    {
-        MemberName {
-            module: text_of(&self.module),
-            name: self.name.as_str(),
-            is_choice: self.is_choice,
-        }
-    }
-
-    /// The member's name, with its module in front where it is written with it; that of a choice in parentheses.
-    /// The text is made anew.
-    pub fn member(&self, alloc: Global) -> Result<String, AllocError>
-        ensures { IfOk result (λ text. string_bytes text ≡ self.now.member) }
-    {
-        let name = qualified(alloc, &self.module, self.name.as_str())?;
-        if !self.is_choice {
-            return Ok(name);
-        }
-        let mut text = String::from_str(alloc, "(")?;
-        text.push_str(name.as_str())?;
-        text.push(')')?;
-        Ok(text)
-    }
-}
-
-// A shared text, where there is one.
-fn text_of(shared: &Option<RcStr>) -> Option<&str>
-    ensures { option_map (λ t. t.now) result ≡ option_map rc_str_bytes shared.now }
-{
-    match shared {
-        Some(text) => Some(text.as_str()),
-        None => None,
-    }
-}
-
-fn qualified(alloc: Global, home: &Option<RcStr>, name: &str) -> Result<String, AllocError>
-    ensures { IfOk result (λ text. string_bytes text ≡ behind (option_map rc_str_bytes home.now) name.now) }
-{
-    let mut text = String::new(alloc);
-    if let Some(module) = home {
-        text.push_str(module.as_str())?;
-        text.push(':')?;
-    }
-    text.push_str(name)?;
-    Ok(text)
 }
 
 /// A fault: its kind, the steps to its place from the top, and the number of the schema statement that it
@@ -153,15 +66,15 @@ pub struct Fault {
 }
 
 impl Model for Fault {
-    ghost use Rattle.yv_validate.specs.Place.{Flaw};
+    ghost use Rattle.yv_validate.specs.Flaw.{Flaw};
 
     ghost Value = { Flaw };
 
     ghost view = { λ f. record { kind = f.kind; path = f.path.items; number = f.number } };
 }
 
-/// The faults of a document, in their order, and how many members were looked up, nodes met, types tried and tuples looked for; where
-/// there are more than 2^64 - 1, that number.
+/// The faults of a document, in their order, and how many members were looked up, nodes met, types tried, and tuples and references
+/// looked for; where there are more than 2^64 - 1, that number.
 #[derive(Drop)]
 pub struct Report {
     pub faults: Vec<Fault>,

@@ -7,7 +7,7 @@ pub mod laws;
 mod memory;
 mod nodes;
 mod notes;
-mod scope;
+mod progress;
 mod tell;
 mod text;
 mod trail;
@@ -15,7 +15,7 @@ mod tuples;
 mod walk;
 
 pub use count::size;
-pub use fault::{Fault, FaultKind, MemberName, Report, Step};
-pub use scope::Scope;
+pub use fault::{Fault, FaultKind, Report};
 pub use text::{line, push_line};
 pub use walk::validate;
+pub use yv_references::{MemberName, Scope, Step};

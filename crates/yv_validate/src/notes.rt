@@ -2,7 +2,8 @@
 ghost use Rattle.std.specs.Prelude.{◌≡◌, ◌==◌, ◌<◌, ℕ, length, map, Some, None, IfOk, OnOk, if◌then◌else◌};
 ghost use Rattle.yv_nodes.specs.Rows.{Rows, row_at};
 ghost use Rattle.yv_validate.specs.InnerNotes.{Gains, noted_at};
-ghost use Rattle.yv_validate.specs.Values.{all_values, default_value, tuple_of};
+ghost use Rattle.yv_validate.specs.Values.{all_values, tuple_of};
+ghost use Rattle.yv_references.specs.InUse.{default_value};
 
 use std::alloc::{AllocError, Global};
 use std::collections::BTreeMap;

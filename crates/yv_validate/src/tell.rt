@@ -1,15 +1,34 @@
 //! Faults as they are told, with the way to their place.
 ghost use Rattle.std.specs.Prelude.{◌≡◌, ◌∷◌, [], ◌++◌, map, OnOk};
 ghost use Rattle.yv_validate.specs.InnerTrail.{places, IsWithin};
-ghost use Rattle.yv_validate.specs.Faults.{flaw, under, missing as missing_faults};
+ghost use Rattle.yv_validate.specs.Faults.{flaw, missing as missing_faults, reference_faults};
+ghost use Rattle.yv_references.specs.Place.{under};
+ghost use Rattle.yv_references.specs.References.{paths_in};
 
-use crate::fault::{Fault, FaultKind, Step};
-use crate::scope::Scope;
+use crate::fault::{Fault, FaultKind};
 use crate::trail::{Trail, steps_of};
 use crate::walk::Walk;
 use std::alloc::AllocError;
 use std::rc::RcStr;
 use yv_nodes::Node;
+use yv_references::{Scope, Step};
+
+/// Tells the references that reach nothing, which stand at these paths.
+pub(crate) fn tell_references(
+    paths: Vec<Vec<Step>>,
+    faults: &mut Vec<Fault>,
+) -> Result<(), AllocError>
+    ensures { OnOk result (faults.new.items ≡ faults.old.items ++ reference_faults (paths_in paths.items)) }
+{
+    for path in paths {
+        faults.push(Fault {
+            kind: FaultKind::Reference,
+            path,
+            number: 0,
+        })?;
+    }
+    Ok(())
+}
 
 impl Walk<'_> {
     /// Tells a fault at the end of a way.
@@ -58,12 +77,7 @@ impl Walk<'_> {
             ++ flaw FaultKind.Unknown (under (places self.now.schema.now trail.now) key.now) ∷ []) }
     {
         let mut path = steps_of(self.alloc, self.schema, trail)?;
-        path.push(Step {
-            module: None,
-            name: RcStr::from_str(self.alloc, key)?,
-            is_choice: false,
-            item: None,
-        })?;
+        path.push(Step::named(RcStr::from_str(self.alloc, key)?, None))?;
         faults.push(Fault {
             kind: FaultKind::Unknown,
             path,

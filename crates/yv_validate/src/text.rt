@@ -1,14 +1,13 @@
 //! A fault's line.
 ghost use Rattle.std.specs.Prelude.{◌≡◌, ◌++◌, ◌∷◌, [], ◌<◌, IfOk, OnOk, codes, decimal, string_bytes, IsTrue};
 ghost use Rattle.std.specs.Option.{option_map};
-ghost use Rattle.std.specs.Rc.{rc_str_bytes};
 ghost use Rattle.yv_nodes.specs.Member.{behind};
 ghost use Rattle.yv_validate.specs.Line.{is_plain, hexadecimal, escaped_byte, escaped, item_text, place_text, places_text, path_text, line_text};
 
-use crate::fault::{Fault, Step};
+use crate::fault::Fault;
 use itoa::Buffer;
 use std::alloc::{AllocError, Global};
-use std::rc::RcStr;
+use yv_references::{MemberName, Step};
 
 /// A fault's line without its line feed: the name of its kind, a blank and its path, and behind a blank the
 /// number where it isn't 0. A path is `/`, or for each step `/` and the member's name, with the number of an
@@ -58,23 +57,25 @@ fn push_step(text: &mut String, step: &Step) -> Result<(), AllocError>
 fn push_member(text: &mut String, step: &Step) -> Result<(), AllocError>
     ensures { OnOk result (string_bytes text.new ≡ string_bytes text.old ++ escaped step.now.member) }
 {
-    if !step.is_choice {
-        return push_qualified(text, &step.module, step.name.as_str());
+    let name = step.parts();
+    if !name.is_choice {
+        return push_qualified(text, &name);
     }
     text.push('(')?;
-    push_qualified(text, &step.module, step.name.as_str())?;
+    push_qualified(text, &name)?;
     text.push(')')?;
     Ok(())
 }
 
-fn push_qualified(text: &mut String, home: &Option<RcStr>, name: &str) -> Result<(), AllocError>
-    ensures { OnOk result (string_bytes text.new ≡ string_bytes text.old ++ escaped (behind (option_map rc_str_bytes home.now) name.now)) }
+fn push_qualified(text: &mut String, name: &MemberName<'_>) -> Result<(), AllocError>
+    ensures { OnOk result (string_bytes text.new ≡ string_bytes text.old
+        ++ escaped (behind (option_map (λ m. m.now) name.now.module) name.now.name.now)) }
 {
-    if let Some(module) = home {
-        push_escaped(text, module.as_str())?;
+    if let Some(module) = name.module {
+        push_escaped(text, module)?;
         text.push(':')?;
     }
-    push_escaped(text, name)
+    push_escaped(text, name.name)
 }
 
 fn push_item(text: &mut String, item: Option<u64>) -> Result<(), AllocError>

@@ -1,12 +1,10 @@
 //! The way to a node, as the walk keeps it.
 ghost use Rattle.std.specs.Prelude.{◌≡◌, IfOk};
-ghost use Rattle.yv_validate.specs.Faults.{step_name};
 ghost use Rattle.yv_validate.specs.InnerTrail.{places, IsWithin};
 
-use crate::fault::Step;
 use std::alloc::{AllocError, Global};
-use yv_nodes::{Node, NodeId};
-use yv_properties::NodeKind;
+use yv_nodes::NodeId;
+use yv_references::Step;
 use yv_tables::Schema;
 
 /// The way from the top to a node: a chain on the stack, written out only where a fault is told.
@@ -29,20 +27,8 @@ pub(crate) fn steps_of(
         Trail::Root => Ok(Vec::new(alloc)),
         Trail::Below(parent, id, item) => {
             let mut steps = steps_of(alloc, schema, parent)?;
-            steps.push(step_of(schema.node(*id), *item)?)?;
+            steps.push(Step::of(schema.node(*id), *item)?)?;
             Ok(steps)
         }
     }
-}
-
-// A node as a step, over the names of the schema.
-fn step_of(node: &Node, item: Option<u64>) -> Result<Step, AllocError>
-    ensures { IfOk result (λ step. step ≡ record { member = step_name node.now.label; item = item }) }
-{
-    Ok(Step {
-        module: node.shared_qualifier()?,
-        name: node.shared_name()?,
-        is_choice: matches!(node.kind(), NodeKind::Choice),
-        item,
-    })
 }

@@ -2,8 +2,8 @@ use Rattle.std.proofs.Common.{◌∙◌, Result, Ok, Err, IfOk, OnOk, sym, subst
 use Rattle.std.specs.declared.alloc.AllocError.{AllocError}
 use Rattle.yv_nodes.specs.Rows.{whole}
 use Rattle.yv_references.specs.declared.scope.Scope.TheVariants.{Always}
-use Rattle.yv_references.specs.InnerFound.{Findings, HasMet}
-use Rattle.yv_references.specs.InnerPositions.{kept}
+use Rattle.yv_references.specs.Findings.{Findings, HasMet}
+use Rattle.yv_references.specs.Positions.{kept}
 use Rattle.yv_nodes.specs.Link.{is_target}
 use Rattle.yv_references.proofs.Told.{shown, told}
 use Rattle.yv_references.proofs.answers.answer.Goals as goal

@@ -1,5 +1,5 @@
 use Rattle.std.proofs.Common.{◌≡◌, ◌∙◌, ap, sym, []}
-use Rattle.yv_references.specs.InnerFound.{Indexes, index_of, pairs_in}
+use Rattle.yv_references.specs.Findings.{Indexes, index_of, pairs_in}
 use Rattle.yv_references.proofs.targets.Targets.within.Goals as goal
 
 pub returns-in-Some-clause-found : goal.returns-in-Some-clause-found

@@ -2,7 +2,7 @@ use Rattle.std.proofs.Common.{◌≡◌, ℕ, ◌==◌, false, List, length, Non
 use Rattle.yv_values.specs.Values.{Val}
 use Rattle.yv_nodes.specs.Defaults.{defaults_of}
 use Rattle.yv_nodes.specs.Rows.{row_at}
-use Rattle.yv_validate.specs.Values.{default_value}
+use Rattle.yv_references.specs.InUse.{default_value}
 use Rattle.yv_validate.proofs.Noted.{first_wins, noted_more}
 use Rattle.yv_validate.proofs.notes.Notes.keep_default.Goals as goal
 

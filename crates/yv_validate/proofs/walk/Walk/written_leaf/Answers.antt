@@ -3,9 +3,8 @@ use Rattle.std.proofs.lemmas.Result.{on_ok_weaker}
 use Rattle.serde_json.specs.View.{view}
 use Rattle.yv_values.specs.Values.{Val}
 use Rattle.yv_nodes.specs.Rows.{row_at}
-use Rattle.yv_validate.specs.Values.{value_of}
+use Rattle.yv_references.specs.InUse.{value_of}
 use Rattle.yv_validate.proofs.Noted.{gains_as}
-use Rattle.yv_validate.proofs.Reading.{read_is}
 use Rattle.yv_validate.proofs.walk.Walk.written_leaf.Goals as goal
 
 pub returns-in-Some-clause-notes : goal.returns-in-Some-clause-notes
@@ -14,7 +13,6 @@ returns-in-Some-clause-notes c =
     let id = c.args.id in
     let l = (row_at s id).label in
     let d = view c.args.value.now in
-    let is : Some c.in-Some.read ≡ value_of l d =
-    sym c.in-Some.is ∙ c.in_ok-read.ensures.value ∙ read_is c.node-node.result.now (row_at s id) _ _ d c.node-node.ensures.value c.types.ensures c.module.ensures in
+    let is : Some c.in-Some.read ≡ value_of l d = sym c.in-Some.is ∙ c.in_ok-read.ensures.value in
     on_ok_weaker c.keep.result
     (λ g. gains_as s c.args.notes.now c.keep.new.self _ _ (g s) (λ n. ap (λ (v : Option Val). cond (id.0 == n) v None) is)) c.keep.ensures

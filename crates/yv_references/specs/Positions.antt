@@ -1,4 +1,4 @@
--- Only private clauses cite this: numbers of the objects that a walk enters, and what it keeps of the values in them. The document is 0, and
+-- Numbers of the objects that a walk enters, and what it keeps of the values in them. The document is 0, and
 -- the others follow in the order in which they are entered.
 use Rattle.std.specs.Prelude.{ℕ, suc, ◌+◌, List, [], ◌∷◌, ◌++◌, Bool, false, ◌==◌, ◌&&◌, ◌||◌, nat_le, Option, Some, None, if◌then◌else◌}
 use Rattle.serde_json.specs.Data.{Data, array, object, Items, no_items, item, Members, no_members}

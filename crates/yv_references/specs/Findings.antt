@@ -1,4 +1,4 @@
--- Only private clauses cite this, and those of a walk that finds references: what it has found, as it grows.
+-- What a walk that looks for references has found, as it grows.
 use Rattle.std.specs.Prelude.{◌≡◌, ℕ, ◌-◌, ◌⊎◌, ◌↔◌, List, [], ◌∷◌, ◌++◌, length, Option, Some, None}
 use Rattle.std.specs.BTreeMap.{is_at}
 use Rattle.std.specs.List.{slice_set}
@@ -9,8 +9,8 @@ use Rattle.yv_values.specs.Values.{Val}
 use Rattle.serde_json.specs.Data.{Members}
 use Rattle.yv_nodes.specs.Rows.{Rows, whole}
 use Rattle.yv_references.specs.declared.scope.Scope.TheVariants.{Always}
-use Rattle.yv_references.specs.InnerNotes.{all_positions, Noted, notes, Position, position_at}
-use Rattle.yv_references.specs.InnerPositions.{Kept, kept}
+use Rattle.yv_references.specs.Notes.{all_positions, Noted, notes, Position, position_at}
+use Rattle.yv_references.specs.Positions.{Kept, kept}
 use Rattle.yv_nodes.specs.Link.{is_target, Link, link_in}
 
 -- this value of this target was kept at this place

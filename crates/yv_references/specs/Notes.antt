@@ -1,4 +1,4 @@
--- Only private clauses cite this: what a walk notes of the objects that it enters, and of the references in them.
+-- What a walk notes of the objects that it enters, and of the references in them; and what is answered to these.
 use Rattle.std.specs.Prelude.{◌≡◌, ℕ, zero, suc, ◌+◌, ◌-◌, ◌==◌, List, [], ◌∷◌, ◌++◌, Bool, true, Option, Some, None, if◌then◌else◌}
 use Rattle.std.specs.List.{slice_index_or}
 use Rattle.serde_json.specs.Data.{Data, array, object, Items, no_items, item, Members, no_members}
@@ -9,7 +9,7 @@ use Rattle.yv_values.specs.Values.{Val}
 use Rattle.yv_nodes.specs.Rows.{Rows, row_at}
 use Rattle.yv_nodes.specs.Tree.{count, Label, node, Forest, no_trees, tree}
 use Rattle.yv_references.specs.InUse.{value_of}
-use Rattle.yv_references.specs.InnerPositions.{entered, entry_entered, is_within, Kept, tree_entered}
+use Rattle.yv_references.specs.Positions.{entered, entry_entered, is_within, Kept, tree_entered}
 use Rattle.yv_nodes.specs.Link.{Link}
 use Rattle.yv_references.specs.Place.{Place, step_name}
 use Rattle.yv_references.specs.References.{told_unless}

@@ -1,0 +1,58 @@
+//! What grows in a walk.
+ghost use Rattle.std.specs.Prelude.{◌≡◌, [], OnOk};
+ghost use Rattle.yv_references.specs.Findings.{none_found};
+ghost use Rattle.yv_validate.specs.InnerMet.{Finds, value_met};
+
+use crate::fault::Fault;
+use std::alloc::{AllocError, Global};
+use yv_nodes::NodeId;
+use yv_references::{Found, laws};
+use yv_tables::Schema;
+use yv_values::{Meter, Value};
+
+/// What a walk has told so far, what it has found of references and of their targets, and the steps that it took.
+#[derive(Drop)]
+pub(crate) struct Progress {
+    pub(crate) faults: Vec<Fault>,
+    pub(crate) found: Found,
+    pub(crate) meter: Meter,
+}
+
+impl Progress {
+    /// Nothing.
+    pub(crate) fn new(alloc: Global) -> Progress
+        ensures faults { result.faults.items ≡ [] }
+        ensures found { result.found ≡ none_found }
+        ensures meter { result.meter ≡ 0 }
+    {
+        Progress {
+            faults: Vec::new(alloc),
+            found: Found::new(alloc),
+            meter: Meter::new(),
+        }
+    }
+}
+
+/// Keeps a value of a leaf or an item in the object with this number, where the node is a target, and notes it, where the node is a
+/// leafref with a link; with its number from 1, where it is an item. Nothing is kept of what wasn't read.
+pub(crate) fn meet(
+    schema: &Schema,
+    node: NodeId,
+    item: Option<u64>,
+    read: &Option<Value>,
+    position: u64,
+    found: &mut Found,
+) -> Result<(), AllocError>
+    ensures { OnOk result (Finds found.old found.new (value_met schema.now node position item read.now)) }
+{
+    laws::nothing_met();
+    laws::met_behind();
+    match read {
+        Some(value) => {
+            let links = schema.links();
+            found.keep(links, node, value, position)?;
+            found.note(links, node, item, value, position)
+        }
+        None => Ok(()),
+    }
+}
