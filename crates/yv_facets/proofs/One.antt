@@ -1,16 +1,10 @@
 -- A text restricts a type to one list of intervals, a pattern has one translation, and so one type is left.
-use Rattle.std.proofs.Common.{◌≡◌, ℕ, inl, inr, List, [], ◌∷◌, ◌++◌, map, drop, codes, Option, Some, None, refl, sym, ◌∙◌, ap, subst}
+use Rattle.std.proofs.Common.{◌≡◌, ℕ, inl, inr, List, [], ◌∷◌, ◌++◌, map, codes, Option, Some, None, refl, sym, ◌∙◌, ap}
 use Rattle.std.specs.Prelude.{option_to_list}
-use Rattle.std.specs.List.{flat_map}
-use Rattle.std.specs.Str.{chars}
 use Rattle.yv_statement.specs.Tree.{Tree, trees}
 use Rattle.yv_numbers.specs.Intervals.{Interval}
 use Rattle.yv_restrictions.specs.Restrictions.{Restricts}
-use Rattle.yv_pattern.specs.declared.part.Found.{Found}
-use Rattle.yv_pattern.specs.declared.place.Place.{Place}
-use Rattle.yv_pattern.specs.declared.place.Place.TheVariants.{Outside, First, Inside}
-use Rattle.yv_pattern.specs.Parts.{part_at, place_after}
-use Rattle.yv_pattern.specs.Spells.{Cut, done, more, Item, item_of, anchored, Translates}
+use Rattle.yv_pattern.proofs.One.{translates_one}
 use Rattle.yv_values.specs.Types.{Plain, Test, wholes, decimals, strings, booleans, names, flags, octets, identities, empties}
 use Rattle.yv_facets.specs.Facets.{child, Leaves, IsTest, AreTests, Narrows}
 
@@ -32,33 +26,6 @@ leaves_one digits base (Some c) is js (inl p) (inl q) = restricts_one digits bas
 leaves_one digits base (Some c) is js (inl p) (inr q) = absurd (q.0 is p)
 leaves_one digits base (Some c) is js (inr p) (inl q) = absurd (p.0 js q)
 leaves_one digits base (Some c) is js (inr p) (inr q) = p.1 ∙ sym q.1
-
-nothing_at : (p : Place) → part_at p [] ≡ None
-nothing_at Outside = refl
-nothing_at First = refl
-nothing_at Inside = refl
-
-no_parts : (p : Place) (cs : List ℕ) (is : List Item) → cs ≡ [] → Cut p cs is → is ≡ []
-no_parts _ _ _ e done = refl
-no_parts _ _ _ e (more p cs f is q c) = let n = nothing_at p in let g : part_at p cs ≡ part_at p [] = ap (part_at p) e in absurd (cc)
-
-first_is : (p : Place) (cs : List ℕ) (f : Found) (all : List Item) → part_at p cs ≡ Some f → Cut p cs all → (is : List Item) × (all ≡ item_of p f cs ∷ is) × Cut (place_after p f.part) (drop f.size cs) is
-first_is _ _ f _ h done = absurd (cc)
-first_is _ _ f _ h (more p cs g is q c) =
-    let same : g ≡ f = cc in
-    (is, ap (λ x. item_of p x cs ∷ is) same, subst (λ (x : Found). Cut (place_after p x.part) (drop x.size cs) is) same c)
-
-cut_one : (p : Place) (cs : List ℕ) (is js : List Item) → Cut p cs is → Cut p cs js → is ≡ js
-cut_one _ _ _ js done d = sym (no_parts Outside [] js refl d)
-cut_one _ _ _ js (more p cs f is q c) d =
-    let s = first_is p cs f js q d in
-    ap (λ (l : List Item). item_of p f cs ∷ l) (cut_one _ _ is s.0 c s.2) ∙ sym s.1
-
-translates_one : (text a b : List ℕ) → Translates text a → Translates text b → a ≡ b
-translates_one text a b p q =
-    let parts : p.spells.parts ≡ q.spells.parts = cut_one Outside (chars text) _ _ p.spells.cut q.spells.cut in
-    let bytes : p.bytes ≡ q.bytes = p.spells.bytes_are ∙ ap (flat_map (λ (i : Item). i.bytes)) parts ∙ sym q.spells.bytes_are in
-    p.source_is ∙ ap anchored bytes ∙ sym q.source_is
 
 test_one : (c : Tree) (a b : Option Test) → IsTest c a → IsTest c b → a ≡ b
 test_one c None None p q = refl

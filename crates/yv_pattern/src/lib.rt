@@ -6,6 +6,7 @@ mod category;
 mod character;
 mod class;
 mod count;
+pub mod laws;
 mod mark;
 mod part;
 mod pattern;
