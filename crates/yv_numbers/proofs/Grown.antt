@@ -55,7 +55,7 @@ lt_false m n h = grind (arith, nat_tests)
 pub unlimited : (n : ℕ) → (n < 2 ^ 64 → ⊥) → limited n ≡ None
 unlimited n h = rw (lt_false n (2 ^ 64) (omega (arith, h))) refl
 
-joined : (n : ℕ) (xs ys : List ℕ) → value_after 10 n (xs ++ ys) ≡ value_after 10 (value_after 10 n xs) ys
+pub joined : (n : ℕ) (xs ys : List ℕ) → value_after 10 n (xs ++ ys) ≡ value_after 10 (value_after 10 n xs) ys
 joined n [] ys = refl
 joined n (x ∷ xs) ys = joined (n * 10 + digit_of x) xs ys
 

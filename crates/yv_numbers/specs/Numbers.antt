@@ -1,4 +1,6 @@
--- The numbers that texts write (RFC 7950, sections 9.2.1 and 9.3.1).
+-- The readers of numbers as functions. `Written` says by grammar and place value what texts write; that these functions
+-- answer just that is said by the laws `naturals_are_written`, `integers_are_written`, `based_integers_are_written` and
+-- `decimals_are_written`.
 use Rattle.std.specs.Prelude.{ℕ, ◌+◌, ◌*◌, ◌-◌, ◌^◌, ℤ, pos, negsuc, neg_ℤ, Bool, true, false, ◌&&◌, ◌==◌, nat_lt, nat_le, List, [], ◌∷◌, ◌++◌, take, drop, length, Option, Some, None, option_map, position, if◌then◌else◌, min, nat_eq}
 use Rattle.std.specs.List.{list_all}
 use Rattle.std.specs.Str.Parse.{without_leading_sign, starts_with_minus}

@@ -5,6 +5,7 @@
 mod decimal;
 mod integer;
 mod intervals;
+pub mod laws;
 mod number;
 mod order;
 

@@ -29,7 +29,7 @@ module _ (wrong : List Pair → Listed → Bool) (pair : List Pair → Listed �
   abbrev right : List Listed → List Pair
   right es = pairs_behind wrong pair [] es
 
-  behind_pushed : (before : List Pair) (xs : List Listed) (e : Listed) → pairs_behind wrong pair before (xs ++ e ∷ []) ≡ with_entry wrong pair (pairs_behind wrong pair before xs) e
+  pub behind_pushed : (before : List Pair) (xs : List Listed) (e : Listed) → pairs_behind wrong pair before (xs ++ e ∷ []) ≡ with_entry wrong pair (pairs_behind wrong pair before xs) e
   behind_pushed before [] e = refl
   behind_pushed before (x ∷ xs) e = behind_pushed (with_entry wrong pair before x) xs e
 

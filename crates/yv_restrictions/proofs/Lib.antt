@@ -1,4 +1,5 @@
 pub mod Along
+pub mod Assigned
 pub mod First
 pub mod Pairs
 pub mod Spoken

@@ -1,3 +1,4 @@
+pub mod Assigned
 pub mod InnerParts
 pub mod InnerSeen
 pub mod Intervals

@@ -1,4 +1,6 @@
--- The numbers of enumerations and of bits (RFC 7950, sections 9.6.4.2 and 9.7.4.2).
+-- The numbers of enumerations and of bits as functions, which leave out what is wrong. `Assigned` says which numbers
+-- entries have by the RFC; that these functions answer just those, and find nothing wrong just there, is said by the laws
+-- `numbers_are_assigned` and `numbers_are_kept`.
 use Rattle.std.specs.Prelude.{◌≡◌, ℕ, ◌<◌, ℤ, pos, negsuc, ◌+ℤ◌, int_le, Bool, true, false, not, ◌&&◌, ◌||◌, List, [], ◌∷◌, ◌++◌, take, slice_get, Option, Some, None, is_some, if◌then◌else◌}
 use Rattle.std.specs.BTreeMap.{BTreeMap, get_by}
 use Rattle.std.specs.Borrow.{Bor}

@@ -3,6 +3,7 @@
 #![tactic(auto)]
 
 mod bound;
+pub mod laws;
 mod numbering;
 mod order;
 mod parts;

@@ -1,0 +1,46 @@
+-- Which numbers enums and bits have (RFC 7950, sections 9.6.3, 9.6.4.2, 9.7.3 and 9.7.4.2).
+use Rattle.std.specs.Prelude.{◌≡◌, ℕ, ◌^◌, ℤ, pos, neg_ℤ, ◌+ℤ◌, ◌≤ℤ◌, ◌<ℤ◌, List, [], map, take, length, slice_get, Option, Some, None}
+use Rattle.yv_restrictions.specs.declared.numbering.Kind.{Kind}
+use Rattle.yv_restrictions.specs.declared.numbering.Kind.TheVariants.{Enumeration, Bits}
+use Rattle.yv_restrictions.specs.declared.numbering.Listed.{Listed}
+
+abbrev pub names_of : List Listed → List (List ℕ)
+names_of es = map (λ e. e.name.now) es
+
+-- what stands at two places differs
+abbrev pub AreDistinct : {X : Type 0} → List X → Type 0
+AreDistinct {X} xs = (i k : ℕ) (x : X) → slice_get xs i ≡ Some x → slice_get xs k ≡ Some x → i ≡ k
+
+-- it is one of these numbers, and none of them is higher
+pub record IsHighest (ns : List ℤ) (h : ℤ) : Type 0 where
+  pub place : ℕ
+  pub there : slice_get ns place ≡ Some h
+  pub above : (k : ℕ) (n : ℤ) → slice_get ns k ≡ Some n → n ≤ℤ h
+
+-- the number that is stated; else 0 for the first entry, and one more than the highest before it for a later one
+pub data IsAssigned (before : List ℤ) : Option ℤ → ℤ → Type 0 where
+  stated : {n : ℤ} → IsAssigned before (Some n) n
+  first : before ≡ [] → IsAssigned before None (pos 0)
+  next : {h : ℤ} → IsHighest before h → IsAssigned before None (h +ℤ pos 1)
+
+-- an enum has a number of int32, a bit one of uint32
+abbrev pub IsOfKind : Kind → ℤ → Type 0
+IsOfKind Enumeration n = (neg_ℤ (pos (2 ^ 31)) ≤ℤ n) × (n <ℤ pos (2 ^ 31))
+IsOfKind Bits n = (pos 0 ≤ℤ n) × (n <ℤ pos (2 ^ 32))
+
+-- The numbers of all entries of a new type: names differ, numbers differ and are of the kind, and each is assigned
+-- behind those before it.
+pub record AreNumbers (kind : Kind) (es : List Listed) (ns : List ℤ) : Type 0 where
+  pub one_each : length es ≡ length ns
+  pub names_differ : AreDistinct (names_of es)
+  pub numbers_differ : AreDistinct ns
+  pub of_kind : (i : ℕ) (n : ℤ) → slice_get ns i ≡ Some n → IsOfKind kind n
+  pub assigned : (i : ℕ) (e : Listed) (n : ℤ) → slice_get es i ≡ Some e → slice_get ns i ≡ Some n → IsAssigned (take i ns) e.number n
+
+-- The numbers of all entries of a type that is derived from one with these numbers: names differ, each is one of the
+-- base and keeps its number, and no other is stated.
+pub record AreKept (base : List ℕ → Option ℤ) (es : List Listed) (ns : List ℤ) : Type 0 where
+  pub one_each : length es ≡ length ns
+  pub names_differ : AreDistinct (names_of es)
+  pub same : (i : ℕ) (e : Listed) (n : ℤ) → slice_get es i ≡ Some e → slice_get ns i ≡ Some n → base e.name.now ≡ Some n
+  pub stated : (i : ℕ) (e : Listed) (m n : ℤ) → slice_get es i ≡ Some e → slice_get ns i ≡ Some n → e.number ≡ Some m → m ≡ n
