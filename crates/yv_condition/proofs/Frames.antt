@@ -1,6 +1,7 @@
 -- The frames of a stack, as a list.
 use Rattle.std.proofs.Common.{◌≡◌, ◌≢◌, ◌≤◌, ◌<◌, ◌+◌, ℕ, zero, suc, List, ◌∷◌, get_or, set, length, get_or-set_other, get_or-set_same, ap, refl, arith}
-use Rattle.yv_condition.specs.InnerPass.{empty, frames_below}
+use Rattle.yv_condition.specs.Known.{empty}
+use Rattle.yv_condition.specs.InnerFrames.{frames_below}
 use Rattle.yv_condition.specs.declared.frame.Frame.{Frame}
 
 -- a frame above is none of them

@@ -4,5 +4,6 @@ pub mod Frames
 pub mod Named
 pub mod One
 pub mod Passes
+pub mod Spelled
 pub mod Taken
 pub mod WordCuts

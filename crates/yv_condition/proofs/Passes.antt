@@ -3,11 +3,11 @@ use Rattle.std.proofs.Common.{◌≡◌, ℕ, suc, ◌+◌, Bool, true, false, n
 use Rattle.std.proofs.lemmas.Bool.{lt-ltb}
 use Rattle.yv_condition.specs.Tokens.{Token}
 use Rattle.yv_condition.specs.Tokens.{Open, Close, Not, And, Or, Name, Wrong}
-use Rattle.yv_condition.specs.InnerPass.{accepts, differ, empty, ends, holds, turned, with_factor, with_or}
+use Rattle.yv_condition.specs.Known.{differ, empty, ends, holds, turned, with_factor, with_or}
 use Rattle.yv_condition.specs.Condition.{Condition, IsCondition, IsExpression, IsTerm, IsFactor, term, either, factor, both, name, negated, inner, truth}
 use Rattle.yv_condition.specs.Truth.{IsTruth}
 use Rattle.yv_condition.specs.declared.frame.Frame.{Frame}
-use Rattle.yv_condition.proofs.Taken.{taken}
+use Rattle.yv_condition.proofs.Taken.{accepts, taken}
 
 differ_not : (f a : Bool) → differ (not f) a ≡ differ f (not a)
 differ_not true true = refl

@@ -1,11 +1,21 @@
 -- What the pass takes is a condition.
-use Rattle.std.proofs.Common.{◌≡◌, ℕ, zero, suc, ◌+◌, ◌<◌, ◌≤◌, Bool, true, false, List, [], ◌∷◌, ◌++◌, length, append_assoc, append-nil, sym, ◌∙◌, ap, subst, refl, arith}
+use Rattle.std.proofs.Common.{◌≡◌, ℕ, zero, suc, ◌+◌, ◌<◌, ◌≤◌, Bool, true, false, ◌&&◌, nat_lt, List, [], ◌∷◌, ◌++◌, length, append_assoc, append-nil, sym, ◌∙◌, ap, subst, refl, arith}
 use Rattle.std.proofs.lemmas.Bool.{and_parts, false≢true, ltb-true}
 use Rattle.yv_condition.specs.Tokens.{Token}
 use Rattle.yv_condition.specs.Tokens.{Open, Close, Not, And, Or, Name, Wrong}
-use Rattle.yv_condition.specs.InnerPass.{accepts}
 use Rattle.yv_condition.specs.Condition.{Condition, IsCondition, IsExpression, IsTerm, IsFactor, term, either, factor, both, name, negated, inner}
 use Rattle.yv_condition.specs.Condition as made
+
+-- whether what follows completes an expression, where an operand is wanted or not, and d parentheses are open
+abbrev pub accepts : Bool → ℕ → List Token → Bool
+accepts true d (Name n ∷ ts) = accepts false d ts
+accepts true d (Not ∷ ts) = accepts true d ts
+accepts true d (Open ∷ ts) = nat_lt d 64 && accepts true (suc d) ts
+accepts false d (And ∷ ts) = accepts true d ts
+accepts false d (Or ∷ ts) = accepts true d ts
+accepts false (suc d) (Close ∷ ts) = accepts false d ts
+accepts false zero [] = true
+accepts wanted d ts = false
 
 -- a part in front, and what follows it
 Found : (List Token → Condition → Type 0) → (List Token → Bool) → ℕ → List Token → Type 0

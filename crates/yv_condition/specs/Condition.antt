@@ -16,18 +16,21 @@ mutual
   -- an expression is terms with `or` between
   pub data IsExpression : ℕ → List Token → Condition → Type 0 where
     term : {n : ℕ} {ts : List Token} {c : Condition} → IsTerm n ts c → IsExpression n ts c
-    either : {n : ℕ} {xs ys ts : List Token} {c d : Condition} → IsTerm n xs c → IsExpression n ys d → ts ≡ xs ++ token.Or ∷ ys → IsExpression n ts (Or c d)
+    either : {n : ℕ} {xs ys ts : List Token} {c d : Condition} → IsTerm n xs c → IsExpression n ys d
+        → ts ≡ xs ++ token.Or ∷ ys → IsExpression n ts (Or c d)
 
   -- a term is factors with `and` between
   pub data IsTerm : ℕ → List Token → Condition → Type 0 where
     factor : {n : ℕ} {ts : List Token} {c : Condition} → IsFactor n ts c → IsTerm n ts c
-    both : {n : ℕ} {xs ys ts : List Token} {c d : Condition} → IsFactor n xs c → IsTerm n ys d → ts ≡ xs ++ token.And ∷ ys → IsTerm n ts (And c d)
+    both : {n : ℕ} {xs ys ts : List Token} {c d : Condition} → IsFactor n xs c → IsTerm n ys d
+        → ts ≡ xs ++ token.And ∷ ys → IsTerm n ts (And c d)
 
   -- a factor is a name, `not` and a factor, or an expression in parentheses
   pub data IsFactor : ℕ → List Token → Condition → Type 0 where
     name : {n : ℕ} {word : List ℕ} → IsFactor n (token.Name word ∷ []) (Name word)
     negated : {n : ℕ} {ts : List Token} {c : Condition} → IsFactor n ts c → IsFactor n (token.Not ∷ ts) (Not c)
-    inner : {n : ℕ} {xs ts : List Token} {c : Condition} → IsExpression n xs c → ts ≡ token.Open ∷ xs ++ token.Close ∷ [] → IsFactor (suc n) ts c
+    inner : {n : ℕ} {xs ts : List Token} {c : Condition} → IsExpression n xs c
+        → ts ≡ token.Open ∷ xs ++ token.Close ∷ [] → IsFactor (suc n) ts c
 
 -- words that are a condition; parentheses nest at most 64 deep
 abbrev pub IsCondition : List Token → Condition → Type 0

@@ -4,7 +4,7 @@ pub mod Tokens
 pub mod Condition
 pub mod Truth
 pub mod Shown
+pub mod Known
 pub mod Reading
-pub mod InnerLeft
-pub mod InnerPass
+pub mod InnerFrames
 pub mod InnerWords

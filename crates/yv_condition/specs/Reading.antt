@@ -1,17 +1,16 @@
 -- What an evaluator has read.
-use Rattle.std.specs.Prelude.{◌≡◌, ℕ, Bool, true, List, [], ◌++◌}
+use Rattle.std.specs.Prelude.{◌≡◌, ℕ, Bool, List, ◌++◌}
 use Rattle.yv_condition.specs.Tokens.{Token}
 use Rattle.yv_condition.specs.Tokens as token
-use Rattle.yv_condition.specs.InnerLeft.{left}
-use Rattle.yv_condition.specs.InnerPass.{empty, ends}
-use Rattle.yv_condition.specs.declared.evaluator.Evaluator.{Evaluator}
+use Rattle.yv_condition.specs.Truth.{IsTruth}
+use Rattle.yv_condition.specs.Known.{Known, completed}
 
 -- a name holds as it is said to
 abbrev pub Agrees : (List ℕ → Bool) → Token → Bool → Type 0
 Agrees names (token.Name n) b = b ≡ names n
 Agrees names t b = Unit {0}
 
--- an evaluator has read these words, the names among which are true or false: whatever follows, it comes to the same
--- as for one that reads all from the start
-unfoldable pub HasRead : (List ℕ → Bool) → Evaluator → List Token → Type 0
-HasRead names e ts = (rest : List Token) → left names e rest ≡ ends names true empty [] (ts ++ rest)
+-- an evaluator has read these words, the names among which are true or false: whatever follows, it then comes to the truth of
+-- the condition that all words are, or to none where they are none
+unfoldable pub HasRead : (List ℕ → Bool) → Known → List Token → Type 0
+HasRead names e before = (rest : List Token) → IsTruth names (before ++ rest) (completed names e rest)

@@ -18,7 +18,9 @@ pub data Token : Type 0 where
 -- `not`, `and` and `or` are never names
 abbrev pub token_of : List ℕ → Token
 token_of word =
-    if bytes_eq word (codes "(") then Open else (if bytes_eq word (codes ")") then Close else (if bytes_eq word (codes "not") then Not else (if bytes_eq word (codes "and") then And else (if bytes_eq word (codes "or") then Or else (if is_name word then Name word else Wrong)))))
+    if bytes_eq word (codes "(") then Open else (if bytes_eq word (codes ")") then Close
+    else (if bytes_eq word (codes "not") then Not else (if bytes_eq word (codes "and") then And else (if bytes_eq word (codes "or") then Or
+    else (if is_name word then Name word else Wrong)))))
 
 abbrev pub is_empty : List ℕ → Bool
 is_empty text = nat_eq (length text) 0

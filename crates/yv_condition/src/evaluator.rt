@@ -1,6 +1,6 @@
 //! One pass over the words of an expression.
 ghost use Rattle.std.specs.Prelude.{◌≡◌, ℕ, Bool, false, List, [], ◌∷◌, ◌++◌};
-ghost use Rattle.yv_condition.specs.InnerLeft.{left};
+ghost use Rattle.yv_condition.specs.Known.{completed};
 ghost use Rattle.yv_condition.specs.Reading.{Agrees, HasRead};
 ghost use Rattle.yv_condition.specs.Shown.{shown};
 ghost use Rattle.yv_condition.specs.Tokens as token;
@@ -10,6 +10,7 @@ ghost use Rattle.yv_condition.specs.Truth.{IsTruth};
 use crate::frame::Frame;
 use crate::stack::{MOST_OPEN, Stack};
 use crate::word::Word;
+use std::marker::Model;
 
 /// Finds the truth of an expression in one pass over its words, without memory of their number: it keeps only what
 /// is known inside and outside of the parentheses that are open, of which there are at most 64.
@@ -23,6 +24,8 @@ use crate::word::Word;
 /// }
 /// evaluator.truth()
 /// ```
+///
+/// Contracts see it as what is known of the expression.
 #[derive(Drop)]
 pub struct Evaluator {
     // Whether a word stood where it may not.
@@ -32,6 +35,14 @@ pub struct Evaluator {
     // Inside the innermost parenthesis that is open.
     frame: Frame,
     outside: Stack,
+}
+
+impl Model for Evaluator {
+    ghost use Rattle.yv_condition.specs.Known.{Known};
+
+    ghost Value = { Known };
+
+    ghost view = { λ e. record { is_lost = e.is_lost; wants_operand = e.wants_operand; frame = e.frame; outside = e.outside } };
 }
 
 impl Evaluator {
@@ -57,7 +68,7 @@ impl Evaluator {
 
     fn step(&mut self, word: Word<'_>, holds: bool)
         ensures { (names : List ℕ → Bool) → Agrees names (shown word.entry) holds
-            → (rest : List Token) → left names self.new rest ≡ left names self.old (shown word.entry ∷ rest) }
+            → (rest : List Token) → completed names self.new rest ≡ completed names self.old (shown word.entry ∷ rest) }
     {
         match (self.wants_operand, word) {
             (true, Word::Name(_)) => {
@@ -81,7 +92,7 @@ impl Evaluator {
 
     fn close(&mut self)
         ensures { self.old.wants_operand ≡ false → (names : List ℕ → Bool) (rest : List Token)
-            → left names self.new rest ≡ left names self.old (token.Close ∷ rest) }
+            → completed names self.new rest ≡ completed names self.old (token.Close ∷ rest) }
     {
         match self.outside.pop() {
             Some(frame) => self.frame = frame.with_factor(self.frame.holds()),
@@ -99,7 +110,7 @@ impl Evaluator {
 
     // The truth of the expression, if nothing follows.
     fn outcome(&self) -> Option<bool>
-        ensures { (names : List ℕ → Bool) → result ≡ left names self.now [] }
+        ensures { (names : List ℕ → Bool) → result ≡ completed names self.now [] }
     {
         if self.is_lost || self.wants_operand || self.outside.len() > 0 {
             None

@@ -1,6 +1,6 @@
 //! What is known of an expression of which a part is read.
 ghost use Rattle.std.specs.Prelude.{◌≡◌};
-ghost use Rattle.yv_condition.specs.InnerPass.{empty, holds, turned, with_factor, with_or};
+ghost use Rattle.yv_condition.specs.Known.{empty, holds, turned, with_factor, with_or};
 
 /// What is known inside a pair of parentheses.
 #[derive(Clone, Copy)]

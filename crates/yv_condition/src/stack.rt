@@ -16,7 +16,7 @@ pub struct Stack {
 
 impl Model for Stack {
     ghost use Rattle.std.specs.Prelude.{◌≤◌, List};
-    ghost use Rattle.yv_condition.specs.InnerPass.{frames_below};
+    ghost use Rattle.yv_condition.specs.InnerFrames.{frames_below};
     ghost use Rattle.yv_condition.specs.declared.frame.Frame.{Frame};
 
     ghost Value = { List Frame };

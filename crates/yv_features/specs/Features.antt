@@ -8,10 +8,10 @@ use Rattle.yv_rows.specs.Listed.{rows_of}
 use Rattle.yv_rows.specs.Tables.{table_of, first_of}
 use Rattle.yv_rows.specs.declared.kind.Kind.TheVariants.{Feature}
 use Rattle.yv_features.specs.Meaning.{Meaning, looked_up}
-use Rattle.yv_features.specs.Value.{Assignment, value_of}
+use Rattle.yv_features.specs.Value.{Assignment, HasValue, value_of}
 use Rattle.yv_features.specs.On.{AreOn}
 use Rattle.yv_features.specs.declared.features.Features.{Features}
-use Rattle.yv_features.specs.Decided.{spelled_by}
+use Rattle.yv_condition.proofs.Spelled.{spelled_by}
 
 -- those that are marked are on
 abbrev pub marked : List Bool → Assignment
@@ -21,16 +21,29 @@ marked marks feature = slice_index_or marks feature false
 abbrev pub meaning_in : Features → Files → Meaning
 meaning_in features files = looked_up (table_of features.places) (map brief_of files) (rows_of files)
 
+-- which features are on of those that were found
+abbrev pub on_in : Features → Assignment
+on_in features = marked features.on.items
+
 -- they are the features of these files, and those are marked that are on where this is chosen
 unfoldable pub AreFeatures : Files → Choice → Features → Type 0
 AreFeatures files choice features =
-    (table_of features.places ≡ first_of Feature (rows_of files)) × AreOn (map brief_of files) (rows_of files) choice (marked features.on.items)
+    (table_of features.places ≡ first_of Feature (rows_of files))
+    × AreOn (map brief_of files) (rows_of files) choice (on_in features)
+
+-- what the features that were found tell of an expression in a file is its value by them
+abbrev pub Tell : Features → Files → ℕ → List ℕ → Bool → Type 0
+Tell features files file text value = HasValue (meaning_in features files) (on_in features) file text value
+
+-- a text spells a condition, or none
+abbrev pub IsSpelledOrNot : List ℕ → Type 0
+IsSpelledOrNot text = ((c : Condition) × Spells text c) ⊎ ((c : Condition) → Spells text c → ⊥)
 
 -- the value of the condition that a text spells, if it spells one
-abbrev pub value_by : (Condition → Bool) → (text : List ℕ) → ((c : Condition) × Spells text c) ⊎ ((c : Condition) → Spells text c → ⊥) → Bool
+abbrev pub value_by : (Condition → Bool) → (text : List ℕ) → IsSpelledOrNot text → Bool
 value_by value text (inl q) = value q.0
 value_by value text (inr none) = false
 
--- what the features that were found tell of an expression in a file
+-- the one value that they tell; a text spells a condition or none, as is proved
 unfoldable pub truth_of : Features → Files → ℕ → List ℕ → Bool
-truth_of features files file text = value_by (value_of (meaning_in features files) (marked features.on.items) file) text (spelled_by text)
+truth_of features files file text = value_by (value_of (meaning_in features files) (on_in features) file) text (spelled_by text)

@@ -3,7 +3,6 @@ pub mod Value
 pub mod On
 pub mod Depends
 pub mod Faults
-pub mod Decided
 pub mod Features
 pub mod InnerGraph
 pub mod InnerNames

@@ -4,9 +4,19 @@ ghost use Rattle.yv_statement.specs.Order.{IsLeast};
 ghost use Rattle.yv_selection.specs.Choice.{Choice};
 ghost use Rattle.yv_rows.specs.Files.{Files};
 ghost use Rattle.yv_features.specs.Faults.{BadFour};
-ghost use Rattle.yv_features.specs.Features.{AreFeatures, truth_of};
+ghost use Rattle.yv_features.specs.Features.{AreFeatures, Tell, truth_of};
 ghost use Rattle.yv_features.specs.On.{Holds};
 ghost use Rattle.yv_features.specs.declared.features.Features.{Features};
+
+/// What the features that were found tell of an expression in a file is its value by them, and no other.
+pub fn features_tell_the_value()
+    ensures told { (features : Features) (files : Files) (file : ℕ) (text : List ℕ)
+        → Tell features files file text (truth_of features files file text) }
+    ensures alone { (features : Features) (files : Files) (file : ℕ) (text : List ℕ) (value : Bool)
+        → Tell features files file text value → value ≡ truth_of features files file text }
+{
+    yv_condition::laws::a_text_spells_one_condition();
+}
 
 /// What the features of files tell of an expression is its truth, whatever the file and the text.
 pub fn features_tell_what_holds()

@@ -3,7 +3,7 @@ use Rattle.yv_rows.specs.Files.{brief_of}
 use Rattle.yv_rows.specs.Listed.{rows_of}
 use Rattle.yv_rows.specs.Lent.{lent_in}
 use Rattle.yv_rows.specs.Tables.{Table}
-use Rattle.yv_features.specs.Decided.{spelled_by}
+use Rattle.yv_condition.proofs.Spelled.{spelled_by}
 use Rattle.yv_features.specs.Meaning.{looked_up}
 use Rattle.yv_features.specs.Features.{AreFeatures, marked, meaning_in, truth_of}
 use Rattle.yv_features.specs.Value.{HasValue}

@@ -1,9 +1,18 @@
--- Inner definitions, which only clauses of private functions cite: one pass over the words of an expression.
-use Rattle.std.proofs.Common.{zero, suc, get_or}
-use Rattle.std.specs.Prelude.{ℕ, Bool, true, false, not, ◌&&◌, ◌||◌, nat_lt, List, [], ◌∷◌, length, Option, Some, None, if◌then◌else◌}
+-- What is known of an expression of which the front was read, and the truth to which the words that follow complete it
+-- (RFC 7950, section 7.20.2).
+use Rattle.std.specs.Prelude.{ℕ, Bool, true, false, not, ◌&&◌, ◌||◌, nat_lt, if◌then◌else◌}
+use Rattle.std.specs.Prelude.{List, [], ◌∷◌, length, Option, Some, None}
 use Rattle.yv_condition.specs.Tokens.{Token}
 use Rattle.yv_condition.specs.Tokens as token
 use Rattle.yv_condition.specs.declared.frame.Frame.{Frame}
+
+-- what is known: whether a word stood where it may not, whether an operand comes next, and of the terms and factors that were
+-- read inside the innermost parenthesis and outside of each what they come to so far
+pub record Known : Type 0 where
+  pub is_lost : Bool
+  pub wants_operand : Bool
+  pub frame : Frame
+  pub outside : List Frame
 
 abbrev pub empty : Frame
 empty = record { earlier = false; term = true; negated = false }
@@ -26,11 +35,6 @@ turned f = record { earlier = f.earlier; term = f.term; negated = not f.negated 
 abbrev pub with_or : Frame → Frame
 with_or f = record { earlier = f.earlier || f.term; term = true; negated = false }
 
--- the first n frames, the last of them first
-abbrev pub frames_below : List Frame → ℕ → List Frame
-frames_below fs zero = []
-frames_below fs (suc n) = get_or fs n empty ∷ frames_below fs n
-
 -- the truth to which what follows completes an expression, where an operand is wanted or not, inside the innermost
 -- parenthesis and outside of each
 abbrev pub ends : (List ℕ → Bool) → Bool → Frame → List Frame → List Token → Option Bool
@@ -43,13 +47,6 @@ ends names false f (g ∷ fs) (token.Close ∷ ts) = ends names false (with_fact
 ends names false f [] [] = Some (holds f)
 ends names wanted f fs ts = None
 
--- whether what follows completes an expression, where an operand is wanted or not, and d parentheses are open
-abbrev pub accepts : Bool → ℕ → List Token → Bool
-accepts true d (token.Name n ∷ ts) = accepts false d ts
-accepts true d (token.Not ∷ ts) = accepts true d ts
-accepts true d (token.Open ∷ ts) = nat_lt d 64 && accepts true (suc d) ts
-accepts false d (token.And ∷ ts) = accepts true d ts
-accepts false d (token.Or ∷ ts) = accepts true d ts
-accepts false (suc d) (token.Close ∷ ts) = accepts false d ts
-accepts false zero [] = true
-accepts wanted d ts = false
+-- the truth to which these words complete what is known
+abbrev pub completed : (List ℕ → Bool) → Known → List Token → Option Bool
+completed names e rest = if e.is_lost then None else ends names e.wants_operand e.frame e.outside rest
