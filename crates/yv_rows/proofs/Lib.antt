@@ -6,3 +6,5 @@ pub mod Meanings
 pub mod Bodies
 pub mod Within
 pub mod Telling
+pub mod Blocks
+pub mod Order

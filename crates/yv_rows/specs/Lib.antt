@@ -6,3 +6,5 @@ pub mod Tables
 pub mod Scopes
 pub mod Lent
 pub mod InnerPlaces
+pub mod Blocks
+pub mod Order

@@ -5,6 +5,8 @@ ghost use Rattle.yv_rows.specs.declared.kind.Kind.{Kind};
 ghost use Rattle.yv_rows.specs.Files.{Files, Briefs, brief_of, home_at, named};
 ghost use Rattle.yv_rows.specs.Rows.{Row};
 ghost use Rattle.yv_rows.specs.Listed.{rows_of, statements_of};
+ghost use Rattle.yv_rows.specs.Blocks.{StandsIn};
+ghost use Rattle.yv_rows.specs.Order.{IsInOrder, FollowOffsets};
 ghost use Rattle.yv_rows.specs.Scopes.{AreNested, MeansIn, module_of};
 
 /// The name of a typedef or of a grouping means one thing in a statement.
@@ -43,4 +45,15 @@ pub fn modules_are_files()
 /// The statement of a number has the head of the row of that number.
 pub fn statements_have_their_rows()
     ensures { (files : Files) → map (λ t. t.head) (statements_of files) ≡ map (λ r. r.head) (rows_of files) }
+{}
+
+/// The statement at the number of a statement's block is the one round it; at the top of a file it is the home's root.
+pub fn statements_stand_in_their_blocks()
+    ensures { (files : Files) (number : ℕ) → length files ≤ number → StandsIn files number }
+{}
+
+/// Where the statements of a file stand in order, their numbers follow their offsets.
+pub fn numbers_follow_offsets()
+    ensures { (files : Files) (file : ℕ) (root : Tree) → slice_get files file ≡ Some root
+        → IsInOrder root → FollowOffsets (rows_of files) file }
 {}
