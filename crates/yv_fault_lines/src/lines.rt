@@ -5,7 +5,7 @@ ghost use Rattle.std.specs.Option.{option_map};
 ghost use Rattle.yv_nodes.specs.Member.{behind};
 ghost use Rattle.yv_validate.specs.Line.{escaped, escaped_byte, hexadecimal, is_plain, item_text, line_text, path_text, place_text, places_text};
 ghost use Rattle.yv_references.specs.Place.{called};
-ghost use Rattle.yv_streams.specs.Stream.{has_failed, stream_inner};
+ghost use Rattle.yv_streams.specs.Stream.{has_failed, stream_failures, stream_inner, FailsOnceAtMost};
 ghost use Rattle.yv_fault_lines.specs.Paged.{Adds, held};
 ghost use Rattle.yv_fault_lines.specs.Lines.{ended_line, fault_lines, faults_text};
 ghost use Rattle.yv_fault_lines.specs.InnerNumbers.{number_text};
@@ -22,6 +22,7 @@ pub fn write_faults<W: Write>(writer: &mut Counted<W>, faults: &[Fault]) -> bool
     ensures done { result ≡ true → Appends (W.contents (stream_inner writer.old)) (W.contents (stream_inner writer.new)) (faults_text faults.now) }
     ensures part { (n : ℕ) × Appends (W.contents (stream_inner writer.old)) (W.contents (stream_inner writer.new)) (take n (faults_text faults.now)) }
     ensures fault { result ≡ false ↔ (has_failed writer.new ≡ true) }
+    ensures once { FailsOnceAtMost writer.new }
 {
     let mut page = Page::new();
     put_lines(&mut page, writer, faults);
@@ -32,8 +33,8 @@ pub fn write_faults<W: Write>(writer: &mut Counted<W>, faults: &[Fault]) -> bool
 
 // The line of how many faults there are.
 fn put_count<W: Write>(page: &mut Page, writer: &mut Counted<W>, count: usize)
-    ensures { Adds (ended_line (codes "faults: " ++ decimal count)) (held (W.contents (stream_inner writer.old)) (has_failed writer.old) page.old)
-        (held (W.contents (stream_inner writer.new)) (has_failed writer.new) page.new) }
+    ensures { Adds (ended_line (codes "faults: " ++ decimal count)) (held (W.contents (stream_inner writer.old)) (has_failed writer.old) (stream_failures writer.old) page.old)
+        (held (W.contents (stream_inner writer.new)) (has_failed writer.new) (stream_failures writer.new) page.new) }
 {
     page.put(writer, b"faults: ");
     page.put(writer, Buffer::new().format(count).as_bytes());
@@ -42,8 +43,8 @@ fn put_count<W: Write>(page: &mut Page, writer: &mut Counted<W>, count: usize)
 
 // Puts the lines of faults behind what a page holds, each with a line feed, and writes each full page.
 fn put_lines<W: Write>(page: &mut Page, writer: &mut Counted<W>, faults: &[Fault])
-    ensures { Adds (fault_lines faults.now) (held (W.contents (stream_inner writer.old)) (has_failed writer.old) page.old)
-        (held (W.contents (stream_inner writer.new)) (has_failed writer.new) page.new) }
+    ensures { Adds (fault_lines faults.now) (held (W.contents (stream_inner writer.old)) (has_failed writer.old) (stream_failures writer.old) page.old)
+        (held (W.contents (stream_inner writer.new)) (has_failed writer.new) (stream_failures writer.new) page.new) }
 {
     for fault in faults {
         put_line(page, writer, fault);
@@ -52,8 +53,8 @@ fn put_lines<W: Write>(page: &mut Page, writer: &mut Counted<W>, faults: &[Fault
 
 // The line of a fault. Nothing is done for a writer that has failed, since it gets no more.
 fn put_line<W: Write>(page: &mut Page, writer: &mut Counted<W>, fault: &Fault)
-    ensures { Adds ((line_text fault.now ++ 10 ∷ [])) (held (W.contents (stream_inner writer.old)) (has_failed writer.old) page.old)
-        (held (W.contents (stream_inner writer.new)) (has_failed writer.new) page.new) }
+    ensures { Adds ((line_text fault.now ++ 10 ∷ [])) (held (W.contents (stream_inner writer.old)) (has_failed writer.old) (stream_failures writer.old) page.old)
+        (held (W.contents (stream_inner writer.new)) (has_failed writer.new) (stream_failures writer.new) page.new) }
 {
     if !writer.has_failed() {
         put_whole_line(page, writer, fault);
@@ -61,8 +62,8 @@ fn put_line<W: Write>(page: &mut Page, writer: &mut Counted<W>, fault: &Fault)
 }
 
 fn put_whole_line<W: Write>(page: &mut Page, writer: &mut Counted<W>, fault: &Fault)
-    ensures { Adds (ended_line (line_text fault.now)) (held (W.contents (stream_inner writer.old)) (has_failed writer.old) page.old)
-        (held (W.contents (stream_inner writer.new)) (has_failed writer.new) page.new) }
+    ensures { Adds (ended_line (line_text fault.now)) (held (W.contents (stream_inner writer.old)) (has_failed writer.old) (stream_failures writer.old) page.old)
+        (held (W.contents (stream_inner writer.new)) (has_failed writer.new) (stream_failures writer.new) page.new) }
 {
     page.put(writer, fault.kind.name().as_bytes());
     page.put(writer, b" ");
@@ -73,8 +74,8 @@ fn put_whole_line<W: Write>(page: &mut Page, writer: &mut Counted<W>, fault: &Fa
 
 // The number of a statement, where there is one.
 fn put_number<W: Write>(page: &mut Page, writer: &mut Counted<W>, number: u32)
-    ensures { Adds (number_text number) (held (W.contents (stream_inner writer.old)) (has_failed writer.old) page.old)
-        (held (W.contents (stream_inner writer.new)) (has_failed writer.new) page.new) }
+    ensures { Adds (number_text number) (held (W.contents (stream_inner writer.old)) (has_failed writer.old) (stream_failures writer.old) page.old)
+        (held (W.contents (stream_inner writer.new)) (has_failed writer.new) (stream_failures writer.new) page.new) }
 {
     if number != 0 {
         page.put(writer, b" ");
@@ -83,8 +84,8 @@ fn put_number<W: Write>(page: &mut Page, writer: &mut Counted<W>, number: u32)
 }
 
 fn put_path<W: Write>(page: &mut Page, writer: &mut Counted<W>, path: &[Step])
-    ensures { Adds (path_text path.now) (held (W.contents (stream_inner writer.old)) (has_failed writer.old) page.old)
-        (held (W.contents (stream_inner writer.new)) (has_failed writer.new) page.new) }
+    ensures { Adds (path_text path.now) (held (W.contents (stream_inner writer.old)) (has_failed writer.old) (stream_failures writer.old) page.old)
+        (held (W.contents (stream_inner writer.new)) (has_failed writer.new) (stream_failures writer.new) page.new) }
 {
     if path.is_empty() {
         page.put(writer, b"/");
@@ -94,8 +95,8 @@ fn put_path<W: Write>(page: &mut Page, writer: &mut Counted<W>, path: &[Step])
 }
 
 fn put_steps<W: Write>(page: &mut Page, writer: &mut Counted<W>, path: &[Step])
-    ensures { Adds (places_text path.now) (held (W.contents (stream_inner writer.old)) (has_failed writer.old) page.old)
-        (held (W.contents (stream_inner writer.new)) (has_failed writer.new) page.new) }
+    ensures { Adds (places_text path.now) (held (W.contents (stream_inner writer.old)) (has_failed writer.old) (stream_failures writer.old) page.old)
+        (held (W.contents (stream_inner writer.new)) (has_failed writer.new) (stream_failures writer.new) page.new) }
 {
     for step in path {
         put_step(page, writer, step);
@@ -103,8 +104,8 @@ fn put_steps<W: Write>(page: &mut Page, writer: &mut Counted<W>, path: &[Step])
 }
 
 fn put_step<W: Write>(page: &mut Page, writer: &mut Counted<W>, step: &Step)
-    ensures { Adds (place_text step.now) (held (W.contents (stream_inner writer.old)) (has_failed writer.old) page.old)
-        (held (W.contents (stream_inner writer.new)) (has_failed writer.new) page.new) }
+    ensures { Adds (place_text step.now) (held (W.contents (stream_inner writer.old)) (has_failed writer.old) (stream_failures writer.old) page.old)
+        (held (W.contents (stream_inner writer.new)) (has_failed writer.new) (stream_failures writer.new) page.new) }
 {
     page.put(writer, b"/");
     put_name(page, writer, &step.parts());
@@ -112,8 +113,8 @@ fn put_step<W: Write>(page: &mut Page, writer: &mut Counted<W>, step: &Step)
 }
 
 fn put_name<W: Write>(page: &mut Page, writer: &mut Counted<W>, name: &MemberName<'_>)
-    ensures { Adds (escaped (called name.now.is_choice (option_map (λ m. m.now) name.now.module) name.now.name.now)) (held (W.contents (stream_inner writer.old)) (has_failed writer.old) page.old)
-        (held (W.contents (stream_inner writer.new)) (has_failed writer.new) page.new) }
+    ensures { Adds (escaped (called name.now.is_choice (option_map (λ m. m.now) name.now.module) name.now.name.now)) (held (W.contents (stream_inner writer.old)) (has_failed writer.old) (stream_failures writer.old) page.old)
+        (held (W.contents (stream_inner writer.new)) (has_failed writer.new) (stream_failures writer.new) page.new) }
 {
     if name.is_choice {
         page.put(writer, b"(");
@@ -125,8 +126,8 @@ fn put_name<W: Write>(page: &mut Page, writer: &mut Counted<W>, name: &MemberNam
 }
 
 fn put_qualified<W: Write>(page: &mut Page, writer: &mut Counted<W>, name: &MemberName<'_>)
-    ensures { Adds (escaped (behind (option_map (λ m. m.now) name.now.module) name.now.name.now)) (held (W.contents (stream_inner writer.old)) (has_failed writer.old) page.old)
-        (held (W.contents (stream_inner writer.new)) (has_failed writer.new) page.new) }
+    ensures { Adds (escaped (behind (option_map (λ m. m.now) name.now.module) name.now.name.now)) (held (W.contents (stream_inner writer.old)) (has_failed writer.old) (stream_failures writer.old) page.old)
+        (held (W.contents (stream_inner writer.new)) (has_failed writer.new) (stream_failures writer.new) page.new) }
 {
     if let Some(module) = name.module {
         put_escaped(page, writer, module.as_bytes());
@@ -136,8 +137,8 @@ fn put_qualified<W: Write>(page: &mut Page, writer: &mut Counted<W>, name: &Memb
 }
 
 fn put_item<W: Write>(page: &mut Page, writer: &mut Counted<W>, item: Option<u64>)
-    ensures { Adds (item_text item) (held (W.contents (stream_inner writer.old)) (has_failed writer.old) page.old)
-        (held (W.contents (stream_inner writer.new)) (has_failed writer.new) page.new) }
+    ensures { Adds (item_text item) (held (W.contents (stream_inner writer.old)) (has_failed writer.old) (stream_failures writer.old) page.old)
+        (held (W.contents (stream_inner writer.new)) (has_failed writer.new) (stream_failures writer.new) page.new) }
 {
     if let Some(place) = item {
         page.put(writer, b"[");
@@ -147,8 +148,8 @@ fn put_item<W: Write>(page: &mut Page, writer: &mut Counted<W>, item: Option<u64
 }
 
 fn put_escaped<W: Write>(page: &mut Page, writer: &mut Counted<W>, name: &[u8])
-    ensures { Adds (escaped name.now) (held (W.contents (stream_inner writer.old)) (has_failed writer.old) page.old)
-        (held (W.contents (stream_inner writer.new)) (has_failed writer.new) page.new) }
+    ensures { Adds (escaped name.now) (held (W.contents (stream_inner writer.old)) (has_failed writer.old) (stream_failures writer.old) page.old)
+        (held (W.contents (stream_inner writer.new)) (has_failed writer.new) (stream_failures writer.new) page.new) }
 {
     for byte in name {
         put_escaped_byte(page, writer, *byte);
@@ -156,8 +157,8 @@ fn put_escaped<W: Write>(page: &mut Page, writer: &mut Counted<W>, name: &[u8])
 }
 
 fn put_escaped_byte<W: Write>(page: &mut Page, writer: &mut Counted<W>, byte: u8)
-    ensures { Adds (escaped_byte byte) (held (W.contents (stream_inner writer.old)) (has_failed writer.old) page.old)
-        (held (W.contents (stream_inner writer.new)) (has_failed writer.new) page.new) }
+    ensures { Adds (escaped_byte byte) (held (W.contents (stream_inner writer.old)) (has_failed writer.old) (stream_failures writer.old) page.old)
+        (held (W.contents (stream_inner writer.new)) (has_failed writer.new) (stream_failures writer.new) page.new) }
 {
     if b'!' <= byte && byte <= b'~' && byte != b'%' {
         page.put(writer, &[byte]);

@@ -1,6 +1,6 @@
 //! Bytes on their way to a stream.
 ghost use Rattle.std.specs.Prelude.{◌≡◌, ◌<◌, ◌++◌, ◌∷◌, [], ℕ, List, Option, false, length};
-ghost use Rattle.yv_streams.specs.Stream.{has_failed, stream_inner};
+ghost use Rattle.yv_streams.specs.Stream.{has_failed, stream_failures, stream_inner};
 ghost use Rattle.yv_fault_lines.specs.Paged.{Adds, Keeps, held};
 ghost use Rattle.yv_fault_lines.specs.InnerPage.{IsEmptied};
 
@@ -66,8 +66,8 @@ impl Page {
 
     /// Writes what the page holds, unless the writer has failed.
     pub(crate) fn turn<W: Write>(&mut self, writer: &mut Counted<W>)
-        ensures paged { Keeps (held (W.contents (stream_inner writer.old)) (has_failed writer.old) self.old)
-            (held (W.contents (stream_inner writer.new)) (has_failed writer.new) self.new) }
+        ensures paged { Keeps (held (W.contents (stream_inner writer.old)) (has_failed writer.old) (stream_failures writer.old) self.old)
+            (held (W.contents (stream_inner writer.new)) (has_failed writer.new) (stream_failures writer.new) self.new) }
         ensures emptied { IsEmptied (has_failed writer.new) self.new }
     {
         if !writer.has_failed() {
@@ -78,8 +78,8 @@ impl Page {
     // Writes what the page holds.
     fn write<W: Write>(&mut self, writer: &mut Counted<W>)
         requires { has_failed writer.old ≡ false }
-        ensures paged { Keeps (held (W.contents (stream_inner writer.old)) (has_failed writer.old) self.old)
-            (held (W.contents (stream_inner writer.new)) (has_failed writer.new) self.new) }
+        ensures paged { Keeps (held (W.contents (stream_inner writer.old)) (has_failed writer.old) (stream_failures writer.old) self.old)
+            (held (W.contents (stream_inner writer.new)) (has_failed writer.new) (stream_failures writer.new) self.new) }
         ensures emptied { IsEmptied (has_failed writer.new) self.new }
     {
         if write_whole(writer, self.held()) {
@@ -89,8 +89,8 @@ impl Page {
 
     // Puts a byte behind the others, and writes them before where there is no room.
     fn put_byte<W: Write>(&mut self, writer: &mut Counted<W>, byte: u8)
-        ensures { Adds (byte ∷ []) (held (W.contents (stream_inner writer.old)) (has_failed writer.old) self.old)
-            (held (W.contents (stream_inner writer.new)) (has_failed writer.new) self.new) }
+        ensures { Adds (byte ∷ []) (held (W.contents (stream_inner writer.old)) (has_failed writer.old) (stream_failures writer.old) self.old)
+            (held (W.contents (stream_inner writer.new)) (has_failed writer.new) (stream_failures writer.new) self.new) }
     {
         self.make_room(writer);
         self.push(byte);
@@ -98,8 +98,8 @@ impl Page {
 
     // Sees to it that there is room for a byte more, unless the writer has failed.
     fn make_room<W: Write>(&mut self, writer: &mut Counted<W>)
-        ensures paged { Keeps (held (W.contents (stream_inner writer.old)) (has_failed writer.old) self.old)
-            (held (W.contents (stream_inner writer.new)) (has_failed writer.new) self.new) }
+        ensures paged { Keeps (held (W.contents (stream_inner writer.old)) (has_failed writer.old) (stream_failures writer.old) self.old)
+            (held (W.contents (stream_inner writer.new)) (has_failed writer.new) (stream_failures writer.new) self.new) }
         ensures room { has_failed writer.new ≡ false → length self.new < 8192 }
     {
         if self.is_full() {
@@ -110,8 +110,8 @@ impl Page {
     /// Puts bytes behind the others, and writes each full page. Nothing is put behind bytes that were lost: a writer that has failed
     /// gets no more.
     pub(crate) fn put<W: Write>(&mut self, writer: &mut Counted<W>, bytes: &[u8])
-        ensures { Adds bytes.now (held (W.contents (stream_inner writer.old)) (has_failed writer.old) self.old)
-            (held (W.contents (stream_inner writer.new)) (has_failed writer.new) self.new) }
+        ensures { Adds bytes.now (held (W.contents (stream_inner writer.old)) (has_failed writer.old) (stream_failures writer.old) self.old)
+            (held (W.contents (stream_inner writer.new)) (has_failed writer.new) (stream_failures writer.new) self.new) }
     {
         for byte in bytes {
             self.put_byte(writer, *byte);

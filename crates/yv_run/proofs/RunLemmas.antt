@@ -1,5 +1,5 @@
 -- What a run leaves, by what was to be written.
-use Rattle.std.proofs.Common.{◌≡◌, ℕ, List, [], take, refl, sym, IfSome, slice_get}
+use Rattle.std.proofs.Common.{◌≡◌, ℕ, List, [], take, refl, sym, IfSome, IfOk, Result, Ok, Err, slice_get, zero-le}
 use Rattle.std.specs.declared.option.Option.{Option}
 use Rattle.std.specs.declared.option.Option.TheVariants.{None, Some}
 use Rattle.yv_statement.specs.declared.refusal.Refusal.{Refusal}
@@ -9,7 +9,11 @@ use Rattle.yv_outcome.specs.declared.print.Output.{Output}
 use Rattle.yv_outcome.specs.declared.status.Verdict.TheVariants.{Refused}
 use Rattle.yv_outcome.specs.Compiles.{FilesCompile, RefusedAt, Built}
 use Rattle.yv_streams.specs.Files.{File}
-use Rattle.yv_run.specs.InnerRun.{SaysOf}
+use Rattle.yv_streams.specs.Stream.{TakesAtMost}
+use Rattle.yv_run.specs.InnerRun.{ReadsOf, SaysOf}
+use Rattle.std.specs.Io.KnownBytes.{Consumes}
+use Rattle.std.proofs.KnownBytes.{Consumes-nil}
+use Rattle.yv_run.specs.Reads.{ReadsAndPrints, schema_read}
 use Rattle.yv_run.specs.Notes.{IsNote, NotesDocument, NotesGiven, on_refusal, on_document}
 use Rattle.yv_messages.specs.Excerpt.{Explains}
 use Rattle.yv_messages.specs.Explained.{Speaks, bytes_at}
@@ -43,6 +47,39 @@ pub prints_says : (known : Option (List ℕ)) (task : Task) (files : List File) 
 prints_says known task files s o compiles says =
     let d = says_given known task.asked s o says in
     record { given = d.0; gives = d.1; output = (Built s, compiles, d.2) }
+
+-- for a refusal nothing is read
+pub reads_none : (known : Option (List ℕ)) (task : Task) (files : List File) (r : Refusal) (p : Printed) → FilesCompile task.choice task.limit files (RefusedAt r)
+    → p ≡ record { text = refusal_line files r; verdict = Refused } → ReadsAndPrints known known task files p
+reads_none known task files r p compiles is =
+    let d = some_given known in
+    record { given = d.0; gives = d.1; compiled = RefusedAt r; compiles = compiles; printed = sym is; consumed = Consumes-nil known }
+
+-- for what is said of a schema that is read which was asked for
+reads_given : (old new : Option (List ℕ)) (asked : Asked) (s : Rows) (o : Output) → SaysOf old asked s o → ReadsOf old new asked s o
+    → (given : List ℕ) × Gives old given × (schema_printed asked s given ≡ printed_of o) × Consumes old new (schema_read asked given)
+reads_given old new Compiles s o says reads =
+    let d = some_given old in
+    (d.0, d.1, sym says, reads)
+reads_given old new (Draws name) s o says reads =
+    let d = some_given old in
+    (d.0, d.1, sym says, reads)
+reads_given old new (Checks f) s o says reads = (reads.given, reads.gives, sym reads.printed, reads.consumed)
+
+pub reads_said : (old new : Option (List ℕ)) (task : Task) (files : List File) (s : Rows) (o : Output) → FilesCompile task.choice task.limit files (Built s)
+    → SaysOf old task.asked s o → ReadsOf old new task.asked s o → ReadsAndPrints old new task files (printed_of o)
+reads_said old new task files s o compiles says reads =
+    let d = reads_given old new task.asked s o says reads in
+    record { given = d.0; gives = d.1; compiled = Built s; compiles = compiles; printed = d.2; consumed = d.3 }
+
+-- both facts on what is answered
+pub both : {A E : Type 0} (P Q S : A → Type 0) (r : Result A E) → ((a : A) → P a → Q a → S a) → IfOk r P → IfOk r Q → IfOk r S
+both P Q S (Ok a) f p q = f a p q
+both P Q S (Err e) f p q = tt
+
+-- a reader that is as it was has lost nothing
+pub takes_none : (limit : ℕ) (known : Option (List ℕ)) → TakesAtMost limit known known
+takes_none limit known = record { taken = []; consumed = Consumes-nil known; few = zero-le }
 
 module _ {A : Type 0} (bytes_of : A → List ℕ) (known : Option (List ℕ)) (task : Task) (files : List File) where
   -- a note on a document is one on what the run found

@@ -1,7 +1,7 @@
 -- Only private clauses cite this: what the parts of a run leave.
-use Rattle.std.specs.Prelude.{◌≡◌, ℕ, List, take}
+use Rattle.std.specs.Prelude.{◌≡◌, ℕ, List, [], take}
 use Rattle.std.specs.declared.option.Option.{Option}
-use Rattle.std.specs.Io.KnownBytes.{Appends}
+use Rattle.std.specs.Io.KnownBytes.{Appends, Consumes}
 use Rattle.yv_nodes.specs.Rows.{Rows, whole}
 use Rattle.yv_job.specs.Jobs.{Asked, Compiles, Draws, Checks}
 use Rattle.yv_outcome.specs.Output.{Gives, count_printed, data_printed, diagram_printed, printed_of}
@@ -30,3 +30,16 @@ abbrev pub SaysOf : Option (List ℕ) → Asked → Rows → Output → Type 0
 SaysOf known Compiles s o = printed_of o ≡ count_printed (whole s)
 SaysOf known (Draws name) s o = printed_of o ≡ diagram_printed s name
 SaysOf known (Checks f) s o = SaysOfData known s o
+
+-- what is said of some bytes, which the reader gave, and which are gone from it
+pub record ReadsOfData (old new : Option (List ℕ)) (s : Rows) (o : Output) : Type 0 where
+  pub given : List ℕ
+  pub gives : Gives old given
+  pub printed : printed_of o ≡ data_printed s given
+  pub consumed : Consumes old new given
+
+-- what is read for what is said of the schema, by what was asked
+abbrev pub ReadsOf : Option (List ℕ) → Option (List ℕ) → Asked → Rows → Output → Type 0
+ReadsOf old new Compiles s o = Consumes old new []
+ReadsOf old new (Draws name) s o = Consumes old new []
+ReadsOf old new (Checks f) s o = ReadsOfData old new s o

@@ -1,2 +1,3 @@
 pub mod InnerRun
 pub mod Notes
+pub mod Reads

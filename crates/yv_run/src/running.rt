@@ -3,14 +3,15 @@ ghost use Rattle.std.specs.Prelude.{◌≡◌, ◌≤◌, ◌↔◌, ◌⊎◌, 
 ghost use Rattle.yv_job.specs.Jobs.{HasFiles, HasLimit, asked_of, task_of};
 ghost use Rattle.yv_selection.specs.Choice.{choice_of};
 ghost use Rattle.std.specs.Io.KnownBytes.{Appends};
-ghost use Rattle.yv_streams.specs.Stream.{stream_inner, has_failed, IsFresh};
+ghost use Rattle.yv_streams.specs.Stream.{stream_inner, has_failed, IsFresh, FailsOnceAtMost, TakesAtMost};
 ghost use Rattle.yv_streams.specs.Files.{file_of};
 ghost use Rattle.yv_outcome.specs.Compiles.{HavePattern};
 ghost use Rattle.yv_messages.specs.Document.{SaysWhy};
 ghost use Rattle.yv_messages.specs.Excerpt.{Explains};
 ghost use Rattle.yv_messages.specs.Explained.{Speaks, bytes_at};
-ghost use Rattle.yv_run.specs.InnerRun.{AppendsAll, AppendsFront, SaysOf, SaysOfData};
+ghost use Rattle.yv_run.specs.InnerRun.{AppendsAll, AppendsFront, ReadsOf, ReadsOfData, SaysOf, SaysOfData};
 ghost use Rattle.yv_run.specs.Notes.{IsNote, NotesDocument, NotesGiven};
+ghost use Rattle.yv_run.specs.Reads.{ReadsAndPrints, ReadsAndWrites, most_read};
 ghost use Rattle.yv_outcome.specs.Output.{PrintsFor, ReadsData, WantsData, WritesAll, WritesFront, IsFinished, IsStopped, body_text, data_printed, printed_of};
 
 use crate::compiling::compiled;
@@ -19,7 +20,7 @@ use std::io::{Read, Write};
 use thiserror::Error;
 use yv_fault_lines::write_faults;
 use yv_job::{Command, Job};
-use yv_messages::{explanation, why_not_json};
+use yv_messages::{Bounds, explanation, why_not_json};
 use yv_outcome::{Body, Output, Status, of_count, of_data, of_diagram, of_refusal};
 use yv_schema::Schema;
 use yv_statement::{Refusal, Stop};
@@ -100,6 +101,11 @@ pub fn run<R: Read, W: Write>(
     ensures unread { WantsData (task_of job.now) (map file_of inputs.now) ⊎ (reader.new ≡ reader.old) }
     ensures read_fault { result ≡ Status.ReadFault ↔ (has_failed reader.new ≡ true) }
     ensures write_fault { result ≡ Status.WriteFault ↔ (has_failed writer.new ≡ true) }
+    ensures read { IsStopped result ⊎ ReadsAndWrites (R.remaining (stream_inner reader.old)) (R.remaining (stream_inner reader.new)) (task_of job.now) (map file_of inputs.now)
+        (W.contents (stream_inner writer.old)) (W.contents (stream_inner writer.new)) }
+    ensures taken { TakesAtMost most_read (R.remaining (stream_inner reader.old)) (R.remaining (stream_inner reader.new)) }
+    ensures reader_once { FailsOnceAtMost reader.new }
+    ensures writer_once { FailsOnceAtMost writer.new }
     ensures built { result ≡ Status.PatternBuild → HavePattern (choice_of job.now.selection) job.now.limit (map file_of inputs.now) }
 {
     run_with_note(alloc, job, inputs, reader, writer).status
@@ -127,6 +133,11 @@ pub fn run_with_note<R: Read, W: Write>(
     ensures unread { WantsData (task_of job.now) (map file_of inputs.now) ⊎ (reader.new ≡ reader.old) }
     ensures read_fault { result.status ≡ Status.ReadFault ↔ (has_failed reader.new ≡ true) }
     ensures write_fault { result.status ≡ Status.WriteFault ↔ (has_failed writer.new ≡ true) }
+    ensures read { IsStopped result.status ⊎ ReadsAndWrites (R.remaining (stream_inner reader.old)) (R.remaining (stream_inner reader.new)) (task_of job.now) (map file_of inputs.now)
+        (W.contents (stream_inner writer.old)) (W.contents (stream_inner writer.new)) }
+    ensures taken { TakesAtMost most_read (R.remaining (stream_inner reader.old)) (R.remaining (stream_inner reader.new)) }
+    ensures reader_once { FailsOnceAtMost reader.new }
+    ensures writer_once { FailsOnceAtMost writer.new }
     ensures built { result.status ≡ Status.PatternBuild → HavePattern (choice_of job.now.selection) job.now.limit (map file_of inputs.now) }
     ensures note { IfSome result.note (λ s. IsNote (R.remaining (stream_inner reader.old)) (task_of job.now) (map file_of inputs.now) (string_bytes s)) }
 {
@@ -148,6 +159,7 @@ fn written<W: Write>(output: &Output, writer: &mut Counted<W>) -> Status
     ensures front { AppendsFront output.now (W.contents (stream_inner writer.old)) (W.contents (stream_inner writer.new)) }
     ensures fault { result ≡ Status.WriteFault ↔ (has_failed writer.new ≡ true) }
     ensures not_stopped { IsStopped result → ⊥ }
+    ensures once { FailsOnceAtMost writer.new }
 {
     if write_body(writer, &output.body) {
         output.verdict.status()
@@ -162,6 +174,7 @@ fn write_body<W: Write>(writer: &mut Counted<W>, body: &Body) -> bool
     ensures done { result ≡ true → Appends (W.contents (stream_inner writer.old)) (W.contents (stream_inner writer.new)) (body_text body.now) }
     ensures part { (n : ℕ) × Appends (W.contents (stream_inner writer.old)) (W.contents (stream_inner writer.new)) (take n (body_text body.now)) }
     ensures fault { result ≡ false ↔ (has_failed writer.new ≡ true) }
+    ensures once { FailsOnceAtMost writer.new }
 {
     match body {
         Body::Text(text) => write_whole(writer, text.as_bytes()),
@@ -170,6 +183,7 @@ fn write_body<W: Write>(writer: &mut Counted<W>, body: &Body) -> bool
 }
 
 // What is to be written, with the note on it.
+#[tactic(auto, using(crate::proofs::RunLemmas::takes_none))]
 fn outcome<R: Read>(
     alloc: Global,
     job: &Job,
@@ -181,13 +195,16 @@ fn outcome<R: Read>(
     ensures note { IfOk result (λ f. IfSome f.note (λ s. IsNote (R.remaining (stream_inner reader.old)) (task_of job.now) (map file_of inputs.now) (string_bytes s))) }
     ensures unread { WantsData (task_of job.now) (map file_of inputs.now) ⊎ (reader.new ≡ reader.old) }
     ensures fault { IsErrOf result Halt.Read ↔ (has_failed reader.new ≡ true) }
+    ensures read { IfOk result (λ f. ReadsAndPrints (R.remaining (stream_inner reader.old)) (R.remaining (stream_inner reader.new)) (task_of job.now) (map file_of inputs.now) (printed_of f.output)) }
+    ensures taken { TakesAtMost most_read (R.remaining (stream_inner reader.old)) (R.remaining (stream_inner reader.new)) }
+    ensures once { FailsOnceAtMost reader.new }
     ensures built { IsErrOf result Halt.PatternBuild → HavePattern (choice_of job.now.selection) job.now.limit (map file_of inputs.now) }
 {
     match compiled(alloc, inputs, &job.selection, job.limit) {
         Ok(schema) => answered(alloc, &job.command, &schema, reader),
         Err(Stop::Fault(refusal)) => Ok(Found {
             output: of_refusal(alloc, inputs, &refusal)?,
-            note: note_of(alloc, inputs, &refusal),
+            note: note_of(alloc, job, inputs, &refusal),
         }),
         Err(Stop::PatternBuild) => Err(Halt::PatternBuild),
         Err(Stop::NoMemory) => Err(Halt::NoMemory),
@@ -195,6 +212,7 @@ fn outcome<R: Read>(
 }
 
 // What is said of the schema.
+#[tactic(auto, using(crate::proofs::RunLemmas::takes_none))]
 fn answered<R: Read>(
     alloc: Global,
     command: &Command,
@@ -206,6 +224,9 @@ fn answered<R: Read>(
     ensures note { IfOk result (λ f. IfSome f.note (λ s. NotesDocument (R.remaining (stream_inner reader.old)) schema.now (string_bytes s))) }
     ensures unread { ReadsData (asked_of command.now) ⊎ (reader.new ≡ reader.old) }
     ensures fault { IsErrOf result Halt.Read ↔ (has_failed reader.new ≡ true) }
+    ensures read { IfOk result (λ f. ReadsOf (R.remaining (stream_inner reader.old)) (R.remaining (stream_inner reader.new)) (asked_of command.now) schema.now f.output) }
+    ensures taken { TakesAtMost most_read (R.remaining (stream_inner reader.old)) (R.remaining (stream_inner reader.new)) }
+    ensures once { FailsOnceAtMost reader.new }
     ensures never_built { IsErrOf result Halt.PatternBuild → ⊥ }
 {
     match command {
@@ -231,6 +252,9 @@ fn validated<R: Read>(
     ensures printed { IfOk result (λ f. SaysOfData (R.remaining (stream_inner reader.old)) schema.now f.output) }
     ensures note { IfOk result (λ f. IfSome f.note (λ s. NotesDocument (R.remaining (stream_inner reader.old)) schema.now (string_bytes s))) }
     ensures fault { IsErrOf result Halt.Read ↔ (has_failed reader.new ≡ true) }
+    ensures read { IfOk result (λ f. ReadsOfData (R.remaining (stream_inner reader.old)) (R.remaining (stream_inner reader.new)) schema.now f.output) }
+    ensures taken { TakesAtMost most_read (R.remaining (stream_inner reader.old)) (R.remaining (stream_inner reader.new)) }
+    ensures once { FailsOnceAtMost reader.new }
     ensures never_built { IsErrOf result Halt.PatternBuild → ⊥ }
 {
     match read_up_to(alloc, DATA_BYTES, reader) {
@@ -267,11 +291,15 @@ fn note_on(alloc: Global, bytes: &[u8]) -> Option<String>
 }
 
 // What helps a person to mend a file that is refused, where there is memory to say it.
-fn note_of(alloc: Global, inputs: &[Input], refusal: &Refusal) -> Option<String>
+fn note_of(alloc: Global, job: &Job, inputs: &[Input], refusal: &Refusal) -> Option<String>
     ensures place { IfSome result (λ s. Explains (bytes_at (slice_get (map file_of inputs.now) refusal.now.file)) refusal.now (string_bytes s)) }
     ensures speaks { IfSome result (λ s. Speaks (map file_of inputs.now) refusal.now (string_bytes s)) }
 {
-    match explanation(alloc, inputs, refusal) {
+    let bounds = Bounds {
+        selection: &job.selection,
+        limit: job.limit,
+    };
+    match explanation(alloc, inputs, &bounds, refusal) {
         Ok(text) => Some(text),
         Err(_) => None,
     }

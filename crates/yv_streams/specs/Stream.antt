@@ -1,5 +1,6 @@
 -- What a clause reads of a `Counted`, and what its calls count.
-use Rattle.std.specs.Prelude.{◌≡◌, ◌+◌, ◌-◌, ◌^◌, ◌||◌, ℕ, Bool, ltb, min}
+use Rattle.std.specs.Prelude.{◌≡◌, ◌≤◌, ◌+◌, ◌-◌, ◌^◌, ◌||◌, ℕ, Bool, true, List, length, Option, ltb, min}
+use Rattle.std.specs.Io.KnownBytes.{Consumes}
 use Rattle.yv_streams.specs.declared.counted.Counted.{Counted}
 
 -- the reader or writer that is wrapped
@@ -41,3 +42,22 @@ CountsFault old new =
 abbrev pub CountsInterrupt : {T : Type 0} → Counted T → Counted T → Type 0
 CountsInterrupt old new =
     (stream_faults new ≡ stream_faults old) × (stream_interrupts new ≡ one_more (stream_interrupts old))
+
+-- a call of a stream that has failed is none of what it wraps, and one more fault
+abbrev pub GivesUp : {T : Type 0} → Counted T → Counted T → Type 0
+GivesUp old new = has_failed old ≡ true → (stream_inner new ≡ stream_inner old) × CountsFault old new
+
+-- the calls that went wrong and weren't borne: the faults, and the interruptions past the first 1,000
+abbrev pub stream_failures : {T : Type 0} → Counted T → ℕ
+stream_failures c = stream_faults c + (stream_interrupts c - 1000)
+
+-- At most one call wasn't borne. No call came behind it, since each call of a stream that has failed is one more fault.
+abbrev pub FailsOnceAtMost : {T : Type 0} → Counted T → Type 0
+FailsOnceAtMost c = stream_failures c ≤ 1
+
+-- Of the bytes that a reader has left the first are gone, where they are known, and those are at most `limit`. A read that answers an
+-- error takes none, so this can hold of a reader that failed too.
+pub record TakesAtMost (limit : ℕ) (old new : Option (List ℕ)) : Type 0 where
+  pub taken : List ℕ
+  pub consumed : Consumes old new taken
+  pub few : length taken ≤ limit

@@ -1,9 +1,9 @@
 //! A reader or a writer that counts what goes wrong in its calls.
-ghost use Rattle.std.specs.Prelude.{◌≡◌, ◌≢◌, ◌<◌, length, OnOk, IfOk, IfErr};
+ghost use Rattle.std.specs.Prelude.{◌≡◌, ◌≢◌, ◌<◌, true, length, OnOk, IfOk, IfErr};
 ghost use Rattle.std.specs.IoError.{error_kind};
 ghost use Rattle.std.specs.Io.{ReadsAtMost, WritesAtMost};
 ghost use Rattle.std.specs.Io.KnownBytes.{Keeps, ReadConsumes, WriteAppends};
-ghost use Rattle.yv_streams.specs.Stream.{stream_inner, stream_faults, stream_interrupts, has_failed, CountsNothing, CountsFault, CountsInterrupt};
+ghost use Rattle.yv_streams.specs.Stream.{stream_inner, stream_faults, stream_interrupts, has_failed, CountsNothing, CountsFault, CountsInterrupt, GivesUp};
 
 use std::io;
 use std::io::{Error, ErrorKind, Read, Write};
@@ -12,7 +12,8 @@ use std::io::{Error, ErrorKind, Read, Write};
 const PATIENCE: u64 = 1_000;
 
 /// A reader or a writer, with the errors that its calls have answered. Each call is one call of
-/// what it wraps, and passes on its answer.
+/// what it wraps, and passes on its answer. Once the stream has failed, what it wraps is left
+/// alone: a further call answers an error, and is one more fault.
 #[derive(Drop)]
 pub struct Counted<T> {
     inner: T,
@@ -62,6 +63,16 @@ impl<T> Counted<T> {
         self.inner
     }
 
+    // The answer to a call of a stream that has failed, which is a fault of the caller.
+    fn refused(&mut self) -> Error
+        ensures inner { stream_inner self.new ≡ stream_inner self.old }
+        ensures counted { CountsFault self.old self.new }
+        ensures kind { error_kind result ≢ ErrorKind.Interrupted }
+    {
+        self.count_fault();
+        Error::from(ErrorKind::Other)
+    }
+
     fn count_fault(&mut self)
         ensures inner { stream_inner self.new ≡ stream_inner self.old }
         ensures counted { CountsFault self.old self.new }
@@ -96,7 +107,11 @@ impl<R: Read> Read for Counted<R> {
             → CountsInterrupt self.old self.new) }
         ensures failed { IfErr result (λ e. error_kind e ≢ ErrorKind.Interrupted
             → CountsFault self.old self.new) }
+        ensures given_up { GivesUp self.old self.new }
     {
+        if self.has_failed() {
+            return Err(self.refused());
+        }
         let result = self.inner.read(buf);
         if let Err(error) = &result {
             self.count_error(error);
@@ -120,7 +135,11 @@ impl<W: Write> Write for Counted<W> {
             → CountsInterrupt self.old self.new) }
         ensures failed { IfErr result (λ e. error_kind e ≢ ErrorKind.Interrupted
             → CountsFault self.old self.new) }
+        ensures given_up { GivesUp self.old self.new }
     {
+        if self.has_failed() {
+            return Err(self.refused());
+        }
         let result = self.inner.write(buf);
         match &result {
             Ok(0) if !buf.is_empty() => self.count_fault(),
@@ -138,7 +157,11 @@ impl<W: Write> Write for Counted<W> {
             → CountsInterrupt self.old self.new) }
         ensures failed { IfErr result (λ e. error_kind e ≢ ErrorKind.Interrupted
             → CountsFault self.old self.new) }
+        ensures given_up { GivesUp self.old self.new }
     {
+        if self.has_failed() {
+            return Err(self.refused());
+        }
         let result = self.inner.flush();
         if let Err(error) = &result {
             self.count_error(error);

@@ -2,7 +2,7 @@
 ghost use Rattle.std.specs.Prelude.{◌≡◌, ◌≤◌, ◌+◌, ◌↔◌, true, length, take, IfOk, IfSome, IsErrOf};
 ghost use Rattle.std.specs.Io.KnownBytes.{Consumes};
 ghost use Rattle.yv_streams.specs.Files.{file_of, file_limit};
-ghost use Rattle.yv_streams.specs.Stream.{stream_inner, has_failed, IsFresh};
+ghost use Rattle.yv_streams.specs.Stream.{stream_inner, has_failed, IsFresh, FailsOnceAtMost, TakesAtMost};
 
 use crate::counted::Counted;
 use crate::stream::{InputFault, read_up_to};
@@ -34,6 +34,8 @@ pub fn read_input<R: Read>(
         (R.remaining (stream_inner reader.new)) (file_of i).bytes) }
     ensures bound { IfOk result (λ i. length (file_of i).bytes ≤ file_limit + 1) }
     ensures fault { IsErrOf result InputFault.Read ↔ (has_failed reader.new ≡ true) }
+    ensures once { FailsOnceAtMost reader.new }
+    ensures taken { TakesAtMost (file_limit + 1) (R.remaining (stream_inner reader.old)) (R.remaining (stream_inner reader.new)) }
 {
     let name = String::from_str(alloc, name)?;
     let bytes = read_up_to(alloc, FILE_BYTES, reader)?;

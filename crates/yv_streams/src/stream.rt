@@ -2,7 +2,7 @@
 ghost use Rattle.std.specs.Prelude.{◌≡◌, ◌≤◌, ◌<◌, ◌+◌, ◌↔◌, ℕ, true, false, Ok, Err, length, take, drop, vec_len, IfOk, IfSome, OnOk, IsErrOf};
 ghost use Rattle.std.specs.Io.{StartsWith};
 ghost use Rattle.std.specs.Io.KnownBytes.{Appends, Consumes, IsAtEnd};
-ghost use Rattle.yv_streams.specs.Stream.{stream_inner, stream_interrupts, has_failed};
+ghost use Rattle.yv_streams.specs.Stream.{stream_inner, stream_interrupts, has_failed, FailsOnceAtMost, TakesAtMost};
 
 use crate::counted::Counted;
 use std::alloc::{AllocError, Global};
@@ -47,6 +47,8 @@ pub fn read_up_to<R: Read>(
     ensures end { IfOk result (λ v. length v.items < limit
         → IsAtEnd (R.remaining (stream_inner reader.new))) }
     ensures fault { IsErrOf result InputFault.Read ↔ (has_failed reader.new ≡ true) }
+    ensures once { FailsOnceAtMost reader.new }
+    ensures taken { TakesAtMost limit (R.remaining (stream_inner reader.old)) (R.remaining (stream_inner reader.new)) }
 {
     let mut bytes = Vec::new(alloc);
     while bytes.len() < limit {
@@ -75,6 +77,8 @@ fn read_some<R: Read>(
         < vec_len bytes.new + stream_interrupts reader.new }
     ensures grows { stream_interrupts reader.old ≤ stream_interrupts reader.new }
     ensures fault { IsErrOf result InputFault.Read ↔ (has_failed reader.new ≡ true) }
+    ensures once { FailsOnceAtMost reader.new }
+    ensures taken { TakesAtMost room (R.remaining (stream_inner reader.old)) (R.remaining (stream_inner reader.new)) }
 {
     let mut chunk = [0u8; CHUNK];
     let most = room.min(CHUNK);
@@ -108,6 +112,7 @@ pub fn write_whole<W: Write>(writer: &mut Counted<W>, bytes: &[u8]) -> bool
     ensures part { (n : ℕ) × Appends (W.contents (stream_inner writer.old))
         (W.contents (stream_inner writer.new)) (take n bytes.now) }
     ensures fault { result ≡ false ↔ (has_failed writer.new ≡ true) }
+    ensures once { FailsOnceAtMost writer.new }
 {
     let mut written = 0;
     while written < bytes.len() {
@@ -129,6 +134,7 @@ fn write_some<W: Write>(writer: &mut Counted<W>, bytes: &[u8]) -> usize
     ensures moves { has_failed writer.new ≡ false
         → stream_interrupts writer.old < result + stream_interrupts writer.new }
     ensures grows { stream_interrupts writer.old ≤ stream_interrupts writer.new }
+    ensures once { FailsOnceAtMost writer.new }
 {
     writer.write(bytes).unwrap_or(0)
 }

@@ -22,3 +22,15 @@ returns-in-Ok-clause-note g c =
     IfOk-weaker c.noted.result _ _
     (λ f note. notes_given string_bytes _ c.args.schema.now c.in-Ok.bytes.items (gave_up_to _ _ _ 16777217 read.given read.bound read.end) f.note note)
     notes
+
+pub returns-in-Ok-clause-read : goal.returns-in-Ok-clause-read
+returns-in-Ok-clause-read g c =
+    let read = c.in-Ok.ensures in
+    IfOk-weaker c.noted.result _ _
+    (λ f printed. record {
+      given = c.in-Ok.bytes.items;
+      gives = gave_up_to _ _ _ 16777217 read.given read.bound read.end;
+      printed = rw (← c.as_slice.ensures.value) printed;
+      consumed = read.given;
+    })
+    c.noted.ensures.printed

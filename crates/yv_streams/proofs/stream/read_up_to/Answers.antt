@@ -1,5 +1,5 @@
 use Rattle.std.proofs.Common.{rules, arith}
-use Rattle.yv_streams.proofs.StreamLemmas.{gave_more}
+use Rattle.yv_streams.proofs.StreamLemmas.{gave_more, took_more}
 use Rattle.yv_streams.proofs.stream.read_up_to.Goals as goal
 
 pub loop-bytes-preserved : goal.loop-bytes-preserved
@@ -10,3 +10,8 @@ loop-bytes-preserved g c =
       within = omega arith;
       given = gave_more _ _ _ _ _ c.loop-bytes.invariant.given read.front read.given;
     }
+
+pub returns-in_err-read_some-clause-taken : goal.returns-in_err-read_some-clause-taken
+returns-in_err-read_some-clause-taken g c =
+    let before = c.loop-bytes.invariant in
+    took_more _ _ _ _ _ c.args.limit before.given (omega (arith, c.loop-bytes.bytes.ok.0)) c.read_some.ensures.taken
