@@ -7,7 +7,6 @@ mod choices;
 mod clear;
 mod earlier;
 mod front;
-mod likeness;
 mod numbers;
 mod repeated;
 mod spot;

@@ -1,10 +1,9 @@
 //! What is said of a member that names no node.
 use crate::beside::beside;
-use crate::likeness::{Likeness, compared};
 use crate::spot::node_at;
 use crate::words::push_member;
 use std::alloc::{AllocError, Global};
-use yv_messages::push_quoted;
+use yv_messages::{Likeness, compared, push_quoted};
 use yv_nodes::NodeId;
 use yv_tables::Schema;
 

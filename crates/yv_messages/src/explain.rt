@@ -7,11 +7,11 @@ ghost use Rattle.yv_messages.specs.Quoted.{Extends};
 
 use crate::meanings::meaning;
 use crate::place::excerpt;
-use crate::told::push_sentence;
+use crate::told::{Bounds, push_sentence};
 use std::alloc::{AllocError, Global};
 use yv_files::Texts;
 use yv_rows::Rows;
-use yv_statement::{Refusal, Stop};
+use yv_statement::{Code, Refusal, Stop};
 use yv_streams::Input;
 
 // The bytes of the file of this number; none, where there is none.
@@ -24,11 +24,35 @@ fn bytes_at(inputs: &[Input], file: u32) -> &[u8]
     }
 }
 
+// What a place at which no statement goes on shows of what is wrong.
+fn hint(code: Code, byte: Option<u8>) -> &'static str {
+    match (code, byte) {
+        (Code::BadSyntax, None) =>
+            " The file ends here, where a statement or a closing brace is wanted.",
+        (Code::BadSyntax, Some(b'}')) => {
+            " This brace closes nothing, or the statement before it lacks its `;`."
+        }
+        (Code::BadSyntax, Some(_)) =>
+            " Look whether a `;`, a brace or a quote is missing before it.",
+        _ => "",
+    }
+}
+
+// Adds what is said of a file that can't be read.
+fn push_unread(text: &mut String, bytes: &[u8], refusal: &Refusal) -> Result<(), AllocError>
+    ensures { OnOk result (Extends (string_bytes text.old) (string_bytes text.new)) }
+{
+    let place = usize::try_from(refusal.offset).unwrap_or(usize::MAX);
+    text.push_str(meaning(refusal.code))?;
+    text.push_str(hint(refusal.code, bytes.get(place).copied()))
+}
+
 // Adds the sentence on a refusal.
 fn push_told(
     alloc: Global,
     text: &mut String,
     inputs: &[Input],
+    bounds: &Bounds<'_>,
     refusal: &Refusal,
 ) -> Result<(), AllocError>
     ensures grows { OnOk result (Extends (string_bytes text.old) (string_bytes text.new)) }
@@ -38,11 +62,11 @@ fn push_told(
     match texts.statements(alloc) {
         Ok(statements) => {
             let rows = Rows::read(alloc, &statements)?;
-            push_sentence(alloc, text, inputs, &rows, refusal)?;
+            push_sentence(alloc, text, inputs, &rows, bounds, refusal)?;
             Ok(())
         }
         Err(Stop::Fault(_)) => {
-            text.push_str(meaning(refusal.code))?;
+            push_unread(text, bytes_at(inputs, refusal.file), refusal)?;
             Ok(())
         }
         Err(Stop::PatternBuild | Stop::NoMemory) => Err(AllocError),
@@ -52,7 +76,12 @@ fn push_told(
 /// The line of the file with a caret under the place of a refusal, and below it the refusal's name with a sentence. The sentence
 /// names the statement's argument or keyword of which the refusal speaks, where the files can be read; where not, it is the one
 /// that fits every refusal of that name.
-pub fn explanation(alloc: Global, inputs: &[Input], refusal: &Refusal) -> Result<String, AllocError>
+pub fn explanation(
+    alloc: Global,
+    inputs: &[Input],
+    bounds: &Bounds<'_>,
+    refusal: &Refusal,
+) -> Result<String, AllocError>
     ensures place { IfOk result (λ s. Explains (bytes_at (slice_get (map file_of inputs.now) refusal.now.file)) refusal.now (string_bytes s)) }
     ensures speaks { IfOk result (λ s. Speaks (map file_of inputs.now) refusal.now (string_bytes s)) }
 {
@@ -61,7 +90,7 @@ pub fn explanation(alloc: Global, inputs: &[Input], refusal: &Refusal) -> Result
     let mut text = excerpt(alloc, bytes, place.min(bytes.len()))?;
     text.push_str(refusal.code.name())?;
     text.push_str(": ")?;
-    push_told(alloc, &mut text, inputs, refusal)?;
+    push_told(alloc, &mut text, inputs, bounds, refusal)?;
     text.push_str("\n")?;
     Ok(text)
 }

@@ -1,4 +1,5 @@
 //! Sentences on refusals, with a hole for the word of which they speak.
+use crate::guess::Guess;
 use yv_statement::{Code, Statement};
 
 /// What stands before and behind the word of which a sentence speaks.
@@ -131,6 +132,46 @@ static REMARKS: &[Remark] = remarks![
     "augment": "", " is no path of names joined by `/`: under a `uses` without one in front, elsewhere with one.";
     "path": "", " is no path of a leafref: `/` or `../` in front, and names joined by `/`.";
 ];
+
+// The keywords on which there is no remark.
+static FURTHER_KEYWORDS: &[&str] = &[
+    "namespace",
+    "organization",
+    "contact",
+    "description",
+    "reference",
+    "input",
+    "output",
+    "enum",
+    "pattern",
+    "default",
+    "units",
+    "presence",
+    "error-message",
+    "error-app-tag",
+    "must",
+    "when",
+    "deviation",
+    "deviate",
+];
+
+/// The keyword of YANG that is most like one that was written.
+pub(crate) fn nearest_keyword(written: &str) -> Option<Guess<'static>> {
+    let mut found = None;
+    for remark in REMARKS {
+        found = Guess::nearer(found, Guess::of(written, remark.keyword, None));
+    }
+    nearest_further(written, found)
+}
+
+// The same, where this one was found among those on which there is a remark.
+fn nearest_further(written: &str, before: Option<Guess<'static>>) -> Option<Guess<'static>> {
+    let mut found = before;
+    for keyword in FURTHER_KEYWORDS {
+        found = Guess::nearer(found, Guess::of(written, keyword, None));
+    }
+    found
+}
 
 // What this profile leaves out for good.
 static LEFT_OUT: &[&str] = &[

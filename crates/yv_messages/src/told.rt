@@ -6,13 +6,17 @@ ghost use Rattle.yv_rows.specs.Lent.{rows_in};
 ghost use Rattle.yv_messages.specs.Quoted.{Quotes, Extends};
 ghost use Rattle.yv_messages.specs.Subject.{Names, is_at, subject};
 
+use crate::circle::push_circle;
+use crate::guess::push_guess;
 use crate::meanings::meaning;
-use crate::place::push_shown;
+use crate::place::{excerpt, push_shown};
 use crate::quoted::push_quoted;
 use crate::sentences::{Sentence, sentence_on};
+use crate::units::push_units;
 use crate::words::subject;
 use std::alloc::{AllocError, Global};
 use yv_rows::{Entry, Rows};
+use yv_selection::Selection;
 use yv_statement::{Code, Refusal, Statement};
 use yv_streams::Input;
 
@@ -110,7 +114,7 @@ fn first_of_name<'r, 'a, 'b>(
     None
 }
 
-// Adds where the other one stands.
+// Adds where the other one stands, and shows the place.
 fn push_other(
     alloc: Global,
     text: &mut String,
@@ -119,13 +123,17 @@ fn push_other(
 ) -> Result<(), AllocError>
     ensures { OnOk result (Extends (string_bytes text.old) (string_bytes text.new)) }
 {
+    let Some(input) = inputs.get(other.file as usize) else {
+        return Ok(());
+    };
     let line = other.statement.line();
-    let place = format!(in alloc; ":{line}.")?;
+    let place = format!(in alloc; ":{line}:\n")?;
     text.push_str(" The other one stands at ")?;
-    if let Some(input) = inputs.get(other.file as usize) {
-        push_shown(text, input.name.as_bytes())?;
-    }
-    text.push_str(place.as_str())
+    push_shown(text, input.name.as_bytes())?;
+    text.push_str(place.as_str())?;
+    let offset = usize::try_from(other.statement.offset()).unwrap_or(0);
+    let shown = excerpt(alloc, &input.bytes, offset.min(input.bytes.len()))?;
+    text.push_str(shown.trim_end())
 }
 
 // Adds where the statement stands that has the name already, where a refusal says that there is one.
@@ -145,14 +153,47 @@ fn push_first(
     }
 }
 
+// Adds what helps further with a refusal at a statement, where something is known: where the name is that is there already, what may have
+// been meant, the modules of a circle, or how many nodes there are.
+fn push_help<'a>(
+    alloc: Global,
+    text: &mut String,
+    inputs: &[Input],
+    rows: &Rows<'a, '_>,
+    bounds: &Bounds<'_>,
+    code: Code,
+    entry: &Entry<'a, '_>,
+) -> Result<(), AllocError>
+    ensures { OnOk result (Extends (string_bytes text.old) (string_bytes text.new)) }
+{
+    match code {
+        Code::DuplicateModule | Code::DuplicateName | Code::DuplicateNode => {
+            push_first(alloc, text, inputs, rows, code, entry)
+        }
+        Code::ImportCycle => push_circle(alloc, text, rows, entry),
+        Code::TooManyNodes => push_units(alloc, text, rows, bounds.selection, bounds.limit),
+        _ => push_guess(alloc, text, inputs, rows, code, entry),
+    }
+}
+
+/// What a run was asked to keep to.
+#[derive(Clone, Copy)]
+pub struct Bounds<'b> {
+    pub selection: &'b Selection,
+    /// The highest number of units: nodes, and uses that are expanded.
+    pub limit: u32,
+}
+
 /// Adds what is said of a refusal: a sentence that names the word of which it speaks, where a statement stands at its place, and
 /// else one that fits every refusal of its code. Of a name that is there twice the other place is told, where it is a statement
-/// of the same block.
+/// of the same block; of a name that means nothing the one that may have been meant; of imports in a circle their modules; and of
+/// too many nodes how many there are.
 pub fn push_sentence(
     alloc: Global,
     text: &mut String,
     inputs: &[Input],
     rows: &Rows<'_, '_>,
+    bounds: &Bounds<'_>,
     refusal: &Refusal,
 ) -> Result<(), AllocError>
     ensures grows { OnOk result (Extends (string_bytes text.old) (string_bytes text.new)) }
@@ -162,6 +203,6 @@ pub fn push_sentence(
         return text.push_str(meaning(refusal.code));
     };
     push_about(text, refusal.code, entry.statement)?;
-    push_first(alloc, text, inputs, rows, refusal.code, entry)?;
+    push_help(alloc, text, inputs, rows, bounds, refusal.code, entry)?;
     Ok(())
 }

@@ -12,4 +12,4 @@ returns-clause-names c =
     let before : Names (rows_in c.args.rows.now) c.args.refusal.now (string_bytes c.push_about.new.text) =
     rw (← c.statement_at.ensures, c.in-Some.is) c.in_ok-push_about.ensures.names in
     named_longer (option_and_then (λ (row : Row). subject c.args.refusal.now.code row.head) (find (is_at c.args.refusal.now) (rows_in c.args.rows.now)))
-    (string_bytes c.push_about.new.text) (string_bytes c.push_first.new.text) c.in_ok-push_first.ensures before
+    (string_bytes c.push_about.new.text) (string_bytes c.push_help.new.text) c.in_ok-push_help.ensures before

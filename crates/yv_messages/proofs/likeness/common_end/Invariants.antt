@@ -1,5 +1,5 @@
 use Rattle.std.proofs.Common.{◌≤◌, ◌-◌, length}
-use Rattle.yv_fault_sentences.proofs.likeness.common_end.Given as goal
+use Rattle.yv_messages.proofs.likeness.common_end.Given as goal
 
 abbrev pub invariant-loop-count : goal.invariant-loop-count
 invariant-loop-count l = (l.count ≤ length l.one) × (l.count ≤ length l.other)

@@ -1,23 +1,23 @@
 //! Names that are like others.
 ghost use Rattle.std.specs.Prelude.{◌≤◌, length};
 
-/// How a name of the schema is like one that a document has: the less, the more alike.
+/// How a name that is there is like one that was written: the less, the more alike.
 #[derive(Clone, Copy, PartialEq, Eq, PartialOrd, Ord)]
-pub(crate) enum Likeness {
+pub enum Likeness {
     Same,
     /// Without what both begin and end by there is one character.
     OneApart,
     /// There are two characters.
     TwoApart,
-    /// The name of the document is the front of it.
+    /// What was written is the front of it.
     Longer,
 }
 
 /// The longest names that are compared.
 const MOST_BYTES: usize = 64;
 
-/// How a name of the schema is like another one, if it is.
-pub(crate) fn compared(written: &[u8], name: &[u8]) -> Option<Likeness> {
+/// How a name is like one that was written, if it is: both have at most 64 bytes.
+pub fn compared(written: &[u8], name: &[u8]) -> Option<Likeness> {
     if written.len() > MOST_BYTES || name.len() > MOST_BYTES {
         return None;
     }
