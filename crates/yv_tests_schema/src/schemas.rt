@@ -67,7 +67,10 @@ const KEYED: &str =
     "module ex{yang-version 1.1;namespace urn:ex;prefix ex;list e{key k;leaf k{type decimal64{fraction-digits 2;}}}}";
 
 const NUMBERED: &str =
-    "module ex{yang-version 1.1;namespace urn:ex;prefix ex;list e{key k;leaf k{type int32;}leaf v{type int32;}}}";
+    "module ex{yang-version 1.1;namespace urn:ex;prefix ex;list e{key k;leaf k{type int32;}leaf r{type leafref{path /ex:e/ex:k;}}}}";
+
+const BESIDE: &str =
+    "module ex{yang-version 1.1;namespace urn:ex;prefix ex;list e{key n;leaf n{type string;}leaf m{type string;}leaf r{type leafref{path ../m;}}}}";
 
 const ENTRIES: &str =
     "module ex{yang-version 1.1;namespace urn:ex;prefix ex;list e{key k;unique v;max-elements 2;leaf k{type int8;}leaf v{type int8;}}}";
@@ -86,8 +89,8 @@ fn counted(alloc: Global, module: &str, text: &str) -> Result<(u64, u64, usize),
     Ok((members, report.steps, report.faults.len()))
 }
 
-// A step is a member that is looked up, a schema node that is visited in an object, a plain type that is tried, or a key or the values
-// of a `unique` statement that are looked up.
+// A step is a member that is looked up, a schema node that is visited in an object, a plain type that is tried, or a key, the values
+// of a `unique` statement or a reference that are looked up.
 #[test]
 fn steps_are_counted(rt: HostRuntime) -> Result<(), Fail> {
     let alloc = rt.alloc();
@@ -106,6 +109,11 @@ fn steps_are_counted(rt: HostRuntime) -> Result<(), Fail> {
         ),
         (CASES, "{\"ex:b\":1}", (1, 8, 1)),
         (
+            BESIDE,
+            "{\"ex:e\":[{\"n\":\"1\",\"m\":\"x\"},{\"n\":\"2\",\"r\":\"x\"}]}",
+            (7, 19, 1),
+        ),
+        (
             ENTRIES,
             "{\"ex:e\":[{\"k\":1,\"v\":1},{\"k\":1,\"v\":1},{\"v\":9,\"z\":0}]}",
             (10, 24, 5),
@@ -117,23 +125,23 @@ fn steps_are_counted(rt: HostRuntime) -> Result<(), Fail> {
     Ok(())
 }
 
-// So many entries, each with its number as key and as value.
+// So many entries, each with its number as key and as a reference to that.
 fn numbered(alloc: Global, count: u32) -> Result<String, AllocError> {
-    let mut text = String::from_str(alloc, "{\"ex:e\":[{\"k\":0,\"v\":0}")?;
+    let mut text = String::from_str(alloc, "{\"ex:e\":[{\"k\":0,\"r\":0}")?;
     for number in 1..count {
-        let entry = format!(in alloc; ",{{\"k\":{number},\"v\":{number}}}")?;
+        let entry = format!(in alloc; ",{{\"k\":{number},\"r\":{number}}}")?;
         text.push_str(&entry)?;
     }
     text.push_str("]}")?;
     Ok(text)
 }
 
-// Of the list itself two, and of each entry seven: two members, two nodes, two types and a key.
+// Of the list itself two, and of each entry eight: two members, two nodes, two types, a key and a reference.
 #[test]
 fn steps_of_many_entries(rt: HostRuntime) -> Result<(), Fail> {
     let alloc = rt.alloc();
     let text = numbered(alloc, 100_000)?;
-    assert!(rt; counted(alloc, NUMBERED, &text)? == (300_001, 700_002, 0));
+    assert!(rt; counted(alloc, NUMBERED, &text)? == (300_001, 800_002, 0));
     Ok(())
 }
 
