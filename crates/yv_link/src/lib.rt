@@ -11,3 +11,4 @@ pub use linked::Linked;
 pub use linking::link;
 pub use modules::ModuleRef;
 pub use yv_identities::IdentityRef;
+pub use yv_selection::Selection;

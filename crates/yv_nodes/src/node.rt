@@ -194,7 +194,7 @@ impl Node {
 
     /// Whether the node being there says something by itself, as that of a presence container does, by its own statement
     /// or by a refine (RFC 7950, sections 7.5.5 and 7.13.2).
-    pub fn has_presence(&self) -> bool
+    pub fn presence(&self) -> bool
         ensures { result ≡ self.now.label.defined.has_presence }
     {
         self.definition.has_presence()

@@ -6,3 +6,6 @@ mod compiling;
 mod running;
 
 pub use running::{Ended, run, run_with_note};
+pub use yv_job::{Command, Job, JobFault, read_job};
+pub use yv_outcome::Status;
+pub use yv_streams::{Counted, Input, InputFault, read_input};

@@ -16,4 +16,5 @@ mod turn;
 
 pub use reader::parse;
 pub use source::{MOST_BYTES, Source};
+pub use yv_conform::conform;
 pub use yv_statement::{Code, Refusal, Statement, Stop};

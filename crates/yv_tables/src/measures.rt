@@ -110,7 +110,7 @@ fn is_open(node: &Node) -> bool
     ensures { result ≡ is_open node.now.label }
 {
     let kind = node.kind();
-    kind.is_passed() || is_container(kind) && !node.has_presence()
+    kind.is_passed() || is_container(kind) && !node.presence()
 }
 
 // Whether objects are of such nodes.

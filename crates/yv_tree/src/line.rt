@@ -121,7 +121,7 @@ fn push_options(node: &Node, text: &mut String) -> Result<(), AllocError>
     ensures { OnOk result (string_bytes text.new ≡ string_bytes text.old ++ options node.now.label.defined.kind node.now.label) }
 {
     match node.kind() {
-        NodeKind::Container => text.push_str(if node.has_presence() { "!" } else { "" }),
+        NodeKind::Container => text.push_str(if node.presence() { "!" } else { "" }),
         NodeKind::Leaf | NodeKind::Choice | NodeKind::Anydata | NodeKind::Anyxml => {
             text.push_str(optional_of(node))
         }

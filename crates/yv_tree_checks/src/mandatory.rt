@@ -58,7 +58,7 @@ fn is_needed(node: &Node, below: bool) -> bool
             node.mandatory()
         }
         NodeKind::List | NodeKind::LeafList => node.min() > 0,
-        NodeKind::Container => !node.has_presence() && below,
+        NodeKind::Container => !node.presence() && below,
         _ => false,
     }
 }

@@ -6,7 +6,6 @@ ghost use Rattle.yv_selection.specs.Choice.{Choice};
 ghost use Rattle.yv_rows.specs.Files.{Files};
 ghost use Rattle.yv_rows.specs.Listed.{rows_of};
 ghost use Rattle.yv_names.specs.References.{number_at};
-ghost use Rattle.yv_bases.specs.Types.{IsTypeAt};
 ghost use Rattle.yv_listed.specs.Types.{Truth};
 ghost use Rattle.yv_values.specs.Types.{Plain, plain_of};
 ghost use Rattle.yv_types.specs.Spaces.{Space};
@@ -32,23 +31,23 @@ pub struct Types {
 }
 
 impl Types {
-    /// The plain types of the type of this number, typedefs followed and unions opened in order (RFC 7950, section 9.12):
-    /// no types for a leafref, whose values are its target's. None for other statements, and for types that lead to
-    /// instance-identifier and unions with such a member.
-    pub fn plain(&self, number: usize) -> Option<&[PlainType]>
+    /// The plain types of the type statement that stands first at an offset (bytes) of a file, typedefs followed and unions opened in
+    /// order (RFC 7950, section 9.12): no types for a leafref, whose values are its target's. None where there is no type, and for types
+    /// that lead to instance-identifier and unions with such a member. Takes time log n.
+    pub fn plain(&self, file: u32, offset: u64) -> Option<&[PlainType]>
         ensures told { (files : Files) (choice : Choice) (truth : Truth) → AreTypes files choice truth self.now
-            → IfSome result (λ types. Space files truth choice number (map plain_of types.now)) }
+            → IfSome result (λ types. (k : ℕ) × (number_at (rows_of files) (codes "type") file offset ≡ Some k)
+            × Space files truth choice k (map plain_of types.now)) }
         ensures none { (files : Files) (choice : Choice) (truth : Truth) → AreTypes files choice truth self.now
-            → IsTypeAt (rows_of files) number → result ≡ None → (types : List Plain) → Space files truth choice number types → ⊥ }
+            → result ≡ None → (k : ℕ) → number_at (rows_of files) (codes "type") file offset ≡ Some k
+            → (types : List Plain) → Space files truth choice k types → ⊥ }
+        ensures same { option_map (λ types. map plain_of types.now) result ≡ space_at self.now file offset }
     {
-        match get(&self.spaces, number) {
-            Some(shared) => Some(shared.types.as_slice()),
-            None => None,
-        }
+        let number = self.places.get(file, offset)?;
+        Some(get(&self.spaces, number)?.types.as_slice())
     }
 
-    /// The plain types of the type statement that stands first at an offset (bytes) of a file, as `plain` tells them: the
-    /// list itself, which its types share. None where there is no type, and where `plain` has none.
+    /// The same, as the list itself, which its types share.
     pub fn at(&self, file: u32, offset: u64) -> Result<Option<RcSlice<PlainType>>, AllocError>
         ensures told { IfOk result (λ found. (files : Files) (choice : Choice) (truth : Truth) → AreTypes files choice truth self.now
             → IfSome found (λ types. (k : ℕ) × (number_at (rows_of files) (codes "type") file offset ≡ Some k)

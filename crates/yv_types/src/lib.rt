@@ -16,3 +16,4 @@ mod table;
 pub use first::first_bad_type;
 pub use known::Types;
 pub use read::types;
+pub use yv_names::{Names, names};

@@ -389,7 +389,7 @@ impl Walk<'_> {
         let node = self.schema.node(id);
         match value {
             None => {
-                if node.has_presence() {
+                if node.presence() {
                     return Ok(());
                 }
                 let context = Context::empty(self.alloc, id);

@@ -33,3 +33,4 @@ pub use reading::check;
 pub use scope::Scope;
 pub use value::{Tuple, Value};
 pub use yv_numbers::{Integer, Intervals, Span};
+pub use yv_pattern::{Pattern, Patterns};

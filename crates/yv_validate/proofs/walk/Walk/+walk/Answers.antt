@@ -240,8 +240,8 @@ container-children-requires t c =
       ),
     )
 
-pub container-returns-else-has_presence-clause-notes : goal.container-returns-else-has_presence-clause-notes
-container-returns-else-has_presence-clause-notes t c =
+pub container-returns-else-presence-clause-notes : goal.container-returns-else-presence-clause-notes
+container-returns-else-presence-clause-notes t c =
     let s = c.args.self.now.schema.now in
     let id = c.args.id in
     let l = (row_at s id).label in
@@ -253,8 +253,8 @@ container-returns-else-has_presence-clause-notes t c =
     (ap (λ (ms : Members). forest_value s n (λ at u. c.args.scope) (rank id) (below s id) ms) c.empty-context.ensures.members)))
     c.children.ensures.notes
 
-pub container-returns-else-has_presence-clause-found : goal.container-returns-else-has_presence-clause-found
-container-returns-else-has_presence-clause-found t c =
+pub container-returns-else-presence-clause-found : goal.container-returns-else-presence-clause-found
+container-returns-else-presence-clause-found t c =
     let s = c.args.self.now.schema.now in
     let id = c.args.id in
     let l = (row_at s id).label in
