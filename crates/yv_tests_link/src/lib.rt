@@ -4,8 +4,6 @@
 #[cfg(test)]
 mod links;
 #[cfg(test)]
-mod modules;
-#[cfg(test)]
 mod rows;
 #[cfg(test)]
 mod texts;

@@ -72,6 +72,10 @@ const NUMBERED: &str =
 const BESIDE: &str =
     "module ex{yang-version 1.1;namespace urn:ex;prefix ex;list e{key n;leaf n{type string;}leaf m{type string;}leaf r{type leafref{path ../m;}}}}";
 
+// RFC 7950, section 9.12.4: a number, or `unbounded`.
+const UNION: &str =
+    "module ex{yang-version 1.1;namespace urn:ex;prefix ex;leaf a{type union{type int32;type enumeration{enum unbounded;}}}}";
+
 const ENTRIES: &str =
     "module ex{yang-version 1.1;namespace urn:ex;prefix ex;list e{key k;unique v;max-elements 2;leaf k{type int8;}leaf v{type int8;}}}";
 
@@ -108,6 +112,8 @@ fn steps_are_counted(rt: HostRuntime) -> Result<(), Fail> {
             (5, 10, 1),
         ),
         (CASES, "{\"ex:b\":1}", (1, 8, 1)),
+        (UNION, "{\"ex:a\":42}", (1, 3, 0)),
+        (UNION, "{\"ex:a\":\"unbounded\"}", (1, 4, 0)),
         (
             BESIDE,
             "{\"ex:e\":[{\"n\":\"1\",\"m\":\"x\"},{\"n\":\"2\",\"r\":\"x\"}]}",

@@ -7,6 +7,4 @@ mod patterns;
 #[cfg(test)]
 mod restrictions;
 #[cfg(test)]
-mod types;
-#[cfg(test)]
 mod values;
