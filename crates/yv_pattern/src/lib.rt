@@ -8,11 +8,14 @@ mod class;
 mod count;
 pub mod laws;
 mod mark;
+mod matchers;
 mod part;
 mod pattern;
 mod patterns;
 mod place;
 mod reader;
+mod ready;
 
+pub use matchers::Matchers;
 pub use pattern::Pattern;
 pub use patterns::Patterns;

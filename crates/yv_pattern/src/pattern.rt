@@ -15,7 +15,11 @@ use yv_statement::{Code, Refusal, Stop};
 /// was given.
 #[derive(Drop)]
 pub struct Pattern {
-    regex: Regex,
+    pub(crate) regex: Regex,
+    // Its number among the patterns of its compilation, from 0 in the order of their building. One that was read by itself has none.
+    number: Option<usize>,
+    // The limit on the bytes of its tables under which it was built.
+    tables: usize,
 }
 
 impl Model for Pattern {
@@ -43,7 +47,7 @@ impl Pattern {
         ensures refused { IfErr result (IsRefusedAs text.now) }
     {
         match source_of(alloc, text)? {
-            Some(source) => Pattern::within(alloc, source.as_str(), MOST_TABLES),
+            Some(source) => Pattern::within(alloc, source.as_str(), MOST_TABLES, None),
             None => Err(Stop::Fault(bad_pattern())),
         }
     }
@@ -57,15 +61,34 @@ impl Pattern {
     }
 
     /// The pattern of a source, where `regex` builds it with a limit on the bytes of its tables.
-    pub(crate) fn within(alloc: Global, source: &str, limit: usize) -> Result<Pattern, Stop>
+    pub(crate) fn within(
+        alloc: Global,
+        source: &str,
+        limit: usize,
+        number: Option<usize>,
+    ) -> Result<Pattern, Stop>
         ensures source { IfOk result (λ p. p ≡ source.now) }
         ensures kind { IfErr result (λ stop. (refusal : Refusal) → stop ≢ Stop.Fault refusal) }
     {
         match RegexBuilder::new(source).size_limit(limit).build(alloc) {
-            Ok(regex) => Ok(Pattern { regex }),
+            Ok(regex) => Ok(Pattern {
+                regex,
+                number,
+                tables: limit,
+            }),
             Err(Error::OutOfMemory) => Err(Stop::NoMemory),
             Err(_) => Err(Stop::PatternBuild),
         }
+    }
+
+    /// Its number among the patterns of its compilation, where it wasn't read by itself.
+    pub(crate) fn number(&self) -> Option<usize> {
+        self.number
+    }
+
+    /// The limit on the bytes of its tables under which it was built: they take no more.
+    pub(crate) fn tables(&self) -> usize {
+        self.tables
     }
 
     /// What `regex` was given.

@@ -11,14 +11,18 @@ use yv_statement::{Refusal, Stop};
 // How many bytes of tables `regex` may build for the patterns of one compilation, all together.
 const ROOM: usize = 268_435_456;
 
-// The limits on these bytes that are tried for a pattern, one after another. The last is `regex`'s own.
-const LIMITS: [usize; 12] = [
-    8_192, 16_384, 32_768, 65_536, 131_072, 262_144, 524_288, 1_048_576, 2_097_152, 4_194_304,
-    8_388_608, 10_485_760,
+// The limits on these bytes that are tried for a pattern, one after another. The last is `regex`'s own. The first tell small
+// patterns apart, since a matcher that is kept grows with its pattern's tables.
+const LIMITS: [usize; 18] = [
+    128, 256, 512, 1_024, 2_048, 4_096, 8_192, 16_384, 32_768, 65_536, 131_072, 262_144, 524_288,
+    1_048_576, 2_097_152, 4_194_304, 8_388_608, 10_485_760,
 ];
 
+// How many of these bytes a pattern is charged at least, since it takes so much besides its tables.
+const LEAST_CHARGE: usize = 8_192;
+
 /// The patterns that a compilation has built, each once, and how much room is left to build others. Each is charged the
-/// limit under which `regex` built it, so that what strangers' patterns take together is bounded.
+/// limit under which `regex` built it, and 8 KiB at least, so that what strangers' patterns take together is bounded.
 #[derive(Drop)]
 pub struct Patterns {
     built: BTreeMap<String, Rc<Pattern>>,
@@ -55,7 +59,8 @@ impl Patterns {
         if let Some(pattern) = self.known(source.as_str())? {
             return Ok(pattern);
         }
-        let (pattern, taken) = built(alloc, source.as_str(), self.room)?;
+        let number = self.built.len();
+        let (pattern, taken) = built(alloc, source.as_str(), number, self.room)?;
         let pattern = Rc::new(alloc, pattern)?;
         self.room -= taken;
         let copy = pattern.clone()?;
@@ -80,16 +85,16 @@ impl Patterns {
     }
 }
 
-// The pattern of a source, and the room that it has been given: the least limit with which `regex` builds it.
-fn built(alloc: Global, source: &str, room: usize) -> Result<(Pattern, usize), Stop>
+// The pattern of a source, with this number, and the room that it is charged: the least limit with which `regex` builds it.
+fn built(alloc: Global, source: &str, number: usize, room: usize) -> Result<(Pattern, usize), Stop>
     ensures source { IfOk result (λ p. p.0 ≡ source.now) }
     ensures room { IfOk result (λ p. p.1 ≤ room) }
     ensures kind { IfErr result (λ stop. (refusal : Refusal) → stop ≢ Stop.Fault refusal) }
 {
     for limit in limits_for(source) {
         let given = (*limit).min(room);
-        match Pattern::within(alloc, source, given) {
-            Ok(pattern) => return Ok((pattern, given)),
+        match Pattern::within(alloc, source, given, Some(number)) {
+            Ok(pattern) => return Ok((pattern, given.max(LEAST_CHARGE).min(room))),
             Err(Stop::PatternBuild) => {}
             Err(stop) => return Err(stop),
         }
