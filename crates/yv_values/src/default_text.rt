@@ -16,6 +16,7 @@ use crate::value::Value;
 use crate::whole::whole_among;
 use std::alloc::{AllocError, Global};
 use yv_numbers::based_integer_of;
+use yv_pattern::Matchers;
 
 /// The value of a `default` statement's text, where the type has one. The scope is that of the file in which it is
 /// written. Whole numbers may be hexadecimal or octal (RFC 7950, section 9.2.1).
@@ -30,7 +31,7 @@ pub fn read_text(
     match plain {
         PlainType::Whole(whole) => Ok(whole_among(whole, based_integer_of(text.as_bytes()))),
         PlainType::Decimal(decimal) => Ok(decimal_in(decimal, text.as_bytes())),
-        PlainType::Text(plain) => text_in(alloc, plain, text),
+        PlainType::Text(plain) => text_in(alloc, &mut Matchers::none(alloc), plain, text),
         PlainType::Boolean => Ok(truth_of(text)),
         PlainType::Enumeration(names) => name_in(alloc, names, text),
         PlainType::Bits(names) => bits_in(alloc, names, text),

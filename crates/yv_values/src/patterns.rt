@@ -8,7 +8,7 @@ ghost use Rattle.yv_values.specs.Texts.{passes};
 use std::alloc::{AllocError, Global};
 use std::marker::Model;
 use std::rc::{Rc, RcSlice};
-use yv_pattern::Pattern;
+use yv_pattern::{Matchers, Pattern};
 
 /// A pattern that a string is to match, or not to match where it is inverted (`invert-match`).
 #[derive(Drop)]
@@ -84,11 +84,16 @@ impl PatternTests {
         })
     }
 
-    /// Whether a text passes all of them.
-    pub(crate) fn pass(&self, alloc: Global, text: &str) -> Result<bool, AllocError>
+    /// Whether a text passes all of them, by these matchers.
+    pub(crate) fn pass<'t>(
+        &'t self,
+        alloc: Global,
+        matchers: &mut Matchers<'t>,
+        text: &str,
+    ) -> Result<bool, AllocError>
         ensures { IfOk result (λ passed. passed ≡ list_all (passes text.now) self.now) }
     {
-        blocks_pass(alloc, &self.blocks, text)
+        blocks_pass(alloc, matchers, &self.blocks, text)
     }
 }
 
@@ -147,11 +152,16 @@ fn joined(alloc: Global, first: Block, second: Block) -> Result<Block, AllocErro
     Ok(Block { height, group })
 }
 
-fn blocks_pass(alloc: Global, blocks: &[Block], text: &str) -> Result<bool, AllocError>
+fn blocks_pass<'t>(
+    alloc: Global,
+    matchers: &mut Matchers<'t>,
+    blocks: &'t [Block],
+    text: &str,
+) -> Result<bool, AllocError>
     ensures { IfOk result (λ passed. passed ≡ list_all (passes text.now) (tests_in blocks.now)) }
 {
     for block in blocks {
-        if !group_passes(alloc, &block.group, text)? {
+        if !group_passes(alloc, matchers, &block.group, text)? {
             return Ok(false);
         }
     }
@@ -159,35 +169,50 @@ fn blocks_pass(alloc: Global, blocks: &[Block], text: &str) -> Result<bool, Allo
 }
 
 // The calls nest as deep as the group is high.
-fn group_passes(alloc: Global, group: &Group, text: &str) -> Result<bool, AllocError>
+fn group_passes<'t>(
+    alloc: Global,
+    matchers: &mut Matchers<'t>,
+    group: &'t Group,
+    text: &str,
+) -> Result<bool, AllocError>
     ensures { IfOk result (λ passed. passed ≡ list_all (passes text.now) (tests_of group.now)) }
 {
     match group {
-        Group::Own(tests) => passes_all(alloc, tests, text),
+        Group::Own(tests) => passes_all(alloc, matchers, tests, text),
         Group::Pair(first, second) => {
-            if !group_passes(alloc, first, text)? {
+            if !group_passes(alloc, matchers, first, text)? {
                 return Ok(false);
             }
-            group_passes(alloc, second, text)
+            group_passes(alloc, matchers, second, text)
         }
     }
 }
 
-fn passes_all(alloc: Global, tests: &[PatternTest], text: &str) -> Result<bool, AllocError>
+fn passes_all<'t>(
+    alloc: Global,
+    matchers: &mut Matchers<'t>,
+    tests: &'t [PatternTest],
+    text: &str,
+) -> Result<bool, AllocError>
     ensures { IfOk result (λ passed. passed ≡ list_all (passes text.now) (map test_of tests.now)) }
 {
     for test in tests {
-        if !passes(alloc, test, text)? {
+        if !passes(alloc, matchers, test, text)? {
             return Ok(false);
         }
     }
     Ok(true)
 }
 
-fn passes(alloc: Global, test: &PatternTest, text: &str) -> Result<bool, AllocError>
+fn passes<'t>(
+    alloc: Global,
+    matchers: &mut Matchers<'t>,
+    test: &'t PatternTest,
+    text: &str,
+) -> Result<bool, AllocError>
     ensures { IfOk result (λ passed. passed ≡ passes text.now (test_of test.now)) }
 {
-    let is_match = test.pattern.is_match(alloc, text)?;
+    let is_match = matchers.is_match(alloc, &test.pattern, text)?;
     if test.is_inverted {
         Ok(!is_match)
     } else {

@@ -17,6 +17,7 @@ use crate::value::Value;
 use crate::whole::whole_of;
 use serde_json::Value as Json;
 use std::alloc::{AllocError, Global};
+use yv_pattern::Matchers;
 
 // The value of the first type that has one, and how many types were tried.
 #[derive(Drop)]
@@ -40,12 +41,43 @@ pub fn check(
         then counted (meter.old + tried (map plain_of types.now) module.now (view json.now))
         else meter.old) }
 {
-    let found = first(alloc, types, module, json)?;
+    check_with(
+        alloc,
+        meter,
+        &mut Matchers::none(alloc),
+        types,
+        module,
+        json,
+    )
+}
+
+/// The same, by the matchers that are kept of the types' patterns from one value to the next.
+pub fn check_with<'t>(
+    alloc: Global,
+    meter: &mut Meter,
+    matchers: &mut Matchers<'t>,
+    types: &'t [PlainType],
+    module: &str,
+    json: &Json,
+) -> Result<Option<Value>, AllocError>
+    ensures value { IfOk result (λ found.
+        found ≡ first_read (map plain_of types.now) module.now (view json.now)) }
+    ensures steps { meter.new ≡ (if is_ok result
+        then counted (meter.old + tried (map plain_of types.now) module.now (view json.now))
+        else meter.old) }
+{
+    let found = first(alloc, matchers, types, module, json)?;
     meter.add(found.tried);
     Ok(found.value)
 }
 
-fn first(alloc: Global, types: &[PlainType], module: &str, json: &Json) -> Result<Found, AllocError>
+fn first<'t>(
+    alloc: Global,
+    matchers: &mut Matchers<'t>,
+    types: &'t [PlainType],
+    module: &str,
+    json: &Json,
+) -> Result<Found, AllocError>
     ensures value { IfOk result (λ found.
         found.value ≡ first_read (map plain_of types.now) module.now (view json.now)) }
     ensures tried { IfOk result (λ found.
@@ -54,7 +86,7 @@ fn first(alloc: Global, types: &[PlainType], module: &str, json: &Json) -> Resul
     let mut tried = 0;
     for plain in types {
         tried += 1;
-        let value = read(alloc, plain, module, json)?;
+        let value = read(alloc, matchers, plain, module, json)?;
         if value.is_some() {
             return Ok(Found { value, tried });
         }
@@ -62,9 +94,10 @@ fn first(alloc: Global, types: &[PlainType], module: &str, json: &Json) -> Resul
     Ok(Found { value: None, tried })
 }
 
-fn read(
+fn read<'t>(
     alloc: Global,
-    plain: &PlainType,
+    matchers: &mut Matchers<'t>,
+    plain: &'t PlainType,
     module: &str,
     json: &Json,
 ) -> Result<Option<Value>, AllocError>
@@ -74,27 +107,29 @@ fn read(
         PlainType::Whole(whole) => Ok(whole_of(whole, json)),
         PlainType::Boolean => Ok(boolean_of(json)),
         PlainType::Empty => Ok(empty_of(json)),
-        _ => string_of(alloc, plain, module, json),
+        _ => string_of(alloc, matchers, plain, module, json),
     }
 }
 
-fn string_of(
+fn string_of<'t>(
     alloc: Global,
-    plain: &PlainType,
+    matchers: &mut Matchers<'t>,
+    plain: &'t PlainType,
     module: &str,
     json: &Json,
 ) -> Result<Option<Value>, AllocError>
     ensures { IfOk result (λ found. found ≡ string_from (plain_of plain.now) module.now (view json.now)) }
 {
     match json {
-        Json::String(text) => string_in(alloc, plain, module, text.as_str()),
+        Json::String(text) => string_in(alloc, matchers, plain, module, text.as_str()),
         _ => Ok(None),
     }
 }
 
-fn string_in(
+fn string_in<'t>(
     alloc: Global,
-    plain: &PlainType,
+    matchers: &mut Matchers<'t>,
+    plain: &'t PlainType,
     module: &str,
     text: &str,
 ) -> Result<Option<Value>, AllocError>
@@ -102,7 +137,7 @@ fn string_in(
 {
     match plain {
         PlainType::Decimal(decimal) => Ok(decimal_in(decimal, text.as_bytes())),
-        PlainType::Text(plain) => text_in(alloc, plain, text),
+        PlainType::Text(plain) => text_in(alloc, matchers, plain, text),
         PlainType::Enumeration(names) => name_in(alloc, names, text),
         PlainType::Bits(names) => bits_in(alloc, names, text),
         PlainType::Binary(lengths) => binary_in(alloc, lengths, text),

@@ -7,15 +7,21 @@ use crate::plain::TextType;
 use crate::value::Value;
 use std::alloc::{AllocError, Global};
 use yv_numbers::Integer;
+use yv_pattern::Matchers;
 use yv_statement::is_legal_text;
 
-/// The text, where it is a value of the type.
-pub fn text_in(alloc: Global, plain: &TextType, text: &str) -> Result<Option<Value>, AllocError>
+/// The text, where it is a value of the type, by these matchers of its patterns.
+pub fn text_in<'t>(
+    alloc: Global,
+    matchers: &mut Matchers<'t>,
+    plain: &'t TextType,
+    text: &str,
+) -> Result<Option<Value>, AllocError>
     ensures { IfOk result (λ found. found ≡ text_in plain.now.lengths plain.now.patterns text.now) }
 {
     if plain.lengths.holds(Integer::Natural(character_count(text)))
         && is_legal_text(text)
-        && plain.patterns.pass(alloc, text)?
+        && plain.patterns.pass(alloc, matchers, text)?
     {
         Ok(Some(Value::text(String::from_str(alloc, text)?)))
     } else {
