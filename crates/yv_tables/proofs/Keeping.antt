@@ -2,13 +2,6 @@
 use Rattle.std.proofs.Common.{◌≡◌, ℕ, zero, suc, ◌+◌, ◌<◌, ◌≤◌, ◌==◌, ◌&&◌, length, List, [], ◌∷◌, ◌++◌, length-append, get_or, map, take, drop, refl, sym, ap, ◌∙◌, subst, arith, add-one, ◌⊎◌, Bool, true, false, cond, Option, Some, None, is_some, inl, inr}
 use Rattle.std.specs.List.{slice_get, slice_index_or}
 use Rattle.std.specs.Str.{bytes_eq}
-use Rattle.std.specs.BTreeMap.{BTreeMap, UpdatesBy, get, is_at}
-use Rattle.std.specs.Cmp.Lexicographic.{slice_cmp}
-use Rattle.std.specs.Map.{lookup}
-use Rattle.std.specs.Ordering.{nat_cmp}
-use Rattle.std.specs.Rc.{rc_str_bytes}
-use Rattle.std.specs.declared.rc.RcStr.{RcStr}
-use Rattle.std.specs.declared.alloc.Global.{Global}
 use Rattle.std.proofs.lemmas.Bool.{cases_lt, false≢true}
 use Rattle.std.proofs.lemmas.Bool.Decides.{nat_tests}
 use Rattle.std.proofs.lemmas.Option.{get_or_from_slice_get, same_Some, slice_get-get_or, slice_get_within}
@@ -23,10 +16,12 @@ use Rattle.yv_nodes.specs.declared.node.NodeId.{NodeId}
 use Rattle.yv_nodes.specs.Member.{is_home}
 use Rattle.yv_nodes.specs.Tree.{Label}
 use Rattle.yv_nodes.specs.Rows.{Row, blank_row}
-use Rattle.yv_leaf_targets.proofs.Keeping.{put_number}
 use Rattle.yv_tables.specs.declared.directory.Directory.{Directory}
+use Rattle.yv_tables.specs.declared.member.Member.{Member}
 use Rattle.yv_tables.specs.Doubled.{doubled_at}
-use Rattle.yv_tables.specs.InnerTables.{IsDirectory, IsNamesake, IsOfRow, Namesakes, Table, called, front_of, get_by_name, held, held_behind, in_table, is_called, is_front, kept_first, labels_at}
+use Rattle.yv_tables.specs.InnerNames.{names_of, number_in}
+use Rattle.yv_tables.specs.InnerTables.{IsDirectory, IsNamesake, IsOfRow, Namesakes, at_number, called, front_of, held_at, is_called, is_front, kept_first, labels_at, same_member}
+use Rattle.yv_tables.proofs.Naming.{same_number, some_none}
 
 pub equal : (n k : ℕ) → n ≡ k → (n == k) ≡ true
 equal n k e = grind (arith, nat_tests, e)
@@ -34,44 +29,63 @@ equal n k e = grind (arith, nat_tests, e)
 pub equal_is : (n k : ℕ) → (n == k) ≡ true → n ≡ k
 equal_is n k e = grind (arith, nat_tests, e)
 
--- a map without entries has nothing at any name
-pub empty_gives : {X : Type 0} (table : BTreeMap (RcStr Global) X) (name : List ℕ) → table.entries ≡ [] → get_by_name table name ≡ None
-empty_gives table name none = ap (lookup (is_at (λ k. slice_cmp nat_cmp name (rc_str_bytes k)))) none
+both_parts : (b c : Bool) → (b && c) ≡ true → (b ≡ true) × (c ≡ true)
+both_parts true c h = (refl, h)
+both_parts false c h = absurd (false≢true h)
 
--- where something is added elsewhere, what stood stays
-pub kept_else : (b : Bool) (child : NodeId) (old : Option NodeId) → b ≡ false → old ≡ kept_first b child old
-kept_else b child None e = rw e refl
-kept_else b child (Some first) e = refl
+front_is : (a b : Option ℕ) → is_front a b ≡ true → a ≡ b
+front_is None None h = refl
+front_is None (Some b) h = absurd (false≢true h)
+front_is (Some a) None h = absurd (false≢true h)
+front_is (Some a) (Some b) h = ap Some (equal_is a b h)
 
--- where nothing stood at the name, a child that is put there is the first one
-pub kept_new : (old : List ℕ → Option NodeId) (name text : List ℕ) (child : NodeId) → is_some (old name) ≡ false → cond (bytes_eq name text) (Some child) (old text) ≡ kept_first (bytes_eq name text) child (old text)
-kept_new old name text child absent = by (old text) refl (bytes_eq name text) refl
+-- members with one front and one name are one
+member_is : (a b : Member) → same_member a b ≡ true → a ≡ b
+member_is a b h =
+    let parts = both_parts (is_front a.home b.home) (a.name == b.name) h in
+    ap (λ (o : Option ℕ). record { home = o; name = a.name }) (front_is a.home b.home parts.0) ∙ ap (λ (n : ℕ). record { home = b.home; name = n }) (equal_is a.name b.name parts.1)
+
+-- where nothing stood at a member, a child that is put there is the first one
+pub kept_new : (old : Member → Option NodeId) (member other : Member) (child : NodeId) → is_some (old member) ≡ false
+    → cond (same_member member other) (Some child) (old other) ≡ kept_first (same_member member other) child (old other)
+kept_new old member other child absent = by (old other) refl (same_member member other) refl
   where
-    by : (o : Option NodeId) → old text ≡ o → (b : Bool) → bytes_eq name text ≡ b → cond b (Some child) o ≡ kept_first b child o
+    by : (o : Option NodeId) → old other ≡ o → (b : Bool) → same_member member other ≡ b → cond b (Some child) o ≡ kept_first b child o
     by None e b same = refl
     by (Some first) e false same = refl
-    by (Some first) e true same = absurd (false≢true (sym absent ∙ ap (λ (t : List ℕ). is_some (old t)) ((bytes_eq-Decides name text).0 same) ∙ ap is_some e))
+    by (Some first) e true same = absurd (false≢true (sym absent ∙ ap (λ (m : Member). is_some (old m)) (member_is member other same) ∙ ap is_some e))
 
--- where something stood at the name, it stays
-pub kept_same : (old : List ℕ → Option NodeId) (name text : List ℕ) (child : NodeId) → is_some (old name) ≡ true → old text ≡ kept_first (bytes_eq name text) child (old text)
-kept_same old name text child present = by (old text) refl (bytes_eq name text) refl
+-- where something stood at the member, it stays
+pub kept_same : (old : Member → Option NodeId) (member other : Member) (child : NodeId) → is_some (old member) ≡ true → old other ≡ kept_first (same_member member other) child (old other)
+kept_same old member other child present = by (old other) refl (same_member member other) refl
   where
-    by : (o : Option NodeId) → old text ≡ o → (b : Bool) → bytes_eq name text ≡ b → o ≡ kept_first b child o
+    by : (o : Option NodeId) → old other ≡ o → (b : Bool) → same_member member other ≡ b → o ≡ kept_first b child o
     by (Some first) e b same = refl
     by None e false same = refl
-    by None e true same = absurd (false≢true (sym (ap is_some e) ∙ sym (ap (λ (t : List ℕ). is_some (old t)) ((bytes_eq-Decides name text).0 same)) ∙ present))
+    by None e true same = absurd (false≢true (sym (ap is_some e) ∙ sym (ap (λ (m : Member). is_some (old m)) (member_is member other same)) ∙ present))
 
--- the tables of modules, where a child was added to that of one of them
-pub behind_put : (old new : BTreeMap ℕ Table) (home : ℕ) (name : List ℕ) (child : NodeId) (table : Table)
-    → UpdatesBy nat_cmp (nat_cmp home) old new (Some table)
-    → ((text : List ℕ) → get_by_name table text ≡ kept_first (bytes_eq name text) child (held_behind old home text))
-    → (other : ℕ) (text : List ℕ) → held_behind new other text ≡ kept_first (home == other && bytes_eq name text) child (held_behind old other text)
-behind_put old new home name child table update kept other text =
-    ap (in_table text) (put_number old new home table update other) ∙ by (home == other) refl
+none_kept : (b c : Bool) (child : NodeId) → c ≡ false → kept_first (b && c) child None ≡ None
+none_kept true c child e = rw e refl
+none_kept false c child e = refl
+
+-- a child that is kept at the number of its name is kept at its name
+pub number_kept : (names : List (List ℕ)) (old new : Member → Option NodeId) (front : Option ℕ) (name : List ℕ) (number : ℕ) (child : NodeId) → number_in names name ≡ Some number
+    → ((other : Member) → new other ≡ kept_first (same_member (record { home = front; name = number }) other) child (old other)) → (other : Option ℕ) (text : List ℕ)
+    → at_number new other (number_in names text) ≡ kept_first (is_front front other && bytes_eq name text) child (at_number old other (number_in names text))
+number_kept names old new front name number child known kept other text = by (number_in names text) refl
   where
-    by : (b : Bool) → (home == other) ≡ b → in_table text (cond b (Some table) (get nat_cmp old other)) ≡ kept_first (b && bytes_eq name text) child (held_behind old other text)
-    by true e = kept text ∙ ap (λ (n : ℕ). kept_first (bytes_eq name text) child (held_behind old n text)) (equal_is home other e)
-    by false e = kept_else false child (held_behind old other text) refl
+    by : (o : Option ℕ) → number_in names text ≡ o → at_number new other o ≡ kept_first (is_front front other && bytes_eq name text) child (at_number old other o)
+    by None e = sym (none_kept (is_front front other) (bytes_eq name text) child (differ (bytes_eq name text) refl))
+      where
+        differ : (b : Bool) → bytes_eq name text ≡ b → b ≡ false
+        differ false same = refl
+        differ true same = absurd (some_none number (sym known ∙ ap (number_in names) ((bytes_eq-Decides name text).0 same) ∙ e))
+    by (Some m) e = kept (record { home = other; name = m }) ∙ ap (λ (b : Bool). kept_first (is_front front other && b) child (old (record { home = other; name = m }))) (same_number names name text number m known e)
+
+-- what is found is found by names, too
+pub at_same : (found other : Member → Option NodeId) (front number : Option ℕ) → ((member : Member) → found member ≡ other member) → at_number found front number ≡ at_number other front number
+at_same found other front None same = refl
+at_same found other front (Some n) same = same (record { home = front; name = n })
 
 pub map_got : {X Y : Type 0} (f : X → Y) (xs : List X) (k : ℕ) (y : Y) → slice_get (map f xs) k ≡ Some y → (x : X) × (slice_get xs k ≡ Some x) × (f x ≡ y)
 map_got f [] k y at = cc
@@ -132,10 +146,6 @@ module _ (rows : List Row) (around : Option ℕ) where
   front_itself None = refl
   front_itself (Some n) = equal n n refl
 
-  both_parts : (b c : Bool) → (b && c) ≡ true → (b ≡ true) × (c ≡ true)
-  both_parts true c h = (refl, h)
-  both_parts false c h = absurd (false≢true h)
-
   -- a node has the front and the name of another exactly where it has its module and its name
   called_as : (a b : Label) → is_called around (front_of around b) b.defined.name a ≡ true → (a.home ≡ b.home) × (a.defined.name ≡ b.defined.name)
   called_as a b h =
@@ -185,32 +195,39 @@ module _ (rows : List Row) (around : Option ℕ) where
   namesake_at (d ∷ ds) (suc n) (suc place) first l lt at home name =
       some_second (has (front_of around l) l.defined.name d) d (called rows around (take n ds) (front_of around l) l.defined.name) (namesake_at ds n place first l (omega arith) at home name)
 
-  -- the directory of the first children, and the least of what is refused at them
-  pub record Keeps (cs : List NodeId) (directory : Directory) (doubled : Option Refusal) (n : ℕ) : Type 0 where
-    pub met : (front : Option ℕ) (text : List ℕ) → held directory front text ≡ called rows around (take n cs) front text
+  -- what is found of nodes by their names
+  abbrev by_name : (Member → Option NodeId) → Option ℕ → List ℕ → Option NodeId
+  by_name found front text = at_number found front (number_in (names_of rows) text)
+
+  -- what is found of the first children, and the least of what is refused at them
+  pub record Keeps (cs : List NodeId) (found : Member → Option NodeId) (doubled : Option Refusal) (n : ℕ) : Type 0 where
+    pub met : (front : Option ℕ) (text : List ℕ) → at_number found front (number_in (names_of rows) text) ≡ called rows around (take n cs) front text
     pub least : IsLeast (Among (labels_at rows cs) (λ k l. Stands (IsNamesake (labels_at rows cs) k l) (doubled_at l)) n) doubled
 
-  pub keeps_more : (cs : List NodeId) (directory new : Directory) (doubled here more : Option Refusal) (n : ℕ) (c : NodeId) (l : Label) (front : Option ℕ) (repeated : Bool) → Keeps cs directory doubled n → slice_get cs n ≡ Some c
-      → l ≡ label_at c → front ≡ front_of around l → repeated ≡ is_some (held directory front l.defined.name)
-      → ((other : Option ℕ) (text : List ℕ) → held new other text ≡ kept_first (is_front front other && bytes_eq l.defined.name text) c (held directory other text))
+  pub keeps_more : (cs : List NodeId) (old new : Member → Option NodeId) (doubled here more : Option Refusal) (n : ℕ) (c : NodeId) (l : Label) (front : Option ℕ) (number : ℕ) (repeated : Bool) → Keeps cs old doubled n → slice_get cs n ≡ Some c
+      → l ≡ label_at c → front ≡ front_of around l → number_in (names_of rows) l.defined.name ≡ Some number → repeated ≡ is_some (old (record { home = front; name = number }))
+      → ((other : Member) → new other ≡ kept_first (same_member (record { home = front; name = number }) other) c (old other))
       → here ≡ cond repeated (Some (doubled_at l)) None → IsLesser doubled here more → Keeps cs new more (n + 1)
-  keeps_more cs directory new doubled here more n c l front repeated h at is fronted seen kept made lesser =
+  keeps_more cs old new doubled here more n c l front number repeated h at is fronted known seen kept made lesser =
       let ls : List Label = labels_at rows cs in
       let P : Type 0 = IsNamesake ls n l in
+      let own_name : is_some (by_name old front l.defined.name) ≡ is_some (old (record { home = front; name = number })) = ap (λ (o : Option ℕ). is_some (at_number old front o)) known in
       let found : repeated ≡ is_met cs n l =
-      seen ∙ ap is_some (h.met front l.defined.name) ∙ ap (λ (o : Option ℕ). is_some (called rows around (take n cs) o l.defined.name)) fronted in
+      seen ∙ sym own_name ∙ ap is_some (h.met front l.defined.name) ∙ ap (λ (o : Option ℕ). is_some (called rows around (take n cs) o l.defined.name)) fronted in
       let from : P → repeated ≡ true = λ p. found ∙ namesake_at cs n p.place p.first l p.before p.at p.same_home p.same_name in
       let own : IsLeast (Stands P (doubled_at l)) here = rw made (least_refused P repeated (doubled_at l) (λ e. called_namesake cs n l (sym found ∙ e)) from) in
       record {
-        met = λ other text. kept other text ∙ ap (λ (o : Option NodeId). kept_first (is_front front other && bytes_eq l.defined.name text) c o) (h.met other text)
+        met = λ other text. number_kept (names_of rows) old new front l.defined.name number c known kept other text
+            ∙ ap (λ (o : Option NodeId). kept_first (is_front front other && bytes_eq l.defined.name text) c o) (h.met other text)
             ∙ ap (λ (o : Option ℕ). kept_first (is_front o other && bytes_eq l.defined.name text) c (called rows around (take n cs) other text)) fronted
             ∙ ap (λ (x : Label). kept_first (is_called around other text x) c (called rows around (take n cs) other text)) is ∙ sym (called_more cs n c other text at);
         least = least_more ls (λ k x. Stands (IsNamesake ls k x) (doubled_at x)) n l doubled here more (map_get label_at cs n c at ∙ ap Some (sym is)) lesser h.least own;
       }
 
-  pub keeps_end : (cs : List NodeId) (directory : Directory) (doubled : Option Refusal) (n : ℕ) → length cs ≡ n → Keeps cs directory doubled n → IsDirectory rows around cs directory × IsLeast (Namesakes (labels_at rows cs)) doubled
-  keeps_end cs directory doubled n all h = (
-    record { gives = λ front name. h.met front name ∙ ap (λ (ds : List NodeId). called rows around ds front name) (take_all n cs (omega (arith, all))) },
+  pub keeps_end : (cs : List NodeId) (found : Member → Option NodeId) (directory : Directory) (doubled : Option Refusal) (n : ℕ) → length cs ≡ n → ((member : Member) → held_at directory member ≡ found member) → Keeps cs found doubled n
+      → IsDirectory rows around cs directory × IsLeast (Namesakes (labels_at rows cs)) doubled
+  keeps_end cs found directory doubled n all same h = (
+    record { gives = λ front name. at_same (held_at directory) found front (number_in (names_of rows) name) same ∙ h.met front name ∙ ap (λ (ds : List NodeId). called rows around ds front name) (take_all n cs (omega (arith, all))) },
     subst (λ (k : ℕ). IsLeast (Among (labels_at rows cs) (λ i l. Stands (IsNamesake (labels_at rows cs) i l) (doubled_at l)) k) doubled) (sym all ∙ sym (labels_length cs)) h.least,
   )
     where

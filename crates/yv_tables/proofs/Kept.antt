@@ -18,10 +18,12 @@ use Rattle.yv_nodes.specs.Numbers.{numbers_from, rows_below, rows_from, rows_of}
 use Rattle.yv_leaf_targets.specs.Named.{HaveLeafs}
 use Rattle.yv_leaf_targets.specs.Bad.{BadLeafs}
 use Rattle.yv_tables.specs.declared.directory.Directory.{Directory}
+use Rattle.yv_tables.specs.declared.names.Names.{Names}
 use Rattle.yv_tables.specs.Bad.{BadRows}
 use Rattle.yv_tables.specs.Doubled.{Doubled, Repeated, opened}
+use Rattle.yv_tables.specs.InnerNames.{HaveNumbers, get_by_name, names_of}
 use Rattle.yv_tables.specs.InnerSits.{HaveTrees, Sits, family_in, inside_of, members_of, picked}
-use Rattle.yv_tables.specs.InnerTables.{AreDirectories, HomeTable, IsDirectory, IsKept, Namesakes, get_by_name, home_named, labels_at}
+use Rattle.yv_tables.specs.InnerTables.{AreDirectories, HomeTable, IsDirectory, IsKept, Namesakes, home_named, labels_at}
 use Rattle.yv_tables.specs.Numbered.{AreFormed, AreModules, AreNumbered, HasNoColon, made_of}
 use Rattle.yv_tables.specs.Opened.{opened_from, opened_trees}
 use Rattle.yv_tables.specs.Sound.{IsNote, inside, is_object, named}
@@ -212,15 +214,16 @@ module _ (limit : ℕ) (modules : List Module) (all : Forest) (nodes : List Row)
       | inr inner ↦ unknown_named built b.apart (home_at p) p (around_below p within inner) owner name plain unknown
     ]
 
-    kept_built : All (IsNote built) notes → (homes : HomeTable) (at_top : Directory) (directories : List Directory) → ((name : List ℕ) → get_by_name homes name ≡ home_named modules name)
-        → IsDirectory built.nodes None (inside_of built.nodes built.top) at_top → AreDirectories built.nodes directories → IsKept homes at_top directories built
-    kept_built given homes at_top directories known first are =
+    kept_built : All (IsNote built) notes → (homes : HomeTable) (names : Names) (at_top : Directory) (directories : List Directory) → ((name : List ℕ) → get_by_name homes name ≡ home_named modules name)
+        → HaveNumbers (names_of built.nodes) names → IsDirectory built.nodes None (inside_of built.nodes built.top) at_top → AreDirectories built.nodes directories → IsKept homes names at_top directories built
+    kept_built given homes names at_top directories known numbered first are =
         let at_root : inside_of built.nodes built.top ≡ inside built root = inside_parent limit modules notes links all root (omega arith) refl in
         record {
           sound = sound_rows limit modules notes links all none_top none_below (omega (arith, b.small, many)) (omega (arith, b.limited, many)) (subst HaveLeafs b.rows leafs) given linked;
           counted = length_rows root 0 all ∙ ap count (sym (whole_rows limit modules notes links all));
           each = are.each;
           homes_are = known;
+          names_are = numbered;
           top = answering built b.apart None root around_top at_top (subst (λ (cs : List NodeId). IsDirectory built.nodes None cs at_top) at_root first);
           below = λ p directory inner at.
               let within : rank p ≤ length built.nodes = omega (arith, rank_below p inner, slice_get_within directories p.0 directory at, are.each) in
@@ -229,9 +232,10 @@ module _ (limit : ℕ) (modules : List Module) (all : Forest) (nodes : List Row)
           unknown = unknown_built;
         }
 
-    pub kept_made : All (IsNote (made_of nodes top limit modules notes links)) notes → (homes : HomeTable) (at_top : Directory) (directories : List Directory) → ((name : List ℕ) → get_by_name homes name ≡ home_named modules name)
-        → IsDirectory nodes None (inside_of nodes top) at_top → AreDirectories nodes directories → IsKept homes at_top directories (made_of nodes top limit modules notes links)
-    kept_made given homes at_top directories known first are =
-        subst (λ (s : Rows). IsKept homes at_top directories s) (same notes links)
-        (kept_built (subst (λ (s : Rows). All (IsNote s) notes) (sym (same notes links)) given) homes at_top directories known
+    pub kept_made : All (IsNote (made_of nodes top limit modules notes links)) notes → (homes : HomeTable) (names : Names) (at_top : Directory) (directories : List Directory) → ((name : List ℕ) → get_by_name homes name ≡ home_named modules name)
+        → HaveNumbers (names_of nodes) names → IsDirectory nodes None (inside_of nodes top) at_top → AreDirectories nodes directories → IsKept homes names at_top directories (made_of nodes top limit modules notes links)
+    kept_made given homes names at_top directories known numbered first are =
+        subst (λ (s : Rows). IsKept homes names at_top directories s) (same notes links)
+        (kept_built (subst (λ (s : Rows). All (IsNote s) notes) (sym (same notes links)) given) homes names at_top directories known
+        (subst (λ (s : Rows). HaveNumbers (names_of s.nodes) names) (sym (same notes links)) numbered)
         (subst (λ (s : Rows). IsDirectory s.nodes None (inside_of s.nodes s.top) at_top) (sym (same notes links)) first) (subst (λ (rows : List Row). AreDirectories rows directories) b.rows are))

@@ -6,6 +6,8 @@ pub mod Finding
 pub mod Placed
 pub mod Keeping
 pub mod Named
+pub mod Naming
+pub mod Numbering
 pub mod Trees
 pub mod Measuring
 pub mod Grouping

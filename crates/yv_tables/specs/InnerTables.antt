@@ -1,13 +1,12 @@
 -- Only private clauses cite this: the directories by which a child is found.
 use Rattle.std.specs.Prelude.{◌≡◌, ◌<◌, ◌≤◌, ℕ, ◌==◌, ◌&&◌, Bool, true, false, List, [], ◌∷◌, ◌++◌, map, length, Option, Some, None, if◌then◌else◌}
 use Rattle.std.specs.List.{slice_get, slice_index_or}
+use Rattle.std.specs.Option.{option_map_or}
 use Rattle.std.specs.Str.{bytes_eq}
-use Rattle.std.specs.BTreeMap.{BTreeMap, get, get_by}
-use Rattle.std.specs.Ordering.{nat_cmp}
-use Rattle.std.specs.Cmp.Lexicographic.{slice_cmp}
-use Rattle.std.specs.Rc.{rc_str_bytes}
+use Rattle.std.specs.BTreeMap.{BTreeMap}
 use Rattle.std.specs.declared.rc.RcStr.{RcStr}
 use Rattle.std.specs.declared.alloc.Global.{Global}
+use Rattle.indexmap.specs.IndexMap.{get}
 use Rattle.yv_statement.specs.Order.{Among, Stands}
 use Rattle.yv_statement.specs.declared.refusal.Refusal.{Refusal}
 use Rattle.yv_nodes.specs.declared.node.NodeId.{NodeId}
@@ -17,7 +16,10 @@ use Rattle.yv_nodes.specs.Tree.{Label, count}
 use Rattle.yv_leaf_targets.specs.declared.targets.LeafTargets.{LeafTargets}
 use Rattle.yv_leaf_targets.specs.Known.{AreLeafTargets}
 use Rattle.yv_tables.specs.declared.directory.Directory.{Directory}
+use Rattle.yv_tables.specs.declared.member.Member.{Member}
+use Rattle.yv_tables.specs.declared.names.Names.{Names}
 use Rattle.yv_tables.specs.Doubled.{doubled_at}
+use Rattle.yv_tables.specs.InnerNames.{HaveNumbers, get_by_name, names_of, number_in}
 use Rattle.yv_tables.specs.InnerSits.{members_of}
 use Rattle.yv_tables.specs.Numbered.{HasNoColon}
 use Rattle.yv_tables.specs.Sound.{IsSound, inside, named}
@@ -45,30 +47,26 @@ called rows around [] front name = None
 called rows around (c ∷ cs) front name =
     if is_called around front name (slice_index_or rows c.0 blank_row).label then Some c else called rows around cs front name
 
--- what a map has at a name
-abbrev pub get_by_name : {X : Type 0} → BTreeMap (RcStr Global) X → List ℕ → Option X
-get_by_name table name = get_by (λ k. slice_cmp nat_cmp name (rc_str_bytes k)) table
+-- two members have one name
+abbrev pub same_member : Member → Member → Bool
+same_member a b = is_front a.home b.home && (a.name == b.name)
 
-abbrev pub Table : Type 0
-Table = BTreeMap (RcStr Global) NodeId
+-- what a directory has at a member
+abbrev pub held_at : Directory → Member → Option NodeId
+held_at directory member = option_map_or (λ table. get same_member table.value member) directory.table None
 
--- what a table has at a name, where there is one
-abbrev pub in_table : List ℕ → Option Table → Option NodeId
-in_table name None = None
-in_table name (Some table) = get_by_name table name
+-- what is found at a name with this number, where it has one, behind a front
+abbrev pub at_number : (Member → Option NodeId) → (front : Option ℕ) → Option ℕ → Option NodeId
+at_number found front None = None
+at_number found front (Some number) = found (record { home = front; name = number })
 
--- what the table of a module has at a name
-abbrev pub held_behind : BTreeMap ℕ Table → (home : ℕ) → List ℕ → Option NodeId
-held_behind others home name = in_table name (get nat_cmp others home)
-
--- what a directory has at a name behind a front
-abbrev pub held : Directory → (front : Option ℕ) → List ℕ → Option NodeId
-held directory None name = get_by_name directory.own name
-held directory (Some home) name = held_behind directory.others home name
+-- what a directory of some of these nodes has at a name behind a front
+abbrev pub held : List Row → Directory → (front : Option ℕ) → List ℕ → Option NodeId
+held rows directory front name = at_number (held_at directory) front (number_in (names_of rows) name)
 
 -- the directory has the first of these nodes at each front and name
 pub record IsDirectory (rows : List Row) (around : Option ℕ) (cs : List NodeId) (directory : Directory) : Type 0 where
-  pub gives : (front : Option ℕ) (name : List ℕ) → held directory front name ≡ called rows around cs front name
+  pub gives : (front : Option ℕ) (name : List ℕ) → held rows directory front name ≡ called rows around cs front name
 
 -- the directory of a node has what the members of its object name: its own module is around
 abbrev pub IsOfRow : List Row → Row → Directory → Type 0
@@ -111,23 +109,24 @@ HomeTable = BTreeMap (RcStr Global) ℕ
 
 -- the directory has what the members of an object name: without a colon, and with a module before the first colon
 pub record IsAnswering (s : Rows) (p : NodeId) (directory : Directory) : Type 0 where
-  pub bare : (member : List ℕ) → HasNoColon member → held directory None member ≡ named s (inside s p) member
+  pub bare : (member : List ℕ) → HasNoColon member → held s.nodes directory None member ≡ named s (inside s p) member
   pub fronted : (owner name : List ℕ) (home : ℕ) → home_named s.modules owner ≡ Some home
-      → held directory (Some home) name ≡ named s (inside s p) (owner ++ 58 ∷ name)
+      → held s.nodes directory (Some home) name ≡ named s (inside s p) (owner ++ 58 ∷ name)
 
--- the directories of the root and of the nodes have what members name, modules are known by name, and a member with the name of
--- no module names nothing
-pub record IsKept (homes : HomeTable) (at_top : Directory) (directories : List Directory) (s : Rows) : Type 0 where
+-- the directories of the root and of the nodes have what members name, modules and the numbers of nodes' names are known by name, and
+-- a member with the name of no module names nothing
+pub record IsKept (homes : HomeTable) (names : Names) (at_top : Directory) (directories : List Directory) (s : Rows) : Type 0 where
   pub sound : IsSound s
   pub counted : length s.nodes ≡ count (whole s)
   pub each : length directories ≡ length s.nodes
   pub homes_are : (name : List ℕ) → get_by_name homes name ≡ home_named s.modules name
+  pub names_are : HaveNumbers (names_of s.nodes) names
   pub top : IsAnswering s root at_top
   pub below : (p : NodeId) (directory : Directory) → is_root p ≡ false → slice_get directories p.0 ≡ Some directory → IsAnswering s p directory
   pub unknown : (p : NodeId) (owner name : List ℕ) → rank p ≤ length s.nodes → HasNoColon owner → home_named s.modules owner ≡ None
       → named s (inside s p) (owner ++ 58 ∷ name) ≡ None
 
 -- besides, what lists and choices name is kept
-pub record IsHeld (homes : HomeTable) (at_top : Directory) (directories : List Directory) (leafs : LeafTargets) (s : Rows) : Type 0 where
-  pub kept : IsKept homes at_top directories s
+pub record IsHeld (homes : HomeTable) (names : Names) (at_top : Directory) (directories : List Directory) (leafs : LeafTargets) (s : Rows) : Type 0 where
+  pub kept : IsKept homes names at_top directories s
   pub named_leafs : AreLeafTargets s.nodes leafs

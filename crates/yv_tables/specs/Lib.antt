@@ -7,4 +7,5 @@ pub mod Sound
 pub mod Measures
 pub mod InnerPassage
 pub mod InnerSits
+pub mod InnerNames
 pub mod InnerTables

@@ -1,109 +1,68 @@
 //! The directory by which the nodes of an object are found.
-ghost use Rattle.std.specs.Prelude.{◌≡◌, ℕ, List, Option, None, ◌==◌, ◌&&◌, is_some, IfOk, OnOk};
-ghost use Rattle.std.specs.Rc.{rc_str_bytes};
-ghost use Rattle.std.specs.Str.{bytes_eq};
-ghost use Rattle.yv_tables.specs.InnerTables.{front_of, get_by_name, held, held_behind, is_front, kept_first};
+ghost use Rattle.std.specs.Prelude.{◌≡◌, None, is_some, IfOk, OnOk};
+ghost use Rattle.indexmap.specs.IndexMap.{get};
+ghost use Rattle.yv_tables.specs.declared.member.Member.{Member};
+ghost use Rattle.yv_tables.specs.InnerTables.{held_at, kept_first, same_member};
 
+use crate::member::Member;
+use indexmap::IndexMap;
 use std::alloc::{AllocError, Global};
-use std::collections::BTreeMap;
-use std::rc::RcStr;
-use yv_nodes::{Node, NodeId};
+use yv_nodes::NodeId;
 
-/// Nodes by name: of several with one name the first. The names are those that the nodes share.
-pub(crate) type Table = BTreeMap<RcStr, NodeId>;
+/// Nodes by their members, in schema order: of several with one member the first.
+pub(crate) type Table = IndexMap<Member, NodeId>;
 
 /// Nodes by what a JSON member calls them (RFC 7951, section 4): by the file of the module whose name stands in front, where one
-/// does, and by their names.
+/// does, and by the numbers of their names. Of no nodes it takes no more memory than a reference, since most nodes are leafs.
 #[derive(Drop)]
 pub(crate) struct Directory {
-    /// Those of the module that is around: no module's name stands in front of theirs.
-    own: Table,
-    /// The others, by the file of their module.
-    others: BTreeMap<u32, Table>,
+    table: Option<Box<Table>>,
 }
 
 impl Directory {
     /// A directory of no nodes.
-    pub(crate) fn new(alloc: Global) -> Directory
-        ensures { (front : Option ℕ) (name : List ℕ) → held result front name ≡ None }
+    pub(crate) fn new() -> Directory
+        ensures { (member : Member) → held_at result member ≡ None }
     {
-        Directory {
-            own: BTreeMap::new(alloc),
-            others: BTreeMap::new(alloc),
-        }
+        Directory { table: None }
     }
 
-    /// The node of this name behind the name of the module of this file, or behind none.
-    pub(crate) fn get(&self, front: Option<u32>, name: &str) -> Option<NodeId>
-        ensures { result ≡ held self.now front name.now }
+    /// The directory of the nodes of a table.
+    pub(crate) fn of(alloc: Global, table: Table) -> Result<Directory, AllocError>
+        ensures { IfOk result (λ directory. (member : Member) → held_at directory member ≡ get same_member table member) }
     {
-        match front {
-            Some(home) => self.others.get(&home)?.get(name).copied(),
-            None => self.own.get(name).copied(),
+        if table.is_empty() {
+            return Ok(Directory::new());
         }
+        Ok(Directory {
+            table: Some(Box::new(alloc, table)?),
+        })
     }
 
-    /// Adds a node, where none is found by its front and name, and gives whether one is.
-    pub(crate) fn keep_first(
-        &mut self,
-        alloc: Global,
-        front: Option<u32>,
-        name: RcStr,
-        child: NodeId,
-    ) -> Result<bool, AllocError>
-        ensures repeated { IfOk result (λ repeated. repeated ≡ is_some (held self.old front (rc_str_bytes name))) }
-        ensures kept { OnOk result ((other : Option ℕ) (text : List ℕ) → held self.new other text
-            ≡ kept_first (is_front front other && bytes_eq (rc_str_bytes name) text) child (held self.old other text)) }
+    /// The node of this member.
+    pub(crate) fn get(&self, member: Member) -> Option<NodeId>
+        ensures { result ≡ held_at self.now member }
     {
-        match front {
-            Some(home) => keep_behind(&mut self.others, alloc, home, name, child),
-            None => keep_first(&mut self.own, name, child),
+        match &self.table {
+            Some(table) => table.get(&member).copied(),
+            None => None,
         }
     }
 }
 
-/// What stands in front of a node's name, where this module is around: its own module, unless it is the same.
-pub(crate) fn front_of(around: Option<u32>, node: &Node) -> Option<u32>
-    ensures { result ≡ front_of around node.now.label }
-{
-    match around {
-        Some(home) if home == node.home() => None,
-        _ => Some(node.home()),
-    }
-}
-
-// Adds a node to the table of its module, where none there has its name, and gives whether one has.
-fn keep_behind(
-    others: &mut BTreeMap<u32, Table>,
-    alloc: Global,
-    home: u32,
-    name: RcStr,
+/// Adds a node, where none is found by its member, and gives whether one is.
+pub(crate) fn keep_first(
+    table: &mut Table,
+    member: Member,
     child: NodeId,
 ) -> Result<bool, AllocError>
-    ensures repeated { IfOk result (λ repeated. repeated ≡ is_some (held_behind others.old home (rc_str_bytes name))) }
-    ensures kept { OnOk result ((other : ℕ) (text : List ℕ) → held_behind others.new other text
-        ≡ kept_first (home == other && bytes_eq (rc_str_bytes name) text) child (held_behind others.old other text)) }
+    ensures repeated { IfOk result (λ repeated. repeated ≡ is_some (get same_member table.old member)) }
+    ensures kept { OnOk result ((other : Member) → get same_member table.new other
+        ≡ kept_first (same_member member other) child (get same_member table.old other)) }
 {
-    match others.get_mut(&home) {
-        Some(table) => keep_first(table, name, child),
-        None => {
-            let mut table = BTreeMap::new(alloc);
-            table.insert(name, child)?;
-            others.insert(home, table)?;
-            Ok(false)
-        }
-    }
-}
-
-// Adds a node at its name, where none has it, and gives whether one has.
-fn keep_first(table: &mut Table, name: RcStr, child: NodeId) -> Result<bool, AllocError>
-    ensures repeated { IfOk result (λ repeated. repeated ≡ is_some (get_by_name table.old (rc_str_bytes name))) }
-    ensures kept { OnOk result ((text : List ℕ) → get_by_name table.new text
-        ≡ kept_first (bytes_eq (rc_str_bytes name) text) child (get_by_name table.old text)) }
-{
-    if table.contains_key(name.as_str()) {
+    if table.contains_key(&member) {
         return Ok(true);
     }
-    table.insert(name, child)?;
+    table.insert(member, child)?;
     Ok(false)
 }

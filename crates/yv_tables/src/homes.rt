@@ -1,6 +1,7 @@
 //! The files of modules, by name.
 ghost use Rattle.std.specs.Prelude.{◌≡◌, ℕ, List, IfOk};
-ghost use Rattle.yv_tables.specs.InnerTables.{get_by_name, home_named};
+ghost use Rattle.yv_tables.specs.InnerNames.{get_by_name};
+ghost use Rattle.yv_tables.specs.InnerTables.{home_named};
 
 use crate::notes::Module;
 use std::alloc::{AllocError, Global};

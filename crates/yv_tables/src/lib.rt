@@ -5,6 +5,8 @@ mod directory;
 mod homes;
 pub mod laws;
 mod measures;
+mod member;
+mod names;
 mod notes;
 mod numbered;
 mod opening;

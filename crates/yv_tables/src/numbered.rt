@@ -11,6 +11,7 @@ ghost use Rattle.yv_tables.specs.Numbered.{AreModules, AreNumbered, made_of};
 ghost use Rattle.yv_tables.specs.Sound.{IsNote};
 
 use crate::homes::homes_of;
+use crate::names::node_names;
 use crate::notes::{AugmentNote, Module};
 use crate::schema::Schema;
 use crate::table::Family;
@@ -51,8 +52,9 @@ impl Schema {
         // Each node has a number of 32 bits.
         let _nodes = nodes.len();
         let homes = homes_of(alloc, &modules)?;
-        let at_top = Family::of(alloc, &nodes, None, &top)?;
-        let below = node_tables(alloc, &nodes)?;
+        let named = node_names(alloc, &nodes)?;
+        let at_top = Family::of(alloc, &nodes, &named.of_nodes, None, &top)?;
+        let below = node_tables(alloc, &nodes, &named.of_nodes)?;
         let found = leaf_targets(alloc, &nodes)?;
         let doubled = lesser(at_top.doubled, below.doubled);
         match lesser(doubled, found.fault) {
@@ -61,6 +63,7 @@ impl Schema {
                 nodes,
                 top,
                 homes,
+                names: named.names,
                 at_top: at_top.directory,
                 directories: below.directories,
                 leafs: found.targets,

@@ -3,6 +3,8 @@ ghost use Rattle.std.specs.Prelude.{◌≡◌, ◌<◌, ◌≤◌, ◌==◌, ◌
 ghost use Rattle.yv_values.specs.Count.{counted};
 
 use crate::directory::Directory;
+use crate::member::Member;
+use crate::names::Names;
 use crate::notes::{AugmentNote, Module};
 use std::collections::BTreeMap;
 use std::marker::Model;
@@ -19,6 +21,8 @@ pub struct Schema {
     pub(crate) top: Vec<NodeId>,
     /// The numbers of the files of the modules, by name.
     pub(crate) homes: BTreeMap<RcStr, u32>,
+    /// The numbers of the nodes' names.
+    pub(crate) names: Names,
     /// What the members of the root's object name, with choices and cases opened.
     pub(crate) at_top: Directory,
     /// For each node what the members of its object name, and nothing for a choice or case.
@@ -48,7 +52,7 @@ impl Model for Schema {
       links = s.links;
     } };
 
-    ghost invariant = { λ s. IsHeld s.homes s.at_top s.directories.items s.leafs (record {
+    ghost invariant = { λ s. IsHeld s.homes s.names s.at_top s.directories.items s.leafs (record {
       nodes = s.nodes.rows;
       top = s.top.items;
       limit = s.nodes.limit;
@@ -67,7 +71,7 @@ impl Schema {
     ghost use Rattle.yv_nodes.specs.Rows.{AreTrees, row_at, children_of, rank, whole};
     ghost use Rattle.yv_tables.specs.Sound.{IsSound, IsChild, IsInside, IsNote, inside, is_known, named, object_trees};
     ghost use Rattle.yv_nodes.specs.declared.node.NodeId.{NodeId};
-    ghost use Rattle.yv_tables.specs.InnerTables.{IsAnswering, home_named};
+    ghost use Rattle.yv_tables.specs.InnerTables.{IsAnswering, held, home_named};
     ghost use Rattle.yv_tables.specs.Numbered.{HasNoColon};
 
     /// The parent of the nodes at the top.
@@ -209,9 +213,17 @@ impl Schema {
     {
         let directory = self.directory(parent);
         match member.split_once(':') {
-            Some((module, name)) => directory.get(Some(self.home(module)?), name),
-            None => directory.get(None, member),
+            Some((module, name)) => self.held(directory, Some(self.home(module)?), name),
+            None => self.held(directory, None, member),
         }
+    }
+
+    // What a directory has at a name behind the name of the module of this file, or behind none.
+    fn held(&self, directory: &Directory, home: Option<u32>, name: &str) -> Option<NodeId>
+        ensures { result ≡ held self.now.nodes directory.now home name.now }
+    {
+        let name = self.names.number(name)?;
+        directory.get(Member { home, name })
     }
 
     // What the members of an object of this node, or of the root, name.

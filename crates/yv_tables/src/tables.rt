@@ -2,6 +2,7 @@
 ghost use Rattle.std.specs.Prelude.{◌≡◌, All, length, IfOk};
 ghost use Rattle.yv_statement.specs.Order.{Among, IsLeast};
 ghost use Rattle.yv_tables.specs.InnerTables.{AreDirectories, Namesakes};
+ghost use Rattle.yv_tables.specs.InnerNames.{AreOfNodes};
 ghost use Rattle.yv_tables.specs.InnerSits.{HaveTrees, family_in};
 
 use crate::directory::Directory;
@@ -18,9 +19,14 @@ pub(crate) struct NodeTables {
     pub(crate) doubled: Option<Refusal>,
 }
 
-/// The directories of the nodes.
-pub(crate) fn node_tables(alloc: Global, nodes: &Nodes) -> Result<NodeTables, AllocError>
-    requires { All (λ row. HaveTrees nodes.now.rows row.children) nodes.now.rows }
+/// The directories of the nodes, whose names have these numbers.
+pub(crate) fn node_tables(
+    alloc: Global,
+    nodes: &Nodes,
+    names: &[u32],
+) -> Result<NodeTables, AllocError>
+    requires names { AreOfNodes nodes.now.rows names.now }
+    requires trees { All (λ row. HaveTrees nodes.now.rows row.children) nodes.now.rows }
     ensures directories { IfOk result (λ found. AreDirectories nodes.now.rows found.directories.items) }
     ensures doubled { IfOk result (λ found. IsLeast
         (Among nodes.now.rows (λ k row. Namesakes (family_in nodes.now.rows row)) (length nodes.now.rows)) found.doubled) }
@@ -28,7 +34,7 @@ pub(crate) fn node_tables(alloc: Global, nodes: &Nodes) -> Result<NodeTables, Al
     let mut directories = Vec::new(alloc);
     let mut doubled = None;
     for node in nodes.all() {
-        let family = Family::below(alloc, nodes, node)?;
+        let family = Family::below(alloc, nodes, names, node)?;
         doubled = lesser(doubled, family.doubled);
         directories.push(family.directory)?;
     }

@@ -3,7 +3,8 @@ use Rattle.std.proofs.lemmas.Option.{slice_get_read}
 use Rattle.std.specs.Rc.{rc_str_bytes}
 use Rattle.std.specs.Str.{bytes_eq}
 use Rattle.yv_nodes.specs.Rows.{Module}
-use Rattle.yv_tables.specs.InnerTables.{get_by_name, home_named}
+use Rattle.yv_tables.specs.InnerNames.{get_by_name}
+use Rattle.yv_tables.specs.InnerTables.{home_named}
 use Rattle.yv_tables.proofs.Keeping.{drop_next}
 use Rattle.yv_tables.proofs.Named.{put_name}
 use Rattle.yv_tables.proofs.homes.homes_of.Goals as goal

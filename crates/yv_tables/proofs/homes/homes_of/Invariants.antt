@@ -1,5 +1,6 @@
 use Rattle.std.proofs.Common.{◌≡◌, ◌≤◌, ℕ, List, drop, length}
-use Rattle.yv_tables.specs.InnerTables.{get_by_name, home_named}
+use Rattle.yv_tables.specs.InnerNames.{get_by_name}
+use Rattle.yv_tables.specs.InnerTables.{home_named}
 use Rattle.yv_tables.proofs.homes.homes_of.Given as goal
 
 -- the modules from here on are known

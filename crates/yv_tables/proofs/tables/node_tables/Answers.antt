@@ -14,8 +14,8 @@ below-requires c =
     let row = c.node-item.result in
     let at_item = slice_get_read c.all-node-items.result.now _ i row refl c.loop-node-test.true c.node-item.is in
     let at = rw c.all-node-items.ensures at at_item in
-    let here : HaveTrees rows (get_or rows i row).children = c.requires i row (omega (arith, ap length c.all-node-items.ensures, c.loop-node-test.true)) in
-    subst (λ (r : Row). HaveTrees rows r.children) (get_or_from_slice_get rows i row row at) here
+    let here : HaveTrees rows (get_or rows i row).children = c.requires.trees i row (omega (arith, ap length c.all-node-items.ensures, c.loop-node-test.true)) in
+    record { names = c.requires.names; trees = subst (λ (r : Row). HaveTrees rows r.children) (get_or_from_slice_get rows i row row at) here }
 
 pub loop-node-preserved : goal.loop-node-preserved
 loop-node-preserved c =

@@ -20,9 +20,9 @@ returns-in_ok-home-in-Some-clause-value c =
     let name = c.in-Some.name.now in
     let parts = rw c.in-Some.is at (split_once_first 58 c.args.member.now c.split_once.result c.split_once.ensures.cases (omega arith)) in
     let cut = cut_found c.args.member.now owner name parts.0 parts.1 parts.2 in
-    c.get.ensures ∙ c.directory-directory.ensures.answers.fronted owner name c.in_ok-home-in-Some.field-0 (sym c.in_ok-home-in-Some.ensures.value) ∙ ap (named s (inside s c.args.parent)) (sym cut.1)
+    c.held.ensures ∙ c.directory-directory.ensures.answers.fronted owner name c.in_ok-home-in-Some.field-0 (sym c.in_ok-home-in-Some.ensures.value) ∙ ap (named s (inside s c.args.parent)) (sym cut.1)
 
 pub returns-in-None-clause-value : goal.returns-in-None-clause-value
 returns-in-None-clause-value c =
     let none = rw c.in-None.is at (split_once_first 58 c.args.member.now c.split_once.result c.split_once.ensures.cases (omega arith)) in
-    c.get-in-None.ensures ∙ c.directory-directory.ensures.answers.bare c.args.member.now (none_in c.args.member.now none)
+    c.held-in-None.ensures ∙ c.directory-directory.ensures.answers.bare c.args.member.now (none_in c.args.member.now none)

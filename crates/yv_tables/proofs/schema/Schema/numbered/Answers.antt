@@ -15,7 +15,7 @@ of-requires c =
     let are = c.requires.numbered in
     let bounded : length nodes.rows ≤ nodes.limit = subst (λ (v : Bounded). length v.rows ≤ v.limit) c.nodes.view_is c.nodes.invariant in
     let built = built_of nodes.limit c.args.modules.items nodes.rows c.args.top.items c.args.links are.trees c.requires.modules are (omega (arith, bounded)) bounded are.rows are.top_is in
-    rw c.deref-2.ensures.value (built_top nodes.limit c.args.modules.items are.trees nodes.rows c.args.top.items built)
+    record { names = rw c.deref-2.ensures.value c.in_ok-named.ensures.numbers; trees = rw c.deref-3.ensures.value (built_top nodes.limit c.args.modules.items are.trees nodes.rows c.args.top.items built) }
 
 pub node_tables-requires : goal.node_tables-requires
 node_tables-requires c =
@@ -23,7 +23,7 @@ node_tables-requires c =
     let are = c.requires.numbered in
     let bounded : length nodes.rows ≤ nodes.limit = subst (λ (v : Bounded). length v.rows ≤ v.limit) c.nodes.view_is c.nodes.invariant in
     let built = built_of nodes.limit c.args.modules.items nodes.rows c.args.top.items c.args.links are.trees c.requires.modules are (omega (arith, bounded)) bounded are.rows are.top_is in
-    built_rows nodes.limit c.args.modules.items are.trees nodes.rows c.args.top.items built
+    record { names = rw c.deref-4.ensures.value c.in_ok-named.ensures.numbers; trees = built_rows nodes.limit c.args.modules.items are.trees nodes.rows c.args.top.items built }
 
 -- the directories, and the leafs that lists name, where nothing is refused
 pub invariant_of-result : goal.invariant_of-result
@@ -35,15 +35,15 @@ invariant_of-result c =
     let bounded : length nodes.rows ≤ nodes.limit = subst (λ (v : Bounded). length v.rows ≤ v.limit) c.nodes.view_is c.nodes.invariant in
     let built = built_of nodes.limit modules nodes.rows top c.args.links are.trees c.requires.modules are (omega (arith, bounded)) bounded are.rows are.top_is in
     let none = both_none c.lesser-doubled.result c.in_ok-found.found.fault None c.in-None.ensures refl in
-    let first = rw c.deref-2.ensures.value at c.in_ok-at_top.ensures.doubled in
-    let directory = rw c.deref-2.ensures.value at c.in_ok-at_top.ensures.directory in
+    let first = rw c.deref-3.ensures.value at c.in_ok-at_top.ensures.doubled in
+    let directory = rw c.deref-3.ensures.value at c.in_ok-at_top.ensures.directory in
     let homes = rw c.deref.ensures.value at c.in_ok-homes.ensures in
     let clear : IsLeast (Doubled are.trees) None = subst (λ (o : Option Refusal). IsLeast (Doubled are.trees) o) none.0
     (built_doubled nodes.limit modules are.trees nodes.rows top built c.in_ok-at_top.at_top.doubled c.in_ok-below.below.doubled c.lesser-doubled.result c.lesser-doubled.ensures first c.in_ok-below.ensures.doubled) in
     let leafs : AreLeafTargets nodes.rows c.in_ok-found.found.targets = c.in_ok-found.ensures.targets none.1 in
     record {
       kept = kept_made nodes.limit modules are.trees nodes.rows top built clear (c.targets_are_leafs.ensures nodes.rows c.in_ok-found.found.targets leafs) c.args.notes.items c.args.links are.linked c.requires.notes
-          c.in_ok-homes.homes c.in_ok-at_top.at_top.directory c.in_ok-below.below.directories.items homes directory c.in_ok-below.ensures.directories;
+          c.in_ok-homes.homes c.in_ok-named.named.names c.in_ok-at_top.at_top.directory c.in_ok-below.below.directories.items homes c.in_ok-named.ensures.names directory c.in_ok-below.ensures.directories;
       named_leafs = leafs;
     }
 
@@ -54,7 +54,7 @@ returns-in-Some-clause-refusal c = λ ts rows top_is.
     let top = c.args.top.items in
     let bounded : length nodes.rows ≤ nodes.limit = subst (λ (v : Bounded). length v.rows ≤ v.limit) c.nodes.view_is c.nodes.invariant in
     let built = built_of nodes.limit modules nodes.rows top c.args.links ts c.requires.modules c.requires.numbered (omega (arith, bounded)) bounded rows top_is in
-    let first = rw c.deref-2.ensures.value at c.in_ok-at_top.ensures.doubled in
+    let first = rw c.deref-3.ensures.value at c.in_ok-at_top.ensures.doubled in
     let found : IsLeast (BadRows ts) (Some c.in-Some.refusal) =
     built_bad nodes.limit modules ts nodes.rows top built c.in_ok-at_top.at_top.doubled c.in_ok-below.below.doubled c.lesser-doubled.result c.in_ok-found.found.fault (Some c.in-Some.refusal) c.lesser-doubled.ensures c.in-Some.ensures
     first c.in_ok-below.ensures.doubled (c.in_ok-found.ensures.fault ts rows) in
@@ -76,6 +76,6 @@ returns-in-None-clause-clear c = λ ts rows top_is.
     let top = c.args.top.items in
     let bounded : length nodes.rows ≤ nodes.limit = subst (λ (v : Bounded). length v.rows ≤ v.limit) c.nodes.view_is c.nodes.invariant in
     let built = built_of nodes.limit modules nodes.rows top c.args.links ts c.requires.modules c.requires.numbered (omega (arith, bounded)) bounded rows top_is in
-    let first = rw c.deref-2.ensures.value at c.in_ok-at_top.ensures.doubled in
+    let first = rw c.deref-3.ensures.value at c.in_ok-at_top.ensures.doubled in
     built_bad nodes.limit modules ts nodes.rows top built c.in_ok-at_top.at_top.doubled c.in_ok-below.below.doubled c.lesser-doubled.result c.in_ok-found.found.fault None c.lesser-doubled.ensures c.in-None.ensures
     first c.in_ok-below.ensures.doubled (c.in_ok-found.ensures.fault ts rows)

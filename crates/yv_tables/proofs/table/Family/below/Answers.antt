@@ -10,7 +10,7 @@ use Rattle.yv_tables.proofs.Members.{family_choice, family_other, numbers_have, 
 use Rattle.yv_tables.proofs.table.Family.below.Goals as goal
 
 pub named-requires : goal.named-requires
-named-requires c = rw c.children.ensures (numbers_within c.args.nodes.now.rows c.args.node.now.children c.requires)
+named-requires c = record { names = c.requires.names; numbers = rw c.children.ensures (numbers_within c.args.nodes.now.rows c.args.node.now.children c.requires.trees) }
 
 pub returns-then-is_choice-clause-doubled : goal.returns-then-is_choice-clause-doubled
 returns-then-is_choice-clause-doubled c =
@@ -18,7 +18,7 @@ returns-then-is_choice-clause-doubled c =
     let row = c.args.node.now in
     let choice : is_choice row.label.defined.kind ≡ true = ap is_choice (sym c.kind.ensures) ∙ sym c.is_choice.ensures ∙ c.if-is_choice.true in
     let is : labels_at rows c.children.result.now ≡ family_in rows row =
-    ap (labels_at rows) c.children.ensures ∙ numbers_have rows row.children c.requires ∙ sym (family_choice row.label.defined.kind (picked rows row.children) choice) in
+    ap (labels_at rows) c.children.ensures ∙ numbers_have rows row.children c.requires.trees ∙ sym (family_choice row.label.defined.kind (picked rows row.children) choice) in
     rw (← is) c.in_ok-cases.ensures.doubled
 
 pub returns-clause-doubled : goal.returns-clause-doubled
