@@ -13,7 +13,7 @@ use yv_nodes::NodeId;
 pub(crate) type Table = IndexMap<Member, NodeId>;
 
 /// Nodes by what a JSON member calls them (RFC 7951, section 4): by the file of the module whose name stands in front, where one
-/// does, and by the numbers of their names. Of no nodes it takes no more memory than a reference, since most nodes are leafs.
+/// does, and by the numbers of their names. Most nodes are leafs, so that no table is made for no nodes.
 #[derive(Drop)]
 pub(crate) struct Directory {
     table: Option<Box<Table>>,

@@ -7,8 +7,8 @@ use std::collections::BTreeMap;
 use std::rc::RcStr;
 use yv_nodes::{Node, Nodes};
 
-/// Names of nodes, each with its number: how many others were used first before it. The map is an ordered one, since strangers choose
-/// the names.
+/// Names of nodes, each with its number: how many others were used first before it. The map is an ordered one and hashes nothing, since
+/// strangers choose the names.
 #[derive(Drop)]
 pub(crate) struct Names {
     /// The numbers by name. The texts are those that the nodes share.
@@ -60,7 +60,7 @@ impl Names {
     }
 }
 
-/// Numbers the names of nodes.
+/// Numbers the names of these nodes, each at its first use.
 pub(crate) fn node_names(alloc: Global, nodes: &Nodes) -> Result<NodeNames, AllocError>
     requires { length nodes.now.rows < 2 ^ 32 }
     ensures names { IfOk result (λ found. HaveNumbers (names_of nodes.now.rows) found.names) }

@@ -24,7 +24,7 @@ pub(crate) struct Family {
 }
 
 impl Family {
-    /// The family below a node: nothing is found below a choice or case.
+    /// The family below a node, where the nodes' names have these numbers: nothing is found below a choice or case.
     pub(crate) fn below(
         alloc: Global,
         nodes: &Nodes,
@@ -50,7 +50,7 @@ impl Family {
         Family::of(alloc, nodes, names, around, node.children())
     }
 
-    /// The family of the nodes of these numbers, with choices and cases opened, where this module is around.
+    /// The family of the nodes of these numbers and names, with choices and cases opened, where this module is around.
     pub(crate) fn of(
         alloc: Global,
         nodes: &Nodes,

@@ -31,7 +31,7 @@ pub(crate) fn node_tables(
     ensures doubled { IfOk result (λ found. IsLeast
         (Among nodes.now.rows (λ k row. Namesakes (family_in nodes.now.rows row)) (length nodes.now.rows)) found.doubled) }
 {
-    let mut directories = Vec::new(alloc);
+    let mut directories = Vec::with_capacity(alloc, nodes.len() as usize)?;
     let mut doubled = None;
     for node in nodes.all() {
         let family = Family::below(alloc, nodes, names, node)?;
