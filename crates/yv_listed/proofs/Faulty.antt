@@ -10,7 +10,7 @@ use Rattle.yv_statement.specs.declared.refusal.Refusal.{Refusal}
 use Rattle.yv_statement.proofs.Least.{least_refused}
 use Rattle.yv_restrictions.specs.Numberings.{Pair, IsFirstWrong, is_wrong, is_wrong_in, kept, numbered}
 use Rattle.yv_restrictions.specs.declared.numbering.Kind.{Kind}
-use Rattle.yv_restrictions.specs.declared.numbering.Listed.{Listed}
+use Rattle.yv_restrictions.specs.Entries.{Entry}
 use Rattle.yv_named.specs.Entries.{entries, listing}
 use Rattle.yv_named.specs.Names.{IsFault}
 use Rattle.yv_listed.specs.Types.{Start, new, from, IsFaultBy}
@@ -18,7 +18,7 @@ use Rattle.yv_listed.specs.Types.{Start, new, from, IsFaultBy}
 up_to_itself : (r s : Refusal) → s ≡ r → IsUpTo r s
 up_to_itself r s e = (least_refused (Unit {0}) true r (λ _. tt) (λ _. refl)).1 s (tt, e)
 
-module _ (pairs : List Listed → List Pair) (wrong : List Pair → Listed → Bool) (kind : Kind) (file : ℕ) (t : Tree) where
+module _ (pairs : List Entry → List Pair) (wrong : List Pair → Entry → Bool) (kind : Kind) (file : ℕ) (t : Tree) where
   one_first : (i j : ℕ) → IsFirstWrong pairs wrong (entries kind t) (Some i) → IsFirstWrong pairs wrong (entries kind t) (Some j) → i ≡ j
   one_first i j p q = elim (cases_lt i j) [
     | inl l ↦ absurd (q.1 i l p.0)

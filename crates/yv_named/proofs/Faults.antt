@@ -6,25 +6,25 @@ use denote.Ref.{Bor}
 use Rattle.yv_statement.specs.Order.{refusal_at}
 use Rattle.yv_statement.specs.Tree.{Tree}
 use Rattle.yv_statement.specs.declared.refusal.Code.TheVariants.{BadNumbering}
+use Rattle.yv_restrictions.specs.Entries.{Entry}
 use Rattle.yv_restrictions.specs.Numberings.{Pair, IsFirstWrong, kept, number_in}
 use Rattle.yv_restrictions.specs.declared.numbering.Kind.{Kind}
-use Rattle.yv_restrictions.specs.declared.numbering.Listed.{Listed}
 use Rattle.yv_named.specs.Entries.{entry_of, listing}
 use Rattle.yv_named.specs.InnerEntries.{fault_at, lent}
 use Rattle.yv_named.specs.Names.{IsFault, is_value_from, number_from}
 
-line_at : (f : Tree → Listed) (cs : List Tree) (i : ℕ) (e : Listed) → slice_get (map f cs) i ≡ Some e → (c : Tree) × (slice_get cs i ≡ Some c)
+line_at : (f : Tree → Entry) (cs : List Tree) (i : ℕ) (e : Entry) → slice_get (map f cs) i ≡ Some e → (c : Tree) × (slice_get cs i ≡ Some c)
 line_at f [] i e h = absurd (cc)
 line_at f (c ∷ cs) zero e h = (c, refl)
 line_at f (c ∷ cs) (suc i) e h = line_at f cs i e h
 
-told : (pairs : List Listed → List Pair) (wrong : List Pair → Listed → Bool) (kind : Kind) (file : ℕ) (t : Tree) (o : Option ℕ) → IsFirstWrong pairs wrong (map (entry_of kind) (listing kind t)) o → IsFault pairs wrong kind file t (fault_at file (listing kind t) o)
+told : (pairs : List Entry → List Pair) (wrong : List Pair → Entry → Bool) (kind : Kind) (file : ℕ) (t : Tree) (o : Option ℕ) → IsFirstWrong pairs wrong (map (entry_of kind) (listing kind t)) o → IsFault pairs wrong kind file t (fault_at file (listing kind t) o)
 told pairs wrong kind file t None w = w
 told pairs wrong kind file t (Some i) w =
     let x = line_at (entry_of kind) (listing kind t) i w.0.0 w.0.1 in
     subst (λ (o : Option Tree). IsFault pairs wrong kind file t (option_map (λ c. refusal_at BadNumbering file c.head) o)) (sym x.1) (i, x.0, w, x.1, refl)
 
-pub fault_is : (pairs : List Listed → List Pair) (wrong : List Pair → Listed → Bool) (kind : Kind) (file : ℕ) (t : Tree) (cs : List Tree) (o : Option ℕ) → cs ≡ listing kind t → IsFirstWrong pairs wrong (map (entry_of kind) cs) o → IsFault pairs wrong kind file t (fault_at file cs o)
+pub fault_is : (pairs : List Entry → List Pair) (wrong : List Pair → Entry → Bool) (kind : Kind) (file : ℕ) (t : Tree) (cs : List Tree) (o : Option ℕ) → cs ≡ listing kind t → IsFirstWrong pairs wrong (map (entry_of kind) cs) o → IsFault pairs wrong kind file t (fault_at file cs o)
 fault_is pairs wrong kind file t cs o e w =
     subst (λ ds. IsFault pairs wrong kind file t (fault_at file ds o)) (sym e)
     (told pairs wrong kind file t o (subst (λ ds. IsFirstWrong pairs wrong (map (entry_of kind) ds) o) e w))

@@ -1,14 +1,13 @@
 -- What a `type` statement lists: its `enum` and `bit` statements (RFC 7950, sections 9.6.4 and 9.7.4).
-use Rattle.std.specs.Prelude.{ℕ, ℤ, pos, negsuc, int_le, Bool, not, ◌&&◌, ◌||◌, List, Option, map, codes, if◌then◌else◌}
+use Rattle.std.specs.Prelude.{ℕ, Bool, not, ◌&&◌, ◌||◌, List, Option, map, codes}
 use Rattle.std.specs.List.{filter, find, list_all, list_any}
-use Rattle.std.specs.Option.{option_map, unwrap_or}
+use Rattle.std.specs.Option.{option_map}
 use Rattle.std.specs.Str.{bytes_eq}
 use Rattle.yv_statement.specs.Tree.{Tree, trees, name_of}
 use Rattle.yv_rows.specs.Files.{has_word}
-use Rattle.yv_numbers.specs.Numbers.{integer_of}
+use Rattle.yv_restrictions.specs.Entries.{Entry, stated_by}
 use Rattle.yv_restrictions.specs.declared.numbering.Kind.{Kind}
 use Rattle.yv_restrictions.specs.declared.numbering.Kind.TheVariants.{Enumeration, Bits}
-use Rattle.yv_restrictions.specs.declared.numbering.Listed.{Listed}
 
 -- the keyword of what is listed
 abbrev pub entry_word : Kind → List ℕ
@@ -24,27 +23,15 @@ number_word Bits = codes "position"
 abbrev pub listing : Kind → Tree → List Tree
 listing kind t = filter (λ c. has_word (entry_word kind) c.head) (trees t.children)
 
--- a number that neither kind has
-abbrev pub far : ℤ
-far = pos 9223372036854775807
+-- the text that says the number of an entry: that of its first `value` or `position`, where it has one
+abbrev pub number_text : Kind → Tree → Option (List ℕ)
+number_text kind c = option_map (λ s. name_of s.head) (find (λ s. has_word (number_word kind) s.head) (trees c.children))
 
--- the number where it has at most 64 bits with its sign; others are far
-abbrev pub limited : ℤ → ℤ
-limited n = if int_le (negsuc 9223372036854775807) n && int_le n far then n else far
+-- an entry, as it is numbered: its name, and what the text of its number states
+abbrev pub entry_of : Kind → Tree → Entry
+entry_of kind c = record { name = name_of c.head; stated = stated_by (number_text kind c) }
 
--- the whole number of a text; what is none is far
-abbrev pub number_at : List ℕ → ℤ
-number_at text = limited (unwrap_or (integer_of text) far)
-
--- the number that an entry states: that of its first `value` or `position`
-abbrev pub stated : Kind → Tree → Option ℤ
-stated kind c = option_map (λ s. number_at (name_of s.head)) (find (λ s. has_word (number_word kind) s.head) (trees c.children))
-
--- An entry, as numbering sees it: its name and the number that it states. Where the name lies in memory plays no part.
-abbrev pub entry_of : Kind → Tree → Listed
-entry_of kind c = record { name = record { ref_ptr = (0, 0); now = name_of c.head }; number = stated kind c }
-
-abbrev pub entries : Kind → Tree → List Listed
+abbrev pub entries : Kind → Tree → List Entry
 entries kind t = map (entry_of kind) (listing kind t)
 
 -- each of its `if-feature` statements holds in the file

@@ -1,4 +1,4 @@
--- For private clauses alone: entries without where their names lie in memory, and what is told of them.
+-- For private clauses alone: entries of statements that are lent, and what is told of them.
 use Rattle.std.specs.Prelude.{ℕ, Bool, true, ◌&&◌, List, map, Option, Some, None, is_some, slice_get}
 use Rattle.std.specs.Option.{option_map}
 use denote.Ref.{Bor}
@@ -6,22 +6,19 @@ use Rattle.yv_statement.specs.Order.{refusal_at}
 use Rattle.yv_statement.specs.Tree.{Tree}
 use Rattle.yv_statement.specs.declared.refusal.Code.TheVariants.{BadNumbering}
 use Rattle.yv_statement.specs.declared.refusal.Refusal.{Refusal}
+use Rattle.yv_restrictions.specs.Entries.{Entry}
 use Rattle.yv_restrictions.specs.Numberings.{table_of}
 use Rattle.yv_restrictions.specs.declared.numbering.Kind.{Kind}
-use Rattle.yv_restrictions.specs.declared.numbering.Listed.{Listed}
 use Rattle.yv_restrictions.specs.declared.numbering.Numbering.{Numbering}
 use Rattle.yv_named.specs.Entries.{entry_of}
 use Rattle.yv_named.specs.Values.{has}
 use Rattle.yv_named.specs.declared.values.Values.{Values}
 
-abbrev pub plain : Listed → Listed
-plain e = record { name = record { ref_ptr = (0, 0); now = e.name.now }; number = e.number }
-
 -- the statements that are lent
 abbrev pub lent : List (Bor Tree) → List Tree
 lent lines = map (λ line. line.now) lines
 
-abbrev pub entries_in : Kind → List (Bor Tree) → List Listed
+abbrev pub entries_in : Kind → List (Bor Tree) → List Entry
 entries_in kind lines = map (entry_of kind) (lent lines)
 
 -- the refusal of the statement at this place

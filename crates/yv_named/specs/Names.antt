@@ -5,9 +5,9 @@ use Rattle.yv_statement.specs.Order.{refusal_at}
 use Rattle.yv_statement.specs.Tree.{Tree}
 use Rattle.yv_statement.specs.declared.refusal.Code.TheVariants.{BadNumbering}
 use Rattle.yv_statement.specs.declared.refusal.Refusal.{Refusal}
+use Rattle.yv_restrictions.specs.Entries.{Entry}
 use Rattle.yv_restrictions.specs.Numberings.{Pair, IsFirstWrong, kept, number_in, table_of}
 use Rattle.yv_restrictions.specs.declared.numbering.Kind.{Kind}
-use Rattle.yv_restrictions.specs.declared.numbering.Listed.{Listed}
 use Rattle.yv_named.specs.Entries.{entries, listing}
 use Rattle.yv_named.specs.Values.{has}
 use Rattle.yv_named.specs.declared.named.Named.{Named}
@@ -25,7 +25,7 @@ abbrev pub is_value_by : (List ℕ → Option ℤ) → (List ℕ → Bool) → L
 is_value_by number listed name = is_some (number name) && listed name
 
 -- A derived type has the numbers of its base where it lists nothing, or else of the names that it lists.
-abbrev pub number_from : (List ℕ → Option ℤ) → List Listed → List ℕ → Option ℤ
+abbrev pub number_from : (List ℕ → Option ℤ) → List Entry → List ℕ → Option ℤ
 number_from base [] name = base name
 number_from base (e ∷ es) name = number_in (kept base (e ∷ es)) name
 
@@ -36,7 +36,7 @@ is_value_from base number listed [] name = base name
 is_value_from base number listed (c ∷ cs) name = is_some (number name) && (base name && listed (c ∷ cs) name)
 
 -- No entry of a type statement is wrong, or f is the refusal of the first one that is.
-abbrev pub IsFault : (List Listed → List Pair) → (List Pair → Listed → Bool) → Kind → ℕ → Tree → Option Refusal → Type 0
+abbrev pub IsFault : (List Entry → List Pair) → (List Pair → Entry → Bool) → Kind → ℕ → Tree → Option Refusal → Type 0
 IsFault pairs wrong kind file t None = IsFirstWrong pairs wrong (entries kind t) None
 IsFault pairs wrong kind file t (Some f) =
     (i : ℕ) × (c : Tree) × IsFirstWrong pairs wrong (entries kind t) (Some i) × (slice_get (listing kind t) i ≡ Some c)

@@ -3,21 +3,15 @@ ghost use Rattle.std.specs.Prelude.{◌≡◌, ◌||◌, map, not, codes, IfOk, 
 ghost use Rattle.std.specs.List.{find};
 ghost use Rattle.yv_statement.specs.Tree.{name_of as name_at, trees};
 ghost use Rattle.yv_rows.specs.Files.{has_word};
-ghost use Rattle.yv_numbers.specs.Numbers.{integer};
 ghost use Rattle.yv_link.specs.Linked.{truth_in};
-ghost use Rattle.yv_named.specs.Entries.{entry_of, is_on, limited, listing, number_at, stated};
-ghost use Rattle.yv_named.specs.InnerEntries.{plain};
+ghost use Rattle.yv_named.specs.Entries.{entry_of, is_on, listing, number_text};
 
 use crate::kind::{entry_word, number_word};
 use std::alloc::{AllocError, Global};
 use yv_link::Linked;
-use yv_numbers::{Integer, integer_of};
 use yv_restrictions::{Kind, Listed};
 use yv_rows::name_of;
 use yv_statement::Statement;
-
-// A number that neither kind has.
-const FAR: i64 = 9_223_372_036_854_775_807;
 
 /// The statements that list names, in order.
 pub(crate) fn listing<'a, 'b>(
@@ -43,24 +37,24 @@ pub(crate) fn entries<'a>(
     kind: Kind,
     lines: &[&'a Statement<'_>],
 ) -> Result<Vec<Listed<'a>>, AllocError>
-    ensures { IfOk result (λ entries. map plain entries.items ≡ map (entry_of kind) (map (λ line. line.now) lines.now)) }
+    ensures { IfOk result (λ entries. entries.items ≡ map (entry_of kind) (map (λ line. line.now) lines.now)) }
 {
     let mut entries = Vec::new(alloc);
     for line in lines {
         entries.push(Listed {
             name: name_of(line),
-            number: stated(kind, line),
+            number: number_text(kind, line),
         })?;
     }
     Ok(entries)
 }
 
-// The number that an entry states.
-fn stated(kind: Kind, line: &Statement<'_>) -> Option<i64>
-    ensures { result ≡ stated kind line.now }
+// The text that says the number of an entry.
+fn number_text<'a>(kind: Kind, line: &'a Statement<'_>) -> Option<&'a str>
+    ensures { option_map (λ text. text.now) result ≡ number_text kind line.now }
 {
     let found = first(line, number_word(kind))?;
-    Some(number_at(name_of(found)))
+    Some(name_of(found))
 }
 
 // The first substatement of a keyword.
@@ -73,37 +67,6 @@ fn first<'a, 'b>(statement: &'a Statement<'b>, word: &str) -> Option<&'a Stateme
         }
     }
     None
-}
-
-// The whole number of a text, or `FAR`.
-fn number_at(text: &str) -> i64
-    ensures { result ≡ number_at text.now }
-{
-    match integer_of(text.as_bytes()) {
-        Some(number) => limited(number),
-        None => FAR,
-    }
-}
-
-fn limited(number: Integer) -> i64
-    ensures { result ≡ limited (integer number) }
-{
-    match number {
-        Integer::Natural(natural) => {
-            if natural <= 9_223_372_036_854_775_807 {
-                natural as i64
-            } else {
-                FAR
-            }
-        }
-        Integer::Below(below) => {
-            if below <= 9_223_372_036_854_775_807 {
-                -1 - (below as i64)
-            } else {
-                FAR
-            }
-        }
-    }
 }
 
 /// Whether each `if-feature` of an entry holds in the file.

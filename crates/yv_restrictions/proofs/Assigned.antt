@@ -6,7 +6,7 @@ use Rattle.std.specs.Str.{bytes_eq}
 use Rattle.std.specs.Ordering.{int_eq}
 use Rattle.std.specs.Int.{int_max}
 use Rattle.std.specs.Option.{unwrap_or}
-use Rattle.std.proofs.lemmas.Bool.{both_ways}
+use Rattle.std.proofs.lemmas.Bool.{and_from, and_parts, both_ways, not-true}
 use Rattle.std.specs.Bool.{Decides}
 use Rattle.std.proofs.lemmas.Bool.Decides.{Decides-int_eq, nat_tests}
 use Rattle.std.proofs.lemmas.Int.{ints}
@@ -14,11 +14,11 @@ use Rattle.std.proofs.lemmas.Option.{slice_get_within, slice_get-map}
 use Rattle.std.proofs.lemmas.List.{take-append-le, take-map, length-take}
 use Rattle.std.proofs.lemmas.Slice.Eq.{bytes_eq-Decides}
 use Rattle.std.proofs.Math.Seq.{take-length}
-use Rattle.yv_restrictions.specs.Assigned.{names_of, AreDistinct, IsHighest, IsAssigned, stated, first, next, IsOfKind, AreNumbers, AreKept}
-use Rattle.yv_restrictions.specs.Numberings.{Pair, number_in, is_taken, highest, highest_from, next_number, number_of, pair_of, is_number, is_wrong, pair_in, agrees, is_wrong_in, pairs_behind, numbered, kept, IsFirstWrong}
+use Rattle.yv_restrictions.specs.Assigned.{names_of, AreDistinct, IsHighest, IsAssigned, stated, first, next, IsOfKind, AreNumbers, StatesNoOther, unstated, restated, AreKept}
+use Rattle.yv_restrictions.specs.Numberings.{Pair, number_in, is_taken, highest, highest_from, next_number, number_from, number_of, pair_of, is_number, is_free, is_wrong, pair_in, agrees, is_wrong_in, pairs_behind, numbered, kept, IsFirstWrong}
 use Rattle.yv_restrictions.specs.declared.numbering.Kind.{Kind}
 use Rattle.yv_restrictions.specs.declared.numbering.Kind.TheVariants.{Enumeration, Bits}
-use Rattle.yv_restrictions.specs.declared.numbering.Listed.{Listed}
+use Rattle.yv_restrictions.specs.Entries.{Entry, Stated, nothing, whole, no_number}
 use Rattle.yv_restrictions.proofs.First.{behind_pushed}
 
 -- it stands at no place
@@ -26,17 +26,17 @@ abbrev IsNoneOf : {X : Type 0} → List X → X → Type 0
 IsNoneOf xs x = (k : ℕ) → slice_get xs k ≡ Some x → ⊥
 
 -- an entry of a new type behind others with these names and numbers
-record IsNumbered (kind : Kind) (names : List (List ℕ)) (before : List ℤ) (e : Listed) (n : ℤ) : Type 0 where
-  name : IsNoneOf names e.name.now
+record IsNumbered (kind : Kind) (names : List (List ℕ)) (before : List ℤ) (e : Entry) (n : ℤ) : Type 0 where
+  name : IsNoneOf names e.name
   number : IsNoneOf before n
   kind_has : IsOfKind kind n
-  assigned : IsAssigned before e.number n
+  assigned : IsAssigned before e.stated n
 
 -- an entry of a derived type behind others with these names
-record IsKept (base : List ℕ → Option ℤ) (names : List (List ℕ)) (e : Listed) (n : ℤ) : Type 0 where
-  name : IsNoneOf names e.name.now
-  same : base e.name.now ≡ Some n
-  stated : (m : ℤ) → e.number ≡ Some m → m ≡ n
+record IsKept (base : List ℕ → Option ℤ) (names : List (List ℕ)) (e : Entry) (n : ℤ) : Type 0 where
+  name : IsNoneOf names e.name
+  same : base e.name ≡ Some n
+  stated : StatesNoOther n e.stated
 
 -- ### lists by place
 
@@ -176,19 +176,28 @@ one_highest ns h m g k =
 none_highest : (h : ℤ) → IsHighest [] h → ⊥
 none_highest h g = let e = g.there in absurd (cc)
 
-assigned_number : (ps : List Pair) (e : Option ℤ) → IsAssigned (numbers ps) e (unwrap_or e (next_number (highest ps)))
-assigned_number ps (Some n) = stated
-assigned_number [] None = first refl
-assigned_number (p ∷ ps) None =
+next_assigned : (ps : List Pair) → IsAssigned (numbers ps) nothing (next_number (highest ps))
+next_assigned [] = first refl
+next_assigned (p ∷ ps) =
     let r = highest_found p.number ps in
-    subst (λ o. IsAssigned (numbers (p ∷ ps)) None (next_number o)) (sym r.1) (next r.2)
+    subst (λ o. IsAssigned (numbers (p ∷ ps)) nothing (next_number o)) (sym r.1) (next r.2)
 
-one_assigned : {before : List ℤ} {e : Option ℤ} {n m : ℤ} → IsAssigned before e n → IsAssigned before e m → n ≡ m
+one_assigned : {before : List ℤ} {e : Stated} {n m : ℤ} → IsAssigned before e n → IsAssigned before e m → n ≡ m
 one_assigned stated stated = refl
 one_assigned (first e) (first f) = refl
 one_assigned (first e) (next {h} g) = absurd (none_highest h (subst (λ ns. IsHighest ns h) e g))
 one_assigned (next {h} g) (first e) = absurd (none_highest h (subst (λ ns. IsHighest ns h) e g))
 one_assigned {before} (next {h} g) (next {h = m} k) = ap (λ x. x +ℤ pos 1) (one_highest before h m g k)
+
+assigned_from : (ps : List Pair) (s : Stated) (n : ℤ) → number_from (next_number (highest ps)) s ≡ Some n → IsAssigned (numbers ps) s n
+assigned_from ps nothing n h = subst (λ m. IsAssigned (numbers ps) nothing m) (some_only _ _ h) (next_assigned ps)
+assigned_from ps (whole m) n h = subst (λ k. IsAssigned (numbers ps) (whole m) k) (some_only m n h) stated
+assigned_from ps no_number n h = absurd (cc)
+
+number_is : (ps : List Pair) {s : Stated} {n : ℤ} → IsAssigned (numbers ps) s n → number_from (next_number (highest ps)) s ≡ Some n
+number_is ps stated = refl
+number_is ps (first e) = ap Some (one_assigned (next_assigned ps) (first e))
+number_is ps (next g) = ap Some (one_assigned (next_assigned ps) (next g))
 
 -- ### the kind
 
@@ -204,83 +213,92 @@ not_false : (b : Bool) → not b ≡ false → b ≡ true
 not_false true h = refl
 not_false false h = absurd (cc)
 
+free_found : (kind : Kind) (ps : List Pair) (o : Option ℤ) → is_free kind ps o ≡ true → (n : ℤ) × (o ≡ Some n) × (is_taken ps n ≡ false) × (is_number kind n ≡ true)
+free_found kind ps None h = absurd (cc)
+free_found kind ps (Some n) h =
+    let p = and_parts (not (is_taken ps n)) (is_number kind n) h in
+    (n, refl, not-true (is_taken ps n) p.0, p.1)
+
 -- ### one entry
 
-numbered_found : (kind : Kind) (ps : List Pair) (e : Listed) → is_wrong kind ps e ≡ false → IsNumbered kind (names ps) (numbers ps) e (number_of ps e)
+numbered_found : (kind : Kind) (ps : List Pair) (e : Entry) → is_wrong kind ps e ≡ false → IsNumbered kind (names ps) (numbers ps) e (unwrap_or (number_of ps e) (pos 0))
 numbered_found kind ps e h =
-    let n = number_of ps e in
-    let p = or_false (is_some (number_in ps e.name.now)) (is_taken ps n || not (is_number kind n)) h in
-    let q = or_false (is_taken ps n) (not (is_number kind n)) p.1 in
-    record {
-      name = new_name ps e.name.now p.0;
-      number = new_number ps n q.0;
-      kind_has = kind_found kind n (not_false (is_number kind n) q.1);
-      assigned = assigned_number ps e.number;
-    }
+    let p = or_false (is_some (number_in ps e.name)) (not (is_free kind ps (number_of ps e))) h in
+    let f = free_found kind ps (number_of ps e) (not_false _ p.1) in
+    subst (λ m. IsNumbered kind (names ps) (numbers ps) e m) (sym (ap (λ o. unwrap_or o (pos 0)) f.1)) (record {
+      name = new_name ps e.name p.0;
+      number = new_number ps f.0 f.2;
+      kind_has = kind_found kind f.0 f.3;
+      assigned = assigned_from ps e.stated f.0 f.1;
+    })
 
-numbered_passes : (kind : Kind) (ps : List Pair) (e : Listed) (n : ℤ) → IsNumbered kind (names ps) (numbers ps) e n → (is_wrong kind ps e ≡ false) × (number_of ps e ≡ n)
+free_passes : (kind : Kind) (ps : List Pair) (n : ℤ) → is_taken ps n ≡ false → is_number kind n ≡ true → not (is_free kind ps (Some n)) ≡ false
+free_passes kind ps n h g = ap not (and_from (not (is_taken ps n)) (is_number kind n) (ap not h) g)
+
+numbered_passes : (kind : Kind) (ps : List Pair) (e : Entry) (n : ℤ) → IsNumbered kind (names ps) (numbers ps) e n → (is_wrong kind ps e ≡ false) × (unwrap_or (number_of ps e) (pos 0) ≡ n)
 numbered_passes kind ps e n h =
-    let same : number_of ps e ≡ n = one_assigned (assigned_number ps e.number) h.assigned in
-    (false_or _ _ (name_new ps e.name.now h.name) (ap (λ m. is_taken ps m || not (is_number kind m)) same ∙ false_or _ _ (number_new ps n h.number) (ap not (kind_passes kind n h.kind_has))), same)
+    let same : number_of ps e ≡ Some n = number_is ps h.assigned in
+    (false_or _ _ (name_new ps e.name h.name) (ap (λ o. not (is_free kind ps o)) same ∙ free_passes kind ps n (number_new ps n h.number) (kind_passes kind n h.kind_has)), ap (λ o. unwrap_or o (pos 0)) same)
 
-kept_found : (base : List ℕ → Option ℤ) (ps : List Pair) (e : Listed) → is_wrong_in base ps e ≡ false → IsKept base (names ps) e (unwrap_or (base e.name.now) (pos 0))
+kept_found : (base : List ℕ → Option ℤ) (ps : List Pair) (e : Entry) → is_wrong_in base ps e ≡ false → IsKept base (names ps) e (unwrap_or (base e.name) (pos 0))
 kept_found base ps e h =
-    let p = or_false (is_some (number_in ps e.name.now)) (not (agrees e.number (base e.name.now))) h in
+    let p = or_false (is_some (number_in ps e.name)) (not (agrees e.stated (base e.name))) h in
     record {
-      name = new_name ps e.name.now p.0;
-      same = based (base e.name.now) (not_false _ p.1);
-      stated = said e.number (base e.name.now) (not_false _ p.1);
+      name = new_name ps e.name p.0;
+      same = based (base e.name) (not_false _ p.1);
+      stated = said e.stated (base e.name) (not_false _ p.1);
     }
   where
-    based : (o : Option ℤ) → agrees e.number o ≡ true → o ≡ Some (unwrap_or o (pos 0))
+    based : (o : Option ℤ) → agrees e.stated o ≡ true → o ≡ Some (unwrap_or o (pos 0))
     based None k = absurd (cc)
     based (Some n) k = refl
 
-    said : (s o : Option ℤ) → agrees s o ≡ true → (m : ℤ) → s ≡ Some m → m ≡ unwrap_or o (pos 0)
+    said : (s : Stated) (o : Option ℤ) → agrees s o ≡ true → StatesNoOther (unwrap_or o (pos 0)) s
     said s None k = absurd (cc)
-    said None (Some n) k = λ m h. absurd (cc)
-    said (Some l) (Some n) k = λ m h. some_only m l (sym h) ∙ (Decides-int_eq l n).0 k
+    said nothing (Some n) k = unstated
+    said (whole l) (Some n) k = subst (λ m. StatesNoOther m (whole l)) ((Decides-int_eq l n).0 k) restated
+    said no_number (Some n) k = absurd (cc)
 
-kept_passes : (base : List ℕ → Option ℤ) (ps : List Pair) (e : Listed) (n : ℤ) → IsKept base (names ps) e n → (is_wrong_in base ps e ≡ false) × (unwrap_or (base e.name.now) (pos 0) ≡ n)
+kept_passes : (base : List ℕ → Option ℤ) (ps : List Pair) (e : Entry) (n : ℤ) → IsKept base (names ps) e n → (is_wrong_in base ps e ≡ false) × (unwrap_or (base e.name) (pos 0) ≡ n)
 kept_passes base ps e n h =
-    (false_or _ _ (name_new ps e.name.now h.name) (ap not (ap (agrees e.number) h.same ∙ said e.number h.stated)), ap (λ o. unwrap_or o (pos 0)) h.same)
+    (false_or _ _ (name_new ps e.name h.name) (ap not (ap (agrees e.stated) h.same ∙ said h.stated)), ap (λ o. unwrap_or o (pos 0)) h.same)
   where
-    said : (s : Option ℤ) → ((m : ℤ) → s ≡ Some m → m ≡ n) → agrees s (Some n) ≡ true
-    said None g = refl
-    said (Some m) g = (Decides-int_eq m n).1 (g m refl)
+    said : {s : Stated} → StatesNoOther n s → agrees s (Some n) ≡ true
+    said unstated = refl
+    said restated = (Decides-int_eq n n).1 refl
 
 -- ### all entries
 
 -- by a test of entries, the pair of one that passes, and what is to hold of it
-module _ (wrong : List Pair → Listed → Bool) (pair : List Pair → Listed → Pair) (IsRight : List (List ℕ) → List ℤ → Listed → ℤ → Type 0) (named : (ps : List Pair) (e : Listed) → (pair ps e).name ≡ e.name.now) (found : (ps : List Pair) (e : Listed) → wrong ps e ≡ false → IsRight (names ps) (numbers ps) e (pair ps e).number) (passes : (ps : List Pair) (e : Listed) (n : ℤ) → IsRight (names ps) (numbers ps) e n → (wrong ps e ≡ false) × ((pair ps e).number ≡ n)) where
-  abbrev right : List Listed → List Pair
+module _ (wrong : List Pair → Entry → Bool) (pair : List Pair → Entry → Pair) (IsRight : List (List ℕ) → List ℤ → Entry → ℤ → Type 0) (named : (ps : List Pair) (e : Entry) → (pair ps e).name ≡ e.name) (found : (ps : List Pair) (e : Entry) → wrong ps e ≡ false → IsRight (names ps) (numbers ps) e (pair ps e).number) (passes : (ps : List Pair) (e : Entry) (n : ℤ) → IsRight (names ps) (numbers ps) e n → (wrong ps e ≡ false) × ((pair ps e).number ≡ n)) where
+  abbrev right : List Entry → List Pair
   right es = pairs_behind wrong pair [] es
 
-  abbrev AreRight : List Listed → List ℤ → Type 0
-  AreRight es ns = (length es ≡ length ns) × ((i : ℕ) (e : Listed) (n : ℤ) → slice_get es i ≡ Some e → slice_get ns i ≡ Some n → IsRight (names_of (take i es)) (take i ns) e n)
+  abbrev AreRight : List Entry → List ℤ → Type 0
+  AreRight es ns = (length es ≡ length ns) × ((i : ℕ) (e : Entry) (n : ℤ) → slice_get es i ≡ Some e → slice_get ns i ≡ Some n → IsRight (names_of (take i es)) (take i ns) e n)
 
-  right_more : (es : List Listed) (i : ℕ) (e : Listed) → slice_get es i ≡ Some e → wrong (right (take i es)) e ≡ false → right (take (suc i) es) ≡ right (take i es) ++ pair (right (take i es)) e ∷ []
+  right_more : (es : List Entry) (i : ℕ) (e : Entry) → slice_get es i ≡ Some e → wrong (right (take i es)) e ≡ false → right (take (suc i) es) ≡ right (take i es) ++ pair (right (take i es)) e ∷ []
   right_more es i e h w =
       let ps = right (take i es) in
       ap right (one_more es i e h) ∙ behind_pushed wrong pair [] (take i es) e ∙ ap (λ b. cond b ps (ps ++ pair ps e ∷ [])) w
 
-  names_more : (es : List Listed) (i : ℕ) (e : Listed) → slice_get es i ≡ Some e → wrong (right (take i es)) e ≡ false → names (right (take i es)) ≡ names_of (take i es) → names (right (take (suc i) es)) ≡ names_of (take (suc i) es)
+  names_more : (es : List Entry) (i : ℕ) (e : Entry) → slice_get es i ≡ Some e → wrong (right (take i es)) e ≡ false → names (right (take i es)) ≡ names_of (take i es) → names (right (take (suc i) es)) ≡ names_of (take (suc i) es)
   names_more es i e h w k =
       let ps = right (take i es) in
-      ap names (right_more es i e h w) ∙ mapped_more (λ p. p.name) ps (pair ps e) ∙ ap (λ xs. xs ++ (pair ps e).name ∷ []) k ∙ ap (λ x. names_of (take i es) ++ x ∷ []) (named ps e) ∙ sym (ap names_of (one_more es i e h) ∙ mapped_more (λ f. f.name.now) (take i es) e)
+      ap names (right_more es i e h w) ∙ mapped_more (λ p. p.name) ps (pair ps e) ∙ ap (λ xs. xs ++ (pair ps e).name ∷ []) k ∙ ap (λ x. names_of (take i es) ++ x ∷ []) (named ps e) ∙ sym (ap names_of (one_more es i e h) ∙ mapped_more (λ f. f.name) (take i es) e)
 
-  numbers_more : (es : List Listed) (i : ℕ) (e : Listed) → slice_get es i ≡ Some e → wrong (right (take i es)) e ≡ false → numbers (right (take (suc i) es)) ≡ numbers (right (take i es)) ++ (pair (right (take i es)) e).number ∷ []
+  numbers_more : (es : List Entry) (i : ℕ) (e : Entry) → slice_get es i ≡ Some e → wrong (right (take i es)) e ≡ false → numbers (right (take (suc i) es)) ≡ numbers (right (take i es)) ++ (pair (right (take i es)) e).number ∷ []
   numbers_more es i e h w =
       let ps = right (take i es) in
       ap numbers (right_more es i e h w) ∙ mapped_more (λ p. p.number) ps (pair ps e)
 
   -- where all have such numbers
-  pass_at : (es : List Listed) (ns : List ℤ) (i : ℕ) (e : Listed) (n : ℤ) → AreRight es ns → slice_get es i ≡ Some e → slice_get ns i ≡ Some n → names (right (take i es)) ≡ names_of (take i es) → numbers (right (take i es)) ≡ take i ns → (wrong (right (take i es)) e ≡ false) × ((pair (right (take i es)) e).number ≡ n)
+  pass_at : (es : List Entry) (ns : List ℤ) (i : ℕ) (e : Entry) (n : ℤ) → AreRight es ns → slice_get es i ≡ Some e → slice_get ns i ≡ Some n → names (right (take i es)) ≡ names_of (take i es) → numbers (right (take i es)) ≡ take i ns → (wrong (right (take i es)) e ≡ false) × ((pair (right (take i es)) e).number ≡ n)
   pass_at es ns i e n h g k p q =
       let ps = right (take i es) in
       passes ps e n (subst (λ xs. IsRight xs (numbers ps) e n) (sym p) (subst (λ xs. IsRight (names_of (take i es)) xs e n) (sym q) (h.1 i e n g k)))
 
-  so_far : (es : List Listed) (ns : List ℤ) (i : ℕ) → AreRight es ns → i ≤ length es → (names (right (take i es)) ≡ names_of (take i es)) × (numbers (right (take i es)) ≡ take i ns)
+  so_far : (es : List Entry) (ns : List ℤ) (i : ℕ) → AreRight es ns → i ≤ length es → (names (right (take i es)) ≡ names_of (take i es)) × (numbers (right (take i es)) ≡ take i ns)
   so_far es ns zero h b = (refl, refl)
   so_far es ns (suc i) h b =
       let length_same : length es ≡ length ns = h.0 in
@@ -292,7 +310,7 @@ module _ (wrong : List Pair → Listed → Bool) (pair : List Pair → Listed �
         numbers_more es i e.0 e.1 p.0 ∙ ap (λ xs. xs ++ (pair (right (take i es)) e.0).number ∷ []) before.1 ∙ ap (λ x. take i ns ++ x ∷ []) p.1 ∙ sym (one_more ns i n.0 n.1),
       )
 
-  pub none_wrong : (es : List Listed) (ns : List ℤ) → AreRight es ns → IsFirstWrong right wrong es None
+  pub none_wrong : (es : List Entry) (ns : List ℤ) → AreRight es ns → IsFirstWrong right wrong es None
   none_wrong es ns h = λ k w.
       let inside : k < length es = slice_get_within es k w.0 w.1 in
       let length_same : length es ≡ length ns = h.0 in
@@ -300,7 +318,7 @@ module _ (wrong : List Pair → Listed → Bool) (pair : List Pair → Listed �
       let n = found_at ns k (omega arith) in
       both_ways _ (pass_at es ns k w.0 n.0 h w.1 n.1 before.0 before.1).0 w.2
 
-  pub just_these : (es : List Listed) (ns : List ℤ) → AreRight es ns → (names (right es) ≡ names_of es) × (numbers (right es) ≡ ns)
+  pub just_these : (es : List Entry) (ns : List ℤ) → AreRight es ns → (names (right es) ≡ names_of es) × (numbers (right es) ≡ ns)
   just_these es ns h =
       let all = so_far es ns (length es) h (omega arith) in
       let same = take-length es in (
@@ -309,14 +327,14 @@ module _ (wrong : List Pair → Listed → Bool) (pair : List Pair → Listed �
       )
 
   -- where none is wrong
-  right_at : (es : List Listed) (i : ℕ) (e : Listed) → IsFirstWrong right wrong es None → slice_get es i ≡ Some e → wrong (right (take i es)) e ≡ false
+  right_at : (es : List Entry) (i : ℕ) (e : Entry) → IsFirstWrong right wrong es None → slice_get es i ≡ Some e → wrong (right (take i es)) e ≡ false
   right_at es i e h g = at (wrong (right (take i es)) e) refl
     where
       at : (b : Bool) → wrong (right (take i es)) e ≡ b → b ≡ false
       at true k = absurd (h i (e, g, k))
       at false k = refl
 
-  named_so_far : (es : List Listed) (i : ℕ) → IsFirstWrong right wrong es None → i ≤ length es → (names (right (take i es)) ≡ names_of (take i es)) × (length (numbers (right (take i es))) ≡ i)
+  named_so_far : (es : List Entry) (i : ℕ) → IsFirstWrong right wrong es None → i ≤ length es → (names (right (take i es)) ≡ names_of (take i es)) × (length (numbers (right (take i es))) ≡ i)
   named_so_far es zero h b = (refl, refl)
   named_so_far es (suc i) h b =
       let before = named_so_far es i h (omega arith) in
@@ -332,7 +350,7 @@ module _ (wrong : List Pair → Listed → Bool) (pair : List Pair → Listed �
       longer ns n i e = length-append ns (n ∷ []) ∙ ap (λ k. k + 1) e ∙ add-one i
 
   -- the numbers of the first entries are the first numbers
-  begins : (es : List Listed) (j i : ℕ) → IsFirstWrong right wrong es None → i + j ≤ length es → take i (numbers (right (take (i + j) es))) ≡ numbers (right (take i es))
+  begins : (es : List Entry) (j i : ℕ) → IsFirstWrong right wrong es None → i + j ≤ length es → take i (numbers (right (take (i + j) es))) ≡ numbers (right (take i es))
   begins es zero i h b =
       let count = (named_so_far es i h (omega arith)).1 in
       ap (λ k. take i (numbers (right (take k es)))) (same i) ∙ ap (λ k. take k (numbers (right (take i es)))) (sym count) ∙ take-length (numbers (right (take i es)))
@@ -351,7 +369,7 @@ module _ (wrong : List Pair → Listed → Bool) (pair : List Pair → Listed �
       next_place : (i j : ℕ) → i + suc j ≡ suc (i + j)
       next_place i j = omega arith
 
-  first_numbers : (es : List Listed) (i : ℕ) → IsFirstWrong right wrong es None → i ≤ length es → take i (numbers (right es)) ≡ numbers (right (take i es))
+  first_numbers : (es : List Entry) (i : ℕ) → IsFirstWrong right wrong es None → i ≤ length es → take i (numbers (right es)) ≡ numbers (right (take i es))
   first_numbers es i h b =
       let all : take (i + (length es - i)) es ≡ es = ap (λ k. take k es) (rest i (length es) b) ∙ take-length es in
       ap (λ xs. take i (numbers (right xs))) (sym all) ∙ begins es (length es - i) i h (omega arith)
@@ -359,10 +377,10 @@ module _ (wrong : List Pair → Listed → Bool) (pair : List Pair → Listed �
       rest : (i n : ℕ) → i ≤ n → i + (n - i) ≡ n
       rest i n b = omega arith
 
-  pub are_there : (es : List Listed) → IsFirstWrong right wrong es None → AreRight es (numbers (right es))
+  pub are_there : (es : List Entry) → IsFirstWrong right wrong es None → AreRight es (numbers (right es))
   are_there es h = (sym (ap (λ xs. length (numbers (right xs))) (sym (take-length es)) ∙ (named_so_far es (length es) h (omega arith)).1), each)
     where
-      each : (i : ℕ) (e : Listed) (n : ℤ) → slice_get es i ≡ Some e → slice_get (numbers (right es)) i ≡ Some n → IsRight (names_of (take i es)) (take i (numbers (right es))) e n
+      each : (i : ℕ) (e : Entry) (n : ℤ) → slice_get es i ≡ Some e → slice_get (numbers (right es)) i ≡ Some n → IsRight (names_of (take i es)) (take i (numbers (right es))) e n
       each i e n g k =
           let inside : i < length es = slice_get_within es i e g in
           let ps = right (take i es) in
@@ -402,31 +420,31 @@ distinct {X} xs h = λ i k x g e. equal i k (apart i k x g e (nat_lt i k) refl) 
     equal : (i k : ℕ) → nat_lt i k ≡ false → nat_lt k i ≡ false → i ≡ k
     equal i k g h = grind (arith, nat_tests)
 
-names_before : (es : List Listed) (i : ℕ) (e : Listed) → AreDistinct (names_of es) → slice_get es i ≡ Some e → IsNoneOf (names_of (take i es)) e.name.now
-names_before es i e h g = subst (λ xs. IsNoneOf xs e.name.now) (take-map (λ f. f.name.now) i es) (none_before (names_of es) i e.name.now h (slice_get-map (λ f. f.name.now) es i ∙ ap (option_map (λ f. f.name.now)) g))
+names_before : (es : List Entry) (i : ℕ) (e : Entry) → AreDistinct (names_of es) → slice_get es i ≡ Some e → IsNoneOf (names_of (take i es)) e.name
+names_before es i e h g = subst (λ xs. IsNoneOf xs e.name) (take-map (λ f. f.name) i es) (none_before (names_of es) i e.name h (slice_get-map (λ f. f.name) es i ∙ ap (option_map (λ f. f.name)) g))
 
-named_at : (es : List Listed) (i : ℕ) (s : List ℕ) → slice_get (names_of es) i ≡ Some s → (e : Listed) × (slice_get es i ≡ Some e) × (e.name.now ≡ s)
+named_at : (es : List Entry) (i : ℕ) (s : List ℕ) → slice_get (names_of es) i ≡ Some s → (e : Entry) × (slice_get es i ≡ Some e) × (e.name ≡ s)
 named_at [] i s h = absurd (cc)
 named_at (e ∷ es) zero s h = (e, refl, some_only _ _ h)
 named_at (e ∷ es) (suc i) s h = named_at es i s h
 
-names_distinct : (es : List Listed) → ((i : ℕ) (e : Listed) → slice_get es i ≡ Some e → IsNoneOf (names_of (take i es)) e.name.now) → AreDistinct (names_of es)
+names_distinct : (es : List Entry) → ((i : ℕ) (e : Entry) → slice_get es i ≡ Some e → IsNoneOf (names_of (take i es)) e.name) → AreDistinct (names_of es)
 names_distinct es h = distinct (names_of es) (λ i s g.
     let e = named_at es i s g in
-    subst (λ t. IsNoneOf (take i (names_of es)) t) e.2 (subst (λ xs. IsNoneOf xs e.0.name.now) (sym (take-map (λ f. f.name.now) i es)) (h i e.0 e.1)))
+    subst (λ t. IsNoneOf (take i (names_of es)) t) e.2 (subst (λ xs. IsNoneOf xs e.0.name) (sym (take-map (λ f. f.name) i es)) (h i e.0 e.1)))
 
-entry_at : (es : List Listed) (ns : List ℤ) (i : ℕ) (n : ℤ) → length es ≡ length ns → slice_get ns i ≡ Some n → (e : Listed) × (slice_get es i ≡ Some e)
+entry_at : (es : List Entry) (ns : List ℤ) (i : ℕ) (n : ℤ) → length es ≡ length ns → slice_get ns i ≡ Some n → (e : Entry) × (slice_get es i ≡ Some e)
 entry_at es ns i n same g = let inside : i < length ns = slice_get_within ns i n g in found_at es i (omega arith)
 
-number_at : (es : List Listed) (ns : List ℤ) (i : ℕ) (e : Listed) → length es ≡ length ns → slice_get es i ≡ Some e → (n : ℤ) × (slice_get ns i ≡ Some n)
+number_at : (es : List Entry) (ns : List ℤ) (i : ℕ) (e : Entry) → length es ≡ length ns → slice_get es i ≡ Some e → (n : ℤ) × (slice_get ns i ≡ Some n)
 number_at es ns i e same g = let inside : i < length es = slice_get_within es i e g in found_at ns i (omega arith)
 
 -- ### new types
 
-abbrev AllNumbered : Kind → List Listed → List ℤ → Type 0
-AllNumbered kind es ns = (length es ≡ length ns) × ((i : ℕ) (e : Listed) (n : ℤ) → slice_get es i ≡ Some e → slice_get ns i ≡ Some n → IsNumbered kind (names_of (take i es)) (take i ns) e n)
+abbrev AllNumbered : Kind → List Entry → List ℤ → Type 0
+AllNumbered kind es ns = (length es ≡ length ns) × ((i : ℕ) (e : Entry) (n : ℤ) → slice_get es i ≡ Some e → slice_get ns i ≡ Some n → IsNumbered kind (names_of (take i es)) (take i ns) e n)
 
-each_numbered : (kind : Kind) (es : List Listed) (ns : List ℤ) → AreNumbers kind es ns → AllNumbered kind es ns
+each_numbered : (kind : Kind) (es : List Entry) (ns : List ℤ) → AreNumbers kind es ns → AllNumbered kind es ns
 each_numbered kind es ns h = (
   h.one_each,
   λ i e n g k. record {
@@ -437,7 +455,7 @@ each_numbered kind es ns h = (
   },
 )
 
-all_numbered : (kind : Kind) (es : List Listed) (ns : List ℤ) → AllNumbered kind es ns → AreNumbers kind es ns
+all_numbered : (kind : Kind) (es : List Entry) (ns : List ℤ) → AllNumbered kind es ns → AreNumbers kind es ns
 all_numbered kind es ns h = record {
   one_each = h.0;
   names_differ = names_distinct es (λ i e g. let n = number_at es ns i e h.0 g in (h.1 i e n.0 g n.1).name);
@@ -446,43 +464,43 @@ all_numbered kind es ns h = record {
   assigned = λ i e n g k. (h.1 i e n g k).assigned;
 }
 
-pub numbers_right : (kind : Kind) (es : List Listed) (ns : List ℤ) → AreNumbers kind es ns → IsFirstWrong (numbered kind) (is_wrong kind) es None
+pub numbers_right : (kind : Kind) (es : List Entry) (ns : List ℤ) → AreNumbers kind es ns → IsFirstWrong (numbered kind) (is_wrong kind) es None
 numbers_right kind es ns h = none_wrong (is_wrong kind) pair_of (IsNumbered kind) (λ ps e. refl) (numbered_found kind) (numbered_passes kind) es ns (each_numbered kind es ns h)
 
-pub numbers_same : (kind : Kind) (es : List Listed) (ns : List ℤ) → AreNumbers kind es ns → (names (numbered kind es) ≡ names_of es) × (numbers (numbered kind es) ≡ ns)
+pub numbers_same : (kind : Kind) (es : List Entry) (ns : List ℤ) → AreNumbers kind es ns → (names (numbered kind es) ≡ names_of es) × (numbers (numbered kind es) ≡ ns)
 numbers_same kind es ns h = just_these (is_wrong kind) pair_of (IsNumbered kind) (λ ps e. refl) (numbered_found kind) (numbered_passes kind) es ns (each_numbered kind es ns h)
 
-pub numbers_there : (kind : Kind) (es : List Listed) → IsFirstWrong (numbered kind) (is_wrong kind) es None → AreNumbers kind es (numbers (numbered kind es))
+pub numbers_there : (kind : Kind) (es : List Entry) → IsFirstWrong (numbered kind) (is_wrong kind) es None → AreNumbers kind es (numbers (numbered kind es))
 numbers_there kind es h = all_numbered kind es (numbers (numbered kind es)) (are_there (is_wrong kind) pair_of (IsNumbered kind) (λ ps e. refl) (numbered_found kind) (numbered_passes kind) es h)
 
 -- ### derived types
 
-abbrev AllKept : (List ℕ → Option ℤ) → List Listed → List ℤ → Type 0
-AllKept base es ns = (length es ≡ length ns) × ((i : ℕ) (e : Listed) (n : ℤ) → slice_get es i ≡ Some e → slice_get ns i ≡ Some n → IsKept base (names_of (take i es)) e n)
+abbrev AllKept : (List ℕ → Option ℤ) → List Entry → List ℤ → Type 0
+AllKept base es ns = (length es ≡ length ns) × ((i : ℕ) (e : Entry) (n : ℤ) → slice_get es i ≡ Some e → slice_get ns i ≡ Some n → IsKept base (names_of (take i es)) e n)
 
-each_kept : (base : List ℕ → Option ℤ) (es : List Listed) (ns : List ℤ) → AreKept base es ns → AllKept base es ns
+each_kept : (base : List ℕ → Option ℤ) (es : List Entry) (ns : List ℤ) → AreKept base es ns → AllKept base es ns
 each_kept base es ns h = (
   h.one_each,
   λ i e n g k. record {
     name = names_before es i e h.names_differ g;
     same = h.same i e n g k;
-    stated = λ m l. h.stated i e m n g k l;
+    stated = h.stated i e n g k;
   },
 )
 
-all_kept : (base : List ℕ → Option ℤ) (es : List Listed) (ns : List ℤ) → AllKept base es ns → AreKept base es ns
+all_kept : (base : List ℕ → Option ℤ) (es : List Entry) (ns : List ℤ) → AllKept base es ns → AreKept base es ns
 all_kept base es ns h = record {
   one_each = h.0;
   names_differ = names_distinct es (λ i e g. let n = number_at es ns i e h.0 g in (h.1 i e n.0 g n.1).name);
   same = λ i e n g k. (h.1 i e n g k).same;
-  stated = λ i e m n g k l. (h.1 i e n g k).stated m l;
+  stated = λ i e n g k. (h.1 i e n g k).stated;
 }
 
-pub kept_right : (base : List ℕ → Option ℤ) (es : List Listed) (ns : List ℤ) → AreKept base es ns → IsFirstWrong (kept base) (is_wrong_in base) es None
+pub kept_right : (base : List ℕ → Option ℤ) (es : List Entry) (ns : List ℤ) → AreKept base es ns → IsFirstWrong (kept base) (is_wrong_in base) es None
 kept_right base es ns h = none_wrong (is_wrong_in base) (λ ps e. pair_in base e) (λ xs ms. IsKept base xs) (λ ps e. refl) (kept_found base) (kept_passes base) es ns (each_kept base es ns h)
 
-pub kept_same : (base : List ℕ → Option ℤ) (es : List Listed) (ns : List ℤ) → AreKept base es ns → (names (kept base es) ≡ names_of es) × (numbers (kept base es) ≡ ns)
+pub kept_same : (base : List ℕ → Option ℤ) (es : List Entry) (ns : List ℤ) → AreKept base es ns → (names (kept base es) ≡ names_of es) × (numbers (kept base es) ≡ ns)
 kept_same base es ns h = just_these (is_wrong_in base) (λ ps e. pair_in base e) (λ xs ms. IsKept base xs) (λ ps e. refl) (kept_found base) (kept_passes base) es ns (each_kept base es ns h)
 
-pub kept_there : (base : List ℕ → Option ℤ) (es : List Listed) → IsFirstWrong (kept base) (is_wrong_in base) es None → AreKept base es (numbers (kept base es))
+pub kept_there : (base : List ℕ → Option ℤ) (es : List Entry) → IsFirstWrong (kept base) (is_wrong_in base) es None → AreKept base es (numbers (kept base es))
 kept_there base es h = all_kept base es (numbers (kept base es)) (are_there (is_wrong_in base) (λ ps e. pair_in base e) (λ xs ms. IsKept base xs) (λ ps e. refl) (kept_found base) (kept_passes base) es h)

@@ -4,3 +4,4 @@ pub mod First
 pub mod Pairs
 pub mod Spoken
 pub mod Texts
+pub mod Wholes

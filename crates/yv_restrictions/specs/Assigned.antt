@@ -1,11 +1,11 @@
 -- Which numbers enums and bits have (RFC 7950, sections 9.6.3, 9.6.4.2, 9.7.3 and 9.7.4.2).
-use Rattle.std.specs.Prelude.{◌≡◌, ℕ, ◌^◌, ℤ, pos, neg_ℤ, ◌+ℤ◌, ◌≤ℤ◌, ◌<ℤ◌, List, [], map, take, length, slice_get, Option, Some, None}
+use Rattle.std.specs.Prelude.{◌≡◌, ℕ, ◌^◌, ℤ, pos, neg_ℤ, ◌+ℤ◌, ◌≤ℤ◌, ◌<ℤ◌, List, [], map, take, length, slice_get, Option, Some}
+use Rattle.yv_restrictions.specs.Entries.{Entry, Stated, nothing, whole}
 use Rattle.yv_restrictions.specs.declared.numbering.Kind.{Kind}
 use Rattle.yv_restrictions.specs.declared.numbering.Kind.TheVariants.{Enumeration, Bits}
-use Rattle.yv_restrictions.specs.declared.numbering.Listed.{Listed}
 
-abbrev pub names_of : List Listed → List (List ℕ)
-names_of es = map (λ e. e.name.now) es
+abbrev pub names_of : List Entry → List (List ℕ)
+names_of es = map (λ e. e.name) es
 
 -- what stands at two places differs
 abbrev pub AreDistinct : {X : Type 0} → List X → Type 0
@@ -17,11 +17,12 @@ pub record IsHighest (ns : List ℤ) (h : ℤ) : Type 0 where
   pub there : slice_get ns place ≡ Some h
   pub above : (k : ℕ) (n : ℤ) → slice_get ns k ≡ Some n → n ≤ℤ h
 
--- the number that is stated; else 0 for the first entry, and one more than the highest before it for a later one
-pub data IsAssigned (before : List ℤ) : Option ℤ → ℤ → Type 0 where
-  stated : {n : ℤ} → IsAssigned before (Some n) n
-  first : before ≡ [] → IsAssigned before None (pos 0)
-  next : {h : ℤ} → IsHighest before h → IsAssigned before None (h +ℤ pos 1)
+-- The number that is stated. Where nothing is: 0 for the first entry, and one more than the highest before it for a later
+-- one. What is no number assigns none.
+pub data IsAssigned (before : List ℤ) : Stated → ℤ → Type 0 where
+  stated : {n : ℤ} → IsAssigned before (whole n) n
+  first : before ≡ [] → IsAssigned before nothing (pos 0)
+  next : {h : ℤ} → IsHighest before h → IsAssigned before nothing (h +ℤ pos 1)
 
 -- an enum has a number of int32, a bit one of uint32
 abbrev pub IsOfKind : Kind → ℤ → Type 0
@@ -30,17 +31,22 @@ IsOfKind Bits n = (pos 0 ≤ℤ n) × (n <ℤ pos (2 ^ 32))
 
 -- The numbers of all entries of a new type: names differ, numbers differ and are of the kind, and each is assigned
 -- behind those before it.
-pub record AreNumbers (kind : Kind) (es : List Listed) (ns : List ℤ) : Type 0 where
+pub record AreNumbers (kind : Kind) (es : List Entry) (ns : List ℤ) : Type 0 where
   pub one_each : length es ≡ length ns
   pub names_differ : AreDistinct (names_of es)
   pub numbers_differ : AreDistinct ns
   pub of_kind : (i : ℕ) (n : ℤ) → slice_get ns i ≡ Some n → IsOfKind kind n
-  pub assigned : (i : ℕ) (e : Listed) (n : ℤ) → slice_get es i ≡ Some e → slice_get ns i ≡ Some n → IsAssigned (take i ns) e.number n
+  pub assigned : (i : ℕ) (e : Entry) (n : ℤ) → slice_get es i ≡ Some e → slice_get ns i ≡ Some n → IsAssigned (take i ns) e.stated n
+
+-- nothing is stated, or just this number
+pub data StatesNoOther (n : ℤ) : Stated → Type 0 where
+  unstated : StatesNoOther n nothing
+  restated : StatesNoOther n (whole n)
 
 -- The numbers of all entries of a type that is derived from one with these numbers: names differ, each is one of the
--- base and keeps its number, and no other is stated.
-pub record AreKept (base : List ℕ → Option ℤ) (es : List Listed) (ns : List ℤ) : Type 0 where
+-- base and keeps its number, and nothing else is stated.
+pub record AreKept (base : List ℕ → Option ℤ) (es : List Entry) (ns : List ℤ) : Type 0 where
   pub one_each : length es ≡ length ns
   pub names_differ : AreDistinct (names_of es)
-  pub same : (i : ℕ) (e : Listed) (n : ℤ) → slice_get es i ≡ Some e → slice_get ns i ≡ Some n → base e.name.now ≡ Some n
-  pub stated : (i : ℕ) (e : Listed) (m n : ℤ) → slice_get es i ≡ Some e → slice_get ns i ≡ Some n → e.number ≡ Some m → m ≡ n
+  pub same : (i : ℕ) (e : Entry) (n : ℤ) → slice_get es i ≡ Some e → slice_get ns i ≡ Some n → base e.name ≡ Some n
+  pub stated : (i : ℕ) (e : Entry) (n : ℤ) → slice_get es i ≡ Some e → slice_get ns i ≡ Some n → StatesNoOther n e.stated

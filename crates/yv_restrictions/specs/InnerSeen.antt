@@ -1,9 +1,12 @@
 -- For private clauses alone: what is kept of the entries that were passed.
 use Rattle.std.specs.Prelude.{◌≡◌, ℕ, ◌<◌, ℤ, Bool, not, ◌||◌, List, [], ◌∷◌, ◌++◌, Option, Some, None, is_some, if◌then◌else◌}
 use Rattle.std.specs.BTreeSet.{contains}
+use Rattle.std.specs.Borrow.{Bor}
+use Rattle.std.specs.Option.{option_map}
 use Rattle.std.specs.Ordering.{int_cmp}
 use Rattle.std.specs.Str.{bytes_eq}
-use Rattle.yv_restrictions.specs.Numberings.{Pair, number_in, is_taken, highest, table_of}
+use Rattle.yv_restrictions.specs.Entries.{stated_by}
+use Rattle.yv_restrictions.specs.Numberings.{Pair, number_in, number_from, next_number, is_taken, highest, table_of}
 use Rattle.yv_restrictions.specs.declared.numbering.Numbering.{Numbering}
 use Rattle.yv_restrictions.specs.declared.seen.Seen.{Seen}
 
@@ -26,6 +29,10 @@ abbrev pub Adds : {S : Type 0} → (S → List Pair → Type 0) → (List Pair �
 Adds {S} holds wrong pair old new good =
     (ps : List Pair) → holds old ps →
     (good ≡ not (wrong ps)) × holds new (if wrong ps then ps else ps ++ pair ps ∷ [])
+
+-- the number that this text states, or the next one behind the highest
+abbrev pub number_behind : Option ℤ → Option (Bor (List ℕ)) → Option ℤ
+number_behind highest stated = number_from (next_number highest) (stated_by (option_map (λ t. t.now) stated))
 
 -- the first place where an entry was wrong, with one more entry, at this place
 abbrev pub first_with : Option ℕ → ℕ → Bool → Option ℕ

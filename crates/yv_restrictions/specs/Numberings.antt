@@ -10,9 +10,9 @@ use Rattle.std.specs.List.{list_any}
 use Rattle.std.specs.Option.{unwrap_or}
 use Rattle.std.specs.Ordering.{int_eq, nat_cmp}
 use Rattle.std.specs.Str.{bytes_eq}
+use Rattle.yv_restrictions.specs.Entries.{Entry, Stated, nothing, whole, no_number}
 use Rattle.yv_restrictions.specs.declared.numbering.Kind.{Kind}
 use Rattle.yv_restrictions.specs.declared.numbering.Kind.TheVariants.{Enumeration, Bits}
-use Rattle.yv_restrictions.specs.declared.numbering.Listed.{Listed}
 use Rattle.yv_restrictions.specs.declared.numbering.Numbering.{Numbering}
 
 -- a name with its number
@@ -46,61 +46,73 @@ abbrev pub next_number : Option ℤ → ℤ
 next_number None = pos 0
 next_number (Some h) = h +ℤ pos 1
 
--- the number that is stated, or the next one
-abbrev pub number_of : List Pair → Listed → ℤ
-number_of before e = unwrap_or e.number (next_number (highest before))
+-- the number that is stated, or the next one where nothing is stated
+abbrev pub number_from : ℤ → Stated → Option ℤ
+number_from after nothing = Some after
+number_from after (whole n) = Some n
+number_from after no_number = None
 
-abbrev pub pair_of : List Pair → Listed → Pair
-pair_of before e = record { name = e.name.now; number = number_of before e }
+abbrev pub number_of : List Pair → Entry → Option ℤ
+number_of before e = number_from (next_number (highest before)) e.stated
+
+-- the name with its number; an entry that has no number is wrong, so that it doesn't matter which one stands here
+abbrev pub pair_of : List Pair → Entry → Pair
+pair_of before e = record { name = e.name; number = unwrap_or (number_of before e) (pos 0) }
 
 -- the 32 bits of either kind
 abbrev pub is_number : Kind → ℤ → Bool
 is_number Enumeration n = int_le (negsuc 2147483647) n && int_le n (pos 2147483647)
 is_number Bits n = int_le (pos 0) n && int_le n (pos 4294967295)
 
--- Behind these pairs an entry of a new type is wrong: its name or its number is taken, or the kind hasn't the number.
-abbrev pub is_wrong : Kind → List Pair → Listed → Bool
-is_wrong kind before e =
-    is_some (number_in before e.name.now) || (is_taken before (number_of before e) || not (is_number kind (number_of before e)))
+-- it is a number of the kind, and of none of these names
+abbrev pub is_free : Kind → List Pair → Option ℤ → Bool
+is_free kind before None = false
+is_free kind before (Some n) = not (is_taken before n) && is_number kind n
+
+-- Behind these pairs an entry of a new type is wrong: its name or its number is taken, or it has no number, or the kind
+-- hasn't the number.
+abbrev pub is_wrong : Kind → List Pair → Entry → Bool
+is_wrong kind before e = is_some (number_in before e.name) || not (is_free kind before (number_of before e))
 
 -- the name with the number that the base gives it
-abbrev pub pair_in : (List ℕ → Option ℤ) → Listed → Pair
-pair_in base e = record { name = e.name.now; number = unwrap_or (base e.name.now) (pos 0) }
+abbrev pub pair_in : (List ℕ → Option ℤ) → Entry → Pair
+pair_in base e = record { name = e.name; number = unwrap_or (base e.name) (pos 0) }
 
--- the base has this number, and no other is stated
-abbrev pub agrees : Option ℤ → Option ℤ → Bool
+-- the base has this number, and nothing else is stated
+abbrev pub agrees : Stated → Option ℤ → Bool
 agrees stated None = false
-agrees None (Some n) = true
-agrees (Some m) (Some n) = int_eq m n
+agrees nothing (Some n) = true
+agrees (whole m) (Some n) = int_eq m n
+agrees no_number (Some n) = false
 
--- Behind these pairs an entry of a derived type is wrong: its name is taken or is none of the base's, or another
--- number is stated.
-abbrev pub is_wrong_in : (List ℕ → Option ℤ) → List Pair → Listed → Bool
-is_wrong_in base before e = is_some (number_in before e.name.now) || not (agrees e.number (base e.name.now))
+-- Behind these pairs an entry of a derived type is wrong: its name is taken or is none of the base's, or something other
+-- than the number is stated.
+abbrev pub is_wrong_in : (List ℕ → Option ℤ) → List Pair → Entry → Bool
+is_wrong_in base before e = is_some (number_in before e.name) || not (agrees e.stated (base e.name))
 
 -- the pairs with that of one more entry, which is left out where it is wrong behind them
-abbrev pub with_entry : (List Pair → Listed → Bool) → (List Pair → Listed → Pair) → List Pair → Listed → List Pair
+abbrev pub with_entry : (List Pair → Entry → Bool) → (List Pair → Entry → Pair) → List Pair → Entry → List Pair
 with_entry wrong pair before e = if wrong before e then before else before ++ pair before e ∷ []
 
 -- these pairs with those of the entries, one entry after another
-abbrev pub pairs_behind : (List Pair → Listed → Bool) → (List Pair → Listed → Pair) → List Pair → List Listed → List Pair
+abbrev pub pairs_behind : (List Pair → Entry → Bool) → (List Pair → Entry → Pair) → List Pair → List Entry → List Pair
 pairs_behind wrong pair before [] = before
 pairs_behind wrong pair before (e ∷ es) = pairs_behind wrong pair (with_entry wrong pair before e) es
 
 -- each name of a new type with its number; the entries that are wrong are left out
-abbrev pub numbered : Kind → List Listed → List Pair
+abbrev pub numbered : Kind → List Entry → List Pair
 numbered kind es = pairs_behind (is_wrong kind) pair_of [] es
 
 -- each name of a derived type with its number; the entries that are wrong are left out
-abbrev pub kept : (List ℕ → Option ℤ) → List Listed → List Pair
+abbrev pub kept : (List ℕ → Option ℤ) → List Entry → List Pair
 kept base es = pairs_behind (is_wrong_in base) (λ before e. pair_in base e) [] es
 
 -- the entry at this place is wrong behind the pairs of those before it
-abbrev pub IsWrongAt : (List Listed → List Pair) → (List Pair → Listed → Bool) → List Listed → ℕ → Type 0
-IsWrongAt pairs wrong es i = (e : Listed) × (slice_get es i ≡ Some e) × (wrong (pairs (take i es)) e ≡ true)
+abbrev pub IsWrongAt : (List Entry → List Pair) → (List Pair → Entry → Bool) → List Entry → ℕ → Type 0
+IsWrongAt pairs wrong es i = (e : Entry) × (slice_get es i ≡ Some e) × (wrong (pairs (take i es)) e ≡ true)
 
 -- the least place where an entry is wrong, or none where no entry is
-abbrev pub IsFirstWrong : (List Listed → List Pair) → (List Pair → Listed → Bool) → List Listed → Option ℕ → Type 0
+abbrev pub IsFirstWrong : (List Entry → List Pair) → (List Pair → Entry → Bool) → List Entry → Option ℕ → Type 0
 IsFirstWrong pairs wrong es None = (k : ℕ) → IsWrongAt pairs wrong es k → ⊥
 IsFirstWrong pairs wrong es (Some i) =
     IsWrongAt pairs wrong es i × ((k : ℕ) → k < i → IsWrongAt pairs wrong es k → ⊥)

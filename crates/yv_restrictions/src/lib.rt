@@ -9,6 +9,7 @@ mod order;
 mod parts;
 mod restriction;
 mod seen;
+mod stated;
 
 pub use numbering::{Kind, Listed, Numbered, Numbering};
 pub use restriction::restricted;

@@ -1,10 +1,12 @@
 //! The numbers of the names of enumerations and bits.
 ghost use Rattle.std.specs.Prelude.{◌≡◌, ℕ, List, None, Some, is_some, IfOk};
 ghost use Rattle.yv_restrictions.specs.InnerSeen.{Adds, Gives, Tells, first_with};
-ghost use Rattle.yv_restrictions.specs.Numberings.{Pair, agrees, number_in, kept, is_wrong_in, pair_in, IsFirstWrong, table_of};
+ghost use Rattle.yv_restrictions.specs.Numberings.{Pair, number_in, kept, is_wrong_in, pair_in, IsFirstWrong, table_of};
 
+use crate::stated::agrees;
 use std::alloc::{AllocError, Global};
 use std::collections::BTreeMap;
+use std::marker::Model;
 
 /// What is numbered: the values of an enumeration, by the numbers of int32, or bits, by those of uint32.
 #[derive(Clone, Copy, Drop)]
@@ -13,11 +15,21 @@ pub enum Kind {
     Bits,
 }
 
-/// An `enum` or `bit` statement: its name, and the number that its `value` or `position` states.
-#[derive(Clone, Copy, Drop)]
+/// An `enum` or `bit` statement: its name, and the text of its `value` or `position`, where it has one. Contracts see the
+/// name, and what the text states.
+#[derive(Drop)]
 pub struct Listed<'a> {
     pub name: &'a str,
-    pub number: Option<i64>,
+    pub number: Option<&'a str>,
+}
+
+impl<'a> Model for Listed<'a> {
+    ghost use Rattle.std.specs.Option.{option_map};
+    ghost use Rattle.yv_restrictions.specs.Entries.{Entry, stated_by};
+
+    ghost Value = { Entry };
+
+    ghost view = { λ l. record { name = l.name.now; stated = stated_by (option_map (λ t. t.now) l.number) } };
 }
 
 /// The numbers of the names of one type. A look-up takes time logarithmic in their count.
@@ -77,7 +89,7 @@ impl<'a> Numbering<'a> {
         let mut numbering = Numbering::new(alloc);
         let mut first_wrong = None;
         for (at, listed) in entries.iter().enumerate() {
-            let is_right = numbering.keep(self, *listed)?;
+            let is_right = numbering.keep(self, listed)?;
             first_wrong = first_with(first_wrong, at, is_right);
         }
         Ok(Numbered {
@@ -89,10 +101,10 @@ impl<'a> Numbering<'a> {
 
 impl<'a> Numbering<'a> {
     // Adds an entry of a derived type, where it isn't wrong.
-    fn keep(&mut self, base: &Numbering<'a>, listed: Listed<'a>) -> Result<bool, AllocError>
+    fn keep(&mut self, base: &Numbering<'a>, listed: &Listed<'a>) -> Result<bool, AllocError>
         ensures { IfOk result (Adds Tells
-            (λ ps. is_wrong_in (table_of base.now) ps listed.entry)
-            (λ ps. pair_in (table_of base.now) listed.entry)
+            (λ ps. is_wrong_in (table_of base.now) ps listed.now)
+            (λ ps. pair_in (table_of base.now) listed.now)
             self.old self.new) }
     {
         match base.number(listed.name) {
@@ -137,15 +149,5 @@ pub(crate) fn first_with(found: Option<usize>, at: usize, is_right: bool) -> Opt
         found
     } else {
         Some(at)
-    }
-}
-
-// Whether no other number is stated.
-fn agrees(stated: Option<i64>, number: i64) -> bool
-    ensures { result ≡ agrees stated (Some number) }
-{
-    match stated {
-        Some(stated) => stated == number,
-        None => true,
     }
 }

@@ -1,12 +1,12 @@
 //! The entries of a new enumeration or bits type, one after another.
-ghost use Rattle.std.specs.Prelude.{◌≡◌, ℕ, List, [], ◌||◌, false, is_some, IfOk, IfNone, IfSome};
+ghost use Rattle.std.specs.Prelude.{◌≡◌, ℕ, ℤ, List, [], Some, ◌||◌, false, is_some, IfOk, IfNone, IfSome};
 ghost use Rattle.std.specs.BTreeSet.{contains};
-ghost use Rattle.std.specs.Option.{unwrap_or};
 ghost use Rattle.std.specs.Ordering.{int_cmp};
-ghost use Rattle.yv_restrictions.specs.InnerSeen.{Adds, Keeps};
+ghost use Rattle.yv_restrictions.specs.InnerSeen.{Adds, Keeps, number_behind};
 ghost use Rattle.yv_restrictions.specs.Numberings.{number_in, is_taken, higher, next_number, pair_of, numbered, is_number, is_wrong, IsFirstWrong, table_of};
 
 use crate::numbering::{Kind, Listed, Numbered, Numbering, first_with};
+use crate::stated::whole_number;
 use std::alloc::{AllocError, Global};
 use std::collections::BTreeSet;
 
@@ -26,7 +26,7 @@ pub fn numbered<'a>(
     let mut seen = Seen::new(alloc);
     let mut first_wrong = None;
     for (at, listed) in entries.iter().enumerate() {
-        let is_right = seen.add(kind, *listed)?;
+        let is_right = seen.add(kind, listed)?;
         first_wrong = first_with(first_wrong, at, is_right);
     }
     Ok(Numbered {
@@ -55,9 +55,9 @@ impl<'a> Seen<'a> {
     }
 
     // Adds an entry, where it isn't wrong.
-    fn add(&mut self, kind: Kind, listed: Listed<'a>) -> Result<bool, AllocError>
+    fn add(&mut self, kind: Kind, listed: &Listed<'a>) -> Result<bool, AllocError>
         ensures { IfOk result (Adds Keeps
-            (λ ps. is_wrong kind ps listed.entry) (λ ps. pair_of ps listed.entry) self.old self.new) }
+            (λ ps. is_wrong kind ps listed.now) (λ ps. pair_of ps listed.now) self.old self.new) }
     {
         match number_of(self.highest, listed.number) {
             Some(number) => {
@@ -114,13 +114,13 @@ fn higher(highest: Option<i64>, number: i64) -> i64
     }
 }
 
-// The number that is stated, or the next one; none where that is past every kind's.
-fn number_of(highest: Option<i64>, stated: Option<i64>) -> Option<i64>
-    ensures some { IfSome result (λ n. n ≡ unwrap_or stated (next_number highest)) }
-    ensures none { IfNone result ((kind : Kind) → is_number kind (unwrap_or stated (next_number highest)) ≡ false) }
+// The number that is stated, or the next one; none where either kind hasn't that.
+fn number_of(highest: Option<i64>, stated: Option<&str>) -> Option<i64>
+    ensures some { IfSome result (λ n. number_behind highest stated.entry ≡ Some n) }
+    ensures none { IfNone result ((kind : Kind) (n : ℤ) → number_behind highest stated.entry ≡ Some n → is_number kind n ≡ false) }
 {
     match stated {
-        Some(number) => Some(number),
+        Some(text) => whole_number(text),
         None => next_number(highest),
     }
 }

@@ -90,7 +90,7 @@ const fn named(name: &'static str) -> Listed<'static> {
     Listed { name, number: None }
 }
 
-const fn stated(name: &'static str, number: i64) -> Listed<'static> {
+const fn stated(name: &'static str, number: &'static str) -> Listed<'static> {
     Listed {
         name,
         number: Some(number),
@@ -102,11 +102,13 @@ const fn stated(name: &'static str, number: i64) -> Listed<'static> {
 fn wrong_entries_are_left_out(rt: HostRuntime) -> Result<(), Fail> {
     let entries = [
         named("a"),
-        stated("a", 9),
-        stated("b", 2147483648),
+        stated("a", "9"),
+        stated("b", "2147483648"),
         named("c"),
-        stated("d", 1),
+        stated("d", "1"),
         named("e"),
+        stated("f", "36893488147419103235"),
+        stated("g", "three"),
     ];
     let found = numbered(rt.alloc(), Kind::Enumeration, &entries)?;
     assert_eq!(rt; found.first_wrong, Some(1));
@@ -116,6 +118,8 @@ fn wrong_entries_are_left_out(rt: HostRuntime) -> Result<(), Fail> {
         ("c", Some(1)),
         ("d", None),
         ("e", Some(2)),
+        ("f", None),
+        ("g", None),
     ];
     for (name, number) in wanted {
         assert_eq!(rt; found.numbering.number(name), number, "{name}");

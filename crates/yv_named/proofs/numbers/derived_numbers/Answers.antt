@@ -1,15 +1,14 @@
-use Rattle.std.proofs.Common.{◌∙◌, ap, map}
-use Rattle.yv_restrictions.specs.Numberings.{number_in, table_of}
-use Rattle.yv_named.specs.InnerEntries.{entries_in, plain}
-use Rattle.yv_named.proofs.Plain.{kept_plain, kept_first}
+use Rattle.std.proofs.Common.{◌∙◌, ap, subst}
+use Rattle.yv_restrictions.specs.Numberings.{IsFirstWrong, is_wrong_in, kept, number_in, table_of}
 use Rattle.yv_named.proofs.numbers.derived_numbers.Goals as goal
 
 pub returns-clause-numbers : goal.returns-clause-numbers
 returns-clause-numbers c =
-    let same = ap (map plain) c.deref.ensures.value ∙ c.in_ok-entries.ensures in
-    λ s. c.in_ok-found.ensures.numbers s ∙ ap (λ ps. number_in ps s) (kept_plain (table_of c.args.base.now) c.deref.result.now (entries_in c.args.kind c.args.lines.now) same)
+    let same = c.deref.ensures.value ∙ c.in_ok-entries.ensures in
+    λ s. c.in_ok-found.ensures.numbers s ∙ ap (λ es. number_in (kept (table_of c.args.base.now) es) s) same
 
 pub returns-clause-wrong : goal.returns-clause-wrong
 returns-clause-wrong c =
-    let same = ap (map plain) c.deref.ensures.value ∙ c.in_ok-entries.ensures in
-    kept_first (table_of c.args.base.now) c.deref.result.now (entries_in c.args.kind c.args.lines.now) _ same c.in_ok-found.ensures.wrong
+    let base = table_of c.args.base.now in
+    let same = c.deref.ensures.value ∙ c.in_ok-entries.ensures in
+    subst (λ es. IsFirstWrong (kept base) (is_wrong_in base) es c.in_ok-found.found.first_wrong) same c.in_ok-found.ensures.wrong

@@ -1,4 +1,4 @@
-use Rattle.std.proofs.Common.{◌+◌, sym, subst}
+use Rattle.std.proofs.Common.{◌+◌, ◌∙◌, Some, ap, sym, subst}
 use Rattle.std.proofs.lemmas.Option.{slice_get-get_or}
 use Rattle.yv_restrictions.specs.InnerSeen.{Keeps, IsLeastBelow}
 use Rattle.yv_restrictions.specs.Numberings.{IsWrongAt, numbered, is_wrong, pair_of}
@@ -7,7 +7,8 @@ use Rattle.yv_restrictions.proofs.seen.numbered.Goals as goal
 
 pub loop-at-preserved : goal.loop-at-preserved
 loop-at-preserved c =
-    let more = entry_step (is_wrong c.args.kind) pair_of Keeps c.loop-at.seen c.add.new.self c.args.entries.now c.loop-at.at _ c.loop-at.first_wrong _ (slice_get-get_or c.args.entries.now c.loop-at.at _ c.loop-at-test.true) c.in_ok-is_right.ensures c.loop-at.invariant.keeps c.loop-at.invariant.least in
+    let here = slice_get-get_or c.args.entries.now c.loop-at.at c.index-entries-at.result c.loop-at-test.true ∙ ap Some (sym c.index-entries-at.is) in
+    let more = entry_step (is_wrong c.args.kind) pair_of Keeps c.loop-at.seen c.add.new.self c.args.entries.now c.loop-at.at c.index-entries-at.result c.loop-at.first_wrong _ here c.in_ok-is_right.ensures c.loop-at.invariant.keeps c.loop-at.invariant.least in
     record {
       keeps = more.0;
       least = subst (IsLeastBelow (IsWrongAt (numbered c.args.kind) (is_wrong c.args.kind) c.args.entries.now) (c.loop-at.at + 1)) (sym c.first_with-first_wrong.ensures) more.1;

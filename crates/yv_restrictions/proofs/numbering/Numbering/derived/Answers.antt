@@ -1,4 +1,4 @@
-use Rattle.std.proofs.Common.{◌+◌, sym, subst}
+use Rattle.std.proofs.Common.{◌+◌, ◌∙◌, Some, ap, sym, subst}
 use Rattle.std.proofs.lemmas.Option.{slice_get-get_or}
 use Rattle.yv_restrictions.specs.InnerSeen.{Tells, IsLeastBelow}
 use Rattle.yv_restrictions.specs.Numberings.{IsWrongAt, table_of, kept, is_wrong_in, pair_in}
@@ -8,7 +8,8 @@ use Rattle.yv_restrictions.proofs.numbering.Numbering.derived.Goals as goal
 pub loop-at-preserved : goal.loop-at-preserved
 loop-at-preserved c =
     let base = table_of c.args.self.now in
-    let more = entry_step (is_wrong_in base) (λ before e. pair_in base e) Tells c.loop-at.numbering c.keep.new.self c.args.entries.now c.loop-at.at _ c.loop-at.first_wrong _ (slice_get-get_or c.args.entries.now c.loop-at.at _ c.loop-at-test.true) c.in_ok-is_right.ensures c.loop-at.invariant.tells c.loop-at.invariant.least in
+    let here = slice_get-get_or c.args.entries.now c.loop-at.at c.index-entries-at.result c.loop-at-test.true ∙ ap Some (sym c.index-entries-at.is) in
+    let more = entry_step (is_wrong_in base) (λ before e. pair_in base e) Tells c.loop-at.numbering c.keep.new.self c.args.entries.now c.loop-at.at c.index-entries-at.result c.loop-at.first_wrong _ here c.in_ok-is_right.ensures c.loop-at.invariant.tells c.loop-at.invariant.least in
     record {
       tells = more.0;
       least = subst (IsLeastBelow (IsWrongAt (kept base) (is_wrong_in base) c.args.entries.now) (c.loop-at.at + 1)) (sym c.first_with-first_wrong.ensures) more.1;
