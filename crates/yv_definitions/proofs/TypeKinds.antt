@@ -8,7 +8,7 @@ use Rattle.yv_names.specs.References.{number_at}
 use Rattle.yv_values.specs.Types.{Plain}
 use Rattle.yv_types.specs.Spaces.{Space}
 use Rattle.yv_types.specs.Known.{IsTold}
-use Rattle.yv_listed.specs.Types.{Truth}
+use Rattle.yv_assigned_types.specs.Types.{Truth}
 use Rattle.yv_properties.specs.Defined.{Written}
 use Rattle.yv_defaults.specs.Defaults.{HasDefault}
 use Rattle.yv_types.specs.Known.{IsDefault}

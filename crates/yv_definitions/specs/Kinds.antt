@@ -6,7 +6,7 @@ use Rattle.yv_selection.specs.Choice.{Choice}
 use Rattle.yv_rows.specs.Files.{Files}
 use Rattle.yv_rows.specs.Listed.{rows_of}
 use Rattle.yv_names.specs.References.{number_at}
-use Rattle.yv_listed.specs.Types.{Truth}
+use Rattle.yv_assigned_types.specs.Types.{Truth}
 use Rattle.yv_values.specs.Types.{Plain}
 use Rattle.yv_types.specs.Known.{IsDefault, IsReferring, default_at, referring_at, space_at}
 use Rattle.yv_types.specs.Spaces.{Space}

@@ -2,7 +2,7 @@
 ghost use Rattle.std.specs.Prelude.{◌≡◌};
 ghost use Rattle.yv_selection.specs.Choice.{Choice};
 ghost use Rattle.yv_rows.specs.Files.{Files};
-ghost use Rattle.yv_listed.specs.Types.{Truth};
+ghost use Rattle.yv_assigned_types.specs.Types.{Truth};
 ghost use Rattle.yv_types.specs.Known.{AreTypes};
 ghost use Rattle.yv_types.specs.declared.known.Types.{Types};
 ghost use Rattle.yv_definitions.specs.Kinds.{AreTyped, Typing, typing_of};

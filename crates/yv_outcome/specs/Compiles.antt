@@ -5,7 +5,7 @@ use Rattle.yv_statement.specs.Tree.{Tree}
 use Rattle.yv_statement.specs.Order.{IsLeast}
 use Rattle.yv_statement.specs.declared.refusal.Refusal.{Refusal}
 use Rattle.yv_selection.specs.Choice.{Choice}
-use Rattle.yv_faceted.specs.Types.{HasTypePattern}
+use Rattle.yv_restricted_types.specs.Types.{HasTypePattern}
 use Rattle.yv_nodes.specs.Rows.{Rows, whole}
 use Rattle.yv_nodes.specs.Numbers.{rows_of}
 use Rattle.yv_schema.specs.Module.{modules_of}

@@ -12,9 +12,9 @@ use Rattle.yv_bases.specs.Faults.{BadKinds}
 use Rattle.yv_numbers.specs.Intervals.{Interval}
 use Rattle.yv_values.specs.Types.{Plain, wholes, decimals, strings, octets}
 use Rattle.yv_facets.specs.Faults.{BadFacets, BadPatterns, BadRestriction}
-use Rattle.yv_faceted.specs.Faults.{BadFaceted}
-use Rattle.yv_listed.specs.Types.{IsFaultBy, Start, Truth, new, from}
-use Rattle.yv_listed.specs.Faults.{BadLists}
+use Rattle.yv_restricted_types.specs.Faults.{BadFaceted}
+use Rattle.yv_assigned_types.specs.Types.{IsFaultBy, Start, Truth, new, from}
+use Rattle.yv_assigned_types.specs.Faults.{BadLists}
 use Rattle.yv_types.specs.Faults.{BadTypes}
 
 at_phase : (n : ℕ) (P : Type 0) (c : Code) (file : ℕ) (h : Head) (f : Refusal) → phase_of c ≡ n → Stands P (refusal_at c file h) f → phase_of f.code ≡ n

@@ -10,7 +10,7 @@ use Rattle.yv_rows.specs.Files.{Files}
 use Rattle.yv_rows.specs.Rows.{Row}
 use Rattle.yv_bases.specs.Types.{IsMember, is_type_in, is_union, types_from, types_in}
 use Rattle.yv_values.specs.Types.{Plain}
-use Rattle.yv_listed.specs.Types.{Truth}
+use Rattle.yv_assigned_types.specs.Types.{Truth}
 use Rattle.yv_types.specs.Spaces.{Space, Spaces, none, more}
 use Rattle.yv_types.specs.InnerTables.{IsSpace, joined_from, plains_at}
 use Rattle.yv_types.specs.declared.table.Shared.{Shared}

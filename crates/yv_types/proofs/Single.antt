@@ -11,9 +11,9 @@ use Rattle.yv_bases.specs.Types.{Follows, is_kind, is_leafref, is_union, types_i
 use Rattle.yv_values.specs.Identities.{Id, RiseById, is_identity}
 use Rattle.yv_values.specs.Sorted.{Rises, is_named}
 use Rattle.yv_values.specs.Types.{Plain, identities}
-use Rattle.yv_faceted.specs.Types.{HasPlainType}
-use Rattle.yv_faceted.proofs.Stepping.{HaveRows}
-use Rattle.yv_listed.specs.Types.{HasNames, Told, Truth}
+use Rattle.yv_restricted_types.specs.Types.{HasPlainType}
+use Rattle.yv_restricted_types.proofs.Stepping.{HaveRows}
+use Rattle.yv_assigned_types.specs.Types.{HasNames, Told, Truth}
 use Rattle.yv_identityref.specs.Values.{HasValue}
 use Rattle.yv_types.specs.Spaces.{Space, Spaces, faceted, listed, identityref, leafref, union, derived, none, more, of_kind}
 use Rattle.yv_types.proofs.Stepping.{apart, identityref_built, leafref_built, union_built}

@@ -15,8 +15,8 @@ use Rattle.yv_names.specs.BuiltIn.{is_built_in}
 use Rattle.yv_names.specs.Refers.{is_type}
 use Rattle.yv_bases.specs.Types.{Follows, is_kind, types_in, RestsOn}
 use Rattle.yv_values.specs.Types.{Plain}
-use Rattle.yv_listed.specs.Types.{HasNames, Told, Truth}
-use Rattle.yv_faceted.specs.Types.{HasPlainType}
+use Rattle.yv_assigned_types.specs.Types.{HasNames, Told, Truth}
+use Rattle.yv_restricted_types.specs.Types.{HasPlainType}
 use Rattle.yv_types.specs.Spaces.{Space, Spaces, faceted, listed, identityref, leafref, union, derived}
 use Rattle.yv_types.specs.InnerTables.{AreKnown, FollowsNone, IsBare, IsSpace, joined_from, plains_at}
 use Rattle.yv_types.specs.declared.table.Shared.{Shared}

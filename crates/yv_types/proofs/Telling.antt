@@ -17,10 +17,10 @@ use Rattle.yv_restrictions.specs.declared.numbering.Kind.{Kind}
 use Rattle.yv_restrictions.specs.declared.numbering.Kind.TheVariants.{Enumeration, Bits}
 use Rattle.yv_values.specs.Types.{Plain}
 use Rattle.yv_facets.specs.BuiltIn.{built_in}
-use Rattle.yv_faceted.specs.Types.{HasPlainType, IsTypeAt, StartsFrom as StartsPlain, named_type, left, first as first_plain, derived as derived_plain}
-use Rattle.yv_faceted.proofs.Naming.{has_digits}
-use Rattle.yv_faceted.proofs.Stepping.{HaveRows, apart as plain_apart}
-use Rattle.yv_listed.specs.Types.{HasNames, Start, StartsFrom, Told, Truth, derived, first, from, kind_in, listed, new, told_by}
+use Rattle.yv_restricted_types.specs.Types.{HasPlainType, IsTypeAt, StartsFrom as StartsPlain, named_type, left, first as first_plain, derived as derived_plain}
+use Rattle.yv_restricted_types.proofs.Naming.{has_digits}
+use Rattle.yv_restricted_types.proofs.Stepping.{HaveRows, apart as plain_apart}
+use Rattle.yv_assigned_types.specs.Types.{HasNames, Start, StartsFrom, Told, Truth, derived, first, from, kind_in, listed, new, told_by}
 use Rattle.yv_types.proofs.Stepping.{apart, both_true}
 
 -- the name of a type of a kind

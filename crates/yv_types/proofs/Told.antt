@@ -6,7 +6,7 @@ use Rattle.yv_rows.specs.Files.{Files}
 use Rattle.yv_rows.specs.Listed.{rows_of}
 use Rattle.yv_names.specs.References.{number_at}
 use Rattle.yv_bases.specs.Types.{IsTypeAt}
-use Rattle.yv_listed.specs.Types.{Truth}
+use Rattle.yv_assigned_types.specs.Types.{Truth}
 use Rattle.yv_values.specs.Types.{Plain}
 use Rattle.yv_types.specs.InnerPlaces.{placed_in}
 use Rattle.yv_types.specs.InnerTables.{AreSpaces, plains_at}

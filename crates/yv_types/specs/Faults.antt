@@ -3,9 +3,9 @@ use Rattle.std.specs.Prelude.{◌⊎◌}
 use Rattle.yv_statement.specs.declared.refusal.Refusal.{Refusal}
 use Rattle.yv_rows.specs.Files.{Files}
 use Rattle.yv_bases.specs.Faults.{BadKinds}
-use Rattle.yv_faceted.specs.Faults.{BadFaceted}
-use Rattle.yv_listed.specs.Types.{Truth}
-use Rattle.yv_listed.specs.Faults.{BadLists}
+use Rattle.yv_restricted_types.specs.Faults.{BadFaceted}
+use Rattle.yv_assigned_types.specs.Types.{Truth}
+use Rattle.yv_assigned_types.specs.Faults.{BadLists}
 
 -- a substatement that a type doesn't take or lacks, a leafref in a union or too many types in one; a range, a length or a
 -- pattern; or a name or a number of an enumeration or of bits

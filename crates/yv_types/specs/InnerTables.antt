@@ -8,8 +8,8 @@ use Rattle.yv_rows.specs.Listed.{rows_of}
 use Rattle.yv_values.specs.Types.{Plain, plain_of}
 use Rattle.yv_values.specs.Sorted.{Rises, is_named}
 use Rattle.yv_bases.specs.Types.{Follows, IsTypeAt}
-use Rattle.yv_faceted.specs.Types.{HasPlainType}
-use Rattle.yv_listed.specs.Types.{HasNames, Told, Truth}
+use Rattle.yv_restricted_types.specs.Types.{HasPlainType}
+use Rattle.yv_assigned_types.specs.Types.{HasNames, Told, Truth}
 use Rattle.yv_types.specs.Spaces.{Space, of_kind}
 use Rattle.yv_types.specs.declared.table.Shared.{Shared}
 

@@ -6,9 +6,9 @@ use Rattle.yv_rows.specs.Files.{Files}
 use Rattle.yv_rows.specs.Listed.{rows_of}
 use Rattle.yv_names.specs.References.{number_at}
 use Rattle.yv_bases.specs.Known.{AreBases}
-use Rattle.yv_faceted.specs.Known.{AreFaceted}
-use Rattle.yv_listed.specs.Types.{Truth}
-use Rattle.yv_listed.specs.Known.{AreLists}
+use Rattle.yv_restricted_types.specs.Known.{AreFaceted}
+use Rattle.yv_assigned_types.specs.Types.{Truth}
+use Rattle.yv_assigned_types.specs.Known.{AreLists}
 use Rattle.yv_properties.specs.Defined.{Written}
 use Rattle.yv_defaults.specs.Defaults.{HasDefault}
 use Rattle.yv_defaults.specs.Known.{AreDefaults, found_in}

@@ -12,8 +12,8 @@ use Rattle.yv_restrictions.specs.declared.numbering.Kind.TheVariants.{Enumeratio
 use Rattle.yv_values.specs.Identities.{Id, RiseById, is_identity}
 use Rattle.yv_values.specs.Sorted.{Rises, is_named}
 use Rattle.yv_values.specs.Types.{Plain, names, flags, identities}
-use Rattle.yv_faceted.specs.Types.{HasPlainType}
-use Rattle.yv_listed.specs.Types.{Truth, HasNames, Told}
+use Rattle.yv_restricted_types.specs.Types.{HasPlainType}
+use Rattle.yv_assigned_types.specs.Types.{Truth, HasNames, Told}
 use Rattle.yv_identityref.specs.Values.{HasValue}
 
 -- an enumeration of these names, or bits of these

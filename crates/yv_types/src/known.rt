@@ -6,7 +6,7 @@ ghost use Rattle.yv_selection.specs.Choice.{Choice};
 ghost use Rattle.yv_rows.specs.Files.{Files};
 ghost use Rattle.yv_rows.specs.Listed.{rows_of};
 ghost use Rattle.yv_names.specs.References.{number_at};
-ghost use Rattle.yv_listed.specs.Types.{Truth};
+ghost use Rattle.yv_assigned_types.specs.Types.{Truth};
 ghost use Rattle.yv_values.specs.Types.{Plain, plain_of};
 ghost use Rattle.yv_types.specs.Spaces.{Space};
 ghost use Rattle.yv_properties.specs.Defined.{written_of};

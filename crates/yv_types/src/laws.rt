@@ -4,7 +4,7 @@ ghost use Rattle.yv_selection.specs.Choice.{Choice};
 ghost use Rattle.yv_rows.specs.Files.{Files};
 ghost use Rattle.yv_rows.specs.Listed.{rows_of};
 ghost use Rattle.yv_names.specs.References.{number_at};
-ghost use Rattle.yv_listed.specs.Types.{Truth};
+ghost use Rattle.yv_assigned_types.specs.Types.{Truth};
 ghost use Rattle.yv_values.specs.Types.{Plain};
 ghost use Rattle.yv_types.specs.Spaces.{Space};
 ghost use Rattle.yv_types.specs.Known.{AreTypes, IsDefault, IsReferring, IsTold, default_at, referring_at, space_at};
@@ -17,7 +17,7 @@ pub fn a_type_has_one_space()
 {
     yv_rows::laws::statements_have_their_rows();
     yv_bases::laws::a_type_follows_one_type();
-    yv_faceted::laws::a_type_has_one_plain_type();
+    yv_restricted_types::laws::a_type_has_one_plain_type();
     yv_values::laws::texts_that_rise_are_one_list();
     yv_values::laws::identities_that_rise_are_one_list();
 }

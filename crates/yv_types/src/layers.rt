@@ -6,15 +6,15 @@ ghost use Rattle.yv_statement.specs.declared.refusal.Stop.TheVariants.{Fault, Pa
 ghost use Rattle.yv_selection.specs.Choice.{Choice};
 ghost use Rattle.yv_rows.specs.Files.{Files};
 ghost use Rattle.yv_names.specs.Known.{AreNames};
-ghost use Rattle.yv_faceted.specs.Types.{HasTypePattern};
+ghost use Rattle.yv_restricted_types.specs.Types.{HasTypePattern};
 ghost use Rattle.yv_link.specs.Linked.{AreLinked, truth_in};
 
 use std::alloc::Global;
+use yv_assigned_types::Lists;
 use yv_bases::Bases;
-use yv_faceted::Faceted;
 use yv_link::Linked;
-use yv_listed::Lists;
 use yv_names::Names;
+use yv_restricted_types::Faceted;
 use yv_statement::{Refusal, Stop, lesser};
 
 /// The built-in types to which the types of files lead, the plain types of those with ranges, lengths or patterns, and
@@ -27,7 +27,7 @@ pub(crate) struct Layers<'a> {
 }
 
 impl<'a> Layers<'a> {
-    ghost use Rattle.yv_listed.specs.Types.{Truth};
+    ghost use Rattle.yv_assigned_types.specs.Types.{Truth};
     ghost use Rattle.yv_types.specs.Faults.{BadTypes};
     ghost use Rattle.yv_types.specs.Known.{AreLayers};
 

@@ -6,7 +6,7 @@ ghost use Rattle.yv_statement.specs.declared.refusal.Stop.TheVariants.{Fault, Pa
 ghost use Rattle.yv_selection.specs.Choice.{Choice};
 ghost use Rattle.yv_rows.specs.Files.{Files};
 ghost use Rattle.yv_names.specs.Known.{AreNames};
-ghost use Rattle.yv_faceted.specs.Types.{HasTypePattern};
+ghost use Rattle.yv_restricted_types.specs.Types.{HasTypePattern};
 ghost use Rattle.yv_link.specs.Linked.{AreLinked, truth_in};
 ghost use Rattle.yv_types.specs.Faults.{BadTypes};
 ghost use Rattle.yv_types.specs.Known.{AreTypes};

@@ -1,8 +1,8 @@
 use Rattle.std.proofs.Common.{◌⊎◌}
 use Rattle.yv_statement.proofs.Least.{least_lesser}
 use Rattle.yv_bases.specs.Faults.{BadKinds}
-use Rattle.yv_faceted.specs.Faults.{BadFaceted}
-use Rattle.yv_listed.specs.Faults.{BadLists}
+use Rattle.yv_restricted_types.specs.Faults.{BadFaceted}
+use Rattle.yv_assigned_types.specs.Faults.{BadLists}
 use Rattle.yv_types.proofs.layers.Layers.fault.Goals as goal
 
 pub returns : goal.returns

@@ -9,7 +9,7 @@ use Rattle.yv_rows.specs.Files.{Files, brief_of}
 use Rattle.yv_rows.specs.Listed.{rows_of}
 use Rattle.yv_bases.specs.Types.{IsOrderOfTypes, IsTypeAt, RestsOn, types_in}
 use Rattle.yv_bases.specs.InnerTables.{items_at}
-use Rattle.yv_listed.specs.Types.{Truth}
+use Rattle.yv_assigned_types.specs.Types.{Truth}
 use Rattle.yv_link.specs.Linked.{AreLinked, truth_in}
 use Rattle.yv_types.specs.Spaces.{Space}
 use Rattle.yv_types.specs.Known.{AreLayers}

@@ -7,8 +7,8 @@ use Rattle.yv_rows.specs.Rows.{row}
 use Rattle.yv_rows.specs.Listed.{rows_of}
 use Rattle.yv_rows.specs.Lent.{rows_in}
 use Rattle.yv_bases.specs.Types.{Follows}
-use Rattle.yv_listed.specs.Types.{Told, Truth}
-use Rattle.yv_listed.specs.Told.{told_of}
+use Rattle.yv_assigned_types.specs.Types.{Told, Truth}
+use Rattle.yv_assigned_types.specs.Told.{told_of}
 use Rattle.yv_link.specs.Linked.{truth_in}
 use Rattle.yv_values.specs.Types.{plain_of}
 use Rattle.yv_types.specs.Spaces.{faceted, listed, of_kind}

@@ -1,0 +1,132 @@
+//! One type.
+ghost use Rattle.std.specs.Prelude.{◌≡◌, ◌&&◌, None, IfOk};
+ghost use Rattle.std.specs.Option.{option_map};
+ghost use Rattle.yv_rows.specs.Rows.{row};
+ghost use Rattle.yv_rows.specs.Lent.{lent_in};
+ghost use Rattle.yv_bases.specs.Known.{AreBases};
+ghost use Rattle.yv_bases.specs.Types.{is_kind};
+ghost use Rattle.yv_link.specs.Linked.{truth_in};
+ghost use Rattle.yv_assigned_types.specs.Types.{from, kind_in, new};
+ghost use Rattle.yv_assigned_types.specs.Told.{told_of};
+ghost use Rattle.yv_assigned_types.specs.InnerSteps.{AreKnown, IsFollowed, IsRead, IsStep};
+
+use crate::table::{TypeNames, get};
+use std::alloc::{AllocError, Global};
+use yv_assigned_names::{Kind, Named};
+use yv_bases::Bases;
+use yv_link::Linked;
+use yv_rows::{Entry, Rows, name_of};
+use yv_statement::{Refusal, Statement};
+
+/// The names of a statement, if it has some, and the refusal of its first wrong entry.
+#[derive(Drop)]
+pub(crate) struct Step<'a> {
+    pub names: Option<TypeNames<'a>>,
+    pub fault: Option<Refusal>,
+}
+
+// Nothing where no names are listed.
+fn nothing<'a>() -> Step<'a>
+    ensures names { result.names ≡ None }
+    ensures fault { result.fault ≡ None }
+{
+    Step {
+        names: None,
+        fault: None,
+    }
+}
+
+// Whether a statement is a type of this name.
+fn is_kind(name: &str, entry: &Entry<'_, '_>) -> bool
+    ensures { result ≡ is_kind name.now (row entry.now) }
+{
+    entry.statement.keyword() == "type" && name_of(entry.statement) == name
+}
+
+// The kind of a type that names `enumeration` or `bits`.
+fn kind_in(entry: &Entry<'_, '_>) -> Option<Kind>
+    ensures { result ≡ kind_in (row entry.now) }
+{
+    if is_kind("enumeration", entry) {
+        return Some(Kind::Enumeration);
+    }
+    if is_kind("bits", entry) {
+        Some(Kind::Bits)
+    } else {
+        None
+    }
+}
+
+// The names of a new type.
+fn new<'a>(
+    alloc: Global,
+    linked: &Linked<'a, '_>,
+    file: u32,
+    kind: Kind,
+    statement: &'a Statement<'_>,
+) -> Result<Step<'a>, AllocError>
+    ensures { IfOk result (λ s. IsRead (truth_in linked.now) file statement.now (new kind) (option_map told_of s.names) s.fault) }
+{
+    let listing = Named::new(alloc, linked, file, kind, statement)?;
+    let names = Some(TypeNames {
+        kind,
+        names: listing.names,
+    });
+    Ok(Step {
+        names,
+        fault: listing.fault,
+    })
+}
+
+// The names of a type that follows the one with these names.
+fn derived<'a>(
+    alloc: Global,
+    linked: &Linked<'a, '_>,
+    file: u32,
+    base: &TypeNames<'a>,
+    statement: &'a Statement<'_>,
+) -> Result<Step<'a>, AllocError>
+    ensures { IfOk result (λ s. IsRead (truth_in linked.now) file statement.now (from (told_of base.now)) (option_map told_of s.names) s.fault) }
+{
+    let kind = base.kind;
+    let listing = base.names.derived(alloc, linked, file, kind, statement)?;
+    let names = Some(TypeNames {
+        kind,
+        names: listing.names,
+    });
+    Ok(Step {
+        names,
+        fault: listing.fault,
+    })
+}
+
+/// The names of the numbered statement, the table having those of the type that it follows.
+pub(crate) fn type_at<'a>(
+    alloc: Global,
+    linked: &Linked<'a, '_>,
+    rows: &Rows<'a, '_>,
+    bases: &Bases,
+    types: &[Option<TypeNames<'a>>],
+    number: usize,
+) -> Result<Step<'a>, AllocError>
+    ensures { IfOk result (λ s. AreBases (lent_in rows.now) bases.now
+        → AreKnown (lent_in rows.now) (truth_in linked.now) (IsFollowed (lent_in rows.now) number) types.now
+        → IsStep (lent_in rows.now) (truth_in linked.now) number (option_map told_of s.names) s.fault) }
+{
+    let Some(entry) = rows.entries().get(number) else {
+        return Ok(nothing());
+    };
+    let Some(statement) = rows.statement(number) else {
+        return Ok(nothing());
+    };
+    match bases.follows(number) {
+        Some(followed) => match get(types, followed) {
+            Some(base) => derived(alloc, linked, entry.file, base, statement),
+            None => Ok(nothing()),
+        },
+        None => match kind_in(entry) {
+            Some(kind) => new(alloc, linked, entry.file, kind, statement),
+            None => Ok(nothing()),
+        },
+    }
+}
