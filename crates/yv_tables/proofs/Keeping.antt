@@ -1,5 +1,6 @@
 -- The directories by which children are found.
 use Rattle.std.proofs.Common.{◌≡◌, ℕ, zero, suc, ◌+◌, ◌<◌, ◌≤◌, ◌==◌, ◌&&◌, length, List, [], ◌∷◌, ◌++◌, length-append, get_or, map, take, drop, refl, sym, ap, ◌∙◌, subst, arith, add-one, ◌⊎◌, Bool, true, false, cond, Option, Some, None, is_some, inl, inr}
+use Rattle.std.specs.Cmp.Lexicographic.{pointwise}
 use Rattle.std.specs.List.{slice_get, slice_index_or}
 use Rattle.std.specs.Str.{bytes_eq}
 use Rattle.std.proofs.lemmas.Bool.{cases_lt, false≢true}
@@ -32,6 +33,16 @@ equal_is n k e = grind (arith, nat_tests, e)
 both_parts : (b c : Bool) → (b && c) ≡ true → (b ≡ true) × (c ≡ true)
 both_parts true c h = (refl, h)
 both_parts false c h = absurd (false≢true h)
+
+-- equal numbers of nodes are the same numbers
+pub same_nodes : (cs ds : List NodeId) → pointwise (λ (c d : NodeId). c.0 == d.0) cs ds ≡ true → cs ≡ ds
+same_nodes [] [] h = refl
+same_nodes [] (d ∷ ds) h = absurd (false≢true h)
+same_nodes (c ∷ cs) [] h = absurd (false≢true h)
+same_nodes (c ∷ cs) (d ∷ ds) h =
+    let parts = both_parts (c.0 == d.0) (pointwise (λ (c d : NodeId). c.0 == d.0) cs ds) h in
+    let first : c ≡ d = ap (λ (n : ℕ). record { 0 = n }) (equal_is c.0 d.0 parts.0) in
+    ap (λ (e : NodeId). e ∷ cs) first ∙ ap (λ (es : List NodeId). d ∷ es) (same_nodes cs ds parts.1)
 
 front_is : (a b : Option ℕ) → is_front a b ≡ true → a ≡ b
 front_is None None h = refl

@@ -43,4 +43,5 @@ pub record HaveNumbers (names : List (List ℕ)) (found : Names) : Type 0 where
 -- for each node the number of its name
 pub record AreOfNodes (rows : List Row) (numbers : List ℕ) : Type 0 where
   pub each : length numbers ≡ length rows
-  pub gives : (i number : ℕ) → slice_get numbers i ≡ Some number → number_in (names_of rows) (slice_index_or rows i blank_row).label.defined.name ≡ Some number
+  pub gives : (i number : ℕ) → slice_get numbers i ≡ Some number
+      → number_in (names_of rows) (slice_index_or rows i blank_row).label.defined.name ≡ Some number

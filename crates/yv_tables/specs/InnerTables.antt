@@ -127,6 +127,7 @@ pub record IsKept (homes : HomeTable) (names : Names) (at_top : Directory) (dire
       → named s (inside s p) (owner ++ 58 ∷ name) ≡ None
 
 -- besides, what lists and choices name is kept
-pub record IsHeld (homes : HomeTable) (names : Names) (at_top : Directory) (directories : List Directory) (leafs : LeafTargets) (s : Rows) : Type 0 where
+pub record IsHeld (homes : HomeTable) (names : Names) (at_top : Directory) (directories : List Directory) (leafs : LeafTargets) (s : Rows)
+    : Type 0 where
   pub kept : IsKept homes names at_top directories s
   pub named_leafs : AreLeafTargets s.nodes leafs

@@ -28,12 +28,14 @@ impl Directory {
     }
 
     /// The directory of the nodes of a table.
-    pub(crate) fn of(alloc: Global, table: Table) -> Result<Directory, AllocError>
+    pub(crate) fn of(alloc: Global, mut table: Table) -> Result<Directory, AllocError>
         ensures { IfOk result (λ directory. (member : Member) → held_at directory member ≡ get same_member table member) }
     {
         if table.is_empty() {
             return Ok(Directory::new());
         }
+        // A table is made with more room than it needs.
+        table.shrink_to_fit();
         Ok(Directory {
             table: Some(Box::new(alloc, table)?),
         })

@@ -64,6 +64,9 @@ impl Family {
         ensures doubled { IfOk result (λ family. IsLeast (Namesakes (opened (picked nodes.now.rows numbers.now))) family.doubled) }
     {
         let opened = Opened::of(alloc, nodes, numbers)?;
+        if opened.told == opened.inside {
+            return Family::named(alloc, nodes, names, around, &opened.inside);
+        }
         // The table of those whose names have to differ is let go before the one that stays is made.
         let doubled = Family::named(alloc, nodes, names, around, &opened.told)?.doubled;
         let inside = Family::named(alloc, nodes, names, around, &opened.inside)?;
