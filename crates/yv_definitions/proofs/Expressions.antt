@@ -5,13 +5,9 @@ use Rattle.std.specs.List.{find}
 use Rattle.yv_statement.specs.Tree.{Tree, Forest, trees, name_of}
 use Rattle.yv_conform.specs.declared.keyword.Keyword.TheVariants as word
 use Rattle.yv_rows.specs.Files.{Files}
-use Rattle.yv_definitions.specs.Features.{all_expressions, expressions, joined, spaced, with_comma}
+use Rattle.yv_definitions.specs.Features.{all_expressions, expressions}
 use Rattle.yv_stated.specs.Statements.{is_of, statement_at}
 use Rattle.yv_definitions.specs.InnerKept.{gives_features, has_features}
-
-pub joined-append : (text : List ℕ) (a b : List (List ℕ)) → joined text (a ++ b) ≡ joined (joined text a) b
-joined-append text [] b = refl
-joined-append text (x ∷ xs) b = joined-append (with_comma text ++ spaced x) xs b
 
 none_before : (test : Bool) (t : Tree) (found : Option Tree) (rest : List Tree) → is_some (cond test (Some t) found) ≡ false
     → (is_some found ≡ false → map (λ (u : Tree). name_of u.head) rest ≡ []) → map (λ (u : Tree). name_of u.head) (cond test (t ∷ rest) rest) ≡ []

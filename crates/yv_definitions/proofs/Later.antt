@@ -10,7 +10,7 @@ use Rattle.yv_expansion.specs.declared.item.Origin.TheVariants.{Statement, Input
 use Rattle.yv_values.specs.Values.{Val}
 use Rattle.yv_properties.specs.Defined.{Defined, Written}
 use Rattle.yv_definitions.specs.Kinds.{Typing}
-use Rattle.yv_definitions.specs.Features.{all_expressions, joined}
+use Rattle.yv_definitions.specs.Features.{all_expressions, with_expressions}
 use Rattle.yv_stated.specs.Properties.{Said, elements_of, is_true, last_said, least_of, properties_of, said_at, written_by}
 use Rattle.yv_definitions.specs.Defined.{defined, refined, with_properties}
 use Rattle.yv_definitions.specs.Values.{defaults_of, values_at, with_defaults}
@@ -140,7 +140,7 @@ last_more (Some m) last gives n = refl
 module _ (typing : Typing) (files : Files) (refines : List ℕ) where
   -- a definition with the features of the refines
   abbrev featured : Origin → Defined
-  featured from = let d : Defined = defined typing files from in record d { features = joined d.features (all_expressions files refines) }
+  featured from = let d : Defined = defined typing files from in record d { features = with_expressions d.features (all_expressions files refines) }
 
   -- what the refines make of it, without the values of its default
   abbrev unvalued : Origin → Defined
@@ -195,7 +195,7 @@ module _ (typing : Typing) (files : Files) (refines : List ℕ) where
 
   -- a definition with the values of its default and the features of the refines
   abbrev pub begun : Origin → Defined
-  begun from = record (with_defaults files (defined typing files from)) { features = joined (defined typing files from).features (all_expressions files refines) }
+  begun from = record (with_defaults files (defined typing files from)) { features = with_expressions (defined typing files from).features (all_expressions files refines) }
 
   -- what the refines make of it has these values as yet
   made_of : (from : Origin) (e f : Defined) → e ≡ begun from → f ≡ changed_by files refines e

@@ -1,5 +1,5 @@
 -- The `unique` statements of a block, one after the other.
-use Rattle.std.proofs.Common.{◌≡◌, ℕ, ◌+◌, ◌<◌, Bool, true, false, cond, List, [], ◌∷◌, ◌++◌, map, length, drop, get_or, add-one, refl, sym, ap, ◌∙◌, append_assoc, Option}
+use Rattle.std.proofs.Common.{◌≡◌, ℕ, ◌+◌, ◌<◌, Bool, true, false, List, [], ◌∷◌, ◌++◌, length, drop, get_or, add-one, refl, sym, ap, ◌∙◌, append_assoc, Option}
 use Rattle.std.proofs.Math.Seq.{drop-cons}
 use Rattle.yv_statement.specs.Tree.{Tree}
 use Rattle.yv_conform.specs.declared.keyword.Keyword.TheVariants as word

@@ -1,6 +1,6 @@
 -- What the statements of files say of the schema nodes that they define (RFC 7950, sections 7.5 to 7.11, 7.13.2 to 7.16, and
 -- 7.21.2).
-use Rattle.std.specs.Prelude.{ℕ, false, List, [], ◌∷◌, ◌++◌, Option, Some, None, if◌then◌else◌, codes, map}
+use Rattle.std.specs.Prelude.{ℕ, false, List, [], ◌++◌, Option, Some, None, if◌then◌else◌, codes, map}
 use Rattle.std.specs.Option.{unwrap_or}
 use Rattle.std.specs.Str.{bytes_eq}
 use Rattle.yv_statement.specs.Tree.{Head, Tree, Forest, End, Then, trees, name_of}
@@ -22,7 +22,7 @@ use Rattle.yv_properties.specs.declared.kind.NodeStatus.{NodeStatus}
 use Rattle.yv_properties.specs.declared.kind.NodeStatus.TheVariants.{Current, Deprecated, Obsolete}
 use Rattle.yv_definitions.specs.Kinds.{Kinds, TypeDefaults, TypeReferrals, Typing}
 use Rattle.yv_stated.specs.Statements.{argument_of, arguments_among, file_at, first_of, statement_at}
-use Rattle.yv_definitions.specs.Features.{all_expressions, expressions, joined}
+use Rattle.yv_definitions.specs.Features.{all_expressions, conditions, expressions, with_expressions}
 use Rattle.yv_stated.specs.Properties.{Properties, last_said, properties_of, said_by, written_by}
 use Rattle.yv_definitions.specs.Values.{with_defaults}
 
@@ -117,7 +117,7 @@ defined_by typing files file t =
       name = node_name kind (name_of t.head);
       types = types_in typing.kinds file t.children;
       status = status_of (argument_of (first_of word.Status t.children));
-      features = joined [] (expressions (trees t.children));
+      features = conditions (expressions (trees t.children));
       type_text = argument_of (first_of word.Type t.children);
       path = path_in files file t.children;
       keys = keys_in files file t.children;
@@ -151,7 +151,7 @@ abbrev pub refined : Typing → Files → Origin → List ℕ → Defined
 refined typing files from refines =
     let d : Defined = defined typing files from in
     with_defaults files (with_properties (properties_of (last_said files (written_by from ++ refines)))
-    (record d { features = joined d.features (all_expressions files refines) }))
+    (record d { features = with_expressions d.features (all_expressions files refines) }))
 
 -- what a `type` statement of a file says as a leafref; nothing, where there is no statement
 abbrev pub referring_by : TypeReferrals → ℕ → Option Tree → Option Referring

@@ -5,5 +5,6 @@ pub mod Defined
 pub mod Known
 pub mod InnerKept
 pub mod InnerRefined
+pub mod InnerTexts
 pub mod InnerChanged
 pub mod InnerNamed

@@ -8,7 +8,7 @@ ghost use Rattle.yv_leaf_paths.specs.Known.{AreLeafPaths};
 ghost use Rattle.yv_definitions.specs.Kinds.{typing_of};
 ghost use Rattle.yv_conform.specs.declared.keyword.Keyword.TheVariants as word;
 ghost use Rattle.yv_stated.specs.Statements.{file_at, first_of, statement_at};
-ghost use Rattle.yv_definitions.specs.Features.{all_expressions, expressions, joined};
+ghost use Rattle.yv_definitions.specs.Features.{all_expressions, expressions, with_expressions};
 ghost use Rattle.yv_stated.specs.Properties.{properties_of, said_at};
 ghost use Rattle.yv_defaults.specs.Scopes.{AreScopes};
 ghost use Rattle.yv_definitions.specs.Defined.{defined, defined_at, referring, referring_by, refined};
@@ -304,7 +304,7 @@ impl<'r, 'a, 'b> Definitions<'r, 'a, 'b> {
 
     // The features of a definition, and behind them those of these refines.
     fn features(&self, own: &Definition, refines: &[usize]) -> Result<RcStr, AllocError>
-        ensures { IfOk result (λ text. rc_str_bytes text ≡ joined own.now.features (all_expressions (files_in self.now) refines.now)) }
+        ensures { IfOk result (λ text. rc_str_bytes text ≡ with_expressions own.now.features (all_expressions (files_in self.now) refines.now)) }
     {
         if !self.gives_features(refines) {
             return own.shared_features();
@@ -319,7 +319,7 @@ impl<'r, 'a, 'b> Definitions<'r, 'a, 'b> {
     // Adds the expressions of the `if-feature` statements of the numbered statement.
     fn push_features(&self, text: &mut String, number: usize) -> Result<(), AllocError>
         ensures { OnOk result (string_bytes text.new
-            ≡ joined (string_bytes text.old) (expressions (trees (statement_at (files_in self.now) number).children))) }
+            ≡ with_expressions (string_bytes text.old) (expressions (trees (statement_at (files_in self.now) number).children))) }
     {
         match statement_at(self.rows, number) {
             Some(statement) => push_expressions(text, statement),

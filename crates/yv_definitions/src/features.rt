@@ -1,7 +1,8 @@
 //! The texts of conditions.
-ghost use Rattle.std.specs.Prelude.{◌≡◌, ◌++◌, OnOk, IfOk, string_bytes};
+ghost use Rattle.std.specs.Prelude.{◌≡◌, ◌∷◌, [], ◌++◌, OnOk, IfOk, string_bytes};
 ghost use Rattle.yv_statement.specs.Tree.{trees};
-ghost use Rattle.yv_definitions.specs.Features.{expressions, is_blank, joined, spaced, with_comma};
+ghost use Rattle.yv_definitions.specs.Features.{expressions, is_blank, spaced, with_expressions};
+ghost use Rattle.yv_definitions.specs.InnerTexts.{with_comma};
 
 use std::alloc::AllocError;
 use yv_conform::Keyword;
@@ -42,17 +43,27 @@ fn push_comma(text: &mut String) -> Result<(), AllocError>
     Ok(())
 }
 
+// Adds an expression, unless it is empty.
+fn push_expression(text: &mut String, expression: &str) -> Result<(), AllocError>
+    ensures { OnOk result (string_bytes text.new ≡ with_expressions (string_bytes text.old) (expression.now ∷ [])) }
+{
+    if expression.is_empty() {
+        return Ok(());
+    }
+    push_comma(text)?;
+    push_spaced(text, expression)
+}
+
 /// Adds the expressions of the `if-feature` statements in a statement's block.
 pub(crate) fn push_expressions(
     text: &mut String,
     statement: &Statement<'_>,
 ) -> Result<(), AllocError>
-    ensures { OnOk result (string_bytes text.new ≡ joined (string_bytes text.old) (expressions (trees statement.now.children))) }
+    ensures { OnOk result (string_bytes text.new ≡ with_expressions (string_bytes text.old) (expressions (trees statement.now.children))) }
 {
     for child in statement.children() {
         if is_of(Keyword::IfFeature, child) {
-            push_comma(text)?;
-            push_spaced(text, name_of(child))?;
+            push_expression(text, name_of(child))?;
         }
     }
     Ok(())

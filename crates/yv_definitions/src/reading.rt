@@ -12,7 +12,7 @@ ghost use Rattle.yv_properties.specs.Defined.{blank, written_of};
 ghost use Rattle.yv_types.specs.Known.{default_at};
 ghost use Rattle.yv_definitions.specs.Kinds.{kinds_of, typing_of};
 ghost use Rattle.yv_stated.specs.Statements.{first_of};
-ghost use Rattle.yv_definitions.specs.Features.{expressions, joined};
+ghost use Rattle.yv_definitions.specs.Features.{conditions, expressions};
 ghost use Rattle.yv_stated.specs.Properties.{properties_of, said_by};
 ghost use Rattle.yv_definitions.specs.Defined.{default_by, defined_by, kind_of, node_kind, node_name, status_of, types_in, with_properties};
 
@@ -148,7 +148,7 @@ fn shared(text: Option<&WrittenText>) -> Result<Option<WrittenText>, AllocError>
 
 // The expressions of the `if-feature` statements of its block.
 fn features_in(alloc: Global, statement: &Statement<'_>) -> Result<String, AllocError>
-    ensures { IfOk result (λ text. string_bytes text ≡ joined [] (expressions (trees statement.now.children))) }
+    ensures { IfOk result (λ text. string_bytes text ≡ conditions (expressions (trees statement.now.children))) }
 {
     let mut text = String::new(alloc);
     push_expressions(&mut text, statement)?;

@@ -1,4 +1,4 @@
-use Rattle.std.proofs.Common.{◌++◌, [], ◌∷◌, List, Option, map, ap, ◌∙◌}
+use Rattle.std.proofs.Common.{◌++◌, [], ◌∷◌, List, map, ap, ◌∙◌}
 use Rattle.yv_statement.specs.Tree.{Tree}
 use Rattle.yv_properties.specs.Defined.{paths_in}
 use Rattle.yv_definitions.specs.Defined.{uniques_in}

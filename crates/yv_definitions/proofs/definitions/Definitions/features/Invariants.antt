@@ -1,5 +1,5 @@
 use Rattle.std.proofs.Common.{◌≡◌, drop, string_bytes}
-use Rattle.yv_definitions.specs.Features.{all_expressions, joined}
+use Rattle.yv_definitions.specs.Features.{all_expressions, with_expressions}
 use Rattle.yv_definitions.specs.Known.{files_in}
 use Rattle.yv_definitions.proofs.definitions.Definitions.features.Given as goal
 
@@ -7,4 +7,4 @@ use Rattle.yv_definitions.proofs.definitions.Definitions.features.Given as goal
 abbrev pub invariant-loop-refine : goal.invariant-loop-refine
 invariant-loop-refine l =
     let all = all_expressions (files_in l.self) in
-    joined (string_bytes l.text) (all (drop l.refine-index l.refines)) ≡ joined l.own.features (all l.refines)
+    with_expressions (string_bytes l.text) (all (drop l.refine-index l.refines)) ≡ with_expressions l.own.features (all l.refines)

@@ -1,4 +1,4 @@
-use Rattle.std.proofs.Common.{◌⊎◌, inl, inr, rules}
+use Rattle.std.proofs.Common.{inl, inr}
 use Rattle.yv_definitions.specs.Known.{files_in, typing_in}
 use Rattle.yv_definitions.proofs.AllKept.{is_refined}
 use Rattle.yv_definitions.proofs.definitions.Definitions.keep_values.Goals as goal
