@@ -23,7 +23,7 @@ use serde_json::Value;
 use std::alloc::AllocError;
 use yv_nodes::{Node, NodeId};
 use yv_references::{Found, Scope, laws};
-use yv_values::{Index, Value as Read, check};
+use yv_values::{Index, Value as Read, check_with};
 
 /// How many items an array has.
 pub(crate) fn count_of(items: &Vec<Value>) -> usize
@@ -32,7 +32,7 @@ pub(crate) fn count_of(items: &Vec<Value>) -> usize
     items.as_slice().len()
 }
 
-impl Walk<'_> {
+impl<'a> Walk<'a> {
     /// A leaf, written so or not, in the object with this number.
     pub(crate) fn leaf(
         &self,
@@ -42,7 +42,7 @@ impl Walk<'_> {
         position: u64,
         here: &Trail<'_>,
         notes: &mut Notes,
-        progress: &mut Progress,
+        progress: &mut Progress<'a>,
     ) -> Result<(), AllocError>
         requires node { id.0 < length self.now.schema.now.nodes }
         requires way { IsWithin self.now.schema.now here.now }
@@ -115,7 +115,7 @@ impl Walk<'_> {
         position: u64,
         here: &Trail<'_>,
         notes: &mut Notes,
-        progress: &mut Progress,
+        progress: &mut Progress<'a>,
     ) -> Result<(), AllocError>
         requires node { id.0 < length self.now.schema.now.nodes }
         requires way { IsWithin self.now.schema.now here.now }
@@ -143,7 +143,7 @@ impl Walk<'_> {
         item: Option<u64>,
         value: &Value,
         position: u64,
-        progress: &mut Progress,
+        progress: &mut Progress<'a>,
     ) -> Result<Option<Read>, AllocError>
         requires { id.0 < length self.now.schema.now.nodes }
         ensures value { IfOk result (λ read. read ≡ value_of (row_at self.now.schema.now id).label (view value.now)) }
@@ -154,9 +154,10 @@ impl Walk<'_> {
             + value_work (row_at self.now.schema.now id).label (view value.now))) }
     {
         let node = self.schema.node(id);
-        let read = check(
+        let read = check_with(
             self.alloc,
             &mut progress.meter,
+            &mut progress.matchers,
             node.types(),
             node.module(),
             value,
@@ -270,7 +271,7 @@ impl Walk<'_> {
         value: Option<&Value>,
         position: u64,
         path: &Trail<'_>,
-        progress: &mut Progress,
+        progress: &mut Progress<'a>,
     ) -> Result<(), AllocError>
         requires node { id.0 < length self.now.schema.now.nodes }
         requires way { IsWithin self.now.schema.now path.now }
@@ -304,7 +305,7 @@ impl Walk<'_> {
         items: &Vec<Value>,
         position: u64,
         path: &Trail<'_>,
-        progress: &mut Progress,
+        progress: &mut Progress<'a>,
     ) -> Result<(), AllocError>
         requires node { id.0 < length self.now.schema.now.nodes }
         requires way { IsWithin self.now.schema.now path.now }
@@ -337,7 +338,7 @@ impl Walk<'_> {
         kept: &mut Index,
         position: u64,
         here: &Trail<'_>,
-        progress: &mut Progress,
+        progress: &mut Progress<'a>,
     ) -> Result<(), AllocError>
         requires node { id.0 < length self.now.schema.now.nodes }
         requires way { IsWithin self.now.schema.now here.now }

@@ -8,19 +8,21 @@ use std::alloc::{AllocError, Global};
 use yv_nodes::NodeId;
 use yv_references::{Found, laws};
 use yv_tables::Schema;
-use yv_values::{Meter, Value};
+use yv_values::{Matchers, Meter, Value};
 
-/// What a walk has told so far, what it has found of references and of their targets, and the steps that it took.
+/// What a walk has told so far, what it has found of references and of their targets, the steps that it took, and the matchers of
+/// patterns that it keeps.
 #[derive(Drop)]
-pub(crate) struct Progress {
+pub(crate) struct Progress<'a> {
     pub(crate) faults: Vec<Fault>,
     pub(crate) found: Found,
     pub(crate) meter: Meter,
+    pub(crate) matchers: Matchers<'a>,
 }
 
-impl Progress {
+impl<'a> Progress<'a> {
     /// Nothing.
-    pub(crate) fn new(alloc: Global) -> Progress
+    pub(crate) fn new(alloc: Global) -> Progress<'a>
         ensures faults { result.faults.items ≡ [] }
         ensures found { result.found ≡ none_found }
         ensures meter { result.meter ≡ 0 }
@@ -29,6 +31,7 @@ impl Progress {
             faults: Vec::new(alloc),
             found: Found::new(alloc),
             meter: Meter::new(),
+            matchers: Matchers::new(alloc),
         }
     }
 }

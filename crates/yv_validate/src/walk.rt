@@ -62,7 +62,7 @@ pub fn validate(alloc: Global, schema: &Schema, document: &Value) -> Result<Repo
     }
 }
 
-impl Walk<'_> {
+impl<'a> Walk<'a> {
     // The faults of a document that is an object: what is wrong with its data, and behind it its references that reach nothing.
     fn document(&self, members: &Map<String, Value>) -> Result<Report, AllocError>
         ensures faults { IfOk result (λ r. r.faults.items ≡ all_faults self.now.schema.now (an_object (members_view members.now.entries))) }
@@ -84,6 +84,7 @@ impl Walk<'_> {
             mut faults,
             found,
             mut meter,
+            matchers: _matchers,
         } = progress;
         let links = self.schema.links();
         let paths = answer(self.alloc, self.schema, links, found, &mut meter)?;
@@ -140,7 +141,7 @@ impl Walk<'_> {
         position: u64,
         here: &Trail<'_>,
         notes: &mut Notes,
-        progress: &mut Progress,
+        progress: &mut Progress<'a>,
     ) -> Result<(), AllocError>
         requires node { rank id ≤ length self.now.schema.now.nodes }
         requires object { is_object self.now.schema.now id ≡ true }
@@ -175,7 +176,7 @@ impl Walk<'_> {
         position: u64,
         path: &Trail<'_>,
         notes: &mut Notes,
-        progress: &mut Progress,
+        progress: &mut Progress<'a>,
     ) -> Result<(), AllocError>
         requires node { rank parent ≤ length self.now.schema.now.nodes }
         requires meets { MeetsBelow self.now.schema.now context.now parent }
@@ -210,7 +211,7 @@ impl Walk<'_> {
         position: u64,
         path: &Trail<'_>,
         notes: &mut Notes,
-        progress: &mut Progress,
+        progress: &mut Progress<'a>,
     ) -> Result<(), AllocError>
         requires node { choice.0 < length self.now.schema.now.nodes }
         requires itself { Meets self.now.schema.now context.now choice }
@@ -269,7 +270,7 @@ impl Walk<'_> {
         position: u64,
         path: &Trail<'_>,
         notes: &mut Notes,
-        progress: &mut Progress,
+        progress: &mut Progress<'a>,
     ) -> Result<(), AllocError>
         requires node { id.0 < length self.now.schema.now.nodes }
         requires meets { Meets self.now.schema.now context.now id }
@@ -321,7 +322,7 @@ impl Walk<'_> {
         position: u64,
         path: &Trail<'_>,
         notes: &mut Notes,
-        progress: &mut Progress,
+        progress: &mut Progress<'a>,
     ) -> Result<(), AllocError>
         requires node { id.0 < length self.now.schema.now.nodes }
         requires way { IsWithin self.now.schema.now path.now }
@@ -364,7 +365,7 @@ impl Walk<'_> {
         position: u64,
         here: &Trail<'_>,
         notes: &mut Notes,
-        progress: &mut Progress,
+        progress: &mut Progress<'a>,
     ) -> Result<(), AllocError>
         requires node { id.0 < length self.now.schema.now.nodes }
         requires object { is_object self.now.schema.now id ≡ true }
@@ -411,7 +412,7 @@ impl Walk<'_> {
         value: Option<&Value>,
         position: u64,
         path: &Trail<'_>,
-        progress: &mut Progress,
+        progress: &mut Progress<'a>,
     ) -> Result<(), AllocError>
         requires node { id.0 < length self.now.schema.now.nodes }
         requires object { is_object self.now.schema.now id ≡ true }
@@ -449,7 +450,7 @@ impl Walk<'_> {
         items: &Vec<Value>,
         position: u64,
         path: &Trail<'_>,
-        progress: &mut Progress,
+        progress: &mut Progress<'a>,
     ) -> Result<(), AllocError>
         requires node { id.0 < length self.now.schema.now.nodes }
         requires object { is_object self.now.schema.now id ≡ true }
@@ -505,7 +506,7 @@ impl Walk<'_> {
         place: u64,
         position: u64,
         here: &Trail<'_>,
-        progress: &mut Progress,
+        progress: &mut Progress<'a>,
     ) -> Result<Option<Notes>, AllocError>
         requires node { id.0 < length self.now.schema.now.nodes }
         requires object { is_object self.now.schema.now id ≡ true }

@@ -246,7 +246,7 @@ container-returns-else-presence-clause-notes t c =
     let id = c.args.id in
     let l = (row_at s id).label in
     let none : option_map (λ (v : Bor Value). view v.now) c.args.value ≡ None = ap (option_map (λ (v : Bor Value). view v.now)) c.in-None.is in
-    let plain = sym (ap (λ r. r.label.defined.has_presence) c.node-node.ensures.value) ∙ sym c.has_presence.ensures ∙ c.if-has_presence.false in
+    let plain = sym (ap (λ r. r.label.defined.has_presence) c.node-node.ensures.value) ∙ sym c.presence.ensures ∙ c.if-presence.false in
     on_ok_weaker c.children.result
     (λ gains. gains_as s c.args.notes.now c.children.new.notes _ _ gains
     (λ n. absent_value l c.args.scope (option_map (λ (v : Bor Value). view v.now) c.args.value) (λ inner ms. forest_value s n (λ at u. inner) (rank id) (below s id) ms) _ none plain
@@ -261,7 +261,7 @@ container-returns-else-presence-clause-found t c =
     let before : Findings = c.args.progress.now.found in
     let found = option_map (λ (v : Bor Value). view v.now) c.args.value in
     let none : found ≡ None = ap (option_map (λ (v : Bor Value). view v.now)) c.in-None.is in
-    let plain = sym (ap (λ r. r.label.defined.has_presence) c.node-node.ensures.value) ∙ sym c.has_presence.ensures ∙ c.if-has_presence.false in
+    let plain = sym (ap (λ r. r.label.defined.has_presence) c.node-node.ensures.value) ∙ sym c.presence.ensures ∙ c.if-presence.false in
     let met : Members → Met = λ ds. forest_met s (λ m u. c.args.scope) c.args.position (next_in before) (rank id) (below s id) ds in
     on_ok_weaker c.children.result
     (λ h. finds_as before c.children.new.progress.found _ _
