@@ -1,7 +1,8 @@
 //! The program over a runtime: its words, its files, its standard streams and its exit status.
-ghost use Rattle.std.specs.Prelude.{◌≡◌, ◌≤◌, length, IfOk};
+ghost use Rattle.std.specs.Prelude.{◌≡◌, ◌≤◌, length, map, string_bytes, IfOk};
 ghost use Rattle.yv_outcome.specs.Status.{exit_of};
 ghost use Rattle.yv_job.specs.Jobs.{HasFiles, HasLimit};
+ghost use Rattle.yv_streams.specs.Files.{file_of};
 
 use std::fmt::Display;
 use std::fs::File;
@@ -146,9 +147,10 @@ fn run_over<R: Print + AllocGlobal, D: Read + Drop>(
     run_with_note(rt.alloc(), job, inputs, &mut reader, &mut writer)
 }
 
-// The job's files, read in order.
+// The job's files, read in order, under the names that the job gives them.
 fn inputs<R: Files + AllocGlobal>(rt: &R, job: &Job) -> Result<Vec<Input>, Ended>
-    ensures { IfOk result (λ v. length v.items ≡ length job.now.files.items) }
+    ensures each { IfOk result (λ v. length v.items ≡ length job.now.files.items) }
+    ensures names { IfOk result (λ v. map (λ i. (file_of i).name) v.items ≡ map string_bytes job.now.files.items) }
 {
     let mut inputs = Vec::new(rt.alloc());
     for name in job.files.iter() {
@@ -161,7 +163,9 @@ fn inputs<R: Files + AllocGlobal>(rt: &R, job: &Job) -> Result<Vec<Input>, Ended
 }
 
 // The file of this name, read.
-fn opened<R: Files + AllocGlobal>(rt: &R, name: &str) -> Result<Input, Ended> {
+fn opened<R: Files + AllocGlobal>(rt: &R, name: &str) -> Result<Input, Ended>
+    ensures { IfOk result (λ i. (file_of i).name ≡ name.now) }
+{
     match File::open(rt, name) {
         Ok(file) => {
             let mut reader = Counted::new(file);
