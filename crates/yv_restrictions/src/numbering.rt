@@ -79,7 +79,7 @@ impl<'a> Numbering<'a> {
 
     /// The numbers of a type that is derived from the one with these numbers and lists some of its names (RFC 7950,
     /// sections 9.6.3 and 9.7.3): each keeps its number. An entry is wrong where its name is none of this type's or is
-    /// a right one's before it, or where another number is stated. It takes time n log n.
+    /// a right one's before it, or where something other than its number is stated. It takes time n log n.
     pub fn derived(&self, alloc: Global, entries: &[Listed<'a>]) -> Result<Numbered<'a>, AllocError>
         ensures numbers { IfOk result (λ r. (name : List ℕ)
             → table_of r.numbering name ≡ number_in (kept (table_of self.now) entries.now) name) }
