@@ -1,6 +1,7 @@
 pub mod Meaning
 pub mod Value
 pub mod On
+pub mod Blocks
 pub mod Depends
 pub mod Faults
 pub mod Features

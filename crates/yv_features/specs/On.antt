@@ -19,10 +19,14 @@ has_support files choice r = is_supported choice (home_in (slice_get files r.fil
 abbrev pub is_condition_of : ℕ → Row → Bool
 is_condition_of number q = is_condition q && (q.scope == number)
 
--- each condition of a numbered statement has the value true in its file
+-- each condition of a numbered statement is true in its file, where this says which expressions are true in which files
+abbrev pub AllHoldBy : (IsTrueIn : (file : ℕ) → (text : List ℕ) → Type 0) → List Row → ℕ → Type 0
+AllHoldBy IsTrueIn rows number =
+    (i : ℕ) (q : Row) → slice_get rows i ≡ Some q → is_condition_of number q ≡ true → IsTrueIn q.file (name_in q)
+
+-- the same by the value of expressions
 abbrev pub AllHold : Meaning → List Row → Assignment → ℕ → Type 0
-AllHold means rows on number =
-    (i : ℕ) (q : Row) → slice_get rows i ≡ Some q → is_condition_of number q ≡ true → HasValue means on q.file (name_in q) true
+AllHold means rows on = AllHoldBy (λ file text. HasValue means on file text true) rows
 
 -- a feature is on exactly where it is supported and its conditions hold
 abbrev pub IsOn : Meaning → Briefs → List Row → Choice → Assignment → ℕ → Row → Type 0
