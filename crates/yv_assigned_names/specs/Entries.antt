@@ -1,10 +1,11 @@
 -- What a `type` statement lists: its `enum` and `bit` statements (RFC 7950, sections 9.6.4 and 9.7.4).
-use Rattle.std.specs.Prelude.{ℕ, Bool, not, ◌&&◌, ◌||◌, List, Option, map, codes}
-use Rattle.std.specs.List.{filter, find, list_all, list_any}
+use Rattle.std.specs.Prelude.{ℕ, Bool, ◌&&◌, List, Option, map, codes}
+use Rattle.std.specs.List.{filter, find, list_any}
 use Rattle.std.specs.Option.{option_map}
 use Rattle.std.specs.Str.{bytes_eq}
 use Rattle.yv_statement.specs.Tree.{Tree, trees, name_of}
 use Rattle.yv_rows.specs.Files.{has_word}
+use Rattle.yv_features.specs.Blocks.{all_hold}
 use Rattle.yv_restrictions.specs.Entries.{Entry, stated_by}
 use Rattle.yv_restrictions.specs.declared.numbering.Kind.{Kind}
 use Rattle.yv_restrictions.specs.declared.numbering.Kind.TheVariants.{Enumeration, Bits}
@@ -34,9 +35,9 @@ entry_of kind c = record { name = name_of c.head; stated = stated_by (number_tex
 abbrev pub entries : Kind → Tree → List Entry
 entries kind t = map (entry_of kind) (listing kind t)
 
--- each of its `if-feature` statements holds in the file
+-- each of its conditions holds in the file
 abbrev pub is_on : (ℕ → List ℕ → Bool) → ℕ → Tree → Bool
-is_on truth file c = list_all (λ s. not (has_word (codes "if-feature") s.head) || truth file (name_of s.head)) (trees c.children)
+is_on truth file c = all_hold (truth file) (trees c.children)
 
 -- one of these entries has the name and is on
 abbrev pub is_on_among : (ℕ → List ℕ → Bool) → ℕ → List Tree → List ℕ → Bool

@@ -5,7 +5,7 @@ use Rattle.yv_selection.specs.Choice.{Choice}
 use Rattle.yv_rows.specs.Files.{Files, Briefs, brief_of}
 use Rattle.yv_rows.specs.Listed.{rows_of}
 use Rattle.yv_rows.specs.Rows.{Row, name_in}
-use Rattle.yv_features.specs.On.{home_in, is_condition_of}
+use Rattle.yv_features.specs.On.{AllHoldBy, home_in}
 use Rattle.yv_identities.specs.Names.{is_identity}
 use Rattle.yv_identities.specs.References.{ref_of}
 use Rattle.yv_link.specs.Modules.{named_module}
@@ -19,8 +19,7 @@ Truth = ℕ → List ℕ → Bool
 
 -- each condition in the block of a numbered statement holds (section 7.20.2)
 abbrev pub IsOn : Truth → List Row → ℕ → Type 0
-IsOn truth rows number =
-    (c : ℕ) (s : Row) → slice_get rows c ≡ Some s → is_condition_of number s ≡ true → truth s.file (name_in s) ≡ true
+IsOn truth = AllHoldBy (λ file text. truth file text ≡ true)
 
 -- the module of a name is there, and it is implemented (section 5.6.5)
 abbrev pub is_implemented : Choice → Briefs → List ℕ → Bool

@@ -4,15 +4,11 @@ use Rattle.std.specs.List.{slice_get}
 use Rattle.std.specs.Option.{option_map}
 use Rattle.std.proofs.lemmas.List.{drop_all, drop_more, length-map}
 use Rattle.std.proofs.lemmas.Option.{get_or_from_slice_get, slice_get-get_or, slice_get-map, slice_get_read, slice_get_within}
-use Rattle.yv_statement.specs.Tree.{Forest, End, Then, Tree, trees, forest}
+use Rattle.yv_statement.specs.Tree.{Tree}
 use Rattle.yv_rows.specs.Rows.{Row}
 use Rattle.yv_stated.specs.Statements.{no_statement}
 use Rattle.yv_item_marks.specs.Conditions.{Truth, is_on, marks_by}
 use Rattle.yv_item_marks.specs.InnerConditions.{is_on_in}
-
-pub forest-trees : (f : Forest) → forest (trees f) ≡ f
-forest-trees End = refl
-forest-trees (Then h c o) = ap (Then h c) (forest-trees o)
 
 -- the view of a list's item
 pub row_read : {A B : Type 0} (f : A → B) (xs : List A) (ys : List B) (k : ℕ) (x : A) → map f xs ≡ ys → k < length xs → x ≡ get_or xs k x → slice_get ys k ≡ Some (f x)

@@ -1,13 +1,11 @@
 -- Which conditions of statements and of items hold (RFC 7950, sections 7.13.2 and 7.20.2).
-use Rattle.std.specs.Prelude.{ℕ, ◌&&◌, Bool, true, List, [], ◌∷◌}
+use Rattle.std.specs.Prelude.{ℕ, ◌&&◌, Bool, List, [], ◌∷◌}
 use Rattle.std.specs.List.{list_all}
-use Rattle.yv_statement.specs.Tree.{Tree, Forest, End, Then, Head, name_of}
-use Rattle.yv_conform.specs.declared.keyword.Keyword.{Keyword}
-use Rattle.yv_conform.specs.declared.keyword.Keyword.TheVariants as word
-use Rattle.yv_conform.specs.Names.{keyword_of}
+use Rattle.yv_statement.specs.Tree.{Tree, Forest, trees}
 use Rattle.yv_rows.specs.Files.{Files}
 use Rattle.yv_rows.specs.Rows.{Row}
 use Rattle.yv_rows.specs.Listed.{rows_of, statements_of}
+use Rattle.yv_features.specs.Blocks.{all_hold}
 use Rattle.yv_augmented.specs.Left.{is_marked}
 use Rattle.yv_augmented.specs.declared.spot.Spot.{Spot}
 
@@ -15,15 +13,9 @@ use Rattle.yv_augmented.specs.declared.spot.Spot.{Spot}
 abbrev pub Truth : Type 0
 Truth = ℕ → List ℕ → Bool
 
--- a statement of a block, by its keyword, is no condition or holds
-abbrev pub holds : Truth → (file : ℕ) → Keyword → Head → Bool
-holds truth file word.IfFeature h = truth file (name_of h)
-holds truth file _ h = true
-
 -- a statement of a file with this block is there: each of its conditions holds
 abbrev pub is_on : Truth → (file : ℕ) → Forest → Bool
-is_on truth file End = true
-is_on truth file (Then h c o) = holds truth file (keyword_of h.keyword) h && is_on truth file o
+is_on truth file block = all_hold (truth file) (trees block)
 
 abbrev pub marks_by : Truth → List Row → List Tree → List Bool
 marks_by truth [] ts = []

@@ -1,37 +1,27 @@
 //! Which conditions hold.
-ghost use Rattle.std.specs.Prelude.{◌≡◌, slice_get, IfOk};
+ghost use Rattle.std.specs.Prelude.{◌≡◌, ◌||◌, codes, not, slice_get, IfOk};
 ghost use Rattle.std.specs.List.{list_all};
 ghost use Rattle.yv_statement.specs.Tree.{name_of as name_at};
-ghost use Rattle.yv_conform.specs.Names.{keyword_of};
+ghost use Rattle.yv_rows.specs.Files.{has_word};
 ghost use Rattle.yv_rows.specs.Lent.{lent_in, trees_in};
 ghost use Rattle.yv_link.specs.Linked.{truth_in};
 ghost use Rattle.yv_augmented.specs.Left.{is_marked};
-ghost use Rattle.yv_item_marks.specs.Conditions.{holds, is_on, is_on_by, item_marks, statement_marks};
+ghost use Rattle.yv_item_marks.specs.Conditions.{is_on, is_on_by, item_marks, statement_marks};
 ghost use Rattle.yv_item_marks.specs.InnerConditions.{is_on_in};
 
 use std::alloc::{AllocError, Global};
 use yv_augmented::Spot;
 use yv_changes::Changes;
-use yv_conform::Keyword;
 use yv_link::Linked;
-use yv_rows::Rows;
+use yv_rows::{Rows, name_of};
 use yv_statement::Statement;
 
-// The name that a statement gives, or no text where it has none.
-fn name_of<'s>(statement: &'s Statement<'_>) -> &'s str
-    ensures { result.now ≡ name_at statement.now.head }
-{
-    statement.argument().unwrap_or("")
-}
-
-// Whether a statement of a block is no condition, or holds.
+// Whether a statement is no condition, or holds in the file.
 fn holds<'a, 'b>(linked: &Linked<'a, 'b>, file: u32, statement: &'a Statement<'b>) -> bool
-    ensures { result ≡ holds (truth_in linked.now) file (keyword_of statement.now.head.keyword) statement.now.head }
+    ensures { result ≡ (not (has_word (codes "if-feature") statement.now.head)
+        || truth_in linked.now file (name_at statement.now.head)) }
 {
-    match Keyword::read(statement.keyword()) {
-        Keyword::IfFeature => linked.holds(file, name_of(statement)),
-        _ => true,
-    }
+    statement.keyword() != "if-feature" || linked.holds(file, name_of(statement))
 }
 
 // Whether each condition of a statement of a file holds.

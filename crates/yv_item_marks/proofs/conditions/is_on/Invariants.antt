@@ -1,10 +1,10 @@
 use Rattle.std.proofs.Common.{◌≡◌, drop}
-use Rattle.yv_statement.specs.Tree.{forest}
+use Rattle.yv_statement.specs.Tree.{trees}
 use Rattle.yv_link.specs.Linked.{truth_in}
-use Rattle.yv_item_marks.specs.Conditions.{is_on}
+use Rattle.yv_features.specs.Blocks.{all_hold}
 use Rattle.yv_item_marks.proofs.conditions.is_on.Given as goal
 
 -- all hold where those behind do
 abbrev pub invariant-loop-child : goal.invariant-loop-child
 invariant-loop-child l =
-    is_on (truth_in l.linked) l.file (forest (drop l.child-index l.child-items)) ≡ is_on (truth_in l.linked) l.file (forest l.child-items)
+    all_hold (truth_in l.linked l.file) (drop l.child-index (trees l.statement.children)) ≡ all_hold (truth_in l.linked l.file) (trees l.statement.children)
