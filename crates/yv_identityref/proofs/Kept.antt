@@ -11,7 +11,6 @@ use Rattle.yv_link.specs.Linked.{AreLinked, truth_in}
 use Rattle.yv_link.specs.declared.linked.Linked.{Linked}
 use Rattle.yv_values.specs.Identities.{Id, id_of, is_identity}
 use Rattle.yv_identityref.specs.InnerBases.{IsBelowKey}
-use Rattle.yv_identityref.specs.InnerCandidates.{AreCandidates}
 use Rattle.yv_identityref.specs.InnerSets.{is_left}
 use Rattle.yv_identityref.specs.Known.{AreIdentities, IsFound}
 use Rattle.yv_identityref.specs.declared.candidates.Candidate.{Candidate}
@@ -32,7 +31,7 @@ one_found linked old new f more is before k g at = elim (get_behind old f g k (s
   | inr same ↦ subst (λ (x : Found). IsFound linked x.key.items x.members) same is
 ]
 
-same_pair : (a b : ℕ × ℕ) → a.0 ≡ b.0 → a.1 ≡ b.1 → a ≡ b
+pub same_pair : (a b : ℕ × ℕ) → a.0 ≡ b.0 → a.1 ≡ b.1 → a ≡ b
 same_pair a b e f = λ i. (e i, f i)
 
 pub pair_decides : (a b : ℕ × ℕ) → Decides ((a.0 == b.0) && (a.1 == b.1)) (a ≡ b)
@@ -48,13 +47,12 @@ again_found linked fs own f k key other copy same within at is one copied all =
     subst (λ (ks : List (ℕ × ℕ)). IsFound linked ks copy) (sym is ∙ one) (subst (IsFound linked f.key.items) (sym copied) (all k f here))
 
 -- a list that is made for a key
-pub new_found : (linked : Linked) (ids : Identities) → AreIdentities linked ids → (left : Option References) (cs : List Candidate) (key own : List (ℕ × ℕ)) (members : List Id) → cs ≡ ids.candidates.items → own ≡ key
+pub new_found : (linked : Linked) (ids : Identities) → AreIdentities linked ids → (left : Option References) (key own : List (ℕ × ℕ)) (members : List Id) → own ≡ key
     → ((files : Files) (choice : Choice) → AreLinked files choice linked → (place : IdentityRef) → IsTrue (is_left left place) ↔ IsBelowKey (map brief_of files) (rows_of files) own place)
     → ((home called : List ℕ) → IsTrue (list_any (is_identity home called) members)
-    ↔ ((k : ℕ) × (c : Candidate) × (slice_get cs k ≡ Some c) × (is_left left c.identity ≡ true) × (id_of c.member ≡ record { home = home; name = called })))
+    ↔ ((k : ℕ) × (c : Candidate) × (slice_get ids.candidates.list.items k ≡ Some c) × (is_left left c.identity ≡ true) × (id_of c.member ≡ record { home = home; name = called })))
     → IsFound linked key members
-new_found linked ids are left cs key own members e f below same files choice t home called =
+new_found linked ids are left key own members f below same files choice t home called =
     through (same home called)
-    (key_values (truth_in linked) choice files cs key left home called
-    (subst (AreCandidates (truth_in linked) choice files) (sym e) (are.candidates files choice t))
+    (key_values (truth_in linked) choice files ids.candidates.list.items key left home called (are.candidates files choice t)
     (subst (λ (ks : List (ℕ × ℕ)). (place : IdentityRef) → IsTrue (is_left left place) ↔ IsBelowKey (map brief_of files) (rows_of files) ks place) f (below files choice t)))

@@ -1,11 +1,13 @@
 pub mod Apart
 pub mod Below
 pub mod Blocks
+pub mod Chosen
 pub mod Gathered
 pub mod Gathering
 pub mod Kept
 pub mod Keyed
 pub mod Numbers
+pub mod Placed
 pub mod Placing
 pub mod Reading
 pub mod Standing

@@ -74,7 +74,7 @@ more_in refs n ref old new within at before now place =
     ∙ ap (λ r. list_any (is_at place) (take n refs) || is_at place r) at
     ∙ sym (list_any_more (is_at place) refs n ref within)
 
-key_is : (place : IdentityRef) (k : ℕ × ℕ) → is_key place k ≡ is_eq (ordering_then (nat_cmp place.file k.0) (nat_cmp place.offset k.1))
+pub key_is : (place : IdentityRef) (k : ℕ × ℕ) → is_key place k ≡ is_eq (ordering_then (nat_cmp place.file k.0) (nat_cmp place.offset k.1))
 key_is place k = sym (test_is place.file k.0 place.offset k.1)
 
 -- the files and offsets in a set, one by one

@@ -25,5 +25,5 @@ pub record AreIdentities (linked : Linked) (identities : Identities) : Type 0 wh
   pub bases : (files : Files) (choice : Choice) → AreLinked files choice linked → (block : ℕ) (base : IdentityRef)
       → IsTrue (list_any (is_at base) (bases_at identities.bases.items block)) ↔ NamesBase (map brief_of files) (rows_of files) block base
   pub candidates : (files : Files) (choice : Choice) → AreLinked files choice linked
-      → AreCandidates (truth_in linked) choice files identities.candidates.items
+      → AreCandidates (truth_in linked) choice files identities.candidates.list.items
   pub found : (k : ℕ) (f : Found) → slice_get identities.found.items k ≡ Some f → IsFound linked f.key.items f.members

@@ -4,3 +4,4 @@ pub mod Known
 pub mod InnerSets
 pub mod InnerBases
 pub mod InnerCandidates
+pub mod InnerPlaces

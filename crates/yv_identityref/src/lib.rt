@@ -10,6 +10,7 @@ mod inside;
 mod keys;
 pub mod laws;
 mod lists;
+mod places;
 mod sets;
 
 pub use identities::Identities;

@@ -1,31 +1,47 @@
-use Rattle.std.proofs.Common.{◌≡◌, ℕ, List, Some, refl, length, sym, ◌∙◌, arith, map}
+use Rattle.std.proofs.Common.{◌≡◌, ℕ, List, None, Some, refl, length, get_or, sym, ◌∙◌, ap, arith, map}
 use Rattle.std.specs.List.{slice_get, list_any}
-use Rattle.std.proofs.lemmas.Option.{slice_get_read}
+use Rattle.std.proofs.lemmas.Option.{slice_get_read, slice_get-get_or, slice_get_past}
 use Rattle.std.proofs.lemmas.Result.{IfOk-weaker}
-use Rattle.yv_values.specs.Identities.{Id, id_of, identity_in, is_identity}
+use Rattle.yv_values.specs.Identities.{id_of, identity_in, is_identity}
 use Rattle.yv_values.specs.Values.{identity}
 use Rattle.yv_identityref.specs.InnerSets.{is_left}
 use Rattle.yv_identityref.specs.declared.candidates.Candidate.{Candidate}
+use Rattle.yv_identityref.proofs.Chosen.{is_one, id_in, one_is, none_is, id_is, by_number}
 use Rattle.yv_identityref.proofs.Gathering.{gathering_none, gathering_more, gathering_same, gathered, told_alike}
+use Rattle.yv_identityref.proofs.Keyed.{through}
 use Rattle.yv_identityref.proofs.lists.members_of.Goals as goal
-use Rattle.yv_identityref.proofs.lists.members_of.Goals.{then-is_left+in_ok-copy+in_ok-push, else-is_left}
+use Rattle.yv_identityref.proofs.lists.members_of.Goals.{in-Some+in_ok-copy+in_ok-push, in_default}
 
-pub loop-candidate-init : goal.loop-candidate-init
-loop-candidate-init c = gathering_none c.args.candidates.now _ (λ (d : Candidate). id_of d.member) c.new-members.result.items c.new-members.ensures.items
+pub loop-number-init : goal.loop-number-init
+loop-number-init c =
+    gathering_none c.deref-number-items.result.now (is_one c.args.candidates.now.list.items) (id_in c.args.candidates.now.list.items) c.new-members.result.items c.new-members.ensures.items
 
-pub loop-candidate-preserved : goal.loop-candidate-preserved
-loop-candidate-preserved c =
-    let at : slice_get c.args.candidates.now c.loop-candidate.candidate-index ≡ Some c.candidate-item.result = slice_get_read c.args.candidates.now (length c.args.candidates.now) c.loop-candidate.candidate-index c.candidate-item.result refl c.loop-candidate-test.true c.candidate-item.is in
-    elim c.if-is_left.branch [
-      | then-is_left+in_ok-copy+in_ok-push w ↦ rw w.members-is (gathering_more c.args.candidates.now (λ i (d : Candidate). is_left c.args.left.now d.identity) (λ (d : Candidate). id_of d.member) c.loop-candidate.candidate-index c.candidate-item.result w.in_ok-copy.field-0 c.loop-candidate.members.items w.push.new.self.items at (sym c.is_left.ensures ∙ w.if-is_left.true) w.in_ok-copy.ensures w.in_ok-push.ensures.items c.loop-candidate.invariant)
-      | else-is_left w ↦ rw w.members-is (gathering_same c.args.candidates.now (λ i (d : Candidate). is_left c.args.left.now d.identity) (λ (d : Candidate). id_of d.member) c.loop-candidate.candidate-index c.candidate-item.result c.loop-candidate.members.items at (sym c.is_left.ensures ∙ w.if-is_left.false) c.loop-candidate.invariant)
+pub loop-number-preserved : goal.loop-number-preserved
+loop-number-preserved c =
+    let cs : List Candidate = c.args.candidates.now.list.items in
+    let numbers : List ℕ = c.deref-number-items.result.now in
+    let at : ℕ = c.loop-number.number-index in
+    let number : ℕ = get_or numbers at 0 in
+    let read : slice_get numbers at ≡ Some number = slice_get-get_or numbers at 0 c.loop-number-test.true in
+    elim c.match-get.branch [
+      | in-Some+in_ok-copy+in_ok-push w ↦
+          let here : slice_get cs number ≡ Some w.in-Some.candidate.now =
+          ap (λ xs. slice_get xs number) (sym c.deref.ensures.value) ∙ slice_get_read c.deref.result.now (length c.deref.result.now) number w.in-Some.candidate.now refl w.in-Some.ensures.lookup.3.0 w.in-Some.ensures.lookup.1 in
+          rw w.members-is (gathering_more numbers (is_one cs) (id_in cs) at number w.in_ok-copy.field-0 c.loop-number.members.items w.push.new.self.items read (one_is cs at number w.in-Some.candidate.now here) (w.in_ok-copy.ensures ∙ sym (id_is cs number w.in-Some.candidate.now here)) w.in_ok-push.ensures.items c.loop-number.invariant)
+      | in_default w ↦
+          let past : slice_get cs number ≡ None = ap (λ xs. slice_get xs number) (sym c.deref.ensures.value) ∙ slice_get_past c.deref.result.now number w.in_default.ensures.lookup.3 in
+          rw w.members-is (gathering_same numbers (is_one cs) (id_in cs) at number c.loop-number.members.items read (none_is cs at number past) c.loop-number.invariant)
     ]
 
 pub returns-clause-same : goal.returns-clause-same
-returns-clause-same c = IfOk-weaker c.new.result (λ ids. (home called : List ℕ) → identity_in ids home called ≡ identity_in (map id_of c.loop-candidate.members.items) home called) _ (λ ids sorted_same home called.
-    let last : c.loop-candidate.candidate-index ≡ length c.args.candidates.now = omega (arith, c.loop-candidate-test.false, c.loop-candidate.auto.candidate-index-end) in
-    let all = gathered c.args.candidates.now (λ i (d : Candidate). is_left c.args.left.now d.identity) (λ (d : Candidate). id_of d.member) c.loop-candidate.candidate-index c.loop-candidate.members.items last c.loop-candidate.invariant home called in
-    let sorted : list_any (is_identity home called) (map id_of c.loop-candidate.members.items) ≡ list_any (is_identity home called) ids = sym (told_alike (list_any (is_identity home called) ids) (list_any (is_identity home called) (map id_of c.loop-candidate.members.items)) (identity home called) (sorted_same home called)) in (
+returns-clause-same c = IfOk-weaker c.new.result (λ ids. (home called : List ℕ) → identity_in ids home called ≡ identity_in (map id_of c.loop-number.members.items) home called) _ (λ ids sorted_same home called.
+    let cs : List Candidate = c.args.candidates.now.list.items in
+    let numbers : List ℕ = c.deref-number-items.result.now in
+    let last : c.loop-number.number-index ≡ length numbers = omega (arith, c.loop-number-test.false, c.loop-number.auto.number-index-end) in
+    let all =
+    through (gathered numbers (is_one cs) (id_in cs) c.loop-number.number-index c.loop-number.members.items last c.loop-number.invariant home called)
+    (by_number cs numbers (λ (d : Candidate). is_left c.args.left.now d.identity) (record { home = home; name = called }) (rw c.deref-number-items.ensures.value c.in_ok-numbers.ensures)) in
+    let sorted : list_any (is_identity home called) (map id_of c.loop-number.members.items) ≡ list_any (is_identity home called) ids = sym (told_alike (list_any (is_identity home called) ids) (list_any (is_identity home called) (map id_of c.loop-number.members.items)) (identity home called) (sorted_same home called)) in (
       λ h. all.0 (sorted ∙ h),
       λ h. sym sorted ∙ all.1 h,
     )) c.new.ensures.same

@@ -27,18 +27,18 @@ returns-clause-same c = λ are files choice t home called.
     let same : (place : IdentityRef) → list_any (is_key place) c.in_ok-key.key.items ≡ list_any (is_at place) (bases_at c.args.self.now.bases.items c.args.number) =
     λ place. c.in_ok-key.ensures place ∙ ap (list_any (is_at place)) (c.bases_of.ensures ∙ ap (λ l. bases_at l c.args.number) c.deref.ensures.value) in
     let found : IsFound c.args.linked.now c.in_ok-key.key.items c.in_ok-members-2.members =
-    new_found c.args.linked.now c.args.self.now are c.in_ok-left.left c.deref-4.result.now c.in_ok-key.key.items c.deref-3.result.now c.in_ok-members-2.members c.deref-4.ensures.value c.deref-3.ensures.value c.in_ok-left.ensures c.in_ok-members-2.ensures.same in
+    new_found c.args.linked.now c.args.self.now are c.in_ok-left.left c.in_ok-key.key.items c.deref-3.result.now c.in_ok-members-2.members c.deref-3.ensures.value c.in_ok-left.ensures c.in_ok-members-2.ensures.same in
     through (found files choice t home called)
     (type_values (truth_in c.args.linked.now) choice files c.args.number (bases_at c.args.self.now.bases.items c.args.number) c.in_ok-key.key.items home called (are.bases files choice t c.args.number) same)
 
 pub returns-in_err-keep-clause-keeps : goal.returns-in_err-keep-clause-keeps
 returns-in_err-keep-clause-keeps c = λ are.
     let found : IsFound c.args.linked.now c.in_ok-key.key.items c.in_ok-members-2.members =
-    new_found c.args.linked.now c.args.self.now are c.in_ok-left.left c.deref-4.result.now c.in_ok-key.key.items c.deref-3.result.now c.in_ok-members-2.members c.deref-4.ensures.value c.deref-3.ensures.value c.in_ok-left.ensures c.in_ok-members-2.ensures.same in
+    new_found c.args.linked.now c.args.self.now are c.in_ok-left.left c.in_ok-key.key.items c.deref-3.result.now c.in_ok-members-2.members c.deref-3.ensures.value c.in_ok-left.ensures c.in_ok-members-2.ensures.same in
     c.keep.ensures c.args.linked.now are (subst (IsFound c.args.linked.now c.in_ok-key.key.items) (sym c.in_ok-copy.ensures.same) found)
 
 pub returns-clause-keeps : goal.returns-clause-keeps
 returns-clause-keeps c = λ are.
     let found : IsFound c.args.linked.now c.in_ok-key.key.items c.in_ok-members-2.members =
-    new_found c.args.linked.now c.args.self.now are c.in_ok-left.left c.deref-4.result.now c.in_ok-key.key.items c.deref-3.result.now c.in_ok-members-2.members c.deref-4.ensures.value c.deref-3.ensures.value c.in_ok-left.ensures c.in_ok-members-2.ensures.same in
+    new_found c.args.linked.now c.args.self.now are c.in_ok-left.left c.in_ok-key.key.items c.deref-3.result.now c.in_ok-members-2.members c.deref-3.ensures.value c.in_ok-left.ensures c.in_ok-members-2.ensures.same in
     c.keep.ensures c.args.linked.now are (subst (IsFound c.args.linked.now c.in_ok-key.key.items) (sym c.in_ok-copy.ensures.same) found)
