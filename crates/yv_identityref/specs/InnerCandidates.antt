@@ -13,7 +13,7 @@ use Rattle.yv_features.specs.On.{home_in, is_condition_of}
 use Rattle.yv_identities.specs.Names.{is_identity}
 use Rattle.yv_identities.specs.References.{ref_of}
 use Rattle.yv_values.specs.Identities.{id_of}
-use Rattle.yv_identityref.specs.Values.{Truth, IsOn, is_implemented, id_at}
+use Rattle.yv_identityref.specs.Values.{Truth, IsOn, names_implemented, id_at}
 use Rattle.yv_identityref.specs.InnerBases.{IsBelowKey}
 use Rattle.yv_identityref.specs.declared.candidates.Candidate.{Candidate}
 
@@ -28,12 +28,12 @@ AreHomes files homes = (k : ℕ) (h : RcStr Global) → slice_get homes k ≡ So
 -- all that is asked of a numbered statement
 abbrev pub passes : Choice → Briefs → BTreeSet ℕ → ℕ → Row → Bool
 passes choice files off number r =
-    is_identity r && (is_implemented choice files (id_at files r).home && not (contains nat_cmp off number))
+    is_identity r && (names_implemented choice files (id_at files r).home && not (contains nat_cmp off number))
 
 -- the numbered statement r is an identity of an implemented module, and on
 pub record IsCandidate (truth : Truth) (choice : Choice) (files : Files) (number : ℕ) (r : Row) : Type 0 where
   pub identity : is_identity r ≡ true
-  pub implemented : is_implemented choice (map brief_of files) (id_at (map brief_of files) r).home ≡ true
+  pub implemented : names_implemented choice (map brief_of files) (id_at (map brief_of files) r).home ≡ true
   pub on : IsOn truth (rows_of files) number
 
 -- a candidate is the statement

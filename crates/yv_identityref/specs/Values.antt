@@ -22,8 +22,8 @@ abbrev pub IsOn : Truth → List Row → ℕ → Type 0
 IsOn truth = AllHoldBy (λ file text. truth file text ≡ true)
 
 -- the module of a name is there, and it is implemented (section 5.6.5)
-abbrev pub is_implemented : Choice → Briefs → List ℕ → Bool
-is_implemented choice files name = unwrap_or (option_map (λ (m : ModuleRef). m.implemented) (named_module choice files name)) false
+abbrev pub names_implemented : Choice → Briefs → List ℕ → Bool
+names_implemented choice files name = unwrap_or (option_map (λ (m : ModuleRef). m.implemented) (named_module choice files name)) false
 
 -- an identity by its name and that of the module to which its file belongs (section 5.1)
 abbrev pub id_at : Briefs → Row → Id
@@ -34,7 +34,7 @@ id_at files r = record { home = home_in (slice_get files r.file); name = name_in
 pub record IsValue (truth : Truth) (choice : Choice) (files : Files) (kind number : ℕ) (r : Row) : Type 0 where
   pub identity : is_identity r ≡ true
   pub derived : IsBelowAll (map brief_of files) (rows_of files) kind (ref_of r)
-  pub implemented : is_implemented choice (map brief_of files) (id_at (map brief_of files) r).home ≡ true
+  pub implemented : names_implemented choice (map brief_of files) (id_at (map brief_of files) r).home ≡ true
   pub on : IsOn truth (rows_of files) number
 
 -- this module has an identity of this name that is a value

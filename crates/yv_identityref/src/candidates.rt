@@ -9,7 +9,7 @@ ghost use Rattle.yv_features.specs.On.{home_in};
 ghost use Rattle.yv_identities.specs.Names.{is_identity};
 ghost use Rattle.yv_identities.specs.References.{ref_of};
 ghost use Rattle.yv_link.specs.Linked.{AreLinked, truth_in};
-ghost use Rattle.yv_identityref.specs.Values.{is_implemented};
+ghost use Rattle.yv_identityref.specs.Values.{names_implemented};
 ghost use Rattle.yv_identityref.specs.InnerCandidates.{AreCandidates, AreHomes, IsOf, passes};
 
 use crate::conditions::off;
@@ -64,9 +64,9 @@ fn home_of<'a>(linked: &Linked<'a, '_>, file: u32) -> &'a str
 }
 
 // Whether the module of a name is there and implemented.
-fn is_implemented<'a>(linked: &Linked<'a, '_>, name: &'a str) -> bool
+fn names_implemented<'a>(linked: &Linked<'a, '_>, name: &'a str) -> bool
     ensures { (files : Files) (choice : Choice) → AreLinked files choice linked.now
-        → result ≡ is_implemented choice (map brief_of files) name.now }
+        → result ≡ names_implemented choice (map brief_of files) name.now }
 {
     match linked.module(name) {
         Some(module) => module.implemented,
@@ -98,7 +98,7 @@ impl<'a, 'b> Draft<'_, 'a, 'b> {
             → result ≡ passes choice (map brief_of files) self.now.off number (row entry.now) }
     {
         is_identity(entry)
-            && is_implemented(self.linked, home_of(self.linked, entry.file))
+            && names_implemented(self.linked, home_of(self.linked, entry.file))
             && !self.off.contains(&number)
     }
 
