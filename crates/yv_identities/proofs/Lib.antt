@@ -2,7 +2,9 @@ pub mod Choosing
 pub mod Numbering
 pub mod Deriving
 pub mod Ways
-pub mod Marking
+pub mod Sets
+pub mod Reversing
+pub mod Finding
 pub mod Pairing
 pub mod Placing
 pub mod Faulty

@@ -1,24 +1,29 @@
 -- References, and the identities that they mean.
-use Rattle.std.proofs.Common.{◌≡◌, ℕ, ◌+◌, ◌<◌, ◌⊎◌, inl, inr, ◌↔◌, zero, suc, Bool, true, false, IsTrue, ◌&&◌, cond, List, [], ◌∷◌, ◌++◌, length, map, get_or, refl, sym, ◌∙◌, ap, subst, arith, Option, Some, None}
+use Rattle.std.proofs.Common.{◌≡◌, ℕ, ◌+◌, ◌<◌, ◌≤◌, ◌⊎◌, inl, inr, ◌↔◌, zero, suc, Bool, true, false, IsTrue, ◌&&◌, cond, List, [], ◌∷◌, ◌++◌, length, map, get_or, refl, sym, ◌∙◌, ap, subst, arith, Option, Some, None}
 use Rattle.std.proofs.lemmas.Bool.{cases_Bool, cases_eq, cases_lt, false≢true}
-use Rattle.std.proofs.lemmas.List.{length-map, map-append, get_or_default}
+use Rattle.std.proofs.lemmas.List.{length-map, map-append, get_or_default, get_or_append_left}
 use Rattle.std.proofs.lemmas.Option.{same_Some, slice_get_within, slice_get-map, slice_get-get_or}
 use Rattle.std.specs.List.{slice_get, position_from}
+use Rattle.std.specs.List.Sorted.{IsStrictlySortedBy}
+use Rattle.std.specs.Ordering.{nat_cmp}
+use Rattle.std.specs.BTreeSet.{BTreeSet}
 use Rattle.std.specs.Option.{option_map, option_and_then}
 use Rattle.yv_rows.specs.Names.{first_where}
 use Rattle.yv_rows.specs.Files.{Briefs}
 use Rattle.yv_rows.specs.Rows.{Row}
-use Rattle.yv_graph.specs.Graph.{Graph, LeadsTo}
+use Rattle.yv_graph.specs.Graph.{Graph, IsGraph, LeadsTo}
 use Rattle.yv_identities.specs.Names.{is_identity, meaning_of}
 use Rattle.yv_identities.specs.Derived.{Derived}
 use Rattle.yv_identities.specs.References.{ref_of, refs_of, is_at, number_of, reference_of, IsDerived, AreDescendants}
-use Rattle.yv_identities.specs.InnerChosen.{chosen, is_identity_at, identities_of, number_at, count_of}
+use Rattle.yv_identities.specs.InnerChosen.{is_identity_at, identities_of, number_at, count_of}
 use Rattle.yv_identities.specs.InnerPairs.{AreBases}
-use Rattle.yv_identities.specs.InnerWays.{AreAbove}
+use Rattle.yv_identities.specs.InnerWays.{AreBelow}
 use Rattle.yv_identities.specs.declared.references.IdentityRef.{IdentityRef}
-use Rattle.yv_identities.proofs.Choosing.{chosen_at, chosen_is, chosen_more, chosen_same, chosen_ascending}
+use Rattle.yv_identities.proofs.Choosing.{chosen_ascending, last_of, longer}
 use Rattle.yv_identities.proofs.Numbering.{identity_at, identity_row, number_of_row, number_identity}
 use Rattle.yv_identities.proofs.Deriving.{found_where, leads_derived, derived_leads, derived_numbers}
+use Rattle.yv_identities.proofs.Sets.{has_key, key_of, sorted_ascends}
+use Rattle.yv_identities.proofs.Ways.{edge_within, first_edge}
 
 -- nothing that passes stands before the first, nor anywhere where there is none
 before_first : {X : Type 0} (p : X → Bool) (k d : ℕ) (xs : List X) → position_from p k xs ≡ Some d → (j : ℕ) (y : X) → k + j < d → slice_get xs j ≡ Some y → p y ≡ true → ⊥
@@ -157,28 +162,29 @@ derived_not files rows identity base (inr none) = (
   λ d. let bad : None ≡ Some d.base_number = none ∙ d.base_meant in absurd (let h : None ≡ Some d.base_number = bad in cc),
 )
 
--- the references to marked identities
-pub record Picking (refs : List IdentityRef) (marks : List Bool) (i : ℕ) (found : List IdentityRef) : Type 0 where
-  pub picked : map Some found ≡ map (λ a. slice_get refs a) (chosen (λ a. get_or marks a false) i)
+-- the references to identities, where there is one to each
+pub record Picking (refs : List IdentityRef) (nodes : List ℕ) (found : List IdentityRef) : Type 0 where
+  pub picked : ((j : ℕ) → j < length nodes → get_or nodes j 0 < length refs) → map Some found ≡ map (λ a. slice_get refs a) nodes
 
-pub picking_none : (refs : List IdentityRef) (marks : List Bool) (found : List IdentityRef) → found ≡ [] → Picking refs marks 0 found
-picking_none refs marks found e = record { picked = ap (map Some) e }
+pub picking_none : (refs : List IdentityRef) (nodes : List ℕ) (found : List IdentityRef) → nodes ≡ [] → found ≡ [] → Picking refs nodes found
+picking_none refs nodes found e f = rw (e, f) (record { picked = λ within. refl })
 
-pub picking_other : (refs : List IdentityRef) (marks : List Bool) (i : ℕ) (found : List IdentityRef) (mark : Bool) → Picking refs marks i found → mark ≡ get_or marks i false → mark ≡ false → Picking refs marks (i + 1) found
-picking_other refs marks i found mark m e f = record {
-  picked = m.picked ∙ ap (map (λ a. slice_get refs a)) (sym (chosen_same (λ a. get_or marks a false) i (sym e ∙ f)));
-}
+last_number : (nodes : List ℕ) (node : ℕ) (n : ℕ) → ((j : ℕ) → j < length (nodes ++ node ∷ []) → get_or (nodes ++ node ∷ []) j 0 < n) → node < n
+last_number nodes node n within = omega (arith, within (length nodes) (omega (arith, longer nodes node)), last_of nodes node 0)
 
-pub picking_more : (refs : List IdentityRef) (marks : List Bool) (i : ℕ) (found found' : List IdentityRef) (mark : Bool) (x : IdentityRef) → Picking refs marks i found → mark ≡ get_or marks i false → mark ≡ true → slice_get refs i ≡ Some x → found' ≡ found ++ x ∷ [] → Picking refs marks (i + 1) found'
-picking_more refs marks i found found' mark x m e t at more = record {
-  picked =
+pub picking_past : (refs : List IdentityRef) (nodes nodes' : List ℕ) (node : ℕ) (found : List IdentityRef) → nodes' ≡ nodes ++ node ∷ [] → length refs ≤ node → Picking refs nodes' found
+picking_past refs nodes nodes' node found e past = rw e (record { picked = λ within. absurd (omega (arith, last_number nodes node (length refs) within, past)) })
+
+pub picking_more : (refs : List IdentityRef) (nodes nodes' : List ℕ) (node : ℕ) (found found' : List IdentityRef) (x : IdentityRef) → Picking refs nodes found → nodes' ≡ nodes ++ node ∷ [] → slice_get refs node ≡ Some x → found' ≡ found ++ x ∷ [] → Picking refs nodes' found'
+picking_more refs nodes nodes' node found found' x m e at more = rw e (record {
+  picked = λ within.
+      let before : (j : ℕ) → j < length nodes → get_or nodes j 0 < length refs = λ j l. omega (arith, within j (omega (arith, l, longer nodes node)), get_or_append_left nodes (node ∷ []) 0 j l) in
       ap (map Some) more
       ∙ map-append Some found (x ∷ [])
-      ∙ ap (λ xs. xs ++ Some x ∷ []) m.picked
-      ∙ ap (λ o. map (λ a. slice_get refs a) (chosen (λ a. get_or marks a false) i) ++ o ∷ []) (sym at)
-      ∙ sym (map-append (λ a. slice_get refs a) (chosen (λ a. get_or marks a false) i) (i ∷ []))
-      ∙ ap (map (λ a. slice_get refs a)) (sym (chosen_more (λ a. get_or marks a false) i (sym e ∙ t)));
-}
+      ∙ ap (λ xs. xs ++ Some x ∷ []) (m.picked before)
+      ∙ ap (λ o. map (λ a. slice_get refs a) nodes ++ o ∷ []) (sym at)
+      ∙ sym (map-append (λ a. slice_get refs a) nodes (node ∷ []));
+})
 
 -- what is picked, by the numbers of the statements
 picked_refs : (rows : List Row) (refs : List IdentityRef) (xs : List ℕ) → AreRefs rows refs → ((j : ℕ) → j < length xs → get_or xs j 0 < count_of rows) → map (λ a. slice_get refs a) xs ≡ refs_of rows (map (number_at rows) xs)
@@ -192,40 +198,37 @@ map_at f [] j h = absurd (omega (arith, h))
 map_at f (x ∷ xs) zero h = refl
 map_at f (x ∷ xs) (suc j) h = map_at f xs j (omega (arith, h))
 
-pub descendants_found : (files : Briefs) (rows : List Row) (g : Graph) (refs : List IdentityRef) (base : IdentityRef) (marks : List Bool) (to i : ℕ) (found : List IdentityRef) → AreBases files rows g → AreRefs rows refs → Some (number_at rows to) ≡ number_of rows base → to < length g → AreAbove g to marks → i ≡ length refs → Picking refs marks i found → AreDescendants files rows base found
-descendants_found files rows g refs base marks to i found s e meant within above all m =
-    let passes : ℕ → Bool = λ a. get_or marks a false in
-    let nodes : List ℕ = chosen (λ a. get_or marks a false) i in
+pub descendants_found : (files : Briefs) (rows : List Row) (g : Graph) (refs : List IdentityRef) (base : IdentityRef) (below : BTreeSet ℕ) (to : ℕ) (nodes : List ℕ) (found : List IdentityRef) → AreBases files rows g → AreRefs rows refs → Some (number_at rows to) ≡ number_of rows base → to < length g → AreBelow g to below → IsGraph g → IsStrictlySortedBy nat_cmp below.keys → nodes ≡ below.keys → Picking refs nodes found → AreDescendants files rows base found
+descendants_found files rows g refs base below to nodes found s e meant within above is_graph sorted all m' =
+    let m : Picking refs below.keys found = subst (λ xs. Picking refs xs found) all m' in
+    let nodes : List ℕ = below.keys in
     let numbers : List ℕ = map (number_at rows) nodes in
-    let count : i ≡ count_of rows = all ∙ refs_count rows refs e in
     let long : length numbers ≡ length nodes = length-map nodes (number_at rows) in
-    let inside : (j : ℕ) → j < length nodes → get_or nodes j 0 < count_of rows = λ j l. omega (arith, (chosen_is (λ a. get_or marks a false) i j l).0, count) in
+    let leads : (j : ℕ) → j < length nodes → LeadsTo g (get_or nodes j 0) to = λ j l. (above (get_or nodes j 0)).0 (has_key below (get_or nodes j 0) (j, l, get_or_default nodes j (get_or nodes j 0) 0 l)) in
+    let inside : (j : ℕ) → j < length nodes → get_or nodes j 0 < count_of rows = λ j l. let f = first_edge g (leads j l) in omega (arith, (edge_within g (get_or nodes j 0) f.0 is_graph f.1).0, s.each) in
     record {
       numbers = numbers;
       ascending = λ a b l h.
           let h' : b < length nodes = omega (arith, h, long) in
-          let up : get_or nodes a 0 < get_or nodes b 0 = chosen_ascending (λ a. get_or marks a false) i a b l h' in
+          let up : get_or nodes a 0 < get_or nodes b 0 = sorted_ascends nodes sorted a b l h' in
           let rises : number_at rows (get_or nodes a 0) < number_at rows (get_or nodes b 0) = chosen_ascending (is_identity_at rows) (length rows) (get_or nodes a 0) (get_or nodes b 0) up (inside b h') in
           omega (arith, rises, map_at (number_at rows) nodes a (omega (arith, l, h')), map_at (number_at rows) nodes b h');
       exact = λ k. (
         λ c.
             let l : c.0 < length nodes = omega (arith, c.1, long) in
-            let a : ℕ = get_or nodes c.0 0 in
-            let p = chosen_is (λ a. get_or marks a false) i c.0 l in
-            let way : LeadsTo g a to = (above.exact a (omega (arith, inside c.0 l, s.each))).0 p.1 in
-            let is : number_at rows a ≡ k = sym (map_at (number_at rows) nodes c.0 l) ∙ get_or_default numbers c.0 0 k c.1 ∙ c.2 in
-            (number_at rows to, sym meant, subst (λ (n : ℕ). Derived files rows n (number_at rows to)) is (leads_derived files rows g s way)),
+            let is : number_at rows (get_or nodes c.0 0) ≡ k = sym (map_at (number_at rows) nodes c.0 l) ∙ get_or_default numbers c.0 0 k c.1 ∙ c.2 in
+            (number_at rows to, sym meant, subst (λ (n : ℕ). Derived files rows n (number_at rows to)) is (leads_derived files rows g s (leads c.0 l))),
         λ d.
             let n = number_of_row rows k (derived_numbers files rows d.2).0 in
             let same : number_at rows to ≡ d.0 = same_Some (number_at rows to) d.0 (meant ∙ d.1) in
             let way : LeadsTo g n.0 to = derived_leads files rows g s d.2 n.0 to n.1 (omega (arith, within, s.each)) n.2 same in
-            let marked : get_or marks n.0 false ≡ true = (above.exact n.0 (omega (arith, n.1, s.each))).1 way in
-            let p = chosen_at (λ a. get_or marks a false) i n.0 (omega (arith, n.1, count)) marked in
-            let place : ℕ = length (chosen (λ a. get_or marks a false) n.0) in
-            let here : place < length numbers = omega (arith, p.0, long) in
-            (place, here, get_or_default numbers place k 0 here ∙ map_at (number_at rows) nodes place p.0 ∙ ap (number_at rows) p.1 ∙ n.2),
+            let c = key_of below n.0 ((above n.0).1 way) in
+            let here : c.0 < length numbers = omega (arith, c.1, long) in
+            (c.0, here, get_or_default numbers c.0 k 0 here ∙ map_at (number_at rows) nodes c.0 c.1 ∙ ap (number_at rows) (get_or_default nodes c.0 0 n.0 c.1 ∙ c.2) ∙ n.2),
       );
-      each = m.picked ∙ picked_refs rows refs nodes e inside;
+      each =
+          m.picked (λ j l. omega (arith, inside j l, refs_count rows refs e))
+          ∙ picked_refs rows refs nodes e inside;
     }
 
 pub no_descendants : (files : Briefs) (rows : List Row) (base : IdentityRef) (found : List IdentityRef) → None ≡ number_of rows base → found ≡ [] → AreDescendants files rows base found

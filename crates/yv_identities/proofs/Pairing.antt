@@ -82,7 +82,7 @@ pairing_other files rows n r g o m at is none = record {
 }
 
 -- one more edge
-edges_old : (g : Graph) (own : ℕ) (row row' : Vec ℕ Global) (base a b : ℕ) → own < length g → row ≡ get_or g own row → row'.items ≡ row.items ++ base ∷ [] → HasEdge g a b → HasEdge (set g own row') a b
+pub edges_old : (g : Graph) (own : ℕ) (row row' : Vec ℕ Global) (base a b : ℕ) → own < length g → row ≡ get_or g own row → row'.items ≡ row.items ++ base ∷ [] → HasEdge g a b → HasEdge (set g own row') a b
 edges_old g own row row' base a b h e more (v, at, c) = elim (cases_eq a own) [
   | inl same ↦
       let v_is : v ≡ row = sym (get_or_from_slice_get g own v row (ap (slice_get g) (sym same) ∙ at)) ∙ sym e in
@@ -95,18 +95,18 @@ edges_old g own row row' base a b h e more (v, at, c) = elim (cases_eq a own) [
       (v, here, c)
 ]
 
-edge_new : (g : Graph) (own : ℕ) (row row' : Vec ℕ Global) (base : ℕ) → own < length g → row'.items ≡ row.items ++ base ∷ [] → HasEdge (set g own row') own base
+pub edge_new : (g : Graph) (own : ℕ) (row row' : Vec ℕ Global) (base : ℕ) → own < length g → row'.items ≡ row.items ++ base ∷ [] → HasEdge (set g own row') own base
 edge_new g own row row' base h more =
     let here : slice_get (set g own row') own ≡ Some row' = slice_get-get_or (set g own row') own row' (rw length-set h) ∙ ap Some (get_or-set_same g own row' row' h) in
     (row', here, rw more (length row.items, omega (arith, longer row.items base), last_of row.items base base))
 
-pushed_in : (items : List ℕ) (base b : ℕ) → Contains (items ++ base ∷ []) b → Contains items b ⊎ (b ≡ base)
+pub pushed_in : (items : List ℕ) (base b : ℕ) → Contains (items ++ base ∷ []) b → Contains items b ⊎ (b ≡ base)
 pushed_in items base b (k, l, at) = elim (cases_lt k (length items)) [
   | inl less ↦ inl (k, less, sym (get_or_append_left items (base ∷ []) b k less) ∙ at)
   | inr up ↦ let same : k ≡ length items = omega (arith, l, up, longer items base) in inr (sym at ∙ ap (λ n. get_or (items ++ base ∷ []) n b) same ∙ last_of items base b)
 ]
 
-edges_are : (g : Graph) (own : ℕ) (row row' : Vec ℕ Global) (base a b : ℕ) → own < length g → row ≡ get_or g own row → row'.items ≡ row.items ++ base ∷ [] → HasEdge (set g own row') a b → HasEdge g a b ⊎ ((a ≡ own) × (b ≡ base))
+pub edges_are : (g : Graph) (own : ℕ) (row row' : Vec ℕ Global) (base a b : ℕ) → own < length g → row ≡ get_or g own row → row'.items ≡ row.items ++ base ∷ [] → HasEdge (set g own row') a b → HasEdge g a b ⊎ ((a ≡ own) × (b ≡ base))
 edges_are g own row row' base a b h e more (v, at, c) = elim (cases_eq a own) [
   | inl same ↦
       let here : slice_get (set g own row') own ≡ Some row' = slice_get-get_or (set g own row') own row' (rw length-set h) ∙ ap Some (get_or-set_same g own row' row' h) in

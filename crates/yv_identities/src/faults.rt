@@ -1,5 +1,5 @@
 //! What is wrong with identities and bases.
-ghost use Rattle.std.specs.Prelude.{◌≡◌, ◌↔◌, IsTrue};
+ghost use Rattle.std.specs.Prelude.{◌≡◌, ◌↔◌, slice_index_or, false, IsTrue};
 ghost use Rattle.yv_statement.specs.Order.{IsLeast};
 ghost use Rattle.yv_rows.specs.Rows.{row};
 ghost use Rattle.yv_rows.specs.Lent.{files_in, rows_in};
@@ -8,7 +8,6 @@ ghost use Rattle.yv_identities.specs.Faults.{BadFive, BadRow, is_unknown};
 ghost use Rattle.yv_identities.specs.InnerPairs.{AreCircles};
 
 use crate::draft::{Draft, is_base};
-use crate::hierarchy::is_marked;
 use yv_rows::Entry;
 use yv_statement::{Code, Refusal, lesser, refused};
 
@@ -17,6 +16,13 @@ fn is_unknown<'a, 'b>(draft: &Draft<'_, 'a, 'b>, entry: &Entry<'a, 'b>) -> bool
     ensures { result ≡ is_unknown (files_in draft.now.rows.now) (rows_in draft.now.rows.now) (row entry.now) }
 {
     is_base(entry) && draft.meaning(entry).is_none()
+}
+
+// Whether a number is marked.
+fn is_marked(marks: &[bool], number: usize) -> bool
+    ensures { result ≡ slice_index_or marks.now number false }
+{
+    marks.get(number).copied().unwrap_or(false)
 }
 
 // Whether a statement is an identity that is marked.

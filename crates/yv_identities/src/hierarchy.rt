@@ -1,52 +1,59 @@
 //! The identities by their numbers, in an order in which each stands behind its bases.
-ghost use Rattle.std.specs.Prelude.{◌≡◌, ◌↔◌, ◌<◌, ◌≤◌, ◌||◌, ◌==◌, length, slice_index, slice_index_or, false, IsTrue, IfOk};
-ghost use Rattle.std.specs.List.{All, list_any};
+ghost use Rattle.std.specs.Prelude.{◌↔◌, ◌<◌, ◌≤◌, length, slice_index, IsTrue, IfOk, OnOk};
+ghost use Rattle.std.specs.List.{All};
 ghost use Rattle.yv_graph.specs.Graph.{IsGraph, AreRanks, ArePlaces, LeadsTo};
-ghost use Rattle.yv_identities.specs.InnerWays.{AreAbove, EntersBelow};
+ghost use Rattle.yv_identities.specs.InnerWays.{AddsRanks, AreBelow, AreReversed, EntersBelow};
 
 use std::alloc::{AllocError, Global};
+use std::collections::BTreeSet;
 
 /// So many steps a search goes from base to base before it goes over the middle between both ranks.
 pub(crate) const STEPS: usize = 64;
 
-/// For each identity its bases, and the order.
+/// For each identity its bases and what has it as a base, and the order.
 #[derive(Drop)]
 pub(crate) struct Hierarchy {
     pub bases: Vec<Vec<usize>>,
+    pub derived: Vec<Vec<usize>>,
     pub ranks: Vec<usize>,
     pub order: Vec<usize>,
     ghost graph: { IsGraph bases.items },
+    ghost reversed: { AreReversed bases.items derived.items },
     ghost ranked: { AreRanks bases.items ranks.items },
     ghost placed: { ArePlaces ranks.items order.items },
 }
 
-// Whether one of these is the base or is marked.
-fn has_marked(bases: &[usize], marks: &[bool], to: usize) -> bool
-    requires { All (λ b. b < length marks.now) bases.now }
-    ensures { result ≡ list_any (λ b. (b == to) || slice_index_or marks.now b false) bases.now }
+// Adds the ranks of these to a set.
+fn add_ranks(
+    ranks: &[usize],
+    nodes: &[usize],
+    pending: &mut BTreeSet<usize>,
+) -> Result<(), AllocError>
+    requires { All (λ a. a < length ranks.now) nodes.now }
+    ensures { OnOk result (AddsRanks ranks.now nodes.now pending.old pending.new) }
 {
-    bases.iter().any(|base| *base == to || marks[*base])
-}
-
-/// Whether a number is marked.
-pub(crate) fn is_marked(marks: &[bool], number: usize) -> bool
-    ensures { result ≡ slice_index_or marks.now number false }
-{
-    marks.get(number).copied().unwrap_or(false)
+    for node in nodes {
+        pending.insert(ranks[*node])?;
+    }
+    Ok(())
 }
 
 impl Hierarchy {
-    /// Marks the identities that are derived from one of them, in one pass over all bases.
-    pub(crate) fn marks(&self, alloc: Global, to: usize) -> Result<Vec<bool>, AllocError>
-        ensures { IfOk result (λ marks. AreAbove self.now.bases.items to marks.items) }
+    /// The identities that are derived from one. What is derived from an identity stands at a higher rank, so that
+    /// none comes back once the least rank is taken out.
+    pub(crate) fn below(&self, alloc: Global, base: usize) -> Result<BTreeSet<usize>, AllocError>
+        requires { base < length self.now.bases.items }
+        ensures { IfOk result (AreBelow self.now.bases.items base) }
     {
-        let mut marks = vec![in alloc; false; self.bases.len()]?;
-        for node in &self.order {
-            let node = *node;
-            let mark = has_marked(&self.bases[node], &marks, to);
-            marks[node] = mark;
+        let mut found = BTreeSet::new(alloc);
+        let mut pending = BTreeSet::new(alloc);
+        add_ranks(&self.ranks, &self.derived[base], &mut pending)?;
+        while let Some(rank) = pending.pop_first() {
+            let node = self.order[rank];
+            found.insert(node)?;
+            add_ranks(&self.ranks, &self.derived[node], &mut pending)?;
         }
-        Ok(marks)
+        Ok(found)
     }
 
     // The last of the identities that are reached while there is one base alone, which isn't the one sought.

@@ -4,7 +4,7 @@ ghost use Rattle.std.specs.Option.{option_map};
 ghost use Rattle.yv_rows.specs.Files.{Files, brief_of};
 ghost use Rattle.yv_rows.specs.Listed.{rows_of};
 
-use crate::hierarchy::{Hierarchy, STEPS, is_marked};
+use crate::hierarchy::{Hierarchy, STEPS};
 use crate::references::{IdentityRef, References, reference};
 use std::alloc::{AllocError, Global};
 use yv_rows::{Places, Rows, local};
@@ -51,7 +51,7 @@ impl<'a> Identities<'a> {
     ///
     /// It takes no memory and little stack. Where identities have one base each it takes one step for each base on
     /// the way. Else it may take one for each way to a base, of which files can be made to have more than can be
-    /// counted: who asks about files from strangers takes `descendants`, which is linear.
+    /// counted: who asks about files from strangers takes `descendants`.
     pub fn derived(&self, identity: IdentityRef, base: IdentityRef) -> bool
         ensures { (files : Files) → AreIdentities files self.now → IsTrue result ↔ IsDerived (map brief_of files) (rows_of files) identity base }
     {
@@ -64,8 +64,8 @@ impl<'a> Identities<'a> {
         self.hierarchy.leads(from, to, STEPS)
     }
 
-    /// All identities that are derived from one, in the order of the statements, in time linear in identities and
-    /// bases.
+    /// All identities that are derived from one, in the order of the statements. Takes time n log n in these and in the
+    /// bases that they name among these and that one, and no more of all others than it takes to look that one up.
     pub fn descendants(
         &self,
         alloc: Global,
@@ -77,9 +77,9 @@ impl<'a> Identities<'a> {
         let Some(to) = self.node(base) else {
             return Ok(found);
         };
-        let marks = self.hierarchy.marks(alloc, to)?;
-        for (node, identity) in self.identities.iter().enumerate() {
-            if is_marked(&marks, node) {
+        let below = self.hierarchy.below(alloc, to)?;
+        for node in below {
+            if let Some(identity) = self.identities.get(node) {
                 found.push(*identity)?;
             }
         }

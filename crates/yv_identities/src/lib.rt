@@ -11,6 +11,7 @@ mod numbers;
 mod pairs;
 mod read;
 mod references;
+mod reversed;
 
 pub use known::Identities;
 pub use read::identities;

@@ -21,8 +21,8 @@ fn pair<'a, 'b>(draft: &Draft<'_, 'a, 'b>, entry: &Entry<'a, 'b>) -> Option<(usi
     Some((own, base))
 }
 
-// So many identities, none with a base.
-fn no_bases(alloc: Global, count: usize) -> Result<Vec<Vec<usize>>, AllocError>
+/// So many identities, none with a base.
+pub(crate) fn no_bases(alloc: Global, count: usize) -> Result<Vec<Vec<usize>>, AllocError>
     ensures { IfOk result (λ bases. (length bases.items ≡ count) × HasNoEdge bases.items) }
 {
     let mut bases = Vec::new(alloc);

@@ -14,6 +14,7 @@ use crate::hierarchy::Hierarchy;
 use crate::known::Identities;
 use crate::pairs::read_bases;
 use crate::references::References;
+use crate::reversed::reversed;
 use std::alloc::Global;
 use yv_graph::{Ranked, circular, rank};
 use yv_rows::Rows;
@@ -35,8 +36,10 @@ fn read_hierarchy(alloc: Global, draft: &Draft<'_, '_, '_>) -> Result<Hierarchy,
     let Ranked::Ranks { ranks, order } = rank(alloc, &bases)? else {
         unreachable!();
     };
+    let derived = reversed(alloc, &bases)?;
     Ok(Hierarchy {
         bases,
+        derived,
         ranks,
         order,
     })

@@ -1,22 +1,23 @@
-use Rattle.std.proofs.Common.{◌≡◌, List, length, sym, ◌∙◌, ap, arith, get_or, false}
-use Rattle.std.proofs.lemmas.Option.{slice_get-get_or}
+use Rattle.std.proofs.Common.{◌≡◌, List, length, refl, sym, ◌∙◌, ap, Some}
+use Rattle.std.proofs.lemmas.List.{map-id}
+use Rattle.std.proofs.lemmas.Map.Iter.{iter_end}
+use Rattle.std.proofs.lemmas.Option.{slice_get_read}
 use Rattle.std.specs.List.{slice_get}
 use Rattle.yv_identities.specs.declared.references.IdentityRef.{IdentityRef}
-use Rattle.yv_identities.proofs.Looking.{picking_other, picking_more, descendants_found}
+use Rattle.yv_identities.proofs.Looking.{picking_more, descendants_found}
 use Rattle.yv_identities.proofs.known.Identities.descendants.Goals as goal
-use Rattle.yv_identities.proofs.known.Identities.descendants.Goals.{then-is_marked+in_ok-push, else-is_marked}
 
-pub loop-node-preserved : goal.loop-node-preserved
-loop-node-preserved c =
-    let items : List IdentityRef = c.deref-identity-items.result.now in
-    let same : items ≡ c.args.self.now.identities.items = c.deref-identity-items.ensures.value in
-    let mark = c.is_marked.ensures ∙ ap (λ ms. get_or ms c.loop-node.node false) c.deref.ensures.value in
-    elim c.if-is_marked.branch [
-      | then-is_marked+in_ok-push w ↦
-          rw w.found-is (picking_more _ _ _ _ _ c.is_marked.result _ c.loop-node.invariant mark w.if-is_marked.true (ap (λ xs. slice_get xs c.loop-node.node) (sym same) ∙ slice_get-get_or items c.loop-node.node _ c.loop-node-test.true) w.in_ok-push.ensures.items)
-      | else-is_marked w ↦ rw w.found-is (picking_other _ _ _ _ c.is_marked.result c.loop-node.invariant mark w.if-is_marked.false)
-    ]
+pub loop-node-preserved-in-Continue-branch-2 : goal.loop-node-preserved-in-Continue-branch-2
+loop-node-preserved-in-Continue-branch-2 c =
+    let refs : List IdentityRef = c.args.self.now.identities.items in
+    let found = c.in-Some-get.ensures.lookup in
+    let at : slice_get refs c.in-Some-node.node ≡ Some c.in-Some-get.identity.now =
+    ap (λ xs. slice_get xs c.in-Some-node.node) (sym c.deref.ensures.value)
+    ∙ slice_get_read c.deref.result.now (length c.deref.result.now) c.in-Some-node.node c.in-Some-get.identity.now refl found.3.0 found.1 in
+    picking_more refs c.loop-node.yielded _ c.in-Some-node.node c.loop-node.found.items _ c.in-Some-get.identity.now c.loop-node.invariant refl at c.in_ok-push.ensures.items
 
 pub returns : goal.returns
 returns c files t =
-    descendants_found _ _ c.args.self.now.hierarchy.bases.items c.args.self.now.identities.items _ c.in_ok-marks.marks.items _ _ _ t.bases t.refs (c.in-Some.ensures.meant files t) c.in-Some.ensures.within c.in_ok-marks.ensures (omega (arith, ap length c.deref-identity-items.ensures.value, c.loop-node-test.false, c.loop-node.auto.node-end)) c.loop-node.invariant
+    let given = c.into_iter-node-iterator.ensures.into_iter_gives in
+    let end = iter_end (λ x. x) c.in_ok-below.below.keys c.loop-node.yielded _ _ _ _ given.0 c.loop-node.yielded_by c.in-None.is c.next.ensures.steps in
+    descendants_found _ _ c.args.self.now.hierarchy.bases.items c.args.self.now.identities.items _ c.in_ok-below.below _ c.loop-node.yielded _ t.bases t.refs (c.in-Some.ensures.meant files t) c.in-Some.ensures.within c.in_ok-below.ensures c.args.self.now.hierarchy.graph given.4 (sym (map-id c.loop-node.yielded) ∙ end.0) c.loop-node.invariant
