@@ -26,9 +26,13 @@ pub record AddsEdges (froms : List ℕ) (node : ℕ) (old new : Graph) : Type 0 
   pub kept : (a b : ℕ) → HasEdge old b a → HasEdge new b a
   pub all : (b : ℕ) → Contains froms b → HasEdge new b node
 
+-- one of these nodes has a rank
+abbrev pub HasRank : List ℕ → List ℕ → ℕ → Type 0
+HasRank ranks nodes r = (a : ℕ) × Contains nodes a × (slice_index ranks a ≡ r)
+
 -- the ranks of these nodes are added to a set
 pub record AddsRanks (ranks nodes : List ℕ) (old new : BTreeSet ℕ) : Type 0 where
-  pub rank : (r : ℕ) → IsTrue (contains nat_cmp new r) → IsTrue (contains nat_cmp old r) ⊎ ((a : ℕ) × Contains nodes a × (slice_index ranks a ≡ r))
+  pub rank : (r : ℕ) → IsTrue (contains nat_cmp new r) → IsTrue (contains nat_cmp old r) ⊎ HasRank ranks nodes r
   pub kept : (r : ℕ) → IsTrue (contains nat_cmp old r) → IsTrue (contains nat_cmp new r)
   pub all : (a : ℕ) → Contains nodes a → IsTrue (contains nat_cmp new (slice_index ranks a))
 
