@@ -22,6 +22,6 @@ BadRow means rows k r f =
     ⊎ Stands (LeadsTo means rows k k) (refusal_at code.FeatureCycle r.file r.head) f
 
 -- a statement of the files is refused
-abbrev pub BadFour : Files → Refusal → Type 0
-BadFour files f =
+abbrev pub BadFeatures : Files → Refusal → Type 0
+BadFeatures files f =
     Among (rows_of files) (BadRow (meaning_of (map brief_of files) (rows_of files)) (rows_of files)) (length (rows_of files)) f

@@ -7,7 +7,7 @@ ghost use Rattle.yv_selection.specs.Choice.{Choice, choice_of};
 ghost use Rattle.yv_rows.specs.Lent.{lent_in, rows_in};
 ghost use Rattle.yv_rows.specs.Tables.{first_of, table_of};
 ghost use Rattle.yv_rows.specs.declared.kind.Kind.TheVariants.{Feature};
-ghost use Rattle.yv_features.specs.Faults.{BadFour};
+ghost use Rattle.yv_features.specs.Faults.{BadFeatures};
 ghost use Rattle.yv_features.specs.Features.{AreFeatures, marked, truth_of};
 ghost use Rattle.yv_features.specs.InnerMarks.{AreOnIn, BadIn};
 ghost use Rattle.yv_features.specs.On.{Holds};
@@ -35,8 +35,8 @@ impl<'a> Features<'a> {
         rows: &Rows<'a, '_>,
         selection: &Selection,
     ) -> Result<Features<'a>, Stop>
-        ensures clear { OnOk result (IsLeast (BadFour (lent_in rows.now)) None) }
-        ensures refusal { (r : Refusal) → result ≡ Err (Fault r) → IsLeast (BadFour (lent_in rows.now)) (Some r) }
+        ensures clear { OnOk result (IsLeast (BadFeatures (lent_in rows.now)) None) }
+        ensures refusal { (r : Refusal) → result ≡ Err (Fault r) → IsLeast (BadFeatures (lent_in rows.now)) (Some r) }
         ensures built { result ≢ Err PatternBuild }
         ensures features { IfOk result (AreFeatures (lent_in rows.now) (choice_of selection.now)) }
     {

@@ -3,7 +3,7 @@ ghost use Rattle.std.specs.Prelude.{◌≡◌, ℕ, Bool, List, None};
 ghost use Rattle.yv_statement.specs.Order.{IsLeast};
 ghost use Rattle.yv_selection.specs.Choice.{Choice};
 ghost use Rattle.yv_rows.specs.Files.{Files};
-ghost use Rattle.yv_features.specs.Faults.{BadFour};
+ghost use Rattle.yv_features.specs.Faults.{BadFeatures};
 ghost use Rattle.yv_features.specs.Features.{AreFeatures, Tell, truth_of};
 ghost use Rattle.yv_features.specs.On.{Holds};
 ghost use Rattle.yv_features.specs.declared.features.Features.{Features};
@@ -26,7 +26,7 @@ pub fn features_tell_what_holds()
 
 /// Where nothing is refused of the features, an expression in a file has one truth.
 pub fn an_expression_has_one_truth()
-    ensures { (files : Files) (choice : Choice) (file : ℕ) (text : List ℕ) (a b : Bool) → IsLeast (BadFour files) None
+    ensures { (files : Files) (choice : Choice) (file : ℕ) (text : List ℕ) (a b : Bool) → IsLeast (BadFeatures files) None
         → Holds files choice file text a → Holds files choice file text b → a ≡ b }
 {
     yv_condition::laws::a_text_spells_one_condition();

@@ -13,7 +13,7 @@ use Rattle.yv_graph.specs.Ranked.{IfCircle}
 use Rattle.yv_graph.specs.declared.circles.Ranked.{Ranked}
 use Rattle.yv_graph.specs.declared.circles.Ranked.TheVariants.{Circle}
 use Rattle.yv_identities.specs.Derived.{Derived}
-use Rattle.yv_identities.specs.Faults.{BadFive}
+use Rattle.yv_identities.specs.Faults.{BadIdentities}
 use Rattle.yv_identities.specs.InnerChosen.{identities_before, number_at, node_of}
 use Rattle.yv_identities.specs.InnerPairs.{AreBases, AreCircles}
 use Rattle.yv_identities.proofs.Numbering.{node_some, node_at, identity_row}
@@ -44,11 +44,11 @@ no_circle files rows k e = (
 )
 
 -- where nothing is wrong no identity is derived from itself
-pub clear_circle : (files : Briefs) (rows : List Row) (g : Graph) (o : Option Refusal) (a : ℕ) → IsLeast (BadFive files rows) o → o ≡ None → AreBases files rows g → LeadsTo g a a → ⊥
+pub clear_circle : (files : Briefs) (rows : List Row) (g : Graph) (o : Option Refusal) (a : ℕ) → IsLeast (BadIdentities files rows) o → o ≡ None → AreBases files rows g → LeadsTo g a a → ⊥
 clear_circle files rows g o a least none s w =
     let d : Derived files rows (number_at rows a) (number_at rows a) = leads_derived files rows g s w in
     let r = identity_row rows (number_at rows a) (derived_numbers files rows d).0 in
-    let clear : IsLeast (BadFive files rows) None = subst (λ (p : Option Refusal). IsLeast (BadFive files rows) p) none least in
+    let clear : IsLeast (BadIdentities files rows) None = subst (λ (p : Option Refusal). IsLeast (BadIdentities files rows) p) none least in
     clear (refusal_at code.IdentityCycle r.0.file r.0.head) (number_at rows a, slice_get_within rows (number_at rows a) r.0 r.1, r.0, r.1, inr (d, refl))
 
 pub circle_by : (g h : Graph) (ranked : Ranked) (a : ℕ) → h ≡ g → ranked ≡ Circle a → IfCircle ranked (IsFirstOnCycle h) → LeadsTo g a a

@@ -19,5 +19,5 @@ BadRow files rows k r f =
     ⊎ Stands (Derived files rows k k) (refusal_at code.IdentityCycle r.file r.head) f
 
 -- what is wrong with identities and bases
-abbrev pub BadFive : Briefs → List Row → Refusal → Type 0
-BadFive files rows f = Among rows (BadRow files rows) (length rows) f
+abbrev pub BadIdentities : Briefs → List Row → Refusal → Type 0
+BadIdentities files rows f = Among rows (BadRow files rows) (length rows) f

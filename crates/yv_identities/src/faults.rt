@@ -4,7 +4,7 @@ ghost use Rattle.yv_statement.specs.Order.{IsLeast};
 ghost use Rattle.yv_rows.specs.Rows.{row};
 ghost use Rattle.yv_rows.specs.Lent.{files_in, rows_in};
 ghost use Rattle.yv_identities.specs.Derived.{Derived};
-ghost use Rattle.yv_identities.specs.Faults.{BadFive, BadRow, is_unknown};
+ghost use Rattle.yv_identities.specs.Faults.{BadIdentities, BadRow, is_unknown};
 ghost use Rattle.yv_identities.specs.InnerPairs.{AreCircles};
 
 use crate::draft::{Draft, is_base};
@@ -56,7 +56,7 @@ fn row_fault<'a, 'b>(
 /// The least that is wrong, those identities being marked that are derived from themselves.
 pub(crate) fn first_fault(draft: &Draft<'_, '_, '_>, circles: &[bool]) -> Option<Refusal>
     requires { AreCircles (files_in draft.now.rows.now) (rows_in draft.now.rows.now) circles.now }
-    ensures { IsLeast (BadFive (files_in draft.now.rows.now) (rows_in draft.now.rows.now)) result }
+    ensures { IsLeast (BadIdentities (files_in draft.now.rows.now) (rows_in draft.now.rows.now)) result }
 {
     let mut least = None;
     for (number, entry) in draft.rows.entries().iter().enumerate() {

@@ -4,7 +4,7 @@ ghost use Rattle.yv_statement.specs.Order.{IsLeast};
 ghost use Rattle.yv_statement.specs.declared.refusal.Refusal.{Refusal};
 ghost use Rattle.yv_statement.specs.declared.refusal.Stop.TheVariants.{Fault, PatternBuild};
 ghost use Rattle.yv_rows.specs.Lent.{lent_in, files_in, rows_in};
-ghost use Rattle.yv_identities.specs.Faults.{BadFive};
+ghost use Rattle.yv_identities.specs.Faults.{BadIdentities};
 ghost use Rattle.yv_identities.specs.InnerPairs.{AreBases};
 ghost use Rattle.yv_identities.specs.Tables.{AreIdentities};
 
@@ -23,9 +23,9 @@ use yv_statement::Stop;
 // The bases of all identities, and an order in which each stands behind its bases; or the least refusal.
 fn read_hierarchy(alloc: Global, draft: &Draft<'_, '_, '_>) -> Result<Hierarchy, Stop>
     ensures made { IfOk result (λ h. AreBases (files_in draft.now.rows.now) (rows_in draft.now.rows.now) h.bases.items) }
-    ensures clear { OnOk result (IsLeast (BadFive (files_in draft.now.rows.now) (rows_in draft.now.rows.now)) None) }
+    ensures clear { OnOk result (IsLeast (BadIdentities (files_in draft.now.rows.now) (rows_in draft.now.rows.now)) None) }
     ensures refusal { (r : Refusal) → result ≡ Err (Fault r)
-        → IsLeast (BadFive (files_in draft.now.rows.now) (rows_in draft.now.rows.now)) (Some r) }
+        → IsLeast (BadIdentities (files_in draft.now.rows.now) (rows_in draft.now.rows.now)) (Some r) }
     ensures built { result ≢ Err PatternBuild }
 {
     let bases = read_bases(alloc, draft)?;
@@ -49,8 +49,8 @@ fn read_hierarchy(alloc: Global, draft: &Draft<'_, '_, '_>) -> Result<Hierarchy,
 /// that is derived from itself.
 pub fn identities<'a, 'b>(alloc: Global, rows: &Rows<'a, 'b>) -> Result<Identities<'a>, Stop>
     ensures made { IfOk result (AreIdentities (lent_in rows.now)) }
-    ensures clear { OnOk result (IsLeast (BadFive (files_in rows.now) (rows_in rows.now)) None) }
-    ensures refusal { (r : Refusal) → result ≡ Err (Fault r) → IsLeast (BadFive (files_in rows.now) (rows_in rows.now)) (Some r) }
+    ensures clear { OnOk result (IsLeast (BadIdentities (files_in rows.now) (rows_in rows.now)) None) }
+    ensures refusal { (r : Refusal) → result ≡ Err (Fault r) → IsLeast (BadIdentities (files_in rows.now) (rows_in rows.now)) (Some r) }
     ensures built { result ≢ Err PatternBuild }
 {
     let draft = Draft::read(alloc, rows)?;

@@ -4,7 +4,7 @@ ghost use Rattle.yv_statement.specs.Order.{IsLeast};
 ghost use Rattle.yv_selection.specs.Choice.{Choice};
 ghost use Rattle.yv_rows.specs.Files.{Files, Briefs};
 ghost use Rattle.yv_rows.specs.Rows.{Row};
-ghost use Rattle.yv_features.specs.Faults.{BadFour};
+ghost use Rattle.yv_features.specs.Faults.{BadFeatures};
 ghost use Rattle.yv_features.specs.On.{Holds};
 ghost use Rattle.yv_identities.specs.References.{IsDerived, ref_of};
 ghost use Rattle.yv_identities.specs.declared.references.IdentityRef.{IdentityRef};
@@ -13,7 +13,7 @@ ghost use Rattle.yv_identityref.specs.Values.{Truth, HasValue};
 
 /// Where nothing is refused of the features, a type has the same values by whatever tells the truth of conditions.
 pub fn a_type_has_its_values()
-    ensures { (files : Files) (choice : Choice) (t u : Truth) → IsLeast (BadFour files) None
+    ensures { (files : Files) (choice : Choice) (t u : Truth) → IsLeast (BadFeatures files) None
         → ((file : ℕ) (text : List ℕ) → Holds files choice file text (t file text))
         → ((file : ℕ) (text : List ℕ) → Holds files choice file text (u file text))
         → (number : ℕ) (home called : List ℕ) → HasValue t choice files number home called → HasValue u choice files number home called }

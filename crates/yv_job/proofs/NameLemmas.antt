@@ -8,7 +8,8 @@ use Rattle.std.proofs.lemmas.List.Splits.{slice_split_none, slice_split_at, join
 use Rattle.std.proofs.lemmas.List.Folds.{list_all-map}
 use Rattle.std.proofs.Math.Dec.{eqb}
 use Rattle.std.proofs.lemmas.Bool.{eqb-true, eq-eqb}
-use Rattle.yv_job.specs.Names.{is_first_byte, is_later_byte, is_identifier, IsIdentifier, IsNames, entry_text, HasIdentifiers, IsEntry, IsSupport}
+use Rattle.yv_condition.specs.Names.{is_identifier, is_part, is_start}
+use Rattle.yv_job.specs.Names.{IsIdentifier, IsNames, entry_text, HasIdentifiers, IsEntry, IsSupport}
 use Rattle.yv_selection.specs.Choice.{Entry}
 
 both : (a b : Bool) → (a && b) ≡ true → (a ≡ true) × (b ≡ true)
@@ -16,9 +17,9 @@ both true true h = (refl, refl)
 both true false h = cc
 both false b h = cc
 
-other_by : (c b : ℕ) → is_later_byte c ≡ false → is_later_byte b ≡ true → (t : Bool) → eqb b c ≡ t → t ≡ false
+other_by : (c b : ℕ) → is_part c ≡ false → is_part b ≡ true → (t : Bool) → eqb b c ≡ t → t ≡ false
 other_by c b n y true e =
-    let h : is_later_byte c ≡ true = subst (λ x. is_later_byte x ≡ true) (eqb-true b c e) y in
+    let h : is_part c ≡ true = subst (λ x. is_part x ≡ true) (eqb-true b c e) y in
     let g : false ≡ true = sym n ∙ h in cc
 other_by c b n y false e = refl
 
@@ -26,23 +27,23 @@ other_by c b n y false e = refl
 abbrev pub Free : ℕ → List ℕ → Type 0
 Free c text = All (λ b. eqb b c ≡ false) text
 
-free_later : (c : ℕ) → is_later_byte c ≡ false → (bs : List ℕ) → list_all is_later_byte bs ≡ true → Free c bs
+free_later : (c : ℕ) → is_part c ≡ false → (bs : List ℕ) → list_all is_part bs ≡ true → Free c bs
 free_later c n [] h = All-nil (λ x. eqb x c ≡ false)
 free_later c n (b ∷ bs) h =
-    let p = both (is_later_byte b) (list_all is_later_byte bs) h in
+    let p = both (is_part b) (list_all is_part bs) h in
     All-cons (λ x. eqb x c ≡ false) b bs (other_by c b n p.0 (eqb b c) refl) (free_later c n bs p.1)
 
-later_first : (b : ℕ) → is_first_byte b ≡ true → is_later_byte b ≡ true
-later_first b h = ap (λ t. ((t || (nat_le 48 b && nat_le b 57)) || b == 45) || b == 46) h
+later_first : (b : ℕ) → is_start b ≡ true → is_part b ≡ true
+later_first b h = grind (arith, h)
 
 -- a name lacks each byte that may not stand in one
-pub free_name : (c : ℕ) → is_later_byte c ≡ false → (t : List ℕ) → IsIdentifier t → Free c t
+pub free_name : (c : ℕ) → is_part c ≡ false → (t : List ℕ) → IsIdentifier t → Free c t
 free_name c n [] h = cc
 free_name c n (b ∷ bs) h =
-    let p = both (is_first_byte b) (list_all is_later_byte bs) h in
+    let p = both (is_start b) (list_all is_part bs) h in
     All-cons (λ x. eqb x c ≡ false) b bs (other_by c b n (later_first b p.0) (eqb b c) refl) (free_later c n bs p.1)
 
-free_names : (c : ℕ) → is_later_byte c ≡ false → (ns : List (List ℕ)) → AllByRecursion IsIdentifier ns → AllByRecursion (Free c) ns
+free_names : (c : ℕ) → is_part c ≡ false → (ns : List (List ℕ)) → AllByRecursion IsIdentifier ns → AllByRecursion (Free c) ns
 free_names c n [] a = tt
 free_names c n (t ∷ ns) a = (free_name c n t a.0, free_names c n ns a.1)
 

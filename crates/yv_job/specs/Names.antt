@@ -1,22 +1,10 @@
 -- Names and lists of them, as a command line spells them.
-use Rattle.std.specs.Prelude.{◌≡◌, ◌<◌, ◌&&◌, ◌||◌, ◌==◌, ℕ, Bool, true, false, nat_le, List, [], ◌∷◌, ◌++◌, length, map}
-use Rattle.std.specs.List.{All, list_all, join_with_byte}
+use Rattle.std.specs.Prelude.{◌≡◌, ◌<◌, ℕ, true, List, ◌∷◌, ◌++◌, length, map}
+use Rattle.std.specs.List.{All, join_with_byte}
+use Rattle.yv_condition.specs.Names.{is_identifier}
 use Rattle.yv_selection.specs.Choice.{Entry}
 
--- an ASCII letter or `_`
-abbrev pub is_first_byte : ℕ → Bool
-is_first_byte b = ((nat_le 65 b && nat_le b 90) || (nat_le 97 b && nat_le b 122)) || b == 95
-
--- the same, a digit, `-` or `.`
-abbrev pub is_later_byte : ℕ → Bool
-is_later_byte b = ((is_first_byte b || (nat_le 48 b && nat_le b 57)) || b == 45) || b == 46
-
--- one first byte, then later ones (RFC 7950, 6.2)
-abbrev pub is_identifier : List ℕ → Bool
-is_identifier [] = false
-is_identifier (b ∷ bs) = is_first_byte b && list_all is_later_byte bs
-
--- the text is an identifier
+-- the text is an identifier (RFC 7950, section 6.2)
 abbrev pub IsIdentifier : List ℕ → Type 0
 IsIdentifier t = is_identifier t ≡ true
 

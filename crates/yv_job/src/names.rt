@@ -1,10 +1,12 @@
 //! Names and lists of them in a text of the command line.
 ghost use Rattle.std.specs.Prelude.{◌≡◌, ◌<◌, ◌==◌, ◌++◌, ◌∷◌, ℕ, List, map, length, IfOk, IfSome, MatchOption, string_bytes};
 ghost use Rattle.std.specs.List.{All, AllZip, list_all, slice_split};
-ghost use Rattle.yv_job.specs.Names.{is_first_byte, is_later_byte, is_identifier, IsIdentifier, IsNames, JoinsNames, IsEntry, IsSupport};
+ghost use Rattle.yv_condition.specs.Names.{is_identifier};
+ghost use Rattle.yv_job.specs.Names.{IsIdentifier, IsNames, JoinsNames, IsEntry, IsSupport};
 ghost use Rattle.yv_selection.specs.Choice.{Entry, entry_of};
 
 use std::alloc::{AllocError, Global};
+use yv_condition::is_identifier;
 
 // The parts of a text between the places where a character stands.
 fn pieces<'a>(alloc: Global, text: &'a str, at: char) -> Result<Vec<&'a str>, AllocError>
@@ -14,31 +16,10 @@ fn pieces<'a>(alloc: Global, text: &'a str, at: char) -> Result<Vec<&'a str>, Al
     text.split(at).collect(alloc)
 }
 
-fn is_first(b: u8) -> bool
-    ensures { result ≡ is_first_byte b }
-{
-    b.is_ascii_alphabetic() || b == b'_'
-}
-
-fn is_later(b: u8) -> bool
-    ensures { result ≡ is_later_byte b }
-{
-    is_first(b) || b.is_ascii_digit() || b == b'-' || b == b'.'
-}
-
 fn is_name(text: &str) -> bool
     ensures { result ≡ is_identifier text.now }
 {
-    match text.as_bytes().split_first() {
-        None => false,
-        Some((first, rest)) => is_first(*first) && all_later(rest),
-    }
-}
-
-fn all_later(bytes: &[u8]) -> bool
-    ensures { result ≡ list_all is_later_byte bytes.now }
-{
-    bytes.iter().all(|b| is_later(*b))
+    is_identifier(text.as_bytes())
 }
 
 fn all_names(parts: &[&str]) -> bool

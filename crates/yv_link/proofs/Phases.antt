@@ -11,8 +11,8 @@ use Rattle.yv_rows.specs.Files.{Briefs, Files, brief_of}
 use Rattle.yv_rows.specs.Listed.{rows_of}
 use Rattle.yv_rows.specs.Rows.{Row}
 use Rattle.yv_modules.specs.Modules.{BadModules}
-use Rattle.yv_features.specs.Faults.{BadFour}
-use Rattle.yv_identities.specs.Faults.{BadFive}
+use Rattle.yv_features.specs.Faults.{BadFeatures}
+use Rattle.yv_identities.specs.Faults.{BadIdentities}
 use Rattle.yv_link.specs.Links.{BadLinks}
 
 abbrev failed : (A E : Type 0) → E → Result A E
@@ -63,13 +63,13 @@ module_phase files rows f (inr h) = elim h.4 [
   ]
 ]
 
-feature_phase : (files : Files) (f : Refusal) → BadFour files f → phase_of f.code ≡ 4
+feature_phase : (files : Files) (f : Refusal) → BadFeatures files f → phase_of f.code ≡ 4
 feature_phase files f h = elim h.4 [
   | inl x ↦ at_phase 4 _ code.UnknownFeature h.2.file h.2.head f refl x
   | inr x ↦ at_phase 4 _ code.FeatureCycle h.2.file h.2.head f refl x
 ]
 
-identity_phase : (files : Briefs) (rows : List Row) (f : Refusal) → BadFive files rows f → phase_of f.code ≡ 5
+identity_phase : (files : Briefs) (rows : List Row) (f : Refusal) → BadIdentities files rows f → phase_of f.code ≡ 5
 identity_phase files rows f h = elim h.4 [
   | inl x ↦ at_phase 5 _ code.UnknownIdentity h.2.file h.2.head f refl x
   | inr x ↦ at_phase 5 _ code.IdentityCycle h.2.file h.2.head f refl x
@@ -80,9 +80,9 @@ module _ (files : Files) where
   Modules f = BadModules (map brief_of files) (rows_of files) f
 
   abbrev Identities : Refusal → Type 0
-  Identities f = BadFive (map brief_of files) (rows_of files) f
+  Identities f = BadIdentities (map brief_of files) (rows_of files) f
 
-  late_phase : (f : Refusal) → BadFour files f ⊎ Identities f → 3 < phase_of f.code
+  late_phase : (f : Refusal) → BadFeatures files f ⊎ Identities f → 3 < phase_of f.code
   late_phase f (inl h) = let e : phase_of f.code ≡ 4 = feature_phase files f h in omega (arith, e)
   late_phase f (inr h) = let e : phase_of f.code ≡ 5 = identity_phase (map brief_of files) (rows_of files) f h in omega (arith, e)
 
@@ -97,16 +97,16 @@ module _ (files : Files) where
 
   pub least_modules : (r : Refusal) → IsLeast Modules (Some r) → IsLeast (BadLinks files) (Some r)
   least_modules r p =
-      ahead Modules (λ f. BadFour files f ⊎ Identities f) 3 r
+      ahead Modules (λ f. BadFeatures files f ⊎ Identities f) 3 r
       (λ f h. let e : phase_of f.code ≡ 3 = module_phase (map brief_of files) (rows_of files) f h in omega (arith, e)) late_phase p
 
-  pub least_features : (r : Refusal) → IsLeast Modules None → IsLeast (BadFour files) (Some r) → IsLeast (BadLinks files) (Some r)
+  pub least_features : (r : Refusal) → IsLeast Modules None → IsLeast (BadFeatures files) (Some r) → IsLeast (BadLinks files) (Some r)
   least_features r p q =
-      behind Modules (λ f. BadFour files f ⊎ Identities f) (Some r) p
-      (ahead (BadFour files) Identities 4 r
+      behind Modules (λ f. BadFeatures files f ⊎ Identities f) (Some r) p
+      (ahead (BadFeatures files) Identities 4 r
       (λ f h. let e : phase_of f.code ≡ 4 = feature_phase files f h in omega (arith, e))
       (λ f h. let e : phase_of f.code ≡ 5 = identity_phase (map brief_of files) (rows_of files) f h in omega (arith, e)) q)
 
-  pub least_identities : (o : Option Refusal) → IsLeast Modules None → IsLeast (BadFour files) None → IsLeast Identities o → IsLeast (BadLinks files) o
+  pub least_identities : (o : Option Refusal) → IsLeast Modules None → IsLeast (BadFeatures files) None → IsLeast Identities o → IsLeast (BadLinks files) o
   least_identities o p q r =
-      behind Modules (λ f. BadFour files f ⊎ Identities f) o p (behind (BadFour files) Identities o q r)
+      behind Modules (λ f. BadFeatures files f ⊎ Identities f) o p (behind (BadFeatures files) Identities o q r)

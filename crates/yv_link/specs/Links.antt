@@ -4,9 +4,9 @@ use Rattle.yv_statement.specs.declared.refusal.Refusal.{Refusal}
 use Rattle.yv_rows.specs.Files.{Files, brief_of}
 use Rattle.yv_rows.specs.Listed.{rows_of}
 use Rattle.yv_modules.specs.Modules.{BadModules}
-use Rattle.yv_features.specs.Faults.{BadFour}
-use Rattle.yv_identities.specs.Faults.{BadFive}
+use Rattle.yv_features.specs.Faults.{BadFeatures}
+use Rattle.yv_identities.specs.Faults.{BadIdentities}
 
 -- f is wrong with the files: with modules, imports, prefixes and submodules; with features; or with identities
 abbrev pub BadLinks : Files → Refusal → Type 0
-BadLinks files f = BadModules (map brief_of files) (rows_of files) f ⊎ (BadFour files f ⊎ BadFive (map brief_of files) (rows_of files) f)
+BadLinks files f = BadModules (map brief_of files) (rows_of files) f ⊎ (BadFeatures files f ⊎ BadIdentities (map brief_of files) (rows_of files) f)

@@ -88,8 +88,8 @@ impl<'a, 'b> Linked<'a, 'b> {
         self.identities.derived(identity, base)
     }
 
-    /// All identities that are derived from one, in the order of the statements, in time linear in identities and
-    /// bases.
+    /// All identities that are derived from one, in the order of the statements. Takes time n log n in these and in the
+    /// bases that they name among these and that one.
     pub fn descendants(
         &self,
         alloc: Global,

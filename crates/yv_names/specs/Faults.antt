@@ -30,5 +30,5 @@ abbrev pub BadIn : Briefs → List Row → Refusal → Type 0
 BadIn files rows f = Among rows (BadRow files rows) (length rows) f
 
 -- what is wrong with the names of definitions in files
-abbrev pub BadSix : Files → Refusal → Type 0
-BadSix files f = BadIn (map brief_of files) (rows_of files) f
+abbrev pub BadNames : Files → Refusal → Type 0
+BadNames files f = BadIn (map brief_of files) (rows_of files) f

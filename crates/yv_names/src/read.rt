@@ -6,7 +6,7 @@ ghost use Rattle.yv_statement.specs.Order.{IsLeast};
 ghost use Rattle.yv_statement.specs.declared.refusal.Refusal.{Refusal};
 ghost use Rattle.yv_statement.specs.declared.refusal.Stop.TheVariants.{Fault, PatternBuild};
 ghost use Rattle.yv_rows.specs.Lent.{lent_in, files_in, rows_in};
-ghost use Rattle.yv_names.specs.Faults.{BadIn, BadSix};
+ghost use Rattle.yv_names.specs.Faults.{BadIn, BadNames};
 ghost use Rattle.yv_names.specs.Refers.{RefersTo};
 ghost use Rattle.yv_names.specs.Leads.{IsOrderOf};
 ghost use Rattle.yv_names.specs.Known.{AreNames};
@@ -56,8 +56,8 @@ impl Draft<'_, '_, '_> {
 /// a uses that means nothing, a typedef or a grouping that leads to itself.
 pub fn names<'a, 'b>(alloc: Global, rows: &Rows<'a, 'b>) -> Result<Names, Stop>
     ensures made { IfOk result (AreNames (lent_in rows.now)) }
-    ensures clear { OnOk result (IsLeast (BadSix (lent_in rows.now)) None) }
-    ensures refusal { (r : Refusal) → result ≡ Err (Fault r) → IsLeast (BadSix (lent_in rows.now)) (Some r) }
+    ensures clear { OnOk result (IsLeast (BadNames (lent_in rows.now)) None) }
+    ensures refusal { (r : Refusal) → result ≡ Err (Fault r) → IsLeast (BadNames (lent_in rows.now)) (Some r) }
     ensures built { result ≢ Err PatternBuild }
 {
     let draft = Draft::read(alloc, rows)?;

@@ -23,11 +23,11 @@ use Rattle.yv_conform.specs.Texts.{is_identifier, is_part, is_start}
 use Rattle.yv_selection.specs.Choice.{Choice, is_implemented}
 use Rattle.yv_rows.specs.Files.{Brief, Briefs, Files, brief_of, is_module, named, tree_name}
 use Rattle.yv_modules.specs.Links.{is_at}
-use Rattle.yv_features.specs.Faults.{BadFour}
+use Rattle.yv_features.specs.Faults.{BadFeatures}
 use Rattle.yv_features.specs.On.{Holds}
 use Rattle.yv_link.specs.Links.{BadLinks}
 use Rattle.yv_link.proofs.Phases.{ahead, behind}
-use Rattle.yv_names.specs.Faults.{BadSix}
+use Rattle.yv_names.specs.Faults.{BadNames}
 use Rattle.yv_types.specs.Faults.{BadTypes}
 use Rattle.yv_expansion.specs.Tree.{Nodes}
 use Rattle.yv_item_marks.specs.Conditions.{Truth}
@@ -230,7 +230,7 @@ pub record HavePhases : Type 0 where
 
 -- an expression in files has one truth, where nothing is wrong with their features
 abbrev pub HasOneTruth : Type 0
-HasOneTruth = (files : Files) (choice : Choice) (file : ℕ) (text : List ℕ) (a b : Bool) → IsLeast (BadFour files) None
+HasOneTruth = (files : Files) (choice : Choice) (file : ℕ) (text : List ℕ) (a b : Bool) → IsLeast (BadFeatures files) None
     → Holds files choice file text a → Holds files choice file text b → a ≡ b
 
 -- the types of files are told in one way
@@ -259,7 +259,7 @@ module _ (choice : Choice) (files : Files) (limit : ℕ) where
   Expansion f = BadExpansion choice files limit f
 
   abbrev Names : Refusal → Type 0
-  Names f = BadSix files f ⊎ Expansion f
+  Names f = BadNames files f ⊎ Expansion f
 
   abbrev Before : Refusal → Type 0
   Before f = RefusesBeforeTypes choice files limit f
@@ -278,7 +278,7 @@ module _ (choice : Choice) (files : Files) (limit : ℕ) where
     own_phase : (f : Refusal) → Own f → phase_of f.code ≤ 2
     own_phase f h = let e : phase_of f.code ≡ 2 = file_phase h.0 h.2 f h.4 in omega (arith, e)
 
-    six_phase : (f : Refusal) → BadSix files f → phase_of f.code ≤ 6
+    six_phase : (f : Refusal) → BadNames files f → phase_of f.code ≤ 6
     six_phase f h = let e : phase_of f.code ≡ 6 = names_phase files f h in omega (arith, e)
 
     names_behind : (f : Refusal) → Names f → 5 < phase_of f.code
@@ -310,21 +310,21 @@ module _ (choice : Choice) (files : Files) (limit : ℕ) where
         (ahead (BadLinks files) Names 5 r (phases.last files) names_behind q)
 
     -- where nothing is wrong with those either, the least of their names is
-    pub least_named : (r : Refusal) → IsLeast (Among files BadFile (length files)) None → IsLeast (BadLinks files) None → IsLeast (BadSix files) (Some r)
+    pub least_named : (r : Refusal) → IsLeast (Among files BadFile (length files)) None → IsLeast (BadLinks files) None → IsLeast (BadNames files) (Some r)
         → IsLeast (RefusesBeforeTypes choice files limit) (Some r)
     least_named r p q h =
         behind Own (λ f. BadLinks files f ⊎ Names f) (Some r) p
         (behind (BadLinks files) Names (Some r) q
-        (ahead (BadSix files) Expansion 6 r six_phase (λ f x. (phases.expansion choice files limit f x).0) h))
+        (ahead (BadNames files) Expansion 6 r six_phase (λ f x. (phases.expansion choice files limit f x).0) h))
 
     -- the least before types is the least of all
     pub least_first : (r : Refusal) → IsLeast (RefusesBeforeTypes choice files limit) (Some r) → IsLeast (Refuses choice files limit) (Some r)
     least_first r p = ahead Before Later 8 r before_phase later_phase p
 
   -- where nothing is wrong with files, links and names, the least of their expansion is the least before types
-  pub least_expanded : (o : Option Refusal) → IsLeast (Among files BadFile (length files)) None → IsLeast (BadLinks files) None → IsLeast (BadSix files) None
+  pub least_expanded : (o : Option Refusal) → IsLeast (Among files BadFile (length files)) None → IsLeast (BadLinks files) None → IsLeast (BadNames files) None
       → IsLeast (BadExpansion choice files limit) o → IsLeast (RefusesBeforeTypes choice files limit) o
-  least_expanded o p q h e = behind Own (λ f. BadLinks files f ⊎ Names f) o p (behind (BadLinks files) Names o q (behind (BadSix files) Expansion o h e))
+  least_expanded o p q h e = behind Own (λ f. BadLinks files f ⊎ Names f) o p (behind (BadLinks files) Names o q (behind (BadNames files) Expansion o h e))
 
 module _ (choice : Choice) (files : Files) (limit : ℕ) (one : HasOneTruth) (before : IsLeast (RefusesBeforeTypes choice files limit) None) where
   pub one_truth : (a b : Truth) → IsTruth files choice a → IsTruth files choice b → a ≡ b

@@ -7,7 +7,7 @@ use Rattle.yv_statement.specs.declared.refusal.Code.{Code}
 use Rattle.yv_statement.specs.declared.refusal.Code.TheVariants as code
 use Rattle.yv_statement.specs.Order.{Stands, refusal_at}
 use Rattle.yv_rows.specs.Files.{Files}
-use Rattle.yv_names.specs.Faults.{BadSix}
+use Rattle.yv_names.specs.Faults.{BadNames}
 use Rattle.yv_bases.specs.Faults.{BadKinds}
 use Rattle.yv_numbers.specs.Intervals.{Interval}
 use Rattle.yv_values.specs.Types.{Plain, wholes, decimals, strings, octets}
@@ -20,7 +20,7 @@ use Rattle.yv_types.specs.Faults.{BadTypes}
 at_phase : (n : ℕ) (P : Type 0) (c : Code) (file : ℕ) (h : Head) (f : Refusal) → phase_of c ≡ n → Stands P (refusal_at c file h) f → phase_of f.code ≡ n
 at_phase n P c file h f phase s = ap (λ (r : Refusal). phase_of r.code) s.1 ∙ phase
 
-pub names_phase : (files : Files) (f : Refusal) → BadSix files f → phase_of f.code ≡ 6
+pub names_phase : (files : Files) (f : Refusal) → BadNames files f → phase_of f.code ≡ 6
 names_phase files f h = elim h.4 [
   | inl x ↦ at_phase 6 _ code.DuplicateName h.2.file h.2.head f refl x
   | inr x ↦ elim x [

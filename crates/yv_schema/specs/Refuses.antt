@@ -7,7 +7,7 @@ use Rattle.yv_conform.specs.Faults.{Bad}
 use Rattle.yv_selection.specs.Choice.{Choice}
 use Rattle.yv_rows.specs.Files.{Files}
 use Rattle.yv_link.specs.Links.{BadLinks}
-use Rattle.yv_names.specs.Faults.{BadSix}
+use Rattle.yv_names.specs.Faults.{BadNames}
 use Rattle.yv_final_tree.specs.Faults.{BadExpansion}
 use Rattle.yv_types.specs.Faults.{BadTypes}
 use Rattle.yv_item_marks.specs.Conditions.{Truth}
@@ -51,7 +51,7 @@ pub record BadSchema (choice : Choice) (files : Files) (f : Refusal) : Type 0 wh
 -- applied
 abbrev pub RefusesBeforeTypes : Choice → Files → ℕ → Refusal → Type 0
 RefusesBeforeTypes choice files limit f =
-    Among files BadFile (length files) f ⊎ (BadLinks files f ⊎ (BadSix files f ⊎ BadExpansion choice files limit f))
+    Among files BadFile (length files) f ⊎ (BadLinks files f ⊎ (BadNames files f ⊎ BadExpansion choice files limit f))
 
 -- the refusals of files; the least of them, by phase, file, offset and code, is answered. The types of every file are looked
 -- at as well, and of the implemented modules the nodes

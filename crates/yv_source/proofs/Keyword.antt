@@ -3,7 +3,8 @@ use Rattle.std.proofs.Common.{◌≡◌, ℕ, Bool, true, false, cond, ◌==◌,
 use Rattle.std.proofs.lemmas.Bool.{eqb-true, or_cases, cases_Bool}
 use Rattle.std.specs.List.{list_all}
 use Rattle.yv_source.specs.Pieces.{until, begins}
-use Rattle.yv_source.specs.Identifiers.{is_identifier, starts_identifier, continues_identifier, IsKeyword}
+use Rattle.yv_condition.specs.Names.{is_identifier, is_part, is_start}
+use Rattle.yv_source.specs.Keywords.{IsKeyword}
 use Rattle.yv_source.specs.Inner.Machine.{is_keyword, behind_colon}
 
 pub false_true : false ≡ true → ⊥
@@ -24,17 +25,17 @@ no_colon p without b h =
       | inr e ↦ e
     ]
 
-until_colon : (p n : List ℕ) → list_all continues_identifier p ≡ true → until (begins 58) (p ++ 58 ∷ n) ≡ p
+until_colon : (p n : List ℕ) → list_all is_part p ≡ true → until (begins 58) (p ++ 58 ∷ n) ≡ p
 until_colon [] n h = refl
 until_colon (b ∷ p) n h =
-    ap (λ v. cond v [] (b ∷ until (begins 58) (p ++ 58 ∷ n))) (no_colon continues_identifier refl b (and_first (continues_identifier b) (list_all continues_identifier p) h))
-    ∙ ap (λ l. b ∷ l) (until_colon p n (and_second (continues_identifier b) (list_all continues_identifier p) h))
+    ap (λ v. cond v [] (b ∷ until (begins 58) (p ++ 58 ∷ n))) (no_colon is_part refl b (and_first (is_part b) (list_all is_part p) h))
+    ∙ ap (λ l. b ∷ l) (until_colon p n (and_second (is_part b) (list_all is_part p) h))
 
-behind_first : (p n : List ℕ) → list_all continues_identifier p ≡ true → behind_colon (p ++ 58 ∷ n) ≡ n
+behind_first : (p n : List ℕ) → list_all is_part p ≡ true → behind_colon (p ++ 58 ∷ n) ≡ n
 behind_first [] n h = refl
 behind_first (b ∷ p) n h =
-    ap (λ v. cond v (p ++ 58 ∷ n) (behind_colon (p ++ 58 ∷ n))) (no_colon continues_identifier refl b (and_first (continues_identifier b) (list_all continues_identifier p) h))
-    ∙ behind_first p n (and_second (continues_identifier b) (list_all continues_identifier p) h)
+    ap (λ v. cond v (p ++ 58 ∷ n) (behind_colon (p ++ 58 ∷ n))) (no_colon is_part refl b (and_first (is_part b) (list_all is_part p) h))
+    ∙ behind_first p n (and_second (is_part b) (list_all is_part p) h)
 
 or_first : (x y : Bool) → x ≡ true → (x || y) ≡ true
 or_first x y h = ap (λ v. v || y) h
@@ -46,15 +47,15 @@ or_second false y h = h
 both : (x y : Bool) → x ≡ true → y ≡ true → (x && y) ≡ true
 both x y h k = ap (λ v. v && y) h ∙ k
 
-or_starts : (b : ℕ) → starts_identifier b ≡ true → continues_identifier b ≡ true
+or_starts : (b : ℕ) → is_start b ≡ true → is_part b ≡ true
 or_starts b h = grind (arith, h)
 
-all_of_identifier : (p : List ℕ) → is_identifier p ≡ true → list_all continues_identifier p ≡ true
+all_of_identifier : (p : List ℕ) → is_identifier p ≡ true → list_all is_part p ≡ true
 all_of_identifier [] h = refl
 all_of_identifier (b ∷ p) h =
-    let s : Bool = starts_identifier b in
-    let r : Bool = list_all continues_identifier p in
-    both (continues_identifier b) r (or_starts b (and_first s r h)) (and_second s r h)
+    let s : Bool = is_start b in
+    let r : Bool = list_all is_part p in
+    both (is_part b) r (or_starts b (and_first s r h)) (and_second s r h)
 
 pub keyword_test : (w : List ℕ) → IsKeyword w → is_keyword w ≡ true
 keyword_test w (inl h) = or_first (is_identifier w) (is_identifier (until (begins 58) w) && is_identifier (behind_colon w)) h

@@ -3,7 +3,7 @@ use Rattle.std.specs.Prelude.{◌≡◌, ℕ, ◌+◌, ◌≤◌, max, List, [],
 use Rattle.yv_statement.specs.Tree.{Head, Forest, End, Then, Tree}
 use Rattle.yv_source.specs.Place.{line_of, column_of}
 use Rattle.yv_source.specs.Quoted.{quoted}
-use Rattle.yv_source.specs.Identifiers.{IsKeyword}
+use Rattle.yv_source.specs.Keywords.{IsKeyword}
 use Rattle.yv_source.specs.Pieces.{Piece, Word, Single, Double, Semicolon, Open, Close, Plus, Token}
 
 -- a token is a statement's keyword, which stands at this line and offset

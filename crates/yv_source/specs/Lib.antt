@@ -4,7 +4,7 @@ pub mod Characters
 pub mod Escapes
 pub mod File
 pub mod Grammar
-pub mod Identifiers
+pub mod Keywords
 pub mod Legal
 pub mod Order
 pub mod Outcome

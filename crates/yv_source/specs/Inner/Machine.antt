@@ -6,7 +6,7 @@ use Rattle.yv_source.specs.Characters.{colon}
 use Rattle.yv_source.specs.Place.{line_of}
 use Rattle.yv_source.specs.Pieces.{Piece, Word, Single, Double, Semicolon, Open, Close, Plus, until, begins, Token}
 use Rattle.yv_source.specs.Quoted.{quoted}
-use Rattle.yv_source.specs.Identifiers.{is_identifier}
+use Rattle.yv_condition.specs.Names.{is_identifier}
 use Rattle.yv_source.specs.Inner.Place.{place_of}
 use Rattle.yv_source.specs.declared.place.Place.{Place}
 use Rattle.yv_source.specs.declared.machine.Phase.{Phase}
