@@ -1,5 +1,6 @@
 -- What is kept of the nodes above one.
-use Rattle.std.specs.Prelude.{ℕ, Bool, Option, List, [], ◌∷◌}
+use Rattle.std.specs.Prelude.{ℕ, Bool, Option, None, Some, List, [], ◌∷◌}
+use Rattle.yv_properties.specs.Defined.{Defined}
 use Rattle.yv_properties.specs.Steps.{Step}
 use Rattle.yv_nodes.specs.Member.{data_home}
 use Rattle.yv_nodes.specs.Tree.{Label}
@@ -22,6 +23,11 @@ nearest_home (l ∷ ls) = l.home
 abbrev pub nearest_keys : List Label → List (Option Step)
 nearest_keys [] = []
 nearest_keys (l ∷ ls) = l.defined.keys
+
+-- what the key of a node names, if there is a node
+abbrev pub keys_of : Option Defined → List (Option Step)
+keys_of None = []
+keys_of (Some d) = d.keys
 
 -- what is seen of these nodes, the nearest first
 abbrev pub seen_of : List Label → Seen

@@ -9,11 +9,11 @@ ghost use Rattle.yv_nodes.specs.Member.{data_home, is_home, row_with};
 ghost use Rattle.yv_above.specs.Labels.{has_key_called, in_input, is_configuration, label_of};
 ghost use Rattle.yv_above.specs.Above.{seen_of};
 
-use std::alloc::{AllocError, Global};
+use std::alloc::AllocError;
 use std::marker::Model;
-use std::rc::{Rc, RcStr};
+use std::rc::RcStr;
 use yv_nodes::Standing;
-use yv_properties::{Definition, Keys, NodeKind};
+use yv_properties::{Definition, NodeKind};
 
 /// What the nodes above a schema node make of it. Contracts see it as what is seen of these nodes.
 #[derive(Drop)]
@@ -26,12 +26,12 @@ pub struct Above {
     is_config: bool,
     in_operation: bool,
     in_input: bool,
-    // The keys of the node just above.
-    keys: Rc<Keys>,
+    // What is said of the node just above, if there is one.
+    node: Option<Definition>,
 }
 
 impl Model for Above {
-    ghost use Rattle.yv_above.specs.Above.{Seen};
+    ghost use Rattle.yv_above.specs.Above.{Seen, keys_of};
 
     ghost Value = { Seen };
 
@@ -41,24 +41,23 @@ impl Model for Above {
       is_config = a.is_config;
       in_operation = a.in_operation;
       in_input = a.in_input;
-      keys = a.keys.value;
+      keys = keys_of a.node;
     } };
 }
 
 impl Above {
     /// No nodes: what stands at the top has none above it.
-    pub fn top(alloc: Global) -> Result<Above, AllocError>
-        ensures { IfOk result (λ above. above ≡ seen_of []) }
+    pub fn top() -> Above
+        ensures { result ≡ seen_of [] }
     {
-        let keys = Keys::of(alloc, Vec::new(alloc))?;
-        Ok(Above {
+        Above {
             around: None,
             home: 0,
             is_config: true,
             in_operation: false,
             in_input: false,
-            keys: Rc::new(alloc, keys)?,
-        })
+            node: None,
+        }
     }
 
     /// How the node that a statement defines stands below these nodes, being of the module of which this is the number of the file.
@@ -115,14 +114,24 @@ impl Above {
         }
         let bare = definition.shared_name()?;
         let name = definition.shared_name()?;
-        Ok(self.has_bare_key(home, bare) || self.keys.contains(Some(home), name))
+        Ok(self.has_bare_key(home, bare) || self.has_key_step(Some(home), name))
     }
 
     // Whether the list just above has a key of this name without a prefix, and is of this module.
     fn has_bare_key(&self, home: u32, name: RcStr) -> bool
         ensures { result ≡ (home == self.now.home && has_step None (rc_str_bytes name) self.now.keys) }
     {
-        home == self.home && self.keys.contains(None, name)
+        home == self.home && self.has_key_step(None, name)
+    }
+
+    // Whether the list just above has a key that is written with this module, or without one, and this name.
+    fn has_key_step(&self, home: Option<u32>, name: RcStr) -> bool
+        ensures { result ≡ has_step home (rc_str_bytes name) self.now.keys }
+    {
+        match &self.node {
+            Some(node) => node.has_key_step(home, name),
+            None => false,
+        }
     }
 
     /// These nodes and, just below them, the one that a statement defines, which is of this module and stands so.
@@ -146,7 +155,7 @@ impl Above {
             is_config: standing.is_config,
             in_operation: kind.is_operation() || self.in_operation,
             in_input: standing.is_input,
-            keys: definition.keys.clone()?,
+            node: Some(definition.share()?),
         })
     }
 }

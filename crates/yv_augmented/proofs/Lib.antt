@@ -11,6 +11,8 @@ pub mod Ending
 pub mod Turning
 pub mod Missing
 pub mod Meaning
+pub mod Differing
+pub mod Aiming
 pub mod Configuring
 pub mod Given
 pub mod Deciding

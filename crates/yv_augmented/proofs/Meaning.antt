@@ -2,10 +2,10 @@
 use Rattle.std.proofs.Common.{◌≡◌, ℕ, ◌+◌, ◌<◌, List, [], ◌∷◌, ◌++◌, length, drop, refl, sym, ◌∙◌, ap, arith, Some}
 use Rattle.std.specs.List.{slice_get}
 use Rattle.yv_augments.specs.declared.label.Label.{Label}
+use Rattle.yv_refinements.specs.Meant.{Refined}
 use Rattle.yv_augmented.specs.Grafted.{placed_from}
 use Rattle.yv_augmented.specs.Refining.{refined_at, refined_from}
 use Rattle.yv_augmented.specs.Spots.{Whole}
-use Rattle.yv_augmented.specs.declared.refined.Refined.{Refined}
 use Rattle.yv_augmented.specs.declared.spot.Spot.{Spot}
 use Rattle.yv_augmented.proofs.Reading.{rest_of}
 

@@ -6,6 +6,7 @@ use Rattle.yv_augments.specs.Turns.{State}
 use Rattle.yv_augments.specs.Placed.{StandOnce}
 use Rattle.yv_augments.specs.Tree.{AreRows}
 use Rattle.yv_augments.specs.InnerState.{IsGrafting}
+use Rattle.yv_refinements.specs.Meant.{all_meant}
 use Rattle.yv_augmented.specs.Spots.{Whole, labels_of, laid}
 use Rattle.yv_augmented.specs.Ends.{end_at}
 use Rattle.yv_augmented.specs.Grafted.{AreGrafted}
@@ -21,7 +22,7 @@ pub record AreGrafts (w : Whole) (items : List Item) (st : State) (grafts : Graf
   pub once : StandOnce (length items) st.groups
   pub spots : grafts.spots.items ≡ (laid w items).spots
   pub missing : (i : ℕ) → IsLeast (MissesAt w (laid w items) (end_at items i) i) (slice_index_or grafts.missing.items i None)
-  pub refined : grafts.refined.items ≡ refined_all w items
+  pub refined : all_meant grafts.refined ≡ refined_all w items
   pub grafting : IsGrafting (labels_of (laid w items).spots) st grafts.grafting
 
 -- this is the final tree of items that stand so
@@ -29,5 +30,5 @@ pub record AreGrown (w : Whole) (items : List Item) (st : State) (grown : Grown)
   pub grafted : AreGrafted w items st
   pub tree : AreRows st.groups grown.tree.items
   pub spots : grown.spots.items ≡ (laid w items).spots
-  pub refined : grown.refined.items ≡ refined_all w items
+  pub refined : all_meant grown.refined ≡ refined_all w items
   pub missing : (i : ℕ) → IsLeast (MissesAt w (laid w items) (end_at items i) i) (slice_index_or grown.missing.items i None)

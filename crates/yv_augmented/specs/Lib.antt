@@ -20,3 +20,6 @@ pub mod InnerEnds
 pub mod Untargeted
 pub mod InnerTurns
 pub mod Refining
+pub mod InnerPaths
+pub mod InnerDifferent
+pub mod InnerAims

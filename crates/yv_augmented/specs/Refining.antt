@@ -10,11 +10,11 @@ use Rattle.yv_augments.specs.declared.end.End.TheVariants.{Node, Start}
 use Rattle.yv_augments.specs.declared.label.Label.{Label}
 use Rattle.yv_augments.specs.Paths.{ended}
 use Rattle.yv_augments.specs.Turns.{State}
+use Rattle.yv_refinements.specs.Meant.{Refined}
 use Rattle.yv_augmented.specs.Ends.{end_at}
 use Rattle.yv_augmented.specs.Grafted.{path_in, placed_from}
 use Rattle.yv_augmented.specs.Kinds.{is_uses}
 use Rattle.yv_augmented.specs.Spots.{Laid, Whole, labels_of, laid}
-use Rattle.yv_augmented.specs.declared.refined.Refined.{Refined}
 use Rattle.yv_augmented.specs.declared.spot.Spot.{Spot}
 
 abbrev pub is_refine : Row → Bool

@@ -1,6 +1,5 @@
 //! Where items stand when all augments were applied.
 ghost use Rattle.std.specs.Prelude.{◌≡◌, ◌≤◌, ◌<◌, ◌+◌, ◌++◌, ℕ, true, List, length, map, if◌then◌else◌, None, replicate, set, slice_index_or, IfOk, OnOk};
-ghost use Rattle.std.specs.Option.{option_and_then};
 ghost use Rattle.yv_statement.specs.Order.{IsLeast};
 ghost use Rattle.yv_statement.specs.declared.refusal.Code.TheVariants.{AugmentTarget};
 ghost use Rattle.yv_rows.specs.Lent.{files_in, rows_in};
@@ -15,19 +14,21 @@ ghost use Rattle.yv_augmented.specs.Giving.{is_giving};
 ghost use Rattle.yv_augmented.specs.Known.{AreGrafts, AreGrown};
 ghost use Rattle.yv_augmented.specs.Untargeted.{MissesAt, MissesOf, limit_of, reached};
 ghost use Rattle.yv_augmented.specs.InnerTurns.{one_turn};
-ghost use Rattle.yv_augmented.specs.Refining.{meant, node_at, refined, refined_at};
+ghost use Rattle.yv_augmented.specs.Refining.{refined};
+ghost use Rattle.yv_refinements.specs.Meant.{all_meant};
 
+use crate::aims::Aims;
 use crate::ends::ends;
 use crate::faults::{is_absent, refused_at};
 use crate::grown::Grown;
 use crate::kinds::is_uses;
 use crate::laying::Layout;
 use crate::plan::Plan;
-use crate::refined::Refined;
 use crate::spot::Spot;
 use std::alloc::{AllocError, Global};
-use yv_augments::{End, Grafting, Label};
+use yv_augments::{Grafting, Label};
 use yv_expansion::Item;
+use yv_refinements::Refinements;
 use yv_rows::Rows;
 use yv_statement::{Code, Refusal, lesser};
 
@@ -43,16 +44,6 @@ fn end_of(ends: &[usize], number: usize) -> usize
     ensures { result ≡ slice_index_or ends.now number 0 }
 {
     ends.get(number).copied().unwrap_or(0)
-}
-
-// The node at which a path ends; a case that is left out is none.
-fn node_at(end: Option<End>) -> Option<usize>
-    ensures { result ≡ option_and_then node_at end }
-{
-    match end {
-        Some(End::Node(item)) => Some(item),
-        _ => None,
-    }
 }
 
 // So many items without a refusal.
@@ -90,7 +81,7 @@ fn labels(alloc: Global, spots: &[Spot]) -> Result<Vec<Label>, AllocError>
 struct Placing {
     grafting: Grafting,
     missing: Vec<Option<Refusal>>,
-    refined: Vec<Refined>,
+    refined: Refinements,
 }
 
 impl Plan<'_, '_, '_> {
@@ -184,51 +175,6 @@ impl Plan<'_, '_, '_> {
         Ok(refused_at(self.rows, Code::AugmentTarget, bad, augment))
     }
 
-    // The node that a refine of a uses means.
-    fn meant(
-        &self,
-        alloc: Global,
-        grafting: &Grafting,
-        spot: &Spot,
-        end: usize,
-        refine: usize,
-    ) -> Result<Option<usize>, AllocError>
-        requires { IsPlan self.now }
-        ensures { (labels : List Label) (st : State) → IsGrafting labels st grafting.now
-            → IfOk result (λ target. target ≡ meant (whole_in self.now) labels spot.now end refine st) }
-    {
-        let path = self.path(alloc, spot.home, refine)?;
-        Ok(node_at(grafting.walk(spot.group, end, &path)))
-    }
-
-    // Notes what the refines of an item mean, if it is a uses.
-    fn refine_all(
-        &self,
-        alloc: Global,
-        grafting: &Grafting,
-        spot: &Spot,
-        item: usize,
-        end: usize,
-        refined: &mut Vec<Refined>,
-    ) -> Result<(), AllocError>
-        requires { IsPlan self.now }
-        ensures { (labels : List Label) (st : State) → IsGrafting labels st grafting.now
-            → OnOk result (refined.new.items ≡ refined.old.items ++ refined_at (whole_in self.now) labels spot.now item end st) }
-    {
-        if !is_uses(spot.label.kind) {
-            return Ok(());
-        }
-        for refine in self.refines_in(spot.statement) {
-            let target = self.meant(alloc, grafting, spot, end, *refine)?;
-            refined.push(Refined {
-                item,
-                refine: *refine,
-                target,
-            })?;
-        }
-        Ok(())
-    }
-
     // The turns of the augments of a uses, in order. The least refusal of one that adds to no node.
     fn turns(
         &self,
@@ -269,19 +215,19 @@ impl Plan<'_, '_, '_> {
             → IsLeast (MissesAt (whole_in self.now) (laid_in layout.now) (slice_index_or ends.now i 0) i)
             (slice_index_or told.missing.items i None)) }
         ensures refined { IfOk result (λ told.
-            told.refined.items ≡ refined (whole_in self.now) (laid_in layout.now) (λ i. slice_index_or ends.now i 0)) }
+            all_meant told.refined ≡ refined (whole_in self.now) (laid_in layout.now) (λ i. slice_index_or ends.now i 0)) }
     {
         yv_augments::laws::turns_keep_augments();
         let labels = labels(alloc, &layout.spots)?;
         let mut grafting = Grafting::new(alloc, labels, layout.copies)?;
         let mut missing = none_missing(alloc, layout.spots.len())?;
-        let mut refined = Vec::new(alloc);
+        let mut aims = Aims::new(alloc);
         let mut left = layout.spots.len();
         while left > 0 {
             left -= 1;
             let spot = &layout.spots[left];
             let end = end_of(ends, left);
-            self.refine_all(alloc, &grafting, spot, left, end, &mut refined)?;
+            self.refine_all(alloc, &grafting, spot, left, end, &mut aims)?;
             let refusal = self.turns(alloc, &mut grafting, spot, end)?;
             note(&mut missing, left, refusal);
             grafting.enter(left, spot.group)?;
@@ -289,7 +235,7 @@ impl Plan<'_, '_, '_> {
         Ok(Placing {
             grafting,
             missing,
-            refined,
+            refined: aims.refinements,
         })
     }
 
@@ -313,7 +259,7 @@ pub struct Grafts {
     spots: Vec<Spot>,
     // Of each item the least refusal of its augments, if it is a uses.
     missing: Vec<Option<Refusal>>,
-    refined: Vec<Refined>,
+    refined: Refinements,
     grafting: Grafting,
 }
 

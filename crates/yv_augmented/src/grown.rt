@@ -7,9 +7,9 @@ ghost use Rattle.yv_augmented.specs.Known.{AreGrown};
 ghost use Rattle.yv_augmented.specs.Spots.{Whole};
 ghost use Rattle.yv_augmented.specs.Untargeted.{Untargeted};
 
-use crate::refined::Refined;
 use crate::spot::Spot;
 use yv_augments::Row;
+use yv_refinements::Refinements;
 use yv_statement::{Refusal, lesser};
 
 /// The final tree when all augments were applied, and what was known of items and refines before.
@@ -18,8 +18,8 @@ pub struct Grown {
     /// What was known of each item before any augment was applied.
     pub spots: Vec<Spot>,
     /// What the refines of each `uses` mean, those of an inner one before those of an outer one: the node at which the path of each ends,
-    /// among what the `uses` gives before its own augments.
-    pub refined: Vec<Refined>,
+    /// among what the `uses` gives before its own augments. Copies of one `uses` in one module share what its refines aim at.
+    pub refined: Refinements,
     /// The final tree in order: each item before those below it, children in the order of their numbers. A uses is among them, with
     /// nothing below it: what it gives stands beside it, behind it. What an augment without a target gives isn't among them.
     pub tree: Vec<Row>,

@@ -1,9 +1,12 @@
 //! What augments make of the expansion of files: where each item stands when those of each uses were applied, and then those of
 //! modules in rounds (RFC 7950, sections 7.13 and 7.17). Takes time n log n in statements and items, an augment of a uses being
-//! counted once for each copy; one that gives nothing takes time for its path, and no memory.
+//! counted once for each copy; one that gives nothing takes time for its path, and no memory. The refines of a uses are read once for
+//! each module to which copies of it belong, and of their paths each different one is followed once for each copy.
 #![tactic(auto)]
 
+mod aims;
 mod asked;
+mod different;
 mod ends;
 mod faults;
 mod giving;
@@ -15,7 +18,6 @@ pub mod laws;
 mod laying;
 mod misplaced;
 mod plan;
-mod refined;
 mod remains;
 mod spot;
 
@@ -25,6 +27,5 @@ pub use grafts::{Grafts, graft};
 pub use grown::Grown;
 pub use imposing::{Marks, first_imposed};
 pub use misplaced::first_misplaced;
-pub use refined::Refined;
 pub use remains::left;
 pub use spot::Spot;

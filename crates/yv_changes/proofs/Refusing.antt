@@ -1,6 +1,7 @@
 -- The refusal of one refine.
 use Rattle.std.proofs.Common.{◌≡◌, ℕ, inl, inr, Bool, true, false, cond, List, Option, Some, None, refl, sym, ◌∙◌, ap}
 use Rattle.std.specs.List.{slice_get}
+use Rattle.std.specs.Option.{option_map}
 use Rattle.std.specs.BTreeSet.{BTreeSet, contains}
 use Rattle.std.specs.Ordering.{nat_cmp}
 use Rattle.std.proofs.lemmas.Option.{same_Some}
@@ -13,11 +14,13 @@ use Rattle.yv_rows.specs.Files.{Files}
 use Rattle.yv_rows.specs.Rows.{Row}
 use Rattle.yv_rows.specs.Listed.{rows_of}
 use Rattle.yv_augments.specs.declared.row.Row.{Row as Standing}
-use Rattle.yv_augmented.specs.declared.refined.Refined.{Refined}
 use Rattle.yv_augmented.specs.declared.spot.Spot.{Spot}
+use Rattle.yv_refinements.specs.Meant.{Refined}
 use Rattle.yv_changes.specs.Changes.{is_fit_for}
 use Rattle.yv_changes.specs.Faults.{IsThere, IsWrong}
-use Rattle.yv_changes.specs.InnerFaults.{AreItems, code_of, refusal_by}
+use Rattle.yv_changes.specs.InnerAlike.{is_fit_at, way_by}
+use Rattle.yv_changes.specs.InnerFaults.{AreItems, code_at, refusal_by}
+use Rattle.yv_changes.proofs.Copying.{fit_for_at}
 
 -- the only refusal that stands is the least
 least_alone : (P : Refusal → Type 0) (r : Refusal) → P r → ((s : Refusal) → P s → s ≡ r) → IsLeast P (Some r)
@@ -49,8 +52,8 @@ module _ (files : Files) (spots : List Spot) (tree : List Standing) (x : Refined
   ]
 
   -- what stands for a refine of a uses that is there
-  pub least_there : IsThere tree x.item → IsLeast (IsWrong files spots tree x) (refusal_by (code_of files spots x.refine x.target) (slice_get (rows_of files) x.refine))
-  least_there there = by x.target refl
+  pub least_there : (targets : List (Option ℕ)) → IsThere tree x.item → IsLeast (IsWrong files spots tree x) (refusal_by (code_at files x.refine (way_by spots targets x.target)) (slice_get (rows_of files) x.refine))
+  least_there targets there = by x.target refl
     where
       by_row : (o : Option Row) (c : Code) → slice_get (rows_of files) x.refine ≡ o → ((r : Row) → slice_get (rows_of files) x.refine ≡ Some r → IsLeast (IsWrong files spots tree x) (Some (refusal_at c r.file r.head))) → IsLeast (IsWrong files spots tree x) (refusal_by (Some c) o)
       by_row None c at h = no_row at
@@ -60,9 +63,9 @@ module _ (files : Files) (spots : List Spot) (tree : List Standing) (x : Refined
       by_fit i true means fit = fits i means fit
       by_fit i false means fit = by_row (slice_get (rows_of files) x.refine) code.BadRefine refl (λ r at. misfit r i there at means fit)
 
-      by : (o : Option ℕ) → x.target ≡ o → IsLeast (IsWrong files spots tree x) (refusal_by (code_of files spots x.refine o) (slice_get (rows_of files) x.refine))
+      by : (o : Option ℕ) → x.target ≡ o → IsLeast (IsWrong files spots tree x) (refusal_by (code_at files x.refine (way_by spots targets o)) (slice_get (rows_of files) x.refine))
       by None none = by_row (slice_get (rows_of files) x.refine) code.RefineTarget refl (λ r at. untargeted r there at none)
-      by (Some i) means = by_fit i (is_fit_for files spots x.refine i) means refl
+      by (Some i) means = by_fit i (is_fit_at files (option_map (λ s. s.statement) (slice_get spots i)) x.refine) means (fit_for_at files spots x.refine i)
 
   -- nothing is wrong with one of a uses that isn't there
   pub least_absent : (items : BTreeSet ℕ) → AreItems items tree → contains nat_cmp items x.item ≡ false → IsLeast (IsWrong files spots tree x) None

@@ -3,7 +3,7 @@ use Rattle.std.specs.Prelude.{ℕ, ◌+◌, ◌==◌, ◌&&◌, Bool, false, Lis
 use Rattle.std.specs.Option.{option_and_then}
 use Rattle.yv_rows.specs.Files.{Files}
 use Rattle.yv_rows.specs.Listed.{rows_of, statements_of}
-use Rattle.yv_augmented.specs.declared.refined.Refined.{Refined}
+use Rattle.yv_refinements.specs.Meant.{Refined}
 use Rattle.yv_augmented.specs.declared.spot.Spot.{Spot}
 use Rattle.yv_changes.specs.Fit.{fit_by}
 

@@ -7,7 +7,7 @@ use Rattle.yv_rows.specs.Files.{Files}
 use Rattle.yv_rows.specs.Listed.{rows_of}
 use Rattle.yv_augments.specs.declared.row.Row.{Row as Standing}
 use Rattle.yv_augmented.specs.Faults.{Refused}
-use Rattle.yv_augmented.specs.declared.refined.Refined.{Refined}
+use Rattle.yv_refinements.specs.Meant.{Refined}
 use Rattle.yv_augmented.specs.declared.spot.Spot.{Spot}
 use Rattle.yv_changes.specs.Changes.{is_fit_for}
 

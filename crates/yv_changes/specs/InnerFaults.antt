@@ -1,8 +1,10 @@
--- Only private clauses cite this: the items of the final tree as a set, and what is wrong with one refine.
-use Rattle.std.specs.Prelude.{◌≡◌, ℕ, true, List, if◌then◌else◌, Option, Some, None}
+-- Only private clauses cite this: the items of the final tree as a set, and what is wrong with the refines of copies that are alike.
+use Rattle.std.specs.Prelude.{◌≡◌, ℕ, true, List, length, map, if◌then◌else◌, Option, Some, None, slice_get}
+use Rattle.std.specs.declared.alloc.Global.{Global}
+use Rattle.std.specs.declared.vec.Vec.{Vec}
 use Rattle.std.specs.BTreeSet.{BTreeSet, contains}
 use Rattle.std.specs.Ordering.{nat_cmp}
-use Rattle.yv_statement.specs.Order.{refusal_at}
+use Rattle.yv_statement.specs.Order.{IsLeast, refusal_at}
 use Rattle.yv_statement.specs.declared.refusal.Code.{Code}
 use Rattle.yv_statement.specs.declared.refusal.Code.TheVariants as code
 use Rattle.yv_statement.specs.declared.refusal.Refusal.{Refusal}
@@ -10,21 +12,41 @@ use Rattle.yv_rows.specs.Files.{Files}
 use Rattle.yv_rows.specs.Rows.{Row}
 use Rattle.yv_augments.specs.declared.row.Row.{Row as Standing}
 use Rattle.yv_augmented.specs.declared.spot.Spot.{Spot}
-use Rattle.yv_changes.specs.Changes.{is_fit_for}
-use Rattle.yv_changes.specs.Faults.{IsThere}
+use Rattle.yv_refinements.specs.Meant.{aims_at, meant_by}
+use Rattle.yv_refinements.specs.declared.meant.Aim.{Aim}
+use Rattle.yv_changes.specs.Faults.{BadRefines, IsThere}
+use Rattle.yv_changes.specs.InnerAlike.{is_fit_at, ways_of}
+use Rattle.yv_changes.specs.declared.faults.Judged.{Judged}
+use Rattle.yv_changes.specs.declared.ways.Way.{Way}
 
 -- these are the numbers of the items of the final tree
 pub record AreItems (items : BTreeSet ℕ) (tree : List Standing) : Type 0 where
   pub there : (item : ℕ) → contains nat_cmp items item ≡ true → IsThere tree item
   pub all : (item : ℕ) → IsThere tree item → contains nat_cmp items item ≡ true
 
--- what is wrong with a refine that means this item, if anything is
-abbrev pub code_of : Files → List Spot → (refine : ℕ) → (target : Option ℕ) → Option Code
-code_of files spots refine None = Some code.RefineTarget
-code_of files spots refine (Some item) = if is_fit_for files spots refine item then None else Some code.BadRefine
+-- what is wrong with a refine at copies that agree on where its path leads, if anything is
+abbrev pub code_at : Files → (refine : ℕ) → Option Way → Option Code
+code_at files refine None = Some code.RefineTarget
+code_at files refine (Some w) = if is_fit_at files w.statement refine then None else Some code.BadRefine
 
 -- the refusal of a statement with which this is wrong
 abbrev pub refusal_by : Option Code → Option Row → Option Refusal
 refusal_by None row = None
 refusal_by (Some c) None = None
 refusal_by (Some c) (Some r) = Some (refusal_at c r.file r.head)
+
+-- the least refusal of the refines of each copy that is there and agrees on these ways
+abbrev pub IsLeastOf : Files → List Aim → List (Option Way) → Option Refusal → Type 0
+IsLeastOf files aims ways least =
+    (spots : List Spot) (targets : List (Option ℕ)) (tree : List Standing) (item : ℕ) → ways ≡ ways_of spots targets → IsThere tree item
+    → IsLeast (BadRefines files spots (map (meant_by item targets) aims) tree) least
+
+-- what was judged of the refines of a uses
+abbrev pub IsJudged : Files → List Aim → Option Judged → Type 0
+IsJudged files aims None = Unit {0}
+IsJudged files aims (Some j) = IsLeastOf files aims j.ways.items j.least
+
+-- what was judged of those at each place
+pub record AreJudged (files : Files) (aims : List (Vec Aim Global)) (judged : List (Option Judged)) : Type 0 where
+  pub each : length judged ≡ length aims
+  pub are : (place : ℕ) (j : Option Judged) → slice_get judged place ≡ Some j → IsJudged files (aims_at aims place) j

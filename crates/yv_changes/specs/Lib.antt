@@ -1,4 +1,7 @@
 pub mod Fit
 pub mod Changes
 pub mod Faults
+pub mod InnerLists
+pub mod InnerAlike
+pub mod InnerKnown
 pub mod InnerFaults

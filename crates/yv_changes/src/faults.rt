@@ -1,16 +1,23 @@
 //! What is wrong with refines.
-ghost use Rattle.std.specs.Prelude.{◌≡◌, List, slice_get, IfOk};
+ghost use Rattle.std.specs.Prelude.{◌≡◌, List, None, slice_get, slice_index_or, IfOk, IfSome, OnOk};
 ghost use Rattle.yv_statement.specs.Order.{IsLeast};
+ghost use Rattle.yv_rows.specs.Files.{Files};
 ghost use Rattle.yv_rows.specs.Lent.{lent_in, rows_in};
 ghost use Rattle.yv_augments.specs.declared.row.Row.{Row as Standing};
-ghost use Rattle.yv_changes.specs.Faults.{BadRefines, IsWrong};
-ghost use Rattle.yv_changes.specs.InnerFaults.{AreItems, code_of, refusal_by};
+ghost use Rattle.yv_refinements.specs.Meant.{all_meant, meant_at};
+ghost use Rattle.yv_refinements.specs.declared.meant.Aim.{Aim};
+ghost use Rattle.yv_changes.specs.Faults.{BadRefines};
+ghost use Rattle.yv_changes.specs.InnerAlike.{ways_of};
+ghost use Rattle.yv_changes.specs.InnerFaults.{AreItems, AreJudged, IsJudged, IsLeastOf, code_at, refusal_by};
 
-use crate::fit::is_fit_for;
+use crate::fit::is_fit_at;
+use crate::runs::way_at;
+use crate::ways::{Way, is_same, read_ways};
 use std::alloc::{AllocError, Global};
 use std::collections::BTreeSet;
-use yv_augmented::{Refined, Spot};
+use yv_augmented::Spot;
 use yv_augments::Row;
+use yv_refinements::{Aim, RefinedUses, Refinements};
 use yv_rows::Rows;
 use yv_statement::{Code, Refusal, lesser, refused};
 
@@ -26,12 +33,12 @@ fn items_of(alloc: Global, tree: &[Row]) -> Result<BTreeSet<usize>, AllocError>
 }
 
 // What is wrong with a refine, if anything is: it means no item, or isn't fit for the one that it means.
-fn code_of(rows: &Rows<'_, '_>, spots: &[Spot], refined: &Refined) -> Option<Code>
-    ensures { result ≡ code_of (lent_in rows.now) spots.now refined.now.refine refined.now.target }
+fn code_at(rows: &Rows<'_, '_>, way: Option<Way>, refine: usize) -> Option<Code>
+    ensures { result ≡ code_at (lent_in rows.now) refine way }
 {
-    match refined.target {
+    match way {
         None => Some(Code::RefineTarget),
-        Some(item) if is_fit_for(rows, spots, refined.refine, item) => None,
+        Some(way) if is_fit_at(rows, way.statement, refine) => None,
         Some(_) => Some(Code::BadRefine),
     }
 }
@@ -45,37 +52,117 @@ fn refusal(rows: &Rows<'_, '_>, code: Option<Code>, number: usize) -> Option<Ref
     refused(true, code, entry.file, entry.statement)
 }
 
-// The refusal of a refine of a uses that is one of these items, if it is wrong.
+// The refusal of a refine at copies that agree on these ways, if it is wrong.
+fn wrong_by(rows: &Rows<'_, '_>, ways: &[Option<Way>], aim: Aim) -> Option<Refusal>
+    ensures { result ≡ refusal_by (code_at (lent_in rows.now) aim.refine (slice_index_or ways.now aim.path None))
+        (slice_get (rows_in rows.now) aim.refine) }
+{
+    let code = code_at(rows, way_at(ways, aim.path), aim.refine);
+    refusal(rows, code, aim.refine)
+}
+
+// The least refusal of the refines of a copy.
+fn least_of(rows: &Rows<'_, '_>, ways: &[Option<Way>], aims: &[Aim]) -> Option<Refusal>
+    ensures { IsLeastOf (lent_in rows.now) aims.now ways.now result }
+{
+    let mut least = None;
+    for aim in aims {
+        least = lesser(least, wrong_by(rows, ways, *aim));
+    }
+    least
+}
+
+// The least refusal of the refines of those copies of a `uses` that are alike.
+#[derive(Drop)]
+pub(crate) struct Judged {
+    ways: Vec<Option<Way>>,
+    least: Option<Refusal>,
+}
+
+// Nothing was judged of so many uses.
+fn nothing_judged(alloc: Global, aims: &[Vec<Aim>]) -> Result<Vec<Option<Judged>>, AllocError>
+    ensures { IfOk result (λ judged. (files : Files) → AreJudged files aims.now judged.items) }
+{
+    let mut judged = Vec::new(alloc);
+    for _ in aims {
+        judged.push(None)?;
+    }
+    Ok(judged)
+}
+
+// The least refusal of copies that agree on these ways, if such were judged.
+fn known(judged: &Option<Judged>, ways: &[Option<Way>]) -> Option<Option<Refusal>>
+    ensures { (files : Files) (aims : List Aim) → IsJudged files aims judged.now → IfSome result (IsLeastOf files aims ways.now) }
+{
+    match judged {
+        Some(judged) if is_same(&judged.ways, ways) => Some(judged.least),
+        _ => None,
+    }
+}
+
+// The least refusal of the refines of a copy, which is kept for copies that are alike.
+fn judge(
+    alloc: Global,
+    rows: &Rows<'_, '_>,
+    spots: &[Spot],
+    uses: &RefinedUses,
+    aims: &[Aim],
+    judged: &mut Option<Judged>,
+) -> Result<Option<Refusal>, AllocError>
+    ensures judged { IsJudged (lent_in rows.now) aims.now judged.old → OnOk result (IsJudged (lent_in rows.now) aims.now judged.new) }
+    ensures least { IsJudged (lent_in rows.now) aims.now judged.old
+        → IfOk result (IsLeastOf (lent_in rows.now) aims.now (ways_of spots.now uses.now.targets.items)) }
+{
+    let ways = read_ways(alloc, spots, &uses.targets)?;
+    if let Some(least) = known(judged, &ways) {
+        return Ok(least);
+    }
+    let least = least_of(rows, &ways, aims);
+    *judged = Some(Judged { ways, least });
+    Ok(least)
+}
+
+// The least refusal of the refines of a copy, if that is one of these items.
 fn wrong(
+    alloc: Global,
     rows: &Rows<'_, '_>,
     spots: &[Spot],
     items: &BTreeSet<usize>,
-    refined: &Refined,
-) -> Option<Refusal>
-    ensures { (tree : List Standing) → AreItems items.now tree
-        → IsLeast (IsWrong (lent_in rows.now) spots.now tree refined.now) result }
+    aims: &[Vec<Aim>],
+    uses: &RefinedUses,
+    judged: &mut Vec<Option<Judged>>,
+) -> Result<Option<Refusal>, AllocError>
+    requires { AreJudged (lent_in rows.now) aims.now judged.old.items }
+    ensures judged { OnOk result (AreJudged (lent_in rows.now) aims.now judged.new.items) }
+    ensures least { (tree : List Standing) → AreItems items.now tree
+        → IfOk result (IsLeast (BadRefines (lent_in rows.now) spots.now (meant_at aims.now uses.now) tree)) }
 {
-    if !items.contains(&refined.item) {
-        return None;
+    let place = uses.aims;
+    if place >= aims.len() || !items.contains(&uses.item) {
+        return Ok(None);
     }
-    refusal(rows, code_of(rows, spots, refined), refined.refine)
+    judge(alloc, rows, spots, uses, &aims[place], &mut judged[place])
 }
 
 /// The least `RefineTarget` or `BadRefine` of these refines, each at a copy of its uses, where that is one of the items of the final
-/// tree: a refine means no item, or isn't fit for the one that it means. Takes time n log n in items and refines.
+/// tree: a refine means no item, or isn't fit for the one that it means. Takes time n log n in items, in the aims of each place, and in
+/// the paths of each copy: aims are judged again only where a copy isn't like the one before it.
 pub fn first_wrong(
     alloc: Global,
     rows: &Rows<'_, '_>,
     spots: &[Spot],
-    refined: &[Refined],
+    refinements: &Refinements,
     tree: &[Row],
 ) -> Result<Option<Refusal>, AllocError>
-    ensures { IfOk result (IsLeast (BadRefines (lent_in rows.now) spots.now refined.now tree.now)) }
+    ensures { IfOk result (IsLeast (BadRefines (lent_in rows.now) spots.now (all_meant refinements.now) tree.now)) }
 {
+    let aims = refinements.aims.as_slice();
     let items = items_of(alloc, tree)?;
+    let mut judged = nothing_judged(alloc, aims)?;
     let mut least = None;
-    for x in refined {
-        least = lesser(least, wrong(rows, spots, &items, x));
+    for uses in &refinements.uses {
+        let wrong = wrong(alloc, rows, spots, &items, aims, uses, &mut judged)?;
+        least = lesser(least, wrong);
     }
     Ok(least)
 }

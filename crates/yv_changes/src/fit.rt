@@ -4,10 +4,9 @@ ghost use Rattle.std.specs.List.{list_all};
 ghost use Rattle.yv_rows.specs.Files.{has_word};
 ghost use Rattle.yv_rows.specs.Rows.{is_extended};
 ghost use Rattle.yv_rows.specs.Lent.{lent_in};
-ghost use Rattle.yv_changes.specs.Changes.{is_fit_for};
 ghost use Rattle.yv_changes.specs.Fit.{is_among, is_allowed, is_fit};
+ghost use Rattle.yv_changes.specs.InnerAlike.{is_fit_at};
 
-use yv_augmented::Spot;
 use yv_rows::Rows;
 use yv_statement::Statement;
 
@@ -87,14 +86,14 @@ fn is_fit(target: &str, refine: &Statement<'_>) -> bool
     is_each_allowed(target, children) && defaults(children) <= 1
 }
 
-/// Whether a numbered refine is fit for an item.
-pub(crate) fn is_fit_for(rows: &Rows<'_, '_>, spots: &[Spot], refine: usize, item: usize) -> bool
-    ensures { result ≡ is_fit_for (lent_in rows.now) spots.now refine item }
+/// Whether a numbered refine is fit for an item that a statement gives.
+pub(crate) fn is_fit_at(rows: &Rows<'_, '_>, statement: Option<usize>, refine: usize) -> bool
+    ensures { result ≡ is_fit_at (lent_in rows.now) statement refine }
 {
-    let Some(spot) = spots.get(item).copied() else {
+    let Some(number) = statement else {
         return false;
     };
-    match (rows.entries().get(spot.statement), rows.statement(refine)) {
+    match (rows.entries().get(number), rows.statement(refine)) {
         (Some(entry), Some(statement)) => is_fit(entry.statement.keyword(), statement),
         _ => false,
     }

@@ -3,3 +3,4 @@ pub mod Finding
 pub mod Once
 pub mod Scoping
 pub mod Binding
+pub mod Keeping

@@ -9,20 +9,21 @@ ghost use Rattle.yv_properties.specs.Defined.{written_of};
 
 use crate::found::found_at;
 use crate::said::all_said;
-use crate::table::{get, no_numbers, put, text};
+use crate::table::{no_numbers, put};
 use std::alloc::{AllocError, Global};
 use yv_bases::Bases;
 use yv_names::Names;
 use yv_properties::WrittenText;
 use yv_rows::Rows;
+use yv_sparse::Sparse;
 
 /// The defaults that the types of files have by their typedefs. The text of each typedef's default is kept once.
 #[derive(Drop)]
 pub struct Defaults {
     // of each typedef
-    pub(crate) said: Vec<Option<WrittenText>>,
+    pub(crate) said: Sparse<WrittenText>,
     // the typedef whose default each type has
-    pub(crate) found: Vec<Option<usize>>,
+    pub(crate) found: Sparse<usize>,
 }
 
 impl Defaults {
@@ -47,7 +48,12 @@ impl Defaults {
             let typedef = found_at(names, bases, &said, &found, *number);
             put(&mut found, *number, typedef);
         }
-        Ok(Defaults { said, found })
+        let texts = Sparse::of(alloc, said)?;
+        let kept = Sparse::of(alloc, found)?;
+        Ok(Defaults {
+            said: texts,
+            found: kept,
+        })
     }
 
     /// The default that the type of this number has by its typedefs (RFC 7950, section 7.6.1), with the file in which it is
@@ -56,6 +62,7 @@ impl Defaults {
         ensures told { (files : Files) → AreDefaults files self.now → HasDefault files number (option_map written_of (option_copied result)) }
         ensures same { option_map written_of (option_copied result) ≡ found_in self.now number }
     {
-        text(&self.said, get(&self.found, number)?)
+        let typedef = *self.found.get(number)?;
+        self.said.get(typedef)
     }
 }

@@ -1,13 +1,10 @@
 -- What is kept of statements, one after the other.
 use Rattle.std.proofs.Common.{◌≡◌, ℕ, zero, suc, List, [], ◌∷◌, ◌++◌, length, Some, ◌⊎◌, inl, inr, refl, sym, ◌∙◌, subst, arith}
 use Rattle.std.specs.List.{slice_get}
-use Rattle.std.specs.Rc.{rc_slice_items}
 use Rattle.yv_rows.specs.Files.{Files}
-use Rattle.yv_definitions.specs.declared.definitions.Refined.{Refined}
 use Rattle.yv_definitions.specs.declared.keeping.Kept.{Kept}
 use Rattle.yv_definitions.specs.Kinds.{Typing}
 use Rattle.yv_definitions.specs.InnerKept.{AreKept, IsKept}
-use Rattle.yv_definitions.specs.InnerRefined.{values_at}
 
 -- what stands in a list with one more behind: in the list, or as the last
 pub before_or_last : {X : Type 0} (xs : List X) (x : X) (k : ℕ) (y : X) → slice_get (xs ++ x ∷ []) k ≡ Some y
@@ -32,13 +29,3 @@ module _ (typing : Typing) (files : Files) where
       → AreKept typing files (all ++ x ∷ [])
   kept_more all x n e last are = λ number kept h.
       elim (before_or_last all x number kept h) [ inl a ↦ are number kept a | inr b ↦ is_last n number x kept last (e ∙ sym b.0) b.1 ]
-
-  abbrev IsRefined : Refined → ℕ → Type 0
-  IsRefined kept refine = rc_slice_items kept.values ≡ values_at typing files kept.node refine
-
-  -- what is kept of one refine is the same at its number
-  pub is_refined : (made kept : Refined) (place refine : ℕ) → refine ≡ place → kept ≡ made → IsRefined made place → IsRefined kept refine
-  is_refined made kept place refine e f is =
-      let P : ℕ → Type 0 = λ n. IsRefined made n in
-      let Q : Refined → Type 0 = λ r. IsRefined r refine in
-      subst Q (sym f) (subst P (sym e) is)

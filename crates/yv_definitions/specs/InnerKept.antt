@@ -1,6 +1,8 @@
 -- Only private clauses cite this: what is kept of statements, and whether refines change features.
 use Rattle.std.specs.Prelude.{◌≡◌, ℕ, Bool, List, Some, is_some, slice_get}
 use Rattle.std.specs.List.{list_any}
+use Rattle.std.specs.declared.boxed.Box.{Box}
+use Rattle.std.specs.declared.alloc.Global.{Global}
 use Rattle.yv_statement.specs.Tree.{Forest}
 use Rattle.yv_conform.specs.declared.keyword.Keyword.TheVariants as word
 use Rattle.yv_rows.specs.Files.{Files}
@@ -16,7 +18,7 @@ use Rattle.yv_stated.specs.Statements.{first_of, statement_at}
 -- what is kept of the statement of this number is what it says, with the values of its default
 abbrev pub IsKept : Typing → Files → ℕ → Kept → Type 0
 IsKept typing files number kept =
-    ((d : Defined) → kept ≡ Node d → d ≡ with_defaults files (defined_at typing files number)) × ((p : Properties) → kept ≡ Refine p → p ≡ properties_of (said_at files number))
+    ((d : Defined) → kept ≡ Node d → d ≡ with_defaults files (defined_at typing files number)) × ((p : Box Properties Global) → kept ≡ Refine p → p.value ≡ properties_of (said_at files number))
 
 abbrev pub AreKept : Typing → Files → List Kept → Type 0
 AreKept typing files all = (number : ℕ) (kept : Kept) → slice_get all number ≡ Some kept → IsKept typing files number kept

@@ -11,7 +11,7 @@ use std::alloc::{AllocError, Global};
 use std::marker::Model;
 use std::rc::RcStr;
 use yv_conform::Keyword;
-use yv_properties::{Definition, WrittenText};
+use yv_properties::{DefinitionDraft, WrittenText};
 use yv_stated::{elements, first_of, has, name_of};
 use yv_statement::Statement;
 
@@ -65,7 +65,7 @@ impl Changes {
     }
 
     /// Gives a definition what these say, in place of what it says.
-    pub(crate) fn change(&self, definition: &mut Definition) -> Result<(), AllocError>
+    pub(crate) fn change(&self, definition: &mut DefinitionDraft) -> Result<(), AllocError>
         ensures { OnOk result (definition.new ≡ changed self.now definition.old) }
     {
         definition.stated_config = self.config.or(definition.stated_config);

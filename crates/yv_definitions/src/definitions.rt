@@ -1,9 +1,10 @@
 //! What the numbered statements of files say of the nodes that they define.
-ghost use Rattle.std.specs.Prelude.{◌≡◌, ◌⊎◌, ℕ, Some, slice_get, IfOk, IfSome, OnOk, string_bytes};
+ghost use Rattle.std.specs.Prelude.{◌≡◌, ◌++◌, ℕ, List, [], slice_get, IfOk, OnOk, string_bytes};
 ghost use Rattle.std.specs.Option.{option_map};
-ghost use Rattle.std.specs.Rc.{rc_slice_items, rc_str_bytes};
+ghost use Rattle.std.specs.Rc.{rc_str_bytes};
 ghost use Rattle.yv_statement.specs.Tree.{trees};
 ghost use Rattle.yv_rows.specs.Lent.{lent_in};
+ghost use Rattle.yv_expansion.specs.declared.item.Origin.{Origin};
 ghost use Rattle.yv_leaf_paths.specs.Known.{AreLeafPaths};
 ghost use Rattle.yv_definitions.specs.Kinds.{typing_of};
 ghost use Rattle.yv_conform.specs.declared.keyword.Keyword.TheVariants as word;
@@ -11,28 +12,29 @@ ghost use Rattle.yv_stated.specs.Statements.{file_at, first_of, statement_at};
 ghost use Rattle.yv_definitions.specs.Features.{all_expressions, expressions, with_expressions};
 ghost use Rattle.yv_stated.specs.Properties.{properties_of, said_at};
 ghost use Rattle.yv_defaults.specs.Scopes.{AreScopes};
-ghost use Rattle.yv_definitions.specs.Defined.{defined, defined_at, referring, referring_by, refined};
+ghost use Rattle.yv_definitions.specs.Defined.{defined_at, referring, referring_by, refined, unwritten};
 ghost use Rattle.yv_definitions.specs.Values.{with_defaults};
 ghost use Rattle.yv_definitions.specs.InnerKept.{AreKept, gives_features, has_features};
 ghost use Rattle.yv_definitions.specs.InnerChanged.{changed, changed_by};
-ghost use Rattle.yv_definitions.specs.InnerRefined.{AreRefined, GivesDefault, gives_default, last_default, values_at, values_by};
+ghost use Rattle.yv_definitions.specs.InnerRefined.{give_default, gives_default};
 
 use crate::features::push_expressions;
 use crate::keeping::{Kept, changes_at, kept_at, stated_at, unwritten_at};
+use crate::nothing::Nothing;
 use crate::numbered::{file_at, statement_at};
-use crate::values::{defaults_of, no_values};
+use crate::values::defaults_of;
 use std::alloc::{AllocError, Global};
-use std::rc::{RcSlice, RcStr};
+use std::rc::RcStr;
 use yv_conform::Keyword;
 use yv_defaults::scopes_of;
 use yv_expansion::Origin;
 use yv_leaf_paths::LeafPaths;
 use yv_leafref_types::Referring;
-use yv_properties::{Definition, NodeKind};
+use yv_properties::{Definition, DefinitionDraft, NodeKind};
 use yv_rows::Rows;
 use yv_stated::{first_of, has};
 use yv_types::Types;
-use yv_values::{Scope, Value};
+use yv_values::Scope;
 
 /// What the numbered statements of files say of the nodes that they define, each read once. Contracts see the files, and
 /// what their `type` statements stand for.
@@ -45,22 +47,12 @@ pub struct Definitions<'r, 'a, 'b> {
     paths: LeafPaths<'a>,
     // By which the texts of each file are read.
     scopes: Vec<Scope>,
+    nothing: Nothing,
     // Of each statement, by its number.
     kept: Vec<Kept>,
-    // Of each refine, by its number.
-    refined: Vec<Option<Refined>>,
     ghost paths_so: { AreLeafPaths (lent_in rows.now) paths },
     ghost scopes_so: { AreScopes (lent_in rows.now) scopes.items },
     ghost kept_so: { AreKept (typing_of types.now) (lent_in rows.now) kept.items },
-    ghost refined_so: { AreRefined (typing_of types.now) (lent_in rows.now) refined.items },
-}
-
-/// The values that the default of a refine gives a node.
-#[derive(Drop)]
-pub(crate) struct Refined {
-    // The number of the statement that defines the node.
-    pub(crate) node: usize,
-    pub(crate) values: RcSlice<Value>,
 }
 
 impl<'r, 'a, 'b> Definitions<'r, 'a, 'b> {
@@ -77,9 +69,13 @@ impl<'r, 'a, 'b> Definitions<'r, 'a, 'b> {
     {
         let paths = LeafPaths::read(alloc, rows)?;
         let scopes = scopes_of(alloc, rows)?;
-        let mut kept = Vec::new(alloc);
-        for number in 0..rows.entries().len() {
-            kept.push(kept_at(alloc, rows, types, &paths, &scopes, number)?)?;
+        let nothing = Nothing::new(alloc)?;
+        let count = rows.entries().len();
+        let mut kept = Vec::with_capacity(alloc, count)?;
+        for number in 0..count {
+            kept.push(kept_at(
+                alloc, &nothing, rows, types, &paths, &scopes, number,
+            )?)?;
         }
         Ok(Definitions {
             alloc,
@@ -87,53 +83,37 @@ impl<'r, 'a, 'b> Definitions<'r, 'a, 'b> {
             types,
             paths,
             scopes,
+            nothing,
             kept,
-            refined: nothing_refined(alloc, rows.entries().len())?,
         })
     }
 
-    /// Keeps the values of the default that these refines give a node of this origin, for `of` to share where other copies
-    /// of the node are refined so. A default that isn't kept is read anew for each copy.
-    pub fn keep(&mut self, origin: Origin, refines: &[usize]) -> Result<(), AllocError>
-        ensures typing { typing_in self.new ≡ typing_in self.old }
-        ensures files { files_in self.new ≡ files_in self.old }
+    /// What is said of a node of this origin, where no refine changes it. It is that of all other nodes of this origin, but for an input
+    /// or output that isn't written.
+    pub fn of(&self, origin: Origin) -> Result<Definition, AllocError>
+        ensures { IfOk result (λ d. d ≡ refined (typing_in self.now) (files_in self.now) origin []) }
     {
-        let Some(refine) = self.last_default(refines) else {
-            return Ok(());
-        };
         match origin {
-            Origin::Statement(node) => self.keep_values(node, refine),
-            _ => Ok(()),
+            Origin::Statement(number) => self.stated(number),
+            Origin::Input(number) => self.unwritten(NodeKind::Input, number),
+            Origin::Output(number) => self.unwritten(NodeKind::Output, number),
         }
     }
 
-    // Keeps the values of the default of a refine, where none are kept yet.
-    fn keep_values(&mut self, node: usize, refine: usize) -> Result<(), AllocError>
-        requires { GivesDefault (files_in self.old) refine }
-        ensures typing { typing_in self.new ≡ typing_in self.old }
-        ensures files { files_in self.new ≡ files_in self.old }
+    /// What is said of a node of which this is said as these refines, which are numbered statements, change it further, in order (RFC
+    /// 7950, section 7.13.2). It shares with it what they don't change, and takes time and memory for what they do. The value of a
+    /// default that one of them gives is read anew.
+    pub fn more(&self, said: &Definition, refines: &[usize]) -> Result<Definition, AllocError>
+        ensures { (origin : Origin) (before : List ℕ) → said.now ≡ refined (typing_in self.now) (files_in self.now) origin before
+            → IfOk result (λ d. d ≡ refined (typing_in self.now) (files_in self.now) origin (before ++ refines.now)) }
     {
-        if let Some(None) = self.refined.get(refine) {
-            let values = self.read_values(node, refine)?;
-            put(&mut self.refined, refine, Refined { node, values });
+        let mut draft = said.draft()?;
+        draft.features = self.features(said, refines)?;
+        let mut changed = self.changed(draft, refines)?;
+        if self.gives_default(refines) {
+            changed.defaults = defaults_of(self.alloc, &self.nothing, &self.scopes, &changed)?;
         }
-        Ok(())
-    }
-
-    /// What is said of a node of this origin, as these refines, which are numbered statements, change it in order (RFC 7950,
-    /// section 7.13.2). Its texts and lists are those of the other nodes that the same statements define and change, but for
-    /// the features where a refine adds to them, the values of a default that wasn't kept, and the texts of an input or
-    /// output that isn't written.
-    pub fn of(&self, origin: Origin, refines: &[usize]) -> Result<Definition, AllocError>
-        ensures { IfOk result (λ d. d ≡ refined (typing_in self.now) (files_in self.now) origin refines.now) }
-    {
-        let mut definition = self.own(origin)?;
-        definition.features = self.features(&definition, refines)?;
-        let mut changed = self.changed(definition, refines)?;
-        if let Some(refine) = self.last_default(refines) {
-            changed.defaults = self.values(origin, refine)?;
-        }
-        Ok(changed)
+        changed.finish(self.alloc)
     }
 
     /// What the type of a node of this origin says as a leafref (RFC 7950, section 9.9): None where it is none.
@@ -156,63 +136,11 @@ impl<'r, 'a, 'b> Definitions<'r, 'a, 'b> {
             .referring_at(file_at(self.rows, number), found.offset())
     }
 
-    // The values that the default of a refine gives a node of this origin.
-    fn values(&self, origin: Origin, refine: usize) -> Result<RcSlice<Value>, AllocError>
-        requires { GivesDefault (files_in self.now) refine }
-        ensures { IfOk result (λ list. rc_slice_items list
-            ≡ values_by (typing_in self.now) (files_in self.now) origin refine) }
+    // Whether one of these numbered statements gives a default.
+    fn gives_default(&self, numbers: &[usize]) -> bool
+        ensures { result ≡ give_default (files_in self.now) numbers.now }
     {
-        match origin {
-            Origin::Statement(node) => self.values_at(node, refine),
-            _ => no_values(self.alloc),
-        }
-    }
-
-    // Those that it gives the node of a numbered statement.
-    fn values_at(&self, node: usize, refine: usize) -> Result<RcSlice<Value>, AllocError>
-        requires { GivesDefault (files_in self.now) refine }
-        ensures { IfOk result (λ list. rc_slice_items list
-            ≡ values_at (typing_in self.now) (files_in self.now) node refine) }
-    {
-        match self.refined.get(refine) {
-            Some(Some(kept)) if kept.node == node => kept.values.clone(),
-            _ => self.read_values(node, refine),
-        }
-    }
-
-    // The same, read.
-    fn read_values(&self, node: usize, refine: usize) -> Result<RcSlice<Value>, AllocError>
-        requires { GivesDefault (files_in self.now) refine }
-        ensures { IfOk result (λ list. rc_slice_items list
-            ≡ values_at (typing_in self.now) (files_in self.now) node refine) }
-    {
-        let mut definition = self.stated(node)?;
-        self.change(&mut definition, refine)?;
-        defaults_of(self.alloc, &self.scopes, &definition)
-    }
-
-    // The last of these refines that gives a default.
-    fn last_default(&self, refines: &[usize]) -> Option<usize>
-        ensures last { result ≡ last_default (files_in self.now) refines.now }
-        ensures gives { IfSome result (GivesDefault (files_in self.now)) }
-    {
-        let mut last = None;
-        for refine in refines {
-            if self.gives_default(*refine) {
-                last = Some(*refine);
-            }
-        }
-        last
-    }
-
-    // Whether the numbered statement gives a default.
-    fn gives_default(&self, number: usize) -> bool
-        ensures { result ≡ gives_default (files_in self.now) number }
-    {
-        match self.kept_of(number) {
-            Some(Kept::Refine(changes)) => changes.default.is_some(),
-            _ => self.has_default(number),
-        }
+        numbers.iter().any(|number| self.has_default(*number))
     }
 
     // Whether it has a `default` statement.
@@ -225,21 +153,6 @@ impl<'r, 'a, 'b> Definitions<'r, 'a, 'b> {
         }
     }
 
-    // What is said of a node of this origin where it is defined.
-    fn own(&self, origin: Origin) -> Result<Definition, AllocError>
-        ensures { IfOk result (λ d. d ≡ with_defaults (files_in self.now) (defined (typing_in self.now) (files_in self.now) origin)) }
-    {
-        match origin {
-            Origin::Statement(number) => self.stated(number),
-            Origin::Input(number) => {
-                unwritten_at(self.alloc, self.rows, NodeKind::Input, number)
-            }
-            Origin::Output(number) => {
-                unwritten_at(self.alloc, self.rows, NodeKind::Output, number)
-            }
-        }
-    }
-
     // What the numbered statement says by itself.
     fn stated(&self, number: usize) -> Result<Definition, AllocError>
         ensures { IfOk result (λ d. d ≡ with_defaults (files_in self.now) (defined_at (typing_in self.now) (files_in self.now) number)) }
@@ -248,6 +161,7 @@ impl<'r, 'a, 'b> Definitions<'r, 'a, 'b> {
             Some(Kept::Node(definition)) => definition.share(),
             _ => stated_at(
                 self.alloc,
+                &self.nothing,
                 self.rows,
                 self.types,
                 &self.paths,
@@ -255,6 +169,13 @@ impl<'r, 'a, 'b> Definitions<'r, 'a, 'b> {
                 number,
             ),
         }
+    }
+
+    // What is said of an input or output that the numbered operation doesn't write.
+    fn unwritten(&self, kind: NodeKind, number: usize) -> Result<Definition, AllocError>
+        ensures { IfOk result (λ d. d ≡ unwritten kind (files_in self.now) number) }
+    {
+        unwritten_at(self.alloc, &self.nothing, self.rows, kind, number)
     }
 
     // What is kept of the numbered statement.
@@ -265,7 +186,11 @@ impl<'r, 'a, 'b> Definitions<'r, 'a, 'b> {
     }
 
     // A definition as these refines change its properties.
-    fn changed(&self, own: Definition, refines: &[usize]) -> Result<Definition, AllocError>
+    fn changed(
+        &self,
+        own: DefinitionDraft,
+        refines: &[usize],
+    ) -> Result<DefinitionDraft, AllocError>
         ensures { IfOk result (λ d. d ≡ changed_by (files_in self.now) refines.now own) }
     {
         let mut definition = own;
@@ -276,7 +201,7 @@ impl<'r, 'a, 'b> Definitions<'r, 'a, 'b> {
     }
 
     // Changes the properties of a definition as the numbered statement says.
-    fn change(&self, definition: &mut Definition, number: usize) -> Result<(), AllocError>
+    fn change(&self, definition: &mut DefinitionDraft, number: usize) -> Result<(), AllocError>
         ensures { OnOk result (definition.new ≡ changed (properties_of (said_at (files_in self.now) number)) definition.old) }
     {
         match self.kept_of(number) {
@@ -326,25 +251,4 @@ impl<'r, 'a, 'b> Definitions<'r, 'a, 'b> {
             None => Ok(()),
         }
     }
-}
-
-// Puts the values of a refine at its place, where there is one.
-fn put(refined: &mut Vec<Option<Refined>>, place: usize, kept: Refined)
-    ensures { (k : ℕ) (r : Refined) → slice_get refined.new.items k ≡ Some (Some r)
-        → (slice_get refined.old.items k ≡ Some (Some r)) ⊎ ((k ≡ place) × (r ≡ kept)) }
-{
-    if place < refined.len() {
-        refined[place] = Some(kept);
-    }
-}
-
-// Of so many refines none with values.
-fn nothing_refined(alloc: Global, count: usize) -> Result<Vec<Option<Refined>>, AllocError>
-    ensures { IfOk result (λ refined. (refine : ℕ) (kept : Refined) → slice_get refined.items refine ≡ Some (Some kept) → ⊥) }
-{
-    let mut refined = Vec::new(alloc);
-    for _ in 0..count {
-        refined.push(None)?;
-    }
-    Ok(refined)
 }

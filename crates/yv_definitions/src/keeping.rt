@@ -13,6 +13,7 @@ ghost use Rattle.yv_definitions.specs.InnerKept.{IsKept};
 
 use crate::changes::Changes;
 use crate::keys::BlockPaths;
+use crate::nothing::Nothing;
 use crate::numbered::{file_at, statement_at};
 use crate::reading::{blank, define, node_kind, node_name};
 use crate::values::defaults_of;
@@ -20,7 +21,7 @@ use std::alloc::{AllocError, Global};
 use std::rc::RcStr;
 use yv_conform::Keyword;
 use yv_leaf_paths::LeafPaths;
-use yv_properties::{Definition, NodeKind};
+use yv_properties::{Definition, DefinitionDraft, NodeKind};
 use yv_rows::Rows;
 use yv_statement::Statement;
 use yv_types::Types;
@@ -32,7 +33,7 @@ pub(crate) enum Kept {
     /// What it says of the node that it defines.
     Node(Definition),
     /// What it changes of the node that it refines.
-    Refine(Changes),
+    Refine(Box<Changes>),
     /// It is neither.
     Nothing,
 }
@@ -40,22 +41,24 @@ pub(crate) enum Kept {
 // What the numbered statement says of the node that it defines, without the values of its default.
 fn define_at<'a>(
     alloc: Global,
+    nothing: &Nothing,
     rows: &Rows<'a, '_>,
     types: &Types,
     paths: &LeafPaths<'a>,
     number: usize,
-) -> Result<Definition, AllocError>
+) -> Result<DefinitionDraft, AllocError>
     ensures { AreLeafPaths (lent_in rows.now) paths.now → IfOk result (λ d. d ≡ defined_at (typing_of types.now) (lent_in rows.now) number) }
 {
     let file = file_at(rows, number);
     match statement_at(rows, number) {
         Some(statement) => {
-            let names = BlockPaths::read(alloc, paths, file, statement)?;
-            define(alloc, types, file, statement, names)
+            let names = BlockPaths::read(alloc, nothing, paths, file, statement)?;
+            define(alloc, nothing, types, file, statement, names)
         }
         None => {
-            let names = BlockPaths::none(alloc)?;
-            define(alloc, types, file, &Statement::new(alloc, "", 0, 0), names)
+            let names = BlockPaths::none(nothing)?;
+            let none = Statement::new(alloc, "", 0, 0);
+            define(alloc, nothing, types, file, &none, names)
         }
     }
 }
@@ -63,6 +66,7 @@ fn define_at<'a>(
 /// What the numbered statement says of the node that it defines, these being the scopes of the files.
 pub(crate) fn stated_at<'a>(
     alloc: Global,
+    nothing: &Nothing,
     rows: &Rows<'a, '_>,
     types: &Types,
     paths: &LeafPaths<'a>,
@@ -72,9 +76,9 @@ pub(crate) fn stated_at<'a>(
     ensures { AreLeafPaths (lent_in rows.now) paths.now → AreScopes (lent_in rows.now) scopes.now → IfOk result (λ d. d
         ≡ with_defaults (lent_in rows.now) (defined_at (typing_of types.now) (lent_in rows.now) number)) }
 {
-    let mut definition = define_at(alloc, rows, types, paths, number)?;
-    definition.defaults = defaults_of(alloc, scopes, &definition)?;
-    Ok(definition)
+    let mut draft = define_at(alloc, nothing, rows, types, paths, number)?;
+    draft.defaults = defaults_of(alloc, nothing, scopes, &draft)?;
+    draft.finish(alloc)
 }
 
 /// What the numbered statement says of the properties that a refine may change.
@@ -95,21 +99,22 @@ pub(crate) fn changes_at(
 /// An input or output that the operation of this number doesn't write.
 pub(crate) fn unwritten_at(
     alloc: Global,
+    nothing: &Nothing,
     rows: &Rows<'_, '_>,
     kind: NodeKind,
     number: usize,
 ) -> Result<Definition, AllocError>
     ensures { IfOk result (λ d. d ≡ unwritten kind (lent_in rows.now) number) }
 {
-    let mut definition = blank(alloc)?;
-    definition.file = file_at(rows, number);
+    let mut draft = blank(nothing)?;
+    draft.file = file_at(rows, number);
     if let Some(statement) = statement_at(rows, number) {
-        definition.offset = statement.offset();
-        definition.line = statement.line();
+        draft.offset = statement.offset();
+        draft.line = statement.line();
     }
-    definition.kind = kind;
-    definition.name = RcStr::from_str(alloc, node_name(kind, ""))?;
-    Ok(definition)
+    draft.kind = kind;
+    draft.name = RcStr::from_str(alloc, node_name(kind, ""))?;
+    draft.finish(alloc)
 }
 
 // The keyword of the numbered statement.
@@ -123,6 +128,7 @@ fn keyword_at(rows: &Rows<'_, '_>, number: usize) -> Keyword {
 /// What is kept of the numbered statement.
 pub(crate) fn kept_at<'a>(
     alloc: Global,
+    nothing: &Nothing,
     rows: &Rows<'a, '_>,
     types: &Types,
     paths: &LeafPaths<'a>,
@@ -133,9 +139,12 @@ pub(crate) fn kept_at<'a>(
 {
     let keyword = keyword_at(rows, number);
     if node_kind(keyword).is_some() {
-        Ok(Kept::Node(stated_at(alloc, rows, types, paths, scopes, number)?))
+        Ok(Kept::Node(stated_at(
+            alloc, nothing, rows, types, paths, scopes, number,
+        )?))
     } else if keyword == Keyword::Refine {
-        Ok(Kept::Refine(changes_at(alloc, rows, number)?))
+        let changes = changes_at(alloc, rows, number)?;
+        Ok(Kept::Refine(Box::new(alloc, changes)?))
     } else {
         Ok(Kept::Nothing)
     }

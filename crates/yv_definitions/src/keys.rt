@@ -7,6 +7,7 @@ ghost use Rattle.yv_properties.specs.Defined.{paths_in};
 ghost use Rattle.yv_definitions.specs.Defined.{keys_in, path_in, path_of_type, uniques_in};
 ghost use Rattle.yv_definitions.specs.InnerNamed.{AreNamed};
 
+use crate::nothing::Nothing;
 use std::alloc::{AllocError, Global};
 use std::rc::Rc;
 use yv_conform::Keyword;
@@ -27,15 +28,16 @@ impl BlockPaths {
     /// What those of this block name, as they are written in this file.
     pub(crate) fn read<'a>(
         alloc: Global,
+        nothing: &Nothing,
         paths: &LeafPaths<'a>,
         file: u32,
         statement: &'a Statement<'_>,
     ) -> Result<BlockPaths, AllocError>
         ensures { (files : Files) → AreLeafPaths files paths.now → IfOk result (AreNamed files file statement.now.children) }
     {
-        let keys = keys_in(alloc, paths, file, statement)?;
-        let uniques = uniques_in(alloc, paths, file, statement)?;
-        let path = path_in(alloc, paths, file, statement)?;
+        let keys = keys_in(alloc, nothing, paths, file, statement)?;
+        let uniques = uniques_in(alloc, nothing, paths, file, statement)?;
+        let path = path_in(alloc, nothing, paths, file, statement)?;
         Ok(BlockPaths {
             keys,
             uniques,
@@ -44,12 +46,12 @@ impl BlockPaths {
     }
 
     /// Nothing.
-    pub(crate) fn none(alloc: Global) -> Result<BlockPaths, AllocError>
+    pub(crate) fn none(nothing: &Nothing) -> Result<BlockPaths, AllocError>
         ensures { (files : Files) (file : ℕ) → IfOk result (AreNamed files file End) }
     {
-        let keys = no_keys(alloc)?;
-        let uniques = no_uniques(alloc)?;
-        let path = no_path(alloc)?;
+        let keys = nothing.keys()?;
+        let uniques = nothing.uniques()?;
+        let path = nothing.path()?;
         Ok(BlockPaths {
             keys,
             uniques,
@@ -62,6 +64,7 @@ impl BlockPaths {
 // 7.8.2).
 fn keys_in<'a>(
     alloc: Global,
+    nothing: &Nothing,
     paths: &LeafPaths<'a>,
     file: u32,
     statement: &'a Statement<'_>,
@@ -70,21 +73,17 @@ fn keys_in<'a>(
         → IfOk result (λ keys. keys.value ≡ keys_in files file statement.now.children) }
 {
     let steps = paths.names(alloc, file as usize, argument_of(Keyword::Key, statement))?;
+    if steps.is_empty() {
+        return nothing.keys();
+    }
     let keys = Keys::of(alloc, steps)?;
-    Ok(Rc::new(alloc, keys)?)
-}
-
-/// No names.
-pub(crate) fn no_keys(alloc: Global) -> Result<Rc<Keys>, AllocError>
-    ensures { IfOk result (λ keys. keys.value ≡ []) }
-{
-    let keys = Keys::of(alloc, Vec::new(alloc))?;
     Ok(Rc::new(alloc, keys)?)
 }
 
 // The paths of each of the `unique` statements of its block, in order, as they are written in this file (RFC 7950, section 7.8.3).
 fn uniques_in<'a>(
     alloc: Global,
+    nothing: &Nothing,
     paths: &LeafPaths<'a>,
     file: u32,
     statement: &'a Statement<'_>,
@@ -95,6 +94,9 @@ fn uniques_in<'a>(
     let mut uniques = Vec::new(alloc);
     for child in statement.children() {
         push_unique(alloc, paths, file, &mut uniques, child)?;
+    }
+    if uniques.is_empty() {
+        return nothing.uniques();
     }
     Ok(Rc::new(alloc, uniques)?)
 }
@@ -116,17 +118,11 @@ fn push_unique<'a>(
     Ok(())
 }
 
-/// No paths.
-pub(crate) fn no_uniques(alloc: Global) -> Result<Rc<Vec<Vec<Vec<Option<PathStep>>>>>, AllocError>
-    ensures { IfOk result (λ uniques. map paths_in uniques.value.items ≡ []) }
-{
-    Ok(Rc::new(alloc, Vec::new(alloc))?)
-}
-
 // The pieces of the path of the leafref that its block has as its type, as it is written in this file: nothing, where that isn't written
 // as a leafref.
 fn path_in<'a>(
     alloc: Global,
+    nothing: &Nothing,
     paths: &LeafPaths<'a>,
     file: u32,
     statement: &'a Statement<'_>,
@@ -135,14 +131,15 @@ fn path_in<'a>(
         → IfOk result (λ path. path.value.items ≡ path_in files file statement.now.children) }
 {
     match first_of(Keyword::Type, statement) {
-        Some(found) => path_of_type(alloc, paths, file, found),
-        None => no_path(alloc),
+        Some(found) => path_of_type(alloc, nothing, paths, file, found),
+        None => nothing.path(),
     }
 }
 
 // The same of a `type` statement.
 fn path_of_type<'a>(
     alloc: Global,
+    nothing: &Nothing,
     paths: &LeafPaths<'a>,
     file: u32,
     found: &'a Statement<'_>,
@@ -150,15 +147,8 @@ fn path_of_type<'a>(
     ensures { (files : Files) → AreLeafPaths files paths.now → IfOk result (λ path. path.value.items ≡ path_of_type files file found.now) }
 {
     if name_of(found) != "leafref" {
-        return no_path(alloc);
+        return nothing.path();
     }
     let pieces = paths.pieces(alloc, file as usize, argument_of(Keyword::Path, found))?;
     Ok(Rc::new(alloc, pieces)?)
-}
-
-/// No path.
-pub(crate) fn no_path(alloc: Global) -> Result<Rc<Vec<PathPiece>>, AllocError>
-    ensures { IfOk result (λ path. path.value.items ≡ []) }
-{
-    Ok(Rc::new(alloc, Vec::new(alloc))?)
 }

@@ -7,6 +7,7 @@ mod features;
 mod keeping;
 mod keys;
 pub mod laws;
+mod nothing;
 mod numbered;
 mod reading;
 mod values;

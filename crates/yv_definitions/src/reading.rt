@@ -1,7 +1,7 @@
 //! Reading what a statement says.
-ghost use Rattle.std.specs.Prelude.{◌≡◌, [], map, IfOk, string_bytes};
+ghost use Rattle.std.specs.Prelude.{◌≡◌, map, IfOk};
 ghost use Rattle.std.specs.Option.{option_copied, option_map};
-ghost use Rattle.std.specs.Rc.{rc_slice_items};
+ghost use Rattle.std.specs.Rc.{rc_slice_items, rc_str_bytes};
 ghost use Rattle.yv_statement.specs.Tree.{trees};
 ghost use Rattle.yv_conform.specs.Names.{keyword_of};
 ghost use Rattle.yv_conform.specs.declared.keyword.Keyword.TheVariants as word;
@@ -18,12 +18,12 @@ ghost use Rattle.yv_definitions.specs.Defined.{default_by, defined_by, kind_of, 
 
 use crate::changes::Changes;
 use crate::features::push_expressions;
-use crate::keys::{BlockPaths, no_keys, no_path, no_uniques};
-use crate::values::no_values;
+use crate::keys::BlockPaths;
+use crate::nothing::Nothing;
 use std::alloc::{AllocError, Global};
 use std::rc::{RcSlice, RcStr};
 use yv_conform::Keyword;
-use yv_properties::{Definition, NodeKind, NodeStatus, WrittenText};
+use yv_properties::{DefinitionDraft, NodeKind, NodeStatus, WrittenText};
 use yv_stated::{argument_of, first_of, name_of};
 use yv_statement::Statement;
 use yv_types::Types;
@@ -80,16 +80,9 @@ fn status_of(text: &str) -> NodeStatus
     }
 }
 
-// A list of no types.
-fn no_types(alloc: Global) -> Result<RcSlice<PlainType>, AllocError>
-    ensures { IfOk result (λ types. rc_slice_items types ≡ []) }
-{
-    RcSlice::from_vec(Vec::new(alloc))
-}
-
 // The plain types of the `type` statement at an offset of a file, over the list that those of its types share.
 fn types_at(
-    alloc: Global,
+    nothing: &Nothing,
     types: &Types,
     file: u32,
     offset: u64,
@@ -98,13 +91,13 @@ fn types_at(
 {
     match types.at(file, offset)? {
         Some(types) => Ok(types),
-        None => no_types(alloc),
+        None => nothing.types(),
     }
 }
 
 // The types that the `type` statement of its block stands for.
 fn types_in(
-    alloc: Global,
+    nothing: &Nothing,
     types: &Types,
     file: u32,
     statement: &Statement<'_>,
@@ -113,8 +106,8 @@ fn types_in(
         ≡ types_in (kinds_of types.now) file statement.now.children) }
 {
     match first_of(Keyword::Type, statement) {
-        Some(found) => types_at(alloc, types, file, found.offset()),
-        None => no_types(alloc),
+        Some(found) => types_at(nothing, types, file, found.offset()),
+        None => nothing.types(),
     }
 }
 
@@ -147,39 +140,43 @@ fn shared(text: Option<&WrittenText>) -> Result<Option<WrittenText>, AllocError>
 }
 
 // The expressions of the `if-feature` statements of its block.
-fn features_in(alloc: Global, statement: &Statement<'_>) -> Result<String, AllocError>
-    ensures { IfOk result (λ text. string_bytes text ≡ conditions (expressions (trees statement.now.children))) }
+fn features_in(
+    alloc: Global,
+    nothing: &Nothing,
+    statement: &Statement<'_>,
+) -> Result<RcStr, AllocError>
+    ensures { IfOk result (λ text. rc_str_bytes text ≡ conditions (expressions (trees statement.now.children))) }
 {
     let mut text = String::new(alloc);
     push_expressions(&mut text, statement)?;
-    Ok(text)
+    nothing.or_text(alloc, text.as_str())
 }
 
 /// A definition that says nothing.
-pub(crate) fn blank(alloc: Global) -> Result<Definition, AllocError>
+pub(crate) fn blank(nothing: &Nothing) -> Result<DefinitionDraft, AllocError>
     ensures { IfOk result (λ d. d ≡ blank) }
 {
-    Ok(Definition {
-        file: 0,
+    Ok(DefinitionDraft {
         offset: 0,
         line: 0,
-        kind: NodeKind::Leaf,
-        name: RcStr::from_str(alloc, "")?,
-        types: no_types(alloc)?,
-        has_presence: false,
-        status: NodeStatus::Current,
-        features: RcStr::from_str(alloc, "")?,
-        type_text: RcStr::from_str(alloc, "")?,
-        path: no_path(alloc)?,
-        stated_config: None,
-        is_mandatory: false,
-        min: 0,
-        max: None,
-        keys: no_keys(alloc)?,
-        uniques: no_uniques(alloc)?,
+        name: nothing.text()?,
+        types: nothing.types()?,
+        features: nothing.text()?,
+        type_text: nothing.text()?,
+        path: nothing.path()?,
+        keys: nothing.keys()?,
+        uniques: nothing.uniques()?,
         own_default: None,
         type_default: None,
-        defaults: no_values(alloc)?,
+        defaults: nothing.values()?,
+        file: 0,
+        min: 0,
+        max: None,
+        kind: NodeKind::Leaf,
+        status: NodeStatus::Current,
+        has_presence: false,
+        is_mandatory: false,
+        stated_config: None,
     })
 }
 
@@ -187,36 +184,37 @@ pub(crate) fn blank(alloc: Global) -> Result<Definition, AllocError>
 /// `unique` statements name.
 pub(crate) fn define(
     alloc: Global,
+    nothing: &Nothing,
     types: &Types,
     file: u32,
     statement: &Statement<'_>,
     names: BlockPaths,
-) -> Result<Definition, AllocError>
+) -> Result<DefinitionDraft, AllocError>
     ensures { (files : Files) → AreNamed files file statement.now.children names
         → IfOk result (λ d. d ≡ defined_by (typing_of types.now) files file statement.now) }
 {
     let kind = kind_of(Keyword::read(statement.keyword()));
     let changes = Changes::read(alloc, file, statement)?;
-    Ok(Definition {
-        file,
+    Ok(DefinitionDraft {
         offset: statement.offset(),
         line: statement.line(),
-        kind,
         name: RcStr::from_str(alloc, node_name(kind, name_of(statement)))?,
-        types: types_in(alloc, types, file, statement)?,
-        has_presence: changes.presence,
-        status: status_of(argument_of(Keyword::Status, statement)),
-        features: RcStr::from_string(features_in(alloc, statement)?)?,
-        type_text: RcStr::from_str(alloc, argument_of(Keyword::Type, statement))?,
+        types: types_in(nothing, types, file, statement)?,
+        features: features_in(alloc, nothing, statement)?,
+        type_text: nothing.or_text(alloc, argument_of(Keyword::Type, statement))?,
         path: names.path,
-        stated_config: changes.config,
-        is_mandatory: changes.mandatory.unwrap_or(false),
-        min: changes.min.unwrap_or(0),
-        max: changes.max.unwrap_or(None),
         keys: names.keys,
         uniques: names.uniques,
         own_default: changes.default,
         type_default: type_default(types, file, statement)?,
-        defaults: no_values(alloc)?,
+        defaults: nothing.values()?,
+        file,
+        min: changes.min.unwrap_or(0),
+        max: changes.max.unwrap_or(None),
+        kind,
+        status: status_of(argument_of(Keyword::Status, statement)),
+        has_presence: changes.presence,
+        is_mandatory: changes.mandatory.unwrap_or(false),
+        stated_config: changes.config,
     })
 }

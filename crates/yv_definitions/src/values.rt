@@ -1,5 +1,5 @@
 //! The values of defaults.
-ghost use Rattle.std.specs.Prelude.{◌≡◌, [], map, IfOk, Some};
+ghost use Rattle.std.specs.Prelude.{◌≡◌, map, IfOk, Some};
 ghost use Rattle.std.specs.Rc.{rc_slice_items};
 ghost use Rattle.yv_rows.specs.Files.{Files};
 ghost use Rattle.yv_values.specs.Types.{plain_of};
@@ -7,31 +7,26 @@ ghost use Rattle.yv_properties.specs.Defined.{written_of};
 ghost use Rattle.yv_defaults.specs.Scopes.{AreScopes};
 ghost use Rattle.yv_definitions.specs.Values.{defaults_of, value_of, values_of};
 
+use crate::nothing::Nothing;
 use std::alloc::{AllocError, Global};
 use std::rc::RcSlice;
 use yv_defaults::default_value;
-use yv_properties::{Definition, NodeKind, WrittenText};
+use yv_properties::{DefinitionDraft, NodeKind, WrittenText};
 use yv_values::{PlainType, Scope, Value};
-
-/// No values.
-pub(crate) fn no_values(alloc: Global) -> Result<RcSlice<Value>, AllocError>
-    ensures { IfOk result (λ list. rc_slice_items list ≡ []) }
-{
-    RcSlice::from_vec(Vec::new(alloc))
-}
 
 /// The values of the default that is said of a node, these being the scopes of the files.
 pub(crate) fn defaults_of(
     alloc: Global,
+    nothing: &Nothing,
     scopes: &[Scope],
-    definition: &Definition,
+    definition: &DefinitionDraft,
 ) -> Result<RcSlice<Value>, AllocError>
     ensures { (files : Files) → AreScopes files scopes.now
         → IfOk result (λ list. rc_slice_items list ≡ defaults_of files definition.now) }
 {
-    match (definition.kind(), definition.default()) {
-        (NodeKind::Leaf, Some(written)) => values_of(alloc, scopes, definition.types(), written),
-        _ => no_values(alloc),
+    match (definition.kind, definition.default()) {
+        (NodeKind::Leaf, Some(written)) => values_of(alloc, scopes, &definition.types, written),
+        _ => nothing.values(),
     }
 }
 

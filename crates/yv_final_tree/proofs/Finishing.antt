@@ -9,11 +9,12 @@ use Rattle.yv_rows.specs.Listed.{rows_of}
 use Rattle.yv_expansion.specs.Tree.{Item}
 use Rattle.yv_whole_expansion.specs.Expanded.{IsWhole, augments_of}
 use Rattle.yv_augments.specs.Turns.{State}
+use Rattle.yv_refinements.specs.Changed.{Changed, each}
+use Rattle.yv_refinements.specs.Meant.{all_meant}
 use Rattle.yv_augmented.specs.Faults.{BadTarget}
 use Rattle.yv_augmented.specs.Known.{AreGrown}
 use Rattle.yv_augmented.specs.Spots.{whole}
 use Rattle.yv_augmented.specs.declared.grown.Grown.{Grown}
-use Rattle.yv_augmented.specs.declared.refined.Refined.{Refined}
 use Rattle.yv_augmented.specs.declared.spot.Spot.{Spot}
 use Rattle.yv_changes.specs.Changes.{all_changes}
 use Rattle.yv_final_tree.specs.Faults.{BadFinal, BadStanding}
@@ -40,11 +41,11 @@ module _ (files : Files) (grown : Grown) (missing : Option Refusal) where
   is_final choice own items augments k is_whole are =
       record { own = own; expanded = is_whole; augments = are; grafted = k.1.grafted; is_tree = k.1.tree.is_tree }
 
-  pub changes_are : (items : List Item) (augments : List ℕ) (k : AreKnown items augments) (spots : List Spot) (refined : List Refined) (changes : List (List ℕ))
-      → spots ≡ grown.spots.items → refined ≡ grown.refined.items → changes ≡ all_changes files spots refined → changes ≡ changes_of files (final_of items augments k)
-  changes_are items augments k spots refined changes p q is =
+  pub changes_are : (items : List Item) (augments : List ℕ) (k : AreKnown items augments) (spots : List Spot) (changes : Changed) → spots ≡ grown.spots.items
+      → each changes ≡ all_changes files spots (all_meant grown.refined) → each changes ≡ changes_of files (final_of items augments k)
+  changes_are items augments k spots changes p is =
       let f : Final = final_of items augments k in
-      is ∙ ap (λ (ss : List Spot). all_changes files ss refined) (p ∙ k.1.spots) ∙ ap (all_changes files (spots_of files f)) (q ∙ k.1.refined)
+      is ∙ ap (λ (ss : List Spot). all_changes files ss (all_meant grown.refined)) (p ∙ k.1.spots) ∙ ap (all_changes files (spots_of files f)) k.1.refined
 
 -- what is wrong with the one final tree is what is wrong
 pub final_least : (choice : Choice) (files : Files) → ((a b : Final) → IsFinal choice files a → IsFinal choice files b → a ≡ b) → (f : Final) (o : Option Refusal)

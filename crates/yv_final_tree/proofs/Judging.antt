@@ -8,11 +8,11 @@ use Rattle.yv_rows.specs.Listed.{rows_of}
 use Rattle.yv_rows.specs.Rows.{Row}
 use Rattle.yv_augments.specs.Tree.{Tree}
 use Rattle.yv_augments.specs.declared.row.Row.{Row as Standing}
+use Rattle.yv_refinements.specs.Meant.{Refined}
 use Rattle.yv_augmented.specs.Faults.{BadTarget, TooDeep}
 use Rattle.yv_augmented.specs.Imposing.{Imposed, Told, nothing_around}
 use Rattle.yv_augmented.specs.Misplaced.{Misplaced}
 use Rattle.yv_augmented.specs.Untargeted.{Untargeted}
-use Rattle.yv_augmented.specs.declared.refined.Refined.{Refined}
 use Rattle.yv_augmented.specs.declared.spot.Spot.{Spot}
 use Rattle.yv_changes.specs.Faults.{BadRefines}
 use Rattle.yv_item_marks.specs.Said.{told_of}

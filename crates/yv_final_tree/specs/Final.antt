@@ -8,10 +8,10 @@ use Rattle.yv_whole_expansion.specs.Expanded.{IsWhole, augments_of}
 use Rattle.yv_augments.specs.Tree.{IsTree, Tree, listed}
 use Rattle.yv_augments.specs.Turns.{State}
 use Rattle.yv_augments.specs.declared.row.Row.{Row as Standing}
+use Rattle.yv_refinements.specs.Meant.{Refined}
 use Rattle.yv_augmented.specs.Grafted.{AreGrafted}
 use Rattle.yv_augmented.specs.Refining.{refined_all}
 use Rattle.yv_augmented.specs.Spots.{Whole, laid, whole}
-use Rattle.yv_augmented.specs.declared.refined.Refined.{Refined}
 use Rattle.yv_augmented.specs.declared.spot.Spot.{Spot}
 use Rattle.yv_changes.specs.Changes.{all_changes}
 use Rattle.yv_stated.specs.declared.stated.Stated.{Stated}

@@ -7,6 +7,7 @@ use Rattle.yv_expansion.specs.declared.item.Origin.{Origin}
 use Rattle.yv_expansion.specs.declared.item.Origin.TheVariants.{Statement}
 use Rattle.yv_augments.specs.Turns.{State, target_of}
 use Rattle.yv_augments.specs.declared.label.Label.{Label}
+use Rattle.yv_refinements.specs.Changed.{Changed, each}
 use Rattle.yv_augmented.specs.Spots.{labels_of}
 use Rattle.yv_augmented.specs.declared.spot.Spot.{Spot}
 use Rattle.yv_item_marks.specs.Conditions.{Truth}
@@ -20,7 +21,7 @@ pub record Kept : Type 0 where
   pub items : List Item
   pub spots : List Spot
   pub augments : List ℕ
-  pub changes : List (List ℕ)
+  pub changes : Changed
   pub left : List Node
 
 abbrev pub targets_from : List Label → State → (place : ℕ) → (augments : List ℕ) → List (Option ℕ)
@@ -38,7 +39,7 @@ pub record AreKept (choice : Choice) (files : Files) (truth : Truth) (k : Kept) 
   pub items : k.items ≡ final.items
   pub spots : k.spots ≡ spots_of files final
   pub augments : k.augments ≡ final.augments
-  pub changes : k.changes ≡ changes_of files final
+  pub changes : each k.changes ≡ changes_of files final
   pub nodes : Nodes
   pub are_left : AreLeft truth files final nodes
   pub left : k.left ≡ listed None 0 nodes

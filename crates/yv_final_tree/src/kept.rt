@@ -1,11 +1,11 @@
 //! What is kept of a final tree.
-ghost use Rattle.std.specs.Prelude.{◌≡◌, ◌≤◌, ℕ, List, [], Some, length, slice_get, slice_index_or};
+ghost use Rattle.std.specs.Prelude.{◌≡◌, ◌≤◌, ℕ, List, Some, length, slice_get};
 ghost use Rattle.yv_final_tree.specs.Kept.{giver_at, giver_by, home_at, origin_at};
 
 use std::marker::Model;
 use yv_augmented::Spot;
-use yv_changes::Changes;
 use yv_expansion::{Expansion, Node, Origin};
+use yv_refinements::Changes;
 
 /// The final tree of the files of implemented modules. Items go by their numbers in the expansion, and nodes, which are the items that are
 /// left, by their places in the order of the schema.
@@ -81,12 +81,11 @@ impl FinalTree {
         giver_of(self.spots.len(), self.augments.len(), self.spots.get(item)?)
     }
 
-    /// The numbers of the refines that change an item, in the order in which they do: those of an inner uses come before those of an outer
-    /// one. None past the last item.
-    pub fn changes(&self, item: usize) -> &[usize]
-        ensures { result.now ≡ slice_index_or self.now.changes item [] }
+    /// The refines that change each item, in the order in which they do: those of an inner uses come before those of an outer one.
+    pub fn changes(&self) -> &Changes
+        ensures { result.now ≡ self.now.changes }
     {
-        self.changes.of(item)
+        &self.changes
     }
 
     /// The statements of the augments of modules, by file and statement (RFC 7950, section 7.17).

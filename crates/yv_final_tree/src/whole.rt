@@ -12,6 +12,7 @@ ghost use Rattle.yv_expansion.specs.Bounded.{ParentsComeFirst};
 ghost use Rattle.yv_expansion.specs.Tree as expansion;
 ghost use Rattle.yv_whole_expansion.specs.Expanded.{IsWhole, augments_of};
 ghost use Rattle.yv_augments.specs.Turns.{State};
+ghost use Rattle.yv_refinements.specs.Changed.{each};
 ghost use Rattle.yv_augmented.specs.Faults.{BadTarget};
 ghost use Rattle.yv_augmented.specs.Imposing.{is_given};
 ghost use Rattle.yv_augmented.specs.Left.{is_marked};
@@ -29,7 +30,7 @@ use crate::nodes::nodes;
 use crate::wrong::Judged;
 use std::alloc::{AllocError, Global};
 use yv_augmented::{Grown, Spot, conditions, graft, left};
-use yv_changes::Changes;
+use yv_changes::changes;
 use yv_expansion::{Item, Node};
 use yv_item_marks::{item_marks, statement_marks};
 use yv_link::Linked;
@@ -104,7 +105,7 @@ fn remains<'a, 'b>(
     ensures { (final : Final) → judged.now.items.now ≡ final.items
         → AreGrown (whole_of (lent_in judged.now.rows.now) final) final.items final.state judged.now.grown.now
         → judged.now.augments.now ≡ final.augments → judged.now.grown.now.tree.items ≡ standing final
-        → judged.now.changes.now ≡ changes_of (lent_in judged.now.rows.now) final
+        → each judged.now.changes.now ≡ changes_of (lent_in judged.now.rows.now) final
         → IfOk result (λ list. (nodes : expansion.Nodes) × AreLeft (truth_in linked.now) (lent_in judged.now.rows.now) final nodes
         × (list.items ≡ expansion.listed None 0 nodes)) }
 {
@@ -147,7 +148,7 @@ fn finished<'a, 'b>(
         augments,
     } = expanded;
     let (grown, missing) = grown(alloc, rows, expansion.items(), &augments)?;
-    let changes = Changes::read(alloc, rows, &grown.spots, &grown.refined)?;
+    let changes = changes(alloc, rows, &grown.spots, &grown.refined)?;
     let judged = Judged {
         rows,
         items: expansion.items(),

@@ -2,6 +2,7 @@
 ghost use Rattle.std.specs.Prelude.{◌≡◌, None, IfOk};
 ghost use Rattle.yv_statement.specs.Order.{IsLeast};
 ghost use Rattle.yv_rows.specs.Lent.{lent_in, rows_in};
+ghost use Rattle.yv_refinements.specs.Changed.{each};
 ghost use Rattle.yv_augmented.specs.Faults.{BadTarget};
 ghost use Rattle.yv_augmented.specs.Imposing.{Imposed, nothing_around};
 ghost use Rattle.yv_augmented.specs.Known.{AreGrown};
@@ -11,9 +12,10 @@ ghost use Rattle.yv_final_tree.specs.Final.{Final, changes_of, said_of, spots_of
 
 use std::alloc::{AllocError, Global};
 use yv_augmented::{Grown, first_imposed, first_misplaced, first_too_deep};
-use yv_changes::{Changes, first_wrong};
+use yv_changes::first_wrong;
 use yv_expansion::Item;
 use yv_item_marks::{Told, said_of_all};
+use yv_refinements::Changes;
 use yv_rows::Rows;
 use yv_statement::{Refusal, lesser};
 
@@ -32,7 +34,7 @@ impl Judged<'_, '_, '_> {
     fn first_imposed(&self, alloc: Global) -> Result<Option<Refusal>, AllocError>
         ensures { (final : Final) → self.now.items.now ≡ final.items → self.now.augments.now ≡ final.augments
             → AreGrown (whole_of (lent_in self.now.rows.now) final) final.items final.state self.now.grown.now
-            → self.now.grown.now.tree.items ≡ standing final → self.now.changes.now ≡ changes_of (lent_in self.now.rows.now) final
+            → self.now.grown.now.tree.items ≡ standing final → each self.now.changes.now ≡ changes_of (lent_in self.now.rows.now) final
             → IfOk result (IsLeast (Imposed (rows_in self.now.rows.now) (spots_of (lent_in self.now.rows.now) final) final.augments
             (told_of (said_of (lent_in self.now.rows.now) final)) None nothing_around final.tree)) }
     {
@@ -57,7 +59,7 @@ impl Judged<'_, '_, '_> {
     ) -> Result<Option<Refusal>, AllocError>
         ensures { (final : Final) → self.now.items.now ≡ final.items → self.now.augments.now ≡ final.augments
             → AreGrown (whole_of (lent_in self.now.rows.now) final) final.items final.state self.now.grown.now
-            → self.now.grown.now.tree.items ≡ standing final → self.now.changes.now ≡ changes_of (lent_in self.now.rows.now) final
+            → self.now.grown.now.tree.items ≡ standing final → each self.now.changes.now ≡ changes_of (lent_in self.now.rows.now) final
             → IsLeast (BadTarget (whole_of (lent_in self.now.rows.now) final) final.items final.state) missing
             → IfOk result (IsLeast (BadStanding (lent_in self.now.rows.now) final)) }
     {

@@ -1,3 +1,4 @@
 pub mod Reading
 pub mod Saying
 pub mod Known
+pub mod Following

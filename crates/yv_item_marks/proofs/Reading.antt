@@ -28,7 +28,7 @@ rest_of : {A : Type 0} (xs : List A) (i : ℕ) (x : A) → slice_get xs i ≡ So
 rest_of xs i x at = drop_more xs i x (slice_get_within xs i x at) ∙ ap (λ z. z ∷ drop (i + 1) xs) (get_or_from_slice_get xs i x x at)
 
 -- one value more, where those behind are known
-next_value : {Y : Type 0} (old new behind all : List Y) (y z : Y) → new ≡ old ++ y ∷ [] → y ≡ z → old ++ z ∷ behind ≡ all → new ++ behind ≡ all
+pub next_value : {Y : Type 0} (old new behind all : List Y) (y z : Y) → new ≡ old ++ y ∷ [] → y ≡ z → old ++ z ∷ behind ≡ all → new ++ behind ≡ all
 next_value old new behind all y z now is before =
     ap (λ l. l ++ behind) now ∙ append_assoc old (y ∷ []) behind ∙ ap (λ v. old ++ v ∷ behind) is ∙ before
 

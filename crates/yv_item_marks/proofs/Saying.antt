@@ -28,7 +28,7 @@ either_again true b c = refl
 either_again false b c = refl
 
 -- nothing was said before
-over_silent : (a : Stated) → over a (stated_by silent) ≡ a
+pub over_silent : (a : Stated) → over a (stated_by silent) ≡ a
 over_silent a = λ i. record {
   config = or_none a.config i;
   mandatory = or_none a.mandatory i;
@@ -36,7 +36,7 @@ over_silent a = λ i. record {
   min = or_none a.min i;
 }
 
-over_again : (a b c : Stated) → over (over a b) c ≡ over a (over b c)
+pub over_again : (a b c : Stated) → over (over a b) c ≡ over a (over b c)
 over_again a b c = λ i. record {
   config = or_again a.config b.config c.config i;
   mandatory = or_again a.mandatory b.mandatory c.mandatory i;

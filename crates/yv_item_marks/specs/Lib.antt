@@ -2,3 +2,4 @@ pub mod Conditions
 pub mod Said
 pub mod InnerConditions
 pub mod InnerSaid
+pub mod InnerSequences

@@ -1,18 +1,21 @@
 //! Which conditions hold.
-ghost use Rattle.std.specs.Prelude.{◌≡◌, ◌||◌, codes, not, slice_get, IfOk};
+ghost use Rattle.std.specs.Prelude.{◌≡◌, ◌&&◌, ◌||◌, true, codes, map, not, slice_get, IfOk};
 ghost use Rattle.std.specs.List.{list_all};
 ghost use Rattle.yv_statement.specs.Tree.{name_of as name_at};
 ghost use Rattle.yv_rows.specs.Files.{has_word};
 ghost use Rattle.yv_rows.specs.Lent.{lent_in, trees_in};
 ghost use Rattle.yv_link.specs.Linked.{truth_in};
 ghost use Rattle.yv_augmented.specs.Left.{is_marked};
-ghost use Rattle.yv_item_marks.specs.Conditions.{is_on, is_on_by, item_marks, statement_marks};
+ghost use Rattle.yv_refinements.specs.Changed.{each};
+ghost use Rattle.yv_item_marks.specs.Conditions.{is_on, item_marks, statement_marks};
 ghost use Rattle.yv_item_marks.specs.InnerConditions.{is_on_in};
+ghost use Rattle.yv_item_marks.specs.InnerSequences.{known_of};
 
+use crate::sequences::known_of;
 use std::alloc::{AllocError, Global};
 use yv_augmented::Spot;
-use yv_changes::Changes;
 use yv_link::Linked;
+use yv_refinements::Changes;
 use yv_rows::{Rows, name_of};
 use yv_statement::Statement;
 
@@ -81,11 +84,28 @@ fn are_marked(marks: &[bool], numbers: &[usize]) -> bool
     numbers.iter().all(|number| is_marked(marks, *number))
 }
 
-// Whether a statement has a mark, and each refine that changes its item.
-fn is_on_by(statements: &[bool], spot: &Spot, changes: &[usize]) -> bool
-    ensures { result ≡ is_on_by statements.now spot.now changes.now }
+// Of each sequence of refines whether each of them has a mark, by those of the sequence before it and of the run behind.
+fn sequence_marks(
+    alloc: Global,
+    statements: &[bool],
+    changes: &Changes,
+) -> Result<Vec<bool>, AllocError>
+    ensures { IfOk result (λ marks. marks.items ≡ map (list_all (is_marked statements.now)) changes.now.sequences) }
 {
-    is_marked(statements, spot.statement) && are_marked(statements, changes)
+    let mut marks = Vec::new(alloc);
+    for sequence in 0..changes.count() {
+        let link = changes.link(sequence);
+        let front = known_of(&marks, link.front, true);
+        marks.push(front && are_marked(statements, link.run))?;
+    }
+    Ok(marks)
+}
+
+// Whether a statement has a mark, and the sequence of the refines that change its item.
+fn is_on_by(statements: &[bool], known: &[bool], spot: &Spot, sequence: Option<usize>) -> bool
+    ensures { result ≡ (is_marked statements.now spot.now.statement && known_of known.now sequence true) }
+{
+    is_marked(statements, spot.statement) && known_of(known, sequence, true)
 }
 
 /// A mark for each item whose own conditions hold, by those of statements: that of the statement that gives it, and of each refine
@@ -96,11 +116,12 @@ pub fn item_marks(
     spots: &[Spot],
     changes: &Changes,
 ) -> Result<Vec<bool>, AllocError>
-    ensures { IfOk result (λ marks. marks.items ≡ item_marks statements.now spots.now changes.now) }
+    ensures { IfOk result (λ marks. marks.items ≡ item_marks statements.now spots.now (each changes.now)) }
 {
+    let known = sequence_marks(alloc, statements, changes)?;
     let mut marks = Vec::new(alloc);
     for (number, spot) in spots.iter().enumerate() {
-        marks.push(is_on_by(statements, spot, changes.of(number)))?;
+        marks.push(is_on_by(statements, &known, spot, changes.sequence(number)))?;
     }
     Ok(marks)
 }

@@ -2,15 +2,17 @@
 ghost use Rattle.std.specs.Prelude.{◌≡◌, ◌++◌, List, ℕ, map, IfOk};
 ghost use Rattle.yv_rows.specs.Lent.{lent_in};
 ghost use Rattle.yv_augmented.specs.Imposing.{told_in};
+ghost use Rattle.yv_refinements.specs.Changed.{each};
 ghost use Rattle.yv_stated.specs.Marks.{is_mandatory, stated_by};
 ghost use Rattle.yv_stated.specs.Properties.{last_said, said_at, written_by};
 ghost use Rattle.yv_item_marks.specs.Said.{said_of, said_of_all, told_of};
-ghost use Rattle.yv_item_marks.specs.InnerSaid.{AreSaid};
+ghost use Rattle.yv_item_marks.specs.InnerSaid.{AreSaid, said_by_refines};
 
+use crate::sequences::known_of;
 use std::alloc::{AllocError, Global};
 use yv_augmented::Marks;
-use yv_changes::Changes;
 use yv_expansion::{Item, Origin};
+use yv_refinements::Changes;
 use yv_rows::Rows;
 use yv_stated::Stated;
 
@@ -59,32 +61,55 @@ fn last_said(rows: &Rows<'_, '_>, each: &[Stated], numbers: &[usize]) -> Stated
     said
 }
 
-// What is said of an item that these refines change.
-fn said_of(rows: &Rows<'_, '_>, each: &[Stated], item: &Item, changes: &[usize]) -> Stated
+// What each sequence of refines says, by what the sequence before it and the run behind say.
+fn sequences_said(
+    alloc: Global,
+    rows: &Rows<'_, '_>,
+    each: &[Stated],
+    changes: &Changes,
+) -> Result<Vec<Stated>, AllocError>
     requires { AreSaid (lent_in rows.now) each.now }
-    ensures { result ≡ said_of (lent_in rows.now) item.now changes.now }
+    ensures { IfOk result (λ said. said.items ≡ map (said_by_refines (lent_in rows.now)) changes.now.sequences) }
 {
     yv_stated::laws::the_last_statement_stands();
-    let later = last_said(rows, each, changes);
+    let mut said = Vec::new(alloc);
+    for sequence in 0..changes.count() {
+        let link = changes.link(sequence);
+        let front = known_of(&said, link.front, Stated::nothing());
+        let run = last_said(rows, each, link.run);
+        said.push(run.over(front))?;
+    }
+    Ok(said)
+}
+
+// What is said of an item whose refines say this.
+fn said_of(rows: &Rows<'_, '_>, each: &[Stated], item: &Item, later: Stated) -> Stated
+    requires { AreSaid (lent_in rows.now) each.now }
+    ensures { (changes : List ℕ) → later ≡ said_by_refines (lent_in rows.now) changes → result ≡ said_of (lent_in rows.now) item.now changes }
+{
+    yv_stated::laws::the_last_statement_stands();
     match item.origin {
         Origin::Statement(number) => later.over(known_at(rows, each, number)),
         _ => later,
     }
 }
 
-/// What is said of each item, as refines change it. Each statement is read once.
+/// What is said of each item, as refines change it. Each statement is read once, and each sequence of refines is gone through once.
 pub fn said_of_all(
     alloc: Global,
     rows: &Rows<'_, '_>,
     items: &[Item],
     changes: &Changes,
 ) -> Result<Vec<Stated>, AllocError>
-    ensures { IfOk result (λ said. said.items ≡ said_of_all (lent_in rows.now) items.now changes.now) }
+    ensures { IfOk result (λ said. said.items ≡ said_of_all (lent_in rows.now) items.now (each changes.now)) }
 {
+    yv_stated::laws::the_last_statement_stands();
     let each = all_said(alloc, rows)?;
+    let known = sequences_said(alloc, rows, &each, changes)?;
     let mut said = Vec::new(alloc);
     for (number, item) in items.iter().enumerate() {
-        said.push(said_of(rows, &each, item, changes.of(number)))?;
+        let later = known_of(&known, changes.sequence(number), Stated::nothing());
+        said.push(said_of(rows, &each, item, later))?;
     }
     Ok(said)
 }

@@ -1,14 +1,14 @@
 -- What is known of the types of files as leafrefs, where they were read.
 use Rattle.std.specs.Prelude.{ℕ, Option}
 use Rattle.yv_rows.specs.Files.{Files}
-use Rattle.yv_leafref_types.specs.InnerTables.{at}
+use Rattle.yv_sparse.specs.Sparse.{at}
 use Rattle.yv_leafref_types.specs.Referrals.{HasReferral}
 use Rattle.yv_leafref_types.specs.declared.known.LeafrefTypes.{LeafrefTypes}
 use Rattle.yv_leafref_types.specs.declared.referring.Referring.{Referring}
 
 -- what the numbered type says
 abbrev pub found_in : LeafrefTypes → ℕ → Option Referring
-found_in types k = at types.found.items k
+found_in types k = at types.found k
 
 -- this is what the types of these files say; how, only the readers ask
 pub record AreLeafrefTypes (files : Files) (types : LeafrefTypes) : Type 0 where

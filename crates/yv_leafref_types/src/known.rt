@@ -6,15 +6,16 @@ ghost use Rattle.yv_bases.specs.Known.{AreBases};
 
 use crate::found::found_at;
 use crate::referring::Referring;
-use crate::table::{get, nothing, put};
+use crate::table::{nothing, put};
 use std::alloc::{AllocError, Global};
 use yv_bases::Bases;
 use yv_rows::Rows;
+use yv_sparse::Sparse;
 
 /// What the types of files say as leafrefs, by number.
 #[derive(Drop)]
 pub struct LeafrefTypes {
-    pub(crate) found: Vec<Option<Referring>>,
+    pub(crate) found: Sparse<Referring>,
 }
 
 impl LeafrefTypes {
@@ -36,7 +37,8 @@ impl LeafrefTypes {
             let referring = found_at(rows, bases, &found, *number);
             put(&mut found, *number, referring);
         }
-        Ok(LeafrefTypes { found })
+        let kept = Sparse::of(alloc, found)?;
+        Ok(LeafrefTypes { found: kept })
     }
 
     /// What the type of this number says as a leafref (RFC 7950, sections 9.9.2 and 9.9.3): the statement whose path it has,
@@ -46,6 +48,6 @@ impl LeafrefTypes {
         ensures told { (files : Files) → AreLeafrefTypes files self.now → HasReferral files number result }
         ensures same { result ≡ found_in self.now number }
     {
-        get(&self.found, number)
+        self.found.get(number).copied()
     }
 }

@@ -16,3 +16,7 @@ quotes_longer word old new (more, is) (before, after, quotes) =
 pub named_longer : (word : Option (List ℕ)) (old new : List ℕ) → Extends old new → IfSome word (λ w. Quotes w old) → IfSome word (λ w. Quotes w new)
 named_longer None old new longer named = tt
 named_longer (Some word) old new longer named = quotes_longer word old new longer named
+
+-- a text that grew by three texts
+pub grown : (a b c d one two three : List ℕ) → one ≡ a ++ b → two ≡ one ++ c → three ≡ two ++ d → three ≡ a ++ (b ++ (c ++ d))
+grown a b c d one two three e f g = g ∙ ap (λ t. t ++ d) (f ∙ ap (λ t. t ++ c) e) ∙ append_assoc (a ++ b) c d ∙ append_assoc a b (c ++ d)

@@ -3,3 +3,4 @@ pub mod Excerpt
 pub mod Explained
 pub mod Quoted
 pub mod Subject
+pub mod Unbuilt

@@ -1,4 +1,5 @@
-//! What a person is told of a file that is refused: the line of the place, and a sentence on what the refusal means there.
+//! What a person is told of a file that is refused, or has a pattern that isn't built: the line of the place, and a sentence on what is wrong
+//! there.
 #![tactic(auto)]
 
 mod circle;
@@ -7,10 +8,12 @@ mod guess;
 mod json;
 mod likeness;
 mod meanings;
+mod patterns;
 mod place;
 mod quoted;
 mod sentences;
 mod told;
+mod unbuilt;
 mod units;
 mod words;
 
@@ -21,4 +24,5 @@ pub use meanings::meaning;
 pub use place::excerpt;
 pub use quoted::push_quoted;
 pub use told::{Bounds, push_sentence};
+pub use unbuilt::unbuilt_pattern;
 pub use words::subject;

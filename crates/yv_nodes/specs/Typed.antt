@@ -2,35 +2,10 @@
 use Rattle.std.specs.Prelude.{ℕ, ◌+◌, List, [], ◌∷◌}
 use Rattle.std.specs.List.{slice_index_or}
 use Rattle.yv_values.specs.Types.{Plain}
-use Rattle.yv_properties.specs.Defined.{Defined}
+use Rattle.yv_properties.specs.Defined.{with_types}
 use Rattle.yv_nodes.specs.declared.node.NodeId.{NodeId}
 use Rattle.yv_nodes.specs.Rows.{Row, blank_row, root}
 use Rattle.yv_nodes.specs.Tree.{count, Forest, Label, no_trees, node, tree}
-
--- what is said of a node, but that its values have these types
-abbrev pub with_types : List Plain → Defined → Defined
-with_types types d = record {
-  file = d.file;
-  offset = d.offset;
-  line = d.line;
-  kind = d.kind;
-  name = d.name;
-  types = types;
-  has_presence = d.has_presence;
-  status = d.status;
-  features = d.features;
-  type_text = d.type_text;
-  path = d.path;
-  stated_config = d.stated_config;
-  is_mandatory = d.is_mandatory;
-  min = d.min;
-  max = d.max;
-  keys = d.keys;
-  uniques = d.uniques;
-  own_default = d.own_default;
-  type_default = d.type_default;
-  defaults = d.defaults;
-}
 
 abbrev pub typed : List Plain → Label → Label
 typed types l = record {

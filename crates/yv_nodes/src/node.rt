@@ -331,14 +331,14 @@ impl Node {
     pub(crate) fn shared_types(&self) -> Result<RcSlice<PlainType>, AllocError>
         ensures { IfOk result (λ types. map plain_of (rc_slice_items types) ≡ self.now.label.defined.types) }
     {
-        self.definition.types.clone()
+        self.definition.shared_types()
     }
 
     /// Gives it other types.
     pub(crate) fn set_types(&mut self, types: RcSlice<PlainType>)
         ensures { self.new ≡ typed_row (map plain_of (rc_slice_items types)) self.old }
     {
-        self.definition.types = types;
+        self.definition.set_types(types);
     }
 
     /// The number of the node above it, or that of the root.

@@ -18,7 +18,7 @@ const MOST_TABLES: usize = 65_536;
 const MOST_READ: usize = 1_024;
 
 // How many bytes the matchers may come to hold together, by what they are charged.
-const MOST_HELD: usize = 134_217_728;
+const MOST_HELD: usize = 268_435_456;
 
 // What a matcher holds for a pattern of no tables.
 const BARE: usize = 8_192;
@@ -31,13 +31,18 @@ const WIDEST_ROW: usize = 1_100;
 
 /// The matchers of a compilation's patterns, so that a text is held against a pattern that was met before without making its
 /// matcher anew. Only those of small patterns are kept, 4,096 at most. Strangers choose patterns and texts, and a matcher
-/// learns from each byte that it reads; so each is charged the most that it may come to hold, and before all of them
-/// together were charged more than 128 MiB, all are dropped.
+/// learns from each byte that it reads, but for those with which the text before began too; so each is charged the most that it may
+/// come to hold, and before all of them together were charged more than 256 MiB, all are dropped.
 #[derive(Drop)]
 pub struct Matchers<'p> {
     slots: Vec<Option<Box<Ready<'p>>>>,
     held: usize,
     keeps: bool,
+    // The text that was held against patterns last, and how many texts came before it.
+    text: String,
+    turn: u64,
+    // With how many bytes the text before that began too.
+    shared: usize,
 }
 
 impl<'p> Matchers<'p> {
@@ -47,6 +52,9 @@ impl<'p> Matchers<'p> {
             slots: Vec::new(alloc),
             held: 0,
             keeps: true,
+            text: String::new(alloc),
+            turn: 0,
+            shared: 0,
         }
     }
 
@@ -56,6 +64,9 @@ impl<'p> Matchers<'p> {
             slots: Vec::new(alloc),
             held: 0,
             keeps: false,
+            text: String::new(alloc),
+            turn: 0,
+            shared: 0,
         }
     }
 
@@ -93,14 +104,59 @@ impl<'p> Matchers<'p> {
     ) -> Result<bool, AllocError>
         ensures { IfOk result (λ found. found ≡ verdict pattern.now text.now) }
     {
-        self.charge(growth(pattern, text));
-        let mut ready = match self.taken(slot, pattern, text) {
-            Some(ready) => ready,
-            None => self.made(alloc, pattern)?,
-        };
+        self.turn_to(text)?;
+        let mut ready = self.ready_for(alloc, slot, pattern, text)?;
+        ready.note_turn(self.turn);
         let is_match = ready.is_match(text);
         self.keep(slot, ready)?;
         Ok(is_match)
+    }
+
+    // Notes that this text is held against patterns now.
+    fn turn_to(&mut self, text: &str) -> Result<(), AllocError> {
+        if self.text.as_str() == text {
+            return Ok(());
+        }
+        let shared = common(self.text.as_bytes(), text.as_bytes());
+        self.shared = 0;
+        self.text.clear();
+        self.text.push_str(text)?;
+        self.shared = shared;
+        self.turn = self.turn.saturating_add(1);
+        Ok(())
+    }
+
+    // The matcher of a pattern, which is charged for what it may learn from the text.
+    fn ready_for(
+        &mut self,
+        alloc: Global,
+        slot: usize,
+        pattern: &'p Pattern,
+        text: &str,
+    ) -> Result<Box<Ready<'p>>, AllocError>
+        ensures { IfOk result (λ ready. ready.value ≡ pattern.now) }
+    {
+        if let Some(ready) = self.taken(slot, pattern, text) {
+            let rows = self.rows_for(ready.turn(), text);
+            if self.charges(rows.saturating_mul(row(pattern))) {
+                return Ok(ready);
+            }
+        }
+        self.made(alloc, pattern, text)
+    }
+
+    // How many rows a matcher may learn from a text, which read another one in this turn: one for each byte, and one for the end. What it
+    // read then leads to rows that it has.
+    fn rows_for(&self, turn: u64, text: &str) -> usize {
+        if turn == self.turn {
+            return 0;
+        }
+        let known = if turn.saturating_add(1) == self.turn {
+            self.shared
+        } else {
+            0
+        };
+        text.len().saturating_sub(known).saturating_add(1)
     }
 
     // Takes the matcher in a slot, where it is of this pattern and may read this text; another is dropped.
@@ -116,14 +172,24 @@ impl<'p> Matchers<'p> {
         }
     }
 
-    fn made(&mut self, alloc: Global, pattern: &'p Pattern) -> Result<Box<Ready<'p>>, AllocError>
+    // A new matcher, before which all others are dropped where they would hold too much together.
+    fn made(
+        &mut self,
+        alloc: Global,
+        pattern: &'p Pattern,
+        text: &str,
+    ) -> Result<Box<Ready<'p>>, AllocError>
         ensures { IfOk result (λ ready. ready.value ≡ pattern.now) }
     {
-        self.charge(
-            TIMES_TABLES
-                .saturating_mul(pattern.tables())
-                .saturating_add(BARE),
-        );
+        let rows = text.len().saturating_add(1);
+        let bytes = TIMES_TABLES
+            .saturating_mul(pattern.tables())
+            .saturating_add(BARE)
+            .saturating_add(rows.saturating_mul(row(pattern)));
+        if !self.charges(bytes) {
+            self.slots.clear();
+            self.held = bytes;
+        }
         let ready = Ready::new(alloc, pattern)?;
         Ok(Box::new(alloc, ready)?)
     }
@@ -138,21 +204,28 @@ impl<'p> Matchers<'p> {
         Ok(())
     }
 
-    // Charges so many bytes, and before that drops all matchers, where it would be too much.
-    fn charge(&mut self, bytes: usize) {
-        if bytes > MOST_HELD.saturating_sub(self.held) {
-            self.slots.clear();
-            self.held = 0;
+    // Charges so many bytes, if they aren't too much.
+    fn charges(&mut self, bytes: usize) -> bool {
+        let has_room = bytes <= MOST_HELD.saturating_sub(self.held);
+        if has_room {
+            self.held = self.held.saturating_add(bytes);
         }
-        self.held = self.held.saturating_add(bytes);
+        has_room
     }
 }
 
-// The most by which a matcher grows with a text: a row of its automaton for each byte, and one for the end. A row has a cell
-// for each class of bytes, of which each range in the tables makes two at most, and names states. So it takes no more than
-// the tables, and no more than the widest row and a word for each state.
-fn growth(pattern: &Pattern, text: &str) -> usize {
+// With how many bytes both begin.
+fn common(first: &[u8], second: &[u8]) -> usize {
+    first
+        .iter()
+        .zip(second)
+        .take_while(|(one, other)| one == other)
+        .count()
+}
+
+// The most that a row of a pattern's automaton takes. It has a cell for each class of bytes, of which each range in the tables makes two
+// at most, and names states. So it takes no more than the tables, and no more than the widest row and a word for each state.
+fn row(pattern: &Pattern) -> usize {
     let tables = pattern.tables();
-    let row = tables.min(WIDEST_ROW.saturating_add(tables / 4));
-    text.len().saturating_add(1).saturating_mul(row)
+    tables.min(WIDEST_ROW.saturating_add(tables / 4))
 }

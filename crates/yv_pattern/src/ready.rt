@@ -14,6 +14,8 @@ pub struct Ready<'p> {
     matcher: Matcher<'p>,
     // How many bytes of texts it was given.
     read: usize,
+    // The number of the last of these.
+    turn: u64,
 }
 
 impl<'p> Model for Ready<'p> {
@@ -39,6 +41,7 @@ impl<'p> Ready<'p> {
             regex: &pattern.regex,
             matcher,
             read: 0,
+            turn: 0,
         })
     }
 
@@ -56,6 +59,18 @@ impl<'p> Ready<'p> {
         ensures { IsTrue result → self.now ≡ pattern.now }
     {
         self.regex.as_str() == pattern.source()
+    }
+
+    /// The number of the text that it was given last.
+    pub(crate) fn turn(&self) -> u64 {
+        self.turn
+    }
+
+    /// Notes the number of the text that it is given next.
+    pub(crate) fn note_turn(&mut self, turn: u64)
+        ensures { self.new ≡ self.old }
+    {
+        self.turn = turn;
     }
 
     /// How many bytes of texts it was given.

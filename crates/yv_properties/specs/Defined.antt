@@ -83,3 +83,28 @@ blank = record {
   type_default = None;
   defaults = [];
 }
+
+-- what is said of a node, but that its values have these types
+abbrev pub with_types : List Plain → Defined → Defined
+with_types types d = record {
+  file = d.file;
+  offset = d.offset;
+  line = d.line;
+  kind = d.kind;
+  name = d.name;
+  types = types;
+  has_presence = d.has_presence;
+  status = d.status;
+  features = d.features;
+  type_text = d.type_text;
+  path = d.path;
+  stated_config = d.stated_config;
+  is_mandatory = d.is_mandatory;
+  min = d.min;
+  max = d.max;
+  keys = d.keys;
+  uniques = d.uniques;
+  own_default = d.own_default;
+  type_default = d.type_default;
+  defaults = d.defaults;
+}

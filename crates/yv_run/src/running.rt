@@ -9,6 +9,7 @@ ghost use Rattle.yv_outcome.specs.Compiles.{HavePattern};
 ghost use Rattle.yv_messages.specs.Document.{SaysWhy};
 ghost use Rattle.yv_messages.specs.Excerpt.{Explains};
 ghost use Rattle.yv_messages.specs.Explained.{Speaks, bytes_at};
+ghost use Rattle.yv_messages.specs.Unbuilt.{TellsPattern};
 ghost use Rattle.yv_run.specs.InnerRun.{AppendsAll, AppendsFront, ReadsOf, ReadsOfData, SaysOf, SaysOfData};
 ghost use Rattle.yv_run.specs.Notes.{IsNote, NotesDocument, NotesGiven};
 ghost use Rattle.yv_run.specs.Reads.{ReadsAndPrints, ReadsAndWrites, most_read};
@@ -20,7 +21,7 @@ use std::io::{Read, Write};
 use thiserror::Error;
 use yv_fault_lines::write_faults;
 use yv_job::{Command, Job};
-use yv_messages::{Bounds, explanation, why_not_json};
+use yv_messages::{Bounds, explanation, unbuilt_pattern, why_not_json};
 use yv_outcome::{Body, Output, Status, of_count, of_data, of_diagram, of_refusal};
 use yv_schema::Schema;
 use yv_statement::{Refusal, Stop};
@@ -52,8 +53,8 @@ impl From<AllocError> for Halt {
 #[derive(Drop)]
 pub struct Ended {
     pub status: Status,
-    /// Where the files were refused, the place and what the refusal means; where the document is no JSON, the place and why;
-    /// where it has faults, sentences on the first of them. None else, and where there is no memory for it.
+    /// Where the files were refused, the place and what the refusal means; where a pattern isn't built, its place; where the document is no
+    /// JSON, the place and why; where it has faults, sentences on the first of them. None else, and where there is no memory for it.
     pub note: Option<String>,
 }
 
@@ -111,8 +112,8 @@ pub fn run<R: Read, W: Write>(
     run_with_note(alloc, job, inputs, reader, writer).status
 }
 
-/// Does what `run` does, and tells besides what helps a person: why the files are refused, or the document is no JSON, or what is
-/// wrong with it.
+/// Does what `run` does, and tells besides what helps a person: why the files are refused, or which of their patterns isn't built, or why
+/// the document is no JSON, or what is wrong with it.
 pub fn run_with_note<R: Read, W: Write>(
     alloc: Global,
     job: &Job,
@@ -140,6 +141,7 @@ pub fn run_with_note<R: Read, W: Write>(
     ensures writer_once { FailsOnceAtMost writer.new }
     ensures built { result.status ≡ Status.PatternBuild → HavePattern (choice_of job.now.selection) job.now.limit (map file_of inputs.now) }
     ensures note { IfSome result.note (λ s. IsNote (R.remaining (stream_inner reader.old)) (task_of job.now) (map file_of inputs.now) (string_bytes s)) }
+    ensures note_on_pattern { result.status ≡ Status.PatternBuild → IfSome result.note (λ s. TellsPattern (map file_of inputs.now) (string_bytes s)) }
 {
     match outcome(alloc, job, inputs, reader) {
         Ok(found) => Ended {
@@ -147,7 +149,10 @@ pub fn run_with_note<R: Read, W: Write>(
             note: found.note,
         },
         Err(Halt::NoMemory) => Ended::plain(Status::NoMemory),
-        Err(Halt::PatternBuild) => Ended::plain(Status::PatternBuild),
+        Err(Halt::PatternBuild) => Ended {
+            status: Status::PatternBuild,
+            note: note_on_pattern(alloc, inputs),
+        },
         Err(Halt::Read) => Ended::plain(Status::ReadFault),
     }
 }
@@ -301,6 +306,16 @@ fn note_of(alloc: Global, job: &Job, inputs: &[Input], refusal: &Refusal) -> Opt
     };
     match explanation(alloc, inputs, &bounds, refusal) {
         Ok(text) => Some(text),
+        Err(_) => None,
+    }
+}
+
+// Which pattern isn't built, where one is found in the order of the files, and there is memory to say it.
+fn note_on_pattern(alloc: Global, inputs: &[Input]) -> Option<String>
+    ensures { IfSome result (λ s. TellsPattern (map file_of inputs.now) (string_bytes s)) }
+{
+    match unbuilt_pattern(alloc, inputs) {
+        Ok(told) => told,
         Err(_) => None,
     }
 }

@@ -3,9 +3,13 @@ ghost use Rattle.std.specs.Prelude.{◌≡◌, IfOk, OnOk, Some, None, Err};
 ghost use Rattle.yv_statement.specs.declared.refusal.Refusal.{Refusal};
 ghost use Rattle.yv_statement.specs.declared.refusal.Stop.TheVariants.{Fault, PatternBuild};
 ghost use Rattle.yv_statement.specs.Order.{IsLeast};
-ghost use Rattle.yv_selection.specs.Choice.{choice_of};
+ghost use Rattle.yv_selection.specs.Choice.{Choice, choice_of};
 ghost use Rattle.yv_rows.specs.Files.{Files};
 ghost use Rattle.yv_restricted_types.specs.Types.{HasTypePattern};
+ghost use Rattle.yv_names.specs.Known.{AreNames};
+ghost use Rattle.yv_link.specs.Linked.{AreLinked, truth_in};
+ghost use Rattle.yv_types.specs.Faults.{BadTypes};
+ghost use Rattle.yv_types.specs.Known.{AreTypes};
 ghost use Rattle.yv_nodes.specs.Rows.{whole};
 ghost use Rattle.yv_tables.specs.Sound.{IsSound};
 ghost use Rattle.yv_schema.specs.Refuses.{Refuses, RefusesBeforeTypes};
@@ -14,8 +18,9 @@ ghost use Rattle.yv_schema.specs.Schema.{AreNotes, AreReferences, IsSchema};
 ghost use Rattle.yv_schema.specs.InnerPhases.{AreClear, AreExpanded, SomeClear, SomeExpanded};
 
 use crate::build::build;
-use crate::context::{Context, definitions_of};
+use crate::context::{Context, refined_definitions};
 use std::alloc::Global;
+use yv_definitions::Definitions;
 use yv_definitions::laws::{files_have_one_typing, types_tell_typing};
 use yv_features::laws::an_expression_has_one_truth;
 use yv_final_tree::laws::{
@@ -29,7 +34,7 @@ use yv_names::{Names, names};
 use yv_selection::Selection;
 use yv_statement::Stop;
 use yv_tables::Schema;
-use yv_types::types;
+use yv_types::{Types, types};
 
 /// The schema of linked files in which nothing is refused so far, or the least refusal of what comes behind.
 pub(crate) fn of_linked(
@@ -68,34 +73,34 @@ pub(crate) fn of_linked(
         Ok(tree) => tree,
         Err(stop) => return Err(stop),
     };
-    of_expanded(alloc, linked, &names, &tree, selection, limit)
+    of_expanded(alloc, linked, names, &tree, selection, limit)
 }
 
 // The schema of expanded files in which nothing is refused so far, or the least refusal of their types and their nodes.
 fn of_expanded(
     alloc: Global,
     linked: &Linked<'_, '_>,
-    names: &Names,
+    names: Names,
     tree: &FinalTree,
     selection: &Selection,
     limit: u32,
 ) -> Result<Schema, Stop>
-    requires { SomeExpanded (choice_of selection.now) limit linked.now names.now tree.now }
-    ensures schema { (files : Files) → AreExpanded (choice_of selection.now) files limit linked.now names.now tree.now
+    requires { SomeExpanded (choice_of selection.now) limit linked.now names tree.now }
+    ensures schema { (files : Files) → AreExpanded (choice_of selection.now) files limit linked.now names tree.now
         → IfOk result (λ s. IsSchema (choice_of selection.now) files (whole s)) }
     ensures limit { IfOk result (λ s. s.limit ≡ limit) }
-    ensures modules { (files : Files) → AreExpanded (choice_of selection.now) files limit linked.now names.now tree.now
+    ensures modules { (files : Files) → AreExpanded (choice_of selection.now) files limit linked.now names tree.now
         → IfOk result (λ s. s.modules ≡ modules_of (choice_of selection.now) files) }
-    ensures augments { (files : Files) → AreExpanded (choice_of selection.now) files limit linked.now names.now tree.now
+    ensures augments { (files : Files) → AreExpanded (choice_of selection.now) files limit linked.now names tree.now
         → IfOk result (λ s. AreNotes (choice_of selection.now) files s.augments) }
-    ensures references { (files : Files) → AreExpanded (choice_of selection.now) files limit linked.now names.now tree.now
+    ensures references { (files : Files) → AreExpanded (choice_of selection.now) files limit linked.now names tree.now
         → IfOk result (λ s. AreReferences (choice_of selection.now) files s.links) }
     ensures sound { IfOk result IsSound }
-    ensures clear { (files : Files) → AreExpanded (choice_of selection.now) files limit linked.now names.now tree.now
+    ensures clear { (files : Files) → AreExpanded (choice_of selection.now) files limit linked.now names tree.now
         → OnOk result (IsLeast (Refuses (choice_of selection.now) files limit) None) }
-    ensures refusal { (files : Files) → AreExpanded (choice_of selection.now) files limit linked.now names.now tree.now
+    ensures refusal { (files : Files) → AreExpanded (choice_of selection.now) files limit linked.now names tree.now
         → (r : Refusal) → result ≡ Err (Fault r) → IsLeast (Refuses (choice_of selection.now) files limit) (Some r) }
-    ensures built { (files : Files) → AreExpanded (choice_of selection.now) files limit linked.now names.now tree.now
+    ensures built { (files : Files) → AreExpanded (choice_of selection.now) files limit linked.now names tree.now
         → result ≡ Err PatternBuild → HasTypePattern files }
 {
     linked_files_tell_what_holds();
@@ -105,11 +110,27 @@ fn of_expanded(
     files_have_one_final_tree();
     what_is_left_is_one();
     a_tree_is_typed_once();
-    let types = match types(alloc, linked, names) {
+    let types = match last_types(alloc, linked, names) {
         Ok(types) => types,
         Err(stop) => return Err(stop),
     };
-    let definitions = definitions_of(alloc, linked.rows(), &types, tree)?;
-    let context = Context::new(&definitions, tree);
+    let definitions = Definitions::read(alloc, linked.rows(), &types)?;
+    let refined = refined_definitions(alloc, &definitions, tree)?;
+    let context = Context::new(&definitions, &refined, tree);
     build(alloc, linked.rows(), &context, selection, limit)
+}
+
+// The types of linked files, the names being theirs, which aren't needed any longer: their memory is given back before nodes are built.
+fn last_types(alloc: Global, linked: &Linked<'_, '_>, names: Names) -> Result<Types, Stop>
+    ensures made { IfOk result (λ types. (files : Files) (choice : Choice) → AreLinked files choice linked.now → AreNames files names
+        → AreTypes files choice (truth_in linked.now) types) }
+    ensures clear { OnOk result ((files : Files) (choice : Choice) → AreLinked files choice linked.now → AreNames files names
+        → IsLeast (BadTypes files (truth_in linked.now)) None) }
+    ensures refusal { (r : Refusal) → result ≡ Err (Fault r)
+        → (files : Files) (choice : Choice) → AreLinked files choice linked.now → AreNames files names
+        → IsLeast (BadTypes files (truth_in linked.now)) (Some r) }
+    ensures built { result ≡ Err PatternBuild
+        → (files : Files) (choice : Choice) → AreLinked files choice linked.now → HasTypePattern files }
+{
+    types(alloc, linked, &names)
 }

@@ -66,7 +66,7 @@ impl Builder<'_, '_, '_> {
         ensures limit { nodes.new.limit ≡ nodes.old.limit }
         ensures memory { IfErr result (λ stop. stop ≡ NoMemory) }
     {
-        let top = Above::top(self.alloc)?;
+        let top = Above::top();
         let mut aboves = Vec::new(self.alloc);
         for (place, item) in items.iter().enumerate() {
             let above = above_at(&top, &aboves, item.parent);

@@ -1,18 +1,47 @@
-use Rattle.std.proofs.Common.{◌≡◌, ℕ, length, subst, arith}
-use Rattle.std.proofs.lemmas.Option.{slice_get-get_or}
-use Rattle.yv_statement.specs.Order.{Among, IsLeast}
-use Rattle.yv_statement.proofs.Least.{least_more}
+use Rattle.std.proofs.Common.{◌≡◌, ◌<◌, ℕ, List, Vec, Global, Some, get_or, length, refl, ◌∙◌, ap, subst, arith}
+use Rattle.std.specs.List.{slice_get}
+use Rattle.std.proofs.lemmas.List.{take_all}
+use Rattle.std.proofs.lemmas.Option.{slice_get_read}
+use Rattle.yv_statement.specs.Order.{IsLeast}
 use Rattle.yv_rows.specs.Lent.{lent_in}
-use Rattle.yv_changes.specs.Faults.{IsWrong}
+use Rattle.yv_refinements.specs.Meant.{meant_at, meant_from}
+use Rattle.yv_refinements.specs.declared.meant.Aim.{Aim}
+use Rattle.yv_refinements.specs.declared.meant.RefinedUses.{RefinedUses}
+use Rattle.yv_changes.specs.Faults.{BadRefines}
+use Rattle.yv_changes.specs.InnerFaults.{AreJudged}
+use Rattle.yv_changes.proofs.Judging.{copies_judged, none_judged}
 use Rattle.yv_changes.proofs.faults.first_wrong.Goals as goal
 
-pub loop-x-preserved : goal.loop-x-preserved
-loop-x-preserved c =
+pub loop-uses-init : goal.loop-uses-init
+loop-uses-init c =
+    let files = lent_in c.args.rows.now in
+    record {
+      judged = subst (λ (aims : List (Vec Aim Global)). AreJudged files aims c.in_ok-judged.judged.items) c.as_slice-aims.ensures.value (c.in_ok-judged.ensures files);
+      least = none_judged files c.args.spots.now c.args.tree.now _ refl;
+    }
+
+pub loop-uses-preserved : goal.loop-uses-preserved
+loop-uses-preserved c =
+    let files = lent_in c.args.rows.now in
+    let spots = c.args.spots.now in
     let tree = c.args.tree.now in
-    least_more c.args.refined.now (λ place x. IsWrong (lent_in c.args.rows.now) c.args.spots.now tree x) c.loop-x.x-index _ c.loop-x.least c.wrong.result c.lesser-least.result
-    (slice_get-get_or c.args.refined.now c.loop-x.x-index _ c.loop-x-test.true) c.lesser-least.ensures c.loop-x.invariant (c.wrong.ensures tree c.in_ok-items.ensures)
+    let aims : List (Vec Aim Global) = c.args.refinements.now.aims.items in
+    let uses : List RefinedUses = c.args.refinements.now.uses.items in
+    let k : ℕ = c.loop-uses.uses-index in
+    let u : RefinedUses = c.uses-item.result in
+    let within : k < length uses = omega (arith, c.loop-uses-test.true, ap length c.deref-uses-items.ensures.value) in
+    let at : slice_get uses k ≡ Some u = slice_get_read uses _ k u refl within (c.uses-item.is ∙ ap (λ (us : List RefinedUses). get_or us k u) c.deref-uses-items.ensures.value) in
+    let now : IsLeast (BadRefines files spots (meant_at aims u) tree) c.in_ok-wrong.wrong =
+    subst (λ (l : List (Vec Aim Global)). IsLeast (BadRefines files spots (meant_at l u) tree) c.in_ok-wrong.wrong) c.as_slice-aims.ensures.value (c.in_ok-wrong.ensures.least tree c.in_ok-items.ensures)
+    in
+    record {
+      judged = subst (λ (l : List (Vec Aim Global)). AreJudged files l c.wrong.new.judged.items) c.as_slice-aims.ensures.value c.in_ok-wrong.ensures.judged;
+      least = copies_judged files spots tree aims uses k u c.loop-uses.least c.in_ok-wrong.wrong c.lesser-least.result at c.lesser-least.ensures c.loop-uses.invariant.least now;
+    }
 
 pub returns : goal.returns
 returns c =
-    let all : c.loop-x.x-index ≡ length c.args.refined.now = omega (arith, c.loop-x-test.false, c.loop-x.auto.x-index-end) in
-    subst (λ (n : ℕ). IsLeast (Among c.args.refined.now (λ place x. IsWrong (lent_in c.args.rows.now) c.args.spots.now c.args.tree.now x) n) c.loop-x.least) all c.loop-x.invariant
+    let aims : List (Vec Aim Global) = c.args.refinements.now.aims.items in
+    let uses : List RefinedUses = c.args.refinements.now.uses.items in
+    subst (λ (us : List RefinedUses). IsLeast (BadRefines (lent_in c.args.rows.now) c.args.spots.now (meant_from aims us) c.args.tree.now) c.loop-uses.least)
+    (take_all c.loop-uses.uses-index uses (omega (arith, c.loop-uses-test.false, ap length c.deref-uses-items.ensures.value))) c.loop-uses.invariant.least

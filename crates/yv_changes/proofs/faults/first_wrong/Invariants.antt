@@ -1,7 +1,13 @@
-use Rattle.yv_statement.specs.Order.{Among, IsLeast}
+use Rattle.std.proofs.Common.{take}
+use Rattle.yv_statement.specs.Order.{IsLeast}
 use Rattle.yv_rows.specs.Lent.{lent_in}
-use Rattle.yv_changes.specs.Faults.{IsWrong}
+use Rattle.yv_refinements.specs.Meant.{meant_from}
+use Rattle.yv_changes.specs.Faults.{BadRefines}
+use Rattle.yv_changes.specs.InnerFaults.{AreJudged}
 use Rattle.yv_changes.proofs.faults.first_wrong.Given as goal
 
-abbrev pub invariant-loop-x : goal.invariant-loop-x
-invariant-loop-x l = IsLeast (Among l.refined (λ place x. IsWrong (lent_in l.rows) l.spots l.tree x) l.x-index) l.least
+abbrev pub invariant-loop-uses : goal.invariant-loop-uses
+invariant-loop-uses l = record {
+  judged : AreJudged (lent_in l.rows) l.refinements.aims.items l.judged.items;
+  least : IsLeast (BadRefines (lent_in l.rows) l.spots (meant_from l.refinements.aims.items (take l.uses-index l.refinements.uses.items)) l.tree) l.least;
+}

@@ -19,4 +19,4 @@ returns-in-None c =
     let kinds = kinds_of c.args.types.now in
     let none : [] ≡ types_in kinds c.args.file c.args.statement.now.children =
     ap (types_found kinds c.args.file) c.in-None.ensures ∙ sym (types_in-first kinds c.args.file c.args.statement.now.children) in
-    IfOk-weaker c.no_types.result _ _ (λ list is. ap (map plain_of) is ∙ none) c.no_types.ensures
+    IfOk-weaker c.types.result _ _ (λ list is. ap (map plain_of) is ∙ none) c.types.ensures

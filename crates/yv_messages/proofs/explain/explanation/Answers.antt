@@ -2,12 +2,9 @@ use Rattle.std.proofs.Common.{rules, ◌≡◌, ℕ, List, length, map, string_b
 use Rattle.yv_statement.specs.Codes.{name_of}
 use Rattle.yv_streams.specs.Files.{file_of}
 use Rattle.yv_messages.specs.Excerpt.{Explains, ShowsPlace}
+use Rattle.yv_messages.proofs.Quoting.{grown}
 use Rattle.yv_messages.proofs.Speaking.{speaks_longer}
 use Rattle.yv_messages.proofs.explain.explanation.Goals as goal
-
--- a text that grew by three texts
-grown : (a b c d one two three : List ℕ) → one ≡ a ++ b → two ≡ one ++ c → three ≡ two ++ d → three ≡ a ++ (b ++ (c ++ d))
-grown a b c d one two three e f g = g ∙ ap (λ t. t ++ d) (f ∙ ap (λ t. t ++ c) e) ∙ append_assoc (a ++ b) c d ∙ append_assoc a b (c ++ d)
 
 pub returns-clause-place : goal.returns-clause-place
 returns-clause-place c =

@@ -53,7 +53,7 @@ build-requires-clause-basis c =
     let b : Basis = record { files = files; truth = truth; typing = typing_of c.in-Ok.types; final = k.final; nodes = k.nodes } in
     let is_basis : IsBasis choice b = record { truth = is; typing = are; final = k.is_final; nodes = k.are_left } in
     let read = c.rows.ensures files choice clear.are in
-    let said = c.new-context.ensures b choice (c.in_ok-definitions.ensures.files ∙ read) c.in_ok-definitions.ensures.typing k refl refl in
+    let said = c.new-context.ensures b choice (c.in_ok-definitions.ensures.files ∙ read) c.in_ok-definitions.ensures.typing c.in_ok-refined.ensures k refl refl in
     let tells : Tells b c.new-context.result = said.0 in
     let built = c.rows-2.ensures files choice clear.are in
     let told : TellsOf choice files c.new-context.result = record { basis = b; of_files = refl; tells = tells; chosen = said.1 } in
@@ -72,7 +72,7 @@ returns-clause-schema c = λ files given.
     let b : Basis = record { files = files; truth = truth; typing = typing_of c.in-Ok.types; final = k.final; nodes = k.nodes } in
     let is_basis : IsBasis choice b = record { truth = is; typing = are; final = k.is_final; nodes = k.are_left } in
     let read = c.rows.ensures files choice clear.are in
-    let said = c.new-context.ensures b choice (c.in_ok-definitions.ensures.files ∙ read) c.in_ok-definitions.ensures.typing k refl refl in
+    let said = c.new-context.ensures b choice (c.in_ok-definitions.ensures.files ∙ read) c.in_ok-definitions.ensures.typing c.in_ok-refined.ensures k refl refl in
     let tells : Tells b c.new-context.result = said.0 in
     let built = c.rows-2.ensures files choice clear.are in
     let found = rw built at c.build.ensures.schema in
@@ -91,7 +91,7 @@ returns-clause-augments c = λ files given.
     let b : Basis = record { files = files; truth = truth; typing = typing_of c.in-Ok.types; final = k.final; nodes = k.nodes } in
     let is_basis : IsBasis choice b = record { truth = is; typing = are; final = k.is_final; nodes = k.are_left } in
     let read = c.rows.ensures files choice clear.are in
-    let said = c.new-context.ensures b choice (c.in_ok-definitions.ensures.files ∙ read) c.in_ok-definitions.ensures.typing k refl refl in
+    let said = c.new-context.ensures b choice (c.in_ok-definitions.ensures.files ∙ read) c.in_ok-definitions.ensures.typing c.in_ok-refined.ensures k refl refl in
     let tells : Tells b c.new-context.result = said.0 in
     let built = c.rows-2.ensures files choice clear.are in
     let found = rw built at c.build.ensures.augments in
@@ -110,7 +110,7 @@ returns-clause-references c = λ files given.
     let b : Basis = record { files = files; truth = truth; typing = typing_of c.in-Ok.types; final = k.final; nodes = k.nodes } in
     let is_basis : IsBasis choice b = record { truth = is; typing = are; final = k.is_final; nodes = k.are_left } in
     let read = c.rows.ensures files choice clear.are in
-    let said = c.new-context.ensures b choice (c.in_ok-definitions.ensures.files ∙ read) c.in_ok-definitions.ensures.typing k refl refl in
+    let said = c.new-context.ensures b choice (c.in_ok-definitions.ensures.files ∙ read) c.in_ok-definitions.ensures.typing c.in_ok-refined.ensures k refl refl in
     let tells : Tells b c.new-context.result = said.0 in
     let built = c.rows-2.ensures files choice clear.are in
     let found = rw built at c.build.ensures.references in
@@ -129,7 +129,7 @@ returns-clause-clear c = λ files given.
     let b : Basis = record { files = files; truth = truth; typing = typing_of c.in-Ok.types; final = k.final; nodes = k.nodes } in
     let is_basis : IsBasis choice b = record { truth = is; typing = are; final = k.is_final; nodes = k.are_left } in
     let read = c.rows.ensures files choice clear.are in
-    let said = c.new-context.ensures b choice (c.in_ok-definitions.ensures.files ∙ read) c.in_ok-definitions.ensures.typing k refl refl in
+    let said = c.new-context.ensures b choice (c.in_ok-definitions.ensures.files ∙ read) c.in_ok-definitions.ensures.typing c.in_ok-refined.ensures k refl refl in
     let tells : Tells b c.new-context.result = said.0 in
     let built = c.rows-2.ensures files choice clear.are in
     let typed : IsLeast (BadTypes files truth) None = c.in-Ok.ensures.clear files choice clear.are given.are_names in
@@ -152,7 +152,7 @@ returns-clause-refusal c = λ files given r e.
     let b : Basis = record { files = files; truth = truth; typing = typing_of c.in-Ok.types; final = k.final; nodes = k.nodes } in
     let is_basis : IsBasis choice b = record { truth = is; typing = are; final = k.is_final; nodes = k.are_left } in
     let read = c.rows.ensures files choice clear.are in
-    let said = c.new-context.ensures b choice (c.in_ok-definitions.ensures.files ∙ read) c.in_ok-definitions.ensures.typing k refl refl in
+    let said = c.new-context.ensures b choice (c.in_ok-definitions.ensures.files ∙ read) c.in_ok-definitions.ensures.typing c.in_ok-refined.ensures k refl refl in
     let tells : Tells b c.new-context.result = said.0 in
     let built = c.rows-2.ensures files choice clear.are in
     let typed : IsLeast (BadTypes files truth) None = c.in-Ok.ensures.clear files choice clear.are given.are_names in

@@ -1,7 +1,6 @@
 use Rattle.std.proofs.Common.{◌≡◌, ℕ, List, Bool, true, false, ◌==◌, ◌||◌, ◌&&◌, Option, Some, None, sym, ap, ◌∙◌}
-use Rattle.std.specs.Rc.{rc_str_bytes}
 use Rattle.yv_properties.specs.Kinds.{is_leaf}
-use Rattle.yv_properties.specs.Steps.{Step, has_step}
+use Rattle.yv_properties.specs.Steps.{has_step}
 use Rattle.yv_above.specs.Labels.{has_key_called}
 use Rattle.yv_above.specs.Above.{Seen, nearest_home, nearest_keys}
 use Rattle.yv_above.proofs.Keyed.{keyed}
@@ -26,7 +25,8 @@ returns-else-has_bare_key c = λ ls e.
     c.has_bare_key.ensures ∙ ap (λ (n : List ℕ). home == c.args.self.now.home && has_step None n c.args.self.now.keys) c.in_ok-bare.ensures
     ∙ ap (λ (s : Seen). home == s.home && has_step None name s.keys) e in
     let leaf : is_leaf c.args.definition.now.kind ≡ true = sym c.is_leaf.ensures ∙ c.if-not-is_leaf.false in
-    let keys : c.deref.result.now ≡ nearest_keys ls = c.deref.ensures ∙ ap (λ (s : Seen). s.keys) (c.self.view_is ∙ e) in
-    let own = c.contains.ensures ∙ ap (λ (steps : List (Option Step)). has_step (Some home) (rc_str_bytes c.in_ok-name.name) steps) keys ∙ ap (λ (n : List ℕ). has_step (Some home) n (nearest_keys ls)) c.in_ok-name.ensures in
+    let own : c.has_key_step.result ≡ has_step (Some home) name (nearest_keys ls) =
+    c.has_key_step.ensures ∙ ap (λ (n : List ℕ). has_step (Some home) n c.args.self.now.keys) c.in_ok-name.ensures
+    ∙ ap (λ (s : Seen). has_step (Some home) name s.keys) e in
     own
     ∙ sym (ap (λ (b : Bool). b && has_key_called ls home name) leaf ∙ keyed home ls name ∙ ap (λ (b : Bool). b || has_step (Some home) name (nearest_keys ls)) (sym bare ∙ c.if-has_bare_key.false))

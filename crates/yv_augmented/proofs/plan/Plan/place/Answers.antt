@@ -8,6 +8,7 @@ use Rattle.yv_augments.specs.declared.label.Label.{Label}
 use Rattle.yv_augments.specs.Turns.{State}
 use Rattle.yv_augments.specs.Placed.{nothing}
 use Rattle.yv_augments.specs.InnerState.{IsGrafting}
+use Rattle.yv_refinements.specs.Meant.{all_meant}
 use Rattle.yv_augmented.specs.Grafted.{placed_from, turns}
 use Rattle.yv_augmented.specs.Spots.{Whole, copies_of, labels_of}
 use Rattle.yv_augmented.specs.InnerLayout.{Fits, laid_in}
@@ -35,7 +36,8 @@ loop-left-init c =
       each = ap length c.in_ok-missing.ensures ∙ length-replicate c.len.result None ∙ size;
       state = subst (λ (l : List Spot). IsGrafting (labels_of spots) (placed_from w (labels_of spots) copies c.len-left.result l) c.in_ok-grafting.grafting)
           (sym (none ∙ drop_all (length spots) spots (omega arith))) base;
-      refined = c.new-refined.ensures.items ∙ sym (ap (λ (l : List Spot). refined_from w (labels_of spots) copies (λ i. get_or c.args.ends.now i 0) c.len-left.result l)
+      aims = c.new-aims.ensures.aims w;
+      refined = c.new-aims.ensures.meant ∙ sym (ap (λ (l : List Spot). refined_from w (labels_of spots) copies (λ i. get_or c.args.ends.now i 0) c.len-left.result l)
           (none ∙ drop_all (length spots) spots (omega arith)));
       told = λ i le. (
           let past : length spots ≤ i = omega (arith, c.len-left.ensures, le) in
@@ -71,8 +73,9 @@ loop-left-preserved c =
       each = ap length c.note.ensures ∙ length-set c.loop-left.missing.items n _ ∙ c.loop-left.invariant.each;
       state = subst (λ (x : State). IsGrafting labels x c.enter.new.self) (placed_more w labels copies n left s spots (turns w labels s st) next at refl)
           (c.in_ok-enter.ensures labels (turns w labels s st) ready);
-      refined = refined_more w labels copies (λ i. get_or c.args.ends.now i 0) n left s spots c.end_of-end.result c.loop-left.refined.items _ next at c.end_of-end.ensures
-          (c.in_ok-refine_all.ensures labels st c.loop-left.invariant.state) c.loop-left.invariant.refined;
+      aims = c.in_ok-refine_all.ensures.aims;
+      refined = refined_more w labels copies (λ i. get_or c.args.ends.now i 0) n left s spots c.end_of-end.result (all_meant c.loop-left.aims.refinements) _ next at c.end_of-end.ensures
+          (c.in_ok-refine_all.ensures.meant labels st c.loop-left.invariant.state) c.loop-left.invariant.refined;
       told = missing_more w (laid_in c.args.layout.now) c.args.ends.now n left _ c.loop-left.missing.items _ next (omega (arith, inside, c.loop-left.invariant.each)) c.note.ensures
           (missing_here w (laid_in c.args.layout.now) (get_or c.args.ends.now n 0) n left s _ next at refused) c.loop-left.invariant.told;
     }

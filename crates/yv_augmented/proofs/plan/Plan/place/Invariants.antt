@@ -1,10 +1,12 @@
 use Rattle.std.proofs.Common.{◌≡◌, ◌≤◌, ℕ, None, length, drop, get_or}
 use Rattle.yv_statement.specs.Order.{IsLeast}
 use Rattle.yv_augments.specs.InnerState.{IsGrafting}
+use Rattle.yv_refinements.specs.Meant.{all_meant}
 use Rattle.yv_augmented.specs.Grafted.{placed_from}
 use Rattle.yv_augmented.specs.Spots.{labels_of}
 use Rattle.yv_augmented.specs.Refining.{refined_from}
 use Rattle.yv_augmented.specs.Untargeted.{MissesAt}
+use Rattle.yv_augmented.specs.InnerAims.{AreAims}
 use Rattle.yv_augmented.specs.InnerLayout.{laid_in}
 use Rattle.yv_augmented.specs.InnerPlan.{whole_in}
 use Rattle.yv_augmented.proofs.plan.Plan.place.Given as goal
@@ -15,7 +17,8 @@ invariant-loop-left l = record {
   each : length l.missing.items ≡ length l.layout.spots.items;
   state : IsGrafting (labels_of l.layout.spots.items)
       (placed_from (whole_in l.self) (labels_of l.layout.spots.items) l.layout.copies l.left (drop l.left l.layout.spots.items)) l.grafting;
-  refined : l.refined.items
+  aims : AreAims (whole_in l.self) l.aims;
+  refined : all_meant l.aims.refinements
       ≡ refined_from (whole_in l.self) (labels_of l.layout.spots.items) l.layout.copies (λ i. get_or l.ends i 0) l.left (drop l.left l.layout.spots.items);
   told : (i : ℕ) → l.left ≤ i → IsLeast (MissesAt (whole_in l.self) (laid_in l.layout) (get_or l.ends i 0) i) (get_or l.missing.items i None);
 }

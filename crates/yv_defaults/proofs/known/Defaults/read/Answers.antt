@@ -8,11 +8,13 @@ use Rattle.yv_names.specs.Known.{AreNames}
 use Rattle.yv_bases.specs.InnerTables.{at}
 use Rattle.yv_bases.specs.Known.{AreBases}
 use Rattle.yv_bases.specs.Types.{IsOrderOfTypes, IsTypeAt}
+use Rattle.yv_properties.specs.Defined.{Written}
 use Rattle.yv_properties.specs.declared.definition.WrittenText.{WrittenText}
 use Rattle.yv_defaults.specs.Defaults.{HasDefault}
 use Rattle.yv_defaults.specs.InnerTables.{AreFound, IsFollowed, text_from}
 use Rattle.yv_defaults.specs.Known.{AreDefaults}
 use Rattle.yv_defaults.specs.declared.known.Defaults.{Defaults}
+use Rattle.yv_defaults.proofs.Keeping.{kept_text}
 use Rattle.yv_defaults.proofs.Finding.{blank_more, found_all, found_for, found_more, item_in}
 use Rattle.yv_defaults.proofs.known.Defaults.read.Goals as goal
 
@@ -46,8 +48,10 @@ returns c = λ files is names bases.
     let own : Files = lent_in c.args.rows.now in
     let named : AreNames own c.args.names.now = subst (λ (fs : Files). AreNames fs c.args.names.now) (sym is) names in
     let based : AreBases own c.args.bases.now = subst (λ (fs : Files). AreBases fs c.args.bases.now) (sym is) bases in
-    let defaults : Defaults = record { said = c.in_ok-said.said; found = c.loop-number.found } in
+    let defaults : Defaults = record { said = c.in_ok-texts.texts; found = c.in_ok-kept.kept } in
+    let told : (k : ℕ) → HasDefault own k (text_from c.in_ok-said.said.items (at c.loop-number.found.items k)) =
+    found_all own c.in_ok-said.said.items c.order-order.result.now c.loop-number.number-index c.loop-number.found.items c.loop-number-test.false ((c.order-order.ensures own based).exact) (c.loop-number.invariant.told named based) (c.loop-number.invariant.blank based) in
     let all : AreDefaults own defaults = record {
-      each = found_all own c.in_ok-said.said.items c.order-order.result.now c.loop-number.number-index c.loop-number.found.items c.loop-number-test.false ((c.order-order.ensures own based).exact) (c.loop-number.invariant.told named based) (c.loop-number.invariant.blank based);
+      each = λ k. subst (λ (w : Option Written). HasDefault own k w) (sym (kept_text c.in_ok-said.said.items c.in_ok-texts.texts c.in_ok-texts.ensures c.loop-number.found.items c.in_ok-kept.kept c.in_ok-kept.ensures k)) (told k);
     } in
     subst (λ (fs : Files). AreDefaults fs defaults) is all

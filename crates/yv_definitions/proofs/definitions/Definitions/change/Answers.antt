@@ -11,4 +11,4 @@ returns-in-Some-Refine c =
     let at : slice_get self.kept.items c.args.number ≡ Some c.in-Some-Refine.field-0.now =
     sym c.in-Some-Refine.ensures in
     let is = (self.kept_so c.args.number c.in-Some-Refine.field-0.now at).1 c.in-Some-Refine.changes c.in-Some-Refine.field-0-is in
-    on_ok_weaker c.change.result (λ e. e ∙ ap (λ (p : Properties). changed p c.args.definition.now) is) c.change.ensures
+    on_ok_weaker c.change.result (λ e. e ∙ ap (λ (p : Properties). changed p c.args.definition.now) (c.deref.ensures ∙ is)) c.change.ensures

@@ -1,6 +1,7 @@
 use Rattle.std.proofs.Common.{◌≡◌, ◌∙◌, ap, map, List}
 use Rattle.std.proofs.lemmas.Result.{IfOk-weaker}
 use Rattle.yv_rows.specs.Lent.{lent_in, rows_in}
+use Rattle.yv_refinements.specs.Changed.{each}
 use Rattle.yv_augmented.specs.Imposing.{told_in}
 use Rattle.yv_expansion.specs.Tree.{Item}
 use Rattle.yv_stated.specs.Marks.{is_mandatory}
@@ -14,7 +15,7 @@ pub returns : goal.returns
 returns c = λ final items augments grown tree changes. (
     let files = lent_in c.args.self.now.rows.now in
     let said : c.deref.result.now ≡ said_of files final =
-    c.deref.ensures.value ∙ c.in_ok-said.ensures ∙ ap (λ (xs : List Item). said_of_all files xs c.args.self.now.changes.now) items
+    c.deref.ensures.value ∙ c.in_ok-said.ensures ∙ ap (λ (xs : List Item). said_of_all files xs (each c.args.self.now.changes.now)) items
     ∙ ap (said_of_all files final.items) changes in
     let told : told_in c.marks-marks.result ≡ told_of (said_of files final) =
     c.marks-marks.ensures (said_of files final) (c.in_ok-told.ensures.mandatory ∙ ap (map is_mandatory) said)

@@ -1,4 +1,4 @@
-use Rattle.std.proofs.Common.{◌<◌, inl, ℕ, List, length, map, refl, subst, sym, ◌∙◌, arith}
+use Rattle.std.proofs.Common.{◌<◌, inl, ℕ, List, Option, length, map, refl, subst, sym, ◌∙◌, arith}
 use Rattle.std.specs.List.{slice_index}
 use Rattle.std.proofs.lemmas.Option.{slice_get_within}
 use Rattle.yv_rows.specs.Files.{Files, brief_of}
@@ -10,6 +10,7 @@ use Rattle.yv_leafref_types.specs.InnerTables.{AreFound, at}
 use Rattle.yv_leafref_types.specs.Known.{AreLeafrefTypes}
 use Rattle.yv_leafref_types.specs.Referrals.{FollowsIn, HasReferral}
 use Rattle.yv_leafref_types.specs.declared.known.LeafrefTypes.{LeafrefTypes}
+use Rattle.yv_leafref_types.specs.declared.referring.Referring.{Referring}
 use Rattle.yv_leafref_types.proofs.Walking.{blank_more, found_all, found_more, item_in}
 use Rattle.yv_leafref_types.proofs.known.LeafrefTypes.read.Goals as goal
 
@@ -40,8 +41,10 @@ pub returns : goal.returns
 returns c = λ files is bases.
     let own : Files = lent_in c.args.rows.now in
     let based : AreBases own c.args.bases.now = subst (λ (fs : Files). AreBases fs c.args.bases.now) (sym is) bases in
-    let types : LeafrefTypes = record { found = c.loop-number.found } in
+    let types : LeafrefTypes = record { found = c.in_ok-kept.kept } in
+    let told : (k : ℕ) → HasReferral own k (at c.loop-number.found.items k) =
+    found_all own c.order-order.result.now c.loop-number.number-index c.loop-number.found.items c.loop-number-test.false ((c.order-order.ensures own based).exact) (c.loop-number.invariant.told based) (c.loop-number.invariant.blank based) in
     let all : AreLeafrefTypes own types = record {
-      each = found_all own c.order-order.result.now c.loop-number.number-index c.loop-number.found.items c.loop-number-test.false ((c.order-order.ensures own based).exact) (c.loop-number.invariant.told based) (c.loop-number.invariant.blank based);
+      each = λ k. subst (λ (o : Option Referring). HasReferral own k o) (sym (c.in_ok-kept.ensures k)) (told k);
     } in
     subst (λ (fs : Files). AreLeafrefTypes fs types) is all

@@ -25,7 +25,7 @@ loop-place-preserved c = record {
       let k = c.loop-place.invariant.kept b tells homes in
       let above = line_at k.lines x.parent in
       let are : c.in_ok-children.children.items ≡ numbers_at (get_or below i []) = c.in_ok-children.ensures.numbers ∙ ap numbers_at c.places_at.ensures in
-      let seen : c.above_at-above.result.now ≡ seen_of above = c.above_at-above.ensures k.lines c.in_ok-top.ensures (subst (λ (seen : List Seen). AreSeen k.lines seen) (sym c.deref.ensures.value) k.are) in
+      let seen : c.above_at-above.result.now ≡ seen_of above = c.above_at-above.ensures k.lines c.top-top.ensures (subst (λ (seen : List Seen). AreSeen k.lines seen) (sym c.deref.ensures.value) k.are) in
       let made : c.in_ok-made.made.node ≡ row_of b above x (parent_of x.parent) (numbers_at (get_or below i [])) =
       c.in_ok-made.ensures.node b above tells homes seen ∙ ap (λ (p : NodeId). row_of b above x p c.in_ok-children.children.items) c.in_ok-parent.ensures.number
       ∙ ap (row_of b above x (parent_of x.parent)) are in

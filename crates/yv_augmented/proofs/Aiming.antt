@@ -1,0 +1,140 @@
+-- What refines aim at, and what copies mean by it.
+use Rattle.std.proofs.Common.{◌≡◌, ℕ, ◌+◌, ◌<◌, zero, suc, Bool, true, false, cond, List, [], ◌∷◌, ◌++◌, ◌&&◌, not, ◌==◌, if◌then◌else◌, length, map, take, get_or, Option, None, Some, refl, sym, ◌∙◌, ap, subst, arith}
+use Rattle.std.specs.List.{slice_get}
+use Rattle.std.specs.Option.{option_map, unwrap_or}
+use Rattle.std.specs.Ordering.{is_eq, nat_cmp}
+use Rattle.std.specs.Cmp.{Equal-is}
+use Rattle.std.specs.declared.alloc.Global.{Global}
+use Rattle.std.specs.declared.cmp.Ordering.{Ordering}
+use Rattle.std.specs.declared.vec.Vec.{Vec}
+use Rattle.std.specs.BTreeMap.{BTreeMap, get, UpdatesBy}
+use Rattle.std.proofs.lemmas.Map.Lookups.{CmpEqualImpliesEq, exact_pairs, exact_unsigned}
+use Rattle.std.proofs.Math.Dec.{eqb-suc-zero}
+use Rattle.std.proofs.lemmas.List.{map_push, take_more}
+use Rattle.std.proofs.lemmas.Option.{same_Some, slice_get-map, unwrap_or-slice_get}
+use Rattle.yv_refinements.proofs.Meaning.{aims_at_left}
+use Rattle.yv_refinements.specs.Meant.{Refined, aims_at, aims_by, meant_by}
+use Rattle.yv_refinements.specs.declared.meant.Aim.{Aim}
+use Rattle.yv_refinements.specs.declared.meant.RefinedUses.{RefinedUses}
+use Rattle.yv_augmented.specs.InnerAims.{AreAimed, StandWithin, key_cmp, paths_at}
+use Rattle.yv_augmented.specs.InnerPaths.{KeepPaths, lists}
+use Rattle.yv_augmented.specs.Spots.{Whole}
+use Rattle.yv_augmented.proofs.Differing.{get_before, get_last}
+
+-- what holds of all that is known, and of what is added, holds of all that is known then
+pub known_more : {K X : Type 0} (cmp : K → K → Ordering) → CmpEqualImpliesEq cmp → (P : K → X → Type 0) (old new : BTreeMap K X) (key : K) (x : X) → UpdatesBy cmp (cmp key) old new (Some x)
+    → ((k : K) (y : X) → get cmp old k ≡ Some y → P k y) → P key x → (k : K) (y : X) → get cmp new k ≡ Some y → P k y
+known_more {K = K} {X = X} cmp exact P old new key x updates before here k y at = by (is_eq (cmp key k)) refl
+  where
+    by : (same : Bool) → is_eq (cmp key k) ≡ same → P k y
+    by true e =
+        let is : key ≡ k = exact key k ((Equal-is (cmp key k)).0 e) in
+        let found : Some x ≡ Some y = sym (updates.0 k ∙ ap (λ b. cond b (Some x) (get cmp old k)) e) ∙ at in
+        subst (λ (z : X). P k z) (same_Some x y found) (subst (λ (j : K). P j x) is here)
+    by false e = before k y (sym (updates.0 k ∙ ap (λ b. cond b (Some x) (get cmp old k)) e) ∙ at)
+
+pub exact_key : CmpEqualImpliesEq key_cmp
+exact_key = exact_pairs nat_cmp nat_cmp exact_unsigned exact_unsigned
+
+-- the aims and paths of a place, when others get the next one
+pub aims_last : (aims : List (Vec Aim Global)) (v : Vec Aim Global) → aims_at (aims ++ v ∷ []) (length aims) ≡ v.items
+aims_last aims v = ap aims_by (get_last aims v)
+
+pub paths_before : (paths : List (Vec (Vec ℕ Global) Global)) (v : Vec (Vec ℕ Global) Global) (place : ℕ) → place < length paths → paths_at (paths ++ v ∷ []) place ≡ paths_at paths place
+paths_before paths v place h = ap (λ o. lists (unwrap_or (option_map (λ x. x.items) o) [])) (get_before paths v place h)
+
+pub paths_last : (paths : List (Vec (Vec ℕ Global) Global)) (v : Vec (Vec ℕ Global) Global) → paths_at (paths ++ v ∷ []) (length paths) ≡ lists v.items
+paths_last paths v = ap (λ o. lists (unwrap_or (option_map (λ x. x.items) o) [])) (get_last paths v)
+
+-- the aims of one copy more stand there too
+pub within_push : (places : ℕ) (us : List RefinedUses) (u : RefinedUses) → StandWithin places us → u.aims < places → StandWithin places (us ++ u ∷ [])
+within_push places [] u h less zero v at = subst (λ (x : RefinedUses). x.aims < places) (same_Some u v at) less
+within_push places [] u h less (suc k) v at = absurd (let e : None ≡ Some v = at in cc)
+within_push places (x ∷ xs) u h less zero v at = h zero v at
+within_push places (x ∷ xs) u h less (suc k) v at = within_push places xs u (λ j y e. h (suc j) y e) less k v at
+
+-- the paths of aims, when there are more
+pub paths_keep : (old new : List (List ℕ)) (path_of : ℕ → List ℕ) (aims : List Aim) (refines : List ℕ) → KeepPaths old new
+    → map (λ a. slice_get old a.path) aims ≡ map (λ k. Some (path_of k)) refines → map (λ a. slice_get new a.path) aims ≡ map (λ k. Some (path_of k)) refines
+paths_keep old new path_of [] [] keep h = refl
+paths_keep old new path_of [] (k ∷ ks) keep h = absurd (let e : [] ≡ Some (path_of k) ∷ map (λ j. Some (path_of j)) ks = h in cc)
+paths_keep old new path_of (a ∷ bs) [] keep h = absurd (let e : slice_get old a.path ∷ map (λ b. slice_get old b.path) bs ≡ [] = h in cc)
+paths_keep old new path_of (a ∷ bs) (k ∷ ks) keep h =
+    let e : slice_get old a.path ∷ map (λ b. slice_get old b.path) bs ≡ Some (path_of k) ∷ map (λ j. Some (path_of j)) ks = h in
+    let here : slice_get old a.path ≡ Some (path_of k) = cc in
+    let others : map (λ b. slice_get old b.path) bs ≡ map (λ j. Some (path_of j)) ks = cc in
+    ap (λ (o : Option (List ℕ)). o ∷ map (λ b. slice_get new b.path) bs) (keep a.path (path_of k) here)
+    ∙ ap (λ (l : List (Option (List ℕ))). Some (path_of k) ∷ l) (paths_keep old new path_of bs ks keep others)
+
+-- where the path of a number leads
+led : {A : Type 0} (lead : A → Option ℕ) (xs : List A) (n : ℕ) (x : A) → slice_get xs n ≡ Some x → get_or (map lead xs) n None ≡ lead x
+led lead xs n x at =
+    sym (unwrap_or-slice_get (map lead xs) n None) ∙ ap (λ (o : Option (Option ℕ)). unwrap_or o None) (slice_get-map lead xs n)
+    ∙ ap (λ o. unwrap_or (option_map lead o) None) at
+
+-- aims with these refines and paths mean where the paths of these refines lead
+pub meant_told : (item : ℕ) (lead : List ℕ → Option ℕ) (paths : List (List ℕ)) (path_of : ℕ → List ℕ) (aims : List Aim) (refines : List ℕ) → map (λ a. a.refine) aims ≡ refines
+    → map (λ a. slice_get paths a.path) aims ≡ map (λ k. Some (path_of k)) refines
+    → map (meant_by item (map lead paths)) aims ≡ map (λ k. record { item = item; refine = k; target = lead (path_of k) }) refines
+meant_told item lead paths path_of [] [] h g = refl
+meant_told item lead paths path_of [] (k ∷ ks) h g = absurd (let e : [] ≡ k ∷ ks = h in cc)
+meant_told item lead paths path_of (a ∷ bs) [] h g = absurd (let e : a.refine ∷ map (λ b. b.refine) bs ≡ [] = h in cc)
+meant_told item lead paths path_of (a ∷ bs) (k ∷ ks) h g =
+    let e : a.refine ∷ map (λ b. b.refine) bs ≡ k ∷ ks = h in
+    let f : slice_get paths a.path ∷ map (λ b. slice_get paths b.path) bs ≡ Some (path_of k) ∷ map (λ j. Some (path_of j)) ks = g in
+    let is : a.refine ≡ k = cc in
+    let at : slice_get paths a.path ≡ Some (path_of k) = cc in
+    let others : map (λ b. b.refine) bs ≡ ks = cc in
+    let rest : map (λ b. slice_get paths b.path) bs ≡ map (λ j. Some (path_of j)) ks = cc in
+    let make : ℕ → Option ℕ → Refined = λ r t. record { item = item; refine = r; target = t } in
+    ap (λ (r : ℕ). make r (get_or (map lead paths) a.path None) ∷ map (meant_by item (map lead paths)) bs) is
+    ∙ ap (λ (t : Option ℕ). make k t ∷ map (meant_by item (map lead paths)) bs) (led lead paths a.path (path_of k) at)
+    ∙ ap (λ (l : List Refined). make k (lead (path_of k)) ∷ l) (meant_told item lead paths path_of bs ks others rest)
+
+-- the aims of a place stay when others get the next one
+pub aimed_before : (w : Whole) (statement home : ℕ) (aims : List (Vec Aim Global)) (v : Vec Aim Global) (paths : List (Vec (Vec ℕ Global) Global)) (q : Vec (Vec ℕ Global) Global) (place : ℕ)
+    → place < length aims → length paths ≡ length aims → AreAimed w statement home (aims_at aims place) (paths_at paths place)
+    → AreAimed w statement home (aims_at (aims ++ v ∷ []) place) (paths_at (paths ++ q ∷ []) place)
+aimed_before w statement home aims v paths q place less each h =
+    subst (λ (bs : List Aim). AreAimed w statement home bs (paths_at (paths ++ q ∷ []) place)) (sym (aims_at_left aims v place less))
+    (subst (AreAimed w statement home (aims_at aims place)) (sym (paths_before paths q place (omega (arith, less, each)))) h)
+
+pub aimed_last : (w : Whole) (statement home : ℕ) (aims : List (Vec Aim Global)) (v : Vec Aim Global) (paths : List (Vec (Vec ℕ Global) Global)) (q : Vec (Vec ℕ Global) Global)
+    → AreAimed w statement home v.items (lists q.items) → (place : ℕ) → place ≡ length paths → length paths ≡ length aims
+    → AreAimed w statement home (aims_at (aims ++ v ∷ []) place) (paths_at (paths ++ q ∷ []) place)
+aimed_last w statement home aims v paths q h place is each =
+    subst (λ (bs : List Aim). AreAimed w statement home bs (paths_at (paths ++ q ∷ []) place)) (sym (ap (aims_at (aims ++ v ∷ [])) (is ∙ each) ∙ aims_last aims v))
+    (subst (AreAimed w statement home v.items) (sym (ap (paths_at (paths ++ q ∷ [])) is ∙ paths_last paths q)) h)
+
+-- one more aim
+pub aims_more : (refines : List ℕ) (i : ℕ) (old new : List Aim) (a : Aim) → i < length refines → a.refine ≡ get_or refines i 0 → new ≡ old ++ a ∷ []
+    → map (λ b. b.refine) old ≡ take i refines → map (λ b. b.refine) new ≡ take (i + 1) refines
+aims_more refines i old new a less is now before =
+    ap (map (λ (b : Aim). b.refine)) now ∙ map_push (λ (b : Aim). b.refine) old a ∙ ap (λ (l : List ℕ). l ++ a.refine ∷ []) before
+    ∙ ap (λ (r : ℕ). take i refines ++ r ∷ []) is ∙ sym (take_more refines i 0 less)
+
+pub aimed_more : (refines : List ℕ) (path_of : ℕ → List ℕ) (i : ℕ) (old new : List Aim) (a : Aim) (first second : List (List ℕ)) → i < length refines → KeepPaths first second
+    → slice_get second a.path ≡ Some (path_of (get_or refines i 0)) → new ≡ old ++ a ∷ []
+    → map (λ b. slice_get first b.path) old ≡ map (λ k. Some (path_of k)) (take i refines) → map (λ b. slice_get second b.path) new ≡ map (λ k. Some (path_of k)) (take (i + 1) refines)
+aimed_more refines path_of i old new a first second less keep at now before =
+    let told : ℕ → Option (List ℕ) = λ k. Some (path_of k) in
+    let led_by : Aim → Option (List ℕ) = λ b. slice_get second b.path in
+    ap (map led_by) now ∙ map_push led_by old a
+    ∙ ap (λ (l : List (Option (List ℕ))). l ++ led_by a ∷ []) (paths_keep first second path_of old (take i refines) keep before)
+    ∙ ap (λ (o : Option (List ℕ)). map told (take i refines) ++ o ∷ []) at
+    ∙ sym (ap (map told) (take_more refines i 0 less) ∙ map_push told (take i refines) (get_or refines i 0))
+
+-- what is found by the names of paths
+pub map_lists : {A : Type 0} (f : List ℕ → A) (paths : List (Vec ℕ Global)) → map (λ p. f p.items) paths ≡ map f (lists paths)
+map_lists f [] = refl
+map_lists f (p ∷ ps) = ap (λ l. f p.items ∷ l) (map_lists f ps)
+
+-- an item that doesn't refine, and one that does
+pub none_refined : {A : Type 0} (uses : Bool) (f : ℕ → A) (refines : List ℕ) → (uses && not (length refines == 0)) ≡ false → (if uses then map f refines else []) ≡ []
+none_refined false f refines h = refl
+none_refined true f [] h = refl
+none_refined true f (k ∷ ks) h = absurd (let e = ap not (eqb-suc-zero (length ks)) in let bad : true ≡ false = sym e ∙ h in cc)
+
+pub all_refined : {A : Type 0} (uses : Bool) (f : ℕ → A) (refines : List ℕ) → (uses && not (length refines == 0)) ≡ true → (if uses then map f refines else []) ≡ map f refines
+all_refined false f refines h = absurd (let e : false ≡ true = h in cc)
+all_refined true f refines h = refl

@@ -1,0 +1,23 @@
+use Rattle.std.proofs.Common.{ℕ, length, sym, ◌∙◌, ap, subst}
+use Rattle.yv_refinements.proofs.Meaning.{meant_from_more}
+use Rattle.yv_refinements.specs.Meant.{meant_from}
+use Rattle.yv_refinements.specs.declared.meant.RefinedUses.{RefinedUses}
+use Rattle.yv_augmented.specs.InnerAims.{StandWithin}
+use Rattle.yv_augmented.proofs.Aiming.{within_push}
+use Rattle.yv_augmented.proofs.aims.Aims.note.Goals as goal
+
+pub returns-clause-aims : goal.returns-clause-aims
+returns-clause-aims c = λ w are.
+    let places : ℕ = length c.args.self.now.refinements.aims.items in
+    let u : RefinedUses = record { item = c.args.item; aims = c.args.place; targets = c.args.targets } in
+    record {
+      known = λ statement home place at. (let it = are.known statement home place at in record { within = it.within; aimed = it.aimed });
+      each = are.each;
+      uses = subst (StandWithin places) (sym c.in_ok-push.ensures.items) (within_push places c.args.self.now.refinements.uses.items u are.uses c.requires);
+    }
+
+pub returns-clause-meant : goal.returns-clause-meant
+returns-clause-meant c =
+    let aims = c.args.self.now.refinements.aims.items in
+    let u : RefinedUses = record { item = c.args.item; aims = c.args.place; targets = c.args.targets } in
+    ap (meant_from aims) c.in_ok-push.ensures.items ∙ meant_from_more aims c.args.self.now.refinements.uses.items u

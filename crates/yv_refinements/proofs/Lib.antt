@@ -1,0 +1,3 @@
+pub mod Eaching
+pub mod Joining
+pub mod Meaning
