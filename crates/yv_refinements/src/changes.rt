@@ -33,10 +33,12 @@ impl Model for Changes {
     ghost invariant = { λ c. AreJoined (length c.runs.items) c.joints.made.items c.of.items };
 }
 
-/// How a sequence is made: the place of the earlier sequence from which it goes on, if there is one, and the refines behind that.
+/// How a sequence is made from an earlier one.
 #[derive(Clone, Copy, Debug)]
 pub struct Link<'c> {
+    /// The place of the sequence from which it goes on, if there is one.
     pub front: Option<usize>,
+    /// The numbers of the refines that it has behind that.
     pub run: &'c [usize],
 }
 

@@ -8,8 +8,7 @@ use Rattle.yv_streams.specs.Files.{File}
 use Rattle.yv_messages.specs.Excerpt.{Explains}
 use Rattle.yv_messages.specs.Explained.{Speaks, bytes_at}
 use Rattle.yv_messages.specs.Document.{SaysWhy}
-use Rattle.yv_messages.specs.Unbuilt.{TellsPattern}
-use Rattle.yv_outcome.specs.Compiles.{Built, FilesCompile, HavePattern, RefusedAt}
+use Rattle.yv_outcome.specs.Compiles.{Built, FilesCompile, RefusedAt}
 use Rattle.yv_outcome.specs.Output.{Gives}
 use Rattle.yv_outcome.specs.Told.{TellsData}
 
@@ -23,10 +22,8 @@ pub record NotesDocument (known : Option (List ℕ)) (s : Rows) (text : List ℕ
   pub gives : Gives known given
   pub notes : NotesGiven s given text
 
--- the text says why the files are refused, or which pattern of theirs isn't built, or why the document is no JSON, or what is wrong with it
--- against the schema of the files
+-- the text says why the files are refused, or why the document is no JSON, or what is wrong with it against the schema of the files
 pub data IsNote (known : Option (List ℕ)) (task : Task) (files : List File) (text : List ℕ) : Type 0 where
   on_refusal : (r : Refusal) → FilesCompile task.choice task.limit files (RefusedAt r) → Explains (bytes_at (slice_get files r.file)) r text
       → Speaks files r text → IsNote known task files text
-  on_pattern : HavePattern task.choice task.limit files → TellsPattern files text → IsNote known task files text
   on_document : (s : Rows) → FilesCompile task.choice task.limit files (Built s) → NotesDocument known s text → IsNote known task files text

@@ -140,7 +140,8 @@ pub fn run_with_note<R: Read, W: Write>(
     ensures reader_once { FailsOnceAtMost reader.new }
     ensures writer_once { FailsOnceAtMost writer.new }
     ensures built { result.status ≡ Status.PatternBuild → HavePattern (choice_of job.now.selection) job.now.limit (map file_of inputs.now) }
-    ensures note { IfSome result.note (λ s. IsNote (R.remaining (stream_inner reader.old)) (task_of job.now) (map file_of inputs.now) (string_bytes s)) }
+    ensures note { (result.status ≡ Status.PatternBuild) ⊎ IfSome result.note (λ s. IsNote (R.remaining (stream_inner reader.old)) (task_of job.now)
+        (map file_of inputs.now) (string_bytes s)) }
     ensures note_on_pattern { result.status ≡ Status.PatternBuild → IfSome result.note (λ s. TellsPattern (map file_of inputs.now) (string_bytes s)) }
 {
     match outcome(alloc, job, inputs, reader) {
