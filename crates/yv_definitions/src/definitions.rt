@@ -73,9 +73,7 @@ impl<'r, 'a, 'b> Definitions<'r, 'a, 'b> {
         let count = rows.entries().len();
         let mut kept = Vec::with_capacity(alloc, count)?;
         for number in 0..count {
-            kept.push(kept_at(
-                alloc, &nothing, rows, types, &paths, &scopes, number,
-            )?)?;
+            kept.push(kept_at(alloc, &nothing, rows, types, &paths, &scopes, number)?)?;
         }
         Ok(Definitions {
             alloc,

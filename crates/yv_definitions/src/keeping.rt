@@ -139,9 +139,7 @@ pub(crate) fn kept_at<'a>(
 {
     let keyword = keyword_at(rows, number);
     if node_kind(keyword).is_some() {
-        Ok(Kept::Node(stated_at(
-            alloc, nothing, rows, types, paths, scopes, number,
-        )?))
+        Ok(Kept::Node(stated_at(alloc, nothing, rows, types, paths, scopes, number)?))
     } else if keyword == Keyword::Refine {
         let changes = changes_at(alloc, rows, number)?;
         Ok(Kept::Refine(Box::new(alloc, changes)?))
