@@ -1,7 +1,7 @@
 -- What refines aim at, and what copies mean by it.
-use Rattle.std.proofs.Common.{◌≡◌, ℕ, ◌+◌, ◌<◌, zero, suc, Bool, true, false, cond, List, [], ◌∷◌, ◌++◌, ◌&&◌, not, ◌==◌, if◌then◌else◌, length, map, take, get_or, Option, None, Some, refl, sym, ◌∙◌, ap, subst, arith}
+use Rattle.std.proofs.Common.{◌≡◌, ℕ, ◌+◌, ◌<◌, ◌≤◌, zero, suc, Bool, true, false, cond, List, [], ◌∷◌, ◌++◌, ◌&&◌, not, ◌==◌, if◌then◌else◌, length, map, take, get_or, Option, None, Some, refl, sym, ◌∙◌, ap, subst, arith}
 use Rattle.std.specs.List.{slice_get}
-use Rattle.std.specs.Option.{option_map, unwrap_or}
+use Rattle.std.specs.Option.{unwrap_or}
 use Rattle.std.specs.Ordering.{is_eq, nat_cmp}
 use Rattle.std.specs.Cmp.{Equal-is}
 use Rattle.std.specs.declared.alloc.Global.{Global}
@@ -10,16 +10,17 @@ use Rattle.std.specs.declared.vec.Vec.{Vec}
 use Rattle.std.specs.BTreeMap.{BTreeMap, get, UpdatesBy}
 use Rattle.std.proofs.lemmas.Map.Lookups.{CmpEqualImpliesEq, exact_pairs, exact_unsigned}
 use Rattle.std.proofs.Math.Dec.{eqb-suc-zero}
-use Rattle.std.proofs.lemmas.List.{map_push, take_more}
-use Rattle.std.proofs.lemmas.Option.{same_Some, slice_get-map, unwrap_or-slice_get}
-use Rattle.yv_refinements.proofs.Meaning.{aims_at_left}
+use Rattle.std.proofs.lemmas.List.{get_or_past, map_push, take_more}
+use Rattle.std.proofs.lemmas.Option.{same_Some}
+use Rattle.yv_path_tree.specs.Fronts.{KeepPaths}
 use Rattle.yv_refinements.specs.Meant.{Refined, aims_at, aims_by, meant_by}
 use Rattle.yv_refinements.specs.declared.meant.Aim.{Aim}
 use Rattle.yv_refinements.specs.declared.meant.RefinedUses.{RefinedUses}
-use Rattle.yv_augmented.specs.InnerAims.{AreAimed, StandWithin, key_cmp, paths_at}
-use Rattle.yv_augmented.specs.InnerPaths.{KeepPaths, lists}
-use Rattle.yv_augmented.specs.Spots.{Whole}
-use Rattle.yv_augmented.proofs.Differing.{get_before, get_last}
+use Rattle.yv_augmented.specs.InnerAims.{StandWithin, key_cmp}
+use Rattle.yv_augmented.specs.InnerLed.{IsLed, first_from, placed_by}
+use Rattle.yv_augmented.specs.declared.led.Led.{Led}
+use Rattle.yv_augmented.proofs.Leading.{first_stands, first_there}
+use Rattle.yv_augmented.proofs.Pushing.{get_last}
 
 -- what holds of all that is known, and of what is added, holds of all that is known then
 pub known_more : {K X : Type 0} (cmp : K → K → Ordering) → CmpEqualImpliesEq cmp → (P : K → X → Type 0) (old new : BTreeMap K X) (key : K) (x : X) → UpdatesBy cmp (cmp key) old new (Some x)
@@ -36,15 +37,9 @@ known_more {K = K} {X = X} cmp exact P old new key x updates before here k y at 
 pub exact_key : CmpEqualImpliesEq key_cmp
 exact_key = exact_pairs nat_cmp nat_cmp exact_unsigned exact_unsigned
 
--- the aims and paths of a place, when others get the next one
+-- the aims of the next place
 pub aims_last : (aims : List (Vec Aim Global)) (v : Vec Aim Global) → aims_at (aims ++ v ∷ []) (length aims) ≡ v.items
 aims_last aims v = ap aims_by (get_last aims v)
-
-pub paths_before : (paths : List (Vec (Vec ℕ Global) Global)) (v : Vec (Vec ℕ Global) Global) (place : ℕ) → place < length paths → paths_at (paths ++ v ∷ []) place ≡ paths_at paths place
-paths_before paths v place h = ap (λ o. lists (unwrap_or (option_map (λ x. x.items) o) [])) (get_before paths v place h)
-
-pub paths_last : (paths : List (Vec (Vec ℕ Global) Global)) (v : Vec (Vec ℕ Global) Global) → paths_at (paths ++ v ∷ []) (length paths) ≡ lists v.items
-paths_last paths v = ap (λ o. lists (unwrap_or (option_map (λ x. x.items) o) [])) (get_last paths v)
 
 -- the aims of one copy more stand there too
 pub within_push : (places : ℕ) (us : List RefinedUses) (u : RefinedUses) → StandWithin places us → u.aims < places → StandWithin places (us ++ u ∷ [])
@@ -52,6 +47,10 @@ within_push places [] u h less zero v at = subst (λ (x : RefinedUses). x.aims <
 within_push places [] u h less (suc k) v at = absurd (let e : None ≡ Some v = at in cc)
 within_push places (x ∷ xs) u h less zero v at = h zero v at
 within_push places (x ∷ xs) u h less (suc k) v at = within_push places xs u (λ j y e. h (suc j) y e) less k v at
+
+-- there are more places
+pub within_more : (old new : ℕ) (us : List RefinedUses) → old ≤ new → StandWithin old us → StandWithin new us
+within_more old new us more h k u at = (let less = h k u at in omega (arith, less, more))
 
 -- the paths of aims, when there are more
 pub paths_keep : (old new : List (List ℕ)) (path_of : ℕ → List ℕ) (aims : List Aim) (refines : List ℕ) → KeepPaths old new
@@ -66,45 +65,42 @@ paths_keep old new path_of (a ∷ bs) (k ∷ ks) keep h =
     ap (λ (o : Option (List ℕ)). o ∷ map (λ b. slice_get new b.path) bs) (keep a.path (path_of k) here)
     ∙ ap (λ (l : List (Option (List ℕ))). Some (path_of k) ∷ l) (paths_keep old new path_of bs ks keep others)
 
--- where the path of a number leads
-led : {A : Type 0} (lead : A → Option ℕ) (xs : List A) (n : ℕ) (x : A) → slice_get xs n ≡ Some x → get_or (map lead xs) n None ≡ lead x
-led lead xs n x at =
-    sym (unwrap_or-slice_get (map lead xs) n None) ∙ ap (λ (o : Option (Option ℕ)). unwrap_or o None) (slice_get-map lead xs n)
-    ∙ ap (λ o. unwrap_or (option_map lead o) None) at
+-- where the path of a number leads, by its place among those that lead somewhere
+target_told : (lead : List ℕ → Option ℕ) (all : List (List ℕ)) (led : Led) → IsLed lead all led → (n : ℕ) (steps : List ℕ) → slice_get all n ≡ Some steps
+    → get_or led.targets.items (unwrap_or (first_from 0 led.paths.items n) (length led.paths.items)) None ≡ lead steps
+target_told lead all led are n steps of = by (first_from 0 led.paths.items n) refl
+  where
+    nowhere : (t : Option ℕ) → lead steps ≡ t → first_from 0 led.paths.items n ≡ None → None ≡ t
+    nowhere None to e = refl
+    nowhere (Some item) to e = (let at = are.whole n item steps of to in absurd (first_there 0 led.paths.items at.0 n at.1 e))
+
+    by : (o : Option ℕ) → first_from 0 led.paths.items n ≡ o → get_or led.targets.items (unwrap_or o (length led.paths.items)) None ≡ lead steps
+    by None e = get_or_past led.targets.items (length led.paths.items) None (let each = are.each in omega (arith, each)) ∙ nowhere (lead steps) refl e
+    by (Some place) e =
+        let there = first_stands 0 led.paths.items n place e in
+        let same : place ≡ there.0 = (let is = there.1 in omega (arith, is)) in
+        ap (λ k. get_or led.targets.items k None) same ∙ are.leads there.0 n steps there.2 of
 
 -- aims with these refines and paths mean where the paths of these refines lead
-pub meant_told : (item : ℕ) (lead : List ℕ → Option ℕ) (paths : List (List ℕ)) (path_of : ℕ → List ℕ) (aims : List Aim) (refines : List ℕ) → map (λ a. a.refine) aims ≡ refines
-    → map (λ a. slice_get paths a.path) aims ≡ map (λ k. Some (path_of k)) refines
-    → map (meant_by item (map lead paths)) aims ≡ map (λ k. record { item = item; refine = k; target = lead (path_of k) }) refines
-meant_told item lead paths path_of [] [] h g = refl
-meant_told item lead paths path_of [] (k ∷ ks) h g = absurd (let e : [] ≡ k ∷ ks = h in cc)
-meant_told item lead paths path_of (a ∷ bs) [] h g = absurd (let e : a.refine ∷ map (λ b. b.refine) bs ≡ [] = h in cc)
-meant_told item lead paths path_of (a ∷ bs) (k ∷ ks) h g =
+pub meant_told : (item : ℕ) (lead : List ℕ → Option ℕ) (all : List (List ℕ)) (led : Led) (path_of : ℕ → List ℕ) → IsLed lead all led → (aims : List Aim) (refines : List ℕ) → map (λ a. a.refine) aims ≡ refines
+    → map (λ a. slice_get all a.path) aims ≡ map (λ k. Some (path_of k)) refines
+    → map (meant_by item led.targets.items) (map (placed_by led.paths.items) aims) ≡ map (λ k. record { item = item; refine = k; target = lead (path_of k) }) refines
+meant_told item lead all led path_of are [] [] h g = refl
+meant_told item lead all led path_of are [] (k ∷ ks) h g = absurd (let e : [] ≡ k ∷ ks = h in cc)
+meant_told item lead all led path_of are (a ∷ bs) [] h g = absurd (let e : a.refine ∷ map (λ b. b.refine) bs ≡ [] = h in cc)
+meant_told item lead all led path_of are (a ∷ bs) (k ∷ ks) h g =
     let e : a.refine ∷ map (λ b. b.refine) bs ≡ k ∷ ks = h in
-    let f : slice_get paths a.path ∷ map (λ b. slice_get paths b.path) bs ≡ Some (path_of k) ∷ map (λ j. Some (path_of j)) ks = g in
+    let f : slice_get all a.path ∷ map (λ b. slice_get all b.path) bs ≡ Some (path_of k) ∷ map (λ j. Some (path_of j)) ks = g in
     let is : a.refine ≡ k = cc in
-    let at : slice_get paths a.path ≡ Some (path_of k) = cc in
+    let at : slice_get all a.path ≡ Some (path_of k) = cc in
     let others : map (λ b. b.refine) bs ≡ ks = cc in
-    let rest : map (λ b. slice_get paths b.path) bs ≡ map (λ j. Some (path_of j)) ks = cc in
+    let rest : map (λ b. slice_get all b.path) bs ≡ map (λ j. Some (path_of j)) ks = cc in
     let make : ℕ → Option ℕ → Refined = λ r t. record { item = item; refine = r; target = t } in
-    ap (λ (r : ℕ). make r (get_or (map lead paths) a.path None) ∷ map (meant_by item (map lead paths)) bs) is
-    ∙ ap (λ (t : Option ℕ). make k t ∷ map (meant_by item (map lead paths)) bs) (led lead paths a.path (path_of k) at)
-    ∙ ap (λ (l : List Refined). make k (lead (path_of k)) ∷ l) (meant_told item lead paths path_of bs ks others rest)
-
--- the aims of a place stay when others get the next one
-pub aimed_before : (w : Whole) (statement home : ℕ) (aims : List (Vec Aim Global)) (v : Vec Aim Global) (paths : List (Vec (Vec ℕ Global) Global)) (q : Vec (Vec ℕ Global) Global) (place : ℕ)
-    → place < length aims → length paths ≡ length aims → AreAimed w statement home (aims_at aims place) (paths_at paths place)
-    → AreAimed w statement home (aims_at (aims ++ v ∷ []) place) (paths_at (paths ++ q ∷ []) place)
-aimed_before w statement home aims v paths q place less each h =
-    subst (λ (bs : List Aim). AreAimed w statement home bs (paths_at (paths ++ q ∷ []) place)) (sym (aims_at_left aims v place less))
-    (subst (AreAimed w statement home (aims_at aims place)) (sym (paths_before paths q place (omega (arith, less, each)))) h)
-
-pub aimed_last : (w : Whole) (statement home : ℕ) (aims : List (Vec Aim Global)) (v : Vec Aim Global) (paths : List (Vec (Vec ℕ Global) Global)) (q : Vec (Vec ℕ Global) Global)
-    → AreAimed w statement home v.items (lists q.items) → (place : ℕ) → place ≡ length paths → length paths ≡ length aims
-    → AreAimed w statement home (aims_at (aims ++ v ∷ []) place) (paths_at (paths ++ q ∷ []) place)
-aimed_last w statement home aims v paths q h place is each =
-    subst (λ (bs : List Aim). AreAimed w statement home bs (paths_at (paths ++ q ∷ []) place)) (sym (ap (aims_at (aims ++ v ∷ [])) (is ∙ each) ∙ aims_last aims v))
-    (subst (AreAimed w statement home v.items) (sym (ap (paths_at (paths ++ q ∷ [])) is ∙ paths_last paths q)) h)
+    let behind : List Refined = map (meant_by item led.targets.items) (map (placed_by led.paths.items) bs) in
+    let target : Option ℕ = get_or led.targets.items (unwrap_or (first_from 0 led.paths.items a.path) (length led.paths.items)) None in
+    ap (λ (r : ℕ). make r target ∷ behind) is
+    ∙ ap (λ (t : Option ℕ). make k t ∷ behind) (target_told lead all led are a.path (path_of k) at)
+    ∙ ap (λ (l : List Refined). make k (lead (path_of k)) ∷ l) (meant_told item lead all led path_of are bs ks others rest)
 
 -- one more aim
 pub aims_more : (refines : List ℕ) (i : ℕ) (old new : List Aim) (a : Aim) → i < length refines → a.refine ≡ get_or refines i 0 → new ≡ old ++ a ∷ []
@@ -123,11 +119,6 @@ aimed_more refines path_of i old new a first second less keep at now before =
     ∙ ap (λ (l : List (Option (List ℕ))). l ++ led_by a ∷ []) (paths_keep first second path_of old (take i refines) keep before)
     ∙ ap (λ (o : Option (List ℕ)). map told (take i refines) ++ o ∷ []) at
     ∙ sym (ap (map told) (take_more refines i 0 less) ∙ map_push told (take i refines) (get_or refines i 0))
-
--- what is found by the names of paths
-pub map_lists : {A : Type 0} (f : List ℕ → A) (paths : List (Vec ℕ Global)) → map (λ p. f p.items) paths ≡ map f (lists paths)
-map_lists f [] = refl
-map_lists f (p ∷ ps) = ap (λ l. f p.items ∷ l) (map_lists f ps)
 
 -- an item that doesn't refine, and one that does
 pub none_refined : {A : Type 0} (uses : Bool) (f : ℕ → A) (refines : List ℕ) → (uses && not (length refines == 0)) ≡ false → (if uses then map f refines else []) ≡ []

@@ -11,8 +11,10 @@ pub mod Ending
 pub mod Turning
 pub mod Missing
 pub mod Meaning
-pub mod Differing
+pub mod Pushing
+pub mod Leading
 pub mod Aiming
+pub mod Keeping
 pub mod Configuring
 pub mod Given
 pub mod Deciding

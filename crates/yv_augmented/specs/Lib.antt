@@ -21,5 +21,5 @@ pub mod Untargeted
 pub mod InnerTurns
 pub mod Refining
 pub mod InnerPaths
-pub mod InnerDifferent
+pub mod InnerLed
 pub mod InnerAims

@@ -1,54 +1,55 @@
 //! What the refines of `uses` statements aim at, made once for all copies of a `uses` in one module, and what they mean.
-ghost use Rattle.std.specs.Prelude.{◌≡◌, ◌<◌, ◌==◌, ◌&&◌, not, ◌++◌, ℕ, [], List, length, map, IfOk, OnOk};
-ghost use Rattle.std.specs.Option.{option_and_then};
+ghost use Rattle.std.specs.Prelude.{◌≡◌, ◌<◌, ◌==◌, ◌&&◌, not, ◌++◌, ℕ, [], List, Some, length, map, slice_get, IfOk, IfSome, OnOk};
 ghost use Rattle.yv_rows.specs.Lent.{rows_in};
 ghost use Rattle.yv_augments.specs.declared.label.Label.{Label};
 ghost use Rattle.yv_augments.specs.Turns.{State};
 ghost use Rattle.yv_augments.specs.InnerState.{IsGrafting};
+ghost use Rattle.yv_path_tree.specs.InnerTree.{IsPathTree};
 ghost use Rattle.yv_refinements.specs.Meant.{aims_at, all_meant, meant_by};
-ghost use Rattle.yv_augmented.specs.InnerPaths.{lists, target_by};
-ghost use Rattle.yv_augmented.specs.Refining.{node_at, refined_at, refines_in};
+ghost use Rattle.yv_augmented.specs.InnerLed.{IsLed, placed_by};
+ghost use Rattle.yv_augmented.specs.InnerPaths.{target_by};
+ghost use Rattle.yv_augmented.specs.Refining.{refined_at, refines_in};
 ghost use Rattle.yv_augmented.specs.Kinds.{is_uses};
 ghost use Rattle.yv_augmented.specs.Spots.{Whole};
 
-use crate::different::Different;
 use crate::kinds::is_uses;
+use crate::led::{Led, placed};
 use crate::plan::Plan;
 use crate::spot::Spot;
 use std::alloc::{AllocError, Global};
 use std::collections::BTreeMap;
-use yv_augments::{End, Grafting};
+use yv_augments::Grafting;
+use yv_path_tree::PathTree;
 use yv_refinements::{Aim, RefinedUses, Refinements};
 
-// What the refines of a `uses` aim at in a module, and their different paths.
+// What the refines of a `uses` aim at in a module: each with the number of its path among the different ones.
 #[derive(Drop)]
 struct Aimed {
+    paths: PathTree,
     aims: Vec<Aim>,
-    paths: Vec<Vec<usize>>,
+}
+
+// The paths that lead to nodes at a copy, and the place of the aims that are noted for copies where these do. Copies of one `uses` are
+// alike, so that those of the copy before are kept.
+#[derive(Drop)]
+struct Kept {
+    paths: Vec<usize>,
+    place: usize,
 }
 
 /// What the refines of items mean, as far as these were looked at.
 #[derive(Drop)]
 pub(crate) struct Aims {
-    // For each `uses` that refines and each module to which copies of it belong the place of its aims.
+    // For each `uses` that refines and each module to which copies of it belong the number of what its refines aim at.
     known: BTreeMap<(usize, u32), usize>,
-    // By place the different paths of these aims.
-    paths: Vec<Vec<Vec<usize>>>,
+    aimed: Vec<Aimed>,
+    // By number what is kept of the copy before.
+    kept: Vec<Option<Kept>>,
     pub refinements: Refinements,
 }
 
-// The node at which a path ends; a case that is left out is none.
-fn node_at(end: Option<End>) -> Option<usize>
-    ensures { result ≡ option_and_then node_at end }
-{
-    match end {
-        Some(End::Node(item)) => Some(item),
-        _ => None,
-    }
-}
-
 impl Aims {
-    ghost use Rattle.yv_augmented.specs.InnerAims.{AreAimed, AreAims, StandAt, paths_at, place_in};
+    ghost use Rattle.yv_augmented.specs.InnerAims.{AreAims, HasNumber, IsAimed, IsPlaced, number_in};
 
     /// No item was looked at.
     pub(crate) fn new(alloc: Global) -> Aims
@@ -57,7 +58,8 @@ impl Aims {
     {
         Aims {
             known: BTreeMap::new(alloc),
-            paths: Vec::new(alloc),
+            aimed: Vec::new(alloc),
+            kept: Vec::new(alloc),
             refinements: Refinements {
                 aims: Vec::new(alloc),
                 uses: Vec::new(alloc),
@@ -65,40 +67,107 @@ impl Aims {
         }
     }
 
-    // The place of the aims of a `uses` in the module of this file, if they were made.
+    // The number of what the refines of a `uses` aim at in the module of this file, if that was made.
     fn known(&self, statement: usize, home: u32) -> Option<usize>
-        ensures { result ≡ place_in self.now statement home }
+        ensures { result ≡ number_in self.now statement home }
     {
         self.known.get(&(statement, home)).copied()
     }
 
-    // The aims of a `uses` in a module get the next place.
+    // What the refines of a `uses` aim at in a module gets the next number.
     fn add(&mut self, statement: usize, home: u32, aimed: Aimed) -> Result<usize, AllocError>
-        ensures aims { (w : Whole) → AreAims w self.old → AreAimed w statement home aimed.aims.items (lists aimed.paths.items)
-            → OnOk result (AreAims w self.new) }
-        ensures place { (w : Whole) → AreAims w self.old → AreAimed w statement home aimed.aims.items (lists aimed.paths.items)
-            → IfOk result (StandAt w self.new statement home) }
-        ensures meant { (w : Whole) → AreAims w self.old → OnOk result (all_meant self.new.refinements ≡ all_meant self.old.refinements) }
+        ensures aims { (w : Whole) → AreAims w self.old → IsAimed w statement home aimed → OnOk result (AreAims w self.new) }
+        ensures number { (w : Whole) → AreAims w self.old → IsAimed w statement home aimed
+            → IfOk result (HasNumber w self.new statement home) }
+        ensures meant { self.new.refinements ≡ self.old.refinements }
     {
-        let Aimed { aims, paths } = aimed;
-        let place = self.paths.len();
-        self.paths.push(paths)?;
-        self.refinements.aims.push(aims)?;
-        self.known.insert((statement, home), place)?;
-        Ok(place)
+        let number = self.aimed.len();
+        self.aimed.push(aimed)?;
+        self.kept.push(None)?;
+        self.known.insert((statement, home), number)?;
+        Ok(number)
     }
 
-    // The different paths of a place.
-    fn paths(&self, place: usize) -> &[Vec<usize>]
-        ensures { lists result.now ≡ paths_at self.now.paths.items place }
+    // Which paths lead to nodes at a copy.
+    fn led(
+        &self,
+        alloc: Global,
+        grafting: &Grafting,
+        group: usize,
+        end: usize,
+        number: usize,
+    ) -> Result<Led, AllocError>
+        requires { number < length self.now.aimed.items }
+        ensures { (labels : List Label) (st : State) (all : List (List ℕ)) (aimed : Aimed) → IsGrafting labels st grafting.now
+            → slice_get self.now.aimed.items number ≡ Some aimed → IsPathTree all aimed.paths
+            → IfOk result (IsLed (target_by labels st end group) all) }
     {
-        match self.paths.get(place) {
-            Some(paths) => paths,
-            None => &[],
+        let arrivals = grafting.walk_all(alloc, group, end, &self.aimed[number].paths)?;
+        Led::read(alloc, &arrivals)
+    }
+
+    // The place of aims for copies where these paths lead to nodes, if they did at the copy before.
+    fn kept(&self, number: usize, paths: &[usize]) -> Option<usize>
+        ensures { (w : Whole) → AreAims w self.now → IfSome result (IsPlaced self.now number paths.now) }
+    {
+        match self.kept.get(number) {
+            Some(Some(kept)) => {
+                if kept.paths.as_slice() == paths {
+                    Some(kept.place)
+                } else {
+                    None
+                }
+            }
+            _ => None,
         }
     }
 
-    // Notes a copy of a `uses`, whose aims stand at this place, and where their different paths lead.
+    // Notes aims for copies where these paths lead to nodes.
+    fn keep(
+        &mut self,
+        number: usize,
+        paths: Vec<usize>,
+        aims: Vec<Aim>,
+    ) -> Result<usize, AllocError>
+        requires { number < length self.old.kept.items }
+        ensures aims { (w : Whole) → AreAims w self.old
+            → ((aimed : Aimed) → slice_get self.old.aimed.items number ≡ Some aimed
+            → aims.items ≡ map (placed_by paths.items) aimed.aims.items) → OnOk result (AreAims w self.new) }
+        ensures place { ((aimed : Aimed) → slice_get self.old.aimed.items number ≡ Some aimed
+            → aims.items ≡ map (placed_by paths.items) aimed.aims.items) → IfOk result (IsPlaced self.new number paths.items) }
+        ensures aimed { self.new.aimed ≡ self.old.aimed }
+        ensures meant { (w : Whole) → AreAims w self.old → OnOk result (all_meant self.new.refinements ≡ all_meant self.old.refinements) }
+    {
+        let place = self.refinements.aims.len();
+        self.refinements.aims.push(aims)?;
+        self.kept[number] = Some(Kept { paths, place });
+        Ok(place)
+    }
+
+    // The place of aims for copies where these paths lead to nodes.
+    fn place(
+        &mut self,
+        alloc: Global,
+        number: usize,
+        paths: Vec<usize>,
+    ) -> Result<usize, AllocError>
+        requires aimed { number < length self.old.aimed.items }
+        requires kept { number < length self.old.kept.items }
+        ensures aims { (w : Whole) → AreAims w self.old → OnOk result (AreAims w self.new) }
+        ensures place { (w : Whole) → AreAims w self.old → IfOk result (IsPlaced self.new number paths.items) }
+        ensures aimed { self.new.aimed ≡ self.old.aimed }
+        ensures meant { (w : Whole) → AreAims w self.old → OnOk result (all_meant self.new.refinements ≡ all_meant self.old.refinements) }
+    {
+        match self.kept(number, &paths) {
+            Some(place) => Ok(place),
+            None => {
+                let aims = placed(alloc, &self.aimed[number].aims, &paths)?;
+                self.keep(number, paths, aims)
+            }
+        }
+    }
+
+    // Notes a copy of a `uses`, whose aims stand at this place, and where their paths lead.
     fn note(
         &mut self,
         item: usize,
@@ -119,26 +188,8 @@ impl Aims {
     }
 }
 
-// The node to which each of these paths leads from a group.
-fn targets(
-    alloc: Global,
-    grafting: &Grafting,
-    group: usize,
-    end: usize,
-    paths: &[Vec<usize>],
-) -> Result<Vec<Option<usize>>, AllocError>
-    ensures { (labels : List Label) (st : State) → IsGrafting labels st grafting.now
-        → IfOk result (λ targets. targets.items ≡ map (target_by labels st end group) (lists paths.now)) }
-{
-    let mut targets = Vec::with_capacity(alloc, paths.len())?;
-    for path in paths {
-        targets.push(node_at(grafting.walk(group, end, path)))?;
-    }
-    Ok(targets)
-}
-
 impl Plan<'_, '_, '_> {
-    ghost use Rattle.yv_augmented.specs.InnerAims.{AreAimed, AreAims, StandAt};
+    ghost use Rattle.yv_augmented.specs.InnerAims.{AreAims, HasNumber, IsAimed};
     ghost use Rattle.yv_augmented.specs.InnerPlan.{IsPlan, whole_in};
 
     // Whether an item is a `uses` that refines.
@@ -153,27 +204,24 @@ impl Plan<'_, '_, '_> {
     // What the refines of a `uses` aim at in the module of this file.
     fn aimed(&self, alloc: Global, statement: usize, home: u32) -> Result<Aimed, AllocError>
         requires { IsPlan self.now }
-        ensures { IfOk result (λ aimed. AreAimed (whole_in self.now) statement home aimed.aims.items (lists aimed.paths.items)) }
+        ensures { IfOk result (IsAimed (whole_in self.now) statement home) }
     {
-        let mut different = Different::new(alloc);
+        let mut paths = PathTree::new(alloc)?;
         let refines = self.refines_in(statement);
         let mut aims = Vec::with_capacity(alloc, refines.len())?;
         for refine in refines {
-            let names = self.path(alloc, home, *refine)?;
-            let path = different.number(alloc, names)?;
+            let steps = self.path(alloc, home, *refine)?;
+            let path = paths.add(alloc, &steps)?;
             aims.push(Aim {
                 refine: *refine,
                 path,
             })?;
         }
-        Ok(Aimed {
-            aims,
-            paths: different.paths,
-        })
+        Ok(Aimed { paths, aims })
     }
 
-    // The place of the aims of a `uses` in a module, which are made where they weren't yet.
-    fn place_of_aims(
+    // The number of what the refines of a `uses` aim at in a module, which is made where it wasn't yet.
+    fn number_of_aims(
         &self,
         alloc: Global,
         aims: &mut Aims,
@@ -183,11 +231,11 @@ impl Plan<'_, '_, '_> {
         requires plan { IsPlan self.now }
         requires aims { AreAims (whole_in self.now) aims.old }
         ensures aims { OnOk result (AreAims (whole_in self.now) aims.new) }
-        ensures place { IfOk result (StandAt (whole_in self.now) aims.new statement home) }
+        ensures number { IfOk result (HasNumber (whole_in self.now) aims.new statement home) }
         ensures meant { OnOk result (all_meant aims.new.refinements ≡ all_meant aims.old.refinements) }
     {
         match aims.known(statement, home) {
-            Some(place) => Ok(place),
+            Some(number) => Ok(number),
             None => {
                 let aimed = self.aimed(alloc, statement, home)?;
                 aims.add(statement, home, aimed)
@@ -195,7 +243,7 @@ impl Plan<'_, '_, '_> {
         }
     }
 
-    /// Notes what the refines of an item mean, if it is a `uses` that has some. Each different path of these is followed once.
+    /// Notes what the refines of an item mean, if it is a `uses` that has some.
     pub(crate) fn refine_all(
         &self,
         alloc: Global,
@@ -215,8 +263,10 @@ impl Plan<'_, '_, '_> {
         if !self.has_refines(spot) {
             return Ok(());
         }
-        let place = self.place_of_aims(alloc, aims, spot.statement, spot.home)?;
-        let targets = targets(alloc, grafting, spot.group, end, aims.paths(place))?;
+        let number = self.number_of_aims(alloc, aims, spot.statement, spot.home)?;
+        let led = aims.led(alloc, grafting, spot.group, end, number)?;
+        let Led { paths, targets } = led;
+        let place = aims.place(alloc, number, paths)?;
         aims.note(item, place, targets)
     }
 }

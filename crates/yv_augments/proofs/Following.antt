@@ -25,7 +25,7 @@ and_then_append labels groups limit xs ys None h = refl
 and_then_append labels groups limit xs ys (Some e) h = h e
 
 -- a path behind another
-ended_append : (labels : List Label) (groups : Groups) (limit : ℕ) (xs ys : List ℕ) (e : End)
+pub ended_append : (labels : List Label) (groups : Groups) (limit : ℕ) (xs ys : List ℕ) (e : End)
     → ended labels groups limit (xs ++ ys) e ≡ option_and_then (ended labels groups limit ys) (ended labels groups limit xs e)
 ended_append labels groups limit [] ys e = refl
 ended_append labels groups limit (x ∷ xs) ys e =

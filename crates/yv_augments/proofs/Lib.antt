@@ -13,3 +13,6 @@ pub mod Parents
 pub mod Unique
 pub mod Distinct
 pub mod Staying
+pub mod Descending
+pub mod Meeting
+pub mod Arriving

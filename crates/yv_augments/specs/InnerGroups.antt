@@ -1,5 +1,5 @@
 -- Inner definitions, which only private clauses cite: groups with the first node of each name.
-use Rattle.std.specs.Prelude.{◌≡◌, ℕ, ◌==◌, nat_lt, Bool, false, List, length, if◌then◌else◌, Option, Some, None, slice_get}
+use Rattle.std.specs.Prelude.{◌≡◌, ℕ, ◌<◌, ◌==◌, ◌+◌, nat_lt, Bool, true, false, List, length, if◌then◌else◌, Option, Some, None, slice_get}
 use Rattle.std.specs.Ordering.{nat_cmp}
 use Rattle.std.specs.BTreeMap.{get}
 use Rattle.yv_augments.specs.declared.label.Label.{Label}
@@ -29,10 +29,23 @@ displaces (Some i) item = nat_lt item i
 abbrev pub Keep : (old new : ℕ → Option ℕ) → Type 0
 Keep old new = (n i : ℕ) → old n ≡ Some i → new n ≡ Some i
 
+-- each of these is less than those before it
+abbrev pub Descend : List ℕ → Type 0
+Descend members = (i j a b : ℕ) → i < j → slice_get members i ≡ Some a → slice_get members j ≡ Some b → b < a
+
+-- an item is less than the last of these
+abbrev pub IsBelowLast : List ℕ → ℕ → Type 0
+IsBelowLast members item = (place last : ℕ) → place + 1 ≡ length members → slice_get members place ≡ Some last → item < last
+
+-- among these are all members that come before the limit
+abbrev pub HaveBefore : (members : List ℕ) → (limit : ℕ) → (few : List ℕ) → Type 0
+HaveBefore members limit few = (place item : ℕ) → slice_get members place ≡ Some item → item < limit → (k : ℕ) × (slice_get few k ≡ Some item)
+
 -- this group has these items
 pub record IsGroup (labels : List Label) (members : List ℕ) (group : Group) : Type 0 where
   pub members_are : group.members.items ≡ members
   pub named : (name : ℕ) → first_in group name ≡ least (is_named labels name) members
+  pub descend : group.descending ≡ true → Descend members
 
 pub record AreGroups (labels : List Label) (groups : Groups) (kept : List Group) : Type 0 where
   pub each : length kept ≡ length groups

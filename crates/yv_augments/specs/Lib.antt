@@ -6,8 +6,10 @@ pub mod Rounds
 pub mod Placed
 pub mod Tree
 pub mod Unplaced
+pub mod Arrivals
 pub mod InnerGroups
 pub mod InnerState
 pub mod InnerListing
 pub mod InnerWaiting
 pub mod InnerUnplaced
+pub mod InnerArrivals

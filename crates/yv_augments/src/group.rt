@@ -1,7 +1,7 @@
 //! The items of one place, and the first node of each name.
-ghost use Rattle.std.specs.Prelude.{◌≡◌, ℕ, ◌++◌, ◌∷◌, [], List, Some, false, OnOk, IfOk};
+ghost use Rattle.std.specs.Prelude.{◌≡◌, ◌<◌, ◌≤◌, ℕ, ◌++◌, ◌∷◌, [], List, Some, true, false, OnOk, IfOk, IfSome, length, slice_get};
 ghost use Rattle.yv_augments.specs.declared.label.Label.{Label};
-ghost use Rattle.yv_augments.specs.InnerGroups.{IsGroup, Keep, displaces, first_in, kept, noted};
+ghost use Rattle.yv_augments.specs.InnerGroups.{HaveBefore, IsBelowLast, IsGroup, Keep, displaces, first_in, kept, noted};
 
 use crate::label::Label;
 use std::alloc::{AllocError, Global};
@@ -12,6 +12,8 @@ use std::collections::BTreeMap;
 pub(crate) struct Group {
     pub members: Vec<usize>,
     pub names: BTreeMap<usize, usize>,
+    // Whether each member is less than those before it: so it is where no augment gave one.
+    pub descending: bool,
 }
 
 // Whether an item comes before the first so far.
@@ -32,6 +34,7 @@ impl Group {
         Group {
             members: Vec::new(alloc),
             names: BTreeMap::new(alloc),
+            descending: true,
         }
     }
 
@@ -47,6 +50,7 @@ impl Group {
         ensures named { OnOk result ((n : ℕ) → first_in self.new n ≡ kept (first_in self.old) name item n) }
         ensures displaced { IfOk result (λ displaced. displaced ≡ displaces (first_in self.old name) item) }
         ensures members { self.new.members ≡ self.old.members }
+        ensures descending { self.new.descending ≡ self.old.descending }
     {
         let first = self.first(name);
         let least = match first {
@@ -62,6 +66,7 @@ impl Group {
         ensures named { OnOk result ((n : ℕ) → first_in self.new n ≡ noted labels.now (first_in self.old) item n) }
         ensures displaced { IfOk result (λ displaced. displaced ≡ false → Keep (first_in self.old) (first_in self.new)) }
         ensures members { self.new.members ≡ self.old.members }
+        ensures descending { self.new.descending ≡ self.old.descending }
     {
         if let Some(label) = labels.get(item).copied() {
             if label.kind.is_node() {
@@ -71,6 +76,20 @@ impl Group {
         Ok(false)
     }
 
+    // Whether members descend still when an item enters behind them.
+    fn descends_to(&self, item: usize) -> bool
+        ensures so_far { result ≡ true → self.now.descending ≡ true }
+        ensures last { result ≡ true → IsBelowLast self.now.members.items item }
+    {
+        if !self.descending {
+            return false;
+        }
+        match self.members.last() {
+            Some(last) => item < *last,
+            None => true,
+        }
+    }
+
     /// Adds an item behind the others. Tells whether it is the first node of its name now, and another was.
     pub(crate) fn add(&mut self, labels: &[Label], item: usize) -> Result<bool, AllocError>
         ensures state { (members : List ℕ) → IsGroup labels.now members self.old
@@ -78,6 +97,7 @@ impl Group {
         ensures displaced { IfOk result (λ displaced. displaced ≡ false → Keep (first_in self.old) (first_in self.new)) }
     {
         let displaced = self.note(labels, item)?;
+        self.descending = self.descends_to(item);
         self.members.push(item)?;
         Ok(displaced)
     }
@@ -95,5 +115,46 @@ impl Group {
             }
         }
         Ok(displaced)
+    }
+
+    // How many members stand in front of the last ones that come before the limit. None where these are more than `most`.
+    fn front(&self, limit: usize, most: usize) -> Option<usize>
+        ensures within { IfSome result (λ front. front ≤ length self.now.members.items) }
+        ensures behind { (labels : List Label) (members : List ℕ) → IsGroup labels members self.now → self.now.descending ≡ true
+            → IfSome result (λ front. (place item : ℕ) → slice_get members place ≡ Some item → item < limit → front ≤ place) }
+    {
+        let count = self.members.len();
+        let mut front = count;
+        while front > 0 && self.members[front - 1] < limit {
+            if count - front >= most {
+                return None;
+            }
+            front -= 1;
+        }
+        Some(front)
+    }
+
+    // So many members stand in front of those that may come before the limit. None where these are more than `most`.
+    fn passed(&self, limit: usize, most: usize) -> Option<usize>
+        ensures within { IfSome result (λ front. front ≤ length self.now.members.items) }
+        ensures behind { (labels : List Label) (members : List ℕ) → IsGroup labels members self.now
+            → IfSome result (λ front. (place item : ℕ) → slice_get members place ≡ Some item → item < limit → front ≤ place) }
+    {
+        if self.descending {
+            self.front(limit, most)
+        } else if self.members.len() <= most {
+            Some(0)
+        } else {
+            None
+        }
+    }
+
+    /// Among these members are all that come before the limit. None where they would be more than `most`; no more are looked at.
+    pub(crate) fn few(&self, limit: usize, most: usize) -> Option<&[usize]>
+        ensures { (labels : List Label) (members : List ℕ) → IsGroup labels members self.now
+            → IfSome result (λ few. HaveBefore members limit few.now) }
+    {
+        let front = self.passed(limit, most)?;
+        Some(&self.members[front..])
     }
 }

@@ -6,6 +6,7 @@
 //! applied in rounds, and then the final tree is there as a list.
 #![tactic(auto)]
 
+mod arrivals;
 mod end;
 mod grafting;
 mod group;
@@ -18,6 +19,7 @@ mod rounds;
 mod row;
 mod unplaced;
 
+pub use arrivals::Arrival;
 pub use end::End;
 pub use grafting::Grafting;
 pub use label::{Kind, Label};

@@ -85,7 +85,7 @@ fn members(alloc: Global, groups: Vec<Group>) -> Result<Vec<Vec<usize>>, AllocEr
 {
     let mut lists = Vec::new(alloc);
     for group in groups {
-        let Group { members, names: _ } = group;
+        let Group { members, .. } = group;
         lists.push(members)?;
     }
     Ok(lists)

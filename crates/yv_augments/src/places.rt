@@ -6,8 +6,9 @@ ghost use Rattle.yv_augments.specs.Labels.{is_named};
 ghost use Rattle.yv_augments.specs.Groups.{Groups, members_of, moved};
 ghost use Rattle.yv_augments.specs.Paths.{is_shorthand, least, before, answer, arrived, stepped, ended};
 ghost use Rattle.yv_augments.specs.Turns.{target, given};
-ghost use Rattle.yv_augments.specs.InnerGroups.{ArePlaces};
+ghost use Rattle.yv_augments.specs.InnerGroups.{ArePlaces, HaveBefore};
 ghost use Rattle.yv_augments.specs.InnerWaiting.{KeepFirst, IsFollowed};
+ghost use Rattle.yv_augments.specs.InnerArrivals.{AreMet};
 
 use crate::end::End;
 use crate::group::Group;
@@ -124,8 +125,35 @@ impl Places {
         }
     }
 
-    // Where one step leads.
-    fn step(&self, limit: usize, end: End, name: usize) -> Option<End>
+    // Among these items are all of a group that come before the limit. None where they may be more than `most`.
+    fn few_of(&self, limit: usize, group: usize, most: usize) -> Option<&[usize]>
+        ensures { (labels : List Label) (groups : Groups) → ArePlaces labels groups self.now
+            → IfSome result (λ few. HaveBefore (members_of groups group) limit few.now) }
+    {
+        match self.groups.get(group) {
+            Some(group) => group.few(limit, most),
+            None => Some(&[]),
+        }
+    }
+
+    /// Among these items is each to which one step leads, whatever its name. None where they may be more than `most`; at a case
+    /// that is left out only its own node answers a step.
+    pub(crate) fn few(&self, limit: usize, end: End, most: usize) -> Option<&[usize]>
+        ensures { (labels : List Label) (groups : Groups) → ArePlaces labels groups self.now
+            → IfSome result (λ few. AreMet labels groups limit end few.now) }
+    {
+        match end {
+            End::Start(group) => self.few_of(limit, group, most),
+            End::Node(item) => match item.checked_add(1) {
+                Some(group) => self.few_of(limit, group, most),
+                None => None,
+            },
+            End::ShorthandCase(_) => None,
+        }
+    }
+
+    /// Where one step leads.
+    pub(crate) fn step(&self, limit: usize, end: End, name: usize) -> Option<End>
         ensures { (labels : List Label) (groups : Groups) → ArePlaces labels groups self.now
             → result ≡ stepped labels groups limit end name }
     {

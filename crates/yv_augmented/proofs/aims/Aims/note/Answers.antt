@@ -11,8 +11,9 @@ returns-clause-aims c = λ w are.
     let places : ℕ = length c.args.self.now.refinements.aims.items in
     let u : RefinedUses = record { item = c.args.item; aims = c.args.place; targets = c.args.targets } in
     record {
-      known = λ statement home place at. (let it = are.known statement home place at in record { within = it.within; aimed = it.aimed });
+      known = λ statement home number at. (let it = are.known statement home number at in record { aimed = it.aimed; at = it.at; is = it.is });
       each = are.each;
+      kept = λ number k at. (let it = are.kept number k at in record { within = it.within; stand = it.stand });
       uses = subst (StandWithin places) (sym c.in_ok-push.ensures.items) (within_push places c.args.self.now.refinements.uses.items u are.uses c.requires);
     }
 

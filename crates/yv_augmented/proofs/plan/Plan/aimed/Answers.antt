@@ -1,14 +1,21 @@
-use Rattle.std.proofs.Common.{◌≡◌, ◌<◌, ◌≤◌, ◌∙◌, ℕ, List, Some, length, get_or, map, sym, ap, arith}
+use Rattle.std.proofs.Common.{◌≡◌, ◌<◌, ◌≤◌, ◌∙◌, ◌∷◌, [], ℕ, List, Some, length, get_or, map, ap, arith}
+use Rattle.std.specs.List.{slice_get}
 use Rattle.std.proofs.lemmas.List.{take_all}
-use Rattle.std.proofs.lemmas.Option.{same_Some}
 use Rattle.yv_refinements.specs.declared.meant.Aim.{Aim}
 use Rattle.yv_augmented.specs.Grafted.{path_in}
-use Rattle.yv_augmented.specs.InnerPaths.{lists}
 use Rattle.yv_augmented.specs.InnerPlan.{whole_in}
 use Rattle.yv_augmented.specs.Refining.{refines_in}
 use Rattle.yv_augmented.specs.Spots.{Whole}
 use Rattle.yv_augmented.proofs.Aiming.{aimed_more, aims_more}
 use Rattle.yv_augmented.proofs.plan.Plan.aimed.Goals as goal
+
+pub loop-refine-init : goal.loop-refine-init
+loop-refine-init c = record {
+  all = [] ∷ [];
+  tree = c.in_ok-paths.ensures;
+  refines = ap (map (λ (a : Aim). a.refine)) c.in_ok-aims.ensures.items;
+  each = ap (map (λ (a : Aim). slice_get ([] ∷ []) a.path)) c.in_ok-aims.ensures.items;
+}
 
 pub loop-refine-preserved : goal.loop-refine-preserved
 loop-refine-preserved c =
@@ -21,11 +28,16 @@ loop-refine-preserved c =
     let refine : ℕ = get_or items i 0 in
     let is : refine ≡ get_or refines i 0 = ap (λ (l : List ℕ). get_or l i 0) told in
     let a : Aim = record { refine = refine; path = c.in_ok-path.path } in
+    let before = c.loop-refine.invariant in
+    let added = c.in_ok-path.ensures before.all before.tree in
+    let path : List ℕ = path_in w c.args.home refine in
+    let steps : c.deref.result.now ≡ path = c.deref.ensures.value ∙ c.in_ok-steps.ensures in
     record {
-      different = c.in_ok-path.ensures.different;
-      refines = aims_more refines i c.loop-refine.aims.items c.push.new.self.items a less is c.in_ok-push.ensures.items c.loop-refine.invariant.refines;
-      each = aimed_more refines (path_in w c.args.home) i c.loop-refine.aims.items c.push.new.self.items a (lists c.loop-refine.different.paths.items) _ less c.in_ok-path.ensures.kept
-          (c.in_ok-path.ensures.number ∙ ap Some (c.in_ok-names.ensures ∙ ap (path_in w c.args.home) is)) c.in_ok-push.ensures.items c.loop-refine.invariant.each;
+      all = added.all;
+      tree = added.tree;
+      refines = aims_more refines i c.loop-refine.aims.items c.push.new.self.items a less is c.in_ok-push.ensures.items before.refines;
+      each = aimed_more refines (path_in w c.args.home) i c.loop-refine.aims.items c.push.new.self.items a before.all added.all less added.kept
+          (added.at ∙ ap Some (steps ∙ ap (path_in w c.args.home) is)) c.in_ok-push.ensures.items before.each;
     }
 
 pub returns : goal.returns
@@ -35,9 +47,9 @@ returns c =
     let i : ℕ = c.loop-refine.refine-index in
     let past : length refines ≤ i = (let size = ap length c.refines_in-refines.ensures in omega (arith, size, c.loop-refine-test.false)) in
     let whole = take_all i refines past in
-    let are = c.loop-refine.invariant.different in
+    let are = c.loop-refine.invariant in
     record {
-      refines = c.loop-refine.invariant.refines ∙ whole;
-      each = c.loop-refine.invariant.each ∙ ap (map (λ k. Some (path_in w c.args.home k))) whole;
-      differ = λ m n path one other. same_Some m n (sym (are.known path m one) ∙ are.known path n other);
+      all = are.all;
+      tree = are.tree;
+      aims = record { refines = are.refines ∙ whole; each = are.each ∙ ap (map (λ k. Some (path_in w c.args.home k))) whole };
     }

@@ -79,3 +79,10 @@ loop-left-preserved c =
       told = missing_more w (laid_in c.args.layout.now) c.args.ends.now n left _ c.loop-left.missing.items _ next (omega (arith, inside, c.loop-left.invariant.each)) c.note.ensures
           (missing_here w (laid_in c.args.layout.now) (get_or c.args.ends.now n 0) n left s _ next at refused) c.loop-left.invariant.told;
     }
+
+pub returns-clause-state : goal.returns-clause-state
+returns-clause-state c =
+    let w : Whole = whole_in c.args.self.now in
+    let spots : List Spot = c.args.layout.now.spots.items in
+    let none : c.loop-left.left ≡ 0 = omega (arith, c.loop-left-test.false) in
+    subst (λ (n : ℕ). IsGrafting (labels_of spots) (placed_from w (labels_of spots) c.args.layout.now.copies n (drop n spots)) c.loop-left.grafting) none c.loop-left.invariant.state

@@ -1,0 +1,38 @@
+-- The paths that go on from each, as rows.
+use Rattle.std.proofs.Common.{◌≡◌, ℕ, ◌<◌, ◌≤◌, zero, suc, List, [], ◌∷◌, ◌++◌, length, get_or, set, take, Some, refl, sym, ◌∙◌, ap, arith}
+use Rattle.std.specs.declared.alloc.Global.{Global}
+use Rattle.std.specs.declared.vec.Vec.{Vec}
+use Rattle.std.proofs.Math.Seq.{take-length}
+use Rattle.std.proofs.lemmas.List.{take-append-le}
+use Rattle.std.proofs.lemmas.Option.{slice_get-get_or, slice_get_past}
+use Rattle.yv_path_tree.specs.InnerTree.{branches_by, branches_in}
+
+pub row_at : (rows : List (Vec ℕ Global)) (row : Vec ℕ Global) (k : ℕ) → k < length rows → row ≡ get_or rows k row → branches_in rows k ≡ row.items
+row_at rows row k less is = ap branches_by (slice_get-get_or rows k row less ∙ ap Some (sym is))
+
+pub no_row : (rows : List (Vec ℕ Global)) (k : ℕ) → length rows ≤ k → branches_in rows k ≡ []
+no_row rows k past = ap branches_by (slice_get_past rows k past)
+
+-- a row more that has nothing is as none
+pub empty_row : (rows : List (Vec ℕ Global)) (row : Vec ℕ Global) (k : ℕ) → row.items ≡ [] → branches_in (rows ++ row ∷ []) k ≡ branches_in rows k
+empty_row [] row zero h = h
+empty_row [] row (suc k) h = refl
+empty_row (r ∷ rs) row zero h = refl
+empty_row (r ∷ rs) row (suc k) h = empty_row rs row k h
+
+-- a row that is written stands there, and the others stay
+pub row_set : (rows : List (Vec ℕ Global)) (row : Vec ℕ Global) (k : ℕ) → k < length rows → branches_in (set rows k row) k ≡ row.items
+row_set [] row k less = absurd (omega arith)
+row_set (r ∷ rs) row zero less = refl
+row_set (r ∷ rs) row (suc k) less = row_set rs row k (omega arith)
+
+pub rows_left : (rows : List (Vec ℕ Global)) (row : Vec ℕ Global) (k other : ℕ) → (other ≡ k → ⊥) → branches_in (set rows k row) other ≡ branches_in rows other
+rows_left [] row k other apart = refl
+rows_left (r ∷ rs) row zero zero apart = absurd (apart refl)
+rows_left (r ∷ rs) row zero (suc other) apart = refl
+rows_left (r ∷ rs) row (suc k) zero apart = refl
+rows_left (r ∷ rs) row (suc k) (suc other) apart = rows_left rs row k other (λ e. apart (ap suc e))
+
+-- rows that are written as a whole
+pub rows_written : (rows more : List (Vec ℕ Global)) (count : ℕ) → count ≡ length rows → take count (rows ++ more) ≡ rows
+rows_written rows more count is = ap (λ (n : ℕ). take n (rows ++ more)) is ∙ take-append-le (length rows) rows more (omega arith) ∙ take-length rows
