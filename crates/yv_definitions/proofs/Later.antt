@@ -1,5 +1,5 @@
 -- What statements say, one in place of the other.
-use Rattle.std.proofs.Common.{◌≡◌, ℕ, Bool, true, false, List, [], ◌∷◌, ◌++◌, Option, Some, None, is_some, refl, sym, ap, ◌∙◌, append_assoc}
+use Rattle.std.proofs.Common.{◌≡◌, ℕ, Bool, false, List, [], ◌∷◌, ◌++◌, Option, Some, None, is_some, refl, sym, ap, ◌∙◌, append_assoc}
 use Rattle.std.specs.Prelude.{◌||◌}
 use Rattle.std.specs.Option.{option_map, option_or, unwrap_or}
 use Rattle.yv_statement.specs.Tree.{trees}
@@ -18,7 +18,7 @@ use Rattle.yv_stated.specs.Statements.{statement_at}
 use Rattle.yv_definitions.specs.Defined.{defined, defined_at, refined, unwritten, with_properties}
 use Rattle.yv_definitions.specs.Values.{defaults_of, values_at, with_defaults}
 use Rattle.yv_definitions.specs.InnerChanged.{changed, changed_by}
-use Rattle.yv_definitions.specs.InnerRefined.{give_default, gives_default}
+use Rattle.yv_definitions.specs.InnerRefined.{give_default}
 use Rattle.yv_definitions.proofs.Separating.{expressions_more, separated_one}
 
 or_map : {A B : Type 0} (f : A → B) (a b : Option A) → option_or (option_map f a) (option_map f b) ≡ option_map f (option_or a b)
@@ -159,6 +159,13 @@ module _ (typing : Typing) (files : Files) where
         → ◌≡◌ {A = Defined} (with_defaults files f) (refined typing files from (before ++ refines))
     valued_is said draft f features is begun told changes =
         ap (with_defaults files) (changed_is draft f (begun_is said draft features is begun told) changes)
+
+    -- refines change no types
+    pub types_stay : (said draft f : Defined) (features : List ℕ) → said ≡ first → draft ≡ record said { features = features }
+        → features ≡ with_expressions said.features (all_expressions files refines) → f ≡ changed_by files refines draft
+        → f.types ≡ (defined typing files from).types
+    types_stay said draft f features is begun told changes =
+        ap (λ (d : Defined). d.types) (changed_is draft f (begun_is said draft features is begun told) changes)
 
     own_stays : (own last : Option Written) → last ≡ None → option_or last own ≡ own
     own_stays own last e = ap (λ (o : Option Written). option_or o own) e

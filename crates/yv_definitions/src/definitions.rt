@@ -1,10 +1,11 @@
 //! What the numbered statements of files say of the nodes that they define.
-ghost use Rattle.std.specs.Prelude.{◌≡◌, ◌++◌, ℕ, List, [], slice_get, IfOk, OnOk, string_bytes};
+ghost use Rattle.std.specs.Prelude.{◌≡◌, ◌++◌, ℕ, List, [], map, slice_get, IfOk, OnOk, string_bytes};
 ghost use Rattle.std.specs.Option.{option_map};
 ghost use Rattle.std.specs.Rc.{rc_str_bytes};
 ghost use Rattle.yv_statement.specs.Tree.{trees};
 ghost use Rattle.yv_rows.specs.Lent.{lent_in};
 ghost use Rattle.yv_expansion.specs.declared.item.Origin.{Origin};
+ghost use Rattle.yv_values.specs.Types.{plain_of};
 ghost use Rattle.yv_leaf_paths.specs.Known.{AreLeafPaths};
 ghost use Rattle.yv_definitions.specs.Kinds.{typing_of};
 ghost use Rattle.yv_conform.specs.declared.keyword.Keyword.TheVariants as word;
@@ -12,14 +13,14 @@ ghost use Rattle.yv_stated.specs.Statements.{file_at, first_of, statement_at};
 ghost use Rattle.yv_definitions.specs.Features.{all_expressions, expressions, with_expressions};
 ghost use Rattle.yv_stated.specs.Properties.{properties_of, said_at};
 ghost use Rattle.yv_defaults.specs.Scopes.{AreScopes};
-ghost use Rattle.yv_definitions.specs.Defined.{defined_at, referring, referring_by, refined, unwritten};
+ghost use Rattle.yv_definitions.specs.Defined.{defined, defined_at, referring, referring_by, refined, unwritten};
 ghost use Rattle.yv_definitions.specs.Values.{with_defaults};
 ghost use Rattle.yv_definitions.specs.InnerKept.{AreKept, gives_features, has_features};
 ghost use Rattle.yv_definitions.specs.InnerChanged.{changed, changed_by};
 ghost use Rattle.yv_definitions.specs.InnerRefined.{give_default, gives_default};
 
 use crate::features::push_expressions;
-use crate::keeping::{Kept, changes_at, kept_at, stated_at, unwritten_at};
+use crate::keeping::{Kept, changes_at, kept_at, stated_at, types_at, unwritten_at};
 use crate::nothing::Nothing;
 use crate::numbered::{file_at, statement_at};
 use crate::values::defaults_of;
@@ -34,7 +35,7 @@ use yv_properties::{Definition, DefinitionDraft, NodeKind};
 use yv_rows::Rows;
 use yv_stated::{first_of, has};
 use yv_types::Types;
-use yv_values::Scope;
+use yv_values::{Matchers, PlainType, Scope};
 
 /// What the numbered statements of files say of the nodes that they define, each read once. Contracts see the files, and
 /// what their `type` statements stand for.
@@ -70,10 +71,20 @@ impl<'r, 'a, 'b> Definitions<'r, 'a, 'b> {
         let paths = LeafPaths::read(alloc, rows)?;
         let scopes = scopes_of(alloc, rows)?;
         let nothing = Nothing::new(alloc)?;
+        let mut matchers = Matchers::new(alloc);
         let count = rows.entries().len();
         let mut kept = Vec::with_capacity(alloc, count)?;
         for number in 0..count {
-            kept.push(kept_at(alloc, &nothing, rows, types, &paths, &scopes, number)?)?;
+            kept.push(kept_at(
+                alloc,
+                &nothing,
+                rows,
+                types,
+                &paths,
+                &scopes,
+                &mut matchers,
+                number,
+            )?)?;
         }
         Ok(Definitions {
             alloc,
@@ -98,18 +109,32 @@ impl<'r, 'a, 'b> Definitions<'r, 'a, 'b> {
         }
     }
 
-    /// What is said of a node of which this is said as these refines, which are numbered statements, change it further, in order (RFC
-    /// 7950, section 7.13.2). It shares with it what they don't change, and takes time and memory for what they do. The value of a
-    /// default that one of them gives is read anew.
-    pub fn more(&self, said: &Definition, refines: &[usize]) -> Result<Definition, AllocError>
-        ensures { (origin : Origin) (before : List ℕ) → said.now ≡ refined (typing_in self.now) (files_in self.now) origin before
+    /// What is said of a node of this origin, of which this is said, as these refines, which are numbered statements, change it further,
+    /// in order (RFC 7950, section 7.13.2). It shares with it what they don't change, and takes time and memory for what they do. The value
+    /// of a default that one of them gives is read anew; the matchers are kept of the types' patterns from one default to the next.
+    pub fn more(
+        &self,
+        matchers: &mut Matchers<'r>,
+        origin: Origin,
+        said: &Definition,
+        refines: &[usize],
+    ) -> Result<Definition, AllocError>
+        ensures { (before : List ℕ) → said.now ≡ refined (typing_in self.now) (files_in self.now) origin before
             → IfOk result (λ d. d ≡ refined (typing_in self.now) (files_in self.now) origin (before ++ refines.now)) }
     {
         let mut draft = said.draft()?;
         draft.features = self.features(said, refines)?;
         let mut changed = self.changed(draft, refines)?;
         if self.gives_default(refines) {
-            changed.defaults = defaults_of(self.alloc, &self.nothing, &self.scopes, &changed)?;
+            let types = self.types_of(origin);
+            changed.defaults = defaults_of(
+                self.alloc,
+                &self.nothing,
+                &self.scopes,
+                matchers,
+                types,
+                &changed,
+            )?;
         }
         changed.finish(self.alloc)
     }
@@ -132,6 +157,16 @@ impl<'r, 'a, 'b> Definitions<'r, 'a, 'b> {
         let found = first_of(Keyword::Type, statement_at(self.rows, number)?)?;
         self.types
             .referring_at(file_at(self.rows, number), found.offset())
+    }
+
+    // The types of a node of this origin, as a list that lasts as long as the types of the files.
+    fn types_of(&self, origin: Origin) -> &'r [PlainType]
+        ensures { map plain_of result.now ≡ (defined (typing_in self.now) (files_in self.now) origin).types }
+    {
+        match origin {
+            Origin::Statement(number) => types_at(self.rows, self.types, number),
+            _ => &[],
+        }
     }
 
     // Whether one of these numbered statements gives a default.
@@ -164,6 +199,7 @@ impl<'r, 'a, 'b> Definitions<'r, 'a, 'b> {
                 self.types,
                 &self.paths,
                 &self.scopes,
+                &mut Matchers::none(self.alloc),
                 number,
             ),
         }

@@ -1,7 +1,8 @@
 //! What is kept of the numbered statements.
-ghost use Rattle.std.specs.Prelude.{◌≡◌, IfOk};
+ghost use Rattle.std.specs.Prelude.{◌≡◌, map, IfOk};
 ghost use Rattle.yv_rows.specs.Lent.{lent_in};
 ghost use Rattle.yv_leaf_paths.specs.Known.{AreLeafPaths};
+ghost use Rattle.yv_values.specs.Types.{plain_of};
 ghost use Rattle.yv_properties.specs.declared.kind.NodeKind.{NodeKind};
 ghost use Rattle.yv_defaults.specs.Scopes.{AreScopes};
 ghost use Rattle.yv_definitions.specs.Kinds.{typing_of};
@@ -15,7 +16,7 @@ use crate::changes::Changes;
 use crate::keys::BlockPaths;
 use crate::nothing::Nothing;
 use crate::numbered::{file_at, statement_at};
-use crate::reading::{blank, define, node_kind, node_name};
+use crate::reading::{blank, define, lasting_types, node_kind, node_name};
 use crate::values::defaults_of;
 use std::alloc::{AllocError, Global};
 use std::rc::RcStr;
@@ -25,7 +26,7 @@ use yv_properties::{Definition, DefinitionDraft, NodeKind};
 use yv_rows::Rows;
 use yv_statement::Statement;
 use yv_types::Types;
-use yv_values::Scope;
+use yv_values::{Matchers, PlainType, Scope};
 
 /// What is kept of a statement.
 #[derive(Drop)]
@@ -63,21 +64,34 @@ fn define_at<'a>(
     }
 }
 
-/// What the numbered statement says of the node that it defines, these being the scopes of the files.
-pub(crate) fn stated_at<'a>(
+/// The types of the node that the numbered statement defines, as a list that lasts as long as the types of the files.
+pub(crate) fn types_at<'t>(rows: &Rows<'_, '_>, types: &'t Types, number: usize) -> &'t [PlainType]
+    ensures { map plain_of result.now ≡ (defined_at (typing_of types.now) (lent_in rows.now) number).types }
+{
+    match statement_at(rows, number) {
+        Some(statement) => lasting_types(types, file_at(rows, number), statement),
+        None => &[],
+    }
+}
+
+/// What the numbered statement says of the node that it defines, these being the scopes of the files. The matchers are kept of the types'
+/// patterns from one default to the next.
+pub(crate) fn stated_at<'a, 't>(
     alloc: Global,
     nothing: &Nothing,
     rows: &Rows<'a, '_>,
-    types: &Types,
+    types: &'t Types,
     paths: &LeafPaths<'a>,
     scopes: &[Scope],
+    matchers: &mut Matchers<'t>,
     number: usize,
 ) -> Result<Definition, AllocError>
     ensures { AreLeafPaths (lent_in rows.now) paths.now → AreScopes (lent_in rows.now) scopes.now → IfOk result (λ d. d
         ≡ with_defaults (lent_in rows.now) (defined_at (typing_of types.now) (lent_in rows.now) number)) }
 {
     let mut draft = define_at(alloc, nothing, rows, types, paths, number)?;
-    draft.defaults = defaults_of(alloc, nothing, scopes, &draft)?;
+    let lasting = types_at(rows, types, number);
+    draft.defaults = defaults_of(alloc, nothing, scopes, matchers, lasting, &draft)?;
     draft.finish(alloc)
 }
 
@@ -126,20 +140,22 @@ fn keyword_at(rows: &Rows<'_, '_>, number: usize) -> Keyword {
 }
 
 /// What is kept of the numbered statement.
-pub(crate) fn kept_at<'a>(
+pub(crate) fn kept_at<'a, 't>(
     alloc: Global,
     nothing: &Nothing,
     rows: &Rows<'a, '_>,
-    types: &Types,
+    types: &'t Types,
     paths: &LeafPaths<'a>,
     scopes: &[Scope],
+    matchers: &mut Matchers<'t>,
     number: usize,
 ) -> Result<Kept, AllocError>
     ensures { AreLeafPaths (lent_in rows.now) paths.now → AreScopes (lent_in rows.now) scopes.now → IfOk result (λ kept. IsKept (typing_of types.now) (lent_in rows.now) number kept) }
 {
     let keyword = keyword_at(rows, number);
     if node_kind(keyword).is_some() {
-        Ok(Kept::Node(stated_at(alloc, nothing, rows, types, paths, scopes, number)?))
+        let node = stated_at(alloc, nothing, rows, types, paths, scopes, matchers, number)?;
+        Ok(Kept::Node(node))
     } else if keyword == Keyword::Refine {
         let changes = changes_at(alloc, rows, number)?;
         Ok(Kept::Refine(Box::new(alloc, changes)?))

@@ -111,6 +111,30 @@ fn types_in(
     }
 }
 
+// The same list, which lasts as long as the types of the files.
+fn lasting_at<'t>(types: &'t Types, file: u32, offset: u64) -> &'t [PlainType]
+    ensures { map plain_of result.now ≡ kinds_of types.now file offset }
+{
+    match types.plain(file, offset) {
+        Some(found) => found,
+        None => &[],
+    }
+}
+
+/// The types that the `type` statement of its block stands for, as a list that lasts as long as the types of the files.
+pub(crate) fn lasting_types<'t>(
+    types: &'t Types,
+    file: u32,
+    statement: &Statement<'_>,
+) -> &'t [PlainType]
+    ensures { map plain_of result.now ≡ types_in (kinds_of types.now) file statement.now.children }
+{
+    match first_of(Keyword::Type, statement) {
+        Some(found) => lasting_at(types, file, found.offset()),
+        None => &[],
+    }
+}
+
 // The default that its type has by its typedefs, over the same text.
 fn type_default(
     types: &Types,

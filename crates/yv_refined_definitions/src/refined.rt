@@ -8,10 +8,12 @@ ghost use Rattle.yv_refined_definitions.specs.InnerKept.{AreRefined, IsChain, Is
 use crate::chain::Chain;
 use std::alloc::{AllocError, Global};
 use std::collections::{BTreeMap, BTreeSet};
+use std::mem;
 use yv_definitions::Definitions;
 use yv_expansion::Origin;
 use yv_properties::Definition;
 use yv_refinements::Changes;
+use yv_values::Matchers;
 
 /// What the statements of files say of the nodes of items, as refines change these. Contracts see what the statements say, and
 /// the sequences of refines.
@@ -24,6 +26,8 @@ pub struct RefinedDefinitions<'d, 'r, 'a, 'b> {
     kept: BTreeMap<(usize, usize, usize), Refined>,
     // Those from which others that are kept go on.
     passed: BTreeSet<(usize, usize, usize)>,
+    // Of the patterns against which defaults are held.
+    matchers: Matchers<'r>,
     ghost kept_so: { AreRefined (typing_in definitions.now) (files_in definitions.now) changes.now.sequences kept },
 }
 
@@ -75,6 +79,7 @@ impl<'d, 'r, 'a, 'b> RefinedDefinitions<'d, 'r, 'a, 'b> {
             changes,
             kept: BTreeMap::new(alloc),
             passed: BTreeSet::new(alloc),
+            matchers: Matchers::new(alloc),
         }
     }
 
@@ -99,20 +104,25 @@ impl<'d, 'r, 'a, 'b> RefinedDefinitions<'d, 'r, 'a, 'b> {
         ensures { IfOk result (λ d. d ≡ refined (typing_of self.now) (files_of self.now) origin (sequence_at (sequences_of self.now) sequence)) }
     {
         match sequence {
-            Some(sequence) => self.changed(origin, sequence),
+            Some(sequence) => self.changed(&mut Matchers::none(self.alloc), origin, sequence),
             None => self.definitions.of(origin),
         }
     }
 
     // The same of a sequence.
-    fn changed(&self, origin: Origin, sequence: usize) -> Result<Definition, AllocError>
+    fn changed(
+        &self,
+        matchers: &mut Matchers<'r>,
+        origin: Origin,
+        sequence: usize,
+    ) -> Result<Definition, AllocError>
         ensures { IfOk result (IsRefined (typing_of self.now) (files_of self.now) (sequences_of self.now) origin sequence) }
     {
         if let Some(said) = self.known(origin, sequence) {
             return said.share();
         }
         let chain = self.chain(origin, sequence)?;
-        self.led(chain)
+        self.led(matchers, origin, chain)
     }
 
     // What is kept of it.
@@ -171,13 +181,18 @@ impl<'d, 'r, 'a, 'b> RefinedDefinitions<'d, 'r, 'a, 'b> {
 
     // What is said when the runs have changed it. All their refines change it at once, so that a default is read and the text of
     // conditions is made once, and not for each run.
-    fn led(&self, chain: Chain<'d>) -> Result<Definition, AllocError>
-        ensures { (origin : Origin) (refines : List ℕ) → IsChain (typing_of self.now) (files_of self.now) origin refines chain.entry
+    fn led(
+        &self,
+        matchers: &mut Matchers<'r>,
+        origin: Origin,
+        chain: Chain<'d>,
+    ) -> Result<Definition, AllocError>
+        ensures { (refines : List ℕ) → IsChain (typing_of self.now) (files_of self.now) origin refines chain.entry
             → IfOk result (λ d. d ≡ refined (typing_of self.now) (files_of self.now) origin refines) }
     {
         let Chain { said, runs } = chain;
         let refines = joined(self.alloc, runs)?;
-        self.definitions.more(&said, &refines)
+        self.definitions.more(matchers, origin, &said, &refines)
     }
 
     // Keeps what is said of a node that the refines of one sequence change.
@@ -186,7 +201,9 @@ impl<'d, 'r, 'a, 'b> RefinedDefinitions<'d, 'r, 'a, 'b> {
         ensures files { files_of self.new ≡ files_of self.old }
         ensures sequences { sequences_of self.new ≡ sequences_of self.old }
     {
-        let said = self.changed(origin, sequence)?;
+        let mut matchers = mem::replace(&mut self.matchers, Matchers::none(self.alloc));
+        let said = self.changed(&mut matchers, origin, sequence)?;
+        self.matchers = matchers;
         let refined = Refined {
             origin,
             sequence,

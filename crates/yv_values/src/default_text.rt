@@ -28,10 +28,23 @@ pub fn read_text(
 ) -> Result<Option<Value>, AllocError>
     ensures { IfOk result (λ found. found ≡ text_value (plain_of plain.now) text.now (place_of scope.now)) }
 {
+    read_text_with(alloc, &mut Matchers::none(alloc), plain, text, scope)
+}
+
+/// The same, by the matchers that are kept of the type's patterns from one text to the next.
+pub fn read_text_with<'t>(
+    alloc: Global,
+    matchers: &mut Matchers<'t>,
+    plain: &'t PlainType,
+    text: &str,
+    scope: &Scope,
+) -> Result<Option<Value>, AllocError>
+    ensures { IfOk result (λ found. found ≡ text_value (plain_of plain.now) text.now (place_of scope.now)) }
+{
     match plain {
         PlainType::Whole(whole) => Ok(whole_among(whole, based_integer_of(text.as_bytes()))),
         PlainType::Decimal(decimal) => Ok(decimal_in(decimal, text.as_bytes())),
-        PlainType::Text(plain) => text_in(alloc, &mut Matchers::none(alloc), plain, text),
+        PlainType::Text(plain) => text_in(alloc, matchers, plain, text),
         PlainType::Boolean => Ok(truth_of(text)),
         PlainType::Enumeration(names) => name_in(alloc, names, text),
         PlainType::Bits(names) => bits_in(alloc, names, text),

@@ -22,7 +22,7 @@ mod text;
 mod value;
 mod whole;
 
-pub use default_text::read_text;
+pub use default_text::{read_text, read_text_with};
 pub use index::Index;
 pub use members::{Member, Members};
 pub use meter::Meter;

@@ -1,4 +1,4 @@
-use Rattle.std.proofs.Common.{◌≡◌, ℕ, List, [], ap, rules, ◌∙◌, sym}
+use Rattle.std.proofs.Common.{◌≡◌, ℕ, List, [], ap, rules, ◌∙◌}
 use Rattle.yv_refined_definitions.specs.InnerKept.{followed}
 use Rattle.yv_refined_definitions.proofs.Following.{none_left, one_less, read}
 use Rattle.yv_refined_definitions.proofs.refined.joined.Goals as goal

@@ -2,15 +2,15 @@ use Rattle.std.proofs.Common.{◌≡◌, ◌++◌, sym, ◌∙◌}
 use Rattle.std.proofs.lemmas.Result.{IfOk-weaker}
 use Rattle.std.specs.Rc.{rc_slice_items, rc_str_bytes}
 use Rattle.yv_defaults.specs.Scopes.{AreScopes}
-use Rattle.yv_properties.specs.Defined.{Defined}
 use Rattle.yv_definitions.specs.Defined.{refined}
 use Rattle.yv_definitions.specs.Known.{files_in, typing_in}
-use Rattle.yv_definitions.proofs.Later.{kept_is, valued_is}
+use Rattle.yv_definitions.proofs.Later.{kept_is, types_stay, valued_is}
 use Rattle.yv_definitions.proofs.definitions.Definitions.more.Goals.{then-gives_default+in_ok-changed-inside, else-gives_default}
 use Rattle.yv_definitions.proofs.definitions.Definitions.more.Goals as goal
 
 pub returns : goal.returns
-returns c = λ origin before is.
+returns c = λ before is.
+    let origin = c.args.origin in
     let typing = typing_in c.args.self.now in
     let files = files_in c.args.self.now in
     let refines = c.args.refines.now in
@@ -20,8 +20,10 @@ returns c = λ origin before is.
       | then-gives_default+in_ok-changed-inside w ↦
           let scopes : AreScopes files w.deref.result.now = rw w.deref.ensures.value c.args.self.now.scopes_so in
           let given = rc_slice_items w.in_ok-changed-inside.field-0 in
+          let types = w.types_of-types.ensures
+          ∙ sym (types_stay typing files origin before refines c.args.said.now _ c.in_ok-changed.changed text is (λ i. record ((c.draft-2.view_is ∙ c.in_ok-draft.ensures) i) { features = text }) c.in_ok-draft-inside.ensures c.in_ok-changed.ensures) in
           w.changed-is ∙ (λ i. record (c.changed-2.view_is i) { defaults = given })
-          ∙ (λ i. record c.in_ok-changed.changed { defaults = w.in_ok-changed-inside.ensures files scopes i })
+          ∙ (λ i. record c.in_ok-changed.changed { defaults = w.in_ok-changed-inside.ensures files scopes types i })
           ∙ valued_is typing files origin before refines c.args.said.now _ c.in_ok-changed.changed text is (λ i. record ((c.draft-2.view_is ∙ c.in_ok-draft.ensures) i) { features = text }) c.in_ok-draft-inside.ensures c.in_ok-changed.ensures
       | else-gives_default w ↦
           w.changed-is

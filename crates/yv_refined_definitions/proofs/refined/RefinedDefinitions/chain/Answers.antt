@@ -1,4 +1,4 @@
-use Rattle.std.proofs.Common.{◌≡◌, ℕ, List, [], ◌++◌, Option, Some, ap, ◌∙◌}
+use Rattle.std.proofs.Common.{ℕ, List, [], ◌++◌, Option, Some, ap, ◌∙◌}
 use Rattle.yv_refinements.specs.Changed.{sequence_at}
 use Rattle.yv_refined_definitions.specs.Known.{sequences_of}
 use Rattle.yv_refined_definitions.proofs.Following.{one_more}

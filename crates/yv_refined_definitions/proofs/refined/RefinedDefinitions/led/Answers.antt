@@ -1,4 +1,4 @@
-use Rattle.std.proofs.Common.{◌≡◌, ℕ, List, [], ◌++◌, ap, ◌∙◌, subst, sym}
+use Rattle.std.proofs.Common.{◌≡◌, ℕ, List, ◌++◌, ap, ◌∙◌, subst, sym}
 use Rattle.std.specs.Prelude.{IfOk}
 use Rattle.yv_definitions.specs.Defined.{refined}
 use Rattle.yv_refined_definitions.specs.Known.{files_of, typing_of}
@@ -6,8 +6,8 @@ use Rattle.yv_refined_definitions.proofs.Following.{from_none, read}
 use Rattle.yv_refined_definitions.proofs.refined.RefinedDefinitions.led.Goals as goal
 
 pub returns : goal.returns
-returns c = λ origin refines chain.
+returns c = λ refines chain.
     let all : chain.before ++ c.deref.result.now ≡ refines =
     ap (λ (behind : List ℕ). chain.before ++ behind) (c.deref.ensures.value ∙ c.in_ok-refines.ensures) ∙ sym (from_none chain.before (read c.args.chain.runs.items)) ∙ chain.all in
     let self = c.args.self.now in
-    subst (λ (all : List ℕ). IfOk c.more.result (λ d. d ≡ refined (typing_of self) (files_of self) origin all)) all (c.more.ensures origin chain.before chain.said)
+    subst (λ (all : List ℕ). IfOk c.more.result (λ d. d ≡ refined (typing_of self) (files_of self) c.args.origin all)) all (c.more.ensures chain.before chain.said)
