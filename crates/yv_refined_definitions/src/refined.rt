@@ -8,7 +8,6 @@ ghost use Rattle.yv_refined_definitions.specs.InnerKept.{AreRefined, IsChain, Is
 use crate::chain::Chain;
 use std::alloc::{AllocError, Global};
 use std::collections::{BTreeMap, BTreeSet};
-use std::mem;
 use yv_definitions::Definitions;
 use yv_expansion::Origin;
 use yv_properties::Definition;
@@ -26,8 +25,6 @@ pub struct RefinedDefinitions<'d, 'r, 'a, 'b> {
     kept: BTreeMap<(usize, usize, usize), Refined>,
     // Those from which others that are kept go on.
     passed: BTreeSet<(usize, usize, usize)>,
-    // Of the patterns against which defaults are held.
-    matchers: Matchers<'r>,
     ghost kept_so: { AreRefined (typing_in definitions.now) (files_in definitions.now) changes.now.sequences kept },
 }
 
@@ -79,13 +76,18 @@ impl<'d, 'r, 'a, 'b> RefinedDefinitions<'d, 'r, 'a, 'b> {
             changes,
             kept: BTreeMap::new(alloc),
             passed: BTreeSet::new(alloc),
-            matchers: Matchers::new(alloc),
         }
     }
 
     /// Keeps what is said of a node of this origin that the refines of a sequence change, and of what only the first of them change
-    /// where two of the sequences that are kept go on from it: `of` then shares it.
-    pub fn keep(&mut self, origin: Origin, sequence: usize) -> Result<(), AllocError>
+    /// where two of the sequences that are kept go on from it: `of` then shares it. The matchers are kept of the patterns against which
+    /// defaults are held, from one to the next.
+    pub fn keep(
+        &mut self,
+        matchers: &mut Matchers<'r>,
+        origin: Origin,
+        sequence: usize,
+    ) -> Result<(), AllocError>
         ensures typing { typing_of self.new ≡ typing_of self.old }
         ensures files { files_of self.new ≡ files_of self.old }
         ensures sequences { sequences_of self.new ≡ sequences_of self.old }
@@ -94,9 +96,9 @@ impl<'d, 'r, 'a, 'b> RefinedDefinitions<'d, 'r, 'a, 'b> {
             return Ok(());
         }
         if let Some(front) = self.fork(origin, sequence)? {
-            self.keep_one(origin, front)?;
+            self.keep_one(matchers, origin, front)?;
         }
-        self.keep_one(origin, sequence)
+        self.keep_one(matchers, origin, sequence)
     }
 
     /// What is said of a node of this origin, as the refines of a sequence change it, if one does (RFC 7950, section 7.13.2).
@@ -196,14 +198,17 @@ impl<'d, 'r, 'a, 'b> RefinedDefinitions<'d, 'r, 'a, 'b> {
     }
 
     // Keeps what is said of a node that the refines of one sequence change.
-    fn keep_one(&mut self, origin: Origin, sequence: usize) -> Result<(), AllocError>
+    fn keep_one(
+        &mut self,
+        matchers: &mut Matchers<'r>,
+        origin: Origin,
+        sequence: usize,
+    ) -> Result<(), AllocError>
         ensures typing { typing_of self.new ≡ typing_of self.old }
         ensures files { files_of self.new ≡ files_of self.old }
         ensures sequences { sequences_of self.new ≡ sequences_of self.old }
     {
-        let mut matchers = mem::replace(&mut self.matchers, Matchers::none(self.alloc));
-        let said = self.changed(&mut matchers, origin, sequence)?;
-        self.matchers = matchers;
+        let said = self.changed(matchers, origin, sequence)?;
         let refined = Refined {
             origin,
             sequence,

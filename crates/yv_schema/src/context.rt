@@ -15,6 +15,7 @@ use yv_expansion::Node;
 use yv_final_tree::FinalTree;
 use yv_properties::Definition;
 use yv_refined_definitions::RefinedDefinitions;
+use yv_values::Matchers;
 
 /// What the statements of files say of the nodes of a tree, once for each way in which refines change one.
 pub(crate) fn refined_definitions<'c, 'a, 'b>(
@@ -26,9 +27,10 @@ pub(crate) fn refined_definitions<'c, 'a, 'b>(
 {
     let changes = tree.changes();
     let mut refined = RefinedDefinitions::new(alloc, definitions, changes);
+    let mut matchers = Matchers::new(alloc);
     for item in 0..tree.len() as usize {
         if let Some(sequence) = changes.sequence(item) {
-            refined.keep(tree.origin(item), sequence)?;
+            refined.keep(&mut matchers, tree.origin(item), sequence)?;
         }
     }
     Ok(refined)

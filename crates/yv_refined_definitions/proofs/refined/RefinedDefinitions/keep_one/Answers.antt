@@ -7,8 +7,8 @@ use Rattle.yv_refined_definitions.specs.declared.refined.Refined.{Refined}
 use Rattle.yv_refined_definitions.proofs.Keeping.{either, found}
 use Rattle.yv_refined_definitions.proofs.refined.RefinedDefinitions.keep_one.Goals as goal
 
-pub invariant_of-self-3 : goal.invariant_of-self-3
-invariant_of-self-3 c =
+pub invariant_of-self : goal.invariant_of-self
+invariant_of-self c =
     let self = c.args.self.now in
     let P : Refined → Type 0 = λ r. IsRefined (typing_of self) (files_of self) (sequences_of self) r.origin r.sequence r.said in
     let value : Refined = record { origin = c.args.origin; sequence = c.args.sequence; said = c.in_ok-said.said } in
