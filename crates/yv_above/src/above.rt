@@ -46,7 +46,7 @@ impl Model for Above {
 }
 
 impl Above {
-    /// No nodes: what stands at the top has none above it.
+    /// No nodes: a node at the top has none above it.
     pub fn top() -> Above
         ensures { result ≡ seen_of [] }
     {
@@ -60,8 +60,8 @@ impl Above {
         }
     }
 
-    /// How the node that a statement defines stands below these nodes, being of the module of which this is the number of the file.
-    /// Err for want of memory alone.
+    /// The place in the tree of the node that a statement defines, below these nodes. `home` is the number of the file of its module.
+    /// Err only if memory runs out.
     pub fn standing(&self, definition: &Definition, home: u32) -> Result<Standing, AllocError>
         ensures { (ls : List Label) → self.now ≡ seen_of ls → IfOk result (λ standing.
             (module_name : List ℕ) (parent : NodeId) (children : List NodeId)
@@ -134,7 +134,7 @@ impl Above {
         }
     }
 
-    /// These nodes and, just below them, the one that a statement defines, which is of this module and stands so.
+    /// These nodes and, just below them, the one that a statement defines, with the number of its module's file and its place.
     pub fn below(
         &self,
         definition: &Definition,

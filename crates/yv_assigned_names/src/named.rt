@@ -20,7 +20,7 @@ use yv_statement::{Refusal, Statement};
 use yv_values::{Names, PlainType};
 
 /// The names of an enumeration or of bits, with their numbers, and which of them are values: a name whose `if-feature`
-/// is false keeps its number and is no value. What a type shares with those derived from it that list nothing is kept
+/// is false keeps its number and is not a value. What a type shares with those derived from it that list nothing is kept
 /// once.
 #[derive(Drop)]
 pub struct Named<'a> {

@@ -6,7 +6,7 @@ ghost use Rattle.yv_assigned_types.specs.Told.{told_at, told_of};
 use std::alloc::{AllocError, Global};
 use yv_assigned_names::{Kind, Named};
 
-/// The names of a type that leads to `enumeration` or to `bits`, and to which of these.
+/// The names of a type that leads to `enumeration` or to `bits`, and which of the two it leads to.
 #[derive(Drop)]
 pub struct TypeNames<'a> {
     pub kind: Kind,

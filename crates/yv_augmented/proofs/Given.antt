@@ -169,28 +169,28 @@ module _ (w : Whole) (labels : List Label) (copies place item : ℕ) (within : p
       stays item (given_group labels st.ends place) i t.group st (spot_follows t (i + 1) before f.copies h rest)
 
 abbrev pub Below : Type 0
-Below = (groups : Groups) (k : ℕ) (row : Standing) (t : Tree) → IsTree groups t → slice_get (listed None 1 t) k ≡ Some row
+Below = (labels : List Label) (groups : Groups) (k : ℕ) (row : Standing) (t : Tree) → IsTree labels groups t → slice_get (listed None 1 t) k ≡ Some row
     → IsIn row.number (group_under row.parent) groups
 
 abbrev pub One : Type 0
 One = (groups : Groups) (items i g h : ℕ) → StandOnce items groups → IsIn i g groups → IsIn i h groups → g ≡ h
 
 abbrev pub Within : Type 0
-Within = (groups : Groups) (items k : ℕ) (row : Standing) (t : Tree) → IsTree groups t → StandOnce items groups → slice_get (listed None 1 t) k ≡ Some row
+Within = (labels : List Label) (groups : Groups) (items k : ℕ) (row : Standing) (t : Tree) → IsTree labels groups t → StandOnce items groups → slice_get (listed None 1 t) k ≡ Some row
     → row.number < items
 
 abbrev pub ParentsFirst : Type 0
-ParentsFirst = (groups : Groups) (rows : List Standing) (k : ℕ) (row : Standing) → AreRows groups rows → slice_get rows k ≡ Some row → StandsInTree rows k row
+ParentsFirst = (labels : List Label) (groups : Groups) (rows : List Standing) (k : ℕ) (row : Standing) → AreRows labels groups rows → slice_get rows k ≡ Some row → StandsInTree rows k row
 
 -- the item above one of a tree is one of the items
-above_within : Within → ParentsFirst → (groups : Groups) (items k p : ℕ) (row : Standing) (t : Tree) → IsTree groups t → StandOnce items groups
+above_within : Within → ParentsFirst → (labels : List Label) (groups : Groups) (items k p : ℕ) (row : Standing) (t : Tree) → IsTree labels groups t → StandOnce items groups
     → slice_get (listed None 1 t) k ≡ Some row → row.parent ≡ Some p → p < items
-above_within law parents groups items k p row t is s at up =
-    let rows : AreRows groups (listed None 1 t) = record { tree = t; is_tree = is; rows_are = refl } in
-    elim (parents groups (listed None 1 t) k row rows at) [
+above_within law parents labels groups items k p row t is s at up =
+    let rows : AreRows labels groups (listed None 1 t) = record { tree = t; is_tree = is; rows_are = refl } in
+    elim (parents labels groups (listed None 1 t) k row rows at) [
       | inl top ↦ absurd (let bad : None ≡ Some p = sym top.0 ∙ up in cc)
       | inr below ↦
-          let lt : below.above.number < items = law groups items below.place below.above t is s below.at in
+          let lt : below.above.number < items = law labels groups items below.place below.above t is s below.at in
           let same : below.above.number ≡ p = same_Some below.above.number p (sym below.parent ∙ up) in
           omega (arith, lt, same)
     ]
@@ -205,7 +205,7 @@ below_target items place (Some p) (Some i) fits e = (p, refl, ap (λ (n : ℕ). 
 
 pub given_below : Stand → Room → Many → Enters → Stays → Turned → Applied → Below → One → Within → ParentsFirst
     → (w : Whole) (items : List Item) (st : State) (t : Tree) (k place : ℕ) (row : Standing) (s : Spot) → w.items ≡ length items → AreGrafted w items st
-    → IsTree st.groups t → slice_get (listed None 1 t) k ≡ Some row → slice_get (laid w items).spots row.number ≡ Some s → place < length w.augments
+    → IsTree (labels_of (laid w items).spots) st.groups t → slice_get (listed None 1 t) k ≡ Some row → slice_get (laid w items).spots row.number ≡ Some s → place < length w.augments
     → s.group ≡ copy_group w place → (p : ℕ) × (row.parent ≡ Some p) × (target_of (labels_of (laid w items).spots) st.ends place ≡ Some p)
 given_below stand room many enters stays turned_law applied below one within parents w items st t k place row s long g is at there lt own =
     let l : Laid = laid w items in
@@ -229,6 +229,6 @@ given_below stand room many enters stays turned_law applied below one within par
     applied labels 0 place row.number (module_paths w) old st g.applied (omega (arith, e, r)) (omega (arith, e, paths, modules)) (omega (arith, e, fits)) first in
     let once : StandOnce (length items) st.groups = once_of stand w items st long g in
     let same : group_under row.parent ≡ given_group labels st.ends place =
-    one st.groups (length items) row.number (group_under row.parent) (given_group labels st.ends place) once (below st.groups k row t is at) last in
+    one st.groups (length items) row.number (group_under row.parent) (given_group labels st.ends place) once (below labels st.groups k row t is at) last in
     below_target (length labels) place row.parent (target_of labels st.ends place)
-    (λ p up. (let a = above_within within parents st.groups (length items) k p row t is once at up in omega (arith, a, whole, long))) same
+    (λ p up. (let a = above_within within parents labels st.groups (length items) k p row t is once at up in omega (arith, a, whole, long))) same

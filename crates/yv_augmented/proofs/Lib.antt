@@ -9,6 +9,8 @@ pub mod Misplacing
 pub mod Meeting
 pub mod Ending
 pub mod Turning
+pub mod Following
+pub mod Scheduling
 pub mod Missing
 pub mod Meaning
 pub mod Pushing

@@ -1,16 +1,15 @@
 -- The augments of a uses in order, of which those that give something have turns.
-use Rattle.std.proofs.Common.{◌≡◌, ℕ, suc, ◌+◌, ◌<◌, ◌≤◌, ◌==◌, ◌&&◌, not, Bool, true, false, if◌then◌else◌, List, [], ◌∷◌, ◌++◌, length, map, take, drop, refl, sym, ◌∙◌, ap, arith, Option, Some, None, length-append, take-append-drop}
+use Rattle.std.proofs.Common.{◌≡◌, ℕ, zero, suc, ◌+◌, ◌-◌, ◌<◌, ◌≤◌, ◌==◌, ◌&&◌, not, Bool, true, false, if◌then◌else◌, List, [], ◌∷◌, ◌++◌, length, get_or, map, take, drop, refl, sym, ◌∙◌, ap, arith, Option, Some, None, length-append, take-append-drop}
 use Rattle.std.specs.List.{filter, slice_get}
 use Rattle.std.proofs.lemmas.List.Elements.{filter-append}
 use Rattle.std.proofs.lemmas.List.{append-nil, take_all, take_more}
-use Rattle.std.proofs.lemmas.Option.{slice_get_within, get_or_from_slice_get}
+use Rattle.std.proofs.lemmas.Option.{slice_get_within, slice_get-get_or, get_or_from_slice_get}
 use Rattle.yv_rows.specs.Rows.{Row}
 use Rattle.yv_families.specs.Families.{is_place, numbers_at, numbers_from}
 use Rattle.yv_augments.specs.declared.label.Label.{Label}
 use Rattle.yv_augments.specs.Turns.{State}
 use Rattle.yv_augmented.specs.Giving.{giving, giving_from, giving_places, is_augment, is_giving, is_in, item_places}
 use Rattle.yv_augmented.specs.Grafted.{copy_turn, turns_from}
-use Rattle.yv_augmented.specs.InnerTurns.{one_turn}
 use Rattle.yv_augmented.specs.Spots.{Whole}
 use Rattle.yv_augmented.specs.Untargeted.{after_turns, augment_places, augments_in, had_turns, next_number}
 use Rattle.yv_augmented.specs.declared.spot.Spot.{Spot}
@@ -92,12 +91,8 @@ module _ (rows : List Row) (s : Spot) (k a : ℕ) (at : slice_get (augments_in r
   without_turn h = one_more ∙ ap (λ l. had_turns rows s k ++ l) (skipped (is_giving rows s.statement) a [] h) ∙ append-nil (had_turns rows s k)
 
   -- the number of the next copy
-  pub number_more : next_number rows s (k + 1) ≡ (if is_giving rows s.statement a then next_number rows s k + 1 else next_number rows s k)
-  number_more = by (is_giving rows s.statement a) refl
-    where
-      by : (b : Bool) → is_giving rows s.statement a ≡ b → next_number rows s (k + 1) ≡ (if b then next_number rows s k + 1 else next_number rows s k)
-      by true h = (let e = ap length (with_turn h) in let l = length-append (had_turns rows s k) (a ∷ []) in omega (arith, e, l))
-      by false h = ap (λ l. s.first + length l) (without_turn h)
+  pub number_more : is_giving rows s.statement a ≡ true → next_number rows s (k + 1) ≡ next_number rows s k + 1
+  number_more h = (let e = ap length (with_turn h) in let l = length-append (had_turns rows s k) (a ∷ []) in omega (arith, e, l))
 
   -- it is within those of the uses
   pub number_within : is_giving rows s.statement a ≡ true → next_number rows s k < s.first + length (giving rows s.statement)
@@ -113,14 +108,27 @@ module _ (rows : List Row) (s : Spot) (k a : ℕ) (at : slice_get (augments_in r
       omega (arith, size, parts, e, l)
 
 -- one more turn
-pub after_more : (w : Whole) (labels : List Label) (s : Spot) (k a : ℕ) (st : State) → slice_get (augments_in w.rows s.statement) k ≡ Some a
-    → one_turn w labels s (next_number w.rows s k) a (after_turns w labels s k st) ≡ after_turns w labels s (k + 1) st
-after_more w labels s k a st at = by (is_giving w.rows s.statement a) refl
-  where
-    by : (b : Bool) → is_giving w.rows s.statement a ≡ b
-        → (if b then copy_turn w labels s (next_number w.rows s k) a (after_turns w labels s k st) else after_turns w labels s k st) ≡ after_turns w labels s (k + 1) st
-    by true h = sym (ap (λ l. turns_from w labels s s.first l st) (with_turn w.rows s k a at h) ∙ turns_snoc w labels s s.first (had_turns w.rows s k) a st)
-    by false h = sym (ap (λ l. turns_from w labels s s.first l st) (without_turn w.rows s k a at h))
+pub after_more : (w : Whole) (labels : List Label) (s : Spot) (k a : ℕ) (st : State) → slice_get (augments_in w.rows s.statement) k ≡ Some a → is_giving w.rows s.statement a ≡ true
+    → copy_turn w labels s (next_number w.rows s k) a (after_turns w labels s k st) ≡ after_turns w labels s (k + 1) st
+after_more w labels s k a st at h =
+    sym (ap (λ l. turns_from w labels s s.first l st) (with_turn w.rows s k a at h) ∙ turns_snoc w labels s s.first (had_turns w.rows s k) a st)
+
+-- augments that give nothing have no turns
+module _ (rows : List Row) (s : Spot) (from to : ℕ) (within : to ≤ length (augments_in rows s.statement))
+    (quiet : (k a : ℕ) → from ≤ k → k < to → slice_get (augments_in rows s.statement) k ≡ Some a → is_giving rows s.statement a ≡ false) where
+  none_between : (n : ℕ) → from + n ≤ to → had_turns rows s (from + n) ≡ had_turns rows s from
+  none_between zero le = ap (had_turns rows s) (let e : from + 0 ≡ from = omega arith in e)
+  none_between (suc n) le =
+      let all : List ℕ = augments_in rows s.statement in
+      let k : ℕ = from + n in
+      let a : ℕ = get_or all k 0 in
+      let at : slice_get all k ≡ Some a = slice_get-get_or all k 0 (omega (arith, le, within)) in
+      ap (had_turns rows s) (let e : from + suc n ≡ from + n + 1 = omega arith in e)
+      ∙ without_turn rows s k a at (quiet k a (omega arith) (omega (arith, le)) at)
+      ∙ none_between n (omega (arith, le))
+
+  pub had_same : (k : ℕ) → from ≤ k → k ≤ to → had_turns rows s k ≡ had_turns rows s from
+  had_same k ge le = ap (had_turns rows s) (let e : k ≡ from + (k - from) = omega (arith, ge) in e) ∙ none_between (k - from) (omega (arith, ge, le))
 
 -- all had their turns
 pub after_all : (w : Whole) (labels : List Label) (s : Spot) (k : ℕ) (st : State) → length (augments_in w.rows s.statement) ≤ k

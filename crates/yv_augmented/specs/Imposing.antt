@@ -1,5 +1,5 @@
 -- Augments of modules that add mandatory configuration nodes to nodes of other modules (RFC 7950, sections 3 and 7.17).
-use Rattle.std.specs.Prelude.{◌≡◌, ◌≢◌, ℕ, ◌-◌, ◌&&◌, ◌||◌, ◌⊎◌, nat_lt, not, Bool, true, false, List, length, if◌then◌else◌, Option, Some, None, slice_get, slice_index_or}
+use Rattle.std.specs.Prelude.{◌≡◌, ◌≢◌, ℕ, ◌&&◌, ◌||◌, ◌⊎◌, not, Bool, true, false, List, length, Option, Some, None, slice_get, slice_index_or}
 use Rattle.std.specs.Option.{is_some, unwrap_or}
 use Rattle.yv_statement.specs.declared.refusal.Code.TheVariants as code
 use Rattle.yv_statement.specs.declared.refusal.Refusal.{Refusal}
@@ -9,15 +9,14 @@ use Rattle.yv_augments.specs.declared.label.Kind.TheVariants as kind
 use Rattle.yv_augments.specs.Tree.{Tree, none, item}
 use Rattle.yv_augmented.specs.Faults.{Refused}
 use Rattle.yv_augmented.specs.Left.{is_marked}
-use Rattle.yv_augmented.specs.Spots.{spot_at}
+use Rattle.yv_augmented.specs.Spots.{giver_in, spot_at}
 use Rattle.yv_augmented.specs.declared.imposing.Marks.{Marks}
 use Rattle.yv_augmented.specs.declared.spot.Spot.{Spot}
 
--- The augment of a module in whose block an item stands, if it stands in one; a uses there is looked through. What these augments
--- give stands behind the groups of so many items, one group for each of the augments in order.
+-- the augment of a module in whose block an item stands, if it stands in one
 abbrev pub giver_of : (items : ℕ) → (augments : List ℕ) → Option Spot → Option ℕ
 giver_of items augments None = None
-giver_of items augments (Some s) = if nat_lt items s.group then slice_get augments (s.group - items - 1) else None
+giver_of items augments (Some s) = giver_in items augments s.group
 
 abbrev pub is_given : List Spot → (augments : List ℕ) → (number : ℕ) → Bool
 is_given spots augments i = is_some (giver_of (length spots) augments (slice_get spots i))

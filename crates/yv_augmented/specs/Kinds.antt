@@ -41,9 +41,10 @@ name_number rows (Statement k) = number_at rows k
 name_number rows (Input k) = number_of rows (codes "input")
 name_number rows (Output k) = number_of rows (codes "output")
 
--- what is known of an item that belongs to the module of the file `home`
-abbrev pub label_of : List Row → (home : ℕ) → Origin → Label
-label_of rows home origin = record { kind = kind_of rows origin; name = qualified home (unwrap_or (name_number rows origin) 0) }
+-- what is known of an item that belongs to the module of the file `home`, and that an augment of a module gives or none
+abbrev pub label_of : List Row → (home : ℕ) → Origin → (given : Bool) → Label
+label_of rows home origin given =
+    record { kind = kind_of rows origin; name = qualified home (unwrap_or (name_number rows origin) 0); given = given }
 
 abbrev pub is_uses : Kind → Bool
 is_uses kind.Uses = true

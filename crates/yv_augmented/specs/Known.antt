@@ -28,7 +28,7 @@ pub record AreGrafts (w : Whole) (items : List Item) (st : State) (grafts : Graf
 -- this is the final tree of items that stand so
 pub record AreGrown (w : Whole) (items : List Item) (st : State) (grown : Grown) : Type 0 where
   pub grafted : AreGrafted w items st
-  pub tree : AreRows st.groups grown.tree.items
+  pub tree : AreRows (labels_of (laid w items).spots) st.groups grown.tree.items
   pub spots : grown.spots.items ≡ (laid w items).spots
   pub refined : all_meant grown.refined ≡ refined_all w items
   pub missing : (i : ℕ) → IsLeast (MissesAt w (laid w items) (end_at items i) i) (slice_index_or grown.missing.items i None)

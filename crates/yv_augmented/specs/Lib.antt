@@ -18,8 +18,8 @@ pub mod InnerImposing
 pub mod Ends
 pub mod InnerEnds
 pub mod Untargeted
-pub mod InnerTurns
 pub mod Refining
 pub mod InnerPaths
 pub mod InnerLed
 pub mod InnerAims
+pub mod InnerSchedule

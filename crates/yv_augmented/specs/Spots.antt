@@ -1,5 +1,6 @@
 -- Where items stand before any augment is applied, and what is known of them (RFC 7950, sections 7.13 and 7.17).
-use Rattle.std.specs.Prelude.{ℕ, ◌+◌, List, [], ◌∷◌, ◌++◌, length, map, if◌then◌else◌, Option, Some, None, slice_get}
+use Rattle.std.specs.Prelude.{ℕ, ◌+◌, ◌-◌, nat_lt, List, [], ◌∷◌, ◌++◌, length, map, if◌then◌else◌, Option, Some, None, slice_get}
+use Rattle.std.specs.Option.{is_some}
 use Rattle.yv_rows.specs.Files.{Briefs, home_at}
 use Rattle.yv_rows.specs.Rows.{Row}
 use Rattle.yv_expansion.specs.Origin.{number_of}
@@ -55,16 +56,22 @@ group_below w r None s = top_group w r
 group_below w r (Some p) None = 0
 group_below w r (Some p) (Some s) = if is_uses s.label.kind then used_group w s r else p + 1
 
+-- The augment of a module in whose block the items of a group stand, if it is that of one: what these augments give stands behind the groups
+-- of so many items, one group for each of the augments in order. A uses there is looked through, since what it copies stands in its group.
+abbrev pub giver_in : (items : ℕ) → (augments : List ℕ) → (group : ℕ) → Option ℕ
+giver_in items augments group = if nat_lt items group then slice_get augments (group - items - 1) else None
+
 -- the next item, where these come before it and so many copies of augments
 abbrev pub spot_of : Whole → List Spot → (copies : ℕ) → Item → Spot
 spot_of w spots copies x =
     let r : Option Row = slice_get w.rows (number_of x.origin) in
     let home : ℕ = home_below w.files r (spot_at spots x.parent) in
+    let group : ℕ = group_below w r x.parent (spot_at spots x.parent) in
     record {
       statement = number_of x.origin;
       home = home;
-      label = label_of w.rows home x.origin;
-      group = group_below w r x.parent (spot_at spots x.parent);
+      label = label_of w.rows home x.origin (is_some (giver_in w.items w.augments group));
+      group = group;
       first = copies;
     }
 

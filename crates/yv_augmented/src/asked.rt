@@ -84,7 +84,7 @@ fn item_on(
 }
 
 /// A mark for each item that is there by its own mark and those of what gave it: the conditions of each uses above it, and of the
-/// augment in whose block its statement stands. Whether it is there by those of the nodes above it the final tree tells (`left`).
+/// augment whose block contains its statement. The final tree (`left`) says whether the nodes above it are there too.
 pub fn conditions(
     alloc: Global,
     rows: &Rows<'_, '_>,

@@ -33,7 +33,7 @@ fn end(items: &[Item], ends: &[usize], number: usize) -> usize
     next
 }
 
-/// For each item the number behind the last item below it.
+/// For each item the number after that of the last item below it.
 pub(crate) fn ends(alloc: Global, items: &[Item]) -> Result<Vec<usize>, AllocError>
     ensures { IfOk result (λ ends. AreEnds items.now ends.items) }
 {

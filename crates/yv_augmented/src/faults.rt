@@ -88,8 +88,8 @@ impl Grafts {
         refused_at(rows, Code::AugmentTarget, bad, augment)
     }
 
-    /// The least `AugmentTarget` of an augment of a module, of which these are the statements: it was never applied, or its path ends
-    /// where no augment may add.
+    /// The least `AugmentTarget` of an augment of a module, `augments` being their statements: one that was never applied, or whose
+    /// path ends where no augment may add.
     pub fn first_without_target(&self, rows: &Rows<'_, '_>, augments: &[usize]) -> Option<Refusal>
         ensures { (w : Whole) (items : List Item) (st : State) → AreGrafts w items st self.now → w.rows ≡ rows_in rows.now
             → w.augments ≡ augments.now → IsLeast (BadTarget w items st) result }

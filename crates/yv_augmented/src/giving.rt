@@ -35,7 +35,7 @@ fn augment_place(entry: &Entry<'_, '_>) -> Option<usize>
     }
 }
 
-/// For each augment the block in which it stands.
+/// For each augment the block that contains it.
 pub(crate) fn augment_places(
     alloc: Global,
     rows: &Rows<'_, '_>,
@@ -60,7 +60,7 @@ fn refine_place(entry: &Entry<'_, '_>) -> Option<usize>
     }
 }
 
-/// For each refine the block in which it stands.
+/// For each refine the block that contains it.
 pub(crate) fn refine_places(
     alloc: Global,
     rows: &Rows<'_, '_>,
@@ -122,7 +122,7 @@ fn places_of(
     Ok(places)
 }
 
-/// For each augment that gives something the block in which it stands.
+/// For each augment that gives something the block that contains it.
 #[tactic(auto, unfolding(crate::specs::Giving::giving_places))]
 pub(crate) fn giving_places(
     alloc: Global,

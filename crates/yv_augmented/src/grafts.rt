@@ -1,19 +1,19 @@
-//! Where items stand when all augments were applied.
-ghost use Rattle.std.specs.Prelude.{◌≡◌, ◌≤◌, ◌<◌, ◌+◌, ◌++◌, ℕ, true, List, length, map, if◌then◌else◌, None, replicate, set, slice_index_or, IfOk, OnOk};
+//! Where items are once all augments are applied.
+ghost use Rattle.std.specs.Prelude.{◌≡◌, ◌≤◌, ◌<◌, ◌==◌, ◌+◌, ◌&&◌, not, ℕ, List, length, map, None, replicate, set, slice_index_or, IfOk, OnOk};
 ghost use Rattle.yv_statement.specs.Order.{IsLeast};
 ghost use Rattle.yv_statement.specs.declared.refusal.Code.TheVariants.{AugmentTarget};
 ghost use Rattle.yv_rows.specs.Lent.{files_in, rows_in};
 ghost use Rattle.yv_expansion.specs.Tree.{Item};
 ghost use Rattle.yv_augments.specs.declared.label.Label.{Label};
+ghost use Rattle.yv_augments.specs.Groups.{group_of_augment, members_of};
 ghost use Rattle.yv_augments.specs.Turns.{State, target_of};
 ghost use Rattle.yv_augments.specs.InnerState.{IsGrafting};
-ghost use Rattle.yv_augmented.specs.Grafted.{copy_turn, last_of, module_paths, placed, turns};
+ghost use Rattle.yv_augmented.specs.Grafted.{copy_turn, last_of, module_paths, path_in, placed, turns};
 ghost use Rattle.yv_augmented.specs.Spots.{Whole, copies_of, labels_of, laid, whole};
 ghost use Rattle.yv_augmented.specs.Faults.{Refused};
-ghost use Rattle.yv_augmented.specs.Giving.{is_giving};
+ghost use Rattle.yv_augmented.specs.Kinds.{is_uses};
 ghost use Rattle.yv_augmented.specs.Known.{AreGrafts, AreGrown};
-ghost use Rattle.yv_augmented.specs.Untargeted.{MissesAt, MissesOf, limit_of, reached};
-ghost use Rattle.yv_augmented.specs.InnerTurns.{one_turn};
+ghost use Rattle.yv_augmented.specs.Untargeted.{MissesAt, MissesOf, augments_in};
 ghost use Rattle.yv_augmented.specs.Refining.{refined};
 ghost use Rattle.yv_refinements.specs.Meant.{all_meant};
 
@@ -24,6 +24,7 @@ use crate::grown::Grown;
 use crate::kinds::is_uses;
 use crate::laying::Layout;
 use crate::plan::Plan;
+use crate::schedule::{Addressed, Schedules, Stretch};
 use crate::spot::Spot;
 use std::alloc::{AllocError, Global};
 use yv_augments::{Grafting, Label};
@@ -84,95 +85,121 @@ struct Placing {
     refined: Refinements,
 }
 
+// A stretch of augments that had its turns: its least refusal, and the number of the next copy.
+#[derive(Drop)]
+struct Followed {
+    missing: Option<Refusal>,
+    number: usize,
+}
+
 impl Plan<'_, '_, '_> {
     ghost use Rattle.yv_augmented.specs.InnerPlan.{IsPlan, whole_in};
     ghost use Rattle.yv_augmented.specs.InnerLayout.{AreLaid, laid_in};
+    ghost use Rattle.yv_augmented.specs.InnerSchedule.{AreOrdered, AreSchedules, IsReady, IsStretch, MissesBetween, MissesIdle, added_to};
 
-    // The turn of the numbered copy of an augment of a uses.
-    fn copy_turn(
-        &self,
-        alloc: Global,
-        grafting: &mut Grafting,
-        spot: &Spot,
-        number: usize,
-        augment: usize,
-    ) -> Result<(), AllocError>
-        requires { IsPlan self.now }
-        ensures { (labels : List Label) (st : State) → IsGrafting labels st grafting.old → length labels ≡ self.now.items
-            → number < length st.ends
-            → OnOk result (IsGrafting labels (copy_turn (whole_in self.now) labels spot.now number augment st) grafting.new) }
-    {
-        let path = self.path(alloc, spot.home, augment)?;
-        let group = self.copy_group(number)?;
-        let limit = last_of(grafting.members(group));
-        grafting.turn(number, spot.group, limit, &path)
-    }
-
-    // The same, if the augment gives something. The number of the next copy.
-    fn one_turn(
-        &self,
-        alloc: Global,
-        grafting: &mut Grafting,
-        spot: &Spot,
-        number: usize,
-        augment: usize,
-    ) -> Result<usize, AllocError>
-        requires { IsPlan self.now }
-        ensures state { (labels : List Label) (st : State) → IsGrafting labels st grafting.old → length labels ≡ self.now.items
-            → (is_giving (rows_in self.now.rows.now) spot.now.statement augment ≡ true → number < length st.ends)
-            → OnOk result (IsGrafting labels (one_turn (whole_in self.now) labels spot.now number augment st) grafting.new) }
-        ensures next { IfOk result (λ next. next
-            ≡ (if is_giving (rows_in self.now.rows.now) spot.now.statement augment then number + 1 else number)) }
-    {
-        if !self.is_giving(spot.statement, augment) {
-            return Ok(number);
-        }
-        self.copy_turn(alloc, grafting, spot, number, augment)?;
-        match number.checked_add(1) {
-            Some(next) => Ok(next),
-            None => Err(AllocError),
-        }
-    }
-
-    // Where the path of an augment of a uses may lead at its turn.
-    fn limit_of(
-        &self,
-        grafting: &Grafting,
-        spot: &Spot,
-        end: usize,
-        number: usize,
-        augment: usize,
-    ) -> Result<usize, AllocError>
-        requires { IsPlan self.now }
-        ensures { (labels : List Label) (st : State) → IsGrafting labels st grafting.now → length labels ≡ self.now.items
-            → IfOk result (λ limit. limit ≡ limit_of (whole_in self.now) labels spot.now end number augment st) }
-    {
-        if !self.is_giving(spot.statement, augment) {
-            return Ok(end);
-        }
-        let group = self.copy_group(number)?;
-        Ok(last_of(grafting.members(group)))
-    }
-
-    // The refusal of an augment of a uses that adds to no node in its turn.
+    // The refusal of an augment whose path begins in this group, if it adds to no node.
     fn missing(
         &self,
-        alloc: Global,
+        grafting: &Grafting,
+        group: usize,
+        limit: usize,
+        it: &Addressed,
+    ) -> Option<Refusal>
+        ensures { (labels : List Label) (st : State) → IsGrafting labels st grafting.now
+            → IsLeast (Refused (rows_in self.now.rows.now) AugmentTarget
+            (added_to labels st limit group it.now.path.items ≡ None) it.now.augment) result }
+    {
+        let bad = is_absent(grafting.reach(group, limit, &it.path));
+        refused_at(self.rows, Code::AugmentTarget, bad, it.augment)
+    }
+
+    // The least refusal of these augments of a uses, which give nothing: that of the first which adds to no node.
+    fn first_missing(
+        &self,
         grafting: &Grafting,
         spot: &Spot,
         end: usize,
+        idle: &[Addressed],
+    ) -> Option<Refusal>
+        ensures { (labels : List Label) (st : State) → IsGrafting labels st grafting.now
+            → AreOrdered (rows_in self.now.rows.now) idle.now
+            → IsLeast (MissesIdle (rows_in self.now.rows.now) (added_to labels st end spot.now.group) idle.now) result }
+    {
+        for it in idle {
+            let missing = self.missing(grafting, spot.group, end, it);
+            if missing.is_some() {
+                return missing;
+            }
+        }
+        None
+    }
+
+    // The turn of the numbered copy of an augment of a uses that gives something. Its refusal, if it adds to no node.
+    fn give(
+        &self,
+        grafting: &mut Grafting,
+        spot: &Spot,
         number: usize,
-        augment: usize,
+        it: &Addressed,
     ) -> Result<Option<Refusal>, AllocError>
         requires { IsPlan self.now }
-        ensures { (labels : List Label) (st : State) → IsGrafting labels st grafting.now → length labels ≡ self.now.items
-            → IfOk result (IsLeast (Refused (rows_in self.now.rows.now) AugmentTarget
-            (reached (whole_in self.now) labels spot.now end number augment st ≡ None) augment)) }
+        ensures state { (labels : List Label) (st : State) → IsGrafting labels st grafting.old → length labels ≡ self.now.items
+            → it.now.path.items ≡ path_in (whole_in self.now) spot.now.home it.now.augment → number < length st.ends
+            → OnOk result (IsGrafting labels (copy_turn (whole_in self.now) labels spot.now number it.now.augment st) grafting.new) }
+        ensures missing { (labels : List Label) (st : State) → IsGrafting labels st grafting.old → length labels ≡ self.now.items
+            → IfOk result (IsLeast (Refused (rows_in self.now.rows.now) AugmentTarget (added_to labels st
+            (last_of (members_of st.groups (group_of_augment labels number))) spot.now.group it.now.path.items ≡ None) it.now.augment)) }
     {
-        let path = self.path(alloc, spot.home, augment)?;
-        let limit = self.limit_of(grafting, spot, end, number, augment)?;
-        let bad = is_absent(grafting.reach(spot.group, limit, &path));
-        Ok(refused_at(self.rows, Code::AugmentTarget, bad, augment))
+        let group = self.copy_group(number)?;
+        let limit = last_of(grafting.members(group));
+        let missing = self.missing(grafting, spot.group, limit, it);
+        grafting.turn(number, spot.group, limit, &it.path)?;
+        Ok(missing)
+    }
+
+    // The turns of a stretch of augments of a uses.
+    fn follow(
+        &self,
+        grafting: &mut Grafting,
+        spot: &Spot,
+        end: usize,
+        number: usize,
+        stretch: &Stretch,
+    ) -> Result<Followed, AllocError>
+        requires { IsPlan self.now }
+        ensures ready { (labels : List Label) (st : State) (from to : ℕ)
+            → IsReady (whole_in self.now) labels spot.now st from number grafting.old
+            → IsStretch (whole_in self.now) spot.now.statement spot.now.home from to stretch.now
+            → IfOk result (λ followed. IsReady (whole_in self.now) labels spot.now st to followed.number grafting.new) }
+        ensures missing { (labels : List Label) (st : State) (from to : ℕ)
+            → IsReady (whole_in self.now) labels spot.now st from number grafting.old
+            → IsStretch (whole_in self.now) spot.now.statement spot.now.home from to stretch.now
+            → IfOk result (λ followed. IsLeast (MissesBetween (whole_in self.now) labels spot.now end st from to) followed.missing) }
+    {
+        yv_augments::laws::turns_keep_augments();
+        let missing = self.first_missing(grafting, spot, end, &stretch.idle);
+        match &stretch.giving {
+            Some(it) => {
+                let own = self.give(grafting, spot, number, it)?;
+                match number.checked_add(1) {
+                    Some(next) => Ok(Followed {
+                        missing: lesser(missing, own),
+                        number: next,
+                    }),
+                    None => Err(AllocError),
+                }
+            }
+            None => Ok(Followed { missing, number }),
+        }
+    }
+
+    // Whether an item is a uses that augments.
+    fn has_augments(&self, spot: &Spot) -> bool
+        requires { IsPlan self.now }
+        ensures { result ≡ (is_uses spot.now.label.kind
+            && not (length (augments_in (rows_in self.now.rows.now) spot.now.statement) == 0)) }
+    {
+        is_uses(spot.label.kind) && !self.augments_in(spot.statement).is_empty()
     }
 
     // The turns of the augments of a uses, in order. The least refusal of one that adds to no node.
@@ -182,8 +209,11 @@ impl Plan<'_, '_, '_> {
         grafting: &mut Grafting,
         spot: &Spot,
         end: usize,
+        schedules: &mut Schedules,
     ) -> Result<Option<Refusal>, AllocError>
-        requires { IsPlan self.now }
+        requires plan { IsPlan self.now }
+        requires schedules { AreSchedules (whole_in self.now) schedules.old }
+        ensures schedules { OnOk result (AreSchedules (whole_in self.now) schedules.new) }
         ensures state { (labels : List Label) (st : State) → IsGrafting labels st grafting.old → length labels ≡ self.now.items
             → spot.now.first + copies_of (rows_in self.now.rows.now) spot.now ≤ length st.ends
             → OnOk result (IsGrafting labels (turns (whole_in self.now) labels spot.now st) grafting.new) }
@@ -191,16 +221,16 @@ impl Plan<'_, '_, '_> {
             → spot.now.first + copies_of (rows_in self.now.rows.now) spot.now ≤ length st.ends
             → IfOk result (IsLeast (MissesOf (whole_in self.now) labels spot.now end st)) }
     {
-        yv_augments::laws::turns_keep_augments();
         let mut least = None;
-        if !is_uses(spot.label.kind) {
+        if !self.has_augments(spot) {
             return Ok(least);
         }
+        self.prepare(alloc, schedules, spot.statement, spot.home)?;
         let mut number = spot.first;
-        for augment in self.augments_in(spot.statement) {
-            let missing = self.missing(alloc, grafting, spot, end, number, *augment)?;
-            least = lesser(least, missing);
-            number = self.one_turn(alloc, grafting, spot, number, *augment)?;
+        for stretch in schedules.stretches(spot.statement) {
+            let followed = self.follow(grafting, spot, end, number, stretch)?;
+            least = lesser(least, followed.missing);
+            number = followed.number;
         }
         Ok(least)
     }
@@ -222,13 +252,14 @@ impl Plan<'_, '_, '_> {
         let mut grafting = Grafting::new(alloc, labels, layout.copies)?;
         let mut missing = none_missing(alloc, layout.spots.len())?;
         let mut aims = Aims::new(alloc);
+        let mut schedules = Schedules::new(alloc);
         let mut left = layout.spots.len();
         while left > 0 {
             left -= 1;
             let spot = &layout.spots[left];
             let end = end_of(ends, left);
             self.refine_all(alloc, &grafting, spot, left, end, &mut aims)?;
-            let refusal = self.turns(alloc, &mut grafting, spot, end)?;
+            let refusal = self.turns(alloc, &mut grafting, spot, end, &mut schedules)?;
             note(&mut missing, left, refusal);
             grafting.enter(left, spot.group)?;
         }
@@ -253,7 +284,7 @@ impl Plan<'_, '_, '_> {
     }
 }
 
-/// Where items stand when all augments were applied.
+/// Where items are once all augments are applied.
 #[derive(Drop)]
 pub struct Grafts {
     spots: Vec<Spot>,
@@ -293,9 +324,9 @@ impl Grafts {
     }
 }
 
-/// Applies the augments of an expansion of files whose items these are: those of each uses, inner ones first, and then the augments
-/// of modules, of which these are the statements by file and statement, in rounds (RFC 7950, sections 7.13 and 7.17). Err for
-/// want of memory, and where there are more than 2 to the 32 less 3 statements.
+/// Applies the augments of an expansion of files whose items these are: those of each uses, inner ones first, and then those of modules
+/// in rounds, whose statements are given by file and statement (RFC 7950, sections 7.13 and 7.17). Err if memory
+/// runs out, and where there are more than 2 to the 32 less 3 statements.
 pub fn graft(
     alloc: Global,
     rows: &Rows<'_, '_>,

@@ -20,8 +20,9 @@ pub struct Grown {
     /// What the refines of each `uses` mean, those of an inner one before those of an outer one: the node at which the path of each ends,
     /// among what the `uses` gives before its own augments. Copies of one `uses` in one module share what its refines aim at.
     pub refined: Refinements,
-    /// The final tree in order: each item before those below it, children in the order of their numbers. A uses is among them, with
-    /// nothing below it: what it gives stands beside it, behind it. What an augment without a target gives isn't among them.
+    /// The final tree in order: each item before those below it and, of the children of one parent, those that augments of modules give
+    /// after the others, each by number. A uses is among them, with nothing below it: what it gives follows it as its siblings. What an
+    /// augment without a target gives isn't among them.
     pub tree: Vec<Row>,
     // Of each item the least refusal of its augments, if it is a uses.
     pub(crate) missing: Vec<Option<Refusal>>,

@@ -9,7 +9,7 @@ ghost use Rattle.yv_augmented.specs.InnerImposing.{around_by, configured, counts
 ghost use Rattle.yv_augmented.specs.Left.{is_marked};
 ghost use Rattle.yv_augmented.specs.Spots.{spot_at};
 
-use crate::laying::spot_at;
+use crate::laying::{giver_in, spot_at};
 use crate::misplaced::refused_for;
 use crate::remains::is_marked;
 use crate::spot::Spot;
@@ -18,7 +18,7 @@ use yv_augments::{Kind, Row};
 use yv_rows::Rows;
 use yv_statement::{Refusal, lesser};
 
-/// What is told of each item, as refines have left it. A number without a mark has none of these.
+/// What is known of each item, as refines have left it. A number without a mark has none of these.
 #[derive(Clone, Copy)]
 pub struct Marks<'m> {
     /// A leaf, choice, anydata or anyxml with `mandatory true`, or a list or leaf-list with min-elements above 0.
@@ -29,16 +29,11 @@ pub struct Marks<'m> {
     pub config: &'m [Option<bool>],
 }
 
-// The augment of a module in whose block an item stands; there are so many items.
+// The augment of a module in whose block an item stands, if it stands in one; there are so many items.
 fn giver_of(items: usize, augments: &[usize], spot: Option<Spot>) -> Option<usize>
     ensures { result ≡ giver_of items augments.now spot }
 {
-    let spot = spot?;
-    if items < spot.group {
-        augments.get(spot.group - items - 1).copied()
-    } else {
-        None
-    }
+    giver_in(items, augments, spot?.group)
 }
 
 // Whether an item stands in the block of an augment of a module.
@@ -262,7 +257,7 @@ fn configured(
 
 /// The least `BadAugment` of an augment of a module that adds a mandatory configuration node to a node of another module, judged on
 /// what it gave before any augment of a module was applied: itself, and below containers without presence. Whether an item is
-/// configuration is judged in the final tree: what stands in an operation or a notification is none. These are the items of the final
+/// configuration is judged in the final tree: nothing in an operation or a notification is. These are the items of the final
 /// tree, the spots of all items, and the augments of modules. Takes time and memory linear in items.
 pub fn first_imposed(
     alloc: Global,

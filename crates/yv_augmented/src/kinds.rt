@@ -73,18 +73,25 @@ fn name_number(names: &Names<'_>, origin: Origin) -> Option<u32>
     }
 }
 
-/// What is known of an item that belongs to the module of the file `home`.
-pub(crate) fn label_of(rows: &Rows<'_, '_>, names: &Names<'_>, home: u32, origin: Origin) -> Label
+/// What is known of an item that belongs to the module of the file `home`, and that an augment of a module gives or none.
+pub(crate) fn label_of(
+    rows: &Rows<'_, '_>,
+    names: &Names<'_>,
+    home: u32,
+    origin: Origin,
+    given: bool,
+) -> Label
     requires { AreNames (rows_in rows.now) names.now }
-    ensures { result ≡ label_of (rows_in rows.now) home origin }
+    ensures { result ≡ label_of (rows_in rows.now) home origin given }
 {
     Label {
         kind: kind_of(rows, origin),
         name: qualified(home, name_number(names, origin).unwrap_or(0)),
+        given,
     }
 }
 
-/// Whether an item is no node.
+/// Whether an item is a uses, and so not a node.
 pub(crate) fn is_uses(kind: Kind) -> bool
     ensures { result ≡ is_uses kind }
 {

@@ -1,9 +1,9 @@
-//! Where items stand before any augment is applied.
+//! Where items are before any augment is applied.
 ghost use Rattle.std.specs.Prelude.{◌≡◌, ◌+◌, List, length, slice_get, IfOk};
 ghost use Rattle.yv_rows.specs.Lent.{files_in, rows_in};
 ghost use Rattle.yv_expansion.specs.Origin.{number_of};
 ghost use Rattle.yv_augmented.specs.Giving.{ordinal};
-ghost use Rattle.yv_augmented.specs.Spots.{copies_of, copy_group, group_below, home_below, laid, spot_at, spot_of, top_group, used_group};
+ghost use Rattle.yv_augmented.specs.Spots.{copies_of, copy_group, giver_in, group_below, home_below, laid, spot_at, spot_of, top_group, used_group};
 
 use crate::kinds::{is_uses, label_of};
 use crate::plan::Plan;
@@ -23,6 +23,17 @@ pub(crate) fn spot_at(spots: &[Spot], number: Option<usize>) -> Option<Spot>
     ensures { result ≡ spot_at spots.now number }
 {
     spots.get(number?).copied()
+}
+
+/// The augment of a module in whose block the items of a group stand; there are so many items.
+pub(crate) fn giver_in(items: usize, augments: &[usize], group: usize) -> Option<usize>
+    ensures { result ≡ giver_in items augments.now group }
+{
+    if items < group {
+        augments.get(group - items - 1).copied()
+    } else {
+        None
+    }
 }
 
 impl Plan<'_, '_, '_> {
@@ -127,8 +138,9 @@ impl Plan<'_, '_, '_> {
         ensures { IfOk result (λ spot. spot ≡ spot_of (whole_in self.now) spots.now copies item.now) }
     {
         let home = self.home_below(spots, item);
-        let label = label_of(self.rows, &self.names, home, item.origin);
         let group = self.group_below(spots, item)?;
+        let given = giver_in(self.items, self.augments, group).is_some();
+        let label = label_of(self.rows, &self.names, home, item.origin, given);
         Ok(Spot {
             statement: item.origin.number(),
             home,

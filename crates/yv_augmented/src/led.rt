@@ -87,7 +87,7 @@ fn places_of(alloc: Global, paths: &[usize]) -> Result<BTreeMap<usize, usize>, A
     Ok(places)
 }
 
-/// Aims by the places of their paths among these; one whose path isn't among them gets the place behind the last. Takes time n log n in
+/// Aims by the places of their paths among these; one whose path isn't among them gets the place after the last. Takes time n log n in
 /// both.
 pub(crate) fn placed(alloc: Global, aims: &[Aim], paths: &[usize]) -> Result<Vec<Aim>, AllocError>
     ensures { IfOk result (λ placed. placed.items ≡ map (placed_by paths.now) aims.now) }

@@ -1,4 +1,4 @@
-//! What augments put where it may not stand.
+//! What augments put where it is not allowed.
 ghost use Rattle.std.specs.Prelude.{◌≡◌, slice_get};
 ghost use Rattle.yv_statement.specs.Order.{IsLeast};
 ghost use Rattle.yv_rows.specs.Lent.{rows_in};

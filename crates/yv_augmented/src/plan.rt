@@ -135,7 +135,7 @@ impl<'r, 'a, 'b> Plan<'r, 'a, 'b> {
         is_in(block, self.places.get(augment).copied())
     }
 
-    /// How many of the augments of its block that give something stand before this one.
+    /// How many of the augments of its block that give something come before this one.
     pub(crate) fn ordinal(&self, augment: usize) -> usize
         requires { IsPlan self.now }
         ensures { result ≡ ordinal (rows_in self.now.rows.now) augment }

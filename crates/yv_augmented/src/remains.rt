@@ -87,8 +87,8 @@ fn scanned(
     Ok(rows)
 }
 
-/// What is left of the final tree, as a list: an item without a mark is left out, and so is a uses, which is no schema node, and what
-/// stands below either. Takes time and memory linear in the list.
+/// What is left of the final tree, as a list. An item without a mark is left out, and so is a uses, which is not a schema node, with
+/// everything below either. Takes time and memory linear in the list.
 pub fn left(
     alloc: Global,
     spots: &[Spot],

@@ -9,6 +9,7 @@ use Rattle.std.proofs.lemmas.List.Sorted.{sum_by-IsPermutation}
 use Rattle.std.proofs.lemmas.List.{map-append}
 use Rattle.std.proofs.lemmas.Option.{same_Some, slice_get-map}
 use Rattle.std.specs.Option.{option_map}
+use Rattle.yv_augments.specs.declared.label.Label.{Label}
 use Rattle.yv_augments.specs.declared.row.Row.{Row}
 use Rattle.yv_augments.specs.Groups.{Groups, IsIn, members_of, times}
 use Rattle.yv_augments.specs.Placed.{StandOnce}
@@ -39,14 +40,14 @@ one_other x y ne = ap one_if (ne_eqb x y ne)
 taken : (y g : ℕ) (groups : Groups) → times y (set groups g []) + count y (members_of groups g) ≡ times y groups
 taken y g groups = sum_taken (λ ms. count y ms) groups g refl
 
-ordered : (groups : Groups) (g : ℕ) (items : List ℕ) (y : ℕ) → AreInOrder groups g items → count y items ≡ count y (members_of groups g)
-ordered groups g items y o = sum_by-IsPermutation (λ i. one_if (i == y)) (members_of groups g) items o.permutation
+ordered : (labels : List Label) (groups : Groups) (g : ℕ) (items : List ℕ) (y : ℕ) → AreInOrder labels groups g items → count y items ≡ count y (members_of groups g)
+ordered labels groups g items y o = sum_by-IsPermutation (λ i. one_if (i == y)) (members_of groups g) items o.permutation
 
 abbrev emptied : Groups → ℕ → Groups
 emptied groups g = set groups g []
 
-in_order_still : (groups : Groups) (g h : ℕ) (items : List ℕ) → h ≢ g → AreInOrder groups h items → AreInOrder (emptied groups g) h items
-in_order_still groups g h items ne o =
+in_order_still : (labels : List Label) (groups : Groups) (g h : ℕ) (items : List ℕ) → h ≢ g → AreInOrder labels groups h items → AreInOrder labels (emptied groups g) h items
+in_order_still labels groups g h items ne o =
     let same : members_of (emptied groups g) h ≡ members_of groups h = get_or-set_other groups g h [] [] ne in
     record { permutation = subst (λ ms. IsPermutation ms items) (sym same) o.permutation; sorted = o.sorted }
 
@@ -55,12 +56,12 @@ count_times : (y g : ℕ) (groups : Groups) → count y (members_of groups g) �
 count_times y g groups = (let e = taken y g groups in omega (arith, e))
 
 -- an item that stands in no group stands nowhere below: what is below it may be taken out
-unopened : (groups : Groups) (i : ℕ) → times i groups ≡ 0 → (items : List ℕ) (t : Tree) → count i items ≡ 0 → Make groups items t
-    → Make (emptied groups (i + 1)) items t
-unopened groups i nowhere [] none absent no_items = no_items
-unopened groups i nowhere [] (item j' below behind) absent m = elim m [ ]
-unopened groups i nowhere (j ∷ others) none absent m = elim m [ ]
-unopened groups i nowhere (j ∷ others) (item j' below behind) absent (one_more {items = inner} o m r) =
+unopened : (labels : List Label) (groups : Groups) (i : ℕ) → times i groups ≡ 0 → (items : List ℕ) (t : Tree) → count i items ≡ 0 → Make labels groups items t
+    → Make labels (emptied groups (i + 1)) items t
+unopened labels groups i nowhere [] none absent no_items = no_items
+unopened labels groups i nowhere [] (item j' below behind) absent m = elim m [ ]
+unopened labels groups i nowhere (j ∷ others) none absent m = elim m [ ]
+unopened labels groups i nowhere (j ∷ others) (item j' below behind) absent (one_more {items = inner} o m r) =
     let more = count_more i j others in
     let rest : count i others ≡ 0 = omega (arith, more, absent) in
     let apart : j + 1 ≢ i + 1 = λ e. (
@@ -68,9 +69,9 @@ unopened groups i nowhere (j ∷ others) (item j' below behind) absent (one_more
     let one : one_if (j == i) ≡ 1 = ap one_if (eq-eqb j i same) in
     omega (arith, more, absent, one)) in
     let least = count_times i (j + 1) groups in
-    let here : count i inner ≡ 0 = (let e = ordered groups (j + 1) inner i o in omega (arith, e, least, nowhere)) in
-    one_more (in_order_still groups (i + 1) (j + 1) inner apart o) (unopened groups i nowhere inner below here m)
-    (unopened groups i nowhere others behind rest r)
+    let here : count i inner ≡ 0 = (let e = ordered labels groups (j + 1) inner i o in omega (arith, e, least, nowhere)) in
+    one_more (in_order_still labels groups (i + 1) (j + 1) inner apart o) (unopened labels groups i nowhere inner below here m)
+    (unopened labels groups i nowhere others behind rest r)
 
 -- the items of a tree, one by one
 abbrev numbers : Tree → List ℕ
@@ -78,20 +79,20 @@ numbers none = []
 numbers (item i below behind) = i ∷ (numbers below ++ numbers behind)
 
 -- groups without the items of a tree: trees of other items are as before
-record Consumed (groups : Groups) (items : List ℕ) (t : Tree) : Type 0 where
+record Consumed (labels : List Label) (groups : Groups) (items : List ℕ) (t : Tree) : Type 0 where
   left : Groups
   each : (y : ℕ) → count y (numbers t) + times y left ≡ count y items + times y groups
-  others : (more : List ℕ) (u : Tree) → ((y : ℕ) → count y more + (count y items + times y groups) ≤ 1) → Make groups more u → Make left more u
+  others : (more : List ℕ) (u : Tree) → ((y : ℕ) → count y more + (count y items + times y groups) ≤ 1) → Make labels groups more u → Make labels left more u
 
-consumed : (t : Tree) (groups : Groups) (items : List ℕ) → ((y : ℕ) → count y items + times y groups ≤ 1) → Make groups items t → Consumed groups items t
-consumed none groups [] once no_items = record { left = groups; each = λ y. refl; others = λ more u h m. m }
-consumed none groups (i ∷ rest) once m = elim m [ ]
-consumed (item i' below behind) groups [] once m = elim m [ ]
-consumed (item i' below behind) groups (i ∷ rest) once (one_more {items = inner} o m r) =
+consumed : (labels : List Label) (t : Tree) (groups : Groups) (items : List ℕ) → ((y : ℕ) → count y items + times y groups ≤ 1) → Make labels groups items t → Consumed labels groups items t
+consumed labels none groups [] once no_items = record { left = groups; each = λ y. refl; others = λ more u h m. m }
+consumed labels none groups (i ∷ rest) once m = elim m [ ]
+consumed labels (item i' below behind) groups [] once m = elim m [ ]
+consumed labels (item i' below behind) groups (i ∷ rest) once (one_more {items = inner} o m r) =
     let first : Groups = emptied groups (i + 1) in
     let here : (y : ℕ) → count y inner + times y first ≡ times y groups = λ y. (
     let a = taken y (i + 1) groups in
-    let b = ordered groups (i + 1) inner y o in
+    let b = ordered labels groups (i + 1) inner y o in
     omega (arith, a, b)) in
     let at_i : count i (i ∷ rest) + times i groups ≤ 1 = once i in
     let mine : count i (i ∷ rest) ≡ one_if (i == i) + count i rest = count_more i i rest in
@@ -99,16 +100,16 @@ consumed (item i' below behind) groups (i ∷ rest) once (one_more {items = inne
     let nowhere : times i groups ≡ 0 = omega (arith, at_i, mine, one) in
     let apart : count i rest ≡ 0 = omega (arith, at_i, mine, one) in
     let inside : count i inner ≡ 0 = (let a = here i in omega (arith, a, nowhere)) in
-    let b : Consumed first inner below = consumed below first inner
-    (λ y. (let a = here y in let l = once y in omega (arith, a, l))) (unopened groups i nowhere inner below inside m) in
+    let b : Consumed labels first inner below = consumed labels below first inner
+    (λ y. (let a = here y in let l = once y in omega (arith, a, l))) (unopened labels groups i nowhere inner below inside m) in
     let later : (y : ℕ) → count y rest + (count y inner + times y first) ≤ 1 = λ y. (
     let a = here y in
     let l = once y in
     let c = count_more y i rest in
     omega (arith, a, l, c)) in
-    let next : Make b.left rest behind = b.others rest behind later (unopened groups i nowhere rest behind apart r) in
+    let next : Make labels b.left rest behind = b.others rest behind later (unopened labels groups i nowhere rest behind apart r) in
     let fewer : (y : ℕ) → times y b.left ≤ times y groups = λ y. (let e = b.each y in let a = here y in omega (arith, e, a)) in
-    let o : Consumed b.left rest behind = consumed behind b.left rest
+    let o : Consumed labels b.left rest behind = consumed labels behind b.left rest
     (λ y. (let f = fewer y in let l = once y in let c = count_more y i rest in omega (arith, f, l, c))) next in
     record {
       left = o.left;
@@ -127,27 +128,27 @@ consumed (item i' below behind) groups (i ∷ rest) once (one_more {items = inne
           (λ y. (let f = fewer y in let l = h y in let c = count_more y i rest in omega (arith, f, l, c)))
           (b.others more u
           (λ y. (let a = here y in let l = h y in omega (arith, a, l)))
-          (unopened groups i nowhere more u none_more made)));
+          (unopened labels groups i nowhere more u none_more made)));
     }
 
 -- the top is no group below an item
-top_taken : (groups : Groups) (items : List ℕ) (t : Tree) → Make groups items t → Make (emptied groups 0) items t
-top_taken groups [] none no_items = no_items
-top_taken groups [] (item j' below behind) m = elim m [ ]
-top_taken groups (j ∷ others) none m = elim m [ ]
-top_taken groups (j ∷ others) (item j' below behind) (one_more {items = inner} o m r) =
-    one_more (in_order_still groups 0 (j + 1) inner (λ e. omega (arith, e)) o) (top_taken groups inner below m) (top_taken groups others behind r)
+top_taken : (labels : List Label) (groups : Groups) (items : List ℕ) (t : Tree) → Make labels groups items t → Make labels (emptied groups 0) items t
+top_taken labels groups [] none no_items = no_items
+top_taken labels groups [] (item j' below behind) m = elim m [ ]
+top_taken labels groups (j ∷ others) none m = elim m [ ]
+top_taken labels groups (j ∷ others) (item j' below behind) (one_more {items = inner} o m r) =
+    one_more (in_order_still labels groups 0 (j + 1) inner (λ e. omega (arith, e)) o) (top_taken labels groups inner below m) (top_taken labels groups others behind r)
 
 -- each item stands in the tree no more often than in groups
-no_more : (groups : Groups) (t : Tree) → IsTree groups t → ((y : ℕ) → times y groups ≤ 1) → (y : ℕ) → count y (numbers t) ≤ times y groups
-no_more groups t is once y =
+no_more : (labels : List Label) (groups : Groups) (t : Tree) → IsTree labels groups t → ((y : ℕ) → times y groups ≤ 1) → (y : ℕ) → count y (numbers t) ≤ times y groups
+no_more labels groups t is once y =
     let items : List ℕ = is.0 in
     let here : (z : ℕ) → count z items + times z (emptied groups 0) ≡ times z groups = λ z. (
     let a = taken z 0 groups in
-    let b = ordered groups 0 items z is.1 in
+    let b = ordered labels groups 0 items z is.1 in
     omega (arith, a, b)) in
-    let all : Consumed (emptied groups 0) items t = consumed t (emptied groups 0) items
-    (λ z. (let a = here z in let l = once z in omega (arith, a, l))) (top_taken groups items t is.2) in
+    let all : Consumed labels (emptied groups 0) items t = consumed labels t (emptied groups 0) items
+    (λ z. (let a = here z in let l = once z in omega (arith, a, l))) (top_taken labels groups items t is.2) in
     let e = all.each y in
     let a = here y in
     omega (arith, e, a)
@@ -214,44 +215,44 @@ at_most_once items groups s y = elim (cases_lt y items) [
   | inr le ↦ (let e = s.no_other y le in omega (arith, e))
 ]
 
-pub no_item_twice : (groups : Groups) (items : ℕ) (t : Tree) → IsTree groups t → StandOnce items groups → length (listed None 1 t) ≤ items
-no_item_twice groups items t is s =
+pub no_item_twice : (labels : List Label) (groups : Groups) (items : ℕ) (t : Tree) → IsTree labels groups t → StandOnce items groups → length (listed None 1 t) ≤ items
+no_item_twice labels groups items t is s =
     let once : (y : ℕ) → times y groups ≤ 1 = at_most_once items groups s in
-    let few : (y : ℕ) → count y (numbers t) ≤ times y groups = no_more groups t is once in
+    let few : (y : ℕ) → count y (numbers t) ≤ times y groups = no_more labels groups t is once in
     let long = listed_long None 1 t in
     let all = total_all items (numbers t) (λ y le. (let e = s.no_other y le in let f = few y in omega (arith, e, f))) in
     let up = total_few items (numbers t) (λ y. (let o = once y in let f = few y in omega (arith, o, f))) in
     omega (arith, long, all, up)
 
 -- each item of a tree stands in the group of the one above it
-stand_in : (groups : Groups) (parent : Option ℕ) (depth : ℕ) (items : List ℕ) (t : Tree) (k : ℕ) (w : Row) → Make groups items t
+stand_in : (labels : List Label) (groups : Groups) (parent : Option ℕ) (depth : ℕ) (items : List ℕ) (t : Tree) (k : ℕ) (w : Row) → Make labels groups items t
     → ((y : ℕ) → count y items ≤ count y (members_of groups (group_under parent))) → slice_get (listed parent depth t) k ≡ Some w
     → IsIn w.number (group_under w.parent) groups
-stand_in groups parent depth [] none k w no_items all at = absurd (let bad : None ≡ Some w = at in cc)
-stand_in groups parent depth [] (item i' below behind) k w m all at = elim m [ ]
-stand_in groups parent depth (i ∷ rest) none k w m all at = elim m [ ]
-stand_in groups parent depth (i ∷ rest) (item i' below behind) zero w (one_more {items = inner} o m r) all at =
+stand_in labels groups parent depth [] none k w no_items all at = absurd (let bad : None ≡ Some w = at in cc)
+stand_in labels groups parent depth [] (item i' below behind) k w m all at = elim m [ ]
+stand_in labels groups parent depth (i ∷ rest) none k w m all at = elim m [ ]
+stand_in labels groups parent depth (i ∷ rest) (item i' below behind) zero w (one_more {items = inner} o m r) all at =
     let x : Row = record { number = i; parent = parent; depth = depth } in
     let same : x ≡ w = same_Some x w at in
     let here : IsIn i (group_under parent) groups = (let a = all i in let c = count_more i i rest in let e = one_same i in omega (arith, a, c, e)) in
     subst (λ (z : Row). IsIn z.number (group_under z.parent) groups) same here
-stand_in groups parent depth (i ∷ rest) (item i' below behind) (suc k) w (one_more {items = inner} o m r) all at =
+stand_in labels groups parent depth (i ∷ rest) (item i' below behind) (suc k) w (one_more {items = inner} o m r) all at =
     elim (side (listed (Some i) (depth + 1) below) (listed parent depth behind) w k at) [
-      | front h ↦ stand_in groups (Some i) (depth + 1) inner below k w m (λ y. (let e = ordered groups (i + 1) inner y o in omega (arith, e))) h
-      | back j e h ↦ stand_in groups parent depth rest behind j w r (λ y. (let a = all y in let c = count_more y i rest in omega (arith, a, c))) h
+      | front h ↦ stand_in labels groups (Some i) (depth + 1) inner below k w m (λ y. (let e = ordered labels groups (i + 1) inner y o in omega (arith, e))) h
+      | back j e h ↦ stand_in labels groups parent depth rest behind j w r (λ y. (let a = all y in let c = count_more y i rest in omega (arith, a, c))) h
     ]
 
-pub row_in : (groups : Groups) (k : ℕ) (row : Row) (t : Tree) → IsTree groups t → slice_get (listed None 1 t) k ≡ Some row
+pub row_in : (labels : List Label) (groups : Groups) (k : ℕ) (row : Row) (t : Tree) → IsTree labels groups t → slice_get (listed None 1 t) k ≡ Some row
     → IsIn row.number (group_under row.parent) groups
-row_in groups k row t is at = stand_in groups None 1 is.0 t k row is.2 (λ y. (let e = ordered groups 0 is.0 y is.1 in omega (arith, e))) at
+row_in labels groups k row t is at = stand_in labels groups None 1 is.0 t k row is.2 (λ y. (let e = ordered labels groups 0 is.0 y is.1 in omega (arith, e))) at
 
-pub row_within : (groups : Groups) (items k : ℕ) (row : Row) (t : Tree) → IsTree groups t → StandOnce items groups → slice_get (listed None 1 t) k ≡ Some row
+pub row_within : (labels : List Label) (groups : Groups) (items k : ℕ) (row : Row) (t : Tree) → IsTree labels groups t → StandOnce items groups → slice_get (listed None 1 t) k ≡ Some row
     → row.number < items
-row_within groups items k row t is s at = elim (cases_lt row.number items) [
+row_within labels groups items k row t is s at = elim (cases_lt row.number items) [
   | inl lt ↦ lt
   | inr le ↦
       let e = s.no_other row.number le in
-      let here : 0 < count row.number (members_of groups (group_under row.parent)) = row_in groups k row t is at in
+      let here : 0 < count row.number (members_of groups (group_under row.parent)) = row_in labels groups k row t is at in
       let least = count_times row.number (group_under row.parent) groups in
       absurd (omega (arith, e, here, least))
 ]
@@ -305,10 +306,10 @@ one_place (x ∷ xs) once (suc i) zero n at at' =
 one_place (x ∷ xs) once (suc i) (suc k) n at at' =
     ap suc (one_place xs (λ y. (let l = once y in let c = count_more y x xs in omega (arith, l, c))) i k n at at')
 
-pub one_row : (groups : Groups) (items i k : ℕ) (a b : Row) (t : Tree) → IsTree groups t → StandOnce items groups → slice_get (listed None 1 t) i ≡ Some a
+pub one_row : (labels : List Label) (groups : Groups) (items i k : ℕ) (a b : Row) (t : Tree) → IsTree labels groups t → StandOnce items groups → slice_get (listed None 1 t) i ≡ Some a
     → slice_get (listed None 1 t) k ≡ Some b → a.number ≡ b.number → i ≡ k
-one_row groups items i k a b t is s at at' same =
-    one_place (numbers t) (λ y. (let o = at_most_once items groups s y in let f = no_more groups t is (at_most_once items groups s) y in omega (arith, o, f)))
+one_row labels groups items i k a b t is s at at' same =
+    one_place (numbers t) (λ y. (let o = at_most_once items groups s y in let f = no_more labels groups t is (at_most_once items groups s) y in omega (arith, o, f)))
     i k a.number (number_at i a at) (number_at k b at' ∙ ap (λ n. Some n) (sym same))
   where
     number_at : (j : ℕ) (r : Row) → slice_get (listed None 1 t) j ≡ Some r → slice_get (numbers t) j ≡ Some r.number

@@ -6,18 +6,17 @@ use Rattle.std.proofs.lemmas.Option.{slice_get_cases, slice_get_read, none-some,
 use Rattle.yv_augments.specs.declared.label.Label.{Label}
 use Rattle.yv_augments.specs.declared.group.Group.{Group}
 use Rattle.yv_augments.specs.Groups.{Groups, members_of, moved}
-use Rattle.yv_augments.specs.Labels.{is_named}
-use Rattle.yv_augments.specs.Paths.{least}
+use Rattle.yv_augments.specs.Paths.{first_named}
 use Rattle.yv_augments.specs.InnerGroups.{AreGroups, IsGroup, first_in}
 
 -- past the last group there is none
-pub first_past : (labels : List Label) (groups : Groups) (all : List Group) (g name : ℕ) → AreGroups labels groups all → slice_get all g ≡ None → None ≡ least (is_named labels name) (members_of groups g)
+pub first_past : (labels : List Label) (groups : Groups) (all : List Group) (g name : ℕ) → AreGroups labels groups all → slice_get all g ≡ None → None ≡ first_named labels name (members_of groups g)
 first_past labels groups all g name are past = elim (slice_get_cases all g).1 [
   | inl (x, l, at, e) ↦ absurd (none-some x (sym past ∙ at))
-  | inr (l, at) ↦ let e : members_of groups g ≡ [] = get_or_past groups g [] (omega (arith, l, are.each)) in ap (least (is_named labels name)) (sym e)
+  | inr (l, at) ↦ let e : members_of groups g ≡ [] = get_or_past groups g [] (omega (arith, l, are.each)) in ap (first_named labels name) (sym e)
 ]
 
-pub first_at : (labels : List Label) (groups : Groups) (all : List Group) (g name : ℕ) (x : Group) → AreGroups labels groups all → slice_get all g ≡ Some x → first_in x name ≡ least (is_named labels name) (members_of groups g)
+pub first_at : (labels : List Label) (groups : Groups) (all : List Group) (g name : ℕ) (x : Group) → AreGroups labels groups all → slice_get all g ≡ Some x → first_in x name ≡ first_named labels name (members_of groups g)
 first_at labels groups all g name x are at = (are.group g x at).named name
 
 pub joined_more : (members items : List ℕ) (i d : ℕ) → i < length items → (members ++ take i items) ++ get_or items i d ∷ [] ≡ members ++ take (i + 1) items

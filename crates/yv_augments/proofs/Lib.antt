@@ -15,4 +15,5 @@ pub mod Distinct
 pub mod Staying
 pub mod Descending
 pub mod Meeting
+pub mod Hiding
 pub mod Arriving

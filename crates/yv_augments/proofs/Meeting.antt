@@ -1,55 +1,43 @@
 -- The items that steps come to.
-use Rattle.std.proofs.Common.{◌≡◌, ◌⊎◌, ℕ, zero, suc, ◌+◌, ◌<◌, ◌&&◌, ◌==◌, min, nat_lt, Bool, true, false, if◌then◌else◌, List, [], ◌∷◌, Option, None, Some, inl, inr, refl, sym, ◌∙◌, ap, subst, arith, eq-eqb, eqb-true}
+use Rattle.std.proofs.Common.{◌≡◌, ℕ, ◌+◌, ◌<◌, ◌&&◌, ◌==◌, nat_lt, not, Bool, true, false, if◌then◌else◌, List, [], ◌∷◌, Option, None, Some, refl, sym, ◌∙◌, ap, subst, eq-eqb, eqb-true}
 use Rattle.std.specs.List.{slice_get}
-use Rattle.std.specs.Option.{option_map}
-use Rattle.std.proofs.lemmas.Bool.{cases_order, ltb-true}
+use Rattle.std.specs.Option.{option_map, option_or}
+use Rattle.std.proofs.lemmas.Bool.{ltb-true}
 use Rattle.std.proofs.lemmas.Option.{same_Some}
 use Rattle.yv_augments.specs.declared.label.Label.{Label}
 use Rattle.yv_augments.specs.declared.end.End.{End}
 use Rattle.yv_augments.specs.declared.end.End.TheVariants as end
 use Rattle.yv_augments.specs.Groups.{Groups, members_of}
 use Rattle.yv_augments.specs.Labels.{is_named, is_named_by, is_node}
-use Rattle.yv_augments.specs.Paths.{arrived, before, is_shorthand, least, lesser, stepped}
+use Rattle.yv_augments.specs.Paths.{arrived, before, first_named, is_shorthand, least, stepped}
+use Rattle.yv_augments.specs.Order.{is_given}
 use Rattle.yv_augments.specs.InnerArrivals.{AreMet, IsAmong, is_at}
 use Rattle.yv_augments.specs.InnerGroups.{HaveBefore}
+use Rattle.yv_augments.proofs.Least.{StandsAndPasses, first_part, given, least_stands, own}
 
--- an item passes, and stands among these
-abbrev StandsAndPasses : (ℕ → Bool) → List ℕ → ℕ → Type 0
-StandsAndPasses passes items i = (k : ℕ) × (slice_get items k ≡ Some i) × (passes i ≡ true)
-
-min_either : (i j : ℕ) → (min i j ≡ i) ⊎ (min i j ≡ j)
-min_either i j = elim (cases_order i j) [
-  | inl e ↦ inl (omega (arith, e))
-  | inr apart ↦ elim apart [ inl l ↦ inl (omega (arith, l)) | inr l ↦ inr (omega (arith, l)) ]
-]
-
-stands_behind : (passes : ℕ → Bool) (x : ℕ) (xs : List ℕ) (i : ℕ) → StandsAndPasses passes xs i → StandsAndPasses passes (x ∷ xs) i
-stands_behind passes x xs i s = (suc s.0, s.1, s.2)
-
-least_by : (passes : ℕ → Bool) (x : ℕ) (xs : List ℕ) (i : ℕ) (b : Bool) (o : Option ℕ) → passes x ≡ b → ((j : ℕ) → o ≡ Some j → StandsAndPasses passes xs j)
-    → lesser (if b then Some x else None) o ≡ Some i → StandsAndPasses passes (x ∷ xs) i
-least_by passes x xs i false o test rest is = stands_behind passes x xs i (rest i is)
-least_by passes x xs i true None test rest is = subst (StandsAndPasses passes (x ∷ xs)) (same_Some x i is) (zero, refl, test)
-least_by passes x xs i true (Some j) test rest is = elim (min_either x j) [
-  | inl e ↦ subst (StandsAndPasses passes (x ∷ xs)) (sym e ∙ same_Some (min x j) i is) (zero, refl, test)
-  | inr e ↦ stands_behind passes x xs i (rest i (ap Some (sym e ∙ same_Some (min x j) i is)))
-]
-
-least_stands : (passes : ℕ → Bool) (items : List ℕ) (i : ℕ) → least passes items ≡ Some i → StandsAndPasses passes items i
-least_stands passes [] i h = absurd (let e : None ≡ Some i = h in cc)
-least_stands passes (x ∷ xs) i h = least_by passes x xs i (passes x) (least passes xs) refl (λ j is. least_stands passes xs j is) h
+-- the first of a name is a node of this name
+first_stands : (labels : List Label) (name : ℕ) (items : List ℕ) (i : ℕ) → first_named labels name items ≡ Some i → StandsAndPasses (is_named labels name) items i
+first_stands labels name items i h = named (least (own labels name) items) (least (given labels name) items) refl refl h
+  where
+    named : (a b : Option ℕ) → least (own labels name) items ≡ a → least (given labels name) items ≡ b → option_or a b ≡ Some i → StandsAndPasses (is_named labels name) items i
+    named (Some j) b first rest is =
+        let s = least_stands (own labels name) items i (first ∙ is) in
+        (s.0, s.1, first_part (is_named labels name i) (not (is_given labels i)) s.2)
+    named None b first rest is =
+        let s = least_stands (given labels name) items i (rest ∙ is) in
+        (s.0, s.1, first_part (is_named labels name i) (is_given labels i) s.2)
 
 answered_by : (f : ℕ → End) (limit i : ℕ) (next : End) (b : Bool) → nat_lt i limit ≡ b → option_map f (if b then Some i else None) ≡ Some next → (i < limit) × (f i ≡ next)
 answered_by f limit i next true test h = (ltb-true i limit test, same_Some (f i) next h)
 answered_by f limit i next false test h = absurd (let bad : None ≡ Some next = h in cc)
 
 -- what answers a step is a node of the group before the limit
-answered_is : (passes : ℕ → Bool) (items : List ℕ) (f : ℕ → End) (limit : ℕ) (next : End) (o : Option ℕ) → least passes items ≡ o → option_map f (before limit o) ≡ Some next
-    → (i : ℕ) × StandsAndPasses passes items i × (i < limit) × (f i ≡ next)
-answered_is passes items f limit next None is h = absurd (let bad : None ≡ Some next = h in cc)
-answered_is passes items f limit next (Some i) is h =
+pub answered_is : (labels : List Label) (name : ℕ) (items : List ℕ) (f : ℕ → End) (limit : ℕ) (next : End) (o : Option ℕ) → first_named labels name items ≡ o
+    → option_map f (before limit o) ≡ Some next → (i : ℕ) × StandsAndPasses (is_named labels name) items i × (i < limit) × (f i ≡ next)
+answered_is labels name items f limit next None is h = absurd (let bad : None ≡ Some next = h in cc)
+answered_is labels name items f limit next (Some i) is h =
     let a = answered_by f limit i next (nat_lt i limit) refl h in
-    (i, least_stands passes items i is, a.0, a.1)
+    (i, first_stands labels name items i is, a.0, a.1)
 
 at_either : (j : ℕ) (b : Bool) → is_at (if b then end.ShorthandCase j else end.Node j) j ≡ true
 at_either j true = eq-eqb j j refl
@@ -67,9 +55,9 @@ one_item (end.ShorthandCase n) i j h k = sym (eqb-true n i h) ∙ eqb-true n j k
 -- members of a group that may answer a step
 met_in : (labels : List Label) (groups : Groups) (limit group : ℕ) (items : List ℕ) (f : ℕ → End) → ((i : ℕ) → is_at (f i) i ≡ true)
     → HaveBefore (members_of groups group) limit items → (name : ℕ) (next : End)
-    → option_map f (before limit (least (is_named labels name) (members_of groups group))) ≡ Some next → IsAmong items next
+    → option_map f (before limit (first_named labels name (members_of groups group))) ≡ Some next → IsAmong items next
 met_in labels groups limit group items f at have name next h =
-    let a = answered_is (is_named labels name) (members_of groups group) f limit next (least (is_named labels name) (members_of groups group)) refl h in
+    let a = answered_is labels name (members_of groups group) f limit next (first_named labels name (members_of groups group)) refl h in
     let found = have a.1.0 a.0 a.1.1 a.2 in
     record { place = found.0; item = a.0; at = found.1; is = subst (λ (e : End). is_at e a.0 ≡ true) a.3 (at a.0) }
 
@@ -98,9 +86,9 @@ named_label name None h = absurd (let bad : false ≡ true = h in cc)
 named_label name (Some l) h = (l, refl, eqb-true l.name name (both_parts (is_node l.kind) (l.name == name) h))
 
 passes_there : (labels : List Label) (groups : Groups) (limit group item name : ℕ) (f : ℕ → End) (next : End) → ((i : ℕ) → is_at (f i) i ≡ true) → is_at next item ≡ true
-    → option_map f (before limit (least (is_named labels name) (members_of groups group))) ≡ Some next → is_named labels name item ≡ true
+    → option_map f (before limit (first_named labels name (members_of groups group))) ≡ Some next → is_named labels name item ≡ true
 passes_there labels groups limit group item name f next at is h =
-    let a = answered_is (is_named labels name) (members_of groups group) f limit next (least (is_named labels name) (members_of groups group)) refl h in
+    let a = answered_is labels name (members_of groups group) f limit next (first_named labels name (members_of groups group)) refl h in
     let here : is_at next a.0 ≡ true = subst (λ (e : End). is_at e a.0 ≡ true) a.3 (at a.0) in
     subst (λ (n : ℕ). is_named labels name n ≡ true) (one_item next a.0 item here is) a.1.2
 

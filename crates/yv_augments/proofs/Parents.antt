@@ -2,6 +2,7 @@
 use Rattle.std.proofs.Common.{◌⊎◌, inl, inr, ◌≡◌, ℕ, zero, suc, ◌+◌, List, [], ◌∷◌, ◌++◌, length, refl, sym, ◌∙◌, ap, subst, arith, Option, Some, None}
 use Rattle.std.specs.List.{slice_get}
 use Rattle.std.proofs.lemmas.Option.{same_Some}
+use Rattle.yv_augments.specs.declared.label.Label.{Label}
 use Rattle.yv_augments.specs.declared.row.Row.{Row}
 use Rattle.yv_augments.specs.Groups.{Groups}
 use Rattle.yv_augments.specs.Tree.{Tree, none, item, listed, AreRows, StandsBelow, StandsInTree}
@@ -16,7 +17,7 @@ side [] ys x k at = back k (omega arith) at
 side (z ∷ xs) ys x zero at = front at
 side (z ∷ xs) ys x (suc k) at = elim (side xs ys x k at) [ front h ↦ front h | back j e h ↦ back j (omega (arith, e)) h ]
 
-get_front : {A : Type 0} (xs ys : List A) (x : A) (k : ℕ) → slice_get xs k ≡ Some x → slice_get (xs ++ ys) k ≡ Some x
+pub get_front : {A : Type 0} (xs ys : List A) (x : A) (k : ℕ) → slice_get xs k ≡ Some x → slice_get (xs ++ ys) k ≡ Some x
 get_front [] ys x k at = absurd (let bad : None ≡ Some x = at in cc)
 get_front (z ∷ xs) ys x zero at = at
 get_front (z ∷ xs) ys x (suc k) at = get_front xs ys x k at
@@ -71,7 +72,7 @@ stands parent depth (item i below behind) (suc k) w at =
       ]
     ]
 
-pub parents_first : (groups : Groups) (rows : List Row) (k : ℕ) (w : Row) → AreRows groups rows → slice_get rows k ≡ Some w → StandsInTree rows k w
-parents_first groups rows k w are at =
+pub parents_first : (labels : List Label) (groups : Groups) (rows : List Row) (k : ℕ) (w : Row) → AreRows labels groups rows → slice_get rows k ≡ Some w → StandsInTree rows k w
+parents_first labels groups rows k w are at =
     let all : Stands None 1 (listed None 1 are.tree) k w = stands None 1 are.tree k w (ap (λ l. slice_get l k) (sym are.rows_are) ∙ at) in
     subst (λ l. StandsInTree l k w) (sym are.rows_are) all

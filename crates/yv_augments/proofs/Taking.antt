@@ -6,6 +6,7 @@ use Rattle.std.proofs.lemmas.Bool.{ne_eqb, cases_lt, cases_order}
 use Rattle.std.proofs.lemmas.List.{get_or-set_other, get_or_past, set_past, reverse-append, reverse-reverse, length-reverse, length-map, length-append}
 use Rattle.std.proofs.lemmas.List.Sums.{sum_by-set, sum_by-append}
 use Rattle.std.proofs.lemmas.List.Sorted.{sum_by-IsPermutation, IsPermutation-reverse, length_permutation}
+use Rattle.yv_augments.specs.declared.label.Label.{Label}
 use Rattle.yv_augments.specs.declared.row.Row.{Row}
 use Rattle.yv_augments.specs.Groups.{Groups, members_of, times}
 use Rattle.yv_augments.specs.Tree.{AreInOrder, AreRows}
@@ -44,9 +45,9 @@ on_reverse : (y : ℕ) (stack : List Row) → on y (reverse stack) ≡ on y stac
 on_reverse y stack = sum_by-IsPermutation (λ (w : Row). one_if (w.number == y)) stack (reverse stack) (IsPermutation-reverse stack)
 
 -- what is put on the stack
-on_put : (y : ℕ) (popped new : List Row) (parent : Option ℕ) (depth : ℕ) (gs : Groups) (g : ℕ) (items : List ℕ) → AreInOrder gs g items
+on_put : (labels : List Label) (y : ℕ) (popped new : List Row) (parent : Option ℕ) (depth : ℕ) (gs : Groups) (g : ℕ) (items : List ℕ) → AreInOrder labels gs g items
     → new ≡ popped ++ reverse (under parent depth items) → on y new ≡ on y popped + count_by (λ i. i == y) (members_of gs g)
-on_put y popped new parent depth gs g items order is =
+on_put labels y popped new parent depth gs g items order is =
     ap (on y) is
     ∙ sum_by-append (λ (w : Row). one_if (w.number == y)) popped (reverse (under parent depth items))
     ∙ ap (λ n. on y popped + n) (on_reverse y (under parent depth items) ∙ on_under y parent depth items
@@ -62,11 +63,11 @@ AreFresh groups rest stack = (y : ℕ) → IsFresh groups rest stack y
 at_most : (n : ℕ) → n ≤ 1 → (n ≡ 0) ⊎ (n ≡ 1)
 at_most n l = elim (cases_lt n 1) [ inl z ↦ inl (omega (arith, z)) | inr o ↦ inr (omega (arith, o, l)) ]
 
-pub fresh_start : (groups rest : Groups) (empty stack : List Row) (items : List ℕ) → StandAtMostOnce groups → AreInOrder groups 0 items
+pub fresh_start : (labels : List Label) (groups rest : Groups) (empty stack : List Row) (items : List ℕ) → StandAtMostOnce groups → AreInOrder labels groups 0 items
     → rest ≡ set groups 0 [] → empty ≡ [] → stack ≡ empty ++ reverse (under None 1 items) → AreFresh groups rest stack
-fresh_start groups rest empty stack items once order left none is = λ y.
+fresh_start labels groups rest empty stack items once order left none is = λ y.
     let a : times y (set groups 0 []) + count_by (λ i. i == y) (members_of groups 0) ≡ times y groups = sum_taken (λ ms. count_by (λ i. i == y) ms) groups 0 refl in
-    let b : on y stack ≡ on y empty + count_by (λ i. i == y) (members_of groups 0) = on_put y empty stack None 1 groups 0 items order is in
+    let b : on y stack ≡ on y empty + count_by (λ i. i == y) (members_of groups 0) = on_put labels y empty stack None 1 groups 0 items order is in
     let z : on y empty ≡ 0 = ap (on y) none in
     let r : times y rest ≡ times y (set groups 0 []) = ap (times y) left in
     let sum : times y rest + on y stack ≡ times y groups = omega (arith, a, b, z, r) in
@@ -93,13 +94,13 @@ fresh_top groups rest stack popped w is fresh =
       | inr (one_, same) ↦ same
     ]
 
-pub fresh_step : (groups rest left : Groups) (stack popped new : List Row) (w : Row) (depth : ℕ) (items : List ℕ) → stack ≡ popped ++ w ∷ []
-    → AreInOrder rest (w.number + 1) items → left ≡ set rest (w.number + 1) [] → new ≡ popped ++ reverse (under (Some w.number) depth items)
+pub fresh_step : (labels : List Label) (groups rest left : Groups) (stack popped new : List Row) (w : Row) (depth : ℕ) (items : List ℕ) → stack ≡ popped ++ w ∷ []
+    → AreInOrder labels rest (w.number + 1) items → left ≡ set rest (w.number + 1) [] → new ≡ popped ++ reverse (under (Some w.number) depth items)
     → AreFresh groups rest stack → AreFresh groups left new
-fresh_step groups rest left stack popped new w depth items is order taken put fresh = λ y.
+fresh_step labels groups rest left stack popped new w depth items is order taken put fresh = λ y.
     let g : ℕ = w.number + 1 in
     let a : times y (set rest g []) + count_by (λ i. i == y) (members_of rest g) ≡ times y rest = sum_taken (λ ms. count_by (λ i. i == y) ms) rest g refl in
-    let b : on y new ≡ on y popped + count_by (λ i. i == y) (members_of rest g) = on_put y popped new (Some w.number) depth rest g items order put in
+    let b : on y new ≡ on y popped + count_by (λ i. i == y) (members_of rest g) = on_put labels y popped new (Some w.number) depth rest g items order put in
     let t : on y stack ≡ on y popped + one_if (w.number == y) = on_top y stack popped w is in
     let r : times y left ≡ times y (set rest g []) = ap (times y) taken in
     let sum : times y left + on y new + one_if (w.number == y) ≡ times y rest + on y stack = omega (arith, a, b, t, r) in
@@ -131,41 +132,41 @@ back_put : (popped new xs : List Row) → new ≡ popped ++ reverse xs → rever
 back_put popped new xs e = ap reverse e ∙ reverse-append popped (reverse xs) ∙ ap (λ l. l ++ reverse popped) (reverse-reverse xs)
 
 -- whatever the stack gives completes what was written to the final tree
-abbrev pub Completes : Groups → List Row → List Row → Type 0
-Completes groups stack written = (rows : List Row) → Each groups (reverse stack) rows → AreRows groups (written ++ rows)
+abbrev pub Completes : List Label → Groups → List Row → List Row → Type 0
+Completes labels groups stack written = (rows : List Row) → Each labels groups (reverse stack) rows → AreRows labels groups (written ++ rows)
 
-pub completes_start : (groups : Groups) (empty stack none : List Row) (items : List ℕ) → AreInOrder groups 0 items → empty ≡ []
-    → stack ≡ empty ++ reverse (under None 1 items) → none ≡ [] → Completes groups stack none
-completes_start groups empty stack none items order no_stack is no_rows = λ rows e.
+pub completes_start : (labels : List Label) (groups : Groups) (empty stack none : List Row) (items : List ℕ) → AreInOrder labels groups 0 items → empty ≡ []
+    → stack ≡ empty ++ reverse (under None 1 items) → none ≡ [] → Completes labels groups stack none
+completes_start labels groups empty stack none items order no_stack is no_rows = λ rows e.
     let turned : reverse stack ≡ under None 1 items ++ [] = back_put empty stack (under None 1 items) is ∙ ap (λ l. under None 1 items ++ reverse l) no_stack in
-    let first : Each groups (under None 1 items) rows =
-    subst (λ l. Each groups l rows) (turned ∙ append-nil (under None 1 items)) e in
-    subst (λ l. AreRows groups (l ++ rows)) (sym no_rows) (whole groups items rows order first)
+    let first : Each labels groups (under None 1 items) rows =
+    subst (λ l. Each labels groups l rows) (turned ∙ append-nil (under None 1 items)) e in
+    subst (λ l. AreRows labels groups (l ++ rows)) (sym no_rows) (whole labels groups items rows order first)
 
-pub completes_step : (groups rest : Groups) (stack popped new written more : List Row) (w : Row) (items : List ℕ) → stack ≡ popped ++ w ∷ []
-    → AreInOrder rest (w.number + 1) items → members_of rest (w.number + 1) ≡ members_of groups (w.number + 1)
-    → new ≡ popped ++ reverse (under (Some w.number) (w.depth + 1) items) → more ≡ written ++ w ∷ [] → Completes groups stack written
-    → Completes groups new more
-completes_step groups rest stack popped new written more w items is order same put added goes = λ rows e.
+pub completes_step : (labels : List Label) (groups rest : Groups) (stack popped new written more : List Row) (w : Row) (items : List ℕ) → stack ≡ popped ++ w ∷ []
+    → AreInOrder labels rest (w.number + 1) items → members_of rest (w.number + 1) ≡ members_of groups (w.number + 1)
+    → new ≡ popped ++ reverse (under (Some w.number) (w.depth + 1) items) → more ≡ written ++ w ∷ [] → Completes labels groups stack written
+    → Completes labels groups new more
+completes_step labels groups rest stack popped new written more w items is order same put added goes = λ rows e.
     let turned : reverse stack ≡ w ∷ reverse popped = ap reverse is ∙ reverse-append popped (w ∷ []) in
-    let now : AreInOrder groups (w.number + 1) items = record {
+    let now : AreInOrder labels groups (w.number + 1) items = record {
       permutation = subst (λ ms. IsPermutation ms items) same order.permutation;
       sorted = order.sorted;
     } in
-    let below : Each groups (under (Some w.number) (w.depth + 1) items ++ reverse popped) rows =
-    subst (λ l. Each groups l rows) (back_put popped new (under (Some w.number) (w.depth + 1) items) put) e in
-    let shown_ : Each groups (reverse stack) (w ∷ rows) = subst (λ l. Each groups l (w ∷ rows)) (sym turned) (step groups w items (reverse popped) rows now below) in
-    subst (λ l. AreRows groups l) (sym (ap (λ l. l ++ rows) added ∙ append_assoc written (w ∷ []) rows)) (goes (w ∷ rows) shown_)
+    let below : Each labels groups (under (Some w.number) (w.depth + 1) items ++ reverse popped) rows =
+    subst (λ l. Each labels groups l rows) (back_put popped new (under (Some w.number) (w.depth + 1) items) put) e in
+    let shown_ : Each labels groups (reverse stack) (w ∷ rows) = subst (λ l. Each labels groups l (w ∷ rows)) (sym turned) (step labels groups w items (reverse popped) rows now below) in
+    subst (λ l. AreRows labels groups l) (sym (ap (λ l. l ++ rows) added ∙ append_assoc written (w ∷ []) rows)) (goes (w ∷ rows) shown_)
 
-pub completes_all : (groups : Groups) (stack written : List Row) → stack ≡ [] → Completes groups stack written → AreRows groups written
-completes_all groups stack written none goes =
-    subst (λ l. AreRows groups l) (append-nil written) (goes [] (subst (λ l. Each groups l []) (sym (ap reverse none)) done))
+pub completes_all : (labels : List Label) (groups : Groups) (stack written : List Row) → stack ≡ [] → Completes labels groups stack written → AreRows labels groups written
+completes_all labels groups stack written none goes =
+    subst (λ l. AreRows labels groups l) (append-nil written) (goes [] (subst (λ l. Each labels groups l []) (sym (ap reverse none)) done))
 
 -- with each item that is taken from the stack less is left
-pub fewer_left : (stack popped new : List Row) (w : Row) (parent : Option ℕ) (depth : ℕ) (gs left : Groups) (g : ℕ) (items : List ℕ) → stack ≡ popped ++ w ∷ []
-    → AreInOrder gs g items → left ≡ set gs g [] → new ≡ popped ++ reverse (under parent depth items)
+pub fewer_left : (labels : List Label) (stack popped new : List Row) (w : Row) (parent : Option ℕ) (depth : ℕ) (gs left : Groups) (g : ℕ) (items : List ℕ) → stack ≡ popped ++ w ∷ []
+    → AreInOrder labels gs g items → left ≡ set gs g [] → new ≡ popped ++ reverse (under parent depth items)
     → length new + sum_by (λ ms. length ms) left < length stack + sum_by (λ ms. length ms) gs
-fewer_left stack popped new w parent depth gs left g items is order taken put =
+fewer_left labels stack popped new w parent depth gs left g items is order taken put =
     let a : sum_by (λ ms. length ms) (set gs g []) + length (members_of gs g) ≡ sum_by (λ ms. length ms) gs = sum_taken (λ ms. length ms) gs g refl in
     let b : sum_by (λ ms. length ms) left ≡ sum_by (λ ms. length ms) (set gs g []) = ap (sum_by (λ ms. length ms)) taken in
     let d : length new ≡ length popped + length (reverse (under parent depth items)) = ap length put ∙ length-append popped (reverse (under parent depth items)) in

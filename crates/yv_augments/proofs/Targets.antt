@@ -24,3 +24,9 @@ target_within labels (end.Node n) i h =
     let t = some_by (slice_get labels n) parts.0 in
     let at : slice_get labels i ≡ Some t.0 = ap (slice_get labels) (sym parts.1) ∙ t.1 in
     slice_get_within labels i t.0 at
+
+-- a target is the node where the path ends
+pub target_is : (labels : List Label) (e : End) (i : ℕ) → target labels e ≡ Some i → e ≡ end.Node i
+target_is labels (end.Start g) i h = absurd (let bad : None ≡ Some i = h in cc)
+target_is labels (end.ShorthandCase g) i h = absurd (let bad : None ≡ Some i = h in cc)
+target_is labels (end.Node n) i h = ap (λ k. end.Node k) (if_some (is_target_by (slice_get labels n)) n i h).1

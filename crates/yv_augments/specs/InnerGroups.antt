@@ -1,33 +1,47 @@
 -- Inner definitions, which only private clauses cite: groups with the first node of each name.
-use Rattle.std.specs.Prelude.{◌≡◌, ℕ, ◌<◌, ◌==◌, ◌+◌, nat_lt, Bool, true, false, List, length, if◌then◌else◌, Option, Some, None, slice_get}
-use Rattle.std.specs.Ordering.{nat_cmp}
+use Rattle.std.specs.Prelude.{◌≡◌, ◌⊎◌, ℕ, ◌<◌, ◌==◌, ◌+◌, Bool, true, List, length, if◌then◌else◌, Option, Some, None, slice_get}
+use Rattle.std.specs.Ordering.{is_lt, nat_cmp}
 use Rattle.std.specs.BTreeMap.{get}
 use Rattle.yv_augments.specs.declared.label.Label.{Label}
 use Rattle.yv_augments.specs.declared.group.Group.{Group}
 use Rattle.yv_augments.specs.declared.places.Places.{Places}
 use Rattle.yv_augments.specs.Labels.{is_named}
 use Rattle.yv_augments.specs.Groups.{Groups, members_of}
-use Rattle.yv_augments.specs.Paths.{least, lesser}
+use Rattle.yv_augments.specs.Order.{sibling_cmp}
+use Rattle.yv_augments.specs.Paths.{first_named}
 
 -- the first node of a name
 abbrev pub first_in : Group → ℕ → Option ℕ
 first_in group name = get nat_cmp group.names name
 
--- a number is kept for its name where none is yet, or a greater one
-abbrev pub kept : (ℕ → Option ℕ) → (name item : ℕ) → ℕ → Option ℕ
-kept first name item n = if n == name then lesser (first n) (Some item) else first n
+-- the one that is kept, if an item comes before it
+abbrev pub displaced : List Label → Option ℕ → ℕ → Option ℕ
+displaced labels None item = None
+displaced labels (Some i) item = if is_lt (sibling_cmp labels item i) then Some i else None
+
+-- the one that is kept, or an item that comes before it
+abbrev pub earlier : List Label → Option ℕ → ℕ → ℕ
+earlier labels None item = item
+earlier labels (Some i) item = if is_lt (sibling_cmp labels item i) then item else i
+
+-- an item is kept for its name where none is yet, or one that comes later
+abbrev pub kept : List Label → (ℕ → Option ℕ) → (name item : ℕ) → ℕ → Option ℕ
+kept labels first name item n = if n == name then Some (earlier labels (first n) item) else first n
 
 abbrev pub noted : List Label → (ℕ → Option ℕ) → (item : ℕ) → ℕ → Option ℕ
-noted labels first item n = if is_named labels n item then lesser (first n) (Some item) else first n
+noted labels first item n = if is_named labels n item then Some (earlier labels (first n) item) else first n
 
--- a number that comes before the one that is kept
-abbrev pub displaces : Option ℕ → ℕ → Bool
-displaces None item = false
-displaces (Some i) item = nat_lt item i
+-- the first node of each name is the first still, but for this one
+abbrev pub KeepBut : (old new : ℕ → Option ℕ) → Option ℕ → Type 0
+KeepBut old new gone = (n i : ℕ) → old n ≡ Some i → (new n ≡ Some i) ⊎ (gone ≡ Some i)
 
--- the first node of each name is the first still
-abbrev pub Keep : (old new : ℕ → Option ℕ) → Type 0
-Keep old new = (n i : ℕ) → old n ≡ Some i → new n ≡ Some i
+-- it is one of these
+abbrev pub IsOneOf : List ℕ → ℕ → Type 0
+IsOneOf items i = (place : ℕ) × (slice_get items place ≡ Some i)
+
+-- the first node of each name is the first still, but for these
+abbrev pub Keep : (old new : ℕ → Option ℕ) → List ℕ → Type 0
+Keep old new gone = (n i : ℕ) → old n ≡ Some i → (new n ≡ Some i) ⊎ IsOneOf gone i
 
 -- each of these is less than those before it
 abbrev pub Descend : List ℕ → Type 0
@@ -44,7 +58,7 @@ HaveBefore members limit few = (place item : ℕ) → slice_get members place �
 -- this group has these items
 pub record IsGroup (labels : List Label) (members : List ℕ) (group : Group) : Type 0 where
   pub members_are : group.members.items ≡ members
-  pub named : (name : ℕ) → first_in group name ≡ least (is_named labels name) members
+  pub named : (name : ℕ) → first_in group name ≡ first_named labels name members
   pub descend : group.descending ≡ true → Descend members
 
 pub record AreGroups (labels : List Label) (groups : Groups) (kept : List Group) : Type 0 where

@@ -2,6 +2,7 @@
 use Rattle.std.specs.Prelude.{ℕ, ◌+◌, ◌≤◌, List, [], ◌∷◌, ◌++◌, map, Option, Some}
 use Rattle.std.specs.declared.vec.Vec.{Vec}
 use Rattle.std.specs.declared.alloc.Global.{Global}
+use Rattle.yv_augments.specs.declared.label.Label.{Label}
 use Rattle.yv_augments.specs.declared.row.Row.{Row}
 use Rattle.yv_augments.specs.Groups.{Groups, times}
 use Rattle.yv_augments.specs.Tree.{Tree, AreInOrder, Make, listed}
@@ -22,8 +23,8 @@ abbrev pub StandAtMostOnce : Groups → Type 0
 StandAtMostOnce groups = (i : ℕ) → times i groups ≤ 1
 
 -- these items with their parents and depths give these rows, each with what stands below it
-pub data Each (groups : Groups) : List Row → List Row → Type 0 where
-  done : Each groups [] []
-  shown : {w : Row} {items : List ℕ} {others rows : List Row} {below : Tree} → AreInOrder groups (w.number + 1) items
-      → Make groups items below → Each groups others rows
-      → Each groups (w ∷ others) (w ∷ (listed (Some w.number) (w.depth + 1) below ++ rows))
+pub data Each (labels : List Label) (groups : Groups) : List Row → List Row → Type 0 where
+  done : Each labels groups [] []
+  shown : {w : Row} {items : List ℕ} {others rows : List Row} {below : Tree} → AreInOrder labels groups (w.number + 1) items
+      → Make labels groups items below → Each labels groups others rows
+      → Each labels groups (w ∷ others) (w ∷ (listed (Some w.number) (w.depth + 1) below ++ rows))

@@ -1,5 +1,6 @@
 pub mod Labels
 pub mod Groups
+pub mod Order
 pub mod Paths
 pub mod Turns
 pub mod Rounds
@@ -10,6 +11,7 @@ pub mod Arrivals
 pub mod InnerGroups
 pub mod InnerState
 pub mod InnerListing
+pub mod InnerHidden
 pub mod InnerWaiting
 pub mod InnerUnplaced
 pub mod InnerArrivals

@@ -169,7 +169,7 @@ impl Places {
 
 impl Grafting {
     /// Where each of these paths leads that leads somewhere, as `walk` says, in time n log n in the fewer of the paths and the nodes
-    /// before the limit that they may meet. Err for want of memory alone.
+    /// before the limit that they may meet. Err only if memory runs out.
     pub fn walk_all(
         &self,
         alloc: Global,

@@ -1,6 +1,6 @@
 //! Where paths end.
 
-/// Where a path has come to.
+/// Where a path ends.
 #[derive(Clone, Copy, Debug, PartialEq, Eq)]
 pub enum End {
     /// Above the items of this group, where it begins.

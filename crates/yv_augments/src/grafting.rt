@@ -19,8 +19,8 @@ fn no_ends(alloc: Global, count: usize) -> Result<Vec<Option<End>>, AllocError>
     Ok(ends)
 }
 
-/// Numbered items that come to stand in groups, and numbered augments that give others to nodes among them. An augment that gives
-/// nothing needs no number: it may be asked where its path leads, and changes nothing. After a want of memory it is of no more use.
+/// Numbered items that enter groups, and numbered augments that give others to nodes among them. An augment that gives
+/// nothing needs no number: it may be asked where its path leads, and changes nothing. It can't be used after memory ran out.
 #[derive(Drop)]
 pub struct Grafting {
     pub(crate) places: Places,
@@ -37,7 +37,7 @@ impl Grafting {
     ghost use Rattle.yv_augments.specs.InnerState.{IsGrafting, left};
     ghost use Rattle.yv_augments.specs.InnerWaiting.{KeepFirst};
 
-    /// Items with these labels, of which none stands anywhere, and so many augments, of which none was applied.
+    /// Items with these labels, none of which is in a group yet, and so many augments, none of which is applied yet.
     pub fn new(alloc: Global, labels: Vec<Label>, augments: usize) -> Result<Grafting, AllocError>
         ensures { IfOk result (IsGrafting labels.items (nothing (length labels.items) augments)) }
     {
@@ -64,7 +64,7 @@ impl Grafting {
         self.places.target(end)
     }
 
-    /// An item enters a group: 0 at the top, i + 1 below item i, and behind these that of a numbered augment in whose block it stands.
+    /// An item enters a group: 0 at the top, i + 1 below item i, and after these the group of the numbered augment whose block it is in.
     pub fn enter(&mut self, item: usize, group: usize) -> Result<(), AllocError>
         ensures { (labels : List Label) (st : State) → IsGrafting labels st self.old
             → OnOk result (IsGrafting labels (entered item group st) self.new) }
@@ -74,28 +74,27 @@ impl Grafting {
     }
 
     // An augment whose path ends there, or nowhere, is applied, if it wasn't yet and the path does end. Tells whether it was applied
-    // now, and whether an item that moved is the first node of its name now in the place of another.
+    // now, and answers the nodes that were the first of their names, where what the augment gives is now.
     pub(crate) fn settle(
         &mut self,
         number: usize,
         end: Option<End>,
-    ) -> Result<(bool, bool), AllocError>
+    ) -> Result<(bool, Vec<usize>), AllocError>
         requires { number < length self.old.ends.items }
         ensures state { (labels : List Label) (st : State) → IsGrafting labels st self.old
             → OnOk result (IsGrafting labels (resolved labels number end st) self.new) }
         ensures taken { (labels : List Label) (st : State) → IsGrafting labels st self.old
             → IfOk result (λ told. told.0 ≡ (not (is_applied st number) && is_some end)) }
         ensures kept { (labels : List Label) (st : State) → IsGrafting labels st self.old
-            → IfOk result (λ told. told.1 ≡ false
-            → KeepFirst labels (group_of_augment labels number) st.groups (resolved labels number end st).groups) }
+            → IfOk result (λ told. KeepFirst labels (group_of_augment labels number) st.groups (resolved labels number end st).groups told.1.items) }
         ensures left { IfOk result (λ told. left self.new.ends.items + (if told.0 then 1 else 0) ≡ left self.old.ends.items) }
         ensures each { length self.new.ends.items ≡ length self.old.ends.items }
     {
         if self.ends[number].is_some() {
-            return Ok((false, false));
+            return Ok((false, Vec::new(self.places.alloc)));
         }
         let Some(place) = end else {
-            return Ok((false, false));
+            return Ok((false, Vec::new(self.places.alloc)));
         };
         let _groups = self.places.groups.len();
         let from = self.places.labels.len() + 1 + number;

@@ -1,13 +1,14 @@
 //! The items of one place, and the first node of each name.
-ghost use Rattle.std.specs.Prelude.{◌≡◌, ◌<◌, ◌≤◌, ℕ, ◌++◌, ◌∷◌, [], List, Some, true, false, OnOk, IfOk, IfSome, length, slice_get};
+ghost use Rattle.std.specs.Prelude.{◌≡◌, ◌<◌, ◌≤◌, ℕ, ◌++◌, ◌∷◌, [], List, Some, true, OnOk, IfOk, IfSome, length, slice_get};
 ghost use Rattle.yv_augments.specs.declared.label.Label.{Label};
-ghost use Rattle.yv_augments.specs.InnerGroups.{HaveBefore, IsBelowLast, IsGroup, Keep, displaces, first_in, kept, noted};
+ghost use Rattle.yv_augments.specs.InnerGroups.{HaveBefore, IsBelowLast, IsGroup, Keep, KeepBut, displaced, earlier, first_in, kept, noted};
 
 use crate::label::Label;
+use crate::order::comes_before;
 use std::alloc::{AllocError, Global};
 use std::collections::BTreeMap;
 
-/// The numbers of the items that stand in one place, and for each name the least of a node.
+/// The numbers of the items in one place, and for each name the first node in order.
 #[derive(Drop)]
 pub(crate) struct Group {
     pub members: Vec<usize>,
@@ -16,13 +17,29 @@ pub(crate) struct Group {
     pub descending: bool,
 }
 
-// Whether an item comes before the first so far.
-fn displaces(first: Option<usize>, item: usize) -> bool
-    ensures { result ≡ displaces first item }
+// The first so far, if an item comes before it.
+fn displaced(labels: &[Label], first: Option<usize>, item: usize) -> Option<usize>
+    ensures { result ≡ displaced labels.now first item }
 {
     match first {
-        Some(first) => item < first,
-        None => false,
+        Some(first) if comes_before(labels, item, first) => Some(first),
+        _ => None,
+    }
+}
+
+// The first so far, or an item that comes before it.
+fn earlier(labels: &[Label], first: Option<usize>, item: usize) -> usize
+    ensures { result ≡ earlier labels.now first item }
+{
+    match first {
+        Some(first) => {
+            if comes_before(labels, item, first) {
+                item
+            } else {
+                first
+            }
+        }
+        None => item,
     }
 }
 
@@ -45,35 +62,36 @@ impl Group {
         self.names.get(&name).copied()
     }
 
-    // Keeps a number for its name where none is yet, or a greater one. Tells whether it took the place of that.
-    fn keep(&mut self, name: usize, item: usize) -> Result<bool, AllocError>
-        ensures named { OnOk result ((n : ℕ) → first_in self.new n ≡ kept (first_in self.old) name item n) }
-        ensures displaced { IfOk result (λ displaced. displaced ≡ displaces (first_in self.old name) item) }
+    // Keeps an item for its name where none is yet, or one that comes later. Answers that one, whose place it took.
+    fn keep(
+        &mut self,
+        labels: &[Label],
+        name: usize,
+        item: usize,
+    ) -> Result<Option<usize>, AllocError>
+        ensures named { OnOk result ((n : ℕ) → first_in self.new n ≡ kept labels.now (first_in self.old) name item n) }
+        ensures displaced { IfOk result (λ gone. gone ≡ displaced labels.now (first_in self.old name) item) }
         ensures members { self.new.members ≡ self.old.members }
         ensures descending { self.new.descending ≡ self.old.descending }
     {
         let first = self.first(name);
-        let least = match first {
-            Some(first) => first.min(item),
-            None => item,
-        };
-        self.names.insert(name, least)?;
-        Ok(displaces(first, item))
+        self.names.insert(name, earlier(labels, first, item))?;
+        Ok(displaced(labels, first, item))
     }
 
-    // Keeps the number of an item for its name, if it is a node. Tells whether it took the place of another.
-    fn note(&mut self, labels: &[Label], item: usize) -> Result<bool, AllocError>
+    // Keeps the number of an item for its name, if it is a node. Answers the one whose place it took.
+    fn note(&mut self, labels: &[Label], item: usize) -> Result<Option<usize>, AllocError>
         ensures named { OnOk result ((n : ℕ) → first_in self.new n ≡ noted labels.now (first_in self.old) item n) }
-        ensures displaced { IfOk result (λ displaced. displaced ≡ false → Keep (first_in self.old) (first_in self.new)) }
+        ensures displaced { IfOk result (KeepBut (first_in self.old) (first_in self.new)) }
         ensures members { self.new.members ≡ self.old.members }
         ensures descending { self.new.descending ≡ self.old.descending }
     {
         if let Some(label) = labels.get(item).copied() {
             if label.kind.is_node() {
-                return self.keep(label.name, item);
+                return self.keep(labels, label.name, item);
             }
         }
-        Ok(false)
+        Ok(None)
     }
 
     // Whether members descend still when an item enters behind them.
@@ -90,11 +108,11 @@ impl Group {
         }
     }
 
-    /// Adds an item behind the others. Tells whether it is the first node of its name now, and another was.
-    pub(crate) fn add(&mut self, labels: &[Label], item: usize) -> Result<bool, AllocError>
+    /// Adds an item after the others. Returns the node that was the first of its name before, if this one is now.
+    pub(crate) fn add(&mut self, labels: &[Label], item: usize) -> Result<Option<usize>, AllocError>
         ensures state { (members : List ℕ) → IsGroup labels.now members self.old
             → OnOk result (IsGroup labels.now (members ++ item ∷ []) self.new) }
-        ensures displaced { IfOk result (λ displaced. displaced ≡ false → Keep (first_in self.old) (first_in self.new)) }
+        ensures displaced { IfOk result (KeepBut (first_in self.old) (first_in self.new)) }
     {
         let displaced = self.note(labels, item)?;
         self.descending = self.descends_to(item);
@@ -102,16 +120,21 @@ impl Group {
         Ok(displaced)
     }
 
-    /// Adds items behind the others. Tells whether one of them is the first node of its name now, and another was.
-    pub(crate) fn join(&mut self, labels: &[Label], items: &[usize]) -> Result<bool, AllocError>
+    /// Adds items after the others. Returns the nodes that were the first of their names before, if others are now.
+    pub(crate) fn join(
+        &mut self,
+        alloc: Global,
+        labels: &[Label],
+        items: &[usize],
+    ) -> Result<Vec<usize>, AllocError>
         ensures state { (members : List ℕ) → IsGroup labels.now members self.old
             → OnOk result (IsGroup labels.now (members ++ items.now) self.new) }
-        ensures displaced { IfOk result (λ displaced. displaced ≡ false → Keep (first_in self.old) (first_in self.new)) }
+        ensures displaced { IfOk result (λ displaced. Keep (first_in self.old) (first_in self.new) displaced.items) }
     {
-        let mut displaced = false;
+        let mut displaced = Vec::new(alloc);
         for item in items {
-            if self.add(labels, *item)? {
-                displaced = true;
+            if let Some(node) = self.add(labels, *item)? {
+                displaced.push(node)?;
             }
         }
         Ok(displaced)

@@ -20,16 +20,17 @@ pub enum Kind {
     /// The output of an rpc or action, written or not.
     Output,
     Notification,
-    /// No schema node: what it gives stands beside it.
+    /// Not a schema node: what it gives is beside it.
     Uses,
 }
 
-/// The kind of an item, and the number of its module and name together: two items have the same number exactly where they
-/// have the same module and the same name.
+/// The kind of an item; the number of its module and name together: two items have the same number exactly where they have the same
+/// module and the same name; and whether an augment of a module gives it, and it isn't below another node that this augment gives.
 #[derive(Clone, Copy, Debug, PartialEq, Eq)]
 pub struct Label {
     pub kind: Kind,
     pub name: usize,
+    pub given: bool,
 }
 
 impl Kind {

@@ -1,4 +1,4 @@
-//! Laws of the definitions alone. These functions do nothing: the contract of each is the law.
+//! Laws about the definitions only. These functions do nothing: the contract of each is the law.
 ghost use Rattle.std.specs.Prelude.{◌≡◌, ℕ, ◌+◌, ◌<◌, ◌≤◌, List, None, Some, length, slice_get};
 ghost use Rattle.yv_augments.specs.declared.label.Label.{Label};
 ghost use Rattle.yv_augments.specs.declared.row.Row.{Row};
@@ -15,7 +15,7 @@ pub fn what_is_left_leads_nowhere()
         → LeadsNowhere labels first paths new }
 {}
 
-/// No round takes an item away or puts one in twice: each stands in groups as often as before.
+/// No round removes an item or adds one twice: each is in groups as often as before.
 pub fn rounds_keep_items()
     ensures { (labels : List Label) (first : ℕ) (paths : List (List ℕ)) (old new : State) (item : ℕ)
         → AreApplied labels first paths old new → length old.groups ≡ length labels + 1 + length old.ends
@@ -29,7 +29,7 @@ pub fn turns_keep_augments()
         → length (turn labels number start limit names st).ends ≡ length st.ends }
 {}
 
-/// When all items have entered, each stands in one group, and once, and so it is when the augments of modules were applied.
+/// When all items have entered, each is in exactly one group, once, and still is when the augments of modules are applied.
 pub fn each_item_stands_once()
     ensures entered { (labels : List Label) (augments : ℕ) (st : State) → HaveEntered labels augments 0 st
         → StandOnce (length labels) st.groups }
@@ -46,18 +46,18 @@ pub fn entering_keeps_groups()
         → length st.ends ≡ augments }
 {}
 
-/// In the list of the final tree an item stands at the top, or behind the item below which it stands, one level deeper.
+/// In the list of the final tree an item is at the top, or after the item above it and one level deeper.
 pub fn parents_come_first()
-    ensures { (groups : Groups) (rows : List Row) (k : ℕ) (row : Row) → AreRows groups rows → slice_get rows k ≡ Some row
+    ensures { (labels : List Label) (groups : Groups) (rows : List Row) (k : ℕ) (row : Row) → AreRows labels groups rows → slice_get rows k ≡ Some row
         → StandsInTree rows k row }
 {}
 
 /// Groups have one final tree, and one list of it.
 pub fn the_final_tree_is_one()
-    ensures { (groups : Groups) (first second : List Row) → AreRows groups first → AreRows groups second → first ≡ second }
+    ensures { (labels : List Label) (groups : Groups) (first second : List Row) → AreRows labels groups first → AreRows labels groups second → first ≡ second }
 {}
 
-/// Rounds come to one: a round that applies none changes nothing.
+/// Rounds lead to one result: a round that applies none changes nothing.
 pub fn rounds_come_to_one()
     ensures { (labels : List Label) (first : ℕ) (paths : List (List ℕ)) (old a b : State) → AreApplied labels first paths old a
         → AreApplied labels first paths old b → a ≡ b }
@@ -65,32 +65,32 @@ pub fn rounds_come_to_one()
 
 /// Groups have one tree.
 pub fn groups_have_one_tree()
-    ensures { (groups : Groups) (a b : Tree) → IsTree groups a → IsTree groups b → a ≡ b }
+    ensures { (labels : List Label) (groups : Groups) (a b : Tree) → IsTree labels groups a → IsTree labels groups b → a ≡ b }
 {}
 
-/// Where each item stands once, none stands twice in the tree: it has no more items than there are.
+/// Where each item is in groups once, none is twice in the tree: it has no more items than there are.
 pub fn a_tree_has_no_item_twice()
-    ensures count { (groups : Groups) (items : ℕ) (t : Tree) → IsTree groups t → StandOnce items groups → length (listed None 1 t) ≤ items }
-    ensures within { (groups : Groups) (items k : ℕ) (row : Row) (t : Tree) → IsTree groups t → StandOnce items groups
+    ensures count { (labels : List Label) (groups : Groups) (items : ℕ) (t : Tree) → IsTree labels groups t → StandOnce items groups → length (listed None 1 t) ≤ items }
+    ensures within { (labels : List Label) (groups : Groups) (items k : ℕ) (row : Row) (t : Tree) → IsTree labels groups t → StandOnce items groups
         → slice_get (listed None 1 t) k ≡ Some row → row.number < items }
-    ensures once { (groups : Groups) (items i k : ℕ) (a b : Row) (t : Tree) → IsTree groups t → StandOnce items groups
+    ensures once { (labels : List Label) (groups : Groups) (items i k : ℕ) (a b : Row) (t : Tree) → IsTree labels groups t → StandOnce items groups
         → slice_get (listed None 1 t) i ≡ Some a → slice_get (listed None 1 t) k ≡ Some b → a.number ≡ b.number → i ≡ k }
 {}
 
-/// An item of the tree stands in the group of the item above it, and where each stands once, it stands in no other.
+/// An item of the tree is in the group of the item above it and, where each is in groups once, in no other.
 pub fn items_stand_in_one_group()
-    ensures below { (groups : Groups) (k : ℕ) (row : Row) (t : Tree) → IsTree groups t → slice_get (listed None 1 t) k ≡ Some row
+    ensures below { (labels : List Label) (groups : Groups) (k : ℕ) (row : Row) (t : Tree) → IsTree labels groups t → slice_get (listed None 1 t) k ≡ Some row
         → IsIn row.number (group_under row.parent) groups }
     ensures one { (groups : Groups) (items i g h : ℕ) → StandOnce items groups → IsIn i g groups → IsIn i h groups → g ≡ h }
 {}
 
-/// An item that enters a group stands there, and it still does when others enter.
+/// An item that enters a group is in it, and still is when others enter.
 pub fn items_stay_when_others_enter()
     ensures enters { (i g : ℕ) (st : State) → g < length st.groups → IsIn i g (entered i g st).groups }
     ensures stays { (i g other h : ℕ) (st : State) → IsIn i g st.groups → IsIn i g (entered other h st).groups }
 {}
 
-/// What an augment gives stands in its group while it adds to no node, and then below the node to which it adds: so it is after
+/// What an augment gives is in its group while it adds to no node, and then below the node to which it adds: so it is after
 /// each turn, and after the rounds.
 pub fn what_is_given_follows_the_augment()
     ensures turned { (labels : List Label) (number start limit augment item : ℕ) (names : List ℕ) (st : State)

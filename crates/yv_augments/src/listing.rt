@@ -9,33 +9,45 @@ ghost use Rattle.yv_augments.specs.InnerListing.{StandAtMostOnce, groups_in, und
 
 use crate::grafting::Grafting;
 use crate::group::Group;
+use crate::label::Label;
+use crate::order::sort;
 use crate::places::Places;
 use crate::row::Row;
 use std::alloc::{AllocError, Global};
 use std::mem;
 
 // Takes the items of a group out, in order.
-fn take_group(alloc: Global, groups: &mut Vec<Vec<usize>>, group: usize) -> Vec<usize>
-    ensures taken { AreInOrder (groups_in groups.old.items) group result.items }
+fn take_group(
+    alloc: Global,
+    labels: &[Label],
+    groups: &mut Vec<Vec<usize>>,
+    group: usize,
+) -> Vec<usize>
+    ensures taken { AreInOrder labels.now (groups_in groups.old.items) group result.items }
     ensures others { groups_in groups.new.items ≡ set (groups_in groups.old.items) group [] }
 {
     if group >= groups.len() {
         return Vec::new(alloc);
     }
     let mut items = mem::replace(&mut groups[group], Vec::new(alloc));
-    items.sort_unstable();
+    sort(labels, &mut items);
     items
 }
 
 // Takes the items below another out, in order.
-fn take_below(alloc: Global, groups: &mut Vec<Vec<usize>>, number: usize) -> Vec<usize>
-    ensures taken { AreInOrder (groups_in groups.old.items) (number + 1) result.items }
+fn take_below(
+    alloc: Global,
+    labels: &[Label],
+    groups: &mut Vec<Vec<usize>>,
+    number: usize,
+) -> Vec<usize>
+    ensures taken { AreInOrder labels.now (groups_in groups.old.items) (number + 1) result.items }
     ensures others { groups_in groups.new.items ≡ set (groups_in groups.old.items) (number + 1) [] }
 {
     if number >= groups.len() {
         return Vec::new(alloc);
     }
-    take_group(alloc, groups, number + 1)
+    take_group(alloc, labels, groups, number + 1)
 }
 
 // Puts items of one parent on a stack, the first on top.
@@ -60,16 +72,20 @@ fn put(
 }
 
 // The tree of groups as a list. Each group is taken out when its turn comes.
-fn list(alloc: Global, groups: &mut Vec<Vec<usize>>) -> Result<Vec<Row>, AllocError>
-    ensures { StandAtMostOnce (groups_in groups.old.items) → IfOk result (λ rows. AreRows (groups_in groups.old.items) rows.items) }
+fn list(
+    alloc: Global,
+    labels: &[Label],
+    groups: &mut Vec<Vec<usize>>,
+) -> Result<Vec<Row>, AllocError>
+    ensures { StandAtMostOnce (groups_in groups.old.items) → IfOk result (λ rows. AreRows labels.now (groups_in groups.old.items) rows.items) }
 {
     let mut rows = Vec::new(alloc);
     let mut stack = Vec::new(alloc);
-    let top = take_group(alloc, groups, 0);
+    let top = take_group(alloc, labels, groups, 0);
     put(&mut stack, &top, None, 1)?;
     while let Some(row) = stack.pop() {
         rows.push(row)?;
-        let below = take_below(alloc, groups, row.number);
+        let below = take_below(alloc, labels, groups, row.number);
         // No memory holds a tree so deep.
         let Some(depth) = row.depth.checked_add(1) else {
             return Err(AllocError);
@@ -92,20 +108,21 @@ fn members(alloc: Global, groups: Vec<Group>) -> Result<Vec<Vec<usize>>, AllocEr
 }
 
 impl Grafting {
-    /// The final tree in order: each item before those below it, children in the order of their numbers. A uses is among them, with
-    /// nothing below it, where what it gives stands in its own group. Takes no memory for each level, but for the items on the way.
+    /// The final tree in order: each item before those below it and, of the children of one parent, those that augments of modules give
+    /// after the others, each by number. A uses is among them, with nothing below it, if what it gives is in its own group. Takes no
+    /// memory for each level, except for the items on the way.
     pub fn into_rows(self) -> Result<Vec<Row>, AllocError>
         ensures { (labels : List Label) (st : State) → IsGrafting labels st self → StandOnce (length labels) st.groups
-            → IfOk result (λ rows. AreRows st.groups rows.items) }
+            → IfOk result (λ rows. AreRows labels st.groups rows.items) }
     {
         let Grafting { places, ends: _ } = self;
         let Places {
             alloc,
-            labels: _,
+            labels,
             groups,
         } = places;
         let mut lists = members(alloc, groups)?;
-        let rows = list(alloc, &mut lists)?;
+        let rows = list(alloc, &labels, &mut lists)?;
         Ok(rows)
     }
 }

@@ -1,23 +1,23 @@
-//! Which items stand where, and where paths lead among them.
-ghost use Rattle.std.specs.Prelude.{◌≡◌, ◌≢◌, ◌<◌, ◌+◌, ◌++◌, ◌∷◌, [], ℕ, false, List, length, replicate, set, IfOk, IfSome, OnOk, Some, None, slice_get};
+//! Which items are where, and where paths lead among them.
+ghost use Rattle.std.specs.Prelude.{◌≡◌, ◌≢◌, ◌<◌, ◌+◌, ◌++◌, ◌∷◌, [], ℕ, List, length, replicate, set, IfOk, IfSome, OnOk, Some, None, slice_get};
 ghost use Rattle.yv_augments.specs.declared.label.Label.{Label};
 ghost use Rattle.yv_augments.specs.declared.end.End.TheVariants.{Start};
 ghost use Rattle.yv_augments.specs.Labels.{is_named};
 ghost use Rattle.yv_augments.specs.Groups.{Groups, members_of, moved};
-ghost use Rattle.yv_augments.specs.Paths.{is_shorthand, least, before, answer, arrived, stepped, ended};
+ghost use Rattle.yv_augments.specs.Paths.{is_shorthand, first_named, before, answer, arrived, stepped, ended};
 ghost use Rattle.yv_augments.specs.Turns.{target, given};
 ghost use Rattle.yv_augments.specs.InnerGroups.{ArePlaces, HaveBefore};
-ghost use Rattle.yv_augments.specs.InnerWaiting.{KeepFirst, IsFollowed};
+ghost use Rattle.yv_augments.specs.InnerWaiting.{KeepFirst, Lead, IsFollowed, last_end};
 ghost use Rattle.yv_augments.specs.InnerArrivals.{AreMet};
 
 use crate::end::End;
 use crate::group::Group;
 use crate::label::Label;
-use crate::point::Point;
+use crate::trail::Trail;
 use std::alloc::{AllocError, Global};
 use std::mem;
 
-/// Items, and for each group those that stand in it.
+/// Items, and for each group those in it.
 #[derive(Drop)]
 pub(crate) struct Places {
     pub alloc: Global,
@@ -46,7 +46,7 @@ fn is_shorthand(parent: Option<Label>, label: Option<Label>) -> bool
 }
 
 impl Places {
-    /// So many groups behind those of these items, and no item in any.
+    /// So many groups after those of these items, with no item in any of them.
     pub(crate) fn new(
         alloc: Global,
         labels: Vec<Label>,
@@ -74,7 +74,7 @@ impl Places {
     // The first node of a name in a group.
     fn first(&self, group: usize, name: usize) -> Option<usize>
         ensures { (labels : List Label) (groups : Groups) → ArePlaces labels groups self.now
-            → result ≡ least (is_named labels name) (members_of groups group) }
+            → result ≡ first_named labels name (members_of groups group) }
     {
         match self.groups.get(group) {
             Some(group) => group.first(name),
@@ -82,7 +82,7 @@ impl Places {
         }
     }
 
-    // The first node of a group that answers a step.
+    // What answers a step in a group.
     fn answer(&self, limit: usize, group: usize, name: usize) -> Option<usize>
         ensures { (labels : List Label) (groups : Groups) → ArePlaces labels groups self.now
             → result ≡ answer labels groups limit group name }
@@ -188,20 +188,23 @@ impl Places {
         Some(end)
     }
 
-    /// Follows a path on, as far as it leads.
-    pub(crate) fn follow(&self, limit: usize, path: &[usize], from: Point) -> Point
+    /// Follows a path from the top on, as far as it leads.
+    pub(crate) fn follow(&self, path: &[usize], trail: &mut Trail) -> Result<(), AllocError>
         ensures { (labels : List Label) (groups : Groups) → ArePlaces labels groups self.now
-            → IsFollowed labels groups limit path.now from result }
+            → Lead labels groups path.now (length trail.old.ends.items) (last_end trail.old.ends.items)
+            → OnOk result (IsFollowed labels groups path.now trail.old.ends.items trail.new.ends.items) }
     {
-        let Point { mut step, mut end } = from;
-        while step < path.len() {
-            let Some(next) = self.step(limit, end, path[step]) else {
-                return Point { step, end };
+        let limit = self.labels.len();
+        let mut end = trail.end();
+        while trail.ends.len() < path.len() {
+            let name = path[trail.ends.len()];
+            let Some(next) = self.step(limit, end, name) else {
+                return Ok(());
             };
+            trail.ends.push(next)?;
             end = next;
-            step += 1;
         }
-        Point { step, end }
+        Ok(())
     }
 
     /// The node to which an augment adds whose path ends there.
@@ -222,37 +225,37 @@ impl Places {
         }
     }
 
-    // Gives the items of one group to another. Tells whether one of them is the first node of its name now in the place of another.
-    fn shift(&mut self, from: usize, to: usize) -> Result<bool, AllocError>
+    // Gives the items of one group to another. Answers the nodes there that were the first of their names, where others are now.
+    fn shift(&mut self, from: usize, to: usize) -> Result<Vec<usize>, AllocError>
         requires from { from < length self.old.groups.items }
         requires to { to < length self.old.groups.items }
         requires other { from ≢ to }
         ensures state { (labels : List Label) (groups : Groups) → ArePlaces labels groups self.old
             → OnOk result (ArePlaces labels (moved from to groups) self.new) }
         ensures kept { (labels : List Label) (groups : Groups) → ArePlaces labels groups self.old
-            → IfOk result (λ displaced. displaced ≡ false → KeepFirst labels from groups (moved from to groups)) }
+            → IfOk result (λ displaced. KeepFirst labels from groups (moved from to groups) displaced.items) }
         ensures labels { self.new.labels ≡ self.old.labels }
         ensures count { length self.new.groups.items ≡ length self.old.groups.items }
     {
         let moving = mem::replace(&mut self.groups[from], Group::new(self.alloc));
-        let displaced = self.groups[to].join(&self.labels, &moving.members)?;
+        let displaced = self.groups[to].join(self.alloc, &self.labels, &moving.members)?;
         Ok(displaced)
     }
 
-    /// Gives what stands in a group to the node at which an augment's path ends, if that may take nodes. Tells whether one of these
-    /// is the first node of its name now in the place of another.
-    pub(crate) fn settle(&mut self, from: usize, end: End) -> Result<bool, AllocError>
+    /// Moves what is in a group to the node at which an augment's path ends, if that may take nodes. Returns the nodes there that
+    /// were the first of their names before, if others are now.
+    pub(crate) fn settle(&mut self, from: usize, end: End) -> Result<Vec<usize>, AllocError>
         requires behind { length self.old.labels.items < from }
         requires within { from < length self.old.groups.items }
         ensures state { (labels : List Label) (groups : Groups) → ArePlaces labels groups self.old
             → OnOk result (ArePlaces labels (given from (target labels end) groups) self.new) }
         ensures kept { (labels : List Label) (groups : Groups) → ArePlaces labels groups self.old
-            → IfOk result (λ displaced. displaced ≡ false → KeepFirst labels from groups (given from (target labels end) groups)) }
+            → IfOk result (λ displaced. KeepFirst labels from groups (given from (target labels end) groups) displaced.items) }
         ensures labels { self.new.labels ≡ self.old.labels }
         ensures count { length self.new.groups.items ≡ length self.old.groups.items }
     {
         let Some(item) = self.target(end) else {
-            return Ok(false);
+            return Ok(Vec::new(self.alloc));
         };
         let displaced = self.shift(from, item + 1)?;
         Ok(displaced)
@@ -277,6 +280,16 @@ impl Places {
     {
         match self.groups.get(group) {
             Some(group) => &group.members,
+            None => &[],
+        }
+    }
+
+    /// The items below another.
+    pub(crate) fn children(&self, item: usize) -> &[usize]
+        ensures { (labels : List Label) (groups : Groups) → ArePlaces labels groups self.now → result.now ≡ members_of groups (item + 1) }
+    {
+        match item.checked_add(1) {
+            Some(group) => self.members(group),
             None => &[],
         }
     }

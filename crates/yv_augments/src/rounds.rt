@@ -1,58 +1,95 @@
 //! The augments of modules, which are applied in rounds. How far the path of each was followed is kept, so that no step is made
 //! twice, unless an item comes before another of its name that was met.
-ghost use Rattle.std.specs.Prelude.{◌≡◌, ◌<◌, ◌≤◌, ◌+◌, ℕ, List, length, map, true, false, IfOk, OnOk, replicate, if◌then◌else◌};
+ghost use Rattle.std.specs.Prelude.{◌≡◌, ◌<◌, ◌≤◌, ◌+◌, [], ℕ, List, length, map, false, Some, slice_get, IfOk, OnOk, replicate, if◌then◌else◌};
 ghost use Rattle.yv_augments.specs.declared.label.Label.{Label};
-ghost use Rattle.yv_augments.specs.Groups.{group_of_augment};
+ghost use Rattle.yv_augments.specs.declared.end.End.TheVariants.{Start};
+ghost use Rattle.yv_augments.specs.declared.trail.Trail.{Trail};
+ghost use Rattle.yv_augments.specs.Paths.{ended};
 ghost use Rattle.yv_augments.specs.Turns.{State, turn, is_taken};
 ghost use Rattle.yv_augments.specs.Rounds.{AreApplied, round, is_any};
+ghost use Rattle.yv_augments.specs.InnerHidden.{IsClosed};
 ghost use Rattle.yv_augments.specs.InnerState.{IsGrafting, left};
-ghost use Rattle.yv_augments.specs.InnerWaiting.{ArePoints, KeepFirst, Leads, top};
+ghost use Rattle.yv_augments.specs.InnerWaiting.{AreWaiting, IsTrail, StillLead};
 
+use crate::end::End;
 use crate::grafting::Grafting;
-use crate::point::{Outcome, Point};
+use crate::hidden::Hidden;
+use crate::trail::Trail;
 use std::alloc::{AllocError, Global};
 
-// Where so many paths begin.
-fn starts(alloc: Global, count: usize) -> Result<Vec<Point>, AllocError>
-    ensures { IfOk result (λ points. points.items ≡ replicate count top) }
-{
-    let mut points = Vec::new(alloc);
-    for _ in 0..count {
-        points.push(Point::TOP)?;
+/// What is known of the paths of augments that wait: how far each was followed, and which nodes no path meets any more.
+#[derive(Drop)]
+pub(crate) struct Waiting {
+    pub trails: Vec<Trail>,
+    pub hidden: Hidden,
+}
+
+impl Waiting {
+    // So many paths, of which none was followed yet among so many items.
+    fn new(alloc: Global, paths: usize, items: usize) -> Result<Waiting, AllocError>
+        ensures trails { IfOk result (λ waiting. length waiting.trails.items ≡ paths) }
+        ensures new { IfOk result (λ waiting. (j : ℕ) (t : Trail) → slice_get waiting.trails.items j ≡ Some t → t.ends.items ≡ []) }
+        ensures hidden { IfOk result (λ waiting. waiting.hidden.marks.items ≡ replicate items false) }
+    {
+        let mut trails = Vec::new(alloc);
+        for _ in 0..paths {
+            trails.push(Trail::new(alloc))?;
+        }
+        let hidden = Hidden::new(alloc, items)?;
+        Ok(Waiting { trails, hidden })
     }
-    Ok(points)
 }
 
 impl Grafting {
-    // An augment of a module has its turn, its path being followed on from where it was left.
+    // Follows a path on from where it was left. Answers where it ends, if it leads anywhere.
+    fn follow_on(
+        &self,
+        path: &[usize],
+        trail: &mut Trail,
+        hidden: &Hidden,
+    ) -> Result<Option<End>, AllocError>
+        ensures end { (labels : List Label) (st : State) → IsGrafting labels st self.now
+            → IsTrail labels st.groups hidden.now.marks.items path.now trail.old.ends.items
+            → IfOk result (λ end. end ≡ ended labels st.groups (length labels) path.now (Start 0)) }
+        ensures trail { (labels : List Label) (st : State) → IsGrafting labels st self.now
+            → IsTrail labels st.groups hidden.now.marks.items path.now trail.old.ends.items
+            → OnOk result (IsTrail labels st.groups hidden.now.marks.items path.now trail.new.ends.items) }
+    {
+        trail.retreat(hidden);
+        self.places.follow(path, trail)?;
+        Ok(trail.end_of(path))
+    }
+
+    // An augment of a module has its turn. Tells whether it was applied.
     fn turn_from_top(
         &mut self,
         number: usize,
         path: &[usize],
-        from: Point,
-    ) -> Result<Outcome, AllocError>
+        trail: &mut Trail,
+        hidden: &mut Hidden,
+    ) -> Result<bool, AllocError>
         requires { number < length self.old.ends.items }
-        ensures state { (labels : List Label) (st : State) → IsGrafting labels st self.old → Leads labels st.groups path.now from
+        ensures state { (labels : List Label) (st : State) → IsGrafting labels st self.old
+            → IsTrail labels st.groups hidden.old.marks.items path.now trail.old.ends.items
             → OnOk result (IsGrafting labels (turn labels number 0 (length labels) path.now st) self.new) }
-        ensures taken { (labels : List Label) (st : State) → IsGrafting labels st self.old → Leads labels st.groups path.now from
-            → IfOk result (λ outcome. outcome.applied ≡ is_taken labels number 0 (length labels) path.now st) }
-        ensures point { (labels : List Label) (st : State) → IsGrafting labels st self.old → Leads labels st.groups path.now from
-            → IfOk result (λ outcome. Leads labels st.groups path.now outcome.point) }
-        ensures kept { (labels : List Label) (st : State) → IsGrafting labels st self.old → Leads labels st.groups path.now from
-            → IfOk result (λ outcome. outcome.displaced ≡ false
-            → KeepFirst labels (group_of_augment labels number) st.groups (turn labels number 0 (length labels) path.now st).groups) }
-        ensures left { IfOk result (λ outcome. left self.new.ends.items + (if outcome.applied then 1 else 0) ≡ left self.old.ends.items) }
+        ensures taken { (labels : List Label) (st : State) → IsGrafting labels st self.old
+            → IsTrail labels st.groups hidden.old.marks.items path.now trail.old.ends.items
+            → IfOk result (λ applied. applied ≡ is_taken labels number 0 (length labels) path.now st) }
+        ensures trail { (labels : List Label) (st : State) → IsGrafting labels st self.old → IsClosed labels st.groups hidden.old.marks.items
+            → IsTrail labels st.groups hidden.old.marks.items path.now trail.old.ends.items
+            → OnOk result (IsTrail labels (turn labels number 0 (length labels) path.now st).groups hidden.new.marks.items
+            path.now trail.new.ends.items) }
+        ensures others { (labels : List Label) (st : State) → IsGrafting labels st self.old → IsClosed labels st.groups hidden.old.marks.items
+            → IsTrail labels st.groups hidden.old.marks.items path.now trail.old.ends.items
+            → OnOk result (StillLead labels st.groups (turn labels number 0 (length labels) path.now st).groups
+            hidden.old.marks.items hidden.new.marks.items) }
+        ensures left { IfOk result (λ applied. left self.new.ends.items + (if applied then 1 else 0) ≡ left self.old.ends.items) }
         ensures each { length self.new.ends.items ≡ length self.old.ends.items }
     {
-        let limit = self.places.labels.len();
-        let point = self.places.follow(limit, path, from);
-        let end = point.end_of(path);
+        let end = self.follow_on(path, trail, hidden)?;
         let (applied, displaced) = self.settle(number, end)?;
-        Ok(Outcome {
-            point,
-            applied,
-            displaced,
-        })
+        hidden.update(&self.places, end, &displaced)?;
+        Ok(applied)
     }
 
     // A round: each augment in order that isn't applied is, if its target is there. Tells whether one was.
@@ -60,35 +97,30 @@ impl Grafting {
         &mut self,
         first: usize,
         paths: &[Vec<usize>],
-        points: &mut [Point],
+        waiting: &mut Waiting,
     ) -> Result<bool, AllocError>
         requires augments { first + length paths.now ≤ length self.old.ends.items }
-        requires points { length points.old ≡ length paths.now }
+        requires trails { length waiting.old.trails.items ≡ length paths.now }
         ensures state { (labels : List Label) (st : State) → IsGrafting labels st self.old
-            → ArePoints labels st.groups (map (λ p. p.items) paths.now) points.old
+            → AreWaiting labels st.groups (map (λ p. p.items) paths.now) waiting.old
             → OnOk result (IsGrafting labels (round labels first (map (λ p. p.items) paths.now) st) self.new) }
         ensures any { (labels : List Label) (st : State) → IsGrafting labels st self.old
-            → ArePoints labels st.groups (map (λ p. p.items) paths.now) points.old
+            → AreWaiting labels st.groups (map (λ p. p.items) paths.now) waiting.old
             → IfOk result (λ any. any ≡ is_any labels first (map (λ p. p.items) paths.now) st) }
-        ensures points { (labels : List Label) (st : State) → IsGrafting labels st self.old
-            → ArePoints labels st.groups (map (λ p. p.items) paths.now) points.old
-            → OnOk result (ArePoints labels (round labels first (map (λ p. p.items) paths.now) st).groups
-            (map (λ p. p.items) paths.now) points.new) }
+        ensures waiting { (labels : List Label) (st : State) → IsGrafting labels st self.old
+            → AreWaiting labels st.groups (map (λ p. p.items) paths.now) waiting.old
+            → OnOk result (AreWaiting labels (round labels first (map (λ p. p.items) paths.now) st).groups
+            (map (λ p. p.items) paths.now) waiting.new) }
         ensures left { IfOk result (λ any. left self.new.ends.items + (if any then 1 else 0) ≤ left self.old.ends.items) }
         ensures each { length self.new.ends.items ≡ length self.old.ends.items }
+        ensures trails { length waiting.new.trails.items ≡ length waiting.old.trails.items }
     {
         let _count = self.ends.len();
         let mut any = false;
-        let mut displaced = false;
         for (index, path) in paths.iter().enumerate() {
-            let from = if displaced { Point::TOP } else { points[index] };
-            let outcome = self.turn_from_top(first + index, path, from)?;
-            points[index] = outcome.point;
-            any |= outcome.applied;
-            displaced |= outcome.displaced;
-        }
-        if displaced {
-            points.fill(Point::TOP);
+            let trail = &mut waiting.trails[index];
+            let applied = self.turn_from_top(first + index, path, trail, &mut waiting.hidden)?;
+            any |= applied;
         }
         Ok(any)
     }
@@ -99,8 +131,8 @@ impl Grafting {
         ensures { (labels : List Label) (st : State) → IsGrafting labels st self.old
             → OnOk result ((new : State) × AreApplied labels first (map (λ p. p.items) paths.now) st new × IsGrafting labels new self.new) }
     {
-        let mut points = starts(self.places.alloc, paths.len())?;
-        while self.round(first, paths, &mut points)? {}
+        let mut waiting = Waiting::new(self.places.alloc, paths.len(), self.places.labels.len())?;
+        while self.round(first, paths, &mut waiting)? {}
         Ok(())
     }
 

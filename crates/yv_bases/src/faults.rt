@@ -75,7 +75,7 @@ impl<'a, 'b> Draft<'_, 'a, 'b> {
         lesser(bad, many)
     }
 
-    /// The least that is wrong with the types, of which this is found.
+    /// The least that is wrong with the types, by what was found of them.
     pub(crate) fn first_fault(&self, found: &Found) -> Option<Refusal>
         ensures { AreFound (files_in self.now.rows.now) (rows_in self.now.rows.now) found.now
             → IsLeast (BadIn (files_in self.now.rows.now) (rows_in self.now.rows.now)) result }

@@ -66,7 +66,7 @@ impl Bases {
         get(&self.follows, number)
     }
 
-    /// The numbers of all type statements, each once and behind the type that it follows and behind its members.
+    /// The numbers of all type statements, each once, after the type that it follows and after its members.
     pub fn order(&self) -> &[usize]
         ensures { (files : Files) → AreBases files self.now → IsOrderOfTypes (map brief_of files) (rows_of files) result.now }
     {

@@ -1,4 +1,4 @@
-//! Marks on the blocks in which statements stand.
+//! Marks on the blocks that contain statements.
 ghost use Rattle.std.specs.Prelude.{◌≡◌, ◌≢◌, ◌<◌, ℕ, true, length, IfOk};
 ghost use Rattle.yv_rows.specs.Lent.{files_in, rows_in};
 ghost use Rattle.yv_bases.specs.Faults.{IsMisfit};

@@ -14,7 +14,7 @@ use std::alloc::{AllocError, Global};
 use yv_graph::{Ranked, rank};
 
 impl Draft<'_, '_, '_> {
-    /// An order of all statements in which each type stands behind those from which it takes its values, these being the steps.
+    /// An order of all statements in which each type comes after those from which it takes its values, these being the steps.
     pub(crate) fn order(
         &self,
         alloc: Global,
@@ -32,7 +32,7 @@ impl Draft<'_, '_, '_> {
         }
     }
 
-    /// The types alone, in an order of all statements.
+    /// Only the types, in an order of all statements.
     pub(crate) fn types_only(
         &self,
         alloc: Global,

@@ -48,7 +48,7 @@ fn note_copy(
 
 /// Which of these refines, each at a copy of its uses, change which of the items whose spots these are: a refine changes the item
 /// that it means, if it is fit for it, and else nothing. Takes time n log n in items, in the aims of each place, and in the paths of each
-/// copy: aims are gone through again only where a copy isn't like the one before it. Err for want of memory alone.
+/// copy: aims are gone through again only where a copy differs from the one before it. Err only if memory runs out.
 pub fn changes(
     alloc: Global,
     rows: &Rows<'_, '_>,

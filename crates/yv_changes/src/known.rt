@@ -119,7 +119,7 @@ impl Known {
         Ok(())
     }
 
-    /// Notes which items the refines of a copy change, behind what changes them already. Takes time n log n in its paths, and where it
+    /// Notes which items the refines of a copy change, after what changes them already. Takes time n log n in its paths, and where it
     /// isn't like the copy before it, linear in its refines.
     pub(crate) fn note(
         &mut self,

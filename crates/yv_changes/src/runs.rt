@@ -53,7 +53,7 @@ fn changed(rows: &Rows<'_, '_>, ways: &[Option<Way>], aim: Aim) -> Option<usize>
     }
 }
 
-/// For each path the refines that change the item to which it is the first that leads. Takes time and memory linear in both.
+/// For each path the refines that change its item, if no earlier path leads to that. Takes time and memory linear in both.
 pub(crate) fn read_runs(
     alloc: Global,
     rows: &Rows<'_, '_>,

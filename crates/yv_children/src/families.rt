@@ -1,4 +1,4 @@
-//! Which nodes stand below which.
+//! Which nodes are below which.
 ghost use Rattle.std.specs.Prelude.{◌≡◌, ◌<◌, ◌++◌, ◌∷◌, [], None, length, slice_index_or, slice_set, IfOk, OnOk};
 ghost use Rattle.yv_expansion.specs.Tree.{Nodes, listed};
 ghost use Rattle.yv_children.specs.Families.{below_from, lists_of, numbers_from};
@@ -55,7 +55,7 @@ impl Families {
     }
 }
 
-/// The families of nodes that stand in order, each before those below it. Numbers begin at 0.
+/// The families of nodes in an order that has each before those below it. Numbers begin at 0.
 pub fn families_of(alloc: Global, nodes: &[Node]) -> Result<Families, AllocError>
     ensures top { IfOk result (λ f. (t : Nodes) → nodes.now ≡ listed None 0 t → f.top.items ≡ numbers_from 0 t) }
     ensures below { IfOk result (λ f. (t : Nodes) → nodes.now ≡ listed None 0 t → lists_of f.below.items ≡ below_from 0 t) }

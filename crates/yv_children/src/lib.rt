@@ -1,4 +1,4 @@
-//! Which schema nodes stand at the top, and which below each node (RFC 7950, section 4.2.2), of nodes that stand in a list, each behind the
+//! Which schema nodes are at the top, and which below each node (RFC 7950, section 4.2.2), of the nodes of a list that has each after the
 //! one above it. Takes time and memory linear in nodes.
 #![tactic(auto)]
 

@@ -12,8 +12,8 @@ use crate::stack::{MOST_OPEN, Stack};
 use crate::word::Word;
 use std::marker::Model;
 
-/// Finds the truth of an expression in one pass over its words, without memory of their number: it keeps only what
-/// is known inside and outside of the parentheses that are open, of which there are at most 64.
+/// Finds the truth of an expression in one pass over its words, in constant memory: it keeps only what
+/// is known inside and outside of the open parentheses, at most 64 of them.
 ///
 /// A caller looks each name up by itself:
 ///
@@ -58,7 +58,7 @@ impl Evaluator {
         }
     }
 
-    /// Reads one more word. Whether it holds counts for a name alone.
+    /// Reads one more word. Whether it holds counts only for a name.
     pub fn take(&mut self, word: Word<'_>, holds: bool)
         ensures { (names : List ℕ → Bool) (before : List Token) → HasRead names self.old before
             → Agrees names (shown word.entry) holds → HasRead names self.new (before ++ shown word.entry ∷ []) }
@@ -100,7 +100,7 @@ impl Evaluator {
         }
     }
 
-    /// The truth of the expression that the words are, or `None` where they are none.
+    /// The truth of the expression that the words are, or `None` where they are not an expression.
     pub fn truth(&self) -> Option<bool>
         ensures { (names : List ℕ → Bool) (tokens : List Token) → HasRead names self.now tokens
             → IsTruth names tokens result }

@@ -1,4 +1,4 @@
-//! What is known of an expression of which a part is read.
+//! What is known of an expression that is partly read.
 ghost use Rattle.std.specs.Prelude.{◌≡◌};
 ghost use Rattle.yv_condition.specs.Known.{empty, holds, turned, with_factor, with_or};
 

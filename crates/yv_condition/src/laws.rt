@@ -1,4 +1,4 @@
-//! Laws of the definitions alone.
+//! Laws about the definitions only.
 ghost use Rattle.std.specs.Prelude.{◌≡◌, ◌⊎◌, ℕ, List};
 ghost use Rattle.yv_condition.specs.Condition.{Condition, Spells, names_in};
 ghost use Rattle.yv_condition.specs.Tokens.{names_among, tokens};

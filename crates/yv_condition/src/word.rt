@@ -55,7 +55,7 @@ fn read_name(text: &[u8]) -> Word<'_>
     }
 }
 
-/// The words of a text: what stands between blanks. Each parenthesis is a word of its own.
+/// The words of a text: what is between blanks. Each parenthesis is a word of its own.
 #[derive(Clone, Copy)]
 pub struct Words<'a> {
     rest: &'a [u8],

@@ -1,6 +1,6 @@
-//! Whether a word stands twice in a text, told without taking memory.
+//! Whether a word occurs twice in a text, found without allocating memory.
 //!
-//! Words that fill a table on the stack are sorted there, the words behind them are sought among them, and so on. So n
+//! Words that fill a table on the stack are sorted there, the words after them are looked up among them, and so on. So n
 //! words cost about n * n / (2 * N) searches by a table of N words: three seconds for 4 MiB of different short words.
 ghost use Rattle.std.specs.Prelude.{◌≡◌, ◌≤◌, ◌<◌, ℕ, [], ◌++◌, length, map, take};
 ghost use Rattle.std.specs.List.{list_any};
@@ -19,7 +19,7 @@ const FEW: usize = 256;
 /// How many words a large table holds.
 const MANY: usize = 16_384;
 
-/// Whether no word of a text stands twice.
+/// Whether no word of a text occurs twice.
 pub fn none_twice(text: &[u8]) -> bool
     ensures { result ≡ none_twice (words text.now) }
 {

@@ -23,14 +23,14 @@ use yv_statement::{Code, Refusal, Statement, lesser, refused};
 /// - `Unsupported`: `must`, `when`, `deviation` or `deviate`, a `default` of a leaf-list, a leafref's path with a
 ///   predicate or a function, or the type `instance-identifier`;
 /// - `UnknownStatement`: a keyword without prefix that the language doesn't have;
-/// - `Cardinality`: a root that is no module or submodule, a child that may not stand where it does or is one too many,
+/// - `Cardinality`: a root that is not a module or submodule, a child that is not allowed where it is or is one too many,
 ///   or the parent of one that is missing;
 /// - `BadArgument`: an argument against its grammar, one that is missing, or one too many.
 ///
-/// It names the file as 0. A statement whose keyword has a prefix is an extension's: it may stand anywhere but at the
+/// It names the file as 0. A statement whose keyword has a prefix is an extension's: it is allowed everywhere except at the
 /// root, and nothing in it is looked at.
 ///
-/// No memory is taken. The time is in proportion to the statements and their arguments, but for a `key`: one of n
+/// No memory is allocated. The time is in proportion to the statements and their arguments, except for a `key`: one of n
 /// different names costs about n * n / 32,768 searches in a table, which is a second for 500,000 names.
 pub fn conform(root: &Statement) -> Result<(), Refusal>
     ensures fits { IsOk result ↔ Fits root.now }

@@ -1,11 +1,11 @@
-//! Which statements may stand in the block of which, and how often.
+//! Which substatements each statement may have, and how often.
 ghost use Rattle.std.specs.Prelude.{◌≡◌, map};
 ghost use Rattle.yv_conform.specs.InnerEntries.{row};
 ghost use Rattle.yv_conform.specs.Table.{is_one, rows_of};
 
 use crate::keyword::Keyword;
 
-/// How often a child may stand in a block.
+/// How often a substatement may occur in a block.
 #[derive(Clone, Copy, PartialEq, Eq, Debug)]
 pub enum Occurs {
     /// Exactly once.
@@ -24,7 +24,7 @@ impl Occurs {
     }
 }
 
-/// A child that may stand in a block.
+/// A substatement that is allowed in a block.
 pub struct Row {
     pub child: Keyword,
     pub occurs: Occurs,

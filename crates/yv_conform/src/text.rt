@@ -1,4 +1,4 @@
-//! The forms of arguments that are told by a text alone.
+//! The forms of arguments that can be checked from the text only.
 ghost use Rattle.std.specs.Prelude.{◌≡◌, ◌<◌, ◌==◌, ◌^◌};
 ghost use Rattle.std.specs.List.{list_all};
 ghost use Rattle.yv_conform.specs.Bytes.{is_digit};
@@ -31,7 +31,7 @@ pub fn is_absolute_path(text: &[u8]) -> bool
     }
 }
 
-/// An absolute path, or a descendant one behind one `../` or more (RFC 7950, section 9.9.2).
+/// An absolute path, or a descendant one after one `../` or more (RFC 7950, section 9.9.2).
 pub fn is_leafref_path(text: &[u8]) -> bool
     ensures { result ≡ is_leafref_path text.now }
 {

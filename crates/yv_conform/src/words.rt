@@ -5,7 +5,7 @@ ghost use Rattle.yv_conform.specs.Bytes.{is_blank};
 ghost use Rattle.yv_conform.specs.Words.{words};
 ghost use Rattle.yv_conform.specs.InnerWords.{word_len, words_left};
 
-/// The words of a text: what stands between blanks.
+/// The words of a text: what is between blanks.
 #[derive(Clone, Copy)]
 pub struct Words<'a> {
     rest: &'a [u8],

@@ -1,4 +1,4 @@
-//! Laws of the definitions alone.
+//! Laws about the definitions only.
 ghost use Rattle.std.specs.Prelude.{◌≡◌, ℕ, List, Option, Some, map, slice_get};
 ghost use Rattle.yv_rows.specs.Files.{Brief, Files, brief_of};
 ghost use Rattle.yv_rows.specs.Listed.{rows_of};
@@ -15,7 +15,7 @@ pub fn a_type_has_one_default()
     yv_rows::laws::a_name_means_one_thing();
 }
 
-/// A prefix that stands for the module of a file, by where it is declared, stands for that file's name where texts are read.
+/// A prefix that is declared for the module of a file means that file's name where texts are read.
 pub fn a_prefix_stands_for_its_module()
     ensures { (files : Files) (file m : ℕ) (prefix : List ℕ) (f : Brief) → file_of (map brief_of files) (rows_of files) file prefix ≡ Some m
         → slice_get (map brief_of files) m ≡ Some f → module_of (bindings_in files file) prefix ≡ Some f.name }

@@ -98,7 +98,7 @@ fn bare_scopes(alloc: Global, rows: &Rows<'_, '_>) -> Result<Vec<Scope>, AllocEr
     Ok(scopes)
 }
 
-/// For each file the scope by which its texts are read, its module and its prefixes, in time linear in statements.
+/// For each file the module and the prefixes by which its texts are read, in time linear in statements.
 pub fn scopes_of(alloc: Global, rows: &Rows<'_, '_>) -> Result<Vec<Scope>, AllocError>
     ensures { IfOk result (λ scopes. AreScopes (lent_in rows.now) scopes.items) }
 {

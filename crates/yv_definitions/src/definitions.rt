@@ -38,7 +38,7 @@ use yv_types::Types;
 use yv_values::{Matchers, PlainType, Scope};
 
 /// What the numbered statements of files say of the nodes that they define, each read once. Contracts see the files, and
-/// what their `type` statements stand for.
+/// what their `type` statements mean.
 #[derive(Drop)]
 pub struct Definitions<'r, 'a, 'b> {
     alloc: Global,
@@ -97,7 +97,7 @@ impl<'r, 'a, 'b> Definitions<'r, 'a, 'b> {
         })
     }
 
-    /// What is said of a node of this origin, where no refine changes it. It is that of all other nodes of this origin, but for an input
+    /// What is said of a node of this origin, where no refine changes it. It is that of all other nodes of this origin, except for an input
     /// or output that isn't written.
     pub fn of(&self, origin: Origin) -> Result<Definition, AllocError>
         ensures { IfOk result (λ d. d ≡ refined (typing_in self.now) (files_in self.now) origin []) }
@@ -109,7 +109,7 @@ impl<'r, 'a, 'b> Definitions<'r, 'a, 'b> {
         }
     }
 
-    /// What is said of a node of this origin, of which this is said, as these refines, which are numbered statements, change it further,
+    /// What is said of a node of this origin, given what was said so far, once these refines (numbered statements) change it further,
     /// in order (RFC 7950, section 7.13.2). It shares with it what they don't change, and takes time and memory for what they do. The value
     /// of a default that one of them gives is read anew; the matchers are kept of the types' patterns from one default to the next.
     pub fn more(
@@ -139,7 +139,7 @@ impl<'r, 'a, 'b> Definitions<'r, 'a, 'b> {
         changed.finish(self.alloc)
     }
 
-    /// What the type of a node of this origin says as a leafref (RFC 7950, section 9.9): None where it is none.
+    /// What the type of a node of this origin says as a leafref (RFC 7950, section 9.9): None where it is not a leafref.
     pub fn referring(&self, origin: Origin) -> Option<Referring>
         ensures { result ≡ referring (typing_in self.now) (files_in self.now) origin }
     {

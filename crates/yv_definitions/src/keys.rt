@@ -1,4 +1,4 @@
-//! The paths that stand in blocks: those of keys, of `unique` statements and of leafrefs.
+//! The paths in blocks: those of keys, of `unique` statements and of leafrefs.
 ghost use Rattle.std.specs.Prelude.{◌≡◌, ◌∷◌, [], ◌++◌, ℕ, map, IfOk, OnOk};
 ghost use Rattle.yv_statement.specs.Tree.{End, trees};
 ghost use Rattle.yv_rows.specs.Files.{Files};

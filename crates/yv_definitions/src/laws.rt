@@ -1,4 +1,4 @@
-//! Laws of the definitions alone. These functions do nothing: the contract of each is the law.
+//! Laws about the definitions only. These functions do nothing: the contract of each is the law.
 ghost use Rattle.std.specs.Prelude.{◌≡◌};
 ghost use Rattle.yv_selection.specs.Choice.{Choice};
 ghost use Rattle.yv_rows.specs.Files.{Files};
@@ -7,7 +7,7 @@ ghost use Rattle.yv_types.specs.Known.{AreTypes};
 ghost use Rattle.yv_types.specs.declared.known.Types.{Types};
 ghost use Rattle.yv_definitions.specs.Kinds.{AreTyped, Typing, typing_of};
 
-/// What the types of files tell of each `type` statement are its plain types, its default and what it says as a leafref, and nothing where it
+/// What the types of files answer for each `type` statement is its plain types, its default and what it says as a leafref, and nothing if it
 /// has none.
 pub fn types_tell_typing()
     ensures { (files : Files) (choice : Choice) (truth : Truth) (types : Types) → AreTypes files choice truth types

@@ -1,4 +1,4 @@
-//! What is shared by all nodes of which something isn't said.
+//! What is shared by all nodes that lack something.
 ghost use Rattle.std.specs.Prelude.{◌≡◌, [], IfOk};
 ghost use Rattle.std.specs.Rc.{rc_slice_items, rc_str_bytes};
 
@@ -7,7 +7,7 @@ use std::rc::{Rc, RcSlice, RcStr};
 use yv_properties::{Keys, PathPiece, PathStep};
 use yv_values::{PlainType, Value};
 
-/// A text, types, keys, paths and values, none of which has anything in it: a node of which nothing of a kind is said shares these.
+/// Empty texts, types, keys, paths and values: a node that has nothing of a kind shares these.
 #[derive(Drop)]
 pub(crate) struct Nothing {
     text: RcStr,

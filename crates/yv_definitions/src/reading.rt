@@ -121,7 +121,7 @@ fn lasting_at<'t>(types: &'t Types, file: u32, offset: u64) -> &'t [PlainType]
     }
 }
 
-/// The types that the `type` statement of its block stands for, as a list that lasts as long as the types of the files.
+/// The types that the `type` statement of its block means, as a list that lasts as long as the types of the files.
 pub(crate) fn lasting_types<'t>(
     types: &'t Types,
     file: u32,

@@ -2,9 +2,10 @@
 use Rattle.std.specs.Prelude.{◌≡◌, ◌<◌, ℕ, List, Some, slice_get}
 use Rattle.yv_expansion.specs.Tree.{Item}
 
--- what contracts see of an `Expansion`
+-- what contracts see of an `Expansion`: its limit, how many items the memory that was asked for has room for, and the items
 pub record Bounded : Type 0 where
   pub limit : ℕ
+  pub capacity : ℕ
   pub items : List Item
 
 -- each parent stands before its items

@@ -5,7 +5,7 @@ use crate::item::Item;
 use std::alloc::{AllocError, Global};
 use std::marker::Model;
 
-/// Items with numbers from 0, each behind its parent, and never more than a limit. Contracts see the limit and the items.
+/// Items with numbers from 0, each after its parent, and never more than a limit. Contracts see the limit and the items.
 #[derive(Drop)]
 pub struct Expansion {
     limit: u32,
@@ -13,12 +13,12 @@ pub struct Expansion {
 }
 
 impl Model for Expansion {
-    ghost use Rattle.std.specs.Prelude.{◌≤◌, length};
+    ghost use Rattle.std.specs.Prelude.{◌≤◌, length, vec_capacity};
     ghost use Rattle.yv_expansion.specs.Bounded.{Bounded, ParentsComeFirst};
 
     ghost Value = { Bounded };
 
-    ghost view = { λ a. record { limit = a.limit; items = a.items.items } };
+    ghost view = { λ a. record { limit = a.limit; capacity = vec_capacity a.items; items = a.items.items } };
 
     ghost invariant = { λ a. (length a.items.items ≤ a.limit) × ParentsComeFirst a.items.items };
 }
@@ -53,7 +53,7 @@ impl Expansion {
         self.items.len() as u32
     }
 
-    /// Whether there is none.
+    /// Whether there are no items.
     pub fn is_empty(&self) -> bool
         ensures { result ≡ (length self.now.items == 0) }
     {
@@ -68,12 +68,15 @@ impl Expansion {
         self.items.as_slice()
     }
 
-    /// Adds an item behind the others. There must be room, and its parent must be there.
+    /// Adds an item after the others. There must be room, and its parent must be there. An error, which changes nothing, occurs
+    /// only where more memory had to be allocated.
     pub fn push(&mut self, item: Item) -> Result<(), AllocError>
         requires room { length self.old.items < self.old.limit }
         requires parent { (p : ℕ) → item.parent ≡ Some p → p < length self.old.items }
         ensures added { OnOk result (self.new.items ≡ self.old.items ++ item ∷ []) }
         ensures same { OnErr result (self.new.items ≡ self.old.items) }
+        ensures full { OnErr result (self.old.capacity ≤ length self.old.items) }
+        ensures kept { self.old.capacity ≤ self.new.capacity }
         ensures limit { self.new.limit ≡ self.old.limit }
     {
         self.items.push(item)?;

@@ -26,16 +26,16 @@ impl Origin {
     }
 }
 
-/// What stands in a list of items, each before those below it.
+/// An entry of a list of items, each before those below it.
 #[derive(Clone, Copy, Debug, PartialEq, Eq)]
 pub struct Placed<O> {
     /// What it is made of.
     pub origin: O,
-    /// The number of the one below which it stands. None at the top.
+    /// The number of the item above it. None at the top.
     pub parent: Option<usize>,
 }
 
-/// A copy of a statement that gives a schema node, the input or output of an operation, or a uses, which stands above what it
+/// A copy of a statement that gives a schema node, the input or output of an operation, or a uses, which is above what it
 /// copies and what its augments give.
 pub type Item = Placed<Origin>;
 

@@ -1,4 +1,4 @@
-//! Laws of the definitions alone.
+//! Laws about the definitions only.
 ghost use Rattle.std.specs.Prelude.{◌≡◌, ℕ, List, Some};
 ghost use Rattle.yv_statement.specs.Tree.{Tree};
 ghost use Rattle.yv_values.specs.Scopes.{Place, text_value};

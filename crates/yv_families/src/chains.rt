@@ -1,4 +1,4 @@
-//! Numbers of one place, each of which leads to the next.
+//! Numbers of one place, each linked to the next.
 ghost use Rattle.std.specs.Prelude.{◌≡◌, ◌<◌, ◌++◌, ℕ, List, length, IfOk, OnOk};
 ghost use Rattle.yv_families.specs.InnerChains.{AreChains, IsChain, Linked};
 
@@ -45,7 +45,7 @@ impl Chains {
         Ok(chains)
     }
 
-    /// Writes the numbers at a place behind others.
+    /// Appends the numbers at a place to others.
     pub(crate) fn write(&self, place: usize, numbers: &mut Vec<usize>) -> Result<(), AllocError>
         requires place { place < length self.now.firsts.items }
         requires chain { (ks : List ℕ) × IsChain self.now place ks }

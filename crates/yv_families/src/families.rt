@@ -45,8 +45,8 @@ impl Model for Families {
 }
 
 impl Families {
-    /// The numbers at each of so many places, `places` telling the place of each number. A number at a later place is left
-    /// out. Takes time and memory linear in numbers and places. Err for want of memory alone.
+    /// The numbers at each of so many places; `places` gives the place of each number. A number at a later place is left
+    /// out. Takes time and memory linear in numbers and places. Err only if memory runs out.
     pub fn new(
         alloc: Global,
         places: &[Option<usize>],

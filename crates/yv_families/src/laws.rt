@@ -1,4 +1,4 @@
-//! Laws of the definitions alone.
+//! Laws about the definitions only.
 ghost use Rattle.std.specs.Prelude.{◌≡◌, ◌<◌, ◌↔◌, ℕ, [], List, Option, Some, Contains, slice_get, slice_index_or};
 ghost use Rattle.yv_families.specs.Families.{by_place, numbers_at};
 

@@ -1,4 +1,4 @@
-//! Numbers by the places at which they stand, as statements by the block in which they do.
+//! Numbers by their places, as statements by the block that contains them.
 #![tactic(auto)]
 
 mod chains;

@@ -11,7 +11,7 @@ use yv_streams::{Counted, write_whole};
 /// How many bytes a page holds.
 const ROOM: usize = 8192;
 
-/// Bytes that are still to be written to a stream, which gets them when there is no more room, or when the page is turned. It takes no
+/// Bytes that are still to be written to a stream, once the room is used up or the page is turned. It allocates no
 /// memory. Contracts see it as these bytes.
 #[derive(Drop)]
 pub(crate) struct Page {
@@ -107,7 +107,7 @@ impl Page {
         }
     }
 
-    /// Puts bytes behind the others, and writes each full page. Nothing is put behind bytes that were lost: a writer that has failed
+    /// Puts bytes after the others, and writes each full page. Nothing is put after bytes that were lost: a writer that has failed
     /// gets no more.
     pub(crate) fn put<W: Write>(&mut self, writer: &mut Counted<W>, bytes: &[u8])
         ensures { Adds bytes.now (held (W.contents (stream_inner writer.old)) (has_failed writer.old) (stream_failures writer.old) self.old)

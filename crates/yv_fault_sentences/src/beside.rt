@@ -1,4 +1,4 @@
-//! The nodes that stand in one object.
+//! The nodes in one object.
 use crate::spot::{children_at, node_at};
 use std::alloc::{AllocError, Global};
 use yv_nodes::{Node, NodeId};
@@ -9,7 +9,7 @@ use yv_validate::MemberName;
 /// How many nodes of an object are looked at.
 const MOST_NODES: usize = 1000;
 
-/// The first 1,000 nodes below a node or the root, and behind them those in choices and cases, which stand in the same object.
+/// The first 1,000 nodes below a node or the root, and after them those in choices and cases, which are in the same object.
 pub(crate) fn beside(
     alloc: Global,
     schema: &Schema,
@@ -46,7 +46,7 @@ fn is_passed(schema: &Schema, id: NodeId) -> bool {
     }
 }
 
-/// The choice of a name that stands in an object of a node.
+/// The choice of a name that is in an object of a node.
 pub(crate) fn choice_of(
     alloc: Global,
     schema: &Schema,

@@ -26,7 +26,7 @@ pub(crate) fn item_column<'s>(
     Ok(columns)
 }
 
-/// The columns of these leafs of a list; none, where one of them stands deeper.
+/// The columns of these leafs of a list; none, where one of them is deeper.
 pub(crate) fn columns<'s>(
     alloc: Global,
     schema: &'s Schema,

@@ -1,4 +1,4 @@
-//! What a person is told of the faults of a document, besides their lines: what is wrong at each place and what to do. However long
+//! Sentences on the faults of a document for a person, besides their lines: what is wrong at each place and what to do. However long
 //! names and paths are, the text has some kilobytes.
 #![tactic(auto)]
 

@@ -3,10 +3,10 @@ use itoa::Buffer;
 use std::alloc::AllocError;
 use yv_values::{Integer, Span};
 
-/// How many intervals are told.
+/// How many intervals are listed.
 const MOST_SPANS: usize = 4;
 
-/// Adds intervals of numbers that are scaled by so many digits behind the point, of many the first 4.
+/// Adds intervals of numbers that are scaled by so many fraction digits, of many the first 4.
 pub(crate) fn push_spans(
     text: &mut String,
     spans: &[Span],

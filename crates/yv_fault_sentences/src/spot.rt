@@ -16,7 +16,7 @@ pub(crate) struct Spot<'d> {
     pub(crate) around: Option<NodeId>,
     /// The object around it, where the document has it.
     pub(crate) object: Option<&'d Value>,
-    /// The node that stands there, if a member can name it.
+    /// The node at this place, if a member can name it.
     pub(crate) node: Option<NodeId>,
     /// What the member writes.
     pub(crate) written: Option<&'d Value>,

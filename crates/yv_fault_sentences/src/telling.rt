@@ -13,11 +13,11 @@ use std::alloc::{AllocError, Global};
 use yv_tables::Schema;
 use yv_validate::Fault;
 
-/// How many faults are told of.
+/// How many faults are explained.
 const MOST_TOLD: usize = 20;
 
 /// A line for each of the first 20 faults of a document, which says what is wrong there and what to do, and one of how many more
-/// there are. Each begins as the fault's line; of a long path the last steps stand there. Of names and paths of any length the text
+/// there are. Each begins as the fault's line; of a long path it has the last steps. However long names and paths are, the text
 /// has fewer than 30,000 bytes, and nothing that could drive a terminal.
 pub fn sentences(
     alloc: Global,

@@ -7,7 +7,7 @@ use yv_messages::push_quoted;
 use yv_nodes::Node;
 use yv_values::{DecimalType, Integer, Intervals, PlainType, TextType, WholeType};
 
-/// How many types of a union are told.
+/// How many types of a union are listed.
 const MOST_TYPES: usize = 4;
 
 /// Adds the name of a node's type, and what it takes in place of a value.

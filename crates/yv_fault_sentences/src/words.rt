@@ -5,7 +5,7 @@ use yv_messages::push_quoted;
 use yv_nodes::NodeId;
 use yv_tables::Schema;
 
-/// How many names are told.
+/// How many names are listed.
 const MOST_NAMES: usize = 8;
 
 /// Adds the names of the nodes of these numbers in quotes, of many the first 8.

@@ -28,7 +28,7 @@ pub struct Features<'a> {
 }
 
 impl<'a> Features<'a> {
-    /// The features of files, of which those are on that are supported and whose own conditions hold. Refused are a name
+    /// The features of files. A feature is on if it is supported and its own conditions hold. Refused are a name
     /// in a condition that means no feature, and a feature that depends on itself, perhaps by way of others.
     pub fn read(
         alloc: Global,
@@ -51,7 +51,7 @@ impl<'a> Features<'a> {
         }
     }
 
-    /// Whether the expression of an `if-feature` holds in a file. A text that is no expression doesn't, nor does one with
+    /// Whether the expression of an `if-feature` holds in a file. A text that is not an expression doesn't, nor does one with
     /// a name that means no feature.
     pub fn holds(&self, rows: &Rows<'a, '_>, file: usize, text: &'a str) -> bool
         ensures truth { result ≡ truth_of self.now (lent_in rows.now) file text.now }

@@ -1,4 +1,4 @@
-//! Laws of the definitions alone.
+//! Laws about the definitions only.
 ghost use Rattle.std.specs.Prelude.{◌≡◌, ℕ, Bool, List, None};
 ghost use Rattle.yv_statement.specs.Order.{IsLeast};
 ghost use Rattle.yv_selection.specs.Choice.{Choice};
@@ -8,7 +8,7 @@ ghost use Rattle.yv_features.specs.Features.{AreFeatures, Tell, truth_of};
 ghost use Rattle.yv_features.specs.On.{Holds};
 ghost use Rattle.yv_features.specs.declared.features.Features.{Features};
 
-/// What the features that were found tell of an expression in a file is its value by them, and no other.
+/// What the features that were found answer for an expression in a file is its value by them, and no other.
 pub fn features_tell_the_value()
     ensures told { (features : Features) (files : Files) (file : ℕ) (text : List ℕ)
         → Tell features files file text (truth_of features files file text) }
@@ -18,7 +18,7 @@ pub fn features_tell_the_value()
     yv_condition::laws::a_text_spells_one_condition();
 }
 
-/// What the features of files tell of an expression is its truth, whatever the file and the text.
+/// What the features of files answer for an expression is its truth, whatever the file and the text.
 pub fn features_tell_what_holds()
     ensures { (files : Files) (choice : Choice) (features : Features) → AreFeatures files choice features
         → (file : ℕ) (text : List ℕ) → Holds files choice file text (truth_of features files file text) }

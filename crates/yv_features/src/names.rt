@@ -14,7 +14,7 @@ use std::alloc::AllocError;
 use yv_condition::{Evaluator, Word, Words};
 use yv_rows::{Entry, Places, Rows, local};
 
-/// The statements of files, and where the names of features stand first.
+/// The statements of files, and where each name of a feature occurs first.
 #[derive(Clone, Copy)]
 pub(crate) struct Names<'r, 'a, 'b> {
     pub rows: &'r Rows<'a, 'b>,

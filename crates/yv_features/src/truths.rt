@@ -81,7 +81,7 @@ impl<'a, 'b> Names<'_, 'a, 'b> {
         both(supported, hold)
     }
 
-    /// Marks the features that are on. The order has each statement behind all that it leads to.
+    /// Marks the features that are on. The order has each statement after all that it leads to.
     pub fn truths(
         &self,
         alloc: Global,

@@ -10,7 +10,7 @@ use std::alloc::{AllocError, Global};
 use yv_source::{Source, parse};
 use yv_statement::{Refusal, Statement, Stop};
 
-/// A refusal of one file, told of the file of this number.
+/// A refusal of one file, reported for the file of this number.
 pub(crate) fn in_file(number: usize, refusal: Refusal) -> Result<Refusal, AllocError>
     ensures { IfOk result (λ r. r ≡ in_file number refusal) }
 {

@@ -13,7 +13,7 @@ use yv_source::Source;
 use yv_statement::{Refusal, Statement, Stop};
 use yv_streams::Input;
 
-/// The texts of files, up to the first whose bytes are none. Statements borrow from them.
+/// The texts of files, up to the first whose bytes are not text. Statements borrow from them.
 #[derive(Drop)]
 pub struct Texts {
     pub(crate) sources: Vec<Source>,
@@ -22,7 +22,7 @@ pub struct Texts {
 }
 
 impl Texts {
-    /// The texts of files that were read, up to the first whose bytes are none. No memory for more than 2 to the 32.
+    /// The texts of files that were read, up to the first whose bytes are not text. No memory for more than 2 to the 32.
     pub fn read(alloc: Global, inputs: &[Input]) -> Result<Texts, AllocError>
         ensures { IfOk result (AreTexts (map file_of inputs.now)) }
     {

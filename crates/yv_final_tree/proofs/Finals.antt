@@ -13,18 +13,16 @@ use Rattle.yv_augments.specs.Tree.{IsTree, Tree, none, item, listed}
 use Rattle.yv_augments.specs.Turns.{State}
 use Rattle.yv_augments.specs.declared.row.Row.{Row as Standing}
 use Rattle.yv_augmented.specs.Grafted.{AreGrafted}
-use Rattle.yv_augmented.specs.Imposing.{is_given}
-use Rattle.yv_siblings.specs.Arranged.{arranged}
-use Rattle.yv_final_tree.proofs.Arranging.{count_arranged}
+use Rattle.yv_augments.specs.declared.label.Label.{Label}
 use Rattle.yv_augmented.specs.Left.{is_left, left}
-use Rattle.yv_augmented.specs.Spots.{Whole, whole}
+use Rattle.yv_augmented.specs.Spots.{Whole, labels_of, laid, whole}
 use Rattle.yv_augmented.specs.declared.spot.Spot.{Spot}
 use Rattle.yv_augmented.proofs.Bounds.{laid_whole}
 use Rattle.yv_item_marks.specs.Conditions.{Truth}
 use Rattle.yv_final_tree.specs.Final.{Final, IsFinal, spots_of, whole_of}
 use Rattle.yv_final_tree.specs.Given.{marks_of, order_of}
 use Rattle.yv_final_tree.specs.Left.{AreLeft, nodes_of}
-use Rattle.yv_final_tree.proofs.Standing.{every_arranged, every_left, every_node, every_row, Stands}
+use Rattle.yv_final_tree.proofs.Standing.{every_left, every_node, every_row, Stands}
 
 pub slice_get_absent : {X : Type 0} (xs : List X) (i : ℕ) → slice_get xs i ≡ None → length xs ≤ i
 slice_get_absent [] i e = omega arith
@@ -40,7 +38,7 @@ abbrev pub OneState : Type 0
 OneState = (w : Whole) (items : List Item) (a b : State) → AreGrafted w items a → AreGrafted w items b → a ≡ b
 
 abbrev pub OneTree : Type 0
-OneTree = (groups : Groups) (a b : Tree) → IsTree groups a → IsTree groups b → a ≡ b
+OneTree = (labels : List Label) (groups : Groups) (a b : Tree) → IsTree labels groups a → IsTree labels groups b → a ≡ b
 
 pub final_one : OneWhole → OneState → OneTree → (choice : Choice) (files : Files) (a b : Final) → IsFinal choice files a → IsFinal choice files b → a ≡ b
 final_one one_whole one_state one_tree choice files a b p q =
@@ -48,23 +46,28 @@ final_one one_whole one_state one_tree choice files a b p q =
     let augments : a.augments ≡ b.augments = p.augments ∙ sym q.augments in
     let briefs = map brief_of files in
     let rows = rows_of files in
+    let labels_in : List ℕ → List Item → List Label = λ ks xs. labels_of (laid (whole briefs rows ks (length xs)) xs).spots in
     let moved : AreGrafted (whole_of files b) b.items a.state =
     subst (λ (ks : List ℕ). AreGrafted (whole briefs rows ks (length b.items)) b.items a.state) augments
     (subst (λ (xs : List Item). AreGrafted (whole briefs rows a.augments (length xs)) xs a.state) items p.grafted) in
     let state : a.state ≡ b.state = one_state (whole_of files b) b.items a.state b.state moved q.grafted in
     let tree : a.tree ≡ b.tree =
-    one_tree b.state.groups a.tree b.tree (subst (λ (st : State). IsTree st.groups a.tree) state p.is_tree) q.is_tree in
+    one_tree (labels_in b.augments b.items) b.state.groups a.tree b.tree
+    (subst (λ (st : State). IsTree (labels_in b.augments b.items) st.groups a.tree) state
+    (subst (λ (ks : List ℕ). IsTree (labels_in ks b.items) a.state.groups a.tree) augments
+    (subst (λ (xs : List Item). IsTree (labels_in a.augments xs) a.state.groups a.tree) items p.is_tree)))
+    q.is_tree in
     λ i. record { items = items i; augments = augments i; state = state i; tree = tree i }
 
 abbrev pub Once : Type 0
 Once = (w : Whole) (items : List Item) (st : State) → w.items ≡ length items → AreGrafted w items st → EachOnce (length items) st.groups
 
 abbrev pub Within : Type 0
-Within = (groups : Groups) (items k : ℕ) (row : Standing) (t : Tree) → IsTree groups t → EachOnce items groups → slice_get (listed None 1 t) k ≡ Some row
+Within = (labels : List Label) (groups : Groups) (items k : ℕ) (row : Standing) (t : Tree) → IsTree labels groups t → EachOnce items groups → slice_get (listed None 1 t) k ≡ Some row
     → row.number < items
 
 abbrev pub Counted : Type 0
-Counted = (groups : Groups) (items : ℕ) (t : Tree) → IsTree groups t → EachOnce items groups → length (listed None 1 t) ≤ items
+Counted = (labels : List Label) (groups : Groups) (items : ℕ) (t : Tree) → IsTree labels groups t → EachOnce items groups → length (listed None 1 t) ≤ items
 
 count_listed : (parent : Option ℕ) (depth : ℕ) (t : Tree) → count (nodes_of t) ≡ length (listed parent depth t)
 count_listed parent depth none = refl
@@ -94,9 +97,8 @@ module _ (choice : Choice) (files : Files) (truth : Truth) (f : Final) (is : IsF
   pub left_within : Once → Counted → (nodes : Nodes) → AreLeft truth files f nodes → count nodes ≤ length f.items
   left_within once counted nodes are =
       let kept : ℕ → Bool = is_left (spots_of files f) are.marks in
-      let given : ℕ → Bool = is_given (spots_of files f) f.augments in
-      let e : count nodes ≡ count (nodes_of (arranged given (left kept f.tree))) = ap count are.are in
-      omega (arith, e, count_arranged given (left kept f.tree), count_left kept f.tree, count_listed None 1 f.tree, counted f.state.groups (length f.items) f.tree is.is_tree (stand_once once))
+      let e : count nodes ≡ count (nodes_of (left kept f.tree)) = ap count are.are in
+      omega (arith, e, count_left kept f.tree, count_listed None 1 f.tree, counted (labels_of (spots_of files f)) f.state.groups (length f.items) f.tree is.is_tree (stand_once once))
 
   -- what is left stands as it does in the final tree
   pub left_stands : (P : Option ℕ → ℕ → Type 0) → ((k : ℕ) (row : Standing) → slice_get (listed None 1 f.tree) k ≡ Some row → P row.parent row.number)
@@ -104,9 +106,8 @@ module _ (choice : Choice) (files : Files) (truth : Truth) (f : Final) (is : IsF
       → Stands P None None 0 (expansion.listed None 0 nodes) x
   left_stands P all nodes are k x at =
       let kept : ℕ → Bool = is_left (spots_of files f) are.marks in
-      let given : ℕ → Bool = is_given (spots_of files f) f.augments in
       subst (λ (n : Nodes). Stands P None None 0 (expansion.listed None 0 n) x) (sym are.are)
-      (every_node P None None 0 (arranged given (left kept f.tree)) (every_arranged P given None (left kept f.tree) (every_left P kept None f.tree (every_row P None 1 f.tree all))) k x
+      (every_node P None None 0 (left kept f.tree) (every_left P kept None f.tree (every_row P None 1 f.tree all)) k x
       (ap (λ (n : Nodes). slice_get (expansion.listed None 0 n) k) (sym are.are) ∙ at))
 
   pub item_spot : (i : ℕ) → i < length f.items → (s : Spot) × (slice_get (spots_of files f) i ≡ Some s)
@@ -123,7 +124,7 @@ module _ (choice : Choice) (files : Files) (truth : Truth) (f : Final) (is : IsF
       → (s : Spot) × (slice_get (spots_of files f) x.origin ≡ Some s)
   left_items once within nodes are k x at =
       item_spot x.origin (elim (left_stands IsItem
-      (λ j row there. within f.state.groups (length f.items) j row f.tree is.is_tree (stand_once once) there) nodes are k x at) [
+      (λ j row there. within (labels_of (spots_of files f)) f.state.groups (length f.items) j row f.tree is.is_tree (stand_once once) there) nodes are k x at) [
         | inl top ↦ top.1
         | inr s ↦ s.4
       ])

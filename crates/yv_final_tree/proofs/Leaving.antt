@@ -14,8 +14,6 @@ use Rattle.yv_augmented.specs.Left.{is_left, is_marked, is_uses_by, left}
 use Rattle.yv_augmented.specs.Spots.{Laid, Whole, laid, laid_from, one_more, spot_of}
 use Rattle.yv_augmented.specs.declared.spot.Spot.{Spot}
 use Rattle.yv_final_tree.specs.Left.{nodes_of}
-use Rattle.yv_siblings.specs.Arranged.{arranged}
-use Rattle.yv_final_tree.proofs.Arranging.{arranged_in, arranged_once}
 use Rattle.yv_final_tree.proofs.Numbering.{among_first, among_second, apart_once, AreOnce, both_once, by_place, either, first_once, IsIn, nodes_numbers, numbers, one_place, rows_numbers, second_once}
 use Rattle.yv_final_tree.proofs.Standing.{in_lists}
 
@@ -76,19 +74,19 @@ tree_once t one = by_place (numbers t) (λ i k n at at'.
     let b = at_number (λ (r : Standing). r.number) (listed None 1 t) k n (ap (λ l. slice_get l k) (rows_numbers None 1 t) ∙ at') in
     one i k a.0 b.0 a.1 b.1 (a.2 ∙ sym b.2))
 
-pub no_node_twice : (g keep : ℕ → Bool) (t : Tree) → RowsOnce t → (i k : ℕ) (x y : Node) → slice_get (expansion.listed None 0 (nodes_of (arranged g (left keep t)))) i ≡ Some x
-    → slice_get (expansion.listed None 0 (nodes_of (arranged g (left keep t)))) k ≡ Some y → x.origin ≡ y.origin → i ≡ k
-no_node_twice g keep t one i k x y at at' same =
-    let u : Tree = arranged g (left keep t) in
+pub no_node_twice : (keep : ℕ → Bool) (t : Tree) → RowsOnce t → (i k : ℕ) (x y : Node) → slice_get (expansion.listed None 0 (nodes_of (left keep t))) i ≡ Some x
+    → slice_get (expansion.listed None 0 (nodes_of (left keep t))) k ≡ Some y → x.origin ≡ y.origin → i ≡ k
+no_node_twice keep t one i k x y at at' same =
+    let u : Tree = left keep t in
     let all : List Node = expansion.listed None 0 (nodes_of u) in
     let is = nodes_numbers None 0 u in
-    one_place (numbers u) (arranged_once g (left keep t) (left_once keep t (tree_once t one))) i k x.origin (number_at (λ (z : Node). z.origin) all _ i x is at)
+    one_place (numbers u) (left_once keep t (tree_once t one)) i k x.origin (number_at (λ (z : Node). z.origin) all _ i x is at)
     (number_at (λ (z : Node). z.origin) all _ k y is at' ∙ ap (λ n. Some n) (sym same))
 
-pub node_kept : (g keep : ℕ → Bool) (t : Tree) (k : ℕ) (x : Node) → slice_get (expansion.listed None 0 (nodes_of (arranged g (left keep t)))) k ≡ Some x → keep x.origin ≡ true
-node_kept g keep t k x at =
-    let u : Tree = arranged g (left keep t) in
-    (left_in keep t x.origin (arranged_in g (left keep t) x.origin (k, number_at (λ (z : Node). z.origin) (expansion.listed None 0 (nodes_of u)) _ k x (nodes_numbers None 0 u) at))).1
+pub node_kept : (keep : ℕ → Bool) (t : Tree) (k : ℕ) (x : Node) → slice_get (expansion.listed None 0 (nodes_of (left keep t))) k ≡ Some x → keep x.origin ≡ true
+node_kept keep t k x at =
+    let u : Tree = left keep t in
+    (left_in keep t x.origin (k, number_at (λ (z : Node). z.origin) (expansion.listed None 0 (nodes_of u)) _ k x (nodes_numbers None 0 u) at)).1
 
 -- what is known of a spot is known of its item
 module _ (w : Whole) where

@@ -9,6 +9,4 @@ pub mod Homes
 pub mod Judging
 pub mod Finishing
 mod Numbering
-mod Arranging
-mod Marking
 mod Leaving

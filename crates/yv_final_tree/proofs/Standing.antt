@@ -4,7 +4,6 @@ use Rattle.std.specs.List.{slice_get}
 use Rattle.std.proofs.lemmas.Option.{same_Some}
 use Rattle.yv_augments.specs.Tree.{Tree, none, item, listed}
 use Rattle.yv_augments.specs.declared.row.Row.{Row}
-use Rattle.yv_siblings.specs.Arranged.{arranged, chosen, is_of, joined}
 use Rattle.yv_augmented.specs.Left.{left}
 use Rattle.yv_expansion.specs.Bounded.{ParentsComeFirst}
 use Rattle.yv_expansion.specs.Tree as expansion
@@ -94,25 +93,6 @@ module _ (P : Option ℕ → ℕ → Type 0) where
           → Every parent (if b then item i (left is_kept below) (left is_kept behind) else left is_kept behind)
       by true inner outer = (all.0, (inner, outer))
       by false inner outer = outer
-
-  every_joined : (parent : Option ℕ) (a b : Tree) → Every parent a → Every parent b → Every parent (joined a b)
-  every_joined parent none b p q = q
-  every_joined parent (item i below behind) b p q = (p.0, (p.1.0, every_joined parent behind b p.1.1 q))
-
-  every_chosen : (g : ℕ → Bool) (given : Bool) (parent : Option ℕ) (t : Tree) → Every parent t → Every parent (chosen g given t)
-  every_chosen g given parent none all = tt
-  every_chosen g given parent (item i below behind) all =
-      by (is_of given (g i))
-      (every_joined (Some i) (chosen g false below) (chosen g true below) (every_chosen g false (Some i) below all.1.0) (every_chosen g true (Some i) below all.1.0))
-      (every_chosen g given parent behind all.1.1)
-    where
-      by : (b : Bool) → Every (Some i) (arranged g below) → Every parent (chosen g given behind)
-          → Every parent (if b then item i (arranged g below) (chosen g given behind) else chosen g given behind)
-      by true inner outer = (all.0, (inner, outer))
-      by false inner outer = outer
-
-  pub every_arranged : (g : ℕ → Bool) (parent : Option ℕ) (t : Tree) → Every parent t → Every parent (arranged g t)
-  every_arranged g parent t all = every_joined parent (chosen g false t) (chosen g true t) (every_chosen g false parent t all) (every_chosen g true parent t all)
 
   -- a node stands at the top of a list, or below one of its nodes
   abbrev pub StandsBelow : (first : ℕ) → List Node → Node → Type 0

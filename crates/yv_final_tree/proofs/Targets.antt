@@ -52,7 +52,7 @@ target_at labels st m (a ∷ ks) (suc k) lt =
 
 abbrev pub GivenBelow : Type 0
 GivenBelow = (w : Whole) (items : List Item) (st : State) (t : Tree) (k place : ℕ) (row : Standing) (s : Spot) → w.items ≡ length items → AreGrafted w items st
-    → IsTree st.groups t → slice_get (listed None 1 t) k ≡ Some row → slice_get (laid w items).spots row.number ≡ Some s → place < length w.augments
+    → IsTree (labels_of (laid w items).spots) st.groups t → slice_get (listed None 1 t) k ≡ Some row → slice_get (laid w items).spots row.number ≡ Some s → place < length w.augments
     → s.group ≡ copy_group w place → (p : ℕ) × (row.parent ≡ Some p) × (target_of (labels_of (laid w items).spots) st.ends place ≡ Some p)
 
 module _ (choice : Choice) (files : Files) (truth : Truth) (f : Final) (is : IsFinal choice files f) (law : GivenBelow) where

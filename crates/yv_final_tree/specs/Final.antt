@@ -11,7 +11,7 @@ use Rattle.yv_augments.specs.declared.row.Row.{Row as Standing}
 use Rattle.yv_refinements.specs.Meant.{Refined}
 use Rattle.yv_augmented.specs.Grafted.{AreGrafted}
 use Rattle.yv_augmented.specs.Refining.{refined_all}
-use Rattle.yv_augmented.specs.Spots.{Whole, laid, whole}
+use Rattle.yv_augmented.specs.Spots.{Whole, labels_of, laid, whole}
 use Rattle.yv_augmented.specs.declared.spot.Spot.{Spot}
 use Rattle.yv_changes.specs.Changes.{all_changes}
 use Rattle.yv_stated.specs.declared.stated.Stated.{Stated}
@@ -36,7 +36,7 @@ pub record IsFinal (choice : Choice) (files : Files) (f : Final) : Type 0 where
   pub expanded : IsWhole files (marks_of choice files) (order_of choice files) own f.items
   pub augments : f.augments ≡ augments_of (map brief_of files) (rows_of files) (marks_of choice files)
   pub grafted : AreGrafted (whole_of files f) f.items f.state
-  pub is_tree : IsTree f.state.groups f.tree
+  pub is_tree : IsTree (labels_of (laid (whole_of files f) f.items).spots) f.state.groups f.tree
 
 -- the items of the final tree in order
 abbrev pub standing : Final → List Standing

@@ -5,8 +5,6 @@ use Rattle.yv_rows.specs.Listed.{rows_of}
 use Rattle.yv_expansion.specs.Tree.{Nodes}
 use Rattle.yv_expansion.specs.Tree as nodes
 use Rattle.yv_augments.specs.Tree.{Tree, none, item}
-use Rattle.yv_siblings.specs.Arranged.{arranged}
-use Rattle.yv_augmented.specs.Imposing.{is_given}
 use Rattle.yv_augmented.specs.Left.{is_left, is_marked, left}
 use Rattle.yv_augmented.specs.On.{AreOn}
 use Rattle.yv_item_marks.specs.Conditions.{Truth, item_marks, statement_marks}
@@ -18,9 +16,9 @@ nodes_of none = nodes.none
 nodes_of (item i below behind) = nodes.item i (nodes_of below) (nodes_of behind)
 
 -- these are the nodes that are left: the items of the final tree that are there by their conditions and by those of what gave them, as
--- all nodes above them are; a uses is no node. Of the nodes of one parent those that an augment of a module gives stand behind the others.
+-- all nodes above them are; a uses is no node
 pub record AreLeft (truth : Truth) (files : Files) (f : Final) (left_nodes : Nodes) : Type 0 where
   pub marks : List Bool
   pub on : AreOn (rows_of files) (spots_of files f) f.items (is_marked (statement_marks truth files))
       (is_marked (item_marks (statement_marks truth files) (spots_of files f) (changes_of files f))) marks
-  pub are : left_nodes ≡ nodes_of (arranged (is_given (spots_of files f) f.augments) (left (is_left (spots_of files f) marks) f.tree))
+  pub are : left_nodes ≡ nodes_of (left (is_left (spots_of files f) marks) f.tree)

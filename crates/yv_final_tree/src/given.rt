@@ -1,5 +1,5 @@
 //! Which files give schema nodes, and in which order.
-ghost use Rattle.std.specs.Prelude.{◌≡◌, ◌<◌, ◌==◌, ℕ, All, length, None, Some, if◌then◌else◌, IfOk};
+ghost use Rattle.std.specs.Prelude.{◌≡◌, ◌<◌, ◌==◌, ℕ, All, length, slice_get, None, Some, if◌then◌else◌, IfOk};
 ghost use Rattle.yv_selection.specs.Choice.{choice_of};
 ghost use Rattle.yv_rows.specs.Files.{home_at};
 ghost use Rattle.yv_rows.specs.Lent.{files_in, lent_in};
@@ -61,6 +61,7 @@ pub(crate) fn order(
 ) -> Result<Vec<usize>, AllocError>
     ensures order { IfOk result (λ order. order.items ≡ order_of (choice_of selection.now) (lent_in rows.now)) }
     ensures within { IfOk result (λ order. All (λ file. file < length (lent_in rows.now)) order.items) }
+    ensures once { IfOk result (λ order. (i k n : ℕ) → slice_get order.items i ≡ Some n → slice_get order.items k ≡ Some n → i ≡ k) }
 {
     yv_families::laws::each_place_has_its_numbers();
     let places = part_places(alloc, rows)?;

@@ -34,7 +34,7 @@ impl Model for FinalTree {
 }
 
 // The place of the augment of a module in whose block an item stands, of so many items and augments.
-pub(crate) fn giver_of(items: usize, augments: usize, spot: &Spot) -> Option<usize>
+fn giver_of(items: usize, augments: usize, spot: &Spot) -> Option<usize>
     ensures { (list : List ℕ) → length list ≡ augments → result ≡ giver_by items list (Some spot.now) }
 {
     if spot.group <= items {
@@ -73,8 +73,8 @@ impl FinalTree {
         }
     }
 
-    /// The place among the augments of modules of the one in whose block an item stands, if it stands in one; a uses there is looked
-    /// through, and what stands below a node is that node's.
+    /// The place among the augments of modules of the one whose block contains an item, if one does; a uses there is looked
+    /// through, and what is below a node belongs to that node.
     pub fn giver(&self, item: usize) -> Option<usize>
         ensures { result ≡ giver_at self.now.spots self.now.augments item }
     {
@@ -95,8 +95,8 @@ impl FinalTree {
         &self.augments
     }
 
-    /// The nodes that are left, each with the number of its item as its origin and the place of the node above it. A node stands behind
-    /// the one above it, and behind all that stands before it in the schema.
+    /// The nodes that are left, each with the number of its item as its origin and the place of the node above it. A node is after
+    /// the one above it, and after all that is before it in the schema.
     pub fn left(&self) -> &[Node]
         ensures { result.now ≡ self.now.left }
     {

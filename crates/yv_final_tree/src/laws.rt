@@ -1,4 +1,4 @@
-//! Laws of the definitions alone. These functions do nothing: the contract of each is the law.
+//! Laws about the definitions only. These functions do nothing: the contract of each is the law.
 ghost use Rattle.std.specs.Prelude.{◌≡◌, ◌≤◌, ◌<◌, false, ℕ, List, true, None, Some, length, map, slice_get, slice_index_or};
 ghost use Rattle.yv_statement.specs.Codes.{phase_of};
 ghost use Rattle.yv_statement.specs.Tree.{Tree as Root};
@@ -24,7 +24,7 @@ pub fn refusals_of_expansions_have_phases()
         → (6 < phase_of f.code) × (phase_of f.code ≤ 8) }
 {}
 
-/// The files of implemented modules come to one final tree.
+/// The files of implemented modules have one final tree.
 pub fn files_have_one_final_tree()
     ensures { (choice : Choice) (files : Files) (a b : Final) → IsFinal choice files a → IsFinal choice files b → a ≡ b }
 {
@@ -49,6 +49,15 @@ pub fn nodes_are_within_units()
         → count nodes ≤ units }
 {
     yv_whole_expansion::laws::a_whole_is_within_units();
+    yv_augments::laws::a_tree_has_no_item_twice();
+    yv_augmented::laws::items_stand_once();
+}
+
+/// What is left of a final tree has no more nodes than there are items.
+pub fn nodes_are_within_items()
+    ensures { (choice : Choice) (files : Files) (truth : Truth) (f : Final) (nodes : Nodes) → IsFinal choice files f
+        → AreLeft truth files f nodes → count nodes ≤ length f.items }
+{
     yv_augments::laws::a_tree_has_no_item_twice();
     yv_augmented::laws::items_stand_once();
 }
@@ -81,7 +90,7 @@ pub fn homes_are_of_modules()
         → (home : Root) × (slice_get files s.home ≡ Some home) × (is_given choice home ≡ true) }
 {}
 
-/// A node that an augment of a module gives stands below the one to which the augment adds, which is left as well.
+/// A node that an augment of a module gives is below the one to which the augment adds, which is left as well.
 pub fn given_nodes_stand_below_their_target()
     ensures { (choice : Choice) (files : Files) (truth : Truth) (f : Final) (nodes : Nodes) (place giver : ℕ) (x : Node)
         → IsFinal choice files f → AreLeft truth files f nodes → slice_get (listed None 0 nodes) place ≡ Some x

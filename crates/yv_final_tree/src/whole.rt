@@ -1,5 +1,5 @@
 //! The final tree of files.
-ghost use Rattle.std.specs.Prelude.{◌≡◌, ◌≢◌, ℕ, None, Some, Err, length, IfOk, OnOk};
+ghost use Rattle.std.specs.Prelude.{◌≡◌, ◌≢◌, None, Some, Err, length, IfOk, OnOk};
 ghost use Rattle.yv_statement.specs.Order.{IsLeast};
 ghost use Rattle.yv_statement.specs.declared.refusal.Refusal.{Refusal};
 ghost use Rattle.yv_statement.specs.declared.refusal.Stop.TheVariants.{Fault, PatternBuild};
@@ -14,8 +14,6 @@ ghost use Rattle.yv_whole_expansion.specs.Expanded.{IsWhole, augments_of};
 ghost use Rattle.yv_augments.specs.Turns.{State};
 ghost use Rattle.yv_refinements.specs.Changed.{each};
 ghost use Rattle.yv_augmented.specs.Faults.{BadTarget};
-ghost use Rattle.yv_augmented.specs.Imposing.{is_given};
-ghost use Rattle.yv_augmented.specs.Left.{is_marked};
 ghost use Rattle.yv_augmented.specs.Known.{AreGrown};
 ghost use Rattle.yv_augmented.specs.Spots.{whole};
 ghost use Rattle.yv_final_tree.specs.Faults.{BadExpansion, BadFinal};
@@ -25,11 +23,11 @@ ghost use Rattle.yv_final_tree.specs.Kept.{AreKept};
 ghost use Rattle.yv_final_tree.specs.Left.{AreLeft};
 
 use crate::given::{marks, order};
-use crate::kept::{FinalTree, giver_of};
+use crate::kept::FinalTree;
 use crate::nodes::nodes;
 use crate::wrong::Judged;
 use std::alloc::{AllocError, Global};
-use yv_augmented::{Grown, Spot, conditions, graft, left};
+use yv_augmented::{Grown, conditions, graft, left};
 use yv_changes::changes;
 use yv_expansion::{Item, Node};
 use yv_item_marks::{item_marks, statement_marks};
@@ -37,7 +35,6 @@ use yv_link::Linked;
 use yv_names::Names;
 use yv_rows::Rows;
 use yv_selection::Selection;
-use yv_siblings::arranged;
 use yv_statement::{Refusal, Stop};
 use yv_whole_expansion::{Expanded, expand};
 
@@ -50,6 +47,7 @@ fn expanded(
     selection: &Selection,
     limit: u32,
 ) -> Result<Expanded, Stop>
+    requires { AreNames (lent_in rows.now) names.now }
     ensures whole { AreNames (lent_in rows.now) names.now
         → IfOk result (λ e. IsWhole (lent_in rows.now) (marks_of (choice_of selection.now) (lent_in rows.now))
         (order_of (choice_of selection.now) (lent_in rows.now)) e.own e.expansion.items) }
@@ -84,17 +82,6 @@ fn grown(
     Ok((grown, missing))
 }
 
-// Of each item whether an augment of a module gives it.
-fn given(alloc: Global, spots: &[Spot], augments: &[usize]) -> Result<Vec<bool>, AllocError>
-    ensures { IfOk result (λ marks. (i : ℕ) → is_marked marks.items i ≡ is_given spots.now augments.now i) }
-{
-    let mut marks = Vec::new(alloc);
-    for spot in spots {
-        marks.push(giver_of(spots.len(), augments.len(), spot).is_some())?;
-    }
-    Ok(marks)
-}
-
 // The nodes that are left of a final tree by the conditions of its statements, in order.
 fn remains<'a, 'b>(
     alloc: Global,
@@ -114,8 +101,6 @@ fn remains<'a, 'b>(
     let own = item_marks(alloc, &statements, spots, judged.changes)?;
     let on = conditions(alloc, judged.rows, spots, judged.items, &statements, &own)?;
     let tree = left(alloc, spots, &judged.grown.tree, &on)?;
-    let given = given(alloc, spots, judged.augments)?;
-    let tree = arranged(alloc, &given, &tree)?;
     nodes(alloc, &tree)
 }
 
@@ -171,8 +156,8 @@ fn finished<'a, 'b>(
 
 /// The final tree of the files of implemented modules (RFC 7950, sections 5.6.5, 7.12, 7.13, 7.17 and 7.20.2): their expansion, module by
 /// module in the order of the schema, with each augment applied. Where the units of these files pass the limit, the refusal of the first
-/// file with which they do; else the least refusal, by file and offset, of a schema node of the final tree that stands too deep, of a
-/// refine that means no node or isn't fit for it, and of an augment that adds to no node or adds what may not stand there.
+/// file with which they do; else the least refusal, by file and offset, of a schema node of the final tree that is too deep, of a
+/// refine that names no node or isn't fit for it, and of an augment that adds to no node or adds what is not allowed there.
 pub fn final_tree<'a, 'b>(
     alloc: Global,
     linked: &Linked<'a, 'b>,
@@ -181,6 +166,7 @@ pub fn final_tree<'a, 'b>(
     selection: &Selection,
     limit: u32,
 ) -> Result<FinalTree, Stop>
+    requires { AreNames (lent_in rows.now) names.now }
     ensures kept { AreNames (lent_in rows.now) names.now
         → IfOk result (AreKept (choice_of selection.now) (lent_in rows.now) (truth_in linked.now)) }
     ensures limit { IfOk result (λ t. t.limit ≡ limit) }

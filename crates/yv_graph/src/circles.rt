@@ -65,7 +65,7 @@ pub enum Ranked {
     Ranks {
         /// The rank of each node, which is its place in the order.
         ranks: Vec<usize>,
-        /// The nodes, each behind all that it leads to.
+        /// The nodes, each after all that it leads to.
         order: Vec<usize>,
     },
     /// The first node that leads to itself.

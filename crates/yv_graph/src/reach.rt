@@ -22,8 +22,8 @@ fn mark_row(row: &[usize], marks: &mut Vec<bool>, found: &mut Vec<usize>) -> Res
     Ok(())
 }
 
-/// Marks exactly the nodes that a node leads to by one edge or more: the node itself only where it stands
-/// on a circle. It is for a caller that asks what one node needs, where `circular` and `rank` tell of all nodes.
+/// Marks exactly the nodes that a node leads to by one edge or more: the node itself only where it is
+/// on a cycle. It is for a caller that asks what one node needs; `circular` and `rank` answer for all nodes.
 pub fn reached(alloc: Global, graph: &[Vec<usize>], from: usize) -> Result<Vec<bool>, AllocError>
     requires graph { IsGraph graph.now }
     requires from { from < length graph.now }

@@ -1,4 +1,4 @@
-//! The identities by their numbers, in an order in which each stands behind its bases.
+//! The identities by their numbers, in an order in which each comes after its bases.
 ghost use Rattle.std.specs.Prelude.{◌↔◌, ◌<◌, ◌≤◌, length, slice_index, IsTrue, IfOk, OnOk};
 ghost use Rattle.std.specs.List.{All};
 ghost use Rattle.yv_graph.specs.Graph.{IsGraph, AreRanks, ArePlaces, LeadsTo};
@@ -39,8 +39,8 @@ fn add_ranks(
 }
 
 impl Hierarchy {
-    /// The identities that are derived from one. What is derived from an identity stands at a higher rank, so that
-    /// none comes back once the least rank is taken out.
+    /// The identities that are derived from one. What is derived from an identity has a higher rank, so that
+    /// none comes back once the least rank is removed.
     pub(crate) fn below(&self, alloc: Global, base: usize) -> Result<BTreeSet<usize>, AllocError>
         requires { base < length self.now.bases.items }
         ensures { IfOk result (AreBelow self.now.bases.items base) }
@@ -75,7 +75,7 @@ impl Hierarchy {
     }
 
     /// Whether one identity leads to another by its bases. The calls nest to a depth of some thousand at most: so
-    /// many steps go from identities with several bases to these, and behind them all ways are halved.
+    /// many steps go from identities with several bases to these, and after them all ways are halved.
     #[cycle(ways)]
     pub(crate) fn leads(&self, from: usize, to: usize, steps: usize) -> bool
         requires from { from < length self.now.bases.items }

@@ -49,9 +49,9 @@ impl<'a> Identities<'a> {
 
     /// Whether an identity is derived from another, in one step or more.
     ///
-    /// It takes no memory and little stack. Where identities have one base each it takes one step for each base on
-    /// the way. Else it may take one for each way to a base, of which files can be made to have more than can be
-    /// counted: who asks about files from strangers takes `descendants`.
+    /// It allocates no memory and uses little stack. Where identities have one base each it takes one step for each base on
+    /// the way. Otherwise it may take one for each way to a base, and files can be made to have more ways than can be
+    /// counted: use `descendants` for files from strangers.
     pub fn derived(&self, identity: IdentityRef, base: IdentityRef) -> bool
         ensures { (files : Files) → AreIdentities files self.now → IsTrue result ↔ IsDerived (map brief_of files) (rows_of files) identity base }
     {

@@ -20,7 +20,7 @@ use yv_link::{IdentityRef, Linked};
 use yv_rows::{Entry, name_of};
 use yv_values::Member;
 
-/// An identity with its module, and where it stands.
+/// An identity with its module, and where it is.
 #[derive(Drop)]
 pub(crate) struct Candidate {
     pub identity: IdentityRef,

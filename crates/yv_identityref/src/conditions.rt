@@ -23,7 +23,7 @@ fn is_false<'a, 'b>(linked: &Linked<'a, 'b>, entry: &Entry<'a, 'b>) -> bool
     entry.statement.keyword() == "if-feature" && !linked.holds(entry.file, name_of(entry.statement))
 }
 
-/// The numbers of the statements in whose block a condition doesn't hold.
+/// The numbers of the statements that have a false `if-feature` in their block.
 pub(crate) fn off(alloc: Global, linked: &Linked<'_, '_>) -> Result<BTreeSet<usize>, AllocError>
     ensures { IfOk result (λ numbers. (files : Files) (choice : Choice) → AreLinked files choice linked.now → (number : ℕ)
         → contains nat_cmp numbers number ≡ list_any (fails (truth_in linked.now) number) (rows_of files)) }

@@ -64,9 +64,9 @@ impl Identities {
 
     /// The values of the identityref type whose statement has a number among the rows of linked files: the identities of
     /// implemented modules that are derived from every base of the type and whose own conditions hold (RFC 7950,
-    /// section 9.10.2). What is true of a condition is what the linked files tell of it. A base isn't derived from itself,
-    /// and so no value. An identity is derived through others whether or not these are values. A base whose name means
-    /// nothing, which linking refuses, is taken as none, and a type without a base has all identities.
+    /// section 9.10.2). The linked files decide whether a condition is true. A base isn't derived from itself,
+    /// and so is not a value. An identity is derived through others whether or not these are values. A base whose name means
+    /// nothing, which linking refuses, counts as none, and a type without a base has all identities.
     ///
     /// For the first type with these bases it takes for each of them the time of `Linked::descendants`, and n log n in the
     /// identities that are derived from it; only a type without a base goes through all identities here. For the others it

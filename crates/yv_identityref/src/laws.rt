@@ -1,4 +1,4 @@
-//! Laws of the definitions alone. These functions do nothing: the contract of each is the law.
+//! Laws about the definitions only. These functions do nothing: the contract of each is the law.
 ghost use Rattle.std.specs.Prelude.{◌≡◌, ◌↔◌, ℕ, List, Some, None, slice_get};
 ghost use Rattle.yv_statement.specs.Order.{IsLeast};
 ghost use Rattle.yv_selection.specs.Choice.{Choice};
@@ -11,7 +11,7 @@ ghost use Rattle.yv_identities.specs.declared.references.IdentityRef.{IdentityRe
 ghost use Rattle.yv_identityref.specs.Bases.{IsBelow};
 ghost use Rattle.yv_identityref.specs.Values.{Truth, HasValue};
 
-/// Where nothing is refused of the features, a type has the same values by whatever tells the truth of conditions.
+/// Where nothing is refused of the features, a type has the same values whatever decides the truth of conditions.
 pub fn a_type_has_its_values()
     ensures { (files : Files) (choice : Choice) (t u : Truth) → IsLeast (BadFeatures files) None
         → ((file : ℕ) (text : List ℕ) → Holds files choice file text (t file text))
@@ -21,7 +21,7 @@ pub fn a_type_has_its_values()
     yv_features::laws::an_expression_has_one_truth();
 }
 
-/// Where at most one statement stands at a place, what stands there is below a base just where it is derived from it.
+/// Where at most one statement is at a place, what is there is below a base just where it is derived from it.
 pub fn places_tell_identities_apart()
     ensures { (files : Briefs) (rows : List Row) (place base : IdentityRef)
         → ((i j : ℕ) (r s : Row) → slice_get rows i ≡ Some r → slice_get rows j ≡ Some s → ref_of r ≡ place → ref_of s ≡ place → i ≡ j)

@@ -17,7 +17,7 @@ use std::alloc::{AllocError, Global};
 use yv_link::Linked;
 use yv_values::Members;
 
-/// The identities that might be values, and where they stand.
+/// The identities that might be values, and where they are.
 #[derive(Drop)]
 pub(crate) struct Candidates {
     pub list: Vec<Candidate>,
@@ -63,7 +63,7 @@ impl Candidates {
     }
 }
 
-/// Those of the candidates that are in the set, where there is one, in time n log n in the set and in these, but for the
+/// Those of the candidates that are in the set, where there is one, in time n log n in the set and in these, except for the
 /// look-ups, each of which takes the logarithm of all candidates. Without a set it is n log n in all candidates.
 pub(crate) fn members_of(
     alloc: Global,

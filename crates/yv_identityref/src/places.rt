@@ -1,4 +1,4 @@
-//! Where candidates stand.
+//! Where candidates are.
 ghost use Rattle.std.specs.Prelude.{◌≡◌, ◌||◌, ◌&&◌, ◌==◌, ℕ, false, nat_eq, IfOk, OnOk};
 ghost use Rattle.std.specs.List.{list_any};
 ghost use Rattle.yv_identities.specs.declared.references.IdentityRef.{IdentityRef};
@@ -17,8 +17,8 @@ pub(crate) struct Places {
 }
 
 impl Places {
-    /// Reads where candidates stand, in time n log n. Each place has a list of its own, so that nothing is lost where
-    /// two candidates stand at one.
+    /// Reads where candidates are, in time n log n. Each place has a list of its own, so that nothing is lost where
+    /// two candidates are at one.
     pub(crate) fn read(alloc: Global, candidates: &[Candidate]) -> Result<Places, AllocError>
         ensures { IfOk result (λ places. ArePlaced candidates.now places) }
     {

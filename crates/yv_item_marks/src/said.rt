@@ -123,7 +123,7 @@ pub struct Told {
 }
 
 impl Told {
-    /// What is told of items of which this is said.
+    /// What is known of items, by what their statements say.
     pub fn of(alloc: Global, said: &[Stated]) -> Result<Told, AllocError>
         ensures mandatory { IfOk result (λ told. told.mandatory.items ≡ map is_mandatory said.now) }
         ensures presence { IfOk result (λ told. told.presence.items ≡ map (λ (s : Stated). s.presence) said.now) }

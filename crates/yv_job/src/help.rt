@@ -1,6 +1,6 @@
 //! The texts of `--help`.
 
-pub const VERSION: &str = "0.1.0";
+pub const VERSION: &str = "0.2.0 (rattle-kit-13f logic dac8208d650f15bf)";
 
 pub const ABOUT: &str = "Compiles YANG modules, draws their trees and validates JSON documents";
 
@@ -8,10 +8,10 @@ pub const DETAILS: &str = "\
 Compiles YANG 1.1 modules (RFC 7950), draws their tree diagrams (RFC 8340) and
 validates JSON documents (RFC 7951) against them.
 
-Modules that are no correct YANG are refused by one line, FILE:LINE: NAME, which
-says what is wrong first. Modules that expand to more than 100000 nodes are
-refused too; --max-nodes N allows N, which is from 1 to 1000000. The faults of a
-document get a line each, KIND PATH.";
+Invalid modules are rejected with one line, FILE:LINE: NAME, for the first error.
+Modules that expand to more than 100000 nodes are rejected too; --max-nodes N sets
+another limit, from 1 to 1000000. Each fault of a document is reported on one line,
+KIND PATH.";
 
 pub const CLOSING: &str = "\
 Examples:
@@ -21,18 +21,18 @@ Examples:
 
 Exit status:
   0  compiled, drawn, or valid
-  1  modules were refused, there is no such module, or faults were found
-  2  usage, or the document is too large or no JSON
-  3  out of memory, pattern not built, cannot read or cannot write";
+  1  modules rejected, no such module, or faults found
+  2  usage error, document too large, or not JSON
+  3  out of memory, pattern not built, cannot read, or cannot write";
 
-pub const COMPILE_ABOUT: &str = "Compile modules, and count the nodes of their schema";
+pub const COMPILE_ABOUT: &str = "Compile modules and count the nodes of their schema";
 
 pub const COMPILE_DETAILS: &str = "\
 Compiles YANG 1.1 modules (RFC 7950) and prints `nodes: N`, the number of nodes
-of their schema: what the modules define once each `uses` is expanded, without
-what features leave out. If the modules are refused, one line FILE:LINE: NAME
-says what is wrong first. What a module imports or includes has to be among the
-files. No document is read.";
+in their schema. Each `uses` is expanded, and nodes that an if-feature removes are
+not counted. If the modules are invalid, one line, FILE:LINE: NAME, reports the
+first error. Every module or submodule that a module imports or includes must be
+among the files. No document is read.";
 
 pub const COMPILE_CLOSING: &str = "\
 Examples:
@@ -41,21 +41,21 @@ Examples:
 
 Exit status:
   0  compiled
-  1  modules were refused
-  2  usage
-  3  out of memory, pattern not built, cannot read or cannot write";
+  1  modules rejected
+  2  usage error
+  3  out of memory, pattern not built, cannot read, or cannot write";
 
 pub const TREE_ABOUT: &str = "Draw the tree diagram of a module";
 
 pub const TREE_DETAILS: &str = "\
 Draws the tree diagram (RFC 8340) of a YANG 1.1 module (RFC 7950).
 
-The modules are compiled first. If they are refused, one line FILE:LINE: NAME
-says what is wrong first. Otherwise the module that is named is drawn: a line for
-each of its data nodes, then what it adds to other modules, its operations and
-its notifications. If no module of the files has the name, or it is there for its
-definitions alone, the one line is `tree: no such module`. What a module imports
-or includes has to be among the files. No document is read.";
+The modules are compiled first. If they are invalid, one line, FILE:LINE: NAME,
+reports the first error. Otherwise the named module is drawn: its data nodes, then
+what it adds to other modules, its operations and its notifications. If no file
+has a module of that name, or the module is imported but not implemented, the
+output is `tree: no such module`. Every module or submodule that a module imports
+or includes must be among the files. No document is read.";
 
 pub const TREE_CLOSING: &str = "\
 Examples:
@@ -64,19 +64,19 @@ Examples:
 
 Exit status:
   0  drawn
-  1  modules were refused, or there is no such module
-  2  usage
-  3  out of memory, pattern not built, cannot read or cannot write";
+  1  modules rejected, or no such module
+  2  usage error
+  3  out of memory, pattern not built, cannot read, or cannot write";
 
 pub const VALIDATE_ABOUT: &str = "Validate a JSON document against modules";
 
 pub const VALIDATE_DETAILS: &str = "\
 Validates a JSON document (RFC 7951) against YANG 1.1 modules (RFC 7950).
 
-The modules are compiled first. If they are refused, one line FILE:LINE: NAME
-says what is wrong first, and the document is not read. Otherwise each fault of
-the document gets a line, KIND PATH, and the last line is `valid` or
-`faults: N`. What a module imports or includes has to be among the files.";
+The modules are compiled first. If they are invalid, one line, FILE:LINE: NAME,
+reports the first error, and the document is not read. Otherwise each fault has
+one line, KIND PATH, and the last line is `valid` or `faults: N`. Every module or
+submodule that a module imports or includes must be among the files.";
 
 pub const VALIDATE_CLOSING: &str = "\
 Example:
@@ -84,20 +84,20 @@ Example:
 
 Exit status:
   0  valid
-  1  modules were refused, or faults were found
-  2  usage, or the document is too large or no JSON
-  3  out of memory, pattern not built, cannot read or cannot write";
+  1  modules rejected, or faults found
+  2  usage error, document too large, or not JSON
+  3  out of memory, pattern not built, cannot read, or cannot write";
 
 pub const DATA: &str = "The JSON document, or - for standard input";
 
-pub const FILE: &str = "The files of the YANG modules and submodules, at most 256";
+pub const FILE: &str = "The files of the YANG modules and submodules (at most 256)";
 
 pub const MODULE: &str = "The name of the module to draw";
 
 pub const MAX_NODES: &str = "\
-The most nodes and `uses` that the modules may expand to, from 1 to 1000000 [default: 100000]";
+The limit on nodes and expanded `uses`, from 1 to 1000000 [default: 100000]";
 
 pub const SUPPORT: &str = "\
-Of the modules named here only these features are supported: MODULE:FEATURE,FEATURE/MODULE:";
+The features supported in the named modules (all in others): MODULE:FEATURE,FEATURE/MODULE:";
 
-pub const IMPORT_ONLY: &str = "Modules that are there for their definitions alone: MODULE,MODULE";
+pub const IMPORT_ONLY: &str = "Modules that are imported but not implemented: MODULE,MODULE";

@@ -1,4 +1,4 @@
-//! A job, and why there is none.
+//! A job, and the reasons why there is none.
 
 use std::alloc::AllocError;
 use thiserror::Error;
@@ -21,12 +21,12 @@ pub struct Job {
     pub command: Command,
     /// The names of the files of modules and submodules, in the order in which they were given.
     pub files: Vec<String>,
-    /// The most schema nodes that the modules may come to.
+    /// The most schema nodes that the modules may expand to.
     pub limit: u32,
     pub selection: Selection,
 }
 
-/// Why there is no job, with the text to print. Each text ends by a line feed.
+/// Why there is no job, with the text to print. Each text ends with a line feed.
 #[derive(Debug, Drop, Error)]
 pub enum JobFault {
     /// The words ask for nothing that can be done. The text is for standard error.

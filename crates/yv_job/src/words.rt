@@ -39,7 +39,7 @@ fn refused(alloc: Global, error: &Error) -> JobFault
     }
 }
 
-/// The job that the words ask for, of which the first is the program's name.
+/// The job that the words ask for. The first word is the program's name.
 pub fn read_job(alloc: Global, words: &[String]) -> Result<Job, JobFault>
     ensures job { IfOk result (λ j. WordsAsk (map string_bytes words.now) (task_of j)) }
     ensures files { IfOk result HasFiles }

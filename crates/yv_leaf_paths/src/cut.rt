@@ -4,7 +4,7 @@ ghost use Rattle.std.specs.Option.{option_map};
 ghost use Rattle.yv_conform.specs.Bytes.{is_blank};
 ghost use Rattle.yv_leaf_paths.specs.InnerCut.{cut};
 
-/// What stands before a text's first blank, and what stands behind it.
+/// What is before a text's first blank, and what is after it.
 pub(crate) fn cut(text: &str) -> Option<(&str, &str)>
     ensures parts { option_map (λ parts. (parts.0.now, parts.1.now)) result ≡ cut text.now }
     ensures text { IfSome result (λ parts. IsUtf8 parts.1.now) }

@@ -3,6 +3,7 @@
 
 mod cut;
 mod homes;
+pub mod laws;
 mod paths;
 mod pieces;
 mod referral;

@@ -47,7 +47,7 @@ fn push_name<'a>(
     Ok(())
 }
 
-/// Reads the paths of arguments: what prefixes in files stand for, found once for all of them.
+/// Reads the paths of arguments: which modules the prefixes in files identify is found once for all of them.
 #[derive(Drop)]
 pub struct LeafPaths<'a> {
     homes: Homes<'a>,
@@ -58,7 +58,7 @@ impl<'a> LeafPaths<'a> {
     ghost use Rattle.yv_leaf_paths.specs.Referral.{climbs_of, pieces_of, steps_in};
     ghost use Rattle.yv_leaf_paths.specs.Steps.{names_of, paths_of};
 
-    /// The prefixes that files declare, in time n log n and memory linear in the text. Err for want of memory alone.
+    /// The prefixes that files declare, in time n log n and memory linear in the text. Err only if memory runs out.
     pub fn read(alloc: Global, rows: &Rows<'a, '_>) -> Result<LeafPaths<'a>, AllocError>
         ensures { IfOk result (AreLeafPaths (lent_in rows.now)) }
     {
@@ -67,7 +67,7 @@ impl<'a> LeafPaths<'a> {
     }
 
     /// The paths that the argument of a `unique` statement in a file has, with blanks between (RFC 7950, section 7.8.3). A step
-    /// is None where its prefix stands for no module. Err for want of memory alone.
+    /// is None where its prefix identifies no module. Err only if memory runs out.
     pub fn paths(
         &self,
         alloc: Global,
@@ -88,7 +88,7 @@ impl<'a> LeafPaths<'a> {
     }
 
     /// The names that the argument of a `key` statement in a file has, with blanks between, each as the one step of a path
-    /// (RFC 7950, section 7.8.2). One is None where its prefix stands for no module. Err for want of memory alone.
+    /// (RFC 7950, section 7.8.2). One is None where its prefix identifies no module. Err only if memory runs out.
     pub fn names(
         &self,
         alloc: Global,
@@ -108,7 +108,7 @@ impl<'a> LeafPaths<'a> {
     }
 
     /// The path that the argument of a `path` statement in a file is, in time and memory linear in the text (RFC 7950, section 9.9.2).
-    /// A step is None where its prefix stands for no module. Err for want of memory alone, and no memory where the path climbs
+    /// A step is None where its prefix identifies no module. Err only if memory runs out, or where the path climbs
     /// 2 to the 32 times or more.
     pub fn referral(
         &self,
@@ -123,8 +123,8 @@ impl<'a> LeafPaths<'a> {
         read_referral(alloc, &self.homes, file, text)
     }
 
-    /// The pieces of the path that the argument of a `path` statement in a file is, as it is written, for those who show it (RFC 7950,
-    /// section 9.9.2). It takes time and memory linear in the text. Err for want of memory alone.
+    /// The pieces of the path that the argument of a `path` statement in a file is, as it is written, for callers that print it (RFC 7950,
+    /// section 9.9.2). It takes time and memory linear in the text. Err only if memory runs out.
     pub fn pieces(
         &self,
         alloc: Global,

@@ -14,9 +14,9 @@ use yv_properties::PathStep;
 /// The path of a leafref (RFC 7950, section 9.9.2).
 #[derive(Drop)]
 pub struct LeafrefPath {
-    /// How often `../` stands at its front. None where it is absolute.
+    /// How many `../` it begins with. None where it is absolute.
     pub climbs: Option<u32>,
-    /// The names behind, in order: None where a prefix stands for no module.
+    /// The names after these, in order: None where a prefix identifies no module.
     pub steps: Vec<Option<PathStep>>,
 }
 

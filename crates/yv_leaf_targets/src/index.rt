@@ -30,7 +30,7 @@ impl<'n> Model for Index<'n> {
 }
 
 impl<'n> Index<'n> {
-    /// These nodes, of which nothing was asked yet.
+    /// These nodes, before anything is looked up among them.
     pub(crate) fn new(alloc: Global, nodes: &'n [Node]) -> Index<'n>
         ensures { result ≡ nodes.now }
     {

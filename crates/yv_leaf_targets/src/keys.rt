@@ -57,8 +57,8 @@ fn key_leafs_in<'n>(
 
 /// The numbers of the leafs that the names of a list's key name, in order (RFC 7950, section 7.8.2): none where one of them is that
 /// of no leaf directly below. Of nodes of one module and name the first is meant, whatever its kind. Takes time n log n in the
-/// names of the nodes directly below and those of the key; names of modules are compared where the nodes' are the same. Err for want
-/// of memory alone.
+/// names of the nodes directly below and those of the key; names of modules are compared where the nodes' are the same. Err only
+/// if memory runs out.
 pub fn key_leafs<'n>(
     alloc: Global,
     nodes: &'n Nodes,

@@ -158,7 +158,7 @@ fn keep_case(
 /// What all lists and choices of these nodes name, and the least refusal: BadKey at a list whose key has a name of no leaf directly
 /// below, and BadUnique at a list with more than 64 `unique` statements, or with a path that names no leaf, or with a statement
 /// whose leafs are and aren't configuration (RFC 7950, sections 7.8.2, 7.8.3 and 7.9.3). It takes time n log n in the names of the
-/// nodes and the steps of all lists. Err for want of memory alone.
+/// nodes and the steps of all lists. Err only if memory runs out.
 pub fn leaf_targets(alloc: Global, nodes: &Nodes) -> Result<FoundTargets, AllocError>
     ensures targets { IfOk result (λ found. found.fault ≡ None → AreLeafTargets nodes.now.rows found.targets) }
     ensures fault { (ts : Forest) → nodes.now.rows ≡ rows_from 0 ts → IfOk result (λ found. IsLeast (BadLeafs ts) found.fault) }

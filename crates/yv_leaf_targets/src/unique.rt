@@ -115,7 +115,7 @@ fn all_leafs<'n>(
 /// where there are more than 64 statements, or a path of one names no leaf, or leafs of one are and aren't configuration. Of nodes
 /// of one module and name below the same node the first is meant, whatever its kind; a path goes through no list, and names the
 /// cases that are left out. The nodes directly below each one that paths pass are looked at once, so that it takes time n log n in
-/// their names and those of the paths; names of modules are compared where the nodes' are the same. Err for want of memory alone.
+/// their names and those of the paths; names of modules are compared where the nodes' are the same. Err only if memory runs out.
 pub fn unique_leafs<'n>(
     alloc: Global,
     nodes: &'n Nodes,

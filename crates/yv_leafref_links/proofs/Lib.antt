@@ -6,3 +6,4 @@ pub mod Standing
 pub mod Leading
 pub mod Typing
 pub mod Alike
+pub mod Required

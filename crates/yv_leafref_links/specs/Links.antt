@@ -1,10 +1,12 @@
 -- Where the paths of leafrefs lead that require an instance (RFC 7950, sections 9.9.2 and 9.9.3).
 use Rattle.std.specs.Prelude.{◌≡◌, ◌≢◌, ◌↔◌, ℕ, ◌+◌, ◌<◌, ◌^◌, Bool, true, false, List, [], ◌∷◌, length, Option, Some, slice_get}
+use Rattle.yv_properties.specs.Kinds.{is_data}
 use Rattle.yv_properties.specs.Steps.{Step}
 use Rattle.yv_properties.specs.declared.kind.NodeKind.{NodeKind}
 use Rattle.yv_properties.specs.declared.kind.NodeKind.TheVariants as kind
 use Rattle.yv_nodes.specs.Link.{Link, link_in}
 use Rattle.yv_nodes.specs.Rows.{Row}
+use Rattle.yv_leafrefs.specs.Above.{IsDataChild}
 use Rattle.yv_leafrefs.specs.Schema.{Schema}
 use Rattle.yv_leafrefs.specs.Targets.{RefersTo}
 use Rattle.yv_leafrefs.specs.Ways.{Means}
@@ -29,6 +31,11 @@ LeadsOver rows own [] [] a b = a ≡ b
 LeadsOver rows own [] (c ∷ cs) a b = ⊥
 LeadsOver rows own (s ∷ ss) [] a b = ⊥
 LeadsOver rows own (s ∷ ss) (c ∷ cs) a b = Means rows own a s c × LeadsOver rows own ss cs (Some c) b
+
+-- only containers and lists have data nodes below them, choices and cases being passed over
+abbrev pub OnlyInnerHold : List Row → Type 0
+OnlyInnerHold rows = (p c home : ℕ) (name : List ℕ) (r : Row) → slice_get rows p ≡ Some r → is_data r.label.defined.kind ≡ true
+    → IsDataChild rows (Some p) home name c → is_inner r.label.defined.kind ≡ true
 
 -- this is the link of the leafref n: it requires an instance, refers to the target, and its path is absolute or begins with `../`, and
 -- leads over these nodes, through containers and lists

@@ -42,7 +42,7 @@ fn closest(nodes: &[Node], above: &[Option<u32>], place: Option<u32>) -> Option<
     }
 }
 
-/// For each node the container or list above it, choices and cases being passed over: none where the document or another node stands
+/// For each node the container or list above it, choices and cases being passed over: none where the document or another node is
 /// there. It takes linear time.
 pub(crate) fn inner_above(alloc: Global, nodes: &[Node]) -> Result<Vec<Option<u32>>, AllocError>
     requires { AreBehind nodes.now }

@@ -1,12 +1,13 @@
-//! Laws of the definitions alone: what those who follow links may rely on. These functions do nothing: the contract of each is the law.
-ghost use Rattle.std.specs.Prelude.{◌≡◌, ℕ, List, Option};
+//! Laws about the definitions only: what users of links may rely on. These functions do nothing: the contract of each is the law.
+ghost use Rattle.std.specs.Prelude.{◌≡◌, ◌≢◌, ℕ, List, Option, Some, true};
 ghost use Rattle.yv_values.specs.Types.{Plain};
 ghost use Rattle.yv_nodes.specs.Link.{AreLinked, Link, link_in};
 ghost use Rattle.yv_nodes.specs.Numbers.{rows_from};
 ghost use Rattle.yv_nodes.specs.Tree.{Forest};
 ghost use Rattle.yv_nodes.specs.Typed.{typed_from};
 ghost use Rattle.yv_leafrefs.specs.Schema.{AreAlike, Schema};
-ghost use Rattle.yv_leafref_links.specs.Links.{AreLinks};
+ghost use Rattle.yv_leafrefs.specs.Targets.{RefersTo};
+ghost use Rattle.yv_leafref_links.specs.Links.{AreLinks, OnlyInnerHold};
 
 /// The links of a schema lead in its trees from where they climb to, to their targets.
 pub fn links_lead()
@@ -23,6 +24,14 @@ pub fn types_leave_links()
 /// Leafrefs have the same links, by what a schema says.
 pub fn a_schema_has_one_list_of_links()
     ensures { (s t : Schema) (a b : List (Option Link)) → AreAlike s t → AreLinks s a → AreLinks t b → a ≡ b }
+{}
+
+/// A leafref that requires an instance and refers to a node has its link to that, where its path is absolute or climbs, and only
+/// containers and lists have data nodes below them.
+pub fn required_leafrefs_have_links()
+    ensures { (s : Schema) (links : List (Option Link)) (n target : ℕ) → AreLinks s links → OnlyInnerHold s.rows
+        → (refers : RefersTo s n target) → refers.ref.is_required ≡ true → refers.ref.climbs ≢ Some 0
+        → (link : Link) × (link_in links n ≡ Some link) × (link.target ≡ target) }
 {}
 
 /// The links of a schema are those of one with the same rows that says the same.

@@ -23,7 +23,7 @@ impl LeafrefTypes {
     ghost use Rattle.yv_leafref_types.specs.Referrals.{HasReferral};
 
     /// Reads what the types of these statements say, the bases being theirs, in time and memory linear in statements: no way
-    /// along typedefs is gone twice. Err for want of memory alone.
+    /// along typedefs is gone twice. Err only if memory runs out.
     pub fn read(
         alloc: Global,
         rows: &Rows<'_, '_>,

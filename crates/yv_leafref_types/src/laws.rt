@@ -1,4 +1,4 @@
-//! Laws of the definitions alone.
+//! Laws about the definitions only.
 ghost use Rattle.std.specs.Prelude.{◌≡◌, ℕ, Option, Some};
 ghost use Rattle.yv_rows.specs.Files.{Files};
 ghost use Rattle.yv_leafref_types.specs.Referrals.{FollowsIn, HasReferral, IsLeafrefAt};

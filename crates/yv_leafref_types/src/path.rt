@@ -32,7 +32,7 @@ fn first_path<'s, 'b>(statement: &'s Statement<'b>) -> Option<&'s Statement<'b>>
 }
 
 /// The text of the first `path` in the block of the numbered statement, as that of a type which names leafref itself
-/// (RFC 7950, section 9.9.2). None where there is none. It takes no memory.
+/// (RFC 7950, section 9.9.2). None where there is none. It allocates no memory.
 pub fn path_of<'a>(rows: &Rows<'a, '_>, number: usize) -> Option<PathText<'a>>
     ensures { option_map written_of result ≡ path_at (lent_in rows.now) number }
 {

@@ -45,7 +45,7 @@ fn closest(nodes: &[Node], above: &[Option<u32>], place: Option<u32>) -> Option<
     }
 }
 
-/// For each node the closest place above it that is no choice and no case.
+/// For each node the closest place above it that is not a choice or case.
 pub(crate) fn places_above(alloc: Global, nodes: &[Node]) -> Result<Vec<Option<u32>>, AllocError>
     requires { AreBehind nodes.now }
     ensures each { IfOk result (λ above. length above.items ≡ length nodes.now) }

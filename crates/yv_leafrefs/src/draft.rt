@@ -13,7 +13,7 @@ use crate::strides::{Stride, all_strides};
 use std::alloc::{AllocError, Global};
 use yv_nodes::Node;
 
-/// For each node the closest place above it that is no choice and no case, and whether it stands inside an operation or a
+/// For each node the closest place above it that is not a choice or case, and whether it is inside an operation or a
 /// notification; the steps of each leafref; and the data nodes by their names.
 #[derive(Drop)]
 pub(crate) struct Draft<'n> {

@@ -1,4 +1,4 @@
-//! Laws of the definitions alone: what those who follow leafrefs may rely on. These functions do nothing: the contract of each is
+//! Laws about the definitions only: what users of leafrefs may rely on. These functions do nothing: the contract of each is
 //! the law.
 ghost use Rattle.std.specs.Prelude.{List, ◌≡◌, ◌⊎◌, ◌≤◌, ℕ, Some, None, true, slice_get};
 ghost use Rattle.yv_nodes.specs.Tree.{Forest};
@@ -13,7 +13,7 @@ ghost use Rattle.yv_leafrefs.specs.declared.leafrefs.Leafrefs.{Leafrefs};
 ghost use Rattle.yv_leafrefs.specs.Resolved.{IsResolved, IsTyped};
 ghost use Rattle.yv_values.specs.Types.{Plain};
 
-/// The rows of a schema tree stand each behind the one above it.
+/// Each row of a schema tree is after the one above it.
 pub fn rows_of_a_tree_are_behind()
     ensures { (ts : Forest) → AreBehind (rows_from 0 ts) }
 {}
@@ -24,12 +24,12 @@ pub fn a_target_has_values()
         → (row : Row) × (slice_get s.rows x ≡ Some row) × (has_values row.label.defined.kind ≡ true) }
 {}
 
-/// It stands outside operations and notifications.
+/// It is outside operations and notifications.
 pub fn a_target_is_outside()
     ensures { (s : Schema) (n x : ℕ) → RefersTo s n x → IsInside s.rows (Some x) → ⊥ }
 {}
 
-/// It stands below the place at which the path begins: the document, or one that the leafref itself stands below.
+/// It is below the place at which the path begins: the document, or one that the leafref itself is below.
 pub fn a_target_is_below()
     ensures { (s : Schema) (n x : ℕ) (r : RefersTo s n x) → IsUnder s.rows r.start (Some x)
         × ((r.start ≡ None) ⊎ IsUnder s.rows r.start (Some n)) }
@@ -60,7 +60,7 @@ pub fn a_tree_is_resolved_once()
     ensures { (s t : Schema) (stated a b : Forest) → ((n : ℕ) → s.says n ≡ t.says n) → IsResolved s stated a → IsResolved t stated b → a ≡ b }
 {}
 
-/// A schema comes to one tree, by what its leafrefs say.
+/// A schema has one tree, by what its leafrefs say.
 pub fn a_tree_is_typed_once()
     ensures { (s t : Schema) (stated a b : Forest) → AreAlike s t → IsTyped s stated a → IsTyped t stated b → a ≡ b }
 {}

@@ -5,9 +5,9 @@ use yv_properties::PathStep;
 /// What the type of a leafref says (RFC 7950, section 9.9), which the copies of a node share. Contracts see it as a `Referral`.
 #[derive(Drop)]
 pub struct Leafref {
-    /// How often `../` stands at the front of its path. None where that is absolute.
+    /// How many `../` its path begins with. None where that is absolute.
     pub climbs: Option<u32>,
-    /// The names behind, in order: None where a prefix stands for no module.
+    /// The names after these, in order: None where a prefix identifies no module.
     pub steps: Vec<Option<PathStep>>,
     /// What `require-instance` says.
     pub is_required: bool,
@@ -24,14 +24,14 @@ impl Model for Leafref {
 impl Leafref {
     ghost use Rattle.std.specs.Prelude.{◌≡◌};
 
-    /// How often `../` stands at the front of its path. None where that is absolute.
+    /// How many `../` its path begins with. None where that is absolute.
     pub fn climbs(&self) -> Option<u32>
         ensures { result ≡ self.now.climbs }
     {
         self.climbs
     }
 
-    /// The names behind, in order: None where a prefix stands for no module.
+    /// The names after these, in order: None where a prefix identifies no module.
     pub fn steps(&self) -> &[Option<PathStep>]
         ensures { result.now ≡ self.now.steps }
     {

@@ -64,9 +64,9 @@ impl Leafrefs {
     ghost use Rattle.yv_leafrefs.specs.Resolved.{IsTyped};
 
     /// The leafrefs among these nodes. For each node `statements` has the number of the statement that defines it, so that a long name
-    /// is compared once for all copies of a node, and `of` tells which of the leafrefs it is, if it is one. A name without prefix is of
+    /// is compared once for all copies of a node, and `of` gives which of the leafrefs it is, if it is one. A name without prefix is of
     /// the module of the node that has the path. It takes time n log n in the nodes and in the steps of the leafrefs; at each node so
-    /// many steps of its path are followed as nodes stand below one another, at most. Err for want of memory alone.
+    /// many steps of its path are followed as nodes are nested, at most. Err only if memory runs out.
     pub fn read(
         alloc: Global,
         nodes: &Nodes,
@@ -101,7 +101,7 @@ impl Leafrefs {
         self.fault
     }
 
-    /// The node to which a leafref refers. None for other nodes, and inside operations and notifications.
+    /// The node that a leafref refers to. None for other nodes, and inside operations and notifications.
     pub fn target(&self, node: NodeId) -> Option<NodeId>
         ensures { (s : Schema) → AreLeafrefs s self.now → (x : NodeId) → (result ≡ Some x) ↔ RefersTo s node.0 x.0 }
     {
@@ -122,7 +122,7 @@ impl Leafrefs {
     }
 
     /// Gives each leafref among the nodes that were read the types of its target, where nothing is wrong with leafrefs (RFC 7950,
-    /// section 9.9): else the nodes stay as they are. It takes time linear in the nodes. Err for want of memory alone.
+    /// section 9.9): else the nodes stay as they are. It takes time linear in the nodes. Err only if memory runs out.
     pub fn resolve(&self, alloc: Global, nodes: &mut Nodes) -> Result<(), AllocError>
         requires { (s : Schema) × AreLeafrefs s self.now × (s.rows ≡ nodes.old.rows) }
         ensures typed { (s : Schema) (stated : Forest) → AreLeafrefs s self.now → s.rows ≡ nodes.old.rows → s.rows ≡ rows_from 0 stated

@@ -7,7 +7,7 @@ use crate::names::Names;
 use std::alloc::{AllocError, Global};
 use yv_properties::PathStep;
 
-/// A step of a path: the number of the file of the module for which its prefix stands, none without one, and the number of its name.
+/// A step of a path: the number of the file of the module that its prefix identifies, none without one, and the number of its name.
 #[derive(Clone, Copy)]
 pub(crate) struct Stride {
     pub(crate) home: Option<u32>,

@@ -1,4 +1,4 @@
-//! Laws of the definitions alone. These functions do nothing: the contract of each is the law.
+//! Laws about the definitions only. These functions do nothing: the contract of each is the law.
 ghost use Rattle.std.specs.Prelude.{◌≡◌, ◌≤◌, ℕ, List};
 ghost use Rattle.yv_statement.specs.Codes.{phase_of};
 ghost use Rattle.yv_statement.specs.declared.refusal.Refusal.{Refusal};
@@ -9,7 +9,7 @@ ghost use Rattle.yv_link.specs.Links.{BadLinks};
 ghost use Rattle.yv_link.specs.Linked.{AreLinked, truth_in};
 ghost use Rattle.yv_link.specs.declared.linked.Linked.{Linked};
 
-/// What linked files tell of an expression is its truth, whatever the file and the text.
+/// What linked files answer for an expression is its truth, whatever the file and the text.
 pub fn linked_files_tell_what_holds()
     ensures { (files : Files) (choice : Choice) (linked : Linked) → AreLinked files choice linked
         → (file : ℕ) (text : List ℕ) → Holds files choice file text (truth_in linked file text) }

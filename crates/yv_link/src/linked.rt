@@ -11,8 +11,8 @@ use yv_identities::{Identities, IdentityRef};
 use yv_rows::Rows;
 use yv_statement::Statement;
 
-/// Files of which nothing is wrong with modules, features and identities. A file is meant by its place in the list
-/// of files. None of the readers but `descendants` takes memory.
+/// Files in which nothing is wrong with modules, features and identities. A file is meant by its place in the list
+/// of files. Of the readers only `descendants` allocates memory.
 #[derive(Drop)]
 pub struct Linked<'a, 'b> {
     pub(crate) rows: Rows<'a, 'b>,
@@ -51,7 +51,7 @@ impl<'a, 'b> Linked<'a, 'b> {
         self.module_at(number)
     }
 
-    /// The module that a prefix stands for in a file (RFC 7950, section 7.1.4).
+    /// The module that a prefix identifies in a file (RFC 7950, section 7.1.4).
     pub fn prefix(&self, file: u32, prefix: &'a str) -> Option<ModuleRef>
         ensures { (files : Files) (choice : Choice) → AreLinked files choice self.now
             → result ≡ prefixed_module choice (map brief_of files) (rows_of files) file prefix.now }
@@ -60,7 +60,7 @@ impl<'a, 'b> Linked<'a, 'b> {
         self.module_at(number)
     }
 
-    /// Whether the expression of an `if-feature` holds in a file (RFC 7950, section 7.20.2). A text that is no
+    /// Whether the expression of an `if-feature` holds in a file (RFC 7950, section 7.20.2). A text that is not an
     /// expression doesn't, nor does one with a name that means no feature.
     pub fn holds(&self, file: u32, if_feature: &'a str) -> bool
         ensures truth { result ≡ truth_in self.now file if_feature.now }
@@ -79,8 +79,8 @@ impl<'a, 'b> Linked<'a, 'b> {
     }
 
     /// Whether an identity is derived from another, in one step or more (RFC 7950, section 7.18.2). Where identities
-    /// have several bases each it may take one step for each way to a base: who asks about files from strangers
-    /// takes `descendants`.
+    /// have several bases each it may take one step for each way to a base: use `descendants` for files from
+    /// strangers.
     pub fn derived(&self, identity: IdentityRef, base: IdentityRef) -> bool
         ensures { (files : Files) (choice : Choice) → AreLinked files choice self.now
             → IsTrue result ↔ IsDerived (map brief_of files) (rows_of files) identity base }

@@ -66,8 +66,8 @@ fn linked_rows<'a, 'b>(
 }
 
 /// The files as a whole, or the least refusal of their modules, features and identities by phase, file, offset and
-/// code. Statements that aren't as the tables of the language say are taken as they are. More than 2^32 files are none
-/// for want of memory.
+/// code. Statements that the tables of the language don't allow are not refused here. More than 2^32 files are refused as
+/// if memory ran out.
 pub fn link<'a, 'b>(
     alloc: Global,
     files: &'a [Statement<'b>],

@@ -14,7 +14,7 @@ use yv_selection::Selection;
 pub struct ModuleRef {
     /// The place of its file in the list of files.
     pub file: u32,
-    /// Whether it is implemented, and not there for its definitions alone (RFC 7950, section 5.6.5).
+    /// Whether it is implemented, and not only imported (RFC 7950, section 5.6.5).
     pub implemented: bool,
 }
 

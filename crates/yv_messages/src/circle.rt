@@ -1,4 +1,4 @@
-//! The circle of imports of which a refusal speaks.
+//! The circle of imports that a refusal is about.
 ghost use Rattle.std.specs.Prelude.{OnOk, string_bytes};
 ghost use Rattle.yv_messages.specs.Quoted.{Extends};
 
@@ -140,7 +140,7 @@ fn push_link(
     }
 }
 
-/// Adds the circle of modules in which an import stands: this module, the one that it imports, and so on.
+/// Adds the circle of modules that an import is part of: this module, the one that it imports, and so on.
 pub(crate) fn push_circle<'a>(
     alloc: Global,
     text: &mut String,

@@ -1,4 +1,4 @@
-//! What helps a person to mend a file that is refused.
+//! What helps a person to fix a file that is refused.
 ghost use Rattle.std.specs.Prelude.{map, string_bytes, OnOk, IfOk, slice_get, ◌≡◌};
 ghost use Rattle.yv_streams.specs.Files.{file_of};
 ghost use Rattle.yv_messages.specs.Excerpt.{Explains};
@@ -74,7 +74,7 @@ fn push_told(
 }
 
 /// The line of the file with a caret under the place of a refusal, and below it the refusal's name with a sentence. The sentence
-/// names the statement's argument or keyword of which the refusal speaks, where the files can be read; where not, it is the one
+/// names the argument or keyword that the refusal is about, where the files can be read; where not, it is the one
 /// that fits every refusal of that name.
 pub fn explanation(
     alloc: Global,

@@ -163,7 +163,7 @@ fn push_unseen(
 }
 
 /// Adds what may have been meant by the name of a statement that is refused since the name means nothing: the name that is most like
-/// it, or where a definition stands that has it and isn't visible. Nothing, where no name is alike.
+/// it, or where a definition is that has it and isn't visible. Nothing, where no name is alike.
 pub(crate) fn push_guess(
     alloc: Global,
     text: &mut String,

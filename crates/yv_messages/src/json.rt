@@ -29,7 +29,7 @@ fn start_of(bytes: &[u8], line: usize) -> usize {
     bytes.len()
 }
 
-/// Why these bytes are no JSON: the line and the column with the line that stands there, and the reason. None where they are
+/// Why these bytes are not JSON: the line and the column with the text of that line, and the reason. None where they are
 /// JSON.
 pub fn why_not_json(alloc: Global, bytes: &[u8]) -> Result<Option<String>, AllocError>
     ensures { IfOk result (λ why. IfSome why (λ text. SaysWhy bytes.now (string_bytes text))) }

@@ -1,4 +1,4 @@
-//! What a person is told of a file that is refused, or has a pattern that isn't built: the line of the place, and a sentence on what is wrong
+//! The messages for a file that is refused, or has a pattern that isn't built: the line of the place, and a sentence on what is wrong
 //! there.
 #![tactic(auto)]
 

@@ -37,8 +37,8 @@ fn is_unbuilt(
     is_unbuilt_text(alloc, patterns, name_of(statement))
 }
 
-/// The first statement of the files that is a pattern of the dialect and isn't built in the room that those before it leave. What stands
-/// in extensions' statements is no pattern.
+/// The first statement of the files that is a pattern of the dialect and isn't built in the room that those before it leave. What is
+/// in extensions' statements is not a pattern.
 pub(crate) fn first_unbuilt<'r, 'a, 'b>(
     alloc: Global,
     rows: &'r Rows<'a, 'b>,

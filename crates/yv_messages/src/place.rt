@@ -8,7 +8,7 @@ use std::alloc::{AllocError, Global};
 const WINDOW: usize = 72;
 
 /// The line that holds an offset, and below it a caret at the offset. A line that is longer than a
-/// terminal is shown round the offset alone, and what could drive a terminal is shown as dots.
+/// terminal is shown only around the offset, and what could drive a terminal is shown as dots.
 pub fn excerpt(alloc: Global, bytes: &[u8], offset: usize) -> Result<String, AllocError>
     requires { offset ≤ length bytes.now }
     ensures { IfOk result (λ s. ShowsPlace bytes.now offset (string_bytes s)) }

@@ -1,8 +1,8 @@
-//! Sentences on refusals, with a hole for the word of which they speak.
+//! Sentences on refusals, with a hole for the word that they name.
 use crate::guess::Guess;
 use yv_statement::{Code, Statement};
 
-/// What stands before and behind the word of which a sentence speaks.
+/// What is before and after this word.
 #[derive(Clone, Copy)]
 pub(crate) struct Sentence {
     pub(crate) before: &'static str,

@@ -176,7 +176,7 @@ fn push_help<'a>(
     }
 }
 
-/// What a run was asked to keep to.
+/// What a run was given: its selection of modules and features, and its limit.
 #[derive(Clone, Copy)]
 pub struct Bounds<'b> {
     pub selection: &'b Selection,
@@ -184,10 +184,10 @@ pub struct Bounds<'b> {
     pub limit: u32,
 }
 
-/// Adds what is said of a refusal: a sentence that names the word of which it speaks, where a statement stands at its place, and
-/// else one that fits every refusal of its code. Of a name that is there twice the other place is told, where it is a statement
-/// of the same block; of a name that means nothing the one that may have been meant; of imports in a circle their modules; and of
-/// too many nodes how many there are.
+/// Adds what is said of a refusal: a sentence that names the word at fault, where there is a statement at its place, and
+/// else one that fits every refusal of its code. For a name that occurs twice it gives the other place, if that is a statement
+/// of the same block; for an unknown name the one that may have been meant; for imports in a circle their modules; and for
+/// too many nodes their number.
 pub fn push_sentence(
     alloc: Global,
     text: &mut String,

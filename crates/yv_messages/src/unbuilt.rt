@@ -1,4 +1,4 @@
-//! What helps a person to mend a pattern that the library of regular expressions doesn't build.
+//! What helps a person to fix a pattern that the library of regular expressions doesn't build.
 ghost use Rattle.std.specs.Prelude.{◌≡◌, length, map, min, string_bytes, IfOk, IfSome};
 ghost use Rattle.yv_rows.specs.Lent.{rows_in};
 ghost use Rattle.yv_streams.specs.Files.{file_of};
@@ -65,9 +65,9 @@ fn told_among(
     }
 }
 
-/// What a person is told of the first pattern of the files that the library of regular expressions doesn't build: the file and the line,
+/// The message on the first pattern of the files that the library of regular expressions doesn't build: the file and the line,
 /// that line with a caret under the statement, and below it the pattern with the reason. The patterns are read in the order of the files,
-/// each in the room that those before it leave; none is told where all are built, or where the files can't be read.
+/// each in the room that those before it leave. None if all are built, or if the files can't be read.
 pub fn unbuilt_pattern(alloc: Global, inputs: &[Input]) -> Result<Option<String>, AllocError>
     ensures { IfOk result (λ found. IfSome found (λ s. TellsPattern (map file_of inputs.now) (string_bytes s))) }
 {

@@ -1,4 +1,4 @@
-//! How many nodes and uses modules come to.
+//! How many nodes and uses modules expand to.
 ghost use Rattle.std.specs.Prelude.{OnOk, string_bytes};
 ghost use Rattle.yv_messages.specs.Quoted.{Extends};
 
@@ -69,7 +69,7 @@ fn push_grouped(alloc: Global, text: &mut String, number: u64) -> Result<(), All
     Ok(())
 }
 
-/// Adds how many nodes and uses the implemented modules come to, and what the limit is.
+/// Adds how many nodes and uses the implemented modules expand to, and what the limit is.
 pub(crate) fn push_units(
     alloc: Global,
     text: &mut String,

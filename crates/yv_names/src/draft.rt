@@ -9,7 +9,7 @@ ghost use Rattle.yv_names.specs.Taken.{defined, is_of};
 use std::alloc::{AllocError, Global};
 use yv_rows::{Entry, Kind, Places, Rows, first_places};
 
-/// The statements, and where a name of each kind stands first in each block.
+/// The statements, and where a name of each kind occurs first in each block.
 #[derive(Drop)]
 pub(crate) struct Draft<'r, 'a, 'b> {
     pub rows: &'r Rows<'a, 'b>,
@@ -48,7 +48,7 @@ impl<'r, 'a, 'b> Draft<'r, 'a, 'b> {
         })
     }
 
-    /// Where names of a kind stand that is defined in blocks.
+    /// Where names of a kind occur that is defined in blocks.
     pub(crate) fn places(&self, kind: Kind) -> &Places<'a>
         ensures { (r : Row) → defined r ≡ Some kind → table_of result.now ≡ first_of kind (rows_in self.now.rows.now) }
     {

@@ -65,7 +65,7 @@ impl Names {
         self.definition(number)
     }
 
-    /// The numbers of all statements, each once, and each typedef and grouping behind all to which it leads.
+    /// The numbers of all statements, each once, and each typedef and grouping after all to which it leads.
     pub fn order(&self) -> &[usize]
         ensures { (files : Files) → AreNames files self.now → IsOrderOf (map brief_of files) (rows_of files) result.now }
     {

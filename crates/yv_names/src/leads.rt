@@ -1,4 +1,4 @@
-//! The definitions for which types and uses count.
+//! The definitions that types and uses count for.
 ghost use Rattle.std.specs.Prelude.{◌≡◌, ◌↔◌, ◌<◌, ℕ, Some, length};
 ghost use Rattle.yv_rows.specs.Rows.{row};
 ghost use Rattle.yv_rows.specs.Lent.{rows_in};
@@ -20,7 +20,7 @@ fn is_between(kind: Kind, entry: &Entry<'_, '_>) -> bool
 }
 
 impl<'a, 'b> Draft<'_, 'a, 'b> {
-    /// The number of the definition of the kind for which a numbered statement counts.
+    /// The number of the definition of the kind that a numbered statement counts for.
     pub(crate) fn owner(&self, kind: Kind, number: usize) -> Option<usize>
         requires { number < length (rows_in self.now.rows.now) }
         ensures { (d : ℕ) → (result ≡ Some d) ↔ CountsFor (rows_in self.now.rows.now) kind number d }

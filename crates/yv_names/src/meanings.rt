@@ -67,7 +67,7 @@ impl<'a, 'b> Draft<'_, 'a, 'b> {
         }
     }
 
-    /// Whether a statement names a definition of the kind, and there is none.
+    /// Whether a statement names a definition of the kind that doesn't exist.
     pub(crate) fn is_unknown(&self, kind: Kind, number: usize, entry: &Entry<'a, 'b>) -> bool
         ensures { IsTrue result ↔ IsUnknown (files_in self.now.rows.now) (rows_in self.now.rows.now) kind number (row entry.now) }
     {

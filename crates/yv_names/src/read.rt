@@ -52,7 +52,7 @@ impl Draft<'_, '_, '_> {
     }
 }
 
-/// What types and uses mean in files, or the least refusal of these: a definition with a name that is taken, a type or
+/// What types and uses mean in files, or the least refusal of these: a definition with a name that is in use, a type or
 /// a uses that means nothing, a typedef or a grouping that leads to itself.
 pub fn names<'a, 'b>(alloc: Global, rows: &Rows<'a, 'b>) -> Result<Names, Stop>
     ensures made { IfOk result (AreNames (lent_in rows.now)) }

@@ -1,4 +1,4 @@
-//! References to definitions, and where statements stand.
+//! References to definitions, and where statements are.
 ghost use Rattle.std.specs.Prelude.{◌≡◌, ℕ, map, OnOk, IfOk};
 ghost use Rattle.yv_rows.specs.Rows.{row};
 ghost use Rattle.yv_rows.specs.Lent.{rows_in};

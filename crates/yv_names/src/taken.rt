@@ -1,4 +1,4 @@
-//! Names of definitions that are taken already.
+//! Names of definitions that are already in use.
 ghost use Rattle.std.specs.Prelude.{◌≡◌, ◌↔◌, ◌||◌, Some, IsTrue};
 ghost use Rattle.yv_rows.specs.Rows.{row};
 ghost use Rattle.yv_rows.specs.Lent.{rows_in};
@@ -88,7 +88,7 @@ impl<'a, 'b> Draft<'_, 'a, 'b> {
         found.is_some()
     }
 
-    /// Whether a definition's name is taken.
+    /// Whether a definition's name is already in use.
     pub(crate) fn is_taken(&self, number: usize, entry: &Entry<'a, 'b>) -> bool
         ensures { IsTrue result ↔ IsTaken (rows_in self.now.rows.now) number (row entry.now) }
     {

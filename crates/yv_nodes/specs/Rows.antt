@@ -12,9 +12,10 @@ pub record Row : Type 0 where
   pub parent : NodeId
   pub children : List NodeId
 
--- rows within a limit
+-- rows within a limit, and how many of them the memory that was asked for has room for
 pub record Bounded : Type 0 where
   pub limit : ℕ
+  pub capacity : ℕ
   pub rows : List Row
 
 -- an implemented module: its name, its prefix, and the number of its file

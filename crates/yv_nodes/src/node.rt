@@ -23,7 +23,7 @@ impl NodeId {
     }
 }
 
-/// How a node stands in the schema tree: what the nodes above it make of it.
+/// The place of a node in the schema tree: what the nodes above it make of it.
 #[derive(Clone, Copy, Debug, PartialEq, Eq)]
 pub struct Standing {
     /// Whether a JSON member of the node has the module's name in front.
@@ -32,7 +32,7 @@ pub struct Standing {
     pub is_config: bool,
     /// Whether it is a key of the list just above.
     pub is_key: bool,
-    /// Whether it is an operation's input, or stands in it.
+    /// Whether it is an operation's input, or is inside it.
     pub is_input: bool,
 }
 
@@ -66,7 +66,7 @@ impl Node {
     ghost use Rattle.yv_nodes.specs.Typed.{typed_row};
 
     /// The node that a statement defines, in the namespace of the module of this name, the number of whose file is `home`, which
-    /// stands so in the tree, with these numbers of the node above it and of those below it.
+    /// has this place in the tree, with these numbers of the node above it and of those below it.
     pub fn new(
         definition: Definition,
         home: u32,
@@ -159,7 +159,7 @@ impl Node {
         self.definition.shared_name()
     }
 
-    /// What a JSON member that writes the node is called: its name, behind the module's and a colon where
+    /// The name of a JSON member that writes the node: its name, after the module's and a colon where
     /// that isn't the module of the parent (RFC 7951, section 4).
     /// The text is made anew, since a module's name may be as long as its file.
     pub fn member(&self, alloc: Global) -> Result<String, AllocError>
@@ -174,7 +174,7 @@ impl Node {
         Ok(text)
     }
 
-    /// The name of the module that stands in front of the name of such a member, over the text that its nodes share, where one does.
+    /// The name of the module before the name of such a member, over the text that its nodes share, where there is one.
     pub fn shared_qualifier(&self) -> Result<Option<RcStr>, AllocError>
         ensures { IfOk result (λ home. self.now.label.member ≡ behind (option_map rc_str_bytes home) self.now.label.defined.name) }
     {
@@ -251,7 +251,7 @@ impl Node {
         self.standing.is_key
     }
 
-    /// Whether it is the input of an operation, or stands in it (RFC 7950, section 7.14.2).
+    /// Whether it is the input of an operation, or is inside it (RFC 7950, section 7.14.2).
     pub fn is_input(&self) -> bool
         ensures { result ≡ self.now.label.is_input }
     {
@@ -280,7 +280,7 @@ impl Node {
     }
 
     /// What the `key` statement of a list names, each name being the one step of a path, in order (RFC 7950, section 7.8.2). A step
-    /// is None where its prefix stands for no module.
+    /// is None where its prefix identifies no module.
     pub fn keys(&self) -> &[Option<PathStep>]
         ensures { result.now ≡ self.now.label.defined.keys }
     {
@@ -301,8 +301,8 @@ impl Node {
         self.definition.uniques()
     }
 
-    /// The argument of its `default` statement, or that of the last of its refines with one, and the file in which that
-    /// stands.
+    /// The argument of its `default` statement, or that of the last of its refines with one, and the file that contains
+    /// it.
     pub fn own_default(&self) -> Option<&WrittenText>
         ensures { option_map (λ written. written_of written.now) result ≡ self.now.label.defined.own_default }
     {

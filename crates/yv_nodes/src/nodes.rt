@@ -1,7 +1,6 @@
 //! Numbered nodes.
-ghost use Rattle.std.specs.Prelude.{◌≡◌, ◌≢◌, ◌<◌, ◌≤◌, All, ℕ, [], ◌∷◌, ◌++◌, length, map, slice_get, IfErr, IfOk, OnOk};
+ghost use Rattle.std.specs.Prelude.{◌≡◌, ◌≢◌, ◌<◌, ◌≤◌, All, ℕ, [], ◌∷◌, ◌++◌, length, map, slice_get, IfErr, IfOk, OnErr, OnOk};
 ghost use Rattle.std.specs.Option.{option_map};
-ghost use Rattle.yv_statement.specs.declared.refusal.Stop.TheVariants.{NoMemory};
 ghost use Rattle.yv_nodes.specs.Typed.{typed_row, types_at};
 ghost use Rattle.yv_nodes.specs.InnerTyped.{retyped, types_in};
 
@@ -9,7 +8,6 @@ use crate::node::{Node, NodeId};
 use std::alloc::{AllocError, Global};
 use std::marker::Model;
 use std::rc::RcSlice;
-use yv_statement::Stop;
 use yv_values::PlainType;
 
 // The types of the nodes to which these numbers lead.
@@ -59,12 +57,12 @@ pub struct Nodes {
 }
 
 impl Model for Nodes {
-    ghost use Rattle.std.specs.Prelude.{◌≤◌, length};
+    ghost use Rattle.std.specs.Prelude.{◌≤◌, length, vec_capacity};
     ghost use Rattle.yv_nodes.specs.Rows.{Bounded};
 
     ghost Value = { Bounded };
 
-    ghost view = { λ a. record { limit = a.limit; rows = a.nodes.items } };
+    ghost view = { λ a. record { limit = a.limit; capacity = vec_capacity a.nodes; rows = a.nodes.items } };
 
     ghost invariant = { λ a. length a.nodes.items ≤ a.limit };
 }
@@ -101,21 +99,21 @@ impl Nodes {
         self.nodes.len() as u32
     }
 
-    /// Adds a node behind the others: no memory where there are as many as the limit.
-    pub fn push(&mut self, node: Node) -> Result<(), Stop>
+    /// Adds a node after the others, of which there must be fewer than the limit. An error, which changes nothing, occurs only
+    /// where more memory had to be allocated.
+    pub fn push(&mut self, node: Node) -> Result<(), AllocError>
+        requires room { length self.old.rows < self.old.limit }
         ensures rows { OnOk result (self.new.rows ≡ self.old.rows ++ node ∷ []) }
+        ensures kept { OnErr result (self.new.rows ≡ self.old.rows) }
+        ensures full { OnErr result (self.old.capacity ≤ length self.old.rows) }
         ensures limit { self.new.limit ≡ self.old.limit }
-        ensures memory { IfErr result (λ stop. stop ≡ NoMemory) }
     {
-        if self.nodes.len() >= self.limit as usize {
-            return Err(Stop::NoMemory);
-        }
         self.nodes.push(node)?;
         Ok(())
     }
 
     /// Gives each node the types of the node to which these numbers, one for each in order, lead: a list of types is shared and not
-    /// copied, so that it takes time and memory linear in the nodes. After Err, for want of memory alone, all is as before.
+    /// copied, so that it takes time and memory linear in the nodes. Err only if memory runs out, and then all is as before.
     pub fn resolve(&mut self, alloc: Global, origins: &[NodeId]) -> Result<(), AllocError>
         requires each { length origins.now ≡ length self.now.rows }
         requires within { All (λ origin. origin.0 < length self.now.rows) origins.now }

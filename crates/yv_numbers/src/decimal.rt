@@ -6,8 +6,8 @@ ghost use Rattle.yv_numbers.specs.Numbers.{integer, value_after, limited, scaled
 use crate::integer::Integer;
 use crate::number::{are_digits, digits, is_negative, is_numeral, signed, without_sign};
 
-/// The number of a decimal text, scaled by so many places behind the point: `3.14` is 314 by two. `None` where the text
-/// is no decimal, has another digit than zero in a place behind those, or the scaled number has more than 64 bits. It
+/// The number of a decimal text, scaled by so many fraction digits: `3.14` is 314 by two. `None` where the text
+/// is not a decimal, has another digit than zero after those places, or the scaled number has more than 64 bits. It
 /// takes time linear in the text and the places.
 #[tactic(auto, unfolding(crate::specs::Numbers::scaled_of))]
 pub fn scaled_of(places: u32, text: &[u8]) -> Option<Integer>

@@ -18,8 +18,8 @@ pub struct Span {
 }
 
 /// The intervals of a type's numbers, or of the lengths of its texts or octets: none is empty, and each begins above
-/// the one before it, as RFC 7950, sections 9.2.4 and 9.4.4, ask of a `range` and of a `length`. So a number is sought
-/// by halves. Copies share one list. Contracts see it as the list of the intervals.
+/// the one before it, as RFC 7950, sections 9.2.4 and 9.4.4, ask of a `range` and of a `length`. So a number is found
+/// by binary search. Copies share one list. Contracts see it as the list of the intervals.
 #[derive(Drop)]
 pub struct Intervals {
     spans: RcSlice<Span>,

@@ -1,4 +1,4 @@
-//! What the readers of numbers answer, by grammar and place value: laws of the definitions alone.
+//! What the readers of numbers answer, by grammar and place value: laws about the definitions only.
 ghost use Rattle.std.specs.Prelude.{◌≡◌, ◌≤◌, ◌↔◌, ℕ, ℤ, List, Some};
 ghost use Rattle.yv_numbers.specs.Numbers.{natural_of, integer_of, based_integer_of, scaled_of};
 ghost use Rattle.yv_numbers.specs.Written.{IsNumeral, IsInteger, IsBasedInteger, IsDecimal, Limited};

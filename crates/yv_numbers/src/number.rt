@@ -18,7 +18,7 @@ pub fn integer_of(text: &[u8]) -> Option<Integer>
     }
 }
 
-/// The whole number of a default's text: hexadecimal behind `0x`, octal behind another leading zero. `None` is as for
+/// The whole number of a default's text: hexadecimal after `0x`, octal after another leading zero. `None` is as for
 /// `integer_of`.
 #[tactic(auto, unfolding(crate::specs::Numbers::based_integer_of))]
 pub fn based_integer_of(text: &[u8]) -> Option<Integer>
@@ -91,7 +91,7 @@ fn digit_of(byte: u8) -> u64
     }
 }
 
-/// The number that digits write behind another, where it has at most 64 bits.
+/// The number that digits write after another, where it has at most 64 bits.
 pub fn digits(radix: u64, from: u64, text: &[u8]) -> Option<u64>
     requires { 1 ≤ radix }
     ensures { result ≡ limited (value_after radix from text.now) }

@@ -1,4 +1,4 @@
-//! Laws of the definitions alone. These functions do nothing: the contract of each is the law.
+//! Laws about the definitions only. These functions do nothing: the contract of each is the law.
 ghost use Rattle.std.specs.Prelude.{◌≡◌, ℕ, List};
 ghost use Rattle.yv_job.specs.Jobs.{Task};
 ghost use Rattle.yv_streams.specs.Files.{File};

@@ -1,5 +1,5 @@
-//! What a run comes to, in the words of the layers below: what files are compiled to, what a document is,
-//! the text that is written of both, and the status that the run ends by.
+//! The result of a run, in the words of the layers below: what files are compiled to, what a document is,
+//! the text that is written for both, and the exit status of the run.
 #![tactic(auto)]
 
 mod document;

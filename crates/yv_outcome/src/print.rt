@@ -99,7 +99,7 @@ fn no_module(alloc: Global) -> Result<Output, AllocError>
     })
 }
 
-/// What is said of a document, and what helps a person to mend it.
+/// What is said of a document, and what helps a person to fix it.
 #[derive(Drop)]
 pub struct Checked {
     pub output: Output,

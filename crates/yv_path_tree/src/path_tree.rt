@@ -7,7 +7,7 @@ use std::alloc::{AllocError, Global};
 use std::collections::BTreeMap;
 
 /// Different paths, each with a number, where what a path has before its last step has a number too: the empty path is 0. Takes memory
-/// for each step that no path before had there. After a want of memory it is of no more use.
+/// for each step that no path before had there. It can't be used after memory ran out.
 #[derive(Drop)]
 pub struct PathTree {
     // The last step of each path; 0 of the first.
@@ -35,7 +35,7 @@ fn branch(branches: &mut [Vec<usize>], front: usize, path: usize) -> Result<(), 
 impl PathTree {
     ghost use Rattle.yv_path_tree.specs.InnerTree.{IsAdded, IsPathTree, known_in, branches_at};
 
-    /// The empty path alone. Err for want of memory alone.
+    /// Only the empty path. Err only if memory runs out.
     pub fn new(alloc: Global) -> Result<PathTree, AllocError>
         ensures { IfOk result (IsPathTree ([] ∷ [])) }
     {
@@ -87,7 +87,7 @@ impl PathTree {
         }
     }
 
-    /// The number of a path, which is a new one where none has these steps. Takes time n log n in its steps. Err for want of memory alone.
+    /// The number of a path, which is a new one where none has these steps. Takes time n log n in its steps. Err only if memory runs out.
     pub fn add(&mut self, alloc: Global, steps: &[usize]) -> Result<usize, AllocError>
         ensures { (paths : List (List ℕ)) → IsPathTree paths self.old
             → IfOk result (λ path. IsAdded paths steps.now path self.new) }

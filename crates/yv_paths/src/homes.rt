@@ -1,4 +1,4 @@
-//! The modules for which prefixes stand.
+//! The modules that prefixes identify.
 ghost use Rattle.std.specs.Prelude.{◌≡◌, List, map, slice_get, IfOk};
 ghost use Rattle.std.specs.Option.{option_and_then};
 ghost use Rattle.yv_rows.specs.Files.{Briefs};
@@ -51,7 +51,7 @@ fn home_at(homes: &[Option<u32>], place: usize) -> Option<u32>
     homes.get(place).copied()?
 }
 
-/// For each prefix of a file the file of the module for which it stands. A module's name, which may be long, is looked up once
+/// For each prefix of a file the file of the module that it identifies. A module's name, which may be long, is looked up once
 /// for a declaration of a prefix, and not for each step that has it.
 #[derive(Drop)]
 pub(crate) struct Homes<'a> {
@@ -71,7 +71,7 @@ impl<'a> Homes<'a> {
         Ok(Homes { prefixes, homes })
     }
 
-    /// The file of the module that a prefix stands for in a file.
+    /// The file of the module that a prefix identifies in a file.
     pub(crate) fn get(&self, file: usize, prefix: &'a str) -> Option<u32>
         ensures { (files : Briefs) (rows : List Row) → AreHomes files rows self.now → result ≡ module_of files rows file prefix.now }
     {

@@ -53,7 +53,7 @@ fn number_at(numbers: &[u32], place: usize) -> Option<u32>
     numbers.get(place).copied()
 }
 
-/// The names of the nodes that statements give, each with one number. They stand once, where their statements do.
+/// The names of the nodes that statements give, each with one number. They are kept once, in their statements.
 #[derive(Drop)]
 pub struct Names<'a> {
     table: Table<'a>,
@@ -65,8 +65,8 @@ pub struct Names<'a> {
 impl<'a> Names<'a> {
     ghost use Rattle.yv_paths.specs.Known.{AreNames};
 
-    /// Numbers the names of these statements, and those of an operation's input and output, which it need not write. Takes
-    /// time n log n in the text. Err for want of memory, and where there are more than 2 to the 32 less 3 statements.
+    /// Numbers the names of these statements, and those of an operation's input and output, which may be left out. Takes
+    /// time n log n in the text. Err if memory runs out, and where there are more than 2 to the 32 less 3 statements.
     pub fn read(alloc: Global, rows: &Rows<'a, '_>) -> Result<Names<'a>, AllocError>
         ensures names { IfOk result (AreNames (rows_in rows.now)) }
         ensures few { OnOk result (length (rows_in rows.now) ≤ 4294967293) }

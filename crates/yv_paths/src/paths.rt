@@ -113,7 +113,7 @@ impl Paths {
     ghost use Rattle.yv_paths.specs.Known.{ArePaths};
 
     /// Reads the paths of all refines and augments, whose names have these numbers. Takes time n log n and memory linear in
-    /// the text. Err for want of memory alone.
+    /// the text. Err only if memory runs out.
     pub fn read<'a>(
         alloc: Global,
         rows: &Rows<'a, '_>,
@@ -130,7 +130,7 @@ impl Paths {
         Ok(Paths { paths })
     }
 
-    /// The steps of the path of a numbered refine or augment. A step is None where no node answers it: its prefix stands for
+    /// The steps of the path of a numbered refine or augment. A step is None where no node answers it: its prefix identifies
     /// no module, or no node has its name.
     pub fn of(&self, statement: usize) -> &[Option<Step>]
         ensures { (files : Briefs) (rows : List Row) → ArePaths files rows self.now

@@ -5,7 +5,7 @@ ghost use Rattle.yv_paths.specs.Names.{qualified};
 /// A step of a schema path as numbers (RFC 7950, section 6.5).
 #[derive(Clone, Copy, Debug, PartialEq, Eq)]
 pub struct Step {
-    /// The file of the module for which its prefix stands. None without a prefix.
+    /// The file of the module that its prefix identifies. None without a prefix.
     pub home: Option<u32>,
     /// The number of its name.
     pub name: u32,

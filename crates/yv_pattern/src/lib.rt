@@ -6,6 +6,7 @@ mod category;
 mod character;
 mod class;
 mod count;
+mod expected;
 pub mod laws;
 mod mark;
 mod matchers;

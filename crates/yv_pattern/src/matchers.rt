@@ -31,8 +31,8 @@ const WIDEST_ROW: usize = 1_100;
 
 /// The matchers of a compilation's patterns, so that a text is held against a pattern that was met before without making its
 /// matcher anew. Only those of small patterns are kept, 4,096 at most. Strangers choose patterns and texts, and a matcher
-/// learns from each byte that it reads, but for those with which the text before began too; so each is charged the most that it may
-/// come to hold, and before all of them together were charged more than 256 MiB, all are dropped.
+/// learns from each byte that it reads, except for those with which the text before began too; so each is charged the most that it
+/// may ever hold, and before all of them together were charged more than 256 MiB, all are dropped.
 #[derive(Drop)]
 pub struct Matchers<'p> {
     slots: Vec<Option<Box<Ready<'p>>>>,
@@ -58,7 +58,7 @@ impl<'p> Matchers<'p> {
         }
     }
 
-    /// None, of which none will be kept: for a single text.
+    /// An empty store that keeps no matcher: for a single text.
     pub fn none(alloc: Global) -> Matchers<'p> {
         Matchers {
             slots: Vec::new(alloc),

@@ -110,7 +110,7 @@ pub(crate) fn bad_pattern() -> Refusal
     }
 }
 
-fn characters_of(alloc: Global, text: &str) -> Result<Vec<char>, AllocError>
+pub(crate) fn characters_of(alloc: Global, text: &str) -> Result<Vec<char>, AllocError>
     ensures { IfOk result (λ v. v.items ≡ chars text.now) }
 {
     text.chars().collect(alloc)

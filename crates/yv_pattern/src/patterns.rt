@@ -2,7 +2,8 @@
 ghost use Rattle.std.specs.Prelude.{◌≡◌, ◌≢◌, ◌≤◌, IfOk, IfErr, IfSome, string_bytes};
 ghost use Rattle.yv_pattern.specs.Spells.{Translates, IsRefusedAs};
 
-use crate::pattern::{Pattern, bad_pattern, source_of};
+use crate::expected::expected_tables;
+use crate::pattern::{Pattern, bad_pattern, characters_of, source_of};
 use std::alloc::{AllocError, Global};
 use std::collections::BTreeMap;
 use std::rc::Rc;
@@ -11,8 +12,8 @@ use yv_statement::{Refusal, Stop};
 // How many bytes of tables `regex` may build for the patterns of one compilation, all together.
 const ROOM: usize = 268_435_456;
 
-// The limits on these bytes that are tried for a pattern, one after another. The last is `regex`'s own. The first tell small
-// patterns apart, since a matcher that is kept grows with its pattern's tables.
+// The limits on these bytes that are tried for a pattern, from the first that may be enough on. The last is `regex`'s own. The first tell
+// small patterns apart, since a matcher that is kept grows with its pattern's tables.
 const LIMITS: [usize; 18] = [
     128, 256, 512, 1_024, 2_048, 4_096, 8_192, 16_384, 32_768, 65_536, 131_072, 262_144, 524_288,
     1_048_576, 2_097_152, 4_194_304, 8_388_608, 10_485_760,
@@ -47,20 +48,22 @@ impl Patterns {
         ensures refused { IfErr result (IsRefusedAs text.now) }
     {
         match source_of(alloc, text)? {
-            Some(source) => self.of_source(alloc, source),
+            Some(source) => self.of_source(alloc, text, source),
             None => Err(Stop::Fault(bad_pattern())),
         }
     }
 
-    fn of_source(&mut self, alloc: Global, source: String) -> Result<Rc<Pattern>, Stop>
+    // The pattern of the source that is written for a text.
+    fn of_source(&mut self, alloc: Global, text: &str, source: String) -> Result<Rc<Pattern>, Stop>
         ensures source { IfOk result (λ p. p.value ≡ string_bytes source) }
         ensures kind { IfErr result (λ stop. (refusal : Refusal) → stop ≢ Stop.Fault refusal) }
     {
         if let Some(pattern) = self.known(source.as_str())? {
             return Ok(pattern);
         }
+        let limits = limits_for(alloc, text, source.as_str())?;
         let number = self.built.len();
-        let (pattern, taken) = built(alloc, source.as_str(), number, self.room)?;
+        let (pattern, taken) = built(alloc, source.as_str(), limits, number, self.room)?;
         let pattern = Rc::new(alloc, pattern)?;
         self.room -= taken;
         let copy = pattern.clone()?;
@@ -85,13 +88,19 @@ impl Patterns {
     }
 }
 
-// The pattern of a source, with this number, and the room that it is charged: the least limit with which `regex` builds it.
-fn built(alloc: Global, source: &str, number: usize, room: usize) -> Result<(Pattern, usize), Stop>
+// The pattern of a source, with this number, and the room that it is charged: the first of these limits with which `regex` builds it.
+fn built(
+    alloc: Global,
+    source: &str,
+    limits: &[usize],
+    number: usize,
+    room: usize,
+) -> Result<(Pattern, usize), Stop>
     ensures source { IfOk result (λ p. p.0 ≡ source.now) }
     ensures room { IfOk result (λ p. p.1 ≤ room) }
     ensures kind { IfErr result (λ stop. (refusal : Refusal) → stop ≢ Stop.Fault refusal) }
 {
-    for limit in limits_for(source) {
+    for limit in limits {
         let given = (*limit).min(room);
         match Pattern::within(alloc, source, given, Some(number)) {
             Ok(pattern) => return Ok((pattern, given.max(LEAST_CHARGE).min(room))),
@@ -105,11 +114,12 @@ fn built(alloc: Global, source: &str, number: usize, room: usize) -> Result<(Pat
     Err(Stop::PatternBuild)
 }
 
-// The limits that are worth trying: tables aren't much smaller than what they are of, and each try reads it anew.
-fn limits_for(source: &str) -> &'static [usize] {
-    let least = source.len();
+// The limits that are worth trying for a text and its source, since each try reads it anew: tables aren't much smaller than what they are of.
+fn limits_for(alloc: Global, text: &str, source: &str) -> Result<&'static [usize], AllocError> {
+    let characters = characters_of(alloc, text)?;
+    let least = expected_tables(alloc, characters.as_slice())?.max(source.len());
     let skipped = LIMITS
         .partition_point(|limit| *limit < least)
         .min(LIMITS.len() - 1);
-    &LIMITS[skipped..]
+    Ok(&LIMITS[skipped..])
 }

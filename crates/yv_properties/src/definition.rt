@@ -52,7 +52,7 @@ pub struct DefinitionDraft {
     pub type_default: Option<WrittenText>,
     /// The values that these give it: one at most at a leaf.
     pub defaults: RcSlice<Value>,
-    /// The number of the file in which the statement stands.
+    /// The number of the file that contains the statement.
     pub file: u32,
     /// The fewest entries that a list or leaf-list has to have: 0 where nothing is said.
     pub min: u32,
@@ -62,7 +62,7 @@ pub struct DefinitionDraft {
     pub kind: NodeKind,
     /// Whether the node is still to be used.
     pub status: NodeStatus,
-    /// Whether the node being there says something by itself.
+    /// Whether this is a presence container (RFC 7950, section 7.5.1).
     pub has_presence: bool,
     /// Whether its `mandatory` statement says true.
     pub is_mandatory: bool,
@@ -171,7 +171,7 @@ impl Model for Definition {
 }
 
 impl Definition {
-    /// The number of the file in which the statement stands.
+    /// The number of the file that contains the statement.
     pub fn file(&self) -> u32
         ensures { result ≡ self.now.file }
     {
@@ -279,7 +279,7 @@ impl Definition {
     }
 
     /// What its `key` statement names, each name being the one step of a path, in order: nothing without one (RFC 7950, section
-    /// 7.8.2). A step is None where its prefix stands for no module.
+    /// 7.8.2). A step is None where its prefix identifies no module.
     pub fn keys(&self) -> &[Option<PathStep>]
         ensures { result.now ≡ self.now.keys }
     {
@@ -300,22 +300,22 @@ impl Definition {
         self.said.keys.contains(home, name)
     }
 
-    /// The paths of each of its `unique` statements, in order (RFC 7950, section 7.8.3). A step is None where its prefix stands
-    /// for no module.
+    /// The paths of each of its `unique` statements, in order (RFC 7950, section 7.8.3). A step is None where its prefix
+    /// identifies no module.
     pub fn uniques(&self) -> &[Vec<Vec<Option<PathStep>>>]
         ensures { map paths_in result.now ≡ self.now.uniques }
     {
         self.said.uniques.as_slice()
     }
 
-    /// The argument of its `default` statement, and the file in which that stands.
+    /// The argument of its `default` statement, and the file that contains it.
     pub fn own_default(&self) -> Option<&WrittenText>
         ensures { option_map (λ written. written_of written.now) result ≡ self.now.own_default }
     {
         self.said.own_default.as_ref()
     }
 
-    /// The default that its type has by its typedefs, and the file in which that stands (RFC 7950, section 7.3.4).
+    /// The default that its type has by its typedefs, and the file that contains it (RFC 7950, section 7.3.4).
     pub fn type_default(&self) -> Option<&WrittenText>
         ensures { option_map (λ written. written_of written.now) result ≡ self.now.type_default }
     {

@@ -11,7 +11,7 @@ use std::marker::Model;
 use std::rc::RcStr;
 
 /// What the `key` statement of a list names, each name being the one step of a path, in order (RFC 7950, section 7.8.2): None
-/// where a prefix stands for no module. Contracts see the list of steps.
+/// where a prefix identifies no module. Contracts see the list of steps.
 #[derive(Drop)]
 pub struct Keys {
     steps: Vec<Option<PathStep>>,

@@ -11,11 +11,11 @@ pub enum NodeKind {
     LeafList,
     /// Interior nodes without a value, an array of objects in JSON (RFC 7950, section 7.8).
     List,
-    /// Alternatives, of which one may be there; no node of the data tree (RFC 7950, section 7.9).
+    /// Alternatives, at most one of which may be there; not a node of the data tree (RFC 7950, section 7.9).
     Choice,
     /// One alternative of a choice; no node of the data tree (RFC 7950, section 7.9.2).
     Case,
-    /// An object whose content no schema tells (RFC 7950, section 7.10).
+    /// An object whose content no schema describes (RFC 7950, section 7.10).
     Anydata,
     /// A value of any kind (RFC 7950, section 7.11).
     Anyxml,
@@ -23,7 +23,7 @@ pub enum NodeKind {
     Rpc,
     /// An operation on a node of the data tree (RFC 7950, section 7.15).
     Action,
-    /// What a server tells by itself (RFC 7950, section 7.16).
+    /// What a server sends by itself (RFC 7950, section 7.16).
     Notification,
     /// What an rpc or action is given (RFC 7950, section 7.14.2).
     Input,

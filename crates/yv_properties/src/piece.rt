@@ -5,14 +5,14 @@ ghost use Rattle.std.specs.Option.{option_map};
 use std::marker::Model;
 use std::rc::RcStr;
 
-/// A piece of the path of a leafref, as it stands between two `/` (RFC 7950, section 9.9.2). Contracts see it as a `Piece`.
+/// A piece of the path of a leafref, as it is written between two `/` (RFC 7950, section 9.9.2). Contracts see it as a `Piece`.
 #[derive(Drop)]
 pub struct PathPiece {
     /// Its prefix, as it is written. None where it has none.
     pub prefix: Option<RcStr>,
-    /// The number of the file of the module for which the prefix stands. None where that stands for none.
+    /// The number of the file of the module that the prefix identifies. None where it identifies none.
     pub home: Option<u32>,
-    /// The name behind the prefix, or `..`.
+    /// The name after the prefix, or `..`.
     pub name: RcStr,
 }
 
@@ -37,14 +37,14 @@ impl PathPiece {
         }
     }
 
-    /// The number of the file of the module for which the prefix stands. None where that stands for none.
+    /// The number of the file of the module that the prefix identifies. None where it identifies none.
     pub fn home(&self) -> Option<u32>
         ensures { result ≡ self.now.home }
     {
         self.home
     }
 
-    /// The name behind the prefix, or `..`.
+    /// The name after the prefix, or `..`.
     pub fn name(&self) -> &str
         ensures { result.now ≡ self.now.name }
     {

@@ -7,7 +7,7 @@ use std::rc::RcStr;
 /// A step of a path from a list down to a leaf (RFC 7950, section 6.5). Contracts see it as a `Step`.
 #[derive(Drop)]
 pub struct PathStep {
-    /// The number of the file of the module for which its prefix stands. None without a prefix.
+    /// The number of the file of the module that its prefix identifies. None without a prefix.
     pub home: Option<u32>,
     /// The name of the node, without a prefix.
     pub name: RcStr,
@@ -23,7 +23,7 @@ impl Model for PathStep {
 }
 
 impl PathStep {
-    /// The number of the file of the module for which its prefix stands. None without a prefix.
+    /// The number of the file of the module that its prefix identifies. None without a prefix.
     pub fn home(&self) -> Option<u32>
         ensures { result ≡ self.now.home }
     {

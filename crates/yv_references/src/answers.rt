@@ -21,7 +21,7 @@ use yv_values::{Meter, Tuple};
 
 /// The paths of the values of leafrefs that are the same as none that their own paths reach (RFC 7950, section 9.9), in the order in
 /// which a walk found them. Each value of a leafref that it found is looked up once, in time log n, which is one step; a path is made only
-/// for a value that is told. It fails only where memory does.
+/// for a value that is reported. It fails only if memory runs out.
 pub fn answer(
     alloc: Global,
     schema: &Schema,

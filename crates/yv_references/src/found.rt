@@ -39,7 +39,7 @@ impl Model for Position {
 /// A value of a leafref that was read.
 #[derive(Drop)]
 pub(crate) struct Note {
-    /// The number of the object that it stands in.
+    /// The number of the object that it is in.
     pub(crate) position: u64,
     /// The leafref.
     pub(crate) node: NodeId,
@@ -87,8 +87,8 @@ impl Found {
         }
     }
 
-    /// Enters an object of this container or list, which stands in the object with the number `parent`; with its number from 1, where it
-    /// is an entry. It answers the number of the object. The document is entered first, with the root as its
+    /// Enters an object of this container or list, which is in the object with the number `parent`; with its number from 1, where it
+    /// is a list entry. It answers the number of the object. The document is entered first, with the root as its
     /// node and 0 as its parent.
     pub fn enter(&mut self, parent: u64, node: NodeId, item: Option<u64>) -> Result<u64, AllocError>
         ensures number { IfOk result (λ n. n ≡ length self.old.positions) }

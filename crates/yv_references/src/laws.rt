@@ -1,4 +1,4 @@
-//! Laws over the definitions alone: what an index answers is what a search afresh finds; and how a walk meets what is to be met.
+//! Laws about the definitions only: what an index answers is what a new search finds; and how a walk meets what is to be met.
 ghost use Rattle.std.specs.Prelude.{◌≡◌, ℕ, ◌+◌, Bool, true, List, [], ◌∷◌, ◌++◌, length, Option};
 ghost use Rattle.serde_json.specs.Data.{Members, no_members, object};
 ghost use Rattle.yv_nodes.specs.Numbers.{rows_from};
@@ -50,7 +50,7 @@ pub fn nothing_met()
     ensures { (a : Findings) → Meets a a [] [] [] }
 {}
 
-/// What is met later stands behind what was met before.
+/// What is met later comes after what was met before.
 pub fn met_behind()
     ensures { (a b c : Findings) (ks js : List Kept) (ps qs : List Position) (ns ms : List Noted)
         → Meets a b ks ps ns → Meets b c js qs ms → Meets a c (ks ++ js) (ps ++ qs) (ns ++ ms) }

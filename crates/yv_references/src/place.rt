@@ -18,7 +18,7 @@ pub struct MemberName<'s> {
     pub module: Option<&'s str>,
     /// The name without its module, or all that the document has where it names no node.
     pub name: &'s str,
-    /// Whether it is a choice, which no member writes: its name stands in parentheses.
+    /// Whether it is a choice, which no member writes: its name is in parentheses.
     pub is_choice: bool,
 }
 
@@ -30,7 +30,7 @@ pub struct Step {
     module: Option<RcStr>,
     /// The name without its module, or all that the document has where it names no node.
     name: RcStr,
-    /// Whether it is a choice, which no member writes: its name stands in parentheses.
+    /// Whether it is a choice, which no member writes: its name is in parentheses.
     is_choice: bool,
     /// The number from 1 of the entry or item.
     pub item: Option<u64>,

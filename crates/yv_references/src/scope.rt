@@ -5,12 +5,12 @@ ghost use Rattle.yv_references.specs.InUse.{enforces, enforces_beside, uses_defa
 use yv_nodes::NodeId;
 use yv_walk::Standing;
 
-/// Where the rules of a node hold: always, in a case of which these nodes exist, or only by default.
+/// Where the rules of a node hold: always, in a case if one of these nodes exists, or only by default.
 #[derive(Clone, Copy, Debug, PartialEq, Eq)]
 pub enum Scope {
     Always,
     InCase(Standing),
-    /// In the default case of a choice of which no case exists (RFC 7950, section 7.9.3).
+    /// In the default case of a choice, if no case of it exists (RFC 7950, section 7.9.3).
     InDefault,
 }
 

@@ -1,4 +1,4 @@
-//! The values of targets, and where they stand.
+//! The values of targets, and where they occur.
 ghost use Rattle.std.specs.Prelude.{◌≡◌, ◌+◌, [], ◌∷◌, OnOk, IsTrue, ◌↔◌};
 ghost use Rattle.yv_values.specs.Count.{counted};
 ghost use Rattle.yv_values.specs.Pairs.{IsWithin};
@@ -11,7 +11,7 @@ use std::marker::Model;
 use yv_nodes::NodeId;
 use yv_values::{Index, Meter, Tuple, Value};
 
-/// For each target an index of its values, each with the numbers of the objects where it stands or is a default in use.
+/// For each target an index of its values, each with the numbers of the objects where it occurs or is a default in use.
 #[derive(Drop)]
 pub(crate) struct Targets {
     alloc: Global,

@@ -15,7 +15,7 @@ use yv_expansion::Origin;
 use yv_leafrefs::Leafref;
 use yv_rows::Rows;
 
-/// What the statements of nodes say. Each is asked once, however many nodes are copies of its node, since its `type` may stand behind
+/// What the statements of nodes say. Each is asked once, however many nodes are copies of its node, since its `type` may come after
 /// much else in its block.
 #[derive(Drop)]
 pub(crate) struct Draft<'a> {
@@ -67,7 +67,7 @@ impl<'a> Draft<'a> {
         Ok(number)
     }
 
-    /// The number of what a node of this origin says. None where it is no leafref.
+    /// The number of what a node of this origin says. None where it is not a leafref.
     pub(crate) fn of(
         &mut self,
         alloc: Global,

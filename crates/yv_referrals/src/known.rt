@@ -4,7 +4,7 @@ use yv_leafrefs::Leafref;
 /// What nodes say as leafrefs.
 #[derive(Drop)]
 pub struct Referrals {
-    /// For each node the number of what it says. None where it is no leafref.
+    /// For each node the number of what it says. None where it is not a leafref.
     pub of: Vec<Option<usize>>,
     /// What is said, which nodes share.
     pub leafrefs: Vec<Leafref>,

@@ -41,7 +41,7 @@ pub(crate) fn read_leafref<'a>(
     }
 }
 
-/// Puts what is said behind the others, and answers its number. None where nothing is said.
+/// Puts what is said after the others, and answers its number. None where nothing is said.
 pub(crate) fn put(
     leafrefs: &mut Vec<Leafref>,
     said: Option<Leafref>,

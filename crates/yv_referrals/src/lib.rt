@@ -4,6 +4,7 @@
 
 mod draft;
 mod known;
+pub mod laws;
 mod leafref;
 mod numbered;
 mod read;

@@ -15,8 +15,8 @@ use yv_rows::Rows;
 
 /// What nodes of these origins say as leafrefs (RFC 7950, section 9.9), the definitions being those of these statements. A
 /// statement is asked for its type once, and a path is read once, or twice where types that share it differ in whether an instance is
-/// required, however many nodes and typedefs share it: it takes time n log n, and memory linear in the nodes and the texts. Err for
-/// want of memory alone.
+/// required, however many nodes and typedefs share it: it takes time n log n, and memory linear in the nodes and the texts. Err
+/// only if memory runs out.
 pub fn referrals<'a>(
     alloc: Global,
     rows: &Rows<'a, '_>,

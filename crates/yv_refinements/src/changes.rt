@@ -38,12 +38,12 @@ impl Model for Changes {
 pub struct Link<'c> {
     /// The place of the sequence from which it goes on, if there is one.
     pub front: Option<usize>,
-    /// The numbers of the refines that it has behind that.
+    /// The numbers of the refines that it has after that.
     pub run: &'c [usize],
 }
 
 impl Changes {
-    /// Nothing changes so many items. Err for want of memory alone.
+    /// No changes to so many items. Err only if memory runs out.
     pub fn none(alloc: Global, count: usize) -> Result<Changes, AllocError>
         ensures runs { IfOk result (λ c. c.runs ≡ []) }
         ensures sequences { IfOk result (λ c. c.sequences ≡ []) }
@@ -56,7 +56,7 @@ impl Changes {
         })
     }
 
-    /// Keeps a run, and answers its number: how many there were before it. It changes nothing yet. Err for want of memory alone.
+    /// Keeps a run, and answers its number: how many there were before it. It changes nothing yet. Err only if memory runs out.
     pub fn add_run(&mut self, refines: Vec<usize>) -> Result<usize, AllocError>
         ensures number { IfOk result (λ number. number ≡ length self.old.runs) }
         ensures runs { OnOk result (self.new.runs ≡ self.old.runs ++ refines.items ∷ []) }
@@ -84,8 +84,8 @@ impl Changes {
         Ok(())
     }
 
-    /// Notes that the refines of a numbered run change an item, behind those that do already. An item past the last changes nothing, and
-    /// so does a run that isn't there. Takes time log n in sequences, whatever the run's length. Err for want of memory alone.
+    /// Notes that the refines of a numbered run change an item, after those that do already. An item past the last changes nothing, and
+    /// so does a run that isn't there. Takes time log n in sequences, whatever the run's length. Err only if memory runs out.
     pub fn note(&mut self, item: usize, run: usize) -> Result<(), AllocError>
         ensures noted { OnOk result (each self.new
             ≡ slice_set (each self.old) item (slice_index_or (each self.old) item [] ++ slice_index_or self.old.runs run [])) }

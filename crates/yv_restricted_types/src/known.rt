@@ -33,7 +33,7 @@ impl Faceted {
 
     /// Reads the types of these statements, the bases being theirs. `PatternBuild` says that `regex` doesn't build the
     /// translation of a pattern of the dialect; no refusal is an error here. Equal patterns are built once, and the types
-    /// share them. It takes time linear in the statements but for what `narrowed` says of each type.
+    /// share them. It takes time linear in the statements except for what `narrowed` says of each type.
     pub fn read(alloc: Global, rows: &Rows<'_, '_>, bases: &Bases) -> Result<Faceted, Stop>
         ensures made { IfOk result (λ faceted. (files : Files) → lent_in rows.now ≡ files → AreBases files bases.now → AreFaceted files faceted) }
         ensures faultless { (r : Refusal) → result ≢ Err (Fault r) }

@@ -1,4 +1,4 @@
-//! Laws of the definitions alone.
+//! Laws about the definitions only.
 ghost use Rattle.std.specs.Prelude.{◌≡◌, ℕ};
 ghost use Rattle.yv_rows.specs.Files.{Files};
 ghost use Rattle.yv_values.specs.Types.{Plain};

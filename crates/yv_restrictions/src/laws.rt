@@ -1,4 +1,4 @@
-//! That entries have the numbers that the RFC assigns: laws of the definitions alone.
+//! That entries have the numbers that the RFC assigns: laws about the definitions only.
 ghost use Rattle.std.specs.Prelude.{◌≡◌, ◌↔◌, ℕ, ℤ, List, Option, Some, None, map};
 ghost use Rattle.yv_numbers.specs.Written.{HasSign, IsNumeral};
 ghost use Rattle.yv_restrictions.specs.Assigned.{AreKept, AreNumbers, names_of};

@@ -38,8 +38,8 @@ pub struct Numbering<'a> {
     map: BTreeMap<&'a [u8], i64>,
 }
 
-/// What comes of a type's entries: the numbers of those that are right, so that types derived from this one are
-/// judged by them alone, and the place among the entries where the first stands that is wrong.
+/// The result for a type's entries: the numbers of those that are right, so that types derived from this one are
+/// judged only by them, and the place of the first wrong one among the entries.
 #[derive(Drop)]
 pub struct Numbered<'a> {
     pub numbering: Numbering<'a>,
@@ -78,7 +78,7 @@ impl<'a> Numbering<'a> {
     }
 
     /// The numbers of a type that is derived from the one with these numbers and lists some of its names (RFC 7950,
-    /// sections 9.6.3 and 9.7.3): each keeps its number. An entry is wrong where its name is none of this type's or is
+    /// sections 9.6.3 and 9.7.3): each keeps its number. An entry is wrong where its name is not one of this type's or is
     /// a right one's before it, or where something other than its number is stated. It takes time n log n.
     pub fn derived(&self, alloc: Global, entries: &[Listed<'a>]) -> Result<Numbered<'a>, AllocError>
         ensures numbers { IfOk result (λ r. (name : List ℕ)

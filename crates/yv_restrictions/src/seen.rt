@@ -12,7 +12,7 @@ use std::collections::BTreeSet;
 
 /// The numbers of a new type with these entries (RFC 7950, sections 9.6.4.2 and 9.7.4.2): the stated one; else 0 for
 /// the first, and one more than the highest so far for a later one. An entry is wrong where its name or its number is
-/// that of a right one before it, where the kind hasn't its number, or where it states what is no whole number; it is left
+/// that of a right one before it, where the kind hasn't its number, or where it states what is not a whole number; it is left
 /// out. It takes time n log n.
 pub fn numbered<'a>(
     alloc: Global,

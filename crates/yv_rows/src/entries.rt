@@ -11,7 +11,7 @@ use crate::places::Places;
 use std::alloc::{AllocError, Global};
 use yv_statement::Statement;
 
-/// A statement, the number of its file, and the number of the block in which its names stand.
+/// A statement, the number of its file, and the number of the block that contains its names.
 #[derive(Clone, Copy)]
 pub struct Entry<'a, 'b> {
     pub file: u32,
@@ -71,7 +71,7 @@ fn add_block<'a, 'b>(
     Ok(())
 }
 
-/// The statements of all files: the roots, and then file by file what stands in them.
+/// The statements of all files: the roots, and then file by file what is in them.
 pub(crate) fn read_entries<'a, 'b>(
     alloc: Global,
     roots: &'a [Statement<'b>],

@@ -1,4 +1,4 @@
-//! The kinds of names, and where a name of a kind stands first.
+//! The kinds of names, and where a name of a kind occurs first.
 ghost use Rattle.std.specs.Prelude.{◌≡◌, ℕ, List, map, IfOk};
 ghost use Rattle.yv_rows.specs.Tables.{table_of, word_of, place_by, first_of};
 ghost use Rattle.yv_rows.specs.Files.{has_word};

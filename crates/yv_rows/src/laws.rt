@@ -1,4 +1,4 @@
-//! Laws of the definitions alone.
+//! Laws about the definitions only.
 ghost use Rattle.std.specs.Prelude.{◌≡◌, ◌<◌, ◌≤◌, ℕ, List, Option, Some, map, length, slice_get};
 ghost use Rattle.yv_statement.specs.Tree.{Tree};
 ghost use Rattle.yv_rows.specs.declared.kind.Kind.{Kind};
@@ -21,7 +21,7 @@ pub fn a_name_means_something_or_nothing()
         → (d : Option ℕ) × MeansIn (map brief_of files) (rows_of files) kind number name d }
 {}
 
-/// Each statement of files stands in an earlier block, or is a root.
+/// Each statement of files is in an earlier block, or is a root.
 pub fn blocks_are_nested()
     ensures { (files : Files) → AreNested (rows_of files) }
 {}
@@ -52,7 +52,7 @@ pub fn statements_stand_in_their_blocks()
     ensures { (files : Files) (number : ℕ) → length files ≤ number → StandsIn files number }
 {}
 
-/// Where the statements of a file stand in order, their numbers follow their offsets.
+/// Where the statements of a file are in order, their numbers follow their offsets.
 pub fn numbers_follow_offsets()
     ensures { (files : Files) (file : ℕ) (root : Tree) → slice_get files file ≡ Some root
         → IsInOrder root → FollowOffsets (rows_of files) file }

@@ -13,7 +13,7 @@ pub fn name_of<'a>(statement: &'a Statement<'_>) -> &'a str
     statement.argument().unwrap_or("")
 }
 
-/// What stands before the first colon of a name.
+/// The prefix of a name: what is before its first colon.
 pub fn prefix_of(name: &str) -> Option<&str>
     ensures { option_map (λ p. p.now) result ≡ prefix_of name.now }
 {
@@ -21,7 +21,7 @@ pub fn prefix_of(name: &str) -> Option<&str>
     Some(prefix)
 }
 
-/// What stands behind the first colon of a name, or the whole name where it has none.
+/// What is after the first colon of a name, or the whole name where it has none.
 pub fn local(name: &str) -> &str
     ensures { result.now ≡ local_of name.now }
 {

@@ -1,4 +1,4 @@
-//! Where names stand first.
+//! Where names occur first.
 ghost use Rattle.std.specs.Prelude.{◌≡◌, ℕ, List, Option, None, OnOk};
 ghost use Rattle.yv_rows.specs.Tables.{table_of};
 ghost use Rattle.yv_rows.specs.InnerPlaces.{kept};

@@ -66,7 +66,7 @@ impl<'a, 'b> Rows<'a, 'b> {
         &self.entries
     }
 
-    /// The statement of a number, with what stands in its block.
+    /// The statement of a number, with what is in its block.
     pub fn statement(&self, number: usize) -> Option<&'a Statement<'b>>
         ensures { option_map (λ s. s.now) result ≡ slice_get (trees_in self.now) number }
     {
@@ -102,7 +102,7 @@ impl<'a, 'b> Rows<'a, 'b> {
         home(&self.files, &self.names, file)
     }
 
-    /// The number of the file of the module that a prefix stands for in a file.
+    /// The number of the file of the module that a prefix identifies in a file.
     pub fn module_of(&self, file: usize, prefix: &'a str) -> Option<usize>
         ensures { result ≡ module_of (files_in self.now) (rows_in self.now) file prefix.now }
     {

@@ -1,5 +1,5 @@
 //! A run over files that were read: their schema or what is refused of them, the text of it written, and
-//! what helps a person to mend a file that is refused.
+//! what helps a person to fix a file that is refused.
 #![tactic(auto)]
 
 mod compiling;

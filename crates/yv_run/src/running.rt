@@ -49,12 +49,12 @@ impl From<AllocError> for Halt {
     }
 }
 
-/// How a run ended, and what helps a person to mend what was found.
+/// How a run ended, and what helps a person to fix what was found.
 #[derive(Drop)]
 pub struct Ended {
     pub status: Status,
-    /// Where the files were refused, the place and what the refusal means; where a pattern isn't built, its place; where the document is no
-    /// JSON, the place and why; where it has faults, sentences on the first of them. None else, and where there is no memory for it.
+    /// Where the files were refused, the place and what the refusal means; where a pattern isn't built, its place; where the document is not
+    /// JSON, the place and why; where it has faults, sentences on the first of them. None otherwise, or if memory ran out.
     pub note: Option<String>,
 }
 
@@ -112,8 +112,8 @@ pub fn run<R: Read, W: Write>(
     run_with_note(alloc, job, inputs, reader, writer).status
 }
 
-/// Does what `run` does, and tells besides what helps a person: why the files are refused, or which of their patterns isn't built, or why
-/// the document is no JSON, or what is wrong with it.
+/// Does what `run` does, and adds a note that helps a person: why the files are refused, or which of their patterns isn't built, or why
+/// the document is not JSON, or what is wrong with it.
 pub fn run_with_note<R: Read, W: Write>(
     alloc: Global,
     job: &Job,

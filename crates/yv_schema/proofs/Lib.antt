@@ -16,3 +16,4 @@ pub mod Phases
 pub mod Resolving
 pub mod Typing
 pub mod Counting
+pub mod RequiredLinks

@@ -44,6 +44,7 @@ pub(crate) fn build<'a>(
     requires few { length (lent_in rows.now) ≤ 4294967296 }
     requires names { AreNames (choice_of selection.now) (lent_in rows.now) }
     requires basis { TellsOf (choice_of selection.now) (lent_in rows.now) context.now }
+    requires room { length context.now.tree.now.left ≤ limit }
     ensures schema { (b : Basis) → Tells b context.now → b.files ≡ lent_in rows.now
         → IfOk result (λ s. IsTyped (leafrefs_of b) (stated_of b) (whole s)) }
     ensures limit { IfOk result (λ s. s.limit ≡ limit) }

@@ -21,11 +21,11 @@ use yv_selection::Selection;
 use yv_statement::{Statement, Stop};
 use yv_tables::Schema;
 
-/// The schema of the modules that are implemented, by the statements of the files of all modules (RFC 7950,
-/// sections 5.1 and 7.1), or the least refusal by phase, file, offset and code. Statements that the
-/// profile leaves out, as `must`, are refused as `Unsupported`. Where what these modules expand to needs more units than the limit, that is refused
-/// as `TooManyNodes` before anything is built. `PatternBuild` says that the library of regular expressions doesn't build a
-/// pattern of the dialect. A schema of more than 2^32 files is none for want of memory.
+/// The schema of the modules that are implemented, by the statements of the files of all modules (RFC 7950, sections 5.1 and 7.1),
+/// or the least refusal by phase, file, offset and code. Statements that are outside the profile, such as `must`, are refused as
+/// `Unsupported`. If these modules expand to more units than the limit, they are refused as `TooManyNodes` before anything is
+/// built. `PatternBuild` says that the library of regular expressions doesn't build a pattern of the dialect. More than 2^32
+/// files are refused as if memory ran out.
 pub fn compile(
     alloc: Global,
     files: &[Statement<'_>],

@@ -51,7 +51,8 @@ impl<'c, 'a, 'b> Context<'c, 'a, 'b> {
         refined: &'c RefinedDefinitions<'c, 'c, 'a, 'b>,
         tree: &'c FinalTree,
     ) -> Context<'c, 'a, 'b>
-        ensures { (b : Basis) (choice : Choice) → files_in definitions.now ≡ b.files → typing_in definitions.now ≡ b.typing
+        ensures tree { result.tree.now ≡ tree.now }
+        ensures tells { (b : Basis) (choice : Choice) → files_in definitions.now ≡ b.files → typing_in definitions.now ≡ b.typing
             → IsRefinedOf definitions.now tree.now refined.now
             → (k : AreKept choice b.files b.truth tree.now) → k.final ≡ b.final → k.nodes ≡ b.nodes
             → (tells : Tells b result) × (tells.choice ≡ choice) }
@@ -65,7 +66,8 @@ impl<'c, 'a, 'b> Context<'c, 'a, 'b> {
 
     /// The nodes that are left.
     pub(crate) fn left(&self) -> &'c [Node]
-        ensures { (b : Basis) → Tells b self.now → result.now ≡ listed None 0 b.nodes }
+        ensures own { result.now ≡ self.now.tree.now.left }
+        ensures told { (b : Basis) → Tells b self.now → result.now ≡ listed None 0 b.nodes }
     {
         self.tree.left()
     }

@@ -1,5 +1,5 @@
-//! Laws of the definitions alone. These functions do nothing: the contract of each is the law.
-ghost use Rattle.std.specs.Prelude.{◌≡◌, ◌≤◌, ◌⊎◌, ℕ, List, Option, None};
+//! Laws about the definitions only. These functions do nothing: the contract of each is the law.
+ghost use Rattle.std.specs.Prelude.{◌≡◌, ◌≤◌, ◌⊎◌, ℕ, List, Option, None, Some, slice_get, true};
 ghost use Rattle.yv_statement.specs.Codes.{phase_of};
 ghost use Rattle.yv_statement.specs.Order.{IsLeast};
 ghost use Rattle.yv_statement.specs.declared.refusal.Refusal.{Refusal};
@@ -7,7 +7,12 @@ ghost use Rattle.yv_selection.specs.Choice.{Choice};
 ghost use Rattle.yv_rows.specs.Files.{Files};
 ghost use Rattle.yv_schema.specs.Refuses.{Refuses, RefusesBeforeTypes};
 ghost use Rattle.yv_schema.specs.Schema.{AreNotes, AreReferences, IsSchema, TakeUnits};
-ghost use Rattle.yv_nodes.specs.Link.{Link};
+ghost use Rattle.yv_schema.specs.Module.{leafrefs_of};
+ghost use Rattle.yv_statement.specs.Tree.{Tree};
+ghost use Rattle.yv_conform.specs.Fits.{Fits};
+ghost use Rattle.yv_leafrefs.specs.Targets.{RefersTo};
+ghost use Rattle.yv_leafref_links.specs.Links.{OnlyInnerHold};
+ghost use Rattle.yv_nodes.specs.Link.{Link, link_in};
 ghost use Rattle.yv_nodes.specs.Rows.{Note};
 ghost use Rattle.yv_nodes.specs.Tree.{Forest, count};
 
@@ -42,3 +47,15 @@ pub fn types_and_trees_come_late()
     ensures { (choice : Choice) (files : Files) (limit : ℕ) (f : Refusal) → Refuses choice files limit f
         → RefusesBeforeTypes choice files limit f ⊎ (9 ≤ phase_of f.code) }
 {}
+
+/// In a schema of files that conform a leafref that requires an instance has its link to what it refers to, where only containers and
+/// lists hold data nodes (RFC 7950, sections 9.9.2 and 9.9.3).
+pub fn required_leafrefs_have_links()
+    ensures { (choice : Choice) (files : Files) (links : List (Option Link)) → ((n : ℕ) (root : Tree) → slice_get files n ≡ Some root → Fits root)
+        → (are : AreReferences choice files links) → OnlyInnerHold (leafrefs_of are.basis).rows → (n target : ℕ)
+        → (refers : RefersTo (leafrefs_of are.basis) n target) → refers.ref.is_required ≡ true
+        → (link : Link) × (link_in links n ≡ Some link) × (link.target ≡ target) }
+{
+    yv_rows::laws::statements_have_their_rows();
+    yv_leafref_types::laws::an_origin_is_a_leafref();
+}

@@ -1,5 +1,5 @@
 //! The compilation of linked files, phase by phase.
-ghost use Rattle.std.specs.Prelude.{◌≡◌, IfOk, OnOk, Some, None, Err};
+ghost use Rattle.std.specs.Prelude.{◌≡◌, ◌≤◌, length, IfOk, OnOk, Some, None, Err};
 ghost use Rattle.yv_statement.specs.declared.refusal.Refusal.{Refusal};
 ghost use Rattle.yv_statement.specs.declared.refusal.Stop.TheVariants.{Fault, PatternBuild};
 ghost use Rattle.yv_statement.specs.Order.{IsLeast};
@@ -22,9 +22,11 @@ use crate::context::{Context, refined_definitions};
 use std::alloc::Global;
 use yv_definitions::Definitions;
 use yv_definitions::laws::{files_have_one_typing, types_tell_typing};
+use yv_expansion::laws::a_tree_is_listed_whole;
 use yv_features::laws::an_expression_has_one_truth;
 use yv_final_tree::laws::{
-    files_have_one_final_tree, refusals_of_expansions_have_phases, what_is_left_is_one,
+    files_have_one_final_tree, nodes_are_within_items, refusals_of_expansions_have_phases,
+    what_is_left_is_one,
 };
 use yv_final_tree::{FinalTree, final_tree};
 use yv_leafrefs::laws::a_tree_is_typed_once;
@@ -36,7 +38,7 @@ use yv_statement::Stop;
 use yv_tables::Schema;
 use yv_types::{Types, types};
 
-/// The schema of linked files in which nothing is refused so far, or the least refusal of what comes behind.
+/// The schema of linked files in which nothing is refused so far, or the least refusal of the phases that follow.
 pub(crate) fn of_linked(
     alloc: Global,
     linked: &Linked<'_, '_>,
@@ -65,6 +67,8 @@ pub(crate) fn of_linked(
 {
     links_have_phases();
     refusals_of_expansions_have_phases();
+    nodes_are_within_items();
+    a_tree_is_listed_whole::<usize>();
     let names = match names(alloc, linked.rows()) {
         Ok(names) => names,
         Err(stop) => return Err(stop),
@@ -73,6 +77,8 @@ pub(crate) fn of_linked(
         Ok(tree) => tree,
         Err(stop) => return Err(stop),
     };
+    // There are no more items than the limit.
+    let _items = tree.len();
     of_expanded(alloc, linked, names, &tree, selection, limit)
 }
 
@@ -85,7 +91,8 @@ fn of_expanded(
     selection: &Selection,
     limit: u32,
 ) -> Result<Schema, Stop>
-    requires { SomeExpanded (choice_of selection.now) limit linked.now names tree.now }
+    requires given { SomeExpanded (choice_of selection.now) limit linked.now names tree.now }
+    requires room { length tree.now.left ≤ limit }
     ensures schema { (files : Files) → AreExpanded (choice_of selection.now) files limit linked.now names tree.now
         → IfOk result (λ s. IsSchema (choice_of selection.now) files (whole s)) }
     ensures limit { IfOk result (λ s. s.limit ≡ limit) }

@@ -77,7 +77,7 @@ fn note(
     }))
 }
 
-/// The augments at the tops of modules and submodules of which a node is left, by file and statement, each with the node to which it
+/// The augments at the tops of modules and submodules that leave a node, by file and statement, each with the node to which it
 /// adds and those that it adds.
 pub(crate) fn notes(
     alloc: Global,

@@ -1,5 +1,5 @@
 //! The nodes of a schema.
-ghost use Rattle.std.specs.Prelude.{◌≡◌, [], ◌∷◌, ◌++◌, List, IfOk, IfErr, OnOk, slice_index_or};
+ghost use Rattle.std.specs.Prelude.{◌≡◌, ◌≤◌, ◌+◌, [], ◌∷◌, ◌++◌, List, length, IfOk, IfErr, OnOk, slice_index_or};
 ghost use Rattle.std.specs.Rc.{rc_str_bytes};
 ghost use Rattle.yv_statement.specs.declared.refusal.Stop.TheVariants.{NoMemory};
 ghost use Rattle.yv_children.specs.Families.{lists_of};
@@ -37,8 +37,9 @@ pub(crate) struct Builder<'c, 'a, 'b> {
 }
 
 impl Builder<'_, '_, '_> {
-    /// The nodes that are left, each before those below it: as many as that is, and no more than the limit.
+    /// The nodes that are left, each before those below it, of which there are no more than the limit.
     pub(crate) fn numbered(&self, limit: u32) -> Result<Numbered, Stop>
+        requires { length self.now.context.now.tree.now.left ≤ limit }
         ensures rows { (b : Basis) → Tells b self.now.context.now → AreHomes b.files self.now.homes.now
             → IfOk result (λ n. n.nodes.rows ≡ rows_from 0 (stated_of b)) }
         ensures top { (b : Basis) → Tells b self.now.context.now → AreHomes b.files self.now.homes.now
@@ -61,6 +62,7 @@ impl Builder<'_, '_, '_> {
         below: &[Vec<usize>],
         nodes: &mut Nodes,
     ) -> Result<(), Stop>
+        requires { length nodes.old.rows + length items.now ≤ nodes.old.limit }
         ensures rows { (b : Basis) → Tells b self.now.context.now → AreHomes b.files self.now.homes.now → OnOk result (nodes.new.rows
             ≡ nodes.old.rows ++ rows_for b (lists_of below.now) [] 0 items.now) }
         ensures limit { nodes.new.limit ≡ nodes.old.limit }

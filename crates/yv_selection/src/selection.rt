@@ -12,7 +12,7 @@ pub struct Selection {
     /// Modules, each with the features of it that are supported. Of a module that isn't named, all
     /// features are. Entries of one module are joined.
     pub support: Vec<(String, Vec<String>)>,
-    /// The modules that are there for their definitions alone: they give no data nodes and no values
+    /// The modules that are imported but not implemented: they give no data nodes and no values
     /// of identityrefs, and their augments aren't applied.
     pub import_only: Vec<String>,
 }

@@ -9,7 +9,7 @@ ghost use Rattle.yv_source.specs.Inner.Pairs.{bad_found, bad_pair, is_newer, is_
 use crate::scan::Found;
 use yv_statement::Statement;
 
-/// Where the first bad backslash pair stands, of those so far and of the piece at a place.
+/// Where the first bad backslash pair is, of those so far and of the piece at a place.
 pub(crate) fn bad_found(bad: Option<usize>, bytes: &[u8], found: Found, at: usize) -> Option<usize>
     requires found { at + length_of found ≤ length bytes.now }
     requires so_far { IfSome bad (λ n. n ≤ length bytes.now) }

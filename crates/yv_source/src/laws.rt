@@ -1,4 +1,4 @@
-//! Laws of the definitions alone. These functions do nothing: the contract of each is the law.
+//! Laws about the definitions only. These functions do nothing: the contract of each is the law.
 ghost use Rattle.std.specs.Prelude.{◌≡◌, ℕ, List};
 ghost use Rattle.yv_statement.specs.Tree.{Tree};
 ghost use Rattle.yv_statement.specs.declared.refusal.Refusal.{Refusal};

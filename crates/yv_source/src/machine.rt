@@ -13,7 +13,7 @@ use std::alloc::{AllocError, AllocFailed, Global};
 use std::borrow::CowStr;
 use yv_statement::Statement;
 
-/// How deep a statement may stand, the outermost having depth 1.
+/// How deep a statement may be, the outermost having depth 1.
 const MOST_DEEP: usize = 64;
 
 /// What was read of the innermost open statement.
@@ -33,7 +33,7 @@ pub(crate) enum Phase {
     Done,
 }
 
-/// A piece of the text that is no blank and no comment.
+/// A piece of the text that is neither blank nor comment.
 #[derive(Clone, Copy)]
 pub(crate) enum Token<'a> {
     Word(&'a str),
@@ -50,7 +50,7 @@ pub(crate) enum Token<'a> {
 pub(crate) enum Halt {
     /// No statement goes on with it.
     Wrong,
-    /// It begins a statement that stands too deep.
+    /// It begins a statement that is too deep.
     Deep,
     NoMemory,
 }
@@ -77,7 +77,7 @@ impl<T: Drop> From<AllocFailed<T>> for Halt {
     }
 }
 
-/// Takes a token: the open statements, the innermost last, become those behind it.
+/// Takes a token: the open statements, the innermost last, become those after it.
 pub(crate) fn step<'a>(
     alloc: Global,
     stack: &mut Vec<Statement<'a>>,

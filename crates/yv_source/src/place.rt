@@ -12,16 +12,16 @@ use crate::scan::Found;
 /// A place in a text.
 #[derive(Clone, Copy)]
 pub(crate) struct Place {
-    /// How many bytes stand in front of it.
+    /// How many bytes are before it.
     pub(crate) at: usize,
     /// Its line, from 1.
     pub(crate) line: usize,
-    /// How many columns stand in front of it on its line.
+    /// How many columns are before it on its line.
     pub(crate) column: usize,
 }
 
 impl Place {
-    /// The place behind a piece that stands at this one.
+    /// The place after a piece that is at this one.
     pub(crate) fn past(self, bytes: &[u8], found: Found) -> Place
         requires size { length bytes.now ≤ most_bytes }
         requires within { self.at + length_of found ≤ length bytes.now }

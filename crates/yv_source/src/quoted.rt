@@ -18,11 +18,11 @@ use std::marker::Model;
 #[derive(Drop)]
 struct Writer {
     out: String,
-    /// Spaces and tabs that may stand before a line break.
+    /// Spaces and tabs that a line break may follow.
     gap: String,
     /// A CR that may belong to one.
     cr: bool,
-    /// A backslash stands before.
+    /// The character before is a backslash that begins an escape.
     escaped: bool,
     /// How many columns of the line are still stripped.
     left: usize,
@@ -37,7 +37,7 @@ impl Model for Writer {
     ghost view = { λ w. record { out = string_bytes w.out; gap = string_bytes w.gap; cr = w.cr; escaped = w.escaped; left = w.left } };
 }
 
-/// What a double-quoted text says whose quote stands behind this many columns: the text itself, where stripping and escapes
+/// What a double-quoted text says whose quote comes after this many columns: the text itself, where stripping and escapes
 /// leave it as it is.
 pub(crate) fn said<'a>(
     alloc: Global,

@@ -19,9 +19,9 @@ use crate::turn::turn;
 use std::alloc::Global;
 use yv_statement::{Code, Statement, Stop};
 
-/// The one statement of a source (RFC 7950, section 6), or what is refused first: BadToken where no token may stand,
-/// BadSyntax at a token with which no statement goes on, or at the text's end where none is whole, TooDeep at a keyword
-/// of depth 65; and where none of these stands, BadEscape at the first backslash pair that YANG 1.1 doesn't know, in a
+/// The one statement of a source (RFC 7950, section 6), or what is refused first: BadToken where no token is allowed,
+/// BadSyntax at the first token that cannot continue a statement, or at the text's end where none is whole, TooDeep at a
+/// keyword of depth 65; and where none of these applies, BadEscape at the first backslash pair that YANG 1.1 doesn't know, in a
 /// file of that version. An offset counts bytes, a line is counted from 1.
 pub fn parse<'a>(alloc: Global, source: &'a Source) -> Result<Statement<'a>, Stop>
     ensures spelled { IfOk result (IsSpelled source.now.text) }

@@ -7,14 +7,14 @@ ghost use Rattle.yv_source.specs.Pieces as Piece;
 ghost use Rattle.yv_source.specs.Inner.Scan.{ahead_in, before_of, shown, is_unquoted, unless_unquoted, closed, closed_by_two, word_or_plus, from, from_quote};
 ghost use Rattle.yv_source.specs.Inner.Turn.{length_of, past_found};
 
-/// What stands in front of a place.
+/// What is before a place.
 #[derive(Clone, Copy)]
 pub(crate) enum Before {
     /// Neither of the others.
     Apart,
     /// An unquoted text, right before it.
     Unquoted,
-    /// A quoted text, but for blanks and comments.
+    /// A quoted text, with only blanks and comments between.
     Quoted,
 }
 
@@ -33,12 +33,12 @@ pub(crate) enum Found {
     Plus,
 }
 
-/// What stands at a place.
+/// What is at a place.
 #[derive(Clone, Copy)]
 pub(crate) enum Ahead {
     /// The text's end.
     End,
-    /// Nothing that may stand there.
+    /// Nothing that is allowed there.
     Nothing,
     Piece(Found),
 }
@@ -59,7 +59,7 @@ impl Found {
 }
 
 impl Before {
-    /// What stands in front of the place behind a piece.
+    /// What is before the place after a piece.
     pub(crate) fn past(self, found: Found) -> Before
         ensures { before_of result ≡ past_found (before_of self) found }
     {
@@ -87,7 +87,7 @@ impl Before {
     }
 }
 
-/// What stands at an offset of a text, behind what stands in front of it.
+/// What is at an offset of a text, after what is before it.
 pub(crate) fn look_ahead(before: Before, bytes: &[u8], at: usize) -> Ahead
     requires { at ≤ length bytes.now }
     ensures { result ≡ ahead_in (before_of before) (drop at bytes.now) }

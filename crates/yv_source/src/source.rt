@@ -14,7 +14,7 @@ use yv_statement::{Code, Stop, is_legal};
 /// How many bytes a file may have.
 pub const MOST_BYTES: usize = 4_194_304;
 
-/// A file's name and text. The text is UTF-8, has legal characters alone and at most `MOST_BYTES` bytes.
+/// A file's name and text. The text is UTF-8, has only legal characters and at most `MOST_BYTES` bytes.
 #[derive(Drop)]
 pub struct Source {
     name: String,

@@ -1,4 +1,4 @@
-//! Lists of which most places have nothing, kept in memory that goes by what there is and not by places.
+//! Lists with nothing at most places, kept in memory that grows with the values and not with the places.
 #![tactic(auto)]
 
 mod sparse;

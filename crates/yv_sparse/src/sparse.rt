@@ -1,11 +1,11 @@
-//! What stands at some of many places.
+//! Values at some of many places.
 ghost use Rattle.std.specs.Prelude.{◌≡◌, ℕ, IfOk};
 ghost use Rattle.std.specs.Option.{option_copied};
 
 use std::alloc::{AllocError, Global};
 use std::collections::BTreeMap;
 
-/// What stands at some of many places.
+/// Values at some of many places.
 #[derive(Drop)]
 pub struct Sparse<T> {
     map: BTreeMap<usize, T>,
@@ -14,7 +14,7 @@ pub struct Sparse<T> {
 impl<T: Drop> Sparse<T> {
     ghost use Rattle.yv_sparse.specs.Sparse.{at, item_at};
 
-    /// What stands at the places of a list. Takes time n log n in what there is, and memory for that alone; beside it time linear in places.
+    /// The values at the places of a list. Takes time n log n in the values, and memory for them only; besides, time linear in places.
     pub fn of(alloc: Global, items: Vec<Option<T>>) -> Result<Sparse<T>, AllocError>
         ensures { IfOk result (λ sparse. (place : ℕ) → at sparse place ≡ item_at items.items place) }
     {
@@ -28,7 +28,7 @@ impl<T: Drop> Sparse<T> {
         Ok(Sparse { map })
     }
 
-    /// What stands at a place, if anything does. Takes time log n in what there is.
+    /// The value at a place, if there is one. Takes time log n in the values.
     pub fn get(&self, place: usize) -> Option<&T>
         ensures { option_copied result ≡ at self.now place }
     {

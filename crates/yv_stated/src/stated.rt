@@ -60,7 +60,7 @@ impl Stated {
         }
     }
 
-    /// Whether a node of which this is said is mandatory by itself: by its `mandatory` statement, or since it has an entry at least.
+    /// Whether a node whose statements say this is mandatory by itself: by its `mandatory` statement, or by a `min-elements` above 0.
     pub fn is_mandatory(self) -> bool
         ensures { result ≡ is_mandatory self }
     {
@@ -91,7 +91,7 @@ fn least_in(statement: &Statement<'_>) -> Option<u32>
 ghost use Rattle.yv_numbers.specs.Numbers.{integer_of};
 ghost use Rattle.yv_stated.specs.Properties.{elements};
 
-/// A number of entries. No file that conforms has one that doesn't fit in 32 bits; `unbounded` is none.
+/// A number of entries. In a file that conforms it always fits in 32 bits; `unbounded` is not a number.
 pub fn elements(text: &str) -> Option<u32>
     ensures { result ≡ elements (integer_of text.now) }
 {

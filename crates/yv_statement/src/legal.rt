@@ -13,7 +13,7 @@ pub fn is_legal(character: char) -> bool
         && code % 65536 < 65534
 }
 
-/// Whether the text has such characters alone.
+/// Whether the text has only such characters.
 pub fn is_legal_text(text: &str) -> bool
     ensures { result ≡ all_legal (chars text.now) }
 {

@@ -5,7 +5,7 @@ ghost use Rattle.yv_statement.specs.Order.{IsLesser, IsUpTo, refusal_at};
 use crate::statement::Statement;
 use std::alloc::{AllocError, AllocFailed};
 
-/// What a refusal is for, in the order in which the refusals of one place come.
+/// Refusal codes, in the order in which the refusals at one place are ranked.
 #[derive(Clone, Copy, Debug, PartialEq, Eq)]
 pub enum Code {
     NotUtf8,

@@ -38,7 +38,7 @@ impl<'a> Model for Statement<'a> {
 }
 
 impl<'a> Statement<'a> {
-    /// A statement without argument and block, whose keyword stands at this line and offset.
+    /// A statement without argument and block, whose keyword is at this line and offset.
     pub fn new(alloc: Global, keyword: &'a str, line: u64, offset: u64) -> Self
         ensures { result ≡ bare line offset keyword.now }
     {
@@ -82,7 +82,7 @@ impl<'a> Statement<'a> {
         Ok(())
     }
 
-    /// Adds a statement to its block, behind the others.
+    /// Adds a statement to its block, after the others.
     pub fn adopt(&mut self, mut child: Statement<'a>) -> Result<(), AllocError>
         ensures ok { OnOk result (self.new ≡ push_child self.old child.entry) }
         ensures err { OnErr result (self.new ≡ self.old) }

@@ -12,8 +12,8 @@ use std::io::{Error, ErrorKind, Read, Write};
 const PATIENCE: u64 = 1_000;
 
 /// A reader or a writer, with the errors that its calls have answered. Each call is one call of
-/// what it wraps, and passes on its answer. Once the stream has failed, what it wraps is left
-/// alone: a further call answers an error, and is one more fault.
+/// what it wraps, and passes on its answer. Once the stream has failed, what it wraps is no longer
+/// called: a further call answers an error, and is one more fault.
 #[derive(Drop)]
 pub struct Counted<T> {
     inner: T,
@@ -35,7 +35,7 @@ impl<T> Counted<T> {
     }
 
     /// The errors other than `Interrupted`, and the writes that took none of the bytes that they
-    /// were given, that were answered so far: what a caller may tell of a stream that was given up.
+    /// were given, that were answered so far: what a caller may report of a stream that was given up.
     pub fn faults(&self) -> u64
         ensures { result ≡ stream_faults self.now }
     {
@@ -56,7 +56,7 @@ impl<T> Counted<T> {
         self.faults > 0 || self.interrupts > PATIENCE
     }
 
-    /// What was wrapped, for a caller who goes on with it behind a run.
+    /// What was wrapped, for a caller that goes on with it after a run.
     pub fn into_inner(self) -> T
         ensures { result ≡ stream_inner self }
     {

@@ -12,7 +12,7 @@ use yv_nodes::NodeId;
 /// Nodes by their members, in schema order: of several with one member the first.
 pub(crate) type Table = IndexMap<Member, NodeId>;
 
-/// Nodes by what a JSON member calls them (RFC 7951, section 4): by the file of the module whose name stands in front, where one
+/// Nodes by what a JSON member calls them (RFC 7951, section 4): by the file of the module whose name comes first, where one
 /// does, and by the numbers of their names. Most nodes are leafs, so that no table is made for no nodes.
 #[derive(Drop)]
 pub(crate) struct Directory {

@@ -1,4 +1,4 @@
-//! Laws of the definitions alone. These functions do nothing: the contract of each is the law.
+//! Laws about the definitions only. These functions do nothing: the contract of each is the law.
 ghost use Rattle.std.specs.Prelude.{ℕ, List, [], All, Option};
 ghost use Rattle.yv_values.specs.Types.{Plain};
 ghost use Rattle.yv_nodes.specs.declared.node.NodeId.{NodeId};
@@ -9,7 +9,7 @@ ghost use Rattle.yv_nodes.specs.Typed.{typed_from, typed_rows};
 ghost use Rattle.yv_tables.specs.Numbered.{AreFormed, made_of};
 ghost use Rattle.yv_tables.specs.Sound.{IsChild, IsNote, IsSound};
 
-/// Numbers of children stand for the trees of these, whichever children they are.
+/// Numbers of children represent the trees of these, whichever children they are.
 pub fn children_are_trees()
     ensures { (s : Rows) (p : NodeId) (cs : List NodeId) → IsSound s → All (IsChild s p) cs → AreTrees s cs }
 {}

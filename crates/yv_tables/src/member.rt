@@ -4,17 +4,17 @@ ghost use Rattle.yv_tables.specs.InnerTables.{front_of};
 
 use yv_nodes::Node;
 
-/// What a JSON member calls a node (RFC 7951, section 4), in numbers: these alone are hashed, and never a text that a stranger
+/// What a JSON member calls a node (RFC 7951, section 4), in numbers: only these are hashed, and never a text that a stranger
 /// chooses.
 #[derive(Clone, Copy, Debug, PartialEq, Eq, Hash)]
 pub(crate) struct Member {
-    /// The file of the module whose name stands in front, where one does.
+    /// The file of the module whose name comes first, where one does.
     pub(crate) home: Option<u32>,
     /// The number of the node's name.
     pub(crate) name: u32,
 }
 
-/// What stands in front of a node's name, where this module is around: its own module, unless it is the same.
+/// The module whose name comes before a node's name, where this module is around: its own module, unless it is the same.
 pub(crate) fn front_of(around: Option<u32>, node: &Node) -> Option<u32>
     ensures { result ≡ front_of around node.now.label }
 {

@@ -1,4 +1,4 @@
-//! What a schema tells of its modules and augments.
+//! What a schema says of its modules and augments.
 use std::marker::Model;
 use std::rc::RcStr;
 use yv_nodes::NodeId;

@@ -13,8 +13,8 @@ use yv_leaf_targets::LeafTargets;
 use yv_nodes::{Link, Links, Node, NodeId, Nodes};
 use yv_values::Meter;
 
-/// The schema of modules: nodes with numbers from 0, each behind its parent. Contracts see its rows, and
-/// by them the tree that they stand for.
+/// The schema of modules: nodes with numbers from 0, each after its parent. Contracts see its rows, and
+/// by them the tree that they represent.
 #[derive(Drop)]
 pub struct Schema {
     pub(crate) nodes: Nodes,
@@ -93,7 +93,7 @@ impl Schema {
         self.nodes.limit()
     }
 
-    /// Whether there is no node.
+    /// Whether the schema has no nodes.
     pub fn is_empty(&self) -> bool
         ensures { result ≡ (length self.now.nodes == 0) }
     {
@@ -150,7 +150,7 @@ impl Schema {
     }
 
     /// The number of a choice's default case: a case, or a node that is a case of its own (RFC 7950, section 7.9.3). None where
-    /// there is no default, and of a node that is no choice. Takes time log n.
+    /// there is no default, and of a node that is not a choice. Takes time log n.
     pub fn default_case(&self, choice: NodeId) -> Option<NodeId>
         requires { choice.0 < length self.now.nodes }
         ensures { result ≡ default_case_at self.now.nodes choice }
@@ -192,7 +192,7 @@ impl Schema {
     }
 
     /// The data node that a JSON member of this name writes in an object of this node, or in that of the root: a child, or what
-    /// stands in its choices and cases (RFC 7950, section 7.9; RFC 7951, section 4). A choice or case has no object: below
+    /// is in its choices and cases (RFC 7950, section 7.9; RFC 7951, section 4). A choice or case has no object: below
     /// it nothing is found. The meter counts the look-up.
     pub fn find(&self, meter: &mut Meter, parent: NodeId, member: &str) -> Option<NodeId>
         requires within { rank parent ≤ length self.now.nodes }

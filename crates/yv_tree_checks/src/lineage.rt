@@ -7,7 +7,7 @@ ghost use Rattle.yv_tree_checks.specs.InnerAncestry.{ancestry_of};
 use yv_nodes::Node;
 use yv_properties::NodeKind;
 
-/// What a node and those above it say of what stands below them.
+/// What a node and those above it say of what is below them.
 #[derive(Clone, Copy)]
 pub(crate) struct Ancestry {
     /// There is no such node.
@@ -32,7 +32,7 @@ impl Ancestry {
         in_keyless: false,
     };
 
-    /// That of a node below those of which this one is told.
+    /// That of a node below those that this one describes.
     pub(crate) fn below(self, node: &Node) -> Ancestry
         ensures { (ls : List Label) → self ≡ ancestry_of ls → result ≡ ancestry_of (node.now.label ∷ ls) }
     {

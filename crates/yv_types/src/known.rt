@@ -31,7 +31,7 @@ pub struct Types {
 }
 
 impl Types {
-    /// The plain types of the type statement that stands first at an offset (bytes) of a file, typedefs followed and unions opened in
+    /// The plain types of the first type statement at an offset (bytes) of a file, typedefs followed and unions opened in
     /// order (RFC 7950, section 9.12): no types for a leafref, whose values are its target's. None where there is no type, and for types
     /// that lead to instance-identifier and unions with such a member. Takes time log n.
     pub fn plain(&self, file: u32, offset: u64) -> Option<&[PlainType]>
@@ -67,7 +67,7 @@ impl Types {
         }
     }
 
-    /// The default that the type statement that stands first at an offset (bytes) of a file has by its typedefs (RFC 7950,
+    /// The default that the first type statement at an offset (bytes) of a file has by its typedefs (RFC 7950,
     /// section 7.3.4), with the file in which it is written. None where there is no type, and where no typedef says one.
     pub fn default_at(&self, file: u32, offset: u64) -> Option<&WrittenText>
         ensures { option_map written_of (option_copied result) ≡ default_at self.now file offset }
@@ -76,7 +76,7 @@ impl Types {
         self.defaults.of(number)
     }
 
-    /// What the type statement that stands first at an offset (bytes) of a file says as a leafref, by itself or along its typedefs
+    /// What the first type statement at an offset (bytes) of a file says as a leafref, by itself or along its typedefs
     /// (RFC 7950, sections 9.9.2 and 9.9.3). None where there is no type, and where it leads to no leafref.
     pub fn referring_at(&self, file: u32, offset: u64) -> Option<Referring>
         ensures { result ≡ referring_at self.now file offset }

@@ -1,4 +1,4 @@
-//! Where type statements stand.
+//! Where type statements are.
 ghost use Rattle.std.specs.Prelude.{◌≡◌, ℕ, codes, OnOk, IfOk};
 ghost use Rattle.yv_rows.specs.Rows.{row};
 ghost use Rattle.yv_rows.specs.Lent.{rows_in};

@@ -84,7 +84,7 @@ fn extend(all: &mut Vec<PlainType>, types: &[PlainType]) -> Result<(), AllocErro
     Ok(())
 }
 
-/// The types of members, one behind the other, if each has some.
+/// The types of members, one after the other, if each has some.
 pub(crate) fn joined(
     alloc: Global,
     spaces: &[Option<Shared>],

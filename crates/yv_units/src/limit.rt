@@ -65,8 +65,8 @@ fn first_past(
 
 /// The refusal of the first file with which the units of files pass the limit, at its root (RFC 7950, sections 7.12
 /// and 7.13): those of the files that are marked as given, in their order. A file without a mark isn't given. A node
-/// counts one, an rpc or an action three with its input and output, and a uses one and besides once more what stands
-/// in its grouping. Takes time linear in statements, also where the units are too many to be told.
+/// counts one, an rpc or an action three with its input and output, and a uses one and besides once more what is
+/// in its grouping. Takes time linear in statements, also where the units are too many to be reported.
 pub fn too_many(
     alloc: Global,
     rows: &Rows<'_, '_>,

@@ -51,7 +51,7 @@ fn units_of(keyword: &str) -> Option<u64>
     }
 }
 
-/// What a statement counts by itself; None where neither it nor what stands in it counts.
+/// What a statement counts by itself; None where neither it nor what is in it counts.
 pub(crate) fn own_units(entry: &Entry<'_, '_>) -> Option<u64>
     ensures { result ≡ units_of (row entry.now).head.keyword }
 {

@@ -55,7 +55,7 @@ pub(crate) fn steps(
     Ok(steps)
 }
 
-/// All statements, each behind all to which it leads; none where one leads to itself.
+/// All statements, each after all to which it leads; none where one leads to itself.
 pub(crate) fn order(alloc: Global, steps: &[Vec<usize>]) -> Result<Vec<usize>, AllocError>
     requires { IsGraph steps.now }
     ensures within { IfOk result (λ order. All (λ a. a < length steps.now) order.items) }

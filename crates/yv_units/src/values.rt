@@ -30,7 +30,7 @@ pub(crate) fn sum(values: &[u64], numbers: &[usize]) -> u64
     total
 }
 
-/// What each statement takes, in an order in which each stands behind all whose units it takes.
+/// What each statement takes, in an order in which each comes after all whose units it takes.
 pub(crate) fn values(
     alloc: Global,
     rows: &Rows<'_, '_>,

@@ -62,7 +62,7 @@ pub struct Units {
 }
 
 impl Units {
-    /// Counts the units of files, of which these are the names. Takes time linear in statements.
+    /// Counts the units of files, given their names. Takes time linear in statements.
     pub fn read(alloc: Global, rows: &Rows<'_, '_>, names: &Names) -> Result<Units, AllocError>
         ensures { AreNames (lent_in rows.now) names.now → IfOk result (AreUnits (lent_in rows.now)) }
     {
@@ -71,9 +71,9 @@ impl Units {
         Ok(Units { weights })
     }
 
-    /// How many units the statement of a number takes with all that stands in it, or 2 to the 64 less one where these
+    /// How many units the statement of a number takes with all that is in it, or 2 to the 64 less one where these
     /// are more: a node one, an rpc or an action three with its input and output, a uses one and besides once more what
-    /// stands in its grouping, and a statement that makes no nodes, as a grouping, none (RFC 7950, sections 7.12 and
+    /// is in its grouping, and a statement that makes no nodes, as a grouping, none (RFC 7950, sections 7.12 and
     /// 7.13). 0 past the last statement.
     pub fn weight(&self, number: usize) -> u64
         ensures { (files : Files) → AreUnits files self.now → number < length (rows_of files)

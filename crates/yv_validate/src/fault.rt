@@ -1,4 +1,4 @@
-//! What a validation tells.
+//! What a validation reports.
 ghost use Rattle.std.specs.Prelude.{◌≡◌};
 
 use std::marker::Model;
@@ -9,7 +9,7 @@ use yv_references::Step;
 pub enum FaultKind {
     /// A member names no child data node.
     Unknown,
-    /// A container, an anydata node, an entry of a list or the document is no object, or a list or leaf-list no array.
+    /// A container, an anydata node, a list entry or the document is not an object, or a list or leaf-list is not an array.
     Shape,
     /// The types of a leaf, or of an item of a leaf-list, don't read its value.
     Value,

@@ -23,7 +23,7 @@ pub(crate) fn stood_before(
     }
 }
 
-/// A value alone as a tuple, where it is wanted.
+/// A single value as a tuple, where it is wanted.
 pub(crate) fn alone(
     alloc: Global,
     is_wanted: bool,

@@ -205,7 +205,7 @@ impl<'a> Walk<'a> {
         }
     }
 
-    /// What follows the cases of a choice, of which so many exist.
+    /// What follows the cases of a choice, so many of which exist.
     pub(crate) fn end_choice(
         &self,
         node: &Node,

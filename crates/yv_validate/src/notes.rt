@@ -11,7 +11,7 @@ use yv_nodes::NodeId;
 use yv_tables::Schema;
 use yv_values::{Tuple, Value};
 
-/// The values of leafs, by the leafs' numbers. A default in use stands in the schema alone, and is copied only where it is wanted.
+/// The values of leafs, by the leafs' numbers. A default in use is only in the schema, and is copied only where it is wanted.
 #[derive(Drop)]
 pub(crate) struct Notes {
     alloc: Global,

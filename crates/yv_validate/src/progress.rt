@@ -10,7 +10,7 @@ use yv_references::{Found, laws};
 use yv_tables::Schema;
 use yv_values::{Matchers, Meter, Value};
 
-/// What a walk has told so far, what it has found of references and of their targets, the steps that it took, and the matchers of
+/// What a walk has reported so far, what it has found of references and of their targets, the steps that it took, and the matchers of
 /// patterns that it keeps.
 #[derive(Drop)]
 pub(crate) struct Progress<'a> {

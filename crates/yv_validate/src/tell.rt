@@ -1,4 +1,4 @@
-//! Faults as they are told, with the way to their place.
+//! Faults as they are reported, with the way to their place.
 ghost use Rattle.std.specs.Prelude.{◌≡◌, ◌∷◌, [], ◌++◌, map, OnOk};
 ghost use Rattle.yv_validate.specs.InnerTrail.{places, IsWithin};
 ghost use Rattle.yv_validate.specs.Faults.{flaw, missing as missing_faults, reference_faults};
@@ -13,7 +13,7 @@ use std::rc::RcStr;
 use yv_nodes::Node;
 use yv_references::{Scope, Step};
 
-/// Tells the references that reach nothing, which stand at these paths.
+/// Reports the references that reach nothing, which are at these paths.
 pub(crate) fn tell_references(
     paths: Vec<Vec<Step>>,
     faults: &mut Vec<Fault>,
@@ -31,7 +31,7 @@ pub(crate) fn tell_references(
 }
 
 impl Walk<'_> {
-    /// Tells a fault at the end of a way.
+    /// Reports a fault at the end of a way.
     pub(crate) fn tell(
         &self,
         kind: FaultKind,
@@ -49,7 +49,7 @@ impl Walk<'_> {
         Ok(())
     }
 
-    /// Tells members of an object that name no node.
+    /// Reports members of an object that name no node.
     pub(crate) fn tell_unknowns(
         &self,
         names: &[&str],
@@ -86,7 +86,7 @@ impl Walk<'_> {
         Ok(())
     }
 
-    /// Tells a node that is missing, where it must be there.
+    /// Reports a node that is missing, where it must be there.
     pub(crate) fn missing(
         &self,
         node: &Node,

@@ -9,9 +9,9 @@ use itoa::Buffer;
 use std::alloc::{AllocError, Global};
 use yv_references::{MemberName, Step};
 
-/// A fault's line without its line feed: the name of its kind, a blank and its path, and behind a blank the
+/// A fault's line without its line feed: the name of its kind, a blank and its path, and after a blank the
 /// number where it isn't 0. A path is `/`, or for each step `/` and the member's name, with the number of an
-/// item in brackets; in a name bytes that are no visible ASCII character, and `%`, are percent-encoded.
+/// item in brackets; in a name bytes that are not visible ASCII characters, and `%`, are percent-encoded.
 pub fn line(alloc: Global, fault: &Fault) -> Result<String, AllocError>
     ensures { IfOk result (λ s. string_bytes s ≡ line_text fault.now) }
 {
@@ -20,7 +20,7 @@ pub fn line(alloc: Global, fault: &Fault) -> Result<String, AllocError>
     Ok(text)
 }
 
-/// Writes a fault's line behind a text.
+/// Appends a fault's line to a text.
 pub fn push_line(text: &mut String, fault: &Fault) -> Result<(), AllocError>
     ensures { OnOk result (string_bytes text.new ≡ string_bytes text.old ++ line_text fault.now) }
 {

@@ -7,7 +7,7 @@ use yv_nodes::NodeId;
 use yv_references::Step;
 use yv_tables::Schema;
 
-/// The way from the top to a node: a chain on the stack, written out only where a fault is told.
+/// The way from the top to a node: a chain on the stack, written out only where a fault is reported.
 #[derive(Clone, Copy)]
 pub(crate) enum Trail<'a> {
     Root,

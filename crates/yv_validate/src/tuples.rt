@@ -1,4 +1,4 @@
-//! The tuples by which entries of a list differ.
+//! The tuples by which list entries differ.
 ghost use Rattle.std.specs.Prelude.{◌≡◌, ◌∷◌, [], ◌++◌, ◌+◌, ◌<◌, length, map, min, Some, IfOk, OnOk};
 ghost use Rattle.serde_json.specs.Data.{Data};
 ghost use Rattle.serde_json.specs.View.{view};
@@ -47,7 +47,7 @@ impl Walk<'_> {
         Ok(uniques)
     }
 
-    /// What stands behind an entry, whose leafs have these values, for the `unique` statements of its list.
+    /// What comes after an entry, whose leafs have these values, for the `unique` statements of its list.
     pub(crate) fn end_uniques(
         &self,
         id: NodeId,

@@ -44,7 +44,7 @@ pub(crate) struct Walk<'a> {
     pub(crate) schema: &'a Schema,
 }
 
-/// The faults of a document, in order (RFC 7950, section 8; RFC 7951): what is wrong with its data, and behind it the references that
+/// The faults of a document, in order (RFC 7950, section 8; RFC 7951): what is wrong with its data, and after it the references that
 /// reach nothing, in the order in which their values are met.
 pub fn validate(alloc: Global, schema: &Schema, document: &Value) -> Result<Report, AllocError>
     requires size { size (view document.now) ≤ 16777216 }

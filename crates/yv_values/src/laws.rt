@@ -1,4 +1,4 @@
-//! Laws of names, of identities, and of the definitions alone.
+//! Laws of names and of identities, and laws about the definitions only.
 ghost use Rattle.std.specs.Prelude.{◌≡◌, ℕ, List, Some};
 ghost use Rattle.std.specs.List.{list_any};
 ghost use Rattle.yv_values.specs.Identities.{Id, RiseById, is_identity};
@@ -9,14 +9,14 @@ ghost use Rattle.yv_values.specs.Values.{Val};
 use crate::members::Members;
 use crate::names::Names;
 
-/// Each name of a type stands before all behind it.
+/// Each name of a type comes before all later ones.
 pub fn names_rise(names: &Names)
     ensures { Rises names.now }
 {
     names.rise();
 }
 
-/// Each identity of a type stands before all behind it.
+/// Each identity of a type comes before all later ones.
 pub fn identities_rise(members: &Members)
     ensures { RiseById members.now }
 {

@@ -60,7 +60,7 @@ impl Names {
         !self.equal_to(text).is_empty()
     }
 
-    /// The names that are this text: one where it is a name, since each stands once.
+    /// The names that are this text: one where it is a name, since each occurs once.
     pub(crate) fn equal_to(&self, text: &[u8]) -> &[String]
         ensures names { texts result.now ≡ filter (λ n. bytes_eq n text.now) self.now }
         ensures order { Ascends self.now }

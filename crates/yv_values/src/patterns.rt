@@ -31,9 +31,9 @@ struct Block {
     group: Rc<Group>,
 }
 
-/// The tests of a string type, those of the types that it narrows in front. A chain of types shares them: each has a list
+/// The tests of a string type, those of the types that it narrows first. A chain of types shares them: each has a list
 /// of blocks that are ever lower, as the digits of a binary number, so that a type costs time and memory logarithmic in
-/// the chain behind it, and no call nests deeper. Contracts see them as a list.
+/// the chain that it continues, and no call nests deeper. Contracts see them as a list.
 #[derive(Drop)]
 pub struct PatternTests {
     blocks: RcSlice<Block>,
@@ -61,7 +61,7 @@ impl PatternTests {
         })
     }
 
-    /// These tests, and others behind them.
+    /// These tests, and others after them.
     pub fn with(&self, alloc: Global, others: Vec<PatternTest>) -> Result<PatternTests, AllocError>
         ensures { IfOk result (λ all. all ≡ self.now ++ map test_of others.items) }
     {

@@ -16,21 +16,21 @@ pub struct WholeType {
     pub spans: Intervals,
 }
 
-/// A decimal64: the digits behind the point, and the intervals of the number scaled by them.
+/// A decimal64: its fraction digits, and the intervals of the number scaled by them.
 #[derive(Drop)]
 pub struct DecimalType {
     pub digits: u32,
     pub spans: Intervals,
 }
 
-/// A string type: the intervals of its lengths in characters, and its patterns, all of which must pass.
+/// A string type: the intervals of its lengths in characters, and its patterns, all of which must match.
 #[derive(Drop)]
 pub struct TextType {
     pub lengths: Intervals,
     pub patterns: PatternTests,
 }
 
-/// A type with typedefs, unions and leafrefs followed, so that its values are told by one test. Its lists are shared
+/// A type with typedefs, unions and leafrefs followed, so that one test decides its values. Its lists are shared
 /// by its copies.
 #[derive(Drop)]
 pub enum PlainType {

@@ -96,7 +96,7 @@ impl<'v> Context<'v> {
         self.parent
     }
 
-    /// The value that is written for a data node that stands in the object.
+    /// The value that is written for a data node in the object.
     pub fn value(&self, id: NodeId) -> Option<&'v Value>
         ensures { (s : Rows) → IsContext s self.now → stands_in s (parent_of self.now) id ≡ true → is_data (row_at s id).label.defined.kind ≡ true
             → option_map (λ v. view v.now) result ≡ get_member (row_at s id).label.member (members_of self.now) }
@@ -104,7 +104,7 @@ impl<'v> Context<'v> {
         self.values.get(id.number())
     }
 
-    /// Which data nodes exist of a node that stands in the object: the node itself, or what stands in it where it is a choice or case.
+    /// Which data nodes exist of a node in the object: the node itself, or what is in it where it is a choice or case.
     pub fn standing(&self, schema: &Schema, id: NodeId) -> Standing
         requires { id.0 < length schema.now.nodes }
         ensures { IsContext schema.now self.now → stands_in schema.now (parent_of self.now) id ≡ true
@@ -118,7 +118,7 @@ impl<'v> Context<'v> {
         }
     }
 
-    /// How many children of a choice or case that stands in the object exist: of a choice its cases, of which one may (RFC 7950,
+    /// How many children of a choice or case in the object exist: of a choice its cases, of which one may (RFC 7950,
     /// section 7.9).
     pub fn count(&self, schema: &Schema, id: NodeId) -> usize
         requires { id.0 < length schema.now.nodes }

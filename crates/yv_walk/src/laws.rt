@@ -1,4 +1,4 @@
-//! Laws over the definitions: what one member more makes exist, and which nodes stand in an object. A caller that needs one calls it,
+//! Laws about the definitions: what one member more makes exist, and which nodes are in an object. A caller that needs one calls it,
 //! and nothing runs.
 ghost use Rattle.std.specs.Prelude.{◌≡◌, ◌<◌, ◌≤◌, ◌&&◌, ℕ, List, None, drop, length, true};
 ghost use Rattle.std.specs.List.{slice_index_or};
@@ -41,13 +41,13 @@ pub fn nothing_stands()
     ensures { (first : ℕ) (ts : Forest) → standing first ts no_members ≡ Nothing }
 {}
 
-/// The children of a node that has an object stand in it.
+/// The children of a node that has an object are in it.
 pub fn child_stands()
     ensures { (s : Rows) (p : NodeId) (i : ℕ) (d : NodeId) → IsSound s → rank p ≤ length s.nodes → is_object s p ≡ true → i < length (children_of s p)
         → stands_in s p (slice_index_or (children_of s p) i d) ≡ true }
 {}
 
-/// The children of a choice or case that stands in an object stand in it too.
+/// The children of a choice or case that is in an object are in it too.
 pub fn inner_stands()
     ensures { (s : Rows) (p a : NodeId) (i : ℕ) (d : NodeId) → IsSound s → stands_in s p a ≡ true → passes s a ≡ true
         → i < length (children_of s a) → stands_in s p (slice_index_or (children_of s a) i d) ≡ true }

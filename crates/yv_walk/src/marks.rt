@@ -38,7 +38,7 @@ impl Marks {
         }
     }
 
-    /// Marks the choices and cases in which a node stands that exists.
+    /// Marks the choices and cases that contain a node that exists.
     pub fn mark(&mut self, schema: &Schema, id: NodeId) -> Result<(), AllocError>
         requires { id.0 < length schema.now.nodes }
         ensures { OnOk result ((a : NodeId) → a.0 < length schema.now.nodes → passes schema.now a ≡ true

@@ -4,12 +4,12 @@ ghost use Rattle.yv_walk.specs.Standing.{any, any_but, both};
 
 use yv_nodes::NodeId;
 
-/// Which data nodes exist of a group: none, one alone, or several.
+/// Which data nodes exist of a group: none, only one, or several.
 #[derive(Clone, Copy, Debug, PartialEq, Eq)]
 pub enum Standing {
     /// None exists.
     Nothing,
-    /// The node of this number alone.
+    /// Only the node of this number.
     Only(NodeId),
     /// More than one.
     Several,

@@ -6,7 +6,7 @@ use Rattle.std.proofs.lemmas.Option.{slice_get_cases}
 use Rattle.yv_rows.specs.Files.{Files, Briefs, brief_of}
 use Rattle.yv_rows.specs.Rows.{Row}
 use Rattle.yv_rows.specs.Listed.{rows_of}
-use Rattle.yv_units.specs.Limit.{given_at, given_before}
+use Rattle.yv_units.specs.Limit.{Fits, given_at, given_before}
 use Rattle.yv_units.specs.Weigh.{Weigh, block_of}
 use Rattle.yv_expansion.specs.Tree.{Tree, Item, none, all_of, count, joined, listed}
 use Rattle.yv_whole_expansion.specs.Expanded.{AreAdded, AreTrees, IsWhole, augments_of}
@@ -15,7 +15,7 @@ use Rattle.yv_whole_expansion.proofs.Listing.{all_at}
 use Rattle.yv_whole_expansion.proofs.Referring.{MeansOne}
 use Rattle.yv_whole_expansion.proofs.Once.{Expanded, count_joined, expands_one, weighed}
 use Rattle.yv_whole_expansion.proofs.Giving.{trees_before, trees_whole}
-use Rattle.yv_whole_expansion.proofs.Expanding.{Lengths}
+use Rattle.yv_whole_expansion.proofs.Expanding.{Given, Lengths}
 
 -- all that the files of an order give
 own_whole : (files : Briefs) (rows : List Row) (marks : List Bool) (order : List ℕ) (trees : List Tree) → AreTrees files rows marks order trees
@@ -131,3 +131,23 @@ whole_within one lengths files marks order own units items is within distinct we
     let added_is : count (all_of is.added) ≡ count found.given = ap count (expands_one one added found.given_expands) in
     let length_is : length items ≡ count (joined (all_of is.trees) (all_of is.added)) = ap length is.listed ∙ lengths None 0 (joined (all_of is.trees) (all_of is.added)) in
     omega (arith, length_is, count_joined (all_of is.trees) (all_of is.added), own_le, added_is, found.within)
+
+-- what files come to that fit the limit is within it
+pub given_fits : MeansOne → Lengths → (files : Files) (marks : List Bool) (order : List ℕ) (limit : ℕ) → All (λ file. file < length files) order
+    → ((i k n : ℕ) → slice_get order i ≡ Some n → slice_get order k ≡ Some n → i ≡ k) → Fits files marks limit → (g : Given files marks order)
+    → count (all_of g.trees) + count (all_of g.added) ≤ limit
+given_fits one lengths files marks order limit within distinct (units, weigh, fits) g =
+    let all : Tree = joined (all_of g.trees) (all_of g.added) in
+    let is : IsWhole files marks order (count (all_of g.trees)) (listed None 0 all) = record {
+      trees = g.trees;
+      are = g.are;
+      added = g.added;
+      are_added = g.are_added;
+      own_are = refl;
+      listed = refl;
+    } in
+    let few : length (listed None 0 all) ≤ units =
+    whole_within one lengths files marks order (count (all_of g.trees)) units (listed None 0 all) is within distinct weigh in
+    let long : length (listed None 0 all) ≡ count all = lengths None 0 all in
+    let both : count all ≡ count (all_of g.trees) + count (all_of g.added) = count_joined (all_of g.trees) (all_of g.added) in
+    omega (arith, few, fits, long, both)

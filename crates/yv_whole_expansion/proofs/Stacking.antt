@@ -1,14 +1,27 @@
 -- Items on a stack, whose parents are listed already, and the expansion as it grows.
-use Rattle.std.proofs.Common.{◌≡◌, ℕ, ◌+◌, ◌<◌, ◌≤◌, List, [], ◌∷◌, ◌++◌, length, reverse, sym, ◌∙◌, ap, subst, arith, append_assoc, Option, Some, None}
-use Rattle.std.proofs.lemmas.List.{reverse-append, reverse-reverse, append-nil}
+use Rattle.std.proofs.Common.{◌≡◌, ℕ, ◌+◌, ◌<◌, ◌≤◌, List, [], ◌∷◌, ◌++◌, length, reverse, sym, ◌∙◌, ap, subst, arith, append_assoc, length-append, Option, Some, None}
+use Rattle.std.proofs.lemmas.List.{reverse-append, reverse-reverse, append-nil, length-map, length-reverse}
+use Rattle.std.specs.Result.{OnErr}
+use Rattle.std.specs.Prelude.{Result, Ok, Err}
 use Rattle.std.proofs.lemmas.Option.{same_Some}
 use Rattle.yv_rows.specs.Files.{Briefs}
 use Rattle.yv_rows.specs.Rows.{Row}
 use Rattle.yv_expansion.specs.declared.item.Origin.{Origin}
-use Rattle.yv_expansion.specs.Tree.{Tree, Item, listed}
-use Rattle.yv_whole_expansion.specs.InnerItems.{Give, StandBelow, items_below}
+use Rattle.yv_expansion.specs.declared.item.Origin.TheVariants.{Statement}
+use Rattle.yv_expansion.specs.Tree.{Tree, Item, count, listed}
+use Rattle.yv_whole_expansion.specs.InnerItems.{Give, no_more, one_more, StandBelow, items_below, origins, placed}
 use Rattle.yv_whole_expansion.proofs.Listing.{longer}
 use Rattle.yv_whole_expansion.proofs.Pending.{Pends, pends_start, pends_step}
+
+abbrev pub Lengths : Type 0
+Lengths = (parent : Option ℕ) (first : ℕ) (t : Tree) → length (listed parent first t) ≡ count t
+
+pub on_err_of : {A E P : Type 0} (r : Result A E) → P → OnErr r P
+on_err_of (Ok a) p = tt
+on_err_of (Err e) p = p
+
+pub length_origins : (numbers : List ℕ) → length (origins numbers) ≡ length numbers
+length_origins numbers = length-map numbers Statement
 
 abbrev pub IsBelow : ℕ → Option ℕ → Type 0
 IsBelow n parent = (p : ℕ) → parent ≡ Some p → p < n
@@ -97,3 +110,44 @@ module _ (files : Briefs) (rows : List Row) where
             (subst (λ (n : ℕ). Pends files rows (items_below (Some (length items)) inner ++ reverse popped) n more) next later),
         ap (λ l. l ++ more) added ∙ append_assoc items (a ∷ []) more ∙ ap (λ l. items ++ l) (sym split) ∙ same,
       )
+
+  -- where an item is still to be listed, the whole has room for it
+  pub whole_room : Lengths → (a : Item) (items old stack popped : List Item) (t : Tree) → stack ≡ popped ++ a ∷ []
+      → Whole stack items (old ++ listed None (length old) t) → length items < length old + count t
+  whole_room lengths a items old stack popped t pop (rest, pends, same) =
+      let order : reverse stack ≡ a ∷ reverse popped = ap reverse pop ∙ reverse-append popped (a ∷ []) in
+      let now : Pends files rows (a ∷ reverse popped) (length items) rest = subst (λ (l : List Item). Pends files rows l (length items) rest) order pends in
+      let (inner, stands, more, later, split) = pends_step files rows a (length items) (reverse popped) rest now in
+      let long : length items + length rest ≡ length old + length (listed None (length old) t) =
+      sym (length-append items rest) ∙ ap length same ∙ length-append old (listed None (length old) t) in
+      let one : length rest ≡ length (a ∷ more) = ap length split in
+      let all : length (listed None (length old) t) ≡ count t = lengths None (length old) t in
+      omega (arith, long, one, all)
+
+  -- as many items are still to be listed as pend
+  pends_many : (xs : List Item) (i : ℕ) (items : List Item) → Pends files rows xs i items → length xs ≤ length items
+  pends_many [] i items none = omega arith
+  pends_many (a ∷ others) i items (inner, below, rest, s, g, p, same) =
+      let long : length items ≡ length (a ∷ (listed (Some i) (i + 1) below ++ rest)) = ap length same in
+      omega (arith, pends_many others (i + 1 + count below) rest p, long, length-append (listed (Some i) (i + 1) below) rest)
+
+  -- those at the top are no more than all
+  pub give_many : (these : List Origin) (t : Tree) → Give files rows these t → length these ≤ count t
+  give_many [] t no_more = omega arith
+  give_many (o ∷ os) t (one_more {inner = inner} {below = below} {behind = behind} s g h) = omega (arith, give_many os behind h)
+
+  -- where an item is taken from the stack, the whole has room for what is left there with what stands below it
+  pub stack_room : Lengths → (a : Item) (items old stack popped : List Item) (t : Tree) → stack ≡ popped ++ a ∷ []
+      → Whole stack items (old ++ listed None (length old) t)
+      → (inner : List Origin) × StandBelow files rows a.origin inner × (length popped + length inner < length old + count t)
+  stack_room lengths a items old stack popped t pop (rest, pends, same) =
+      let order : reverse stack ≡ a ∷ reverse popped = ap reverse pop ∙ reverse-append popped (a ∷ []) in
+      let now : Pends files rows (a ∷ reverse popped) (length items) rest = subst (λ (l : List Item). Pends files rows l (length items) rest) order pends in
+      let (inner, stands, more, later, split) = pends_step files rows a (length items) (reverse popped) rest now in
+      let long : length items + length rest ≡ length old + length (listed None (length old) t) =
+      sym (length-append items rest) ∙ ap length same ∙ length-append old (listed None (length old) t) in
+      let one : length rest ≡ length (a ∷ more) = ap length split in
+      let all : length (listed None (length old) t) ≡ count t = lengths None (length old) t in
+      let many = pends_many (items_below (Some (length items)) inner ++ reverse popped) (length items + 1) more later in
+      let both = length-append (items_below (Some (length items)) inner) (reverse popped) in
+      (inner, stands, omega (arith, long, one, all, many, both, length-map inner (placed (Some (length items))), length-reverse popped))

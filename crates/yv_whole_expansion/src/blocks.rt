@@ -1,5 +1,5 @@
-//! What stands below items.
-ghost use Rattle.std.specs.Prelude.{◌≡◌, ◌++◌, ◌∷◌, [], ℕ, List, reverse, length, slice_get, IfOk, OnOk};
+//! What is below items.
+ghost use Rattle.std.specs.Prelude.{◌≡◌, ◌<◌, ◌≤◌, ◌+◌, ◌++◌, ◌∷◌, [], ℕ, List, reverse, length, slice_get, vec_capacity, IfOk, OnErr, OnOk};
 ghost use Rattle.std.specs.List.{flat_map};
 ghost use Rattle.yv_rows.specs.Lent.{lent_in, files_in, rows_in};
 ghost use Rattle.yv_names.specs.Known.{AreNames};
@@ -106,7 +106,9 @@ impl Blocks {
         operation: usize,
         parent: Option<usize>,
     ) -> Result<(), AllocError>
-        ensures { OnOk result (stack.new.items ≡ stack.old.items ++ reverse (items_below parent
+        ensures full { OnErr result (vec_capacity stack.old < length stack.old.items + 2) }
+        ensures grown { vec_capacity stack.old ≤ vec_capacity stack.new }
+        ensures items { OnOk result (stack.new.items ≡ stack.old.items ++ reverse (items_below parent
             (part (Input operation) (slice_get (numbers_at self.now.inputs.items operation) 0)
             ∷ part (Output operation) (slice_get (numbers_at self.now.outputs.items operation) 0) ∷ []))) }
     {
@@ -137,7 +139,10 @@ impl Blocks {
         grouping: usize,
         parent: Option<usize>,
     ) -> Result<(), AllocError>
-        ensures { OnOk result (stack.new.items ≡ stack.old.items ++ reverse (items_below parent
+        ensures full { OnErr result (vec_capacity stack.old < length stack.old.items
+            + (length (numbers_at self.now.own.items grouping) + length (numbers_at self.now.given.items uses))) }
+        ensures grown { vec_capacity stack.old ≤ vec_capacity stack.new }
+        ensures items { OnOk result (stack.new.items ≡ stack.old.items ++ reverse (items_below parent
             (origins (numbers_at self.now.own.items grouping) ++ origins (numbers_at self.now.given.items uses)))) }
     {
         put(stack, numbers_at(&self.given, uses), parent)?;
@@ -157,6 +162,10 @@ impl Blocks {
         ensures below { (these : List Origin) → AreNames (lent_in rows.now) names.now → AreBlocks (rows_in rows.now) self.now
             → StandBelow (files_in rows.now) (rows_in rows.now) (Statement statement) these
             → OnOk result (stack.new.items ≡ stack.old.items ++ reverse (items_below parent these)) }
+        ensures full { (these : List Origin) → AreNames (lent_in rows.now) names.now → AreBlocks (rows_in rows.now) self.now
+            → StandBelow (files_in rows.now) (rows_in rows.now) (Statement statement) these
+            → OnErr result (vec_capacity stack.old < length stack.old.items + length these) }
+        ensures grown { vec_capacity stack.old ≤ vec_capacity stack.new }
     {
         if is_operation_at(rows, statement) {
             return self.put_parts(stack, statement, parent);
@@ -167,7 +176,7 @@ impl Blocks {
         }
     }
 
-    /// Puts what stands below an item on a stack, the first on top.
+    /// Puts what is below an item on a stack, the first on top.
     pub(crate) fn put_below(
         &self,
         rows: &Rows<'_, '_>,
@@ -180,6 +189,10 @@ impl Blocks {
         ensures below { (these : List Origin) → AreNames (lent_in rows.now) names.now → AreBlocks (rows_in rows.now) self.now
             → StandBelow (files_in rows.now) (rows_in rows.now) origin these
             → OnOk result (stack.new.items ≡ stack.old.items ++ reverse (items_below parent these)) }
+        ensures full { (these : List Origin) → AreNames (lent_in rows.now) names.now → AreBlocks (rows_in rows.now) self.now
+            → StandBelow (files_in rows.now) (rows_in rows.now) origin these
+            → OnErr result (vec_capacity stack.old < length stack.old.items + length these) }
+        ensures grown { vec_capacity stack.old ≤ vec_capacity stack.new }
     {
         match origin {
             Origin::Statement(statement) => self.put_statement(

@@ -1,7 +1,7 @@
-//! What files come to.
+//! What files expand to.
 use yv_expansion::Expansion;
 
-/// The expansion of files. Behind the items of the files' own trees stands what the augments of modules give, augment by augment,
+/// The expansion of files. After the items of the files' own trees comes what the augments of modules give, augment by augment,
 /// and below no node yet.
 #[derive(Drop)]
 pub struct Expanded {

@@ -1,4 +1,4 @@
-//! Laws of the definitions alone. These functions do nothing: the contract of each is the law.
+//! Laws about the definitions only. These functions do nothing: the contract of each is the law.
 ghost use Rattle.std.specs.Prelude.{◌≡◌, ◌≤◌, ◌<◌, ℕ, All, Bool, List, Some, length, map, slice_get};
 ghost use Rattle.yv_rows.specs.Files.{Briefs, Files, brief_of};
 ghost use Rattle.yv_rows.specs.Rows.{Row};
@@ -33,7 +33,7 @@ pub fn what_weighs_expands()
         → (t : Tree) × Expands files rows numbers t }
 {}
 
-/// Files have one expansion at most in an order, of which the files' own trees are so many items.
+/// Files have at most one expansion in an order, and one number of items that are the files' own trees.
 pub fn a_whole_is_one()
     ensures { (files : Files) (marks : List Bool) (order : List ℕ) (own own' : ℕ) (items items' : List Item)
         → IsWhole files marks order own items → IsWhole files marks order own' items' → (own ≡ own') × (items ≡ items') }
@@ -42,7 +42,7 @@ pub fn a_whole_is_one()
 }
 
 /// The expansion of files in an order that lists no file twice has no more items than units were counted for the files that are
-/// given. A file's units cover its own items and what stands in the blocks of its augments.
+/// given. A file's units cover its own items and what is in the blocks of its augments.
 pub fn a_whole_is_within_units()
     ensures { (files : Files) (marks : List Bool) (order : List ℕ) (own units : ℕ) (items : List Item) → IsWhole files marks order own items
         → All (λ file. file < length files) order

@@ -1,4 +1,4 @@
-//! Statements by the block or by the file in which they stand.
+//! Statements by the block or by the file that contains them.
 ghost use Rattle.std.specs.Prelude.{◌≡◌, false, length, if◌then◌else◌, slice_index_or, IfOk};
 ghost use Rattle.std.specs.List.{flat_map};
 ghost use Rattle.yv_rows.specs.Files.{Briefs};
@@ -154,7 +154,7 @@ pub(crate) fn firsts(
     Ok(firsts)
 }
 
-/// Those at the tops of the files of an order that are given, one file behind the other.
+/// Those at the tops of the files of an order that are given, one file after the other.
 pub(crate) fn firsts_in(
     alloc: Global,
     tops: &[Vec<usize>],

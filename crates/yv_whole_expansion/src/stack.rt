@@ -1,5 +1,5 @@
 //! The items that are still to be expanded.
-ghost use Rattle.std.specs.Prelude.{◌≡◌, ◌++◌, reverse, OnOk};
+ghost use Rattle.std.specs.Prelude.{◌≡◌, ◌<◌, ◌≤◌, ◌+◌, ◌++◌, length, reverse, vec_capacity, OnErr, OnOk};
 ghost use Rattle.yv_whole_expansion.specs.InnerItems.{items_below, origins};
 
 use std::alloc::AllocError;
@@ -11,7 +11,9 @@ pub(crate) fn put(
     numbers: &[usize],
     parent: Option<usize>,
 ) -> Result<(), AllocError>
-    ensures { OnOk result (stack.new.items ≡ stack.old.items ++ reverse (items_below parent (origins numbers.now))) }
+    ensures items { OnOk result (stack.new.items ≡ stack.old.items ++ reverse (items_below parent (origins numbers.now))) }
+    ensures full { OnErr result (vec_capacity stack.old < length stack.old.items + length numbers.now) }
+    ensures grown { vec_capacity stack.old ≤ vec_capacity stack.new }
 {
     let mut rest = numbers;
     while let Some((last, others)) = rest.split_last() {

@@ -1,5 +1,5 @@
 //! The expansion of files.
-ghost use Rattle.std.specs.Prelude.{◌≡◌, ◌≢◌, ◌<◌, All, length, None, Some, Err, IfOk, OnOk};
+ghost use Rattle.std.specs.Prelude.{◌≡◌, ◌≢◌, ◌<◌, ℕ, All, length, slice_get, None, Some, Err, IfOk, OnOk};
 ghost use Rattle.yv_statement.specs.Order.{IsLeast};
 ghost use Rattle.yv_statement.specs.declared.refusal.Refusal.{Refusal};
 ghost use Rattle.yv_statement.specs.declared.refusal.Stop.TheVariants.{Fault, PatternBuild};
@@ -28,24 +28,35 @@ fn within(
     order: &[usize],
     limit: u32,
 ) -> Result<Expanded, AllocError>
-    requires { All (λ file. file < length (files_in rows.now)) order.now }
+    requires within { All (λ file. file < length (files_in rows.now)) order.now }
+    requires once { (i k n : ℕ) → slice_get order.now i ≡ Some n → slice_get order.now k ≡ Some n → i ≡ k }
+    requires names { AreNames (lent_in rows.now) names.now }
+    requires fits { Fits (lent_in rows.now) given.now limit }
     ensures limit { IfOk result (λ e. e.expansion.limit ≡ limit) }
     ensures augments { IfOk result (λ e. e.augments.items ≡ augments_of (files_in rows.now) (rows_in rows.now) given.now) }
-    ensures expanded { AreNames (lent_in rows.now) names.now → Fits (lent_in rows.now) given.now limit
-        → IfOk result (λ e. IsWhole (lent_in rows.now) given.now order.now e.own e.expansion.items) }
+    ensures expanded { IfOk result (λ e. IsWhole (lent_in rows.now) given.now order.now e.own e.expansion.items) }
 {
+    yv_rows::laws::a_name_means_one_thing();
     yv_expansion::laws::a_tree_is_listed_whole::<Origin>();
     yv_expansion::laws::trees_are_listed_in_order::<Origin>();
     let blocks = Blocks::read(alloc, rows)?;
     let tops = of_files(alloc, rows, Wanted::Items)?;
     let applied = of_files(alloc, rows, Wanted::Augments)?;
     let mut expansion = Expansion::new(alloc, limit);
+    let mut stack = Vec::new(alloc);
     let own_firsts = firsts_in(alloc, &tops, given, order)?;
-    spread(alloc, rows, names, &blocks, &own_firsts, &mut expansion)?;
+    spread(
+        rows,
+        names,
+        &blocks,
+        &own_firsts,
+        &mut stack,
+        &mut expansion,
+    )?;
     let own = expansion.len();
     let augments = firsts(alloc, &applied, given)?;
     let added = blocks.given_by(alloc, &augments)?;
-    spread(alloc, rows, names, &blocks, &added, &mut expansion)?;
+    spread(rows, names, &blocks, &added, &mut stack, &mut expansion)?;
     Ok(Expanded {
         expansion,
         own,
@@ -53,12 +64,11 @@ fn within(
     })
 }
 
-/// The expansion of the files of an order that are marked as given, one file behind the other in this order and each item before
-/// those below it (RFC 7950, sections 7.12 and 7.13), and behind it what the augments at the tops of all files that are given
+/// The expansion of the files of an order that are marked as given, one file after the other in this order and each item before
+/// those below it (RFC 7950, sections 7.12 and 7.13), and after it what the augments at the tops of all files that are given
 /// give, by file and statement (section 7.17), or, where the units of these pass the limit, the refusal of the first file by number
-/// with which they do. A file without a mark isn't given. Where the order lists no file twice, an expansion has no more items than
-/// units, and it never has more than the limit: where the order lists files again and again, or the names aren't those of the
-/// files, there is no memory for more.
+/// with which they do. A file without a mark isn't given. An expansion has no more items than units, since the order lists no file
+/// twice.
 pub fn expand(
     alloc: Global,
     rows: &Rows<'_, '_>,
@@ -67,7 +77,9 @@ pub fn expand(
     order: &[usize],
     limit: u32,
 ) -> Result<Expanded, Stop>
-    requires { All (λ file. file < length (files_in rows.now)) order.now }
+    requires within { All (λ file. file < length (files_in rows.now)) order.now }
+    requires once { (i k n : ℕ) → slice_get order.now i ≡ Some n → slice_get order.now k ≡ Some n → i ≡ k }
+    requires names { AreNames (lent_in rows.now) names.now }
     ensures expanded { AreNames (lent_in rows.now) names.now
         → IfOk result (λ e. IsWhole (lent_in rows.now) given.now order.now e.own e.expansion.items) }
     ensures augments { IfOk result (λ e. e.augments.items ≡ augments_of (files_in rows.now) (rows_in rows.now) given.now) }

@@ -8,18 +8,18 @@ use Rattle.yv_augments.proofs.listing.list.Goals as goal
 pub loop-row-init : goal.loop-row-init
 loop-row-init c =
     let whole : Groups = groups_in c.args.groups.now.items in
-    let order : AreInOrder whole 0 c.deref.result.now = subst (λ l. AreInOrder whole 0 l) (sym c.deref.ensures.value) c.take_group-top.ensures.taken in
+    let order : AreInOrder c.args.labels.now whole 0 c.deref.result.now = subst (λ l. AreInOrder c.args.labels.now whole 0 l) (sym c.deref.ensures.value) c.take_group-top.ensures.taken in
     record {
-      fresh = λ once. fresh_start whole _ c.new-stack.result.items _ c.deref.result.now once order c.take_group-top.ensures.others c.new-stack.ensures.items c.in_ok-put.ensures;
-      completes = λ once. completes_start whole c.new-stack.result.items _ _ c.deref.result.now order c.new-stack.ensures.items c.in_ok-put.ensures c.new-rows.ensures.items;
+      fresh = λ once. fresh_start c.args.labels.now whole _ c.new-stack.result.items _ c.deref.result.now once order c.take_group-top.ensures.others c.new-stack.ensures.items c.in_ok-put.ensures;
+      completes = λ once. completes_start c.args.labels.now whole c.new-stack.result.items _ _ c.deref.result.now order c.new-stack.ensures.items c.in_ok-put.ensures c.new-rows.ensures.items;
     }
 
 pub loop-row-smaller : goal.loop-row-smaller
 loop-row-smaller c =
     let rest : Groups = groups_in c.loop-row.groups.items in
-    let order : AreInOrder rest (c.in-Some.row.number + 1) c.deref-in-Some.result.now =
-    subst (λ l. AreInOrder rest (c.in-Some.row.number + 1) l) (sym c.deref-in-Some.ensures.value) c.take_below-below.ensures.taken in
-    fewer_left c.loop-row.stack.items c.pop.new.self.items c.put-in-Some.new.stack.items c.in-Some.row (Some c.in-Some.row.number) c.in-Some-checked_add.depth rest
+    let order : AreInOrder c.args.labels.now rest (c.in-Some.row.number + 1) c.deref-in-Some.result.now =
+    subst (λ l. AreInOrder c.args.labels.now rest (c.in-Some.row.number + 1) l) (sym c.deref-in-Some.ensures.value) c.take_below-below.ensures.taken in
+    fewer_left c.args.labels.now c.loop-row.stack.items c.pop.new.self.items c.put-in-Some.new.stack.items c.in-Some.row (Some c.in-Some.row.number) c.in-Some-checked_add.depth rest
     (groups_in c.take_below-below.new.groups.items) (c.in-Some.row.number + 1) c.deref-in-Some.result.now c.in-Some.ensures.items order
     c.take_below-below.ensures.others c.in_ok-put-2.ensures
 
@@ -27,16 +27,16 @@ pub loop-row-preserved : goal.loop-row-preserved
 loop-row-preserved c =
     let whole : Groups = groups_in c.args.groups.now.items in
     let rest : Groups = groups_in c.loop-row.groups.items in
-    let order : AreInOrder rest (c.in-Some.row.number + 1) c.deref-in-Some.result.now =
-    subst (λ l. AreInOrder rest (c.in-Some.row.number + 1) l) (sym c.deref-in-Some.ensures.value) c.take_below-below.ensures.taken in
+    let order : AreInOrder c.args.labels.now rest (c.in-Some.row.number + 1) c.deref-in-Some.result.now =
+    subst (λ l. AreInOrder c.args.labels.now rest (c.in-Some.row.number + 1) l) (sym c.deref-in-Some.ensures.value) c.take_below-below.ensures.taken in
     let put : c.put-in-Some.new.stack.items ≡ c.pop.new.self.items ++ reverse (under (Some c.in-Some.row.number) (c.in-Some.row.depth + 1) c.deref-in-Some.result.now) =
     c.in_ok-put-2.ensures
     ∙ ap (λ d. c.pop.new.self.items ++ reverse (under (Some c.in-Some.row.number) d c.deref-in-Some.result.now)) c.in-Some-checked_add.ensures.1 in
     record {
-      fresh = λ once. fresh_step whole rest (groups_in c.take_below-below.new.groups.items) c.loop-row.stack.items c.pop.new.self.items
+      fresh = λ once. fresh_step c.args.labels.now whole rest (groups_in c.take_below-below.new.groups.items) c.loop-row.stack.items c.pop.new.self.items
           c.put-in-Some.new.stack.items c.in-Some.row (c.in-Some.row.depth + 1) c.deref-in-Some.result.now c.in-Some.ensures.items order
           c.take_below-below.ensures.others put (c.loop-row.invariant.fresh once);
-      completes = λ once. completes_step whole rest c.loop-row.stack.items c.pop.new.self.items c.put-in-Some.new.stack.items c.loop-row.rows.items
+      completes = λ once. completes_step c.args.labels.now whole rest c.loop-row.stack.items c.pop.new.self.items c.put-in-Some.new.stack.items c.loop-row.rows.items
           c.push.new.self.items c.in-Some.row c.deref-in-Some.result.now c.in-Some.ensures.items order
           (fresh_top whole rest c.loop-row.stack.items c.pop.new.self.items c.in-Some.row c.in-Some.ensures.items (c.loop-row.invariant.fresh once))
           put c.in_ok-push.ensures.items (c.loop-row.invariant.completes once);
@@ -45,4 +45,4 @@ loop-row-preserved c =
 pub returns : goal.returns
 returns c = λ once.
     let none : length c.loop-row.stack.items ≡ 0 = omega (arith, c.in_default.ensures.cases) in
-    completes_all _ c.loop-row.stack.items c.loop-row.rows.items (no_items_in c.loop-row.stack.items none) (c.loop-row.invariant.completes once)
+    completes_all c.args.labels.now _ c.loop-row.stack.items c.loop-row.rows.items (no_items_in c.loop-row.stack.items none) (c.loop-row.invariant.completes once)

@@ -7,7 +7,7 @@ use Rattle.yv_augments.proofs.listing.list.Given as goal
 abbrev pub invariant-loop-row : goal.invariant-loop-row
 invariant-loop-row l = record {
   fresh : StandAtMostOnce (groups_in l.fn.groups.items) → AreFresh (groups_in l.fn.groups.items) (groups_in l.groups.items) l.stack.items;
-  completes : StandAtMostOnce (groups_in l.fn.groups.items) → Completes (groups_in l.fn.groups.items) l.stack.items l.rows.items;
+  completes : StandAtMostOnce (groups_in l.fn.groups.items) → Completes l.labels (groups_in l.fn.groups.items) l.stack.items l.rows.items;
 }
 
 abbrev pub decreases-loop-row : goal.decreases-loop-row

@@ -1,9 +1,9 @@
-use Rattle.std.proofs.Common.{◌≡◌, ◌∙◌, ◌++◌, ℕ, true, false, List, [], ◌∷◌, ap, sym, arith, length, append-nil, append_assoc, refl}
+use Rattle.std.proofs.Common.{◌≡◌, ◌∙◌, ◌++◌, ℕ, true, false, List, [], ◌∷◌, ap, sym, arith, length, append-nil, append_assoc, refl, slice_get}
 use Rattle.yv_selection.specs.Choice.{choice_of}
 use Rattle.yv_families.specs.Families.{numbers_at}
 use Rattle.yv_rows.specs.Lent.{lent_in}
 use Rattle.yv_final_tree.specs.Given.{order_of, part_places}
-use Rattle.yv_final_tree.proofs.Giving.{all_within, order_all, order_step, parts_at, read_at}
+use Rattle.yv_final_tree.proofs.Giving.{all_within, order_all, order_once, order_step, parts_at, read_at}
 use Rattle.yv_final_tree.proofs.given.order.Goals.{then-is_given+in_ok-push+in_ok-extend_from_slice, else-is_given}
 use Rattle.yv_final_tree.proofs.given.order.Goals as goal
 
@@ -38,3 +38,13 @@ returns-clause-within c =
     all_within choice files c.loop-file.order.items
     (order_all choice (part_places files) files c.loop-file.file c.loop-file.order.items (order_of choice files)
     (omega (arith, c.loop-file-test.false, ap length c.statements-root-items.ensures)) c.loop-file.invariant)
+
+pub returns-clause-once : goal.returns-clause-once
+returns-clause-once c =
+    let files = lent_in c.args.rows.now in
+    let choice = choice_of c.args.selection.now in
+    let all : c.loop-file.order.items ≡ order_of choice files =
+    order_all choice (part_places files) files c.loop-file.file c.loop-file.order.items (order_of choice files)
+    (omega (arith, c.loop-file-test.false, ap length c.statements-root-items.ensures)) c.loop-file.invariant in
+    λ i k n at there.
+    order_once choice files i k n (ap (λ (l : List ℕ). slice_get l i) (sym all) ∙ at) (ap (λ (l : List ℕ). slice_get l k) (sym all) ∙ there)

@@ -27,21 +27,21 @@ returns-in-Err-clause-refusal c = λ files given.
 
 pub build-requires-clause-few : goal.build-requires-clause-few
 build-requires-clause-few c =
-    let clear = c.requires.expanded.clear in
-    let lent = c.rows-2.ensures c.requires.files (choice_of c.args.selection.now) clear.are in
+    let clear = c.requires.given.expanded.clear in
+    let lent = c.rows-2.ensures c.requires.given.files (choice_of c.args.selection.now) clear.are in
     rw lent clear.few
 
 pub build-requires-clause-names : goal.build-requires-clause-names
 build-requires-clause-names c =
-    let clear = c.requires.expanded.clear in
+    let clear = c.requires.given.expanded.clear in
     let choice = choice_of c.args.selection.now in
-    let lent = c.rows-2.ensures c.requires.files choice clear.are in
-    rw lent (names_of choice c.requires.files clear.own clear.links)
+    let lent = c.rows-2.ensures c.requires.given.files choice clear.are in
+    rw lent (names_of choice c.requires.given.files clear.own clear.links)
 
 pub build-requires-clause-basis : goal.build-requires-clause-basis
 build-requires-clause-basis c =
-    let files = c.requires.files in
-    let given = c.requires.expanded in
+    let files = c.requires.given.files in
+    let given = c.requires.given.expanded in
     let choice = choice_of c.args.selection.now in
     let limit = c.args.limit in
     let clear = given.clear in
@@ -53,7 +53,7 @@ build-requires-clause-basis c =
     let b : Basis = record { files = files; truth = truth; typing = typing_of c.in-Ok.types; final = k.final; nodes = k.nodes } in
     let is_basis : IsBasis choice b = record { truth = is; typing = are; final = k.is_final; nodes = k.are_left } in
     let read = c.rows.ensures files choice clear.are in
-    let said = c.new-context.ensures b choice (c.in_ok-definitions.ensures.files ∙ read) c.in_ok-definitions.ensures.typing c.in_ok-refined.ensures k refl refl in
+    let said = c.new-context.ensures.tells b choice (c.in_ok-definitions.ensures.files ∙ read) c.in_ok-definitions.ensures.typing c.in_ok-refined.ensures k refl refl in
     let tells : Tells b c.new-context.result = said.0 in
     let built = c.rows-2.ensures files choice clear.are in
     let told : TellsOf choice files c.new-context.result = record { basis = b; of_files = refl; tells = tells; chosen = said.1 } in
@@ -72,7 +72,7 @@ returns-clause-schema c = λ files given.
     let b : Basis = record { files = files; truth = truth; typing = typing_of c.in-Ok.types; final = k.final; nodes = k.nodes } in
     let is_basis : IsBasis choice b = record { truth = is; typing = are; final = k.is_final; nodes = k.are_left } in
     let read = c.rows.ensures files choice clear.are in
-    let said = c.new-context.ensures b choice (c.in_ok-definitions.ensures.files ∙ read) c.in_ok-definitions.ensures.typing c.in_ok-refined.ensures k refl refl in
+    let said = c.new-context.ensures.tells b choice (c.in_ok-definitions.ensures.files ∙ read) c.in_ok-definitions.ensures.typing c.in_ok-refined.ensures k refl refl in
     let tells : Tells b c.new-context.result = said.0 in
     let built = c.rows-2.ensures files choice clear.are in
     let found = rw built at c.build.ensures.schema in
@@ -91,7 +91,7 @@ returns-clause-augments c = λ files given.
     let b : Basis = record { files = files; truth = truth; typing = typing_of c.in-Ok.types; final = k.final; nodes = k.nodes } in
     let is_basis : IsBasis choice b = record { truth = is; typing = are; final = k.is_final; nodes = k.are_left } in
     let read = c.rows.ensures files choice clear.are in
-    let said = c.new-context.ensures b choice (c.in_ok-definitions.ensures.files ∙ read) c.in_ok-definitions.ensures.typing c.in_ok-refined.ensures k refl refl in
+    let said = c.new-context.ensures.tells b choice (c.in_ok-definitions.ensures.files ∙ read) c.in_ok-definitions.ensures.typing c.in_ok-refined.ensures k refl refl in
     let tells : Tells b c.new-context.result = said.0 in
     let built = c.rows-2.ensures files choice clear.are in
     let found = rw built at c.build.ensures.augments in
@@ -110,7 +110,7 @@ returns-clause-references c = λ files given.
     let b : Basis = record { files = files; truth = truth; typing = typing_of c.in-Ok.types; final = k.final; nodes = k.nodes } in
     let is_basis : IsBasis choice b = record { truth = is; typing = are; final = k.is_final; nodes = k.are_left } in
     let read = c.rows.ensures files choice clear.are in
-    let said = c.new-context.ensures b choice (c.in_ok-definitions.ensures.files ∙ read) c.in_ok-definitions.ensures.typing c.in_ok-refined.ensures k refl refl in
+    let said = c.new-context.ensures.tells b choice (c.in_ok-definitions.ensures.files ∙ read) c.in_ok-definitions.ensures.typing c.in_ok-refined.ensures k refl refl in
     let tells : Tells b c.new-context.result = said.0 in
     let built = c.rows-2.ensures files choice clear.are in
     let found = rw built at c.build.ensures.references in
@@ -129,7 +129,7 @@ returns-clause-clear c = λ files given.
     let b : Basis = record { files = files; truth = truth; typing = typing_of c.in-Ok.types; final = k.final; nodes = k.nodes } in
     let is_basis : IsBasis choice b = record { truth = is; typing = are; final = k.is_final; nodes = k.are_left } in
     let read = c.rows.ensures files choice clear.are in
-    let said = c.new-context.ensures b choice (c.in_ok-definitions.ensures.files ∙ read) c.in_ok-definitions.ensures.typing c.in_ok-refined.ensures k refl refl in
+    let said = c.new-context.ensures.tells b choice (c.in_ok-definitions.ensures.files ∙ read) c.in_ok-definitions.ensures.typing c.in_ok-refined.ensures k refl refl in
     let tells : Tells b c.new-context.result = said.0 in
     let built = c.rows-2.ensures files choice clear.are in
     let typed : IsLeast (BadTypes files truth) None = c.in-Ok.ensures.clear files choice clear.are given.are_names in
@@ -152,7 +152,7 @@ returns-clause-refusal c = λ files given r e.
     let b : Basis = record { files = files; truth = truth; typing = typing_of c.in-Ok.types; final = k.final; nodes = k.nodes } in
     let is_basis : IsBasis choice b = record { truth = is; typing = are; final = k.is_final; nodes = k.are_left } in
     let read = c.rows.ensures files choice clear.are in
-    let said = c.new-context.ensures b choice (c.in_ok-definitions.ensures.files ∙ read) c.in_ok-definitions.ensures.typing c.in_ok-refined.ensures k refl refl in
+    let said = c.new-context.ensures.tells b choice (c.in_ok-definitions.ensures.files ∙ read) c.in_ok-definitions.ensures.typing c.in_ok-refined.ensures k refl refl in
     let tells : Tells b c.new-context.result = said.0 in
     let built = c.rows-2.ensures files choice clear.are in
     let typed : IsLeast (BadTypes files truth) None = c.in-Ok.ensures.clear files choice clear.are given.are_names in

@@ -1,7 +1,11 @@
-use Rattle.std.proofs.Common.{Some, None}
+use Rattle.std.proofs.Common.{◌≡◌, ◌≤◌, ◌∙◌, ap, arith, length, Some, None}
 use Rattle.yv_statement.specs.Order.{IsLeast}
 use Rattle.yv_selection.specs.Choice.{choice_of}
+use Rattle.yv_link.specs.Linked.{truth_in}
 use Rattle.yv_link.proofs.Phases.{err_again}
+use Rattle.yv_names.specs.Known.{AreNames}
+use Rattle.yv_expansion.specs.Tree.{count}
+use Rattle.yv_final_tree.specs.Kept.{AreKept}
 use Rattle.yv_schema.specs.Refuses.{RefusesBeforeTypes}
 use Rattle.yv_schema.specs.InnerPhases.{AreExpanded}
 use Rattle.yv_schema.proofs.Phases.{HavePhases, least_expanded, least_first, least_named}
@@ -28,8 +32,36 @@ returns-in-Err-final_tree-clause-refusal c = λ files clear.
     let expanded = rw lent at c.in-Err-final_tree.ensures.refusal in
     λ r e. least_first choice files limit phases r (least_expanded choice files limit (Some r) clear.own clear.links named (expanded names r (err_again _ _ e)))
 
-pub of_expanded-requires : goal.of_expanded-requires
-of_expanded-requires c =
+pub final_tree-requires : goal.final_tree-requires
+final_tree-requires c =
+    let choice = choice_of c.args.selection.now in
+    let files = c.requires.files in
+    let clear = c.requires.clear in
+    let rows = c.rows.ensures files choice clear.are in
+    let names : AreNames files c.in-Ok.names = rw rows at c.in-Ok.ensures.made in
+    let lent = c.rows-2.ensures files choice clear.are in
+    rw lent names
+
+pub of_expanded-requires-clause-room : goal.of_expanded-requires-clause-room
+of_expanded-requires-clause-room c =
+    let choice = choice_of c.args.selection.now in
+    let files = c.requires.files in
+    let clear = c.requires.clear in
+    let rows = c.rows.ensures files choice clear.are in
+    let names = rw rows at c.in-Ok.ensures.made in
+    let lent = c.rows-2.ensures files choice clear.are in
+    let copied = rw lent at c.in-Ok-final_tree.ensures.kept in
+    let tree = c.in-Ok-final_tree.tree in
+    let k : AreKept choice files (truth_in c.args.linked.now) tree = copied names in
+    let few = c.nodes_are_within_items.ensures choice files (truth_in c.args.linked.now) k.final k.nodes k.is_final k.are_left in
+    let left : length tree.left ≡ count k.nodes = ap length k.left ∙ c.a_tree_is_listed_whole.ensures None 0 k.nodes in
+    let items : length tree.items ≡ length k.final.items = ap length k.items in
+    let within : length tree.items ≤ tree.limit = c.len-items.ensures.within in
+    let limit : tree.limit ≡ c.args.limit = c.in-Ok-final_tree.ensures.limit in
+    omega (arith, few, left, items, within, limit)
+
+pub of_expanded-requires-clause-given : goal.of_expanded-requires-clause-given
+of_expanded-requires-clause-given c =
     let choice = choice_of c.args.selection.now in
     let limit = c.args.limit in
     let files = c.requires.files in

@@ -1,43 +1,98 @@
-use Rattle.std.proofs.Common.{◌≡◌, ap, ◌∙◌, List, ℕ, length, map, sym, subst}
-use Rattle.std.specs.List.{flat_map}
+use Rattle.std.proofs.Common.{◌≡◌, ◌+◌, ◌<◌, ◌≤◌, ap, arith, ◌∙◌, List, None, ℕ, length, length-append, map, sym, subst}
+use Rattle.std.specs.List.{All, flat_map}
 use Rattle.std.proofs.lemmas.List.{length-map}
 use Rattle.yv_rows.specs.Files.{Files, brief_of}
 use Rattle.yv_rows.specs.Lent.{lent_in}
 use Rattle.yv_rows.specs.Listed.{rows_of}
 use Rattle.yv_rows.specs.Rows.{Row}
 use Rattle.yv_units.specs.Limit.{given_at, given_before}
-use Rattle.yv_expansion.specs.Tree.{all_of}
+use Rattle.yv_expansion.specs.Tree.{all_of, count, listed}
 use Rattle.yv_whole_expansion.specs.Expands.{augmented, is_augment, is_item, those}
 use Rattle.yv_whole_expansion.specs.InnerItems.{ArePlaced, Lists, Give, origins, top_place}
 use Rattle.yv_whole_expansion.proofs.Expanding.{added_are, files_give, firsts_are, whole_is}
 use Rattle.yv_whole_expansion.proofs.Filing.{order_lists}
+use Rattle.yv_whole_expansion.proofs.Ordered.{given_fits}
 use Rattle.yv_whole_expansion.proofs.whole.within.Goals as goal
 
-pub returns-clause-expanded : goal.returns-clause-expanded
-returns-clause-expanded c = λ names fits. (
+pub spread-requires-clause-fits : goal.spread-requires-clause-fits
+spread-requires-clause-fits c =
     let files : Files = lent_in c.args.rows.now in
     let rows : List Row = rows_of files in
     let marks = c.args.given.now in
     let order : List ℕ = c.args.order.now in
-    let given = files_give files marks order c.args.limit c.requires fits in
+    let given = files_give files marks order c.args.limit c.requires.within c.requires.fits in
     let numbers : List ℕ = given_before (map brief_of files) rows marks (length files) in
     let tops : ArePlaced (top_place is_item (map brief_of files)) rows (length (map brief_of files)) c.deref.result.now =
     subst (λ (l : Lists). ArePlaced (top_place is_item (map brief_of files)) rows (length (map brief_of files)) l) (sym c.deref.ensures.value) c.in_ok-tops.ensures in
+    let firsts : c.deref-2.result.now ≡ those is_item rows (flat_map (given_at (map brief_of files) rows marks) order) =
+    c.deref-2.ensures.value ∙ c.in_ok-own_firsts.ensures ∙ order_lists (map brief_of files) rows is_item c.deref.result.now marks order tops c.requires.within in
+    let own_give : Give (map brief_of files) rows (origins c.deref-2.result.now) (all_of given.trees) =
+    subst (λ (l : List ℕ). Give (map brief_of files) rows (origins l) (all_of given.trees)) (sym firsts) given.tops in
+    let few : count (all_of given.trees) + count (all_of given.added) ≤ c.args.limit =
+    given_fits c.a_name_means_one_thing.ensures c.a_tree_is_listed_whole.ensures files marks order c.args.limit
+    (subst (λ (n : ℕ). All (λ file. file < n) order) (length-map files brief_of) c.requires.within) c.requires.once c.requires.fits given in
+    let empty : length c.new-expansion.result.items ≡ 0 = ap length c.new-expansion.ensures.items in
+    let limit : c.new-expansion.result.limit ≡ c.args.limit = c.new-expansion.ensures.limit in
+    (all_of given.trees, own_give, omega (arith, few, empty, limit))
+
+pub spread-requires-2-clause-fits : goal.spread-requires-2-clause-fits
+spread-requires-2-clause-fits c =
+    let files : Files = lent_in c.args.rows.now in
+    let rows : List Row = rows_of files in
+    let marks = c.args.given.now in
+    let order : List ℕ = c.args.order.now in
+    let given = files_give files marks order c.args.limit c.requires.within c.requires.fits in
+    let numbers : List ℕ = given_before (map brief_of files) rows marks (length files) in
+    let tops : ArePlaced (top_place is_item (map brief_of files)) rows (length (map brief_of files)) c.deref.result.now =
+    subst (λ (l : Lists). ArePlaced (top_place is_item (map brief_of files)) rows (length (map brief_of files)) l) (sym c.deref.ensures.value) c.in_ok-tops.ensures in
+    let firsts : c.deref-2.result.now ≡ those is_item rows (flat_map (given_at (map brief_of files) rows marks) order) =
+    c.deref-2.ensures.value ∙ c.in_ok-own_firsts.ensures ∙ order_lists (map brief_of files) rows is_item c.deref.result.now marks order tops c.requires.within in
+    let own_give : Give (map brief_of files) rows (origins c.deref-2.result.now) (all_of given.trees) =
+    subst (λ (l : List ℕ). Give (map brief_of files) rows (origins l) (all_of given.trees)) (sym firsts) given.tops in
     let augments : ArePlaced (top_place is_augment (map brief_of files)) rows (length (map brief_of files)) c.deref-3.result.now =
     subst (λ (l : Lists). ArePlaced (top_place is_augment (map brief_of files)) rows (length (map brief_of files)) l) (sym c.deref-3.ensures.value) c.in_ok-applied.ensures in
-    let firsts : c.deref-2.result.now ≡ those is_item rows (flat_map (given_at (map brief_of files) rows marks) order) =
-    c.deref-2.ensures.value ∙ c.in_ok-own_firsts.ensures ∙ order_lists (map brief_of files) rows is_item c.deref.result.now marks order tops c.requires in
     let applied : c.deref-4.result.now ≡ those is_augment rows numbers =
     c.deref-4.ensures.value ∙ firsts_are is_augment files marks c.deref-3.result.now _ augments c.in_ok-augments.ensures in
     let added : c.deref-5.result.now ≡ those is_item rows (augmented rows numbers) =
     c.deref-5.ensures.value ∙ added_are files c.in_ok-blocks.blocks.own.items numbers c.deref-4.result.now _ c.in_ok-blocks.ensures.own applied c.in_ok-added.ensures in
+    let more_give : Give (map brief_of files) rows (origins c.deref-5.result.now) (all_of given.added) =
+    subst (λ (l : List ℕ). Give (map brief_of files) rows (origins l) (all_of given.added)) (sym added) given.others in
+    let few : count (all_of given.trees) + count (all_of given.added) ≤ c.args.limit =
+    given_fits c.a_name_means_one_thing.ensures c.a_tree_is_listed_whole.ensures files marks order c.args.limit
+    (subst (λ (n : ℕ). All (λ file. file < n) order) (length-map files brief_of) c.requires.within) c.requires.once c.requires.fits given in
+    let empty : length c.new-expansion.result.items ≡ 0 = ap length c.new-expansion.ensures.items in
+    let limit : c.new-expansion.result.limit ≡ c.args.limit = c.new-expansion.ensures.limit in
+    let first : length c.spread.new.expansion.items ≡ length c.new-expansion.result.items + length (listed None (length c.new-expansion.result.items) (all_of given.trees)) =
+    ap length (c.in_ok-spread.ensures.items (all_of given.trees) own_give) ∙ length-append c.new-expansion.result.items (listed None (length c.new-expansion.result.items) (all_of given.trees)) in
+    let long = c.a_tree_is_listed_whole.ensures None (length c.new-expansion.result.items) (all_of given.trees) in
+    let same : c.spread.new.expansion.limit ≡ c.new-expansion.result.limit = c.in_ok-spread.ensures.limit in
+    (all_of given.added, more_give, omega (arith, few, empty, limit, first, long, same))
+
+pub returns-clause-expanded : goal.returns-clause-expanded
+returns-clause-expanded c =
+    let files : Files = lent_in c.args.rows.now in
+    let rows : List Row = rows_of files in
+    let marks = c.args.given.now in
+    let order : List ℕ = c.args.order.now in
+    let given = files_give files marks order c.args.limit c.requires.within c.requires.fits in
+    let numbers : List ℕ = given_before (map brief_of files) rows marks (length files) in
+    let tops : ArePlaced (top_place is_item (map brief_of files)) rows (length (map brief_of files)) c.deref.result.now =
+    subst (λ (l : Lists). ArePlaced (top_place is_item (map brief_of files)) rows (length (map brief_of files)) l) (sym c.deref.ensures.value) c.in_ok-tops.ensures in
+    let firsts : c.deref-2.result.now ≡ those is_item rows (flat_map (given_at (map brief_of files) rows marks) order) =
+    c.deref-2.ensures.value ∙ c.in_ok-own_firsts.ensures ∙ order_lists (map brief_of files) rows is_item c.deref.result.now marks order tops c.requires.within in
     let own_give : Give (map brief_of files) rows (origins c.deref-2.result.now) (all_of given.trees) =
     subst (λ (l : List ℕ). Give (map brief_of files) rows (origins l) (all_of given.trees)) (sym firsts) given.tops in
+    let augments : ArePlaced (top_place is_augment (map brief_of files)) rows (length (map brief_of files)) c.deref-3.result.now =
+    subst (λ (l : Lists). ArePlaced (top_place is_augment (map brief_of files)) rows (length (map brief_of files)) l) (sym c.deref-3.ensures.value) c.in_ok-applied.ensures in
+    let applied : c.deref-4.result.now ≡ those is_augment rows numbers =
+    c.deref-4.ensures.value ∙ firsts_are is_augment files marks c.deref-3.result.now _ augments c.in_ok-augments.ensures in
+    let added : c.deref-5.result.now ≡ those is_item rows (augmented rows numbers) =
+    c.deref-5.ensures.value ∙ added_are files c.in_ok-blocks.blocks.own.items numbers c.deref-4.result.now _ c.in_ok-blocks.ensures.own applied c.in_ok-added.ensures in
     let more_give : Give (map brief_of files) rows (origins c.deref-5.result.now) (all_of given.added) =
     subst (λ (l : List ℕ). Give (map brief_of files) rows (origins l) (all_of given.added)) (sym added) given.others in
     whole_is files marks order c.a_tree_is_listed_whole.ensures c.trees_are_listed_in_order.ensures.listed given c.new-expansion.result.items c.spread.new.expansion.items c.spread-2.new.expansion.items
-    c.len-own.result c.new-expansion.ensures.items (c.in_ok-spread.ensures.items (all_of given.trees) names c.in_ok-blocks.ensures own_give)
-    (c.in_ok-spread-2.ensures.items (all_of given.added) names c.in_ok-blocks.ensures more_give) c.len-own.ensures.count)
+    c.len-own.result c.new-expansion.ensures.items (c.in_ok-spread.ensures.items (all_of given.trees) own_give)
+    (c.in_ok-spread-2.ensures.items (all_of given.added) more_give) c.len-own.ensures.count
 
 pub returns-clause-augments : goal.returns-clause-augments
 returns-clause-augments c =

@@ -37,6 +37,7 @@ loop-left-init c =
       state = subst (λ (l : List Spot). IsGrafting (labels_of spots) (placed_from w (labels_of spots) copies c.len-left.result l) c.in_ok-grafting.grafting)
           (sym (none ∙ drop_all (length spots) spots (omega arith))) base;
       aims = c.new-aims.ensures.aims w;
+      schedules = c.new-schedules.ensures w;
       refined = c.new-aims.ensures.meant ∙ sym (ap (λ (l : List Spot). refined_from w (labels_of spots) copies (λ i. get_or c.args.ends.now i 0) c.len-left.result l)
           (none ∙ drop_all (length spots) spots (omega arith)));
       told = λ i le. (
@@ -74,6 +75,7 @@ loop-left-preserved c =
       state = subst (λ (x : State). IsGrafting labels x c.enter.new.self) (placed_more w labels copies n left s spots (turns w labels s st) next at refl)
           (c.in_ok-enter.ensures labels (turns w labels s st) ready);
       aims = c.in_ok-refine_all.ensures.aims;
+      schedules = c.in_ok-refusal.ensures.schedules;
       refined = refined_more w labels copies (λ i. get_or c.args.ends.now i 0) n left s spots c.end_of-end.result (all_meant c.loop-left.aims.refinements) _ next at c.end_of-end.ensures
           (c.in_ok-refine_all.ensures.meant labels st c.loop-left.invariant.state) c.loop-left.invariant.refined;
       told = missing_more w (laid_in c.args.layout.now) c.args.ends.now n left _ c.loop-left.missing.items _ next (omega (arith, inside, c.loop-left.invariant.each)) c.note.ensures

@@ -9,6 +9,7 @@ use Rattle.yv_augmented.specs.Untargeted.{MissesAt}
 use Rattle.yv_augmented.specs.InnerAims.{AreAims}
 use Rattle.yv_augmented.specs.InnerLayout.{laid_in}
 use Rattle.yv_augmented.specs.InnerPlan.{whole_in}
+use Rattle.yv_augmented.specs.InnerSchedule.{AreSchedules}
 use Rattle.yv_augmented.proofs.plan.Plan.place.Given as goal
 
 abbrev pub invariant-loop-left : goal.invariant-loop-left
@@ -18,6 +19,7 @@ invariant-loop-left l = record {
   state : IsGrafting (labels_of l.layout.spots.items)
       (placed_from (whole_in l.self) (labels_of l.layout.spots.items) l.layout.copies l.left (drop l.left l.layout.spots.items)) l.grafting;
   aims : AreAims (whole_in l.self) l.aims;
+  schedules : AreSchedules (whole_in l.self) l.schedules;
   refined : all_meant l.aims.refinements
       ≡ refined_from (whole_in l.self) (labels_of l.layout.spots.items) l.layout.copies (λ i. get_or l.ends i 0) l.left (drop l.left l.layout.spots.items);
   told : (i : ℕ) → l.left ≤ i → IsLeast (MissesAt (whole_in l.self) (laid_in l.layout) (get_or l.ends i 0) i) (get_or l.missing.items i None);

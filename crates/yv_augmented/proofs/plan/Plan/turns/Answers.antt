@@ -1,52 +1,70 @@
-use Rattle.std.proofs.Common.{◌≡◌, ◌+◌, ◌<◌, ◌≤◌, ℕ, List, Bool, true, None, Some, length, get_or, if◌then◌else◌, sym, ◌∙◌, ap, subst, arith}
+use Rattle.std.proofs.Common.{◌≡◌, ◌==◌, not, ℕ, List, Bool, Some, true, length, if◌then◌else◌, sym, ◌∙◌, ap, subst, arith}
 use Rattle.std.specs.List.{slice_get}
+use Rattle.std.proofs.lemmas.List.{drop_all}
+use Rattle.std.proofs.lemmas.Bool.{and_parts}
 use Rattle.std.proofs.lemmas.Option.{slice_get-get_or}
 use Rattle.yv_statement.specs.Order.{Among, IsLeast}
-use Rattle.yv_statement.specs.declared.refusal.Code.TheVariants as code
 use Rattle.yv_statement.specs.declared.refusal.Refusal.{Refusal}
-use Rattle.yv_statement.proofs.Least.{least_more, least_same}
+use Rattle.yv_statement.proofs.Least.{least_same, least_start}
 use Rattle.yv_augments.specs.Turns.{State}
 use Rattle.yv_augments.specs.InnerState.{IsGrafting}
-use Rattle.yv_augmented.specs.Faults.{Refused}
-use Rattle.yv_augmented.specs.Giving.{giving, is_giving}
+use Rattle.yv_augmented.specs.Giving.{giving}
 use Rattle.yv_augmented.specs.Grafted.{turns_from}
 use Rattle.yv_augmented.specs.InnerPlan.{whole_in}
-use Rattle.yv_augmented.specs.InnerTurns.{one_turn}
+use Rattle.yv_augmented.specs.InnerSchedule.{AreStretches}
 use Rattle.yv_augmented.specs.Kinds.{is_uses}
 use Rattle.yv_augmented.specs.Spots.{Whole, copies_of}
-use Rattle.yv_augmented.specs.Untargeted.{MissesInTurn, MissesOf, after_turns, augments_in, had_turns, next_number, reached}
-use Rattle.yv_augmented.proofs.Entering.{turns_ends}
-use Rattle.yv_augmented.proofs.Turning.{after_all, after_more, number_more, number_within}
+use Rattle.yv_augmented.specs.Untargeted.{MissesInTurn, MissesOf, augments_in}
+use Rattle.yv_augmented.specs.declared.schedule.Stretch.{Stretch}
+use Rattle.yv_augmented.proofs.Following.{among_more, next_stretch, no_turns, none_refused, ready_first, stretch_ascends}
+use Rattle.yv_augmented.proofs.Turning.{after_all}
 use Rattle.yv_augmented.proofs.plan.Plan.turns.Goals as goal
 
-pub loop-augment-preserved : goal.loop-augment-preserved
-loop-augment-preserved c =
+pub returns-then-not-has_augments-clause-state : goal.returns-then-not-has_augments-clause-state
+returns-then-not-has_augments-clause-state c = λ labels st is long room.
+    subst (λ (x : State). IsGrafting labels x c.args.grafting.now)
+    (sym (no_turns (whole_in c.args.self.now) labels c.args.spot.now c.args.end st (sym c.has_augments.ensures ∙ c.if-not-has_augments.true))) is
+
+pub returns-then-not-has_augments-clause-missing : goal.returns-then-not-has_augments-clause-missing
+returns-then-not-has_augments-clause-missing c = λ labels st is long room.
+    none_refused (whole_in c.args.self.now) labels c.args.spot.now c.args.end st (sym c.has_augments.ensures ∙ c.if-not-has_augments.true)
+
+pub loop-stretch-init : goal.loop-stretch-init
+loop-stretch-init c =
+    let w : Whole = whole_in c.args.self.now in
+    let spot = c.args.spot.now in
+    let all : List ℕ = augments_in w.rows spot.statement in
+    let uses : is_uses spot.label.kind ≡ true =
+    (and_parts (is_uses spot.label.kind) (not (length all == 0)) (sym c.has_augments.ensures ∙ c.if-not-has_augments.false)).0 in
+    let count : copies_of w.rows spot ≡ length (giving w.rows spot.statement) = ap (λ (b : Bool). if b then length (giving w.rows spot.statement) else 0) uses in
+    record {
+      at = 0;
+      left = subst (AreStretches w spot.statement spot.home 0 (length all)) (sym c.stretches-stretch-items.ensures) c.in_ok-prepare.ensures.ready;
+      each = λ labels st is long room. (
+        ready_first w labels spot st c.args.grafting.now is long (omega (arith, room, count)),
+        least_start all (MissesInTurn w labels spot c.args.end st),
+      );
+    }
+
+pub loop-stretch-preserved : goal.loop-stretch-preserved
+loop-stretch-preserved c =
     let w : Whole = whole_in c.args.self.now in
     let spot = c.args.spot.now in
     let end : ℕ = c.args.end in
-    let k : ℕ = c.loop-augment.augment-index in
-    let all : List ℕ = augments_in w.rows spot.statement in
-    let items : List ℕ = c.augments_in-augment-items.result.now in
-    let told : items ≡ all = c.augments_in-augment-items.ensures in
-    let a : ℕ = get_or items k 0 in
-    let at : slice_get all k ≡ Some a = ap (λ (l : List ℕ). slice_get l k) (sym told) ∙ slice_get-get_or items k 0 c.loop-augment-test.true in
-    let number : c.loop-augment.number ≡ next_number w.rows spot k = c.loop-augment.invariant.number in
-    let uses : is_uses spot.label.kind ≡ true = sym c.is_uses.ensures ∙ c.if-not-is_uses.false in
-    let count : copies_of w.rows spot ≡ length (giving w.rows spot.statement) = ap (λ (b : Bool). if b then length (giving w.rows spot.statement) else 0) uses in
+    let at : ℕ = c.loop-stretch.invariant.at in
+    let items : List Stretch = c.stretches-stretch-items.result.now in
+    let i : ℕ = c.loop-stretch.stretch-index in
+    let x : Stretch = c.stretch-item.result in
+    let there : slice_get items i ≡ Some x = slice_get-get_or items i x c.loop-stretch-test.true ∙ ap Some (sym c.stretch-item.is) in
+    let step = next_stretch w spot.statement spot.home at (length (augments_in w.rows spot.statement)) items i x there c.loop-stretch.invariant.left in
     record {
-      number = c.in_ok-number.ensures.next ∙ ap (λ (n : ℕ). if is_giving w.rows spot.statement a then n + 1 else n) number ∙ sym (number_more w.rows spot k a at);
+      at = step.0;
+      left = step.2;
       each = λ labels st is long room. (
-          let before = c.loop-augment.invariant.each labels st is long room in
-          let now : State = after_turns w labels spot k st in
-          let ends : length now.ends ≡ length st.ends = turns_ends w labels 0 c.turns_keep_augments.ensures spot spot.first (had_turns w.rows spot k) st in
-          let within : is_giving w.rows spot.statement a ≡ true → c.loop-augment.number < length now.ends =
-          λ h. (let l = number_within w.rows spot k a at h in omega (arith, l, number, ends, room, count)) in
-          let turned = c.in_ok-number.ensures.state labels now before.0 long within in
-          let missing = subst (λ (n : ℕ). IsLeast (Refused w.rows code.AugmentTarget (reached w labels spot end n a now ≡ None) a) c.in_ok-missing.missing)
-          number (c.in_ok-missing.ensures labels now before.0 long) in (
-            subst (λ (x : State). IsGrafting labels x c.one_turn.new.grafting)
-                (ap (λ (n : ℕ). one_turn w labels spot n a now) number ∙ after_more w labels spot k a st at) turned,
-            least_more all (MissesInTurn w labels spot end st) k a c.loop-augment.least c.in_ok-missing.missing c.lesser-least.result at c.lesser-least.ensures before.1 missing,
+          let before = c.loop-stretch.invariant.each labels st is long room in (
+            c.in_ok-followed.ensures.ready labels st at step.0 before.0 step.1,
+            among_more w labels spot end st at step.0 c.loop-stretch.least c.in_ok-followed.followed.missing c.lesser-least.result
+                (stretch_ascends w spot.statement spot.home at step.0 x step.1) c.lesser-least.ensures before.1 (c.in_ok-followed.ensures.missing labels st at step.0 before.0 step.1),
           ));
     }
 
@@ -55,12 +73,14 @@ returns-clause-state c = λ labels st is long room. (
     let w : Whole = whole_in c.args.self.now in
     let spot = c.args.spot.now in
     let all : List ℕ = augments_in w.rows spot.statement in
-    let past : length all ≤ c.loop-augment.augment-index = (let size = ap length c.augments_in-augment-items.ensures in omega (arith, size, c.loop-augment-test.false)) in
-    let uses : is_uses spot.label.kind ≡ true = sym c.is_uses.ensures ∙ c.if-not-is_uses.false in
-    subst (λ (x : State). IsGrafting labels x c.loop-augment.grafting)
-    (after_all w labels spot c.loop-augment.augment-index st past
-    ∙ ap (λ (b : Bool). if b then turns_from w labels spot spot.first (giving w.rows spot.statement) st else st) (sym uses))
-    (c.loop-augment.invariant.each labels st is long room).0)
+    let at : ℕ = c.loop-stretch.invariant.at in
+    let uses : is_uses spot.label.kind ≡ true =
+    (and_parts (is_uses spot.label.kind) (not (length all == 0)) (sym c.has_augments.ensures ∙ c.if-not-has_augments.false)).0 in
+    let last : at ≡ length all =
+    subst (AreStretches w spot.statement spot.home at (length all)) (drop_all c.loop-stretch.stretch-index c.stretches-stretch-items.result.now c.loop-stretch-test.false) c.loop-stretch.invariant.left in
+    subst (λ (x : State). IsGrafting labels x c.loop-stretch.grafting)
+    (after_all w labels spot at st (omega (arith, last)) ∙ ap (λ (b : Bool). if b then turns_from w labels spot spot.first (giving w.rows spot.statement) st else st) (sym uses))
+    (c.loop-stretch.invariant.each labels st is long room).0.grafting)
 
 pub returns-clause-missing : goal.returns-clause-missing
 returns-clause-missing c = λ labels st is long room. (
@@ -68,9 +88,11 @@ returns-clause-missing c = λ labels st is long room. (
     let spot = c.args.spot.now in
     let all : List ℕ = augments_in w.rows spot.statement in
     let P : ℕ → ℕ → Refusal → Type 0 = MissesInTurn w labels spot c.args.end st in
-    let last : c.loop-augment.augment-index ≡ length all =
-    (let size = ap length c.augments_in-augment-items.ensures in omega (arith, size, c.loop-augment-test.false, c.loop-augment.auto.augment-index-end)) in
-    let uses : is_uses spot.label.kind ≡ true = sym c.is_uses.ensures ∙ c.if-not-is_uses.false in
-    let whole : IsLeast (Among all P (length all)) c.loop-augment.least =
-    subst (λ (n : ℕ). IsLeast (Among all P n) c.loop-augment.least) last (c.loop-augment.invariant.each labels st is long room).1 in
-    least_same (Among all P (length all)) (MissesOf w labels spot c.args.end st) c.loop-augment.least (λ f h. (uses, h)) (λ f h. h.1) whole)
+    let at : ℕ = c.loop-stretch.invariant.at in
+    let uses : is_uses spot.label.kind ≡ true =
+    (and_parts (is_uses spot.label.kind) (not (length all == 0)) (sym c.has_augments.ensures ∙ c.if-not-has_augments.false)).0 in
+    let last : at ≡ length all =
+    subst (AreStretches w spot.statement spot.home at (length all)) (drop_all c.loop-stretch.stretch-index c.stretches-stretch-items.result.now c.loop-stretch-test.false) c.loop-stretch.invariant.left in
+    let whole : IsLeast (Among all P (length all)) c.loop-stretch.least =
+    subst (λ (n : ℕ). IsLeast (Among all P n) c.loop-stretch.least) last (c.loop-stretch.invariant.each labels st is long room).1 in
+    least_same (Among all P (length all)) (MissesOf w labels spot c.args.end st) c.loop-stretch.least (λ f h. (uses, h)) (λ f h. h.1) whole)

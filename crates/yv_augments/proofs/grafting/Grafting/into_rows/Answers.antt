@@ -1,4 +1,5 @@
-use Rattle.std.proofs.Common.{◌≡◌, ◌∙◌, subst, sym}
+use Rattle.std.proofs.Common.{◌≡◌, ◌∙◌, List, subst, sym}
+use Rattle.yv_augments.specs.declared.label.Label.{Label}
 use Rattle.yv_augments.specs.Groups.{Groups}
 use Rattle.yv_augments.specs.Tree.{AreRows}
 use Rattle.yv_augments.specs.InnerListing.{StandAtMostOnce, groups_in}
@@ -10,5 +11,6 @@ pub returns : goal.returns
 returns c = λ labels st is stand.
     let same : groups_in c.in_ok-lists.lists.items ≡ st.groups =
     c.in_ok-lists.ensures ∙ are_members labels st.groups c.args.self.places.groups.items is.places.groups_are in
-    subst (λ (gs : Groups). AreRows gs c.in_ok-rows.rows.items) same
-    (c.in_ok-rows.ensures (subst StandAtMostOnce (sym same) (stand_at_most_once _ st.groups stand)))
+    subst (λ (ls : List Label). AreRows ls st.groups c.in_ok-rows.rows.items) (c.deref.ensures.value ∙ is.places.labels_are)
+    (subst (λ (gs : Groups). AreRows c.deref.result.now gs c.in_ok-rows.rows.items) same
+    (c.in_ok-rows.ensures (subst StandAtMostOnce (sym same) (stand_at_most_once _ st.groups stand))))

@@ -2,14 +2,15 @@ use Rattle.std.proofs.Common.{◌≡◌, ◌≤◌, ◌+◌, List, length, map, 
 use Rattle.yv_augments.specs.declared.label.Label.{Label}
 use Rattle.yv_augments.specs.Turns.{State}
 use Rattle.yv_augments.specs.InnerState.{IsGrafting, left}
-use Rattle.yv_augments.specs.InnerWaiting.{ArePoints}
+use Rattle.yv_augments.specs.InnerWaiting.{AreWaiting}
 use Rattle.yv_augments.proofs.Resuming.{Resumes}
 use Rattle.yv_augments.proofs.grafting.Grafting.round.Given as goal
 
 abbrev pub invariant-loop-index : goal.invariant-loop-index
 invariant-loop-index l = record {
   each : length l.self.ends.items ≡ length l.fn.self.ends.items;
+  trails : length l.waiting.trails.items ≡ length l.fn.waiting.trails.items;
   fewer : left l.self.ends.items + (if l.any then 1 else 0) ≤ left l.fn.self.ends.items;
-  resumes : (labels : List Label) (st : State) → IsGrafting labels st l.fn.self → ArePoints labels st.groups (map (λ p. p.items) l.paths) l.fn.points
-      → Resumes labels l.first (map (λ p. p.items) l.paths) st l.index l.any l.displaced l.points l.self;
+  resumes : (labels : List Label) (st : State) → IsGrafting labels st l.fn.self → AreWaiting labels st.groups (map (λ p. p.items) l.paths) l.fn.waiting
+      → Resumes labels l.first (map (λ p. p.items) l.paths) st l.index l.any l.waiting l.self;
 }

@@ -5,12 +5,12 @@ use Rattle.yv_augments.specs.InnerState.{IsGrafting, left}
 use Rattle.yv_augments.proofs.Resuming.{Runs}
 use Rattle.yv_augments.proofs.grafting.Grafting.run_rounds.Given as goal
 
-abbrev pub invariant-loop-points : goal.invariant-loop-points
-invariant-loop-points l = record {
+abbrev pub invariant-loop-waiting : goal.invariant-loop-waiting
+invariant-loop-waiting l = record {
   each : length l.self.ends.items ≡ length l.fn.self.ends.items;
-  points : length l.points.items ≡ length l.paths;
-  runs : (labels : List Label) (st : State) → IsGrafting labels st l.fn.self → Runs labels l.first (map (λ p. p.items) l.paths) st l.points.items l.self;
+  trails : length l.waiting.trails.items ≡ length l.paths;
+  runs : (labels : List Label) (st : State) → IsGrafting labels st l.fn.self → Runs labels l.first (map (λ p. p.items) l.paths) st l.waiting l.self;
 }
 
-abbrev pub decreases-loop-points : goal.decreases-loop-points
-decreases-loop-points l = left l.self.ends.items
+abbrev pub decreases-loop-waiting : goal.decreases-loop-waiting
+decreases-loop-waiting l = left l.self.ends.items

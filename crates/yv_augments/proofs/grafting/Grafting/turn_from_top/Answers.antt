@@ -1,36 +1,27 @@
-use Rattle.std.proofs.Common.{◌≡◌, ◌∙◌, ◌&&◌, not, Option, length, arith, ap, subst}
+use Rattle.std.proofs.Common.{◌≡◌, ℕ, List, Bool, Option, length, subst}
 use Rattle.yv_augments.specs.declared.end.End.{End}
-use Rattle.yv_augments.specs.Groups.{group_of_augment}
-use Rattle.yv_augments.specs.Turns.{is_applied, is_some, resolved}
-use Rattle.yv_augments.specs.InnerState.{IsGrafting}
-use Rattle.yv_augments.specs.InnerWaiting.{KeepFirst}
-use Rattle.yv_augments.proofs.Following.{followed_on}
+use Rattle.yv_augments.specs.declared.end.End.TheVariants as end
+use Rattle.yv_augments.specs.Groups.{Groups}
+use Rattle.yv_augments.specs.Paths.{ended}
+use Rattle.yv_augments.specs.Turns.{resolved}
+use Rattle.yv_augments.specs.InnerHidden.{Updates}
+use Rattle.yv_augments.specs.InnerWaiting.{StillLead}
+use Rattle.yv_augments.proofs.Resuming.{still_lead}
 use Rattle.yv_augments.proofs.grafting.Grafting.turn_from_top.Goals as goal
 
-pub returns-clause-state : goal.returns-clause-state
-returns-clause-state c = λ labels st is leads.
-    let n : c.len-limit.result ≡ length c.args.self.now.places.labels.items = omega (arith, c.len-limit.ensures) in
-    let f = followed_on labels c.args.self.now.places.labels.items st.groups c.len-limit.result c.args.path.now c.args.from c.follow-point.result c.end_of-end.result
-    n is.places.labels_are (c.follow-point.ensures labels st.groups is.places) c.end_of-end.ensures leads in
-    subst (λ (o : Option End). IsGrafting labels (resolved labels c.args.number o st) c.settle.new.self) f.0 (c.in_ok-applied.ensures.state labels st is)
+pub returns-clause-others : goal.returns-clause-others
+returns-clause-others c = λ labels st is closed are.
+    let e : Option End = c.in_ok-end.end in
+    let before : List Bool = c.args.hidden.now.marks.items in
+    let after : List Bool = c.update.new.self.marks.items in
+    let new : Groups = (resolved labels c.args.number e st).groups in
+    let end_is : e ≡ ended labels st.groups (length labels) c.args.path.now (end.Start 0) = c.in_ok-end.ensures.end labels st is are in
+    let updates : Updates new before after e c.in_ok-applied.displaced.items =
+    subst (λ (gone : List ℕ). Updates new before after e gone) c.deref.ensures.value
+    (c.in_ok-update.ensures labels new (c.in_ok-applied.ensures.state labels st is).places) in
+    subst (λ (o : Option End). StillLead labels st.groups (resolved labels c.args.number o st).groups before after) end_is
+    (still_lead labels c.args.number e st before after c.in_ok-applied.displaced.items closed (c.in_ok-applied.ensures.kept labels st is) updates)
 
-pub returns-clause-taken : goal.returns-clause-taken
-returns-clause-taken c = λ labels st is leads.
-    let n : c.len-limit.result ≡ length c.args.self.now.places.labels.items = omega (arith, c.len-limit.ensures) in
-    let f = followed_on labels c.args.self.now.places.labels.items st.groups c.len-limit.result c.args.path.now c.args.from c.follow-point.result c.end_of-end.result
-    n is.places.labels_are (c.follow-point.ensures labels st.groups is.places) c.end_of-end.ensures leads in
-    c.in_ok-applied.ensures.taken labels st is ∙ ap (λ (o : Option End). not (is_applied st c.args.number) && is_some o) f.0
-
-pub returns-clause-point : goal.returns-clause-point
-returns-clause-point c = λ labels st is leads.
-    let n : c.len-limit.result ≡ length c.args.self.now.places.labels.items = omega (arith, c.len-limit.ensures) in
-    (followed_on labels c.args.self.now.places.labels.items st.groups c.len-limit.result c.args.path.now c.args.from c.follow-point.result c.end_of-end.result
-    n is.places.labels_are (c.follow-point.ensures labels st.groups is.places) c.end_of-end.ensures leads).1
-
-pub returns-clause-kept : goal.returns-clause-kept
-returns-clause-kept c = λ labels st is leads none.
-    let n : c.len-limit.result ≡ length c.args.self.now.places.labels.items = omega (arith, c.len-limit.ensures) in
-    let f = followed_on labels c.args.self.now.places.labels.items st.groups c.len-limit.result c.args.path.now c.args.from c.follow-point.result c.end_of-end.result
-    n is.places.labels_are (c.follow-point.ensures labels st.groups is.places) c.end_of-end.ensures leads in
-    subst (λ (o : Option End). KeepFirst labels (group_of_augment labels c.args.number) st.groups (resolved labels c.args.number o st).groups) f.0
-    (c.in_ok-applied.ensures.kept labels st is none)
+pub returns-clause-trail : goal.returns-clause-trail
+returns-clause-trail c = λ labels st is closed are.
+    (returns-clause-others c labels st is closed are).lead c.args.path.now c.follow_on.new.trail.ends.items (c.in_ok-end.ensures.trail labels st is are)

@@ -1,13 +1,13 @@
 use Rattle.std.proofs.Common.{◌≡◌, ℕ, List, ◌++◌, ◌∷◌, [], ◌∙◌, ap, sym, subst}
 use Rattle.yv_augments.proofs.Descending.{descend_more}
-use Rattle.yv_augments.proofs.Least.{least_more}
+use Rattle.yv_augments.proofs.Least.{first_more}
 use Rattle.yv_augments.specs.InnerGroups.{Descend, IsBelowLast, first_in}
 use Rattle.yv_augments.proofs.group.Group.add.Goals as goal
 
 pub returns-clause-state : goal.returns-clause-state
 returns-clause-state c = λ members old. record {
   members_are = c.in_ok-push.ensures.items ∙ ap (λ v. v.items ++ c.args.item ∷ []) c.note.ensures.members ∙ ap (λ l. l ++ c.args.item ∷ []) old.members_are;
-  named = λ n. c.in_ok-displaced.ensures.named n ∙ least_more c.args.labels.now members c.args.item n (first_in c.args.self.now) (old.named n);
+  named = λ n. c.in_ok-displaced.ensures.named n ∙ first_more c.args.labels.now members c.args.item n (first_in c.args.self.now) (old.named n);
   descend = λ is.
       let kept : List ℕ = c.args.self.now.members.items in
       let before : c.note.new.self.members.items ≡ kept = ap (λ v. v.items) c.note.ensures.members in

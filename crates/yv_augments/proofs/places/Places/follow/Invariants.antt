@@ -1,14 +1,18 @@
-use Rattle.std.proofs.Common.{◌≡◌, ◌-◌, List, take, length, Some}
+use Rattle.std.proofs.Common.{◌≡◌, ◌-◌, List, length}
 use Rattle.yv_augments.specs.declared.label.Label.{Label}
-use Rattle.yv_augments.specs.declared.end.End.{End}
 use Rattle.yv_augments.specs.Groups.{Groups}
-use Rattle.yv_augments.specs.Paths.{ended}
 use Rattle.yv_augments.specs.InnerGroups.{ArePlaces}
+use Rattle.yv_augments.specs.InnerWaiting.{Lead, last_end}
+use Rattle.yv_augments.proofs.Following.{Follows}
 use Rattle.yv_augments.proofs.places.Places.follow.Given as goal
 
-abbrev pub invariant-loop-step : goal.invariant-loop-step
-invariant-loop-step l = (labels : List Label) (groups : Groups) → ArePlaces labels groups l.self → (s : End)
-    → ended labels groups l.limit (take l.fn.from.step l.path) s ≡ Some l.fn.from.end → ended labels groups l.limit (take l.step l.path) s ≡ Some l.end
+abbrev pub invariant-loop-end : goal.invariant-loop-end
+invariant-loop-end l = record {
+  end : l.end ≡ last_end l.trail.ends.items;
+  follows : (labels : List Label) (groups : Groups) → ArePlaces labels groups l.self
+      → Lead labels groups l.path (length l.fn.trail.ends.items) (last_end l.fn.trail.ends.items)
+      → Follows labels groups l.path l.fn.trail.ends.items l.trail.ends.items;
+}
 
-abbrev pub decreases-loop-step : goal.decreases-loop-step
-decreases-loop-step l = length l.path - l.step
+abbrev pub decreases-loop-end : goal.decreases-loop-end
+decreases-loop-end l = length l.path - length l.trail.ends.items

@@ -1,4 +1,4 @@
-use Rattle.std.proofs.Common.{◌≡◌, List, [], refl, sym, ap, ◌∙◌, ◌++◌, subst, append-nil, None, get_or}
+use Rattle.std.proofs.Common.{◌≡◌, ◌+◌, arith, length, length-append, ◌∷◌, List, [], refl, sym, ap, ◌∙◌, ◌++◌, subst, append-nil, None, get_or}
 use Rattle.std.proofs.lemmas.List.{at_drop_all}
 use Rattle.yv_children.specs.Families.{lists_of}
 use Rattle.yv_expansion.specs.Tree.{Node}
@@ -13,6 +13,7 @@ pub loop-place-init : goal.loop-place-init
 loop-place-init c = record {
   kept = λ b tells homes. record { lines = []; are = record { are = c.new-aboves.ensures.items }; rows = refl };
   limit = refl;
+  grown = omega arith;
 }
 
 pub loop-place-preserved : goal.loop-place-preserved
@@ -33,6 +34,9 @@ loop-place-preserved c = record {
       kept_more b below c.loop-place.aboves.items c.push.new.self.items c.in_ok-made.made.above_others i c.args.items.now blank c.loop-place.nodes.rows c.push-in-loop-place.new.self.rows c.args.nodes.now.rows
       c.in_ok-made.made.node k c.loop-place-test.true c.in_ok-push.ensures.items c.in_ok-push-2.ensures.rows made told;
   limit = c.in_ok-push-2.ensures.limit ∙ c.loop-place.invariant.limit;
+  grown =
+      let more : length c.push-in-loop-place.new.self.rows ≡ length (c.loop-place.nodes.rows ++ c.in_ok-made.made.node ∷ []) = ap length c.in_ok-push-2.ensures.rows in
+      omega (arith, more, length-append c.loop-place.nodes.rows (c.in_ok-made.made.node ∷ []), c.loop-place.invariant.grown);
 }
 
 pub returns-clause-rows : goal.returns-clause-rows

@@ -1,4 +1,4 @@
-use Rattle.std.proofs.Common.{◌≡◌}
+use Rattle.std.proofs.Common.{◌≡◌, ◌+◌, length}
 use Rattle.yv_children.specs.Families.{lists_of}
 use Rattle.yv_schema.specs.InnerContext.{Tells}
 use Rattle.yv_schema.specs.InnerHomes.{AreHomes}
@@ -12,4 +12,5 @@ invariant-loop-place l = record {
   kept : (b : Basis) → Tells b l.self.context.now → AreHomes b.files l.self.homes.now
       → Kept b (lists_of l.below) l.aboves.items l.place l.items l.nodes.rows l.fn.nodes.rows;
   limit : l.nodes.limit ≡ l.fn.nodes.limit;
+  grown : length l.nodes.rows ≡ length l.fn.nodes.rows + l.place;
 }

@@ -1,0 +1,34 @@
+use Rattle.std.proofs.Common.{◌≡◌, ◌+◌, ℕ, List, None, ap, sym, subst, ◌∙◌}
+use Rattle.yv_statement.specs.Order.{IsLeast}
+use Rattle.yv_statement.specs.declared.refusal.Code.TheVariants as code
+use Rattle.yv_rows.specs.Lent.{rows_in}
+use Rattle.yv_augments.specs.Groups.{group_of_augment, members_of}
+use Rattle.yv_augments.specs.InnerState.{IsGrafting}
+use Rattle.yv_augments.specs.Turns.{State, turn}
+use Rattle.yv_augmented.specs.Faults.{Refused}
+use Rattle.yv_augmented.specs.Grafted.{last_of, path_in}
+use Rattle.yv_augmented.specs.InnerPlan.{whole_in}
+use Rattle.yv_augmented.specs.InnerSchedule.{added_to}
+use Rattle.yv_augmented.proofs.plan.Plan.give.Goals as goal
+
+pub returns-clause-state : goal.returns-clause-state
+returns-clause-state c = λ labels st is long path room. (
+    let spot = c.args.spot.now in
+    let number : ℕ = c.args.number in
+    let group : c.in_ok-group.group ≡ group_of_augment labels number = c.in_ok-group.ensures ∙ ap (λ (n : ℕ). n + 1 + number) (sym long) in
+    let limit : c.last_of-limit.result ≡ last_of (members_of st.groups (group_of_augment labels number)) =
+    c.last_of-limit.ensures ∙ ap last_of (c.members.ensures labels st is ∙ ap (members_of st.groups) group) in
+    subst (λ (x : State). IsGrafting labels x c.turn.new.self)
+    (ap (λ (p : List ℕ). turn labels number spot.group c.last_of-limit.result p st) (c.deref.ensures.value ∙ path)
+    ∙ ap (λ (n : ℕ). turn labels number spot.group n (path_in (whole_in c.args.self.now) spot.home c.args.it.now.augment) st) limit)
+    (c.in_ok-turn.ensures labels st is room))
+
+pub returns-clause-missing : goal.returns-clause-missing
+returns-clause-missing c = λ labels st is long. (
+    let it = c.args.it.now in
+    let number : ℕ = c.args.number in
+    let group : c.in_ok-group.group ≡ group_of_augment labels number = c.in_ok-group.ensures ∙ ap (λ (n : ℕ). n + 1 + number) (sym long) in
+    let limit : c.last_of-limit.result ≡ last_of (members_of st.groups (group_of_augment labels number)) =
+    c.last_of-limit.ensures ∙ ap last_of (c.members.ensures labels st is ∙ ap (members_of st.groups) group) in
+    subst (λ (n : ℕ). IsLeast (Refused (rows_in c.args.self.now.rows.now) code.AugmentTarget (added_to labels st n c.args.spot.now.group it.path.items ≡ None) it.augment) c.missing-missing.result)
+    limit (c.missing-missing.ensures labels st is))

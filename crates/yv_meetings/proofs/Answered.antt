@@ -1,0 +1,355 @@
+-- What an index answers is what is read off the list of all that is met.
+use Rattle.std.proofs.Common.{◌≡◌, ℕ, zero, suc, ◌+◌, ◌-◌, ◌==◌, ◌<◌, ◌≤◌, ◌⊎◌, inl, inr, List, [], ◌∷◌, ◌++◌, length, map, slice_index_or, Bool, true, false, ◌&&◌, ◌||◌, nat_le, Option, Some, None, cond, refl, sym, ap, subst, ◌∙◌, append-nil, append_assoc, arith}
+use Rattle.std.proofs.lemmas.Bool.Decides.{nat_tests, Decides-eqb}
+use Rattle.std.proofs.lemmas.Grind.{flat_map-append}
+use Rattle.std.proofs.lemmas.List.Sums.{sum_by-cons}
+use Rattle.std.specs.List.{AllByRecursion, filter, flat_map}
+use Rattle.serde_json.specs.Data.{Data, null, boolean, number, string, array, object, Members}
+use Rattle.yv_values.specs.Values.{Val}
+use Rattle.yv_nodes.specs.Link.{climbed, Link}
+use Rattle.yv_nodes.specs.Numbers.{rows_from}
+use Rattle.yv_nodes.specs.Rows.{Rows, row_at, whole}
+use Rattle.yv_nodes.specs.Tree.{Forest, Label}
+use Rattle.yv_nodes.specs.declared.node.NodeId.{NodeId}
+use Rattle.yv_references.specs.declared.scope.Scope.TheVariants.{Always}
+use Rattle.yv_references.specs.InUse.{value_of}
+use Rattle.yv_references.specs.Notes.{AreTargets, climbed_to, further_out, judge, judged, Noted, path_of, path_to, place_at, Position, position_at, value_notes}
+use Rattle.yv_references.specs.Place.{Place, step_name}
+use Rattle.yv_references.specs.Positions.{is_it, is_within, Kept, kept_if}
+use Rattle.yv_references.specs.Reached.{is_among}
+use Rattle.yv_references.specs.References.{told_unless}
+use Rattle.yv_references.specs.Same.{same_value}
+use Rattle.yv_meetings.specs.Meetings.{all_met, at, entered, entered_at, in_no_object, is_entered, Meeting, meetings, stand, written, ending, met, Spot, Stand, top, Written}
+use Rattle.yv_meetings.specs.Values.{Valued, values_in}
+use Rattle.yv_meetings.specs.Faults.{number_of}
+use Rattle.yv_meetings.specs.Findings.{AreRows, first_of, kept_in, kept_of, notes_at, notes_in, position_of, positions_at, positions_in, second_of}
+use Rattle.yv_meetings.specs.References.{is_in, is_reached, reached, references_at, references_by, references_in}
+use Rattle.yv_meetings.proofs.Placed.{all_first, all_rest, all_weaker, End, ends_append, ends_in, entered_append, IsBefore, IsNear, IsPlaced, Parts, PartsAll, placed, same_number, within}
+use Rattle.yv_meetings.proofs.Walked.{AreUnwritten, Closed, entered_stand, IsPlain, IsUnwritten, walk_holds}
+
+-- ---- positions in a list
+
+abbrev pub Reads : List Position → ℕ → List Position → Type 0
+Reads ps next [] = Unit {0}
+Reads ps next (x ∷ xs) = (position_at ps next ≡ x) × Reads ps (next + 1) xs
+
+reads_first : (ps : List Position) (next : ℕ) (xs ys : List Position) → Reads ps next (xs ++ ys) → Reads ps next xs
+reads_first ps next [] ys h = tt
+reads_first ps next (x ∷ xs) ys h = (h.0, reads_first ps (next + 1) xs ys h.1)
+
+reads_rest : (ps : List Position) (next a : ℕ) (xs ys : List Position) → length xs ≡ a → Reads ps next (xs ++ ys) → Reads ps (next + a) ys
+reads_rest ps next a [] ys e h = let same : next ≡ next + a = omega (arith, e) in subst (λ k. Reads ps k ys) same h
+reads_rest ps next a (x ∷ xs) ys e h =
+    let same : next + 1 + length xs ≡ next + a = omega (arith, e) in
+    subst (λ k. Reads ps k ys) same (reads_rest ps (next + 1) (length xs) xs ys refl h.1)
+
+join_length : (xs ys : List Position) (a b : ℕ) → length xs ≡ a → length ys ≡ b → length (xs ++ ys) ≡ a + b
+join_length [] ys a b e f = omega (arith, e, f)
+join_length (x ∷ xs) ys a b e f = omega (arith, e, join_length xs ys (length xs) b refl f)
+
+from_head : (xs ys : List Position) (y : Position) (a : ℕ) → length xs ≡ a → position_at (xs ++ y ∷ ys) a ≡ y
+from_head [] ys y zero e = refl
+from_head [] ys y (suc a) e = absurd (omega (arith, e))
+from_head (x ∷ xs) ys y zero e = absurd (omega (arith, e))
+from_head (x ∷ xs) ys y (suc a) e = from_head xs ys y a (omega (arith, e))
+
+move : (xs ys : List Position) (y : Position) → (xs ++ y ∷ []) ++ ys ≡ xs ++ y ∷ ys
+move [] ys y = refl
+move (x ∷ xs) ys y = ap (λ zs. x ∷ zs) (move xs ys y)
+
+reads_behind : (xs ys : List Position) (a : ℕ) → length xs ≡ a → Reads (xs ++ ys) a ys
+reads_behind xs [] a e = tt
+reads_behind xs (y ∷ ys) a e = (
+  from_head xs ys y a e,
+  subst (λ zs. Reads zs (a + 1) ys) (move xs ys y) (reads_behind (xs ++ y ∷ []) ys (a + 1) (join_length xs (y ∷ []) a 1 e (omega arith))),
+)
+
+one_length : (m : Stand) (d : Data) → length (position_of m d) ≡ is_entered d
+one_length m (object ms) = refl
+one_length m null = refl
+one_length m (boolean x) = refl
+one_length m (number x) = refl
+one_length m (string x) = refl
+one_length m (array x) = refl
+
+at_length : (m : Meeting) → length (positions_at m) ≡ entered_at m
+at_length (stand m) = one_length m m.found
+at_length (written m) = refl
+at_length (ending m) = refl
+at_length (met m) = refl
+
+entered_cons : (m : Meeting) (ms : List Meeting) → entered (m ∷ ms) ≡ entered_at m + entered ms
+entered_cons m ms = sum_by-cons entered_at m ms
+
+pub positions_length : (ms : List Meeting) → length (positions_in ms) ≡ entered ms
+positions_length [] = refl
+positions_length (m ∷ ms) =
+    join_length (positions_at m) (positions_in ms) (entered_at m) (entered ms) (at_length m) (positions_length ms)
+    ∙ sym (entered_cons m ms)
+
+positions_append : (xs ys : List Meeting) → positions_in (xs ++ ys) ≡ positions_in xs ++ positions_in ys
+positions_append xs ys = flat_map-append positions_at xs ys
+
+-- ---- what is asked of a value
+
+pub record Asked : Type 0 where
+  pub rows : Rows
+  pub positions : List Position
+  pub values : List Valued
+
+-- the objects around something are those that the positions tell
+abbrev pub IsChain : Asked → List ℕ → Type 0
+IsChain q around = (i : ℕ) → further_out q.positions i (first_of around) ≡ slice_index_or around i 0
+
+-- the object with this number is at this path
+abbrev pub IsAt : Asked → ℕ → List Place → Type 0
+IsAt q here path = (most : ℕ) → here ≤ most → path_to q.rows q.positions most here ≡ path
+
+-- the object with this number is around a value exactly where its interval says so
+abbrev pub IsGood : Asked → ℕ → Type 0
+IsGood q n = PartsAll q.values (record { number = n; last = (position_at q.positions n).last })
+
+pub record IsReady (q : Asked) (spot : Spot) : Type 0 where
+  pub chain : IsChain q spot.around
+  pub path : IsAt q (first_of spot.around) spot.path
+  pub good : (i : ℕ) → IsGood q (slice_index_or spot.around i 0)
+
+pub record IsFit (q : Asked) (m : Written) : Type 0 where
+  pub label : (row_at q.rows m.node).label ≡ m.label
+  pub ready : IsReady q m.spot
+
+abbrev pub FitAt : Asked → Meeting → Type 0
+FitAt q (written m) = IsFit q m
+FitAt q _ = Unit {0}
+
+abbrev pub AreFit : Asked → List Meeting → Type 0
+AreFit q ms = AllByRecursion (FitAt q) ms
+
+abbrev pub Fits : Asked → Spot → ℕ → List Meeting → Type 0
+Fits q spot next ms =
+    Reads q.positions next (positions_in ms) → AllByRecursion (PartsAll q.values) (ends_in ms) → first_of spot.around < next → IsReady q spot → AreFit q ms
+
+fit_append : (q : Asked) (xs ys : List Meeting) → AreFit q xs → AreFit q ys → AreFit q (xs ++ ys)
+fit_append q [] ys p r = r
+fit_append q (x ∷ xs) ys p r = (p.0, fit_append q xs ys p.1 r)
+
+both_fit : (q : Asked) (spot : Spot) (next : ℕ) (xs ys : List Meeting) → Fits q spot next xs → Fits q spot (next + entered xs) ys → Fits q spot next (xs ++ ys)
+both_fit q spot next xs ys f g reads ends lt ready =
+    let rs : Reads q.positions next (positions_in xs ++ positions_in ys) = subst (λ (ps : List Position). Reads q.positions next ps) (positions_append xs ys) reads in
+    let es : AllByRecursion (PartsAll q.values) (ends_in xs ++ ends_in ys) = subst (λ (zs : List End). AllByRecursion (PartsAll q.values) zs) (ends_append xs ys) ends in
+    fit_append q xs ys (f (reads_first q.positions next (positions_in xs) (positions_in ys) rs) (all_first (PartsAll q.values) (ends_in xs) (ends_in ys) es) lt ready)
+    (g (reads_rest q.positions next (entered xs) (positions_in xs) (positions_in ys) (positions_length xs) rs) (all_rest (PartsAll q.values) (ends_in xs) (ends_in ys) es)
+    (omega (arith, lt)) ready)
+
+plain_fit : (q : Asked) (spot : Spot) (next : ℕ) (m : Meeting) → IsPlain q.rows spot m → Fits q spot next (m ∷ [])
+plain_fit q spot next (stand m) p reads ends lt ready = (tt, tt)
+plain_fit q spot next (written m) p reads ends lt ready = (record { label = p.1; ready = subst (λ (at : Spot). IsReady q at) (sym p.0) ready }, tt)
+plain_fit q spot next (ending m) p reads ends lt ready = (tt, tt)
+plain_fit q spot next (met m) p reads ends lt ready = (tt, tt)
+
+not_zero : (here next : ℕ) → here < next → (next == 0) ≡ false
+not_zero here next lt = grind (arith, nat_tests, lt)
+
+path_below : (q : Asked) (here next : ℕ) (n : NodeId) (last : ℕ) (i : Option ℕ) (l : Label) (path : List Place) (most : ℕ) → here < next
+    → position_at q.positions next ≡ record { parent = here; node = n.0; item = i; last = last } → (row_at q.rows n).label ≡ l → IsAt q here path → next ≤ most
+    → path_to q.rows q.positions most next ≡ path ++ record { member = step_name l; item = i } ∷ []
+path_below q here next n last i l path zero lt e f at le = absurd (omega (arith, lt, le))
+path_below q here next n last i l path (suc most) lt e f at le =
+    rw (not_zero here next lt)
+    (ap (λ (p : Position). path_to q.rows q.positions most p.parent ++ place_at q.rows p.node p.item ∷ []) e
+    ∙ ap (λ ps. ps ++ place_at q.rows n.0 i ∷ []) (at most (omega (arith, lt, le)))
+    ∙ ap (λ (x : Label). path ++ record { member = step_name x; item = i } ∷ []) f)
+
+chain_below : (q : Asked) (next : ℕ) (outer : List ℕ) → (position_at q.positions next).parent ≡ first_of outer → IsChain q outer → IsChain q (next ∷ outer)
+chain_below q next outer e h zero = refl
+chain_below q next outer e h (suc i) = ap (λ n. further_out q.positions i n) e ∙ h i
+
+good_below : (q : Asked) (next last : ℕ) (outer : List ℕ) → (position_at q.positions next).last ≡ last → PartsAll q.values (record { number = next; last = last })
+    → ((i : ℕ) → IsGood q (slice_index_or outer i 0)) → (i : ℕ) → IsGood q (slice_index_or (next ∷ outer) i 0)
+good_below q next last outer e p h zero = subst (λ k. PartsAll q.values (record { number = next; last = k })) (sym e) p
+good_below q next last outer e p h (suc i) = h i
+
+object_fit : (q : Asked) (spot : Spot) (next entry : ℕ) (n : NodeId) (l : Label) (i : Option ℕ) (kids : Forest) (ms : Members) (xs : List Meeting) → (row_at q.rows n).label ≡ l
+    → Fits q (record { path = at spot l i; around = next ∷ spot.around; entry = entry }) (next + 1) xs
+    → Fits q spot next (entered_stand n i kids (record { path = at spot l i; around = next ∷ spot.around; entry = entry }) next ms xs ∷ xs)
+object_fit q spot next entry n l i kids ms xs is f reads ends lt ready = (
+  tt,
+  f reads.1 ends.1 (omega arith) (record {
+    chain = chain_below q next spot.around (ap (λ (p : Position). p.parent) reads.0) ready.chain;
+    path = λ most le. path_below q (first_of spot.around) next n (next + entered xs) i l spot.path most lt reads.0 is ready.path le;
+    good = good_below q next (next + entered xs) spot.around (ap (λ (p : Position). p.last) reads.0) ends.0 ready.good;
+  }),
+)
+
+unwritten_fit : (q : Asked) (ms : List Meeting) → AreUnwritten ms → AreFit q ms
+unwritten_fit q [] h = tt
+unwritten_fit q (stand m ∷ ms) h = (tt, unwritten_fit q ms h.1)
+unwritten_fit q (written m ∷ ms) h = absurd h.0
+unwritten_fit q (ending m ∷ ms) h = (tt, unwritten_fit q ms h.1)
+unwritten_fit q (met m ∷ ms) h = (tt, unwritten_fit q ms h.1)
+
+fits : (q : Asked) → Closed q.rows (Fits q)
+fits q = record {
+  none = λ spot next reads ends lt ready. tt;
+  both = both_fit q;
+  plain = plain_fit q;
+  object = object_fit q;
+  absent = λ spot next l xs h p reads ends lt ready. unwritten_fit q xs h;
+}
+
+-- ---- one answer
+
+sort : (a s c d rest : Bool) → ((a && s && c && d) || rest) ≡ cond (a && (c && d)) (s || rest) rest
+sort true true true true rest = refl
+sort true true true false rest = refl
+sort true true false d rest = refl
+sort true false true true rest = refl
+sort true false true false rest = refl
+sort true false false d rest = refl
+sort false s c d rest = refl
+
+sorted : (a s c d b rest : Bool) → b ≡ (c && d) → ((a && s && c && d) || rest) ≡ cond (a && b) (s || rest) rest
+sorted a s c d b rest e = rw e (sort a s c d rest)
+
+different_by : (is_target : ℕ → Bool) (n t : ℕ) (b : Bool) → (n == t) ≡ b → is_target n ≡ false → is_target t ≡ true → (n == t) ≡ false
+different_by is_target n t true e off on = let same : n ≡ t = (Decides-eqb n t).0 e in let both : is_target n ≡ is_target t = ap is_target same in absurd (cc)
+different_by is_target n t false e off on = e
+
+off_left : (a b : Bool) → a ≡ false → (a && b) ≡ false
+off_left true b e = absurd (cc)
+off_left false b e = refl
+
+within_if : (b : Bool) (n here : ℕ) (w : Val) (t : ℕ) (v : Val) (f l : ℕ) (ks : List Kept)
+    → is_within t v f l (kept_if b n here (w ∷ []) ++ ks) ≡ cond b (is_it t v f l (record { target = n; value = w; place = here }) || is_within t v f l ks) (is_within t v f l ks)
+within_if true n here w t v f l ks = refl
+within_if false n here w t v f l ks = refl
+
+among_if : (r : Bool) (v : Val) (w : Valued) (ws : List Valued)
+    → is_among v (map (λ x. x.value) (cond r (w ∷ ws) ws)) ≡ cond r (same_value v w.value || is_among v (map (λ x. x.value) ws)) (is_among v (map (λ x. x.value) ws))
+among_if true v w ws = refl
+among_if false v w ws = refl
+
+-- `kept` says whether the value is kept
+one_answer : (kept : Bool) (a s c d b rest : Bool) → b ≡ (c && d) → (kept ≡ false → a ≡ false)
+    → cond kept ((a && s && c && d) || rest) rest ≡ cond (a && b) (s || rest) rest
+one_answer true a s c d b rest e off = sorted a s c d b rest e
+one_answer false a s c d b rest e off = sym (ap (λ (x : Bool). cond x (s || rest) rest) (off_left a b (off refl)))
+
+kept_answer : (is_target : ℕ → Bool) (t : ℕ) (v : Val) (f l : ℕ) (vs : List Valued) → is_target t ≡ true → PartsAll vs (record { number = f; last = l })
+    → is_within t v f l (flat_map (kept_of is_target) vs) ≡ is_among v (map (λ w. w.value) (filter (is_reached t f) vs))
+kept_answer is_target t v f l [] on p = refl
+kept_answer is_target t v f l (w ∷ ws) on p =
+    let here : ℕ = first_of w.spot.around in
+    within_if (is_target w.node) w.node here w.value t v f l (flat_map (kept_of is_target) ws)
+    ∙ ap (λ (rest : Bool). cond (is_target w.node) (((w.node == t) && same_value v w.value && nat_le f here && nat_le here l) || rest) rest) (kept_answer is_target t v f l ws on p.1)
+    ∙ one_answer (is_target w.node) (w.node == t) (same_value v w.value) (nat_le f here) (nat_le here l) (is_in w.spot.around f) _ p.0
+    (λ off. different_by is_target w.node t (w.node == t) refl off on)
+    ∙ sym (among_if (is_reached t f w) v w (filter (is_reached t f) ws))
+
+climbed_same : (q : Asked) (around : List ℕ) (climbs : Option ℕ) → IsChain q around → climbed_to q.positions climbs (first_of around) ≡ climbed 0 climbs around
+climbed_same q around None h = refl
+climbed_same q around (Some k) h = h (k - 1)
+
+climbed_good : (q : Asked) (around : List ℕ) (climbs : Option ℕ) → IsGood q 0 → ((i : ℕ) → IsGood q (slice_index_or around i 0)) → IsGood q (climbed 0 climbs around)
+climbed_good q around None g h = g
+climbed_good q around (Some k) g h = h (k - 1)
+
+path_same : (q : Asked) (m : Written) (v : Val) → IsFit q m
+    → path_of q.rows q.positions (record { position = first_of m.spot.around; node = m.node.0; item = number_of m.before; value = v }) ≡ at m.spot m.label (number_of m.before)
+path_same q m v h =
+    ap (λ ps. ps ++ place_at q.rows m.node.0 (number_of m.before) ∷ []) (h.ready.path (first_of m.spot.around) (omega arith))
+    ∙ ap (λ (x : Label). m.spot.path ++ record { member = step_name x; item = number_of m.before } ∷ []) h.label
+
+record IsAsked (q : Asked) (links : ℕ → Option Link) (is_target : ℕ → Bool) (ks : List Kept) : Type 0 where
+  pub targets : AreTargets links is_target
+  pub kept : ks ≡ flat_map (kept_of is_target) q.values
+  pub top : IsGood q 0
+
+value_answer : (q : Asked) (links : ℕ → Option Link) (is_target : ℕ → Bool) (ks : List Kept) (m : Written) (link : Option Link) (v : Option Val) → IsAsked q links is_target ks → IsFit q m
+    → links m.node.0 ≡ link
+    → judged q.rows links ks q.positions (value_notes link (first_of m.spot.around) m.node.0 (number_of m.before) v) ≡ references_by q.values link m v
+value_answer q links is_target ks m None None a h e = refl
+value_answer q links is_target ks m None (Some v) a h e = refl
+value_answer q links is_target ks m (Some link) None a h e = refl
+value_answer q links is_target ks m (Some link) (Some v) a h e =
+    let n : Noted = record { position = first_of m.spot.around; node = m.node.0; item = number_of m.before; value = v } in
+    let f : ℕ = climbed 0 link.climbs m.spot.around in
+    append-nil (judge q.rows links ks q.positions n)
+    ∙ rw e (
+    ap (λ (from : ℕ). told_unless (is_within link.target v from (position_at q.positions from).last ks) (path_of q.rows q.positions n)) (climbed_same q m.spot.around link.climbs h.ready.chain)
+    ∙ ap (λ (xs : List Kept). told_unless (is_within link.target v f (position_at q.positions f).last xs) (path_of q.rows q.positions n)) a.kept
+    ∙ ap (λ (b : Bool). told_unless b (path_of q.rows q.positions n)) (kept_answer is_target link.target v f (position_at q.positions f).last q.values (a.targets m.node.0 link e)
+    (climbed_good q m.spot.around link.climbs a.top h.ready.good))
+    ∙ ap (λ (ps : List Place). told_unless (is_among v (reached q.values link m.spot)) ps) (path_same q m v h))
+
+-- ---- all answers
+
+judged_append : (s : Rows) (links : ℕ → Option Link) (ks : List Kept) (ps : List Position) (xs ys : List Noted) → judged s links ks ps (xs ++ ys) ≡ judged s links ks ps xs ++ judged s links ks ps ys
+judged_append s links ks ps [] ys = refl
+judged_append s links ks ps (x ∷ xs) ys =
+    ap (λ fs. judge s links ks ps x ++ fs) (judged_append s links ks ps xs ys) ∙ sym (append_assoc (judge s links ks ps x) (judged s links ks ps xs) (judged s links ks ps ys))
+
+meeting_answer : (q : Asked) (links : ℕ → Option Link) (is_target : ℕ → Bool) (ks : List Kept) (m : Meeting) → IsAsked q links is_target ks → FitAt q m
+    → judged q.rows links ks q.positions (notes_at links m) ≡ references_at links q.values m
+meeting_answer q links is_target ks (stand m) a h = refl
+meeting_answer q links is_target ks (written m) a h = value_answer q links is_target ks m (links m.node.0) (value_of m.label m.found) a h refl
+meeting_answer q links is_target ks (ending m) a h = refl
+meeting_answer q links is_target ks (met m) a h = refl
+
+answers : (q : Asked) (links : ℕ → Option Link) (is_target : ℕ → Bool) (ks : List Kept) (ms : List Meeting) → IsAsked q links is_target ks → AreFit q ms
+    → judged q.rows links ks q.positions (notes_in links ms) ≡ flat_map (references_at links q.values) ms
+answers q links is_target ks [] a h = refl
+answers q links is_target ks (m ∷ ms) a h =
+    judged_append q.rows links ks q.positions (notes_at links m) (notes_in links ms)
+    ∙ ap (λ fs. fs ++ judged q.rows links ks q.positions (notes_in links ms)) (meeting_answer q links is_target ks m a h.0)
+    ∙ ap (λ fs. references_at links q.values m ++ fs) (answers q links is_target ks ms a h.1)
+
+outermost : (ps : List Position) (i : ℕ) → (position_at ps 0).parent ≡ 0 → further_out ps i 0 ≡ 0
+outermost ps zero e = refl
+outermost ps (suc i) e = ap (λ n. further_out ps i n) e ∙ outermost ps i e
+
+zero_other : (n : ℕ) → 0 < n → (0 == n) ≡ false
+zero_other n lt = grind (arith, nat_tests)
+
+beside : (n : ℕ) → 0 < n → (0 == n || false) ≡ false
+beside n lt = ap (λ (b : Bool). b || false) (zero_other n lt)
+
+in_document : (size : ℕ) (v : Valued) → IsNear top 1 size v.spot.around → Parts (record { number = 0; last = 0 + size }) v
+in_document size v h =
+    h.outer 0 (omega arith)
+    ∙ elim h.place [
+      | inl e ↦ within 0 (0 + size) (first_of v.spot.around) (omega arith) (omega (arith, e))
+      | inr p ↦ within 0 (0 + size) (first_of v.spot.around) (omega arith) (omega (arith, p.1))
+    ]
+
+chain_top : (q : Asked) → (position_at q.positions 0).parent ≡ 0 → (i : ℕ) → further_out q.positions i 0 ≡ slice_index_or (0 ∷ []) i 0
+chain_top q e zero = refl
+chain_top q e (suc i) = ap (λ n. further_out q.positions i n) e ∙ outermost q.positions i e
+
+path_top : (q : Asked) (most : ℕ) → path_to q.rows q.positions most 0 ≡ []
+path_top q zero = refl
+path_top q (suc most) = refl
+
+good_top : (q : Asked) → IsGood q 0 → (i : ℕ) → IsGood q (slice_index_or (0 ∷ []) i 0)
+good_top q g zero = g
+good_top q g (suc i) = g
+
+-- what an index answers of all that is met in a document
+pub all_answered : (s : Rows) (links : ℕ → Option Link) (is_target : ℕ → Bool) (ms : Members) → AreRows s 0 (whole s) → AreTargets links is_target
+    → judged s links (kept_in is_target (all_met s (object ms))) (positions_in (all_met s (object ms))) (notes_in links (all_met s (object ms))) ≡ references_in links (all_met s (object ms))
+all_answered s links is_target ms rows targets =
+    let inside : List Meeting = meetings s (λ m t. Always) top 1 0 (whole s) ms in
+    let all : List Meeting = all_met s (object ms) in
+    let ps : List Position = positions_in all in
+    let q : Asked = record { rows = s; positions = ps; values = values_in all } in
+    let before : IsBefore top 1 = record { first = omega arith; beyond = λ n le. beside n (omega (arith, le)) } in
+    let p : IsPlaced top 1 inside = walk_holds s _ (placed s) (λ m t. Always) top 1 0 (whole s) ms rows before in
+    let reads : Reads ps 0 ps = reads_behind [] ps 0 refl in
+    let good : IsGood q 0 = all_weaker (λ (v : Valued). IsNear top 1 (entered inside) v.spot.around) (Parts (record { number = 0; last = 0 + entered inside })) (values_in all) (λ v h. in_document (entered inside) v h) p.near in
+    let ready : IsReady q top = record {
+      chain = λ i. chain_top q refl i;
+      path = λ most le. path_top q most;
+      good = λ i. good_top q good i;
+    } in
+    answers q links is_target (kept_in is_target all) all (record { targets = targets; kept = refl; top = good })
+    (tt, walk_holds s (Fits q) (fits q) (λ m t. Always) top 1 0 (whole s) ms rows reads.1 p.parted (omega arith) ready)
