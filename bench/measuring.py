@@ -1,4 +1,4 @@
-"""What the measurements of this folder have in common: runs of a command, bounded in time and memory."""
+"""Shared by the measurements in this folder: runs of a command with limits on time and memory."""
 import os
 import resource
 import subprocess
@@ -7,17 +7,18 @@ import threading
 import time
 
 TOP = os.path.dirname(os.path.dirname(os.path.abspath(__file__)))
-PROGRAM = os.path.join(TOP, "crates/yangcheck/out/yangcheck")
+PROGRAM = os.path.join(TOP, "bin/yangcheck")
 MOST_SECONDS = 60
 MOST_BYTES = 8 << 30
 
 
 def bounded():
+    """Limits the memory of this process."""
     resource.setrlimit(resource.RLIMIT_AS, (MOST_BYTES, MOST_BYTES))
 
 
 def run(words, folder):
-    """The seconds that a run took (None: too many), its most memory in MiB and its first line."""
+    """The seconds of a run (None: it was stopped), its peak memory in MiB and its first line."""
     with tempfile.TemporaryFile() as out:
         start = time.perf_counter()
         child = subprocess.Popen(words, cwd=folder, stdin=subprocess.DEVNULL, stdout=out, stderr=subprocess.DEVNULL, preexec_fn=bounded)
@@ -33,7 +34,7 @@ def run(words, folder):
 
 
 def best(words, folder):
-    """The seconds of the best of three runs (of fewer, where they take long), the most memory that a run held in MiB, and the first line."""
+    """The seconds of the best of three runs (fewer if they take long), the peak memory of a run in MiB, and the first line."""
     taken, memory, first = [], 0, ""
     while len(taken) < 3 and sum(taken) < 5:
         seconds, held, first = run(words, folder)

@@ -1,7 +1,7 @@
-"""The crates of this repository: which there are, which stand below which, and rooms in which one of them is worked on beside others.
+"""The crates of this repository: which there are, which are below which, and rooms in which crates are worked on in parallel.
 
-`rt` locks the folders of all crates below the one that it works on, so that two crates over a common one would wait for each other. A
-room is a folder of its own, with links to the libraries below, so that nothing is copied and nothing waits.
+`rt` locks the folders of all crates below the one that it works on, so two crates above a common one would wait for each other. A room
+is a folder of its own with links to the libraries below, so nothing is copied and nothing waits.
 """
 import os
 import shutil
@@ -35,11 +35,12 @@ def below(named, name):
 
 
 def folder_of(name):
+    """The folder of a crate."""
     return os.path.join(TOP, "crates", name)
 
 
 def size_of(name):
-    """The bytes of a crate's code and definitions, by which its proof's time goes."""
+    """The bytes of a crate's code, definitions and proofs, a measure of the time that its proof takes."""
     sizes = 0
     for part in PARTS:
         for at, _, files in os.walk(os.path.join(folder_of(name), part)):
@@ -48,7 +49,7 @@ def size_of(name):
 
 
 def linked(source, target):
-    """A link to a file, or a copy where the file system can't link."""
+    """Creates a link to a file, or a copy if the file system cannot link."""
     try:
         os.link(source, target)
     except OSError:
@@ -56,7 +57,7 @@ def linked(source, target):
 
 
 def laid(room, name, parts):
-    """Lays parts of a crate into a room, and answers its folder there."""
+    """Puts parts of a crate into a room, and returns its folder there."""
     to = os.path.join(room, "crates", name)
     for part in parts:
         if os.path.isdir(os.path.join(folder_of(name), part)):
@@ -65,7 +66,7 @@ def laid(room, name, parts):
 
 
 def furnished(room, named, name):
-    """Makes a room in which a crate can be worked on: the libraries below it, as they are built, and its own sources. Answers its folder."""
+    """Sets up a room for a crate: the built libraries below it and its own sources. Returns its folder."""
     lines, under = listed(), below(named, name)
     for crate in under:
         laid(room, crate, (*PARTS, os.path.join("out", "rlib")))

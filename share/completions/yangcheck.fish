@@ -1,0 +1,28 @@
+# Completions of yangcheck for fish.
+
+# Prints the names of the modules in the YANG files of the command line, or of the current folder if it names none.
+function __yangcheck_modules
+    set -l files (commandline -opc | string match -- '*.yang')
+    test (count $files) -gt 0; or set files ./*.yang
+    test (count $files) -gt 0; or return
+    cat $files 2>/dev/null | string match -rg '^\s*module\s+([A-Za-z_][A-Za-z0-9_.-]*)'
+end
+
+set -l commands compile tree validate
+set -l in_command "__fish_seen_subcommand_from $commands"
+
+complete -c yangcheck -f
+complete -c yangcheck -s h -l help -d 'Print help'
+complete -c yangcheck -n __fish_use_subcommand -s V -l version -d 'Print the version'
+complete -c yangcheck -n __fish_use_subcommand -a compile -d 'Compile modules, and count the nodes of their schema'
+complete -c yangcheck -n __fish_use_subcommand -a tree -d 'Draw the tree diagram of a module'
+complete -c yangcheck -n __fish_use_subcommand -a validate -d 'Validate a JSON document against modules'
+complete -c yangcheck -n __fish_use_subcommand -a help -d 'Print help'
+complete -c yangcheck -n '__fish_seen_subcommand_from help' -a "$commands help"
+
+complete -c yangcheck -n $in_command -l max-nodes -x -d 'Most nodes and uses that the modules may expand to'
+complete -c yangcheck -n $in_command -l support -x -a '(__yangcheck_modules | string replace -r \'$\' :)' -d 'Supported features of modules'
+complete -c yangcheck -n $in_command -l import-only -x -a '(__fish_append , (__yangcheck_modules))' -d 'Modules that are only imported'
+complete -c yangcheck -n '__fish_seen_subcommand_from tree' -l module -x -a '(__yangcheck_modules)' -d 'Module to draw'
+complete -c yangcheck -n '__fish_seen_subcommand_from validate' -l data -r -k -a '(__fish_complete_suffix .json)' -d 'JSON document, or - for standard input'
+complete -c yangcheck -n $in_command -k -a '(__fish_complete_suffix .yang)'
