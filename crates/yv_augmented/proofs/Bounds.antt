@@ -1,5 +1,5 @@
 -- Where items stand is within what there is.
-use Rattle.std.proofs.Common.{◌≡◌, ℕ, zero, suc, ◌+◌, ◌<◌, ◌≤◌, ◌⊎◌, inl, inr, Bool, true, false, if◌then◌else◌, List, [], ◌∷◌, ◌++◌, length, refl, sym, ◌∙◌, ap, subst, arith, Option, Some, None, length-append, eqb-true}
+use Rattle.std.proofs.Common.{◌≡◌, ℕ, zero, suc, ◌+◌, ◌<◌, ◌≤◌, ◌⊎◌, inl, inr, Bool, true, false, if◌then◌else◌, List, [], ◌∷◌, ◌++◌, length, drop, refl, sym, ◌∙◌, ap, subst, arith, Option, Some, None, length-append, eqb-true}
 use Rattle.std.specs.List.{slice_get}
 use Rattle.std.proofs.lemmas.Option.{same_Some, slice_get_within}
 use Rattle.yv_rows.specs.Rows.{Row}
@@ -8,9 +8,10 @@ use Rattle.yv_expansion.specs.Tree.{Item}
 use Rattle.yv_augmented.specs.Kinds.{is_uses}
 use Rattle.yv_augmented.specs.Giving.{giving, giving_places, is_giving, is_in, ordinal, place_before, place_of}
 use Rattle.yv_augmented.specs.Spots.{Laid, Whole, copies_of, group_below, laid, laid_from, one_more, spot_at, spot_of, top_by, top_group, used_group}
-use Rattle.yv_augmented.specs.InnerLayout.{AllFit, AreLaid, Fits}
+use Rattle.yv_augmented.specs.InnerLayout.{AllFit, AreLaid, AreNumbered, Fits, IsNumbered}
 use Rattle.yv_augmented.specs.declared.spot.Spot.{Spot}
 use Rattle.yv_augmented.proofs.Counting.{before_within, place_within}
+use Rattle.yv_augmented.proofs.Reading.{rest_of}
 
 pub pushed_at : {A : Type 0} (xs : List A) (y x : A) (i : ℕ) → slice_get (xs ++ y ∷ []) i ≡ Some x → (slice_get xs i ≡ Some x) ⊎ (y ≡ x)
 pushed_at [] y x zero h = inr (same_Some y x h)
@@ -18,7 +19,8 @@ pushed_at [] y x (suc i) h = absurd (let bad : None ≡ Some x = h in cc)
 pushed_at (z ∷ zs) y x zero h = inl h
 pushed_at (z ∷ zs) y x (suc i) h = pushed_at zs y x i h
 
-ordinal_within : (rows : List Row) (k a : ℕ) → is_giving rows k a ≡ true → ordinal rows a < length (giving rows k)
+-- one that gives something in a block is among those of the block
+pub ordinal_within : (rows : List Row) (k a : ℕ) → is_giving rows k a ≡ true → ordinal rows a < length (giving rows k)
 ordinal_within rows k a is = by (slice_get (giving_places rows) a) refl
   where
     by : (o : Option (Option ℕ)) → slice_get (giving_places rows) a ≡ o → ordinal rows a < length (giving rows k)
@@ -106,3 +108,24 @@ laid_whole w items long =
       modules = grown;
       long = laid_long w items (record { spots = []; copies = length w.augments }) ∙ omega (arith, long);
     }
+
+-- one more item is laid out
+pub laid_more : (w : Whole) (items : List Item) (i : ℕ) (x : Item) (spots given new : List Spot) (s : Spot) (copies count next : ℕ) (all : Laid)
+    → slice_get items i ≡ Some x → s ≡ spot_of w given count x → given ≡ spots → count ≡ copies → new ≡ spots ++ s ∷ []
+    → next ≡ copies + copies_of w.rows s
+    → laid_from w (drop i items) (record { spots = spots; copies = copies }) ≡ all
+    → laid_from w (drop (i + 1) items) (record { spots = new; copies = next }) ≡ all
+laid_more w items i x spots given new s copies count next all at made same_spots same_count added more before =
+    let rest : List Item = drop (i + 1) items in
+    let is : s ≡ spot_of w spots copies x =
+    made ∙ ap (λ (l : List Spot). spot_of w l count x) same_spots ∙ ap (λ (n : ℕ). spot_of w spots n x) same_count in
+    ap (λ (ss : List Spot). laid_from w rest (record { spots = ss; copies = next })) (added ∙ ap (λ (t : Spot). spots ++ t ∷ []) is)
+    ∙ ap (λ (n : ℕ). laid_from w rest (record { spots = spots ++ spot_of w spots copies x ∷ []; copies = n }))
+    (more ∙ ap (λ (t : Spot). copies + copies_of w.rows t) is)
+    ∙ ap (λ (xs : List Item). laid_from w xs (record { spots = spots; copies = copies })) (sym (rest_of items i x at))
+    ∙ before
+
+-- the copies that it adds are numbered
+pub numbered_more : (rows : List Row) (spots new : List Spot) (s : Spot) → new ≡ spots ++ s ∷ [] → IsNumbered rows s → AreNumbered rows spots → AreNumbered rows new
+numbered_more rows spots new s is here before k t at =
+    elim (pushed_at spots s t k (ap (λ (l : List Spot). slice_get l k) (sym is) ∙ at)) [ inl old ↦ before k t old | inr same ↦ subst (IsNumbered rows) same here ]

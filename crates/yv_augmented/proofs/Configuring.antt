@@ -1,14 +1,40 @@
 -- Whether items are configuration, by what is around the items of each depth, and by the tree itself.
-use Rattle.std.proofs.Common.{◌≡◌, ℕ, suc, ◌+◌, ◌≤◌, ◌==◌, not, Bool, true, false, if◌then◌else◌, List, [], ◌∷◌, ◌++◌, length, drop, refl, sym, ◌∙◌, ap, arith, Option, Some, None, append_assoc}
+use Rattle.std.proofs.Common.{◌≡◌, ℕ, zero, suc, ◌+◌, ◌<◌, ◌≤◌, ◌^◌, ◌⊎◌, inl, inr, ◌==◌, not, Bool, true, false, if◌then◌else◌, List, [], ◌∷◌, ◌++◌, length, drop, refl, sym, ◌∙◌, ap, arith, Option, Some, None, append_assoc}
 use Rattle.std.specs.List.{slice_get}
 use Rattle.std.proofs.lemmas.Bool.{eq-eqb, ne_eqb}
 use Rattle.std.proofs.lemmas.List.{append-nil, drop_all}
+use Rattle.std.proofs.lemmas.Option.{same_Some}
 use Rattle.yv_augments.specs.Tree.{Tree, none, item, listed}
 use Rattle.yv_augments.specs.declared.row.Row.{Row as Standing}
 use Rattle.yv_augmented.specs.Imposing.{Around, Told, inside, is_configuration, nothing_around}
-use Rattle.yv_augmented.specs.InnerImposing.{around_by, configured, entered}
+use Rattle.yv_augmented.specs.InnerImposing.{AreShallow, around_by, configured, entered}
 use Rattle.yv_augmented.specs.declared.spot.Spot.{Spot}
 use Rattle.yv_augmented.proofs.Reading.{rest_of}
+
+append_at : {A : Type 0} (xs ys : List A) (k : ℕ) (x : A) → slice_get (xs ++ ys) k ≡ Some x
+    → (slice_get xs k ≡ Some x) ⊎ ((j : ℕ) × (j ≤ k) × (slice_get ys j ≡ Some x))
+append_at [] ys k x at = inr (k, omega arith, at)
+append_at (y ∷ xs) ys zero x at = inl at
+append_at (y ∷ xs) ys (suc k) x at = elim (append_at xs ys k x at) [ inl here ↦ inl here | inr there ↦ (let le = there.1 in inr (there.0, omega (arith, le), there.2)) ]
+
+listed_depth : (t : Tree) (parent : Option ℕ) (depth k : ℕ) (x : Standing) → slice_get (listed parent depth t) k ≡ Some x → x.depth ≤ depth + k
+listed_depth none parent depth k x at = absurd (let bad : None ≡ Some x = at in cc)
+listed_depth (item i below behind) parent depth zero x at =
+    let first : Standing = record { number = i; parent = parent; depth = depth } in
+    let same : depth ≡ x.depth = ap (λ (y : Standing). y.depth) (same_Some first x at) in
+    omega (arith, same)
+listed_depth (item i below behind) parent depth (suc k) x at = elim (append_at (listed (Some i) (depth + 1) below) (listed parent depth behind) k x at) [
+  | inl here ↦ (let l = listed_depth below (Some i) (depth + 1) k x here in omega (arith, l))
+  | inr there ↦ (let l = listed_depth behind parent depth there.0 x there.2 in let le = there.1 in omega (arith, l, le))
+]
+
+-- the list of a tree is shallow
+pub listed_shallow : (t : Tree) (tree : List Standing) → tree ≡ listed None 1 t → AreShallow tree
+listed_shallow t tree is k x at = (let l = listed_depth t None 1 k x (ap (λ (l : List Standing). slice_get l k) (sym is) ∙ at) in omega (arith, l))
+
+-- the next depth is a number, where the place of the item is that of something in memory
+pub shallow_fits : (tree : List Standing) (k : ℕ) (x : Standing) → AreShallow tree → k < 2 ^ 63 → slice_get tree k ≡ Some x → x.depth + 1 < 2 ^ 64
+shallow_fits tree k x shallow small at = (let l = shallow k x at in omega (arith, l, small))
 
 entered_here : (depth : ℕ) (here : Around) (around : ℕ → Around) → entered depth here around depth ≡ here
 entered_here depth here around = ap (λ (b : Bool). if b then here else around depth) (eq-eqb depth depth refl)

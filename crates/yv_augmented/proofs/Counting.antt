@@ -1,5 +1,5 @@
 -- Numbers of each place, and places of numbers.
-use Rattle.std.proofs.Common.{◌≡◌, ℕ, zero, suc, ◌+◌, ◌<◌, ◌≤◌, ◌==◌, inl, inr, Bool, true, false, cond, if◌then◌else◌, List, [], ◌∷◌, ◌++◌, length, take, drop, map, set, replicate, get_or, refl, sym, ◌∙◌, ap, arith, Option, Some, None, append_assoc, length-set, length-append, below_more}
+use Rattle.std.proofs.Common.{◌≡◌, ℕ, zero, suc, ◌+◌, ◌<◌, ◌≤◌, ◌==◌, inl, inr, Bool, true, false, cond, if◌then◌else◌, List, [], ◌∷◌, ◌++◌, length, take, drop, map, set, replicate, get_or, refl, sym, ◌∙◌, ap, arith, Option, Some, None, append_assoc, length-set, length-append, length-take-le, below_more}
 use Rattle.std.specs.List.{slice_get, position_from}
 use Rattle.std.specs.Option.{option_map}
 use Rattle.std.proofs.lemmas.Bool.{cases_eq, cases_lt, ne_eqb, eq-eqb}
@@ -97,6 +97,24 @@ counts_more places i (Some p) old new at within is c = record {
           let was = c.told k lt in
           omega (arith, e, none, there, was)
     ]
+
+-- no more numbers have a place than there are
+numbers_within : (p n : ℕ) (xs : List (Option ℕ)) → length (numbers_from p n xs) ≤ length xs
+numbers_within p n [] = omega arith
+numbers_within p n (x ∷ xs) = by (is_place p x) (numbers_within p (n + 1) xs)
+  where
+    by : (b : Bool) → length (numbers_from p (n + 1) xs) ≤ length xs
+        → length (if b then n ∷ numbers_from p (n + 1) xs else numbers_from p (n + 1) xs) ≤ length (x ∷ xs)
+    by true l = omega (arith, l)
+    by false l = omega (arith, l)
+
+-- a count is at most how many numbers were told
+pub count_within : (places : List (Option ℕ)) (i k : ℕ) (counts : List ℕ) → i ≤ length places → k < length places → Counts places i counts → get_or counts k 0 ≤ i
+count_within places i k counts le lt c =
+    let e = c.told k lt in
+    let l = numbers_within k 0 (take i places) in
+    let m : length (take i places) ≡ i = length-take-le i places le in
+    omega (arith, e, l, m)
 
 -- the number of a place that is told next
 pub next_told : (places : List (Option ℕ)) (i : ℕ) (y : Option ℕ) (counts : List ℕ) (n : ℕ) → slice_get places i ≡ Some y → ((k : ℕ) → y ≡ Some k → k < length places)

@@ -73,6 +73,11 @@ pub none_told : (P : Refusal → Type 0) (o : Option Refusal) → is_some o ≡ 
 none_told P None none h = h
 none_told P (Some r) none h = absurd (let bad : true ≡ false = none in cc)
 
+-- augments that give nothing take no numbers
+pub number_idle : (w : Whole) (s : Spot) (from to : ℕ) (idle : List Addressed) → AreIdle w s.statement s.home from to idle
+    → next_number w.rows s to ≡ next_number w.rows s from
+number_idle w s from to idle are = ap (λ (l : List ℕ). s.first + length l) (had_same w.rows s from to are.within are.quiet to are.ascend (omega arith))
+
 module _ (w : Whole) (labels : List Label) (s : Spot) (end : ℕ) (st : State) (from to : ℕ) (idle : List Addressed) (are : AreIdle w s.statement s.home from to idle) where
   -- what one that gives nothing asks depends on its path alone
   asks_same : (k a : ℕ) → from ≤ k → k < to → slice_get (augments_in w.rows s.statement) k ≡ Some a

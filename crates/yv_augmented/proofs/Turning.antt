@@ -107,6 +107,16 @@ module _ (rows : List Row) (s : Spot) (k a : ℕ) (at : slice_get (augments_in r
       let l = length-append (had_turns rows s k) (a ∷ []) in
       omega (arith, size, parts, e, l)
 
+-- no copy has a higher number than those of the uses
+pub number_most : (rows : List Row) (s : Spot) (k : ℕ) → next_number rows s k ≤ s.first + length (giving rows s.statement)
+number_most rows s k =
+    let all : List ℕ = augments_in rows s.statement in
+    let p : ℕ → Bool = is_giving rows s.statement in
+    let whole : filter p all ≡ had_turns rows s k ++ filter p (drop k all) = ap (filter p) (sym (take-append-drop k all)) ∙ filter-append p (take k all) (drop k all) in
+    let size = ap length (giving_filtered rows s.statement ∙ whole) in
+    let parts = length-append (had_turns rows s k) (filter p (drop k all)) in
+    omega (arith, size, parts)
+
 -- one more turn
 pub after_more : (w : Whole) (labels : List Label) (s : Spot) (k a : ℕ) (st : State) → slice_get (augments_in w.rows s.statement) k ≡ Some a → is_giving w.rows s.statement a ≡ true
     → copy_turn w labels s (next_number w.rows s k) a (after_turns w labels s k st) ≡ after_turns w labels s (k + 1) st

@@ -1,12 +1,16 @@
 -- Only private clauses cite this: the items of the final tree one by one, first what is around each, and then what each has, from the last
 -- to the first.
-use Rattle.std.specs.Prelude.{ℕ, ◌+◌, ◌==◌, ◌&&◌, ◌||◌, ◌⊎◌, not, Bool, false, List, [], ◌∷◌, if◌then◌else◌, Option, Some, None}
+use Rattle.std.specs.Prelude.{◌≡◌, ◌≤◌, ℕ, ◌+◌, ◌==◌, ◌&&◌, ◌||◌, ◌⊎◌, not, Bool, false, List, [], ◌∷◌, if◌then◌else◌, Option, Some, None, slice_get}
 use Rattle.yv_statement.specs.declared.refusal.Refusal.{Refusal}
 use Rattle.yv_rows.specs.Rows.{Row}
 use Rattle.yv_augments.specs.declared.row.Row.{Row as Standing}
 use Rattle.yv_augmented.specs.Imposing.{Around, IsImposed, Told, giver_of, inside, is_configuration, is_given, is_mandatory}
 use Rattle.yv_augmented.specs.InnerMisplaced.{refused_for}
 use Rattle.yv_augmented.specs.declared.spot.Spot.{Spot}
+
+-- the depth of each item is at most its place, counted from 1
+abbrev pub AreShallow : List Standing → Type 0
+AreShallow tree = (k : ℕ) (x : Standing) → slice_get tree k ≡ Some x → x.depth ≤ k + 1
 
 -- what is around the items of each depth, by two marks: they are state data where no `config` says more, and stand in an operation
 abbrev pub around_by : (states operations : ℕ → Bool) → (depth : ℕ) → Around

@@ -1,11 +1,20 @@
 -- Only private clauses cite this: items as they are laid out.
-use Rattle.std.specs.Prelude.{◌≡◌, ℕ, ◌+◌, ◌<◌, ◌≤◌, List, length, Some, slice_get}
+use Rattle.std.specs.Prelude.{◌≡◌, ℕ, ◌+◌, ◌<◌, ◌≤◌, ◌^◌, List, length, Some, slice_get}
+use Rattle.yv_rows.specs.Rows.{Row}
 use Rattle.yv_augmented.specs.Spots.{Laid, Whole, copies_of}
 use Rattle.yv_augmented.specs.declared.laying.Layout.{Layout}
 use Rattle.yv_augmented.specs.declared.spot.Spot.{Spot}
 
 abbrev pub laid_in : Layout → Laid
 laid_in l = record { spots = l.spots.items; copies = l.copies }
+
+-- the copies that an item adds have numbers of things in memory
+abbrev pub IsNumbered : List Row → Spot → Type 0
+IsNumbered rows s = s.first + copies_of rows s < 2 ^ 63
+
+-- those of all items do
+abbrev pub AreNumbered : List Row → List Spot → Type 0
+AreNumbered rows spots = (k : ℕ) (s : Spot) → slice_get spots k ≡ Some s → IsNumbered rows s
 
 -- an item stands within so many groups and copies
 pub record Fits (w : Whole) (total : ℕ) (s : Spot) : Type 0 where

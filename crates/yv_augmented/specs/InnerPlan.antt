@@ -16,7 +16,7 @@ abbrev pub AreHomes : Briefs → List ℕ → Type 0
 AreHomes files homes = (n : ℕ) → unwrap_or (slice_get homes n) n ≡ home_at files n
 
 abbrev pub whole_in : Plan → Whole
-whole_in plan = record { files = files_in plan.rows.now; rows = rows_in plan.rows.now; augments = plan.augments.now; items = plan.items }
+whole_in plan = record { files = files_in plan.rows.now; rows = rows_in plan.rows.now; augments = plan.augments.now; items = length plan.items.now }
 
 pub record IsPlan (plan : Plan) : Type 0 where
   pub homes : AreHomes (files_in plan.rows.now) plan.homes.items

@@ -1,5 +1,5 @@
 //! Which augments give something, and in which order.
-ghost use Rattle.std.specs.Prelude.{◌≡◌, ◌<◌, ◌==◌, ◌&&◌, not, ℕ, List, None, Some, map, length, slice_get, slice_index_or, if◌then◌else◌, IfOk, OnOk};
+ghost use Rattle.std.specs.Prelude.{◌≡◌, ◌<◌, ◌+◌, ◌^◌, ◌==◌, ◌&&◌, not, ℕ, List, None, Some, map, length, slice_get, slice_index_or, if◌then◌else◌, IfOk};
 ghost use Rattle.yv_rows.specs.Lent.{rows_in};
 ghost use Rattle.yv_rows.specs.Rows.{Row, row};
 ghost use Rattle.yv_families.specs.Families.{by_place, numbers_at};
@@ -136,19 +136,16 @@ pub(crate) fn giving_places(
 }
 
 // How many numbers of a place were told, of which one more is now.
-fn next(counts: &mut Vec<usize>, place: Option<usize>) -> Result<usize, AllocError>
-    requires { (k : ℕ) → place ≡ Some k → k < length counts.old.items }
-    ensures value { IfOk result (λ count. count ≡ count_at counts.old.items place) }
-    ensures counts { OnOk result (counts.new.items ≡ counted counts.old.items place) }
+fn next(counts: &mut Vec<usize>, place: Option<usize>) -> usize
+    requires within { (k : ℕ) → place ≡ Some k → k < length counts.old.items }
+    requires room { (k : ℕ) → place ≡ Some k → slice_index_or counts.old.items k 0 + 1 < 2 ^ 64 }
+    ensures value { result ≡ count_at counts.old.items place }
+    ensures counts { counts.new.items ≡ counted counts.old.items place }
 {
-    let Some(block) = place else { return Ok(0) };
+    let Some(block) = place else { return 0 };
     let count = counts[block];
-    // No memory holds more numbers than there are.
-    let Some(more) = count.checked_add(1) else {
-        return Err(AllocError);
-    };
-    counts[block] = more;
-    Ok(count)
+    counts[block] = count + 1;
+    count
 }
 
 /// For each number that has a place how many numbers of this place come before it.
@@ -159,7 +156,7 @@ pub(crate) fn ordinals(alloc: Global, places: &[Option<usize>]) -> Result<Vec<us
     let mut counts = vec![in alloc; 0; places.len()]?;
     let mut ordinals = Vec::new(alloc);
     for place in places {
-        ordinals.push(next(&mut counts, *place)?)?;
+        ordinals.push(next(&mut counts, *place))?;
     }
     Ok(ordinals)
 }

@@ -1,5 +1,5 @@
 //! Where items are once all augments are applied.
-ghost use Rattle.std.specs.Prelude.{◌≡◌, ◌≤◌, ◌<◌, ◌==◌, ◌+◌, ◌&&◌, not, ℕ, List, length, map, None, replicate, set, slice_index_or, IfOk, OnOk};
+ghost use Rattle.std.specs.Prelude.{◌≡◌, ◌≤◌, ◌<◌, ◌==◌, ◌+◌, ◌^◌, ◌&&◌, not, ℕ, List, length, map, None, replicate, set, slice_index_or, IfOk, OnOk};
 ghost use Rattle.yv_statement.specs.Order.{IsLeast};
 ghost use Rattle.yv_statement.specs.declared.refusal.Code.TheVariants.{AugmentTarget};
 ghost use Rattle.yv_rows.specs.Lent.{files_in, rows_in};
@@ -13,7 +13,7 @@ ghost use Rattle.yv_augmented.specs.Spots.{Whole, copies_of, labels_of, laid, wh
 ghost use Rattle.yv_augmented.specs.Faults.{Refused};
 ghost use Rattle.yv_augmented.specs.Kinds.{is_uses};
 ghost use Rattle.yv_augmented.specs.Known.{AreGrafts, AreGrown};
-ghost use Rattle.yv_augmented.specs.Untargeted.{MissesAt, MissesOf, augments_in};
+ghost use Rattle.yv_augmented.specs.Untargeted.{MissesAt, MissesOf, augments_in, next_number};
 ghost use Rattle.yv_augmented.specs.Refining.{refined};
 ghost use Rattle.yv_refinements.specs.Meant.{all_meant};
 
@@ -94,7 +94,7 @@ struct Followed {
 
 impl Plan<'_, '_, '_> {
     ghost use Rattle.yv_augmented.specs.InnerPlan.{IsPlan, whole_in};
-    ghost use Rattle.yv_augmented.specs.InnerLayout.{AreLaid, laid_in};
+    ghost use Rattle.yv_augmented.specs.InnerLayout.{AreLaid, IsNumbered, laid_in};
     ghost use Rattle.yv_augmented.specs.InnerSchedule.{AreOrdered, AreSchedules, IsReady, IsStretch, MissesBetween, MissesIdle, added_to};
 
     // The refusal of an augment whose path begins in this group, if it adds to no node.
@@ -142,15 +142,15 @@ impl Plan<'_, '_, '_> {
         number: usize,
         it: &Addressed,
     ) -> Result<Option<Refusal>, AllocError>
-        requires { IsPlan self.now }
-        ensures state { (labels : List Label) (st : State) → IsGrafting labels st grafting.old → length labels ≡ self.now.items
+        requires few { number < 2 ^ 63 }
+        ensures state { (labels : List Label) (st : State) → IsGrafting labels st grafting.old → length labels ≡ length self.now.items.now
             → it.now.path.items ≡ path_in (whole_in self.now) spot.now.home it.now.augment → number < length st.ends
             → OnOk result (IsGrafting labels (copy_turn (whole_in self.now) labels spot.now number it.now.augment st) grafting.new) }
-        ensures missing { (labels : List Label) (st : State) → IsGrafting labels st grafting.old → length labels ≡ self.now.items
+        ensures missing { (labels : List Label) (st : State) → IsGrafting labels st grafting.old → length labels ≡ length self.now.items.now
             → IfOk result (IsLeast (Refused (rows_in self.now.rows.now) AugmentTarget (added_to labels st
             (last_of (members_of st.groups (group_of_augment labels number))) spot.now.group it.now.path.items ≡ None) it.now.augment)) }
     {
-        let group = self.copy_group(number)?;
+        let group = self.copy_group(number);
         let limit = last_of(grafting.members(group));
         let missing = self.missing(grafting, spot.group, limit, it);
         grafting.turn(number, spot.group, limit, &it.path)?;
@@ -166,7 +166,10 @@ impl Plan<'_, '_, '_> {
         number: usize,
         stretch: &Stretch,
     ) -> Result<Followed, AllocError>
-        requires { IsPlan self.now }
+        requires few { number < 2 ^ 63 }
+        ensures number { (from to : ℕ) → IsStretch (whole_in self.now) spot.now.statement spot.now.home from to stretch.now
+            → number ≡ next_number (rows_in self.now.rows.now) spot.now from
+            → IfOk result (λ followed. followed.number ≡ next_number (rows_in self.now.rows.now) spot.now to) }
         ensures ready { (labels : List Label) (st : State) (from to : ℕ)
             → IsReady (whole_in self.now) labels spot.now st from number grafting.old
             → IsStretch (whole_in self.now) spot.now.statement spot.now.home from to stretch.now
@@ -181,13 +184,10 @@ impl Plan<'_, '_, '_> {
         match &stretch.giving {
             Some(it) => {
                 let own = self.give(grafting, spot, number, it)?;
-                match number.checked_add(1) {
-                    Some(next) => Ok(Followed {
-                        missing: lesser(missing, own),
-                        number: next,
-                    }),
-                    None => Err(AllocError),
-                }
+                Ok(Followed {
+                    missing: lesser(missing, own),
+                    number: number + 1,
+                })
             }
             None => Ok(Followed { missing, number }),
         }
@@ -213,11 +213,12 @@ impl Plan<'_, '_, '_> {
     ) -> Result<Option<Refusal>, AllocError>
         requires plan { IsPlan self.now }
         requires schedules { AreSchedules (whole_in self.now) schedules.old }
+        requires few { IsNumbered (rows_in self.now.rows.now) spot.now }
         ensures schedules { OnOk result (AreSchedules (whole_in self.now) schedules.new) }
-        ensures state { (labels : List Label) (st : State) → IsGrafting labels st grafting.old → length labels ≡ self.now.items
+        ensures state { (labels : List Label) (st : State) → IsGrafting labels st grafting.old → length labels ≡ length self.now.items.now
             → spot.now.first + copies_of (rows_in self.now.rows.now) spot.now ≤ length st.ends
             → OnOk result (IsGrafting labels (turns (whole_in self.now) labels spot.now st) grafting.new) }
-        ensures missing { (labels : List Label) (st : State) → IsGrafting labels st grafting.old → length labels ≡ self.now.items
+        ensures missing { (labels : List Label) (st : State) → IsGrafting labels st grafting.old → length labels ≡ length self.now.items.now
             → spot.now.first + copies_of (rows_in self.now.rows.now) spot.now ≤ length st.ends
             → IfOk result (IsLeast (MissesOf (whole_in self.now) labels spot.now end st)) }
     {
@@ -239,6 +240,7 @@ impl Plan<'_, '_, '_> {
     fn place(&self, alloc: Global, layout: &Layout, ends: &[usize]) -> Result<Placing, AllocError>
         requires plan { IsPlan self.now }
         requires laid { AreLaid (whole_in self.now) (laid_in layout.now) }
+        requires few { layout.now.copies < 2 ^ 63 }
         ensures state { IfOk result (λ told.
             IsGrafting (labels_of (laid_in layout.now).spots) (placed (whole_in self.now) (laid_in layout.now)) told.grafting) }
         ensures missing { IfOk result (λ told. (i : ℕ)
@@ -338,7 +340,7 @@ pub fn graft(
 {
     yv_augments::laws::each_item_stands_once();
     yv_augments::laws::turns_keep_augments();
-    let plan = Plan::read(alloc, rows, augments, items.len())?;
+    let plan = Plan::read(alloc, rows, augments, items)?;
     let layout = plan.lay(alloc, items)?;
     let ends = ends(alloc, items)?;
     let Placing {

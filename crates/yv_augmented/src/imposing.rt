@@ -1,11 +1,11 @@
 //! Augments of modules that add mandatory nodes to nodes of other modules.
-ghost use Rattle.std.specs.Prelude.{◌≡◌, ◌+◌, ◌==◌, ◌&&◌, ◌||◌, not, ℕ, length, if◌then◌else◌, slice_get, slice_index_or, IfOk, OnOk, None};
+ghost use Rattle.std.specs.Prelude.{◌≡◌, ◌<◌, ◌+◌, ◌^◌, ◌==◌, ◌&&◌, ◌||◌, not, ℕ, length, if◌then◌else◌, slice_get, slice_index_or, IfOk, OnOk, None};
 ghost use Rattle.std.specs.Option.{unwrap_or};
 ghost use Rattle.yv_statement.specs.Order.{IsLeast};
 ghost use Rattle.yv_rows.specs.Lent.{rows_in};
 ghost use Rattle.yv_augments.specs.Tree.{Tree, listed};
 ghost use Rattle.yv_augmented.specs.Imposing.{Imposed, giver_of, inside, is_configuration, is_container, is_container_without, is_given, is_mandatory, is_operation, is_operation_by, nothing_around, told_in};
-ghost use Rattle.yv_augmented.specs.InnerImposing.{around_by, configured, counts, entered, imposed_by, is_imposed, met};
+ghost use Rattle.yv_augmented.specs.InnerImposing.{AreShallow, around_by, configured, counts, entered, imposed_by, is_imposed, met};
 ghost use Rattle.yv_augmented.specs.Left.{is_marked};
 ghost use Rattle.yv_augmented.specs.Spots.{spot_at};
 
@@ -153,8 +153,7 @@ fn put(found: &mut Vec<bool>, depth: usize, mark: bool) -> Result<(), AllocError
 
 // An item of this depth is met, before those at the next one: what was found there stands below it.
 fn meet(found: &mut Vec<bool>, depth: usize, next: usize, counts: bool) -> Result<(), AllocError>
-    requires { next ≡ depth + 1 }
-    ensures { OnOk result ((d : ℕ) → is_marked found.new.items d ≡ met depth counts (is_marked found.old.items) d) }
+    ensures { next ≡ depth + 1 → OnOk result ((d : ℕ) → is_marked found.new.items d ≡ met depth counts (is_marked found.old.items) d) }
 {
     let mark = counts || is_marked(found, depth);
     put(found, next, false)?;
@@ -232,6 +231,13 @@ fn enter(
     Ok(is_configuration(is_config, in_operation))
 }
 
+// The depth of what stands below an item. In the list of a tree no depth is above the length of the list.
+fn next_depth(row: &Row) -> usize
+    ensures { row.now.depth + 1 < 2 ^ 64 → result ≡ row.now.depth + 1 }
+{
+    row.depth.saturating_add(1)
+}
+
 // A mark for each of these items that is configuration.
 fn configured(
     alloc: Global,
@@ -239,16 +245,14 @@ fn configured(
     marks: &Marks<'_>,
     tree: &[Row],
 ) -> Result<Vec<bool>, AllocError>
-    ensures { IfOk result (λ places. places.items ≡ configured spots.now (told_in marks.now) (λ d. nothing_around) tree.now) }
+    ensures { AreShallow tree.now
+        → IfOk result (λ places. places.items ≡ configured spots.now (told_in marks.now) (λ d. nothing_around) tree.now) }
 {
     let mut places = Vec::new(alloc);
     let mut states = Vec::new(alloc);
     let mut operations = Vec::new(alloc);
     for row in tree {
-        // No memory holds a tree so deep.
-        let Some(next) = row.depth.checked_add(1) else {
-            return Err(AllocError);
-        };
+        let next = next_depth(row);
         let mark = enter(&mut states, &mut operations, spots, marks, row, next)?;
         places.push(mark)?;
     }
@@ -277,10 +281,7 @@ pub fn first_imposed(
     while left > 0 {
         left -= 1;
         let row = tree[left];
-        // No memory holds a tree so deep.
-        let Some(next) = row.depth.checked_add(1) else {
-            return Err(AllocError);
-        };
+        let next = next_depth(&row);
         let has = is_marked(&found, next);
         let is_configuration = is_marked(&configured, left);
         let required = is_required(spots, marks, is_configuration, row.number, has);

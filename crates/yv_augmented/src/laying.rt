@@ -1,7 +1,8 @@
 //! Where items are before any augment is applied.
-ghost use Rattle.std.specs.Prelude.{◌≡◌, ◌+◌, List, length, slice_get, IfOk};
+ghost use Rattle.std.specs.Prelude.{◌≡◌, ◌<◌, ◌+◌, ◌^◌, true, List, length, slice_get, IfOk, OnOk};
 ghost use Rattle.yv_rows.specs.Lent.{files_in, rows_in};
 ghost use Rattle.yv_expansion.specs.Origin.{number_of};
+ghost use Rattle.yv_augmented.specs.Kinds.{is_uses};
 ghost use Rattle.yv_augmented.specs.Giving.{ordinal};
 ghost use Rattle.yv_augmented.specs.Spots.{copies_of, copy_group, giver_in, group_below, home_below, laid, spot_at, spot_of, top_group, used_group};
 
@@ -38,71 +39,66 @@ pub(crate) fn giver_in(items: usize, augments: &[usize], group: usize) -> Option
 
 impl Plan<'_, '_, '_> {
     ghost use Rattle.yv_augmented.specs.InnerPlan.{IsPlan, whole_in};
-    ghost use Rattle.yv_augmented.specs.InnerLayout.{laid_in};
+    ghost use Rattle.yv_augmented.specs.InnerLayout.{AreNumbered, IsNumbered, laid_in};
 
-    // The group of what the numbered copy of an augment gives. No memory holds more groups than there are numbers.
-    pub(crate) fn copy_group(&self, number: usize) -> Result<usize, AllocError>
-        ensures { IfOk result (λ group. group ≡ copy_group (whole_in self.now) number) }
+    // The group of what the numbered copy of an augment gives.
+    pub(crate) fn copy_group(&self, number: usize) -> usize
+        requires { number < 2 ^ 63 }
+        ensures { result ≡ copy_group (whole_in self.now) number }
     {
-        let Some(first) = self.items.checked_add(1) else {
-            return Err(AllocError);
-        };
-        match first.checked_add(number) {
-            Some(group) => Ok(group),
-            None => Err(AllocError),
-        }
+        self.items.len() + 1 + number
     }
 
     // The group of an item at the top.
-    fn top_group(&self, statement: usize) -> Result<usize, AllocError>
+    fn top_group(&self, statement: usize) -> usize
         requires { IsPlan self.now }
-        ensures { IfOk result (λ group. group ≡ top_group (whole_in self.now) (slice_get (rows_in self.now.rows.now) statement)) }
+        ensures { result ≡ top_group (whole_in self.now) (slice_get (rows_in self.now.rows.now) statement) }
     {
         yv_rows::laws::blocks_are_nested();
         let entries = self.rows.entries();
         if statement >= entries.len() {
-            return Ok(0);
+            return 0;
         }
         match self.module_place(entries[statement].scope) {
             Some(place) => self.copy_group(place),
-            None => Ok(0),
+            None => 0,
         }
     }
 
     // The group of what an augment of a uses gives.
-    fn given_group(&self, spot: &Spot, augment: usize) -> Result<usize, AllocError>
-        requires { IsPlan self.now }
-        ensures { IfOk result (λ group. group
-            ≡ copy_group (whole_in self.now) (spot.now.first + ordinal (rows_in self.now.rows.now) augment)) }
+    fn given_group(&self, spot: &Spot, augment: usize) -> usize
+        requires plan { IsPlan self.now }
+        requires few { spot.now.first + ordinal (rows_in self.now.rows.now) augment < 2 ^ 63 }
+        ensures { result ≡ copy_group (whole_in self.now) (spot.now.first + ordinal (rows_in self.now.rows.now) augment) }
     {
-        match spot.first.checked_add(self.ordinal(augment)) {
-            Some(number) => self.copy_group(number),
-            None => Err(AllocError),
-        }
+        self.copy_group(spot.first + self.ordinal(augment))
     }
 
     // The group of an item in a uses.
-    fn used_group(&self, spot: &Spot, statement: usize) -> Result<usize, AllocError>
-        requires { IsPlan self.now }
-        ensures { IfOk result (λ group. group ≡ used_group (whole_in self.now) spot.now (slice_get (rows_in self.now.rows.now) statement)) }
+    fn used_group(&self, spot: &Spot, statement: usize) -> usize
+        requires plan { IsPlan self.now }
+        requires few { IsNumbered (rows_in self.now.rows.now) spot.now }
+        requires uses { is_uses spot.now.label.kind ≡ true }
+        ensures { result ≡ used_group (whole_in self.now) spot.now (slice_get (rows_in self.now.rows.now) statement) }
     {
         match self.rows.entries().get(statement) {
             Some(entry) => {
                 if self.is_giving(spot.statement, entry.scope) {
                     self.given_group(spot, entry.scope)
                 } else {
-                    Ok(spot.group)
+                    spot.group
                 }
             }
-            None => Ok(spot.group),
+            None => spot.group,
         }
     }
 
     // The group of an item below another, or at the top.
-    fn group_below(&self, spots: &[Spot], item: &Item) -> Result<usize, AllocError>
-        requires { IsPlan self.now }
-        ensures { IfOk result (λ group. group ≡ group_below (whole_in self.now)
-            (slice_get (rows_in self.now.rows.now) (number_of item.now.origin)) item.now.parent (spot_at spots.now item.now.parent)) }
+    fn group_below(&self, spots: &[Spot], item: &Item) -> usize
+        requires plan { IsPlan self.now }
+        requires few { AreNumbered (rows_in self.now.rows.now) spots.now }
+        ensures { result ≡ group_below (whole_in self.now)
+            (slice_get (rows_in self.now.rows.now) (number_of item.now.origin)) item.now.parent (spot_at spots.now item.now.parent) }
     {
         let statement = item.origin.number();
         let Some(parent) = item.parent else {
@@ -113,10 +109,10 @@ impl Plan<'_, '_, '_> {
                 if is_uses(spot.label.kind) {
                     self.used_group(spot, statement)
                 } else {
-                    Ok(parent + 1)
+                    parent + 1
                 }
             }
-            None => Ok(0),
+            None => 0,
         }
     }
 
@@ -133,51 +129,54 @@ impl Plan<'_, '_, '_> {
     }
 
     // What is known of the next item.
-    fn spot(&self, spots: &[Spot], copies: usize, item: &Item) -> Result<Spot, AllocError>
-        requires { IsPlan self.now }
-        ensures { IfOk result (λ spot. spot ≡ spot_of (whole_in self.now) spots.now copies item.now) }
+    fn spot(&self, spots: &[Spot], copies: usize, item: &Item) -> Spot
+        requires plan { IsPlan self.now }
+        requires few { AreNumbered (rows_in self.now.rows.now) spots.now }
+        ensures { result ≡ spot_of (whole_in self.now) spots.now copies item.now }
     {
         let home = self.home_below(spots, item);
-        let group = self.group_below(spots, item)?;
-        let given = giver_in(self.items, self.augments, group).is_some();
+        let group = self.group_below(spots, item);
+        let given = giver_in(self.items.len(), self.augments, group).is_some();
         let label = label_of(self.rows, &self.names, home, item.origin, given);
-        Ok(Spot {
+        Spot {
             statement: item.origin.number(),
             home,
             label,
             group,
             first: copies,
-        })
-    }
-
-    // How many copies of augments an item adds.
-    fn copies_of(&self, spot: &Spot) -> usize
-        requires { IsPlan self.now }
-        ensures { result ≡ copies_of (rows_in self.now.rows.now) spot.now }
-    {
-        if is_uses(spot.label.kind) {
-            self.giving(spot.statement).len()
-        } else {
-            0
         }
     }
 
-    /// All items, one after the other.
+    // Lists the augments of which an item adds copies.
+    fn add_copies(&self, copies: &mut Vec<usize>, spot: &Spot) -> Result<(), AllocError>
+        requires { IsPlan self.now }
+        ensures { OnOk result (length copies.new.items ≡ length copies.old.items + copies_of (rows_in self.now.rows.now) spot.now) }
+    {
+        if is_uses(spot.label.kind) {
+            copies.extend_from_slice(self.giving(spot.statement))?;
+        }
+        Ok(())
+    }
+
+    /// All items, one after the other. The augment of each copy is listed meanwhile: so the copies are counted within the length of
+    /// a list in memory.
     #[tactic(auto, unfolding(crate::specs::Spots::laid))]
     pub(crate) fn lay(&self, alloc: Global, items: &[Item]) -> Result<Layout, AllocError>
         requires { IsPlan self.now }
-        ensures { IfOk result (λ layout. laid_in layout ≡ laid (whole_in self.now) items.now) }
+        ensures laid { IfOk result (λ layout. laid_in layout ≡ laid (whole_in self.now) items.now) }
+        ensures few { IfOk result (λ layout. layout.copies < 2 ^ 63) }
     {
         let mut spots = Vec::new(alloc);
-        let mut copies = self.augments.len();
+        let mut copies = Vec::new(alloc);
+        copies.extend_from_slice(self.augments)?;
         for item in items {
-            let spot = self.spot(&spots, copies, item)?;
-            let Some(more) = copies.checked_add(self.copies_of(&spot)) else {
-                return Err(AllocError);
-            };
+            let spot = self.spot(&spots, copies.len(), item);
+            self.add_copies(&mut copies, &spot)?;
             spots.push(spot)?;
-            copies = more;
         }
-        Ok(Layout { spots, copies })
+        Ok(Layout {
+            spots,
+            copies: copies.len(),
+        })
     }
 }

@@ -11,6 +11,7 @@ ghost use Rattle.yv_augmented.specs.InnerPlan.{AreHomes};
 
 use crate::giving::{augment_places, giving_places, is_in, ordinals, places_in, refine_places};
 use std::alloc::{AllocError, Global};
+use yv_expansion::Item;
 use yv_families::Families;
 use yv_paths::{Names, Paths, Step};
 use yv_rows::Rows;
@@ -53,13 +54,13 @@ fn names_of(alloc: Global, home: u32, steps: &[Option<Step>]) -> Result<Vec<usiz
     Ok(names)
 }
 
-/// Statements, the augments of modules among them, and how many items there are; for each file that of its module, the names
+/// Statements, the augments of modules among them, and the items; for each file that of its module, the names
 /// and the paths, the refines and augments of each block, and which of these give something.
 #[derive(Drop)]
 pub(crate) struct Plan<'r, 'a, 'b> {
     pub rows: &'r Rows<'a, 'b>,
     pub augments: &'r [usize],
-    pub items: usize,
+    pub items: &'r [Item],
     pub homes: Vec<u32>,
     pub names: Names<'a>,
     pub paths: Paths,
@@ -80,10 +81,10 @@ impl<'r, 'a, 'b> Plan<'r, 'a, 'b> {
         alloc: Global,
         rows: &'r Rows<'a, 'b>,
         augments: &'r [usize],
-        items: usize,
+        items: &'r [Item],
     ) -> Result<Plan<'r, 'a, 'b>, AllocError>
         ensures plan { IfOk result IsPlan }
-        ensures whole { IfOk result (λ plan. whole_in plan ≡ whole (files_in rows.now) (rows_in rows.now) augments.now items) }
+        ensures whole { IfOk result (λ plan. whole_in plan ≡ whole (files_in rows.now) (rows_in rows.now) augments.now (length items.now)) }
     {
         yv_rows::laws::blocks_are_nested();
         let names = Names::read(alloc, rows)?;

@@ -1,6 +1,8 @@
 -- What is found in groups.
 use Rattle.std.proofs.Common.{◌≡◌, ◌≢◌, ℕ, zero, suc, ◌+◌, ◌<◌, ◌⊎◌, List, [], ◌∷◌, ◌++◌, take, set, refl, sym, ◌∙◌, ap, subst, inl, inr, length, map, get_or, arith, length-set, append_assoc, Some, None}
 use Rattle.std.specs.List.{slice_get}
+use Rattle.std.specs.Prelude.{Result, Ok, Err}
+use Rattle.std.specs.Result.{OnErr}
 use Rattle.std.proofs.lemmas.List.{take_more, get_or_past, get_or-set_same, get_or-set_other}
 use Rattle.std.proofs.lemmas.Option.{slice_get_cases, slice_get_read, none-some, same_Some}
 use Rattle.yv_augments.specs.declared.label.Label.{Label}
@@ -92,3 +94,41 @@ are_members labels (ms ∷ gs) [] are = absurd (let e = are.each in omega (arith
 are_members labels (ms ∷ gs) (x ∷ xs) are =
     let rest : AreGroups labels gs xs = record { each = (let e = are.each in omega (arith, e)); group = λ g y at. are.group (suc g) y at } in
     ap (λ l. l ∷ map (λ (g : Group). g.members.items) xs) (are.group zero x refl).members_are ∙ ap (λ l. ms ∷ l) (are_members labels gs xs rest)
+
+-- one group has other items
+pub other_items : (labels sp : List Label) (groups : Groups) (all : List Group) (g : ℕ) (first second : Group) (items : List ℕ) → sp ≡ labels → AreGroups labels groups all → g < length all
+    → first ≡ get_or all g first → ((members : List ℕ) → IsGroup sp members first → IsGroup sp (members ++ items) second) → AreGroups labels (set groups g (members_of groups g ++ items)) (set all g second)
+other_items labels sp groups all g first second items same are lt at_first grows =
+    let now : List ℕ = members_of groups g ++ items in
+    let was : IsGroup labels (members_of groups g) first = are.group g first (slice_get_read all _ g first refl lt at_first) in
+    let is : IsGroup labels now second =
+    subst (λ (x : List Label). IsGroup x now second) same (grows (members_of groups g) (subst (λ (x : List Label). IsGroup x (members_of groups g) first) (sym same) was)) in
+    record {
+      each = length-set all g second ∙ are.each ∙ sym (length-set groups g now);
+      group = λ k x at. elim (set_at all g k second x at) [
+        | inl (here, one) ↦
+            let m : members_of (set groups g now) k ≡ now = ap (members_of (set groups g now)) here ∙ get_or-set_same groups g now [] (omega (arith, lt, are.each)) in
+            subst (λ (y : Group). IsGroup labels (members_of (set groups g now) k) y) (sym one) (subst (λ (ms : List ℕ). IsGroup labels ms second) (sym m) is)
+        | inr (ne, before) ↦ subst (λ (ms : List ℕ). IsGroup labels ms x) (sym (get_or-set_other groups g k now [] ne)) (are.group k x before)
+      ];
+    }
+
+-- all have the items that they had
+pub same_items : (labels sp : List Label) (groups : Groups) (all : List Group) (g : ℕ) (first second : Group) → sp ≡ labels → AreGroups labels groups all → g < length all
+    → first ≡ get_or all g first → ((members : List ℕ) → IsGroup sp members first → IsGroup sp members second) → AreGroups labels groups (set all g second)
+same_items labels sp groups all g first second same are lt at_first keeps =
+    let was : IsGroup labels (members_of groups g) first = are.group g first (slice_get_read all _ g first refl lt at_first) in
+    let is : IsGroup labels (members_of groups g) second =
+    subst (λ (x : List Label). IsGroup x (members_of groups g) second) same (keeps (members_of groups g) (subst (λ (x : List Label). IsGroup x (members_of groups g) first) (sym same) was)) in
+    record {
+      each = length-set all g second ∙ are.each;
+      group = λ k x at. elim (set_at all g k second x at) [
+        | inl (here, one) ↦ subst (λ (y : Group). IsGroup labels (members_of groups k) y) (sym one) (subst (λ (n : ℕ). IsGroup labels (members_of groups n) second) (sym here) is)
+        | inr (ne, before) ↦ are.group k x before
+      ];
+    }
+
+-- what holds holds after an error
+pub on_err : {A E P : Type 0} (r : Result A E) → P → OnErr r P
+on_err (Ok a) p = tt
+on_err (Err e) p = p

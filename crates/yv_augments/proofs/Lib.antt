@@ -6,6 +6,7 @@ pub mod Going
 pub mod Once
 pub mod Stacks
 pub mod Taking
+pub mod Depths
 pub mod Following
 pub mod Resuming
 pub mod UnplacedLemmas

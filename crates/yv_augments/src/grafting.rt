@@ -1,5 +1,5 @@
 //! What augments do to the places of items.
-ghost use Rattle.std.specs.Prelude.{◌≡◌, ◌<◌, ◌+◌, ◌&&◌, not, false, ℕ, List, length, replicate, None, IfOk, OnOk, if◌then◌else◌, slice_index_or};
+ghost use Rattle.std.specs.Prelude.{◌≡◌, ◌<◌, ◌+◌, ◌&&◌, not, false, ℕ, List, length, replicate, None, IfOk, MatchResult, OnOk, if◌then◌else◌, slice_index_or};
 ghost use Rattle.std.specs.Option.{option_and_then};
 ghost use Rattle.yv_augments.specs.declared.label.Label.{Label};
 
@@ -65,9 +65,10 @@ impl Grafting {
     }
 
     /// An item enters a group: 0 at the top, i + 1 below item i, and after these the group of the numbered augment whose block it is in.
+    /// All is as before where memory runs out.
     pub fn enter(&mut self, item: usize, group: usize) -> Result<(), AllocError>
         ensures { (labels : List Label) (st : State) → IsGrafting labels st self.old
-            → OnOk result (IsGrafting labels (entered item group st) self.new) }
+            → MatchResult result (λ done. IsGrafting labels (entered item group st) self.new) (λ error. IsGrafting labels st self.new) }
     {
         self.places.enter(item, group)?;
         Ok(())

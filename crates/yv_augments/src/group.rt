@@ -1,5 +1,5 @@
 //! The items of one place, and the first node of each name.
-ghost use Rattle.std.specs.Prelude.{◌≡◌, ◌<◌, ◌≤◌, ℕ, ◌++◌, ◌∷◌, [], List, Some, true, OnOk, IfOk, IfSome, length, slice_get};
+ghost use Rattle.std.specs.Prelude.{◌≡◌, ◌<◌, ◌≤◌, ℕ, ◌++◌, ◌∷◌, [], List, Some, true, OnErr, OnOk, IfOk, IfSome, length, slice_get};
 ghost use Rattle.yv_augments.specs.declared.label.Label.{Label};
 ghost use Rattle.yv_augments.specs.InnerGroups.{HaveBefore, IsBelowLast, IsGroup, Keep, KeepBut, displaced, earlier, first_in, kept, noted};
 
@@ -70,6 +70,7 @@ impl Group {
         item: usize,
     ) -> Result<Option<usize>, AllocError>
         ensures named { OnOk result ((n : ℕ) → first_in self.new n ≡ kept labels.now (first_in self.old) name item n) }
+        ensures stay { OnErr result ((n : ℕ) → first_in self.new n ≡ first_in self.old n) }
         ensures displaced { IfOk result (λ gone. gone ≡ displaced labels.now (first_in self.old name) item) }
         ensures members { self.new.members ≡ self.old.members }
         ensures descending { self.new.descending ≡ self.old.descending }
@@ -82,6 +83,7 @@ impl Group {
     // Keeps the number of an item for its name, if it is a node. Answers the one whose place it took.
     fn note(&mut self, labels: &[Label], item: usize) -> Result<Option<usize>, AllocError>
         ensures named { OnOk result ((n : ℕ) → first_in self.new n ≡ noted labels.now (first_in self.old) item n) }
+        ensures stay { OnErr result ((n : ℕ) → first_in self.new n ≡ first_in self.old n) }
         ensures displaced { IfOk result (KeepBut (first_in self.old) (first_in self.new)) }
         ensures members { self.new.members ≡ self.old.members }
         ensures descending { self.new.descending ≡ self.old.descending }
@@ -108,12 +110,16 @@ impl Group {
         }
     }
 
-    /// Adds an item after the others. Returns the node that was the first of its name before, if this one is now.
+    /// Adds an item after the others. Returns the node that was the first of its name before, if this one is now. Room is made first,
+    /// so that the items are as before where memory runs out.
     pub(crate) fn add(&mut self, labels: &[Label], item: usize) -> Result<Option<usize>, AllocError>
         ensures state { (members : List ℕ) → IsGroup labels.now members self.old
             → OnOk result (IsGroup labels.now (members ++ item ∷ []) self.new) }
+        ensures kept { (members : List ℕ) → IsGroup labels.now members self.old
+            → OnErr result (IsGroup labels.now members self.new) }
         ensures displaced { IfOk result (KeepBut (first_in self.old) (first_in self.new)) }
     {
+        self.members.reserve(1)?;
         let displaced = self.note(labels, item)?;
         self.descending = self.descends_to(item);
         self.members.push(item)?;

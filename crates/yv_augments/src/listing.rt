@@ -86,11 +86,7 @@ fn list(
     while let Some(row) = stack.pop() {
         rows.push(row)?;
         let below = take_below(alloc, labels, groups, row.number);
-        // No memory holds a tree so deep.
-        let Some(depth) = row.depth.checked_add(1) else {
-            return Err(AllocError);
-        };
-        put(&mut stack, &below, Some(row.number), depth)?;
+        put(&mut stack, &below, Some(row.number), row.depth + 1)?;
     }
     Ok(rows)
 }

@@ -1,5 +1,5 @@
 //! Which items are where, and where paths lead among them.
-ghost use Rattle.std.specs.Prelude.{◌≡◌, ◌≢◌, ◌<◌, ◌+◌, ◌++◌, ◌∷◌, [], ℕ, List, length, replicate, set, IfOk, IfSome, OnOk, Some, None, slice_get};
+ghost use Rattle.std.specs.Prelude.{◌≡◌, ◌≢◌, ◌<◌, ◌+◌, ◌++◌, ◌∷◌, [], ℕ, List, length, replicate, set, IfOk, IfSome, OnErr, OnOk, Some, None, slice_get};
 ghost use Rattle.yv_augments.specs.declared.label.Label.{Label};
 ghost use Rattle.yv_augments.specs.declared.end.End.TheVariants.{Start};
 ghost use Rattle.yv_augments.specs.Labels.{is_named};
@@ -261,10 +261,12 @@ impl Places {
         Ok(displaced)
     }
 
-    /// An item enters a group.
+    /// An item enters a group. All is as before where memory runs out.
     pub(crate) fn enter(&mut self, item: usize, group: usize) -> Result<(), AllocError>
         ensures state { (labels : List Label) (groups : Groups) → ArePlaces labels groups self.old
             → OnOk result (ArePlaces labels (set groups group (members_of groups group ++ item ∷ [])) self.new) }
+        ensures kept { (labels : List Label) (groups : Groups) → ArePlaces labels groups self.old
+            → OnErr result (ArePlaces labels groups self.new) }
         ensures labels { self.new.labels ≡ self.old.labels }
         ensures count { length self.new.groups.items ≡ length self.old.groups.items }
     {

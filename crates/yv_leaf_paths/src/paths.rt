@@ -108,8 +108,7 @@ impl<'a> LeafPaths<'a> {
     }
 
     /// The path that the argument of a `path` statement in a file is, in time and memory linear in the text (RFC 7950, section 9.9.2).
-    /// A step is None where its prefix identifies no module. Err only if memory runs out, or where the path climbs
-    /// 2 to the 32 times or more.
+    /// A step is None where its prefix identifies no module. Err only if memory runs out.
     pub fn referral(
         &self,
         alloc: Global,

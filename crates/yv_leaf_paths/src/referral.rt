@@ -15,7 +15,7 @@ use yv_properties::PathStep;
 #[derive(Drop)]
 pub struct LeafrefPath {
     /// How many `../` it begins with. None where it is absolute.
-    pub climbs: Option<u32>,
+    pub climbs: Option<usize>,
     /// The names after these, in order: None where a prefix identifies no module.
     pub steps: Vec<Option<PathStep>>,
 }
@@ -33,16 +33,6 @@ fn ups(texts: &[&str]) -> usize
     ensures within { result ≤ length texts.now }
 {
     texts.iter().take_while(|text| **text == "..").count()
-}
-
-// How often a path climbs; no memory where that is 2 to the 32 times or more.
-fn climbs(ups: usize) -> Result<u32, AllocError>
-    ensures { IfOk result (λ climbs. climbs ≡ ups) }
-{
-    match u32::try_from(ups) {
-        Ok(climbs) => Ok(climbs),
-        Err(_) => Err(AllocError),
-    }
 }
 
 // The absolute path with these names.
@@ -74,10 +64,9 @@ fn relative<'a>(
 {
     let texts = texts_of(alloc, text)?;
     let ups = ups(&texts);
-    let climbs = climbs(ups)?;
     let steps = read_steps(alloc, homes, file, &texts[ups..])?;
     Ok(LeafrefPath {
-        climbs: Some(climbs),
+        climbs: Some(ups),
         steps,
     })
 }

@@ -32,7 +32,7 @@ fn way(
 }
 
 // Whether a path begins at another place than the leafref itself.
-fn is_path(climbs: Option<u32>) -> bool
+fn is_path(climbs: Option<usize>) -> bool
     ensures { result ≡ is_path climbs }
 {
     match climbs {

@@ -6,7 +6,7 @@ use yv_properties::PathStep;
 #[derive(Drop)]
 pub struct Leafref {
     /// How many `../` its path begins with. None where that is absolute.
-    pub climbs: Option<u32>,
+    pub climbs: Option<usize>,
     /// The names after these, in order: None where a prefix identifies no module.
     pub steps: Vec<Option<PathStep>>,
     /// What `require-instance` says.
@@ -25,7 +25,7 @@ impl Leafref {
     ghost use Rattle.std.specs.Prelude.{◌≡◌};
 
     /// How many `../` its path begins with. None where that is absolute.
-    pub fn climbs(&self) -> Option<u32>
+    pub fn climbs(&self) -> Option<usize>
         ensures { result ≡ self.now.climbs }
     {
         self.climbs

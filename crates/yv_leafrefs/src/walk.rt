@@ -12,7 +12,7 @@ use crate::index::rank;
 use crate::strides::Stride;
 
 // The place to which so many `../` climb from a node.
-fn climb(draft: &Draft<'_>, number: u32, climbs: u32) -> Option<Option<u32>>
+fn climb(draft: &Draft<'_>, number: u32, climbs: usize) -> Option<Option<u32>>
     requires within { number < length draft.now.above.items }
     requires inner { (o : Outline) × IsDraft o draft.now }
     ensures { (o : Outline) → IsDraft o draft.now → (b : Option ℕ)
@@ -29,7 +29,7 @@ fn climb(draft: &Draft<'_>, number: u32, climbs: u32) -> Option<Option<u32>>
 }
 
 /// The place at which the path of a node begins.
-pub(crate) fn start(draft: &Draft<'_>, number: u32, climbs: Option<u32>) -> Option<Option<u32>>
+pub(crate) fn start(draft: &Draft<'_>, number: u32, climbs: Option<usize>) -> Option<Option<u32>>
     requires within { number < length draft.now.above.items }
     requires inner { (o : Outline) × IsDraft o draft.now }
     ensures { (o : Outline) → IsDraft o draft.now → (a : Option ℕ) → (result ≡ Some a) ↔ Begins (rows_in o) number climbs a }

@@ -1,7 +1,7 @@
 //! Linking files.
-ghost use Rattle.std.specs.Prelude.{◌≡◌, ◌≢◌, map, IfOk, OnOk, Some, None, Err};
+ghost use Rattle.std.specs.Prelude.{◌≡◌, ◌≢◌, ◌<◌, length, map, IfOk, OnOk, Some, None, Err};
 ghost use Rattle.yv_statement.specs.declared.refusal.Refusal.{Refusal};
-ghost use Rattle.yv_statement.specs.declared.refusal.Stop.TheVariants.{Fault, PatternBuild};
+ghost use Rattle.yv_statement.specs.declared.refusal.Stop.TheVariants.{Fault, NoMemory, PatternBuild};
 ghost use Rattle.yv_statement.specs.Order.{IsLeast};
 ghost use Rattle.yv_selection.specs.Choice.{choice_of};
 ghost use Rattle.yv_rows.specs.Files.{brief_of};
@@ -28,6 +28,7 @@ fn read_rows<'a, 'b>(alloc: Global, files: &'a [Statement<'b>]) -> Result<Rows<'
     ensures refusal { (r : Refusal) → result ≡ Err (Fault r)
         → IsLeast (BadModules (map brief_of files.now) (rows_of files.now)) (Some r) }
     ensures built { result ≢ Err PatternBuild }
+    ensures many { 4294967293 < length (rows_of files.now) → result ≡ Err NoMemory }
 {
     let rows = Rows::read(alloc, files)?;
     if let Some(refusal) = first_bad(alloc, &rows)? {
@@ -66,8 +67,8 @@ fn linked_rows<'a, 'b>(
 }
 
 /// The files as a whole, or the least refusal of their modules, features and identities by phase, file, offset and
-/// code. Statements that the tables of the language don't allow are not refused here. More than 2^32 files are refused as
-/// if memory ran out.
+/// code. Statements that the tables of the language don't allow are not refused here. More than 2^32 - 3 statements are
+/// answered as if memory ran out.
 pub fn link<'a, 'b>(
     alloc: Global,
     files: &'a [Statement<'b>],
@@ -77,6 +78,7 @@ pub fn link<'a, 'b>(
     ensures clear { OnOk result (IsLeast (BadLinks files.now) None) }
     ensures refusal { (r : Refusal) → result ≡ Err (Fault r) → IsLeast (BadLinks files.now) (Some r) }
     ensures built { result ≢ Err PatternBuild }
+    ensures many { 4294967293 < length (rows_of files.now) → result ≡ Err NoMemory }
 {
     match read_rows(alloc, files) {
         Ok(rows) => linked_rows(alloc, rows, selection),

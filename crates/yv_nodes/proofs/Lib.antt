@@ -1,1 +1,2 @@
 mod Retyping
+pub mod Behind

@@ -1,5 +1,5 @@
 -- A schema as numbered rows: what contracts see of a `Schema`, and the tree that it stands for.
-use Rattle.std.specs.Prelude.{◌≡◌, ℕ, ◌+◌, ◌-◌, ◌<◌, ◌==◌, List, [], ◌∷◌, length, drop, Bool, false, Option, if◌then◌else◌}
+use Rattle.std.specs.Prelude.{◌≡◌, ℕ, ◌+◌, ◌-◌, ◌<◌, ◌≤◌, ◌==◌, List, [], ◌∷◌, length, drop, Bool, false, Option, Some, if◌then◌else◌, slice_get}
 use Rattle.std.specs.List.{slice_index_or}
 use Rattle.yv_nodes.specs.declared.node.NodeId.{NodeId}
 use Rattle.yv_properties.specs.Defined.{blank as blank_defined}
@@ -76,6 +76,10 @@ children_of s p = if is_root p then s.top else (row_at s p).children
 -- one more than the number, and 0 at the root
 abbrev pub rank : NodeId → ℕ
 rank p = if is_root p then 0 else p.0 + 1
+
+-- each row stands behind the one above it, unless that is the root
+abbrev pub StandBehind : List Row → Type 0
+StandBehind rows = (number : ℕ) (row : Row) → slice_get rows number ≡ Some row → rank row.parent ≤ number
 
 -- what stands where there is no tree
 abbrev pub blank : Tree

@@ -14,7 +14,7 @@ use std::marker::Model;
 #[derive(Drop)]
 pub struct Link {
     /// How many `../` it begins with, each of which leaves one data node; None where it is absolute.
-    pub climbs: Option<u32>,
+    pub climbs: Option<usize>,
     /// The data nodes on its way down, to the target.
     pub steps: Vec<NodeId>,
     /// The leaf or leaf-list to which it leads.

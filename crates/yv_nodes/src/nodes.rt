@@ -49,7 +49,7 @@ fn retype(nodes: &mut Vec<Node>, number: usize, types: RcSlice<PlainType>)
     }
 }
 
-/// Nodes with numbers from 0, never more than a limit, so that none has the root's number.
+/// Nodes with numbers from 0, each after the one above it, and never more than a limit, so that none has the root's number.
 #[derive(Drop)]
 pub struct Nodes {
     limit: u32,
@@ -58,18 +58,18 @@ pub struct Nodes {
 
 impl Model for Nodes {
     ghost use Rattle.std.specs.Prelude.{◌≤◌, length, vec_capacity};
-    ghost use Rattle.yv_nodes.specs.Rows.{Bounded};
+    ghost use Rattle.yv_nodes.specs.Rows.{Bounded, StandBehind};
 
     ghost Value = { Bounded };
 
     ghost view = { λ a. record { limit = a.limit; capacity = vec_capacity a.nodes; rows = a.nodes.items } };
 
-    ghost invariant = { λ a. length a.nodes.items ≤ a.limit };
+    ghost invariant = { λ a. (length a.nodes.items ≤ a.limit) × StandBehind a.nodes.items };
 }
 
 impl Nodes {
     ghost use Rattle.std.specs.List.{slice_index_or};
-    ghost use Rattle.yv_nodes.specs.Rows.{blank_row};
+    ghost use Rattle.yv_nodes.specs.Rows.{StandBehind, blank_row, rank};
     ghost use Rattle.yv_nodes.specs.Typed.{typed_rows, types_from};
 
     /// No nodes.
@@ -94,15 +94,17 @@ impl Nodes {
     pub fn len(&self) -> u32
         ensures count { result ≡ length self.now.rows }
         ensures within { length self.now.rows ≤ self.now.limit }
+        ensures behind { StandBehind self.now.rows }
     {
         let _limit = self.limit;
         self.nodes.len() as u32
     }
 
-    /// Adds a node after the others, of which there must be fewer than the limit. An error, which changes nothing, occurs only
-    /// where more memory had to be allocated.
+    /// Adds a node after the others, of which there must be fewer than the limit, the one above it among them. An error, which
+    /// changes nothing, occurs only where more memory had to be allocated.
     pub fn push(&mut self, node: Node) -> Result<(), AllocError>
         requires room { length self.old.rows < self.old.limit }
+        requires parent { rank node.parent ≤ length self.old.rows }
         ensures rows { OnOk result (self.new.rows ≡ self.old.rows ++ node ∷ []) }
         ensures kept { OnErr result (self.new.rows ≡ self.old.rows) }
         ensures full { OnErr result (self.old.capacity ≤ length self.old.rows) }

@@ -1,24 +1,22 @@
 -- A tree with one path more.
 use Rattle.std.proofs.Common.{◌≡◌, ◌⊎◌, inl, inr, ℕ, ◌+◌, ◌<◌, ◌≤◌, zero, suc, Bool, true, false, cond, List, [], ◌∷◌, ◌++◌, length, length-append, None, Some, refl, sym, ◌∙◌, ap, subst, arith}
 use Rattle.std.specs.List.{slice_get}
+use Rattle.std.specs.Prelude.{Result, Ok, Err}
+use Rattle.std.specs.Result.{IsErr, MatchResult, OnErr}
 use Rattle.std.specs.Cmp.{Equal-is, nat_cmp_total}
 use Rattle.std.specs.Ordering.{is_eq, nat_cmp, ordering_then}
-use Rattle.std.specs.BTreeMap.{BTreeMap, get, UpdatesBy}
+use Rattle.std.specs.BTreeMap.{BTreeMap, get, is_at, UpdatesBy}
+use Rattle.std.specs.Map.{lookup}
 use Rattle.std.specs.declared.cmp.Ordering.{Ordering}
 use Rattle.std.specs.declared.cmp.Ordering.TheVariants.{Equal}
 use Rattle.std.proofs.lemmas.Bool.{cases_eq}
 use Rattle.std.proofs.lemmas.Cmp.{tied_itself}
 use Rattle.std.proofs.lemmas.Map.Lookups.{CmpEqualImpliesEq, exact_pairs, exact_unsigned}
 use Rattle.std.proofs.lemmas.Option.{same_Some, slice_get_within}
-use Rattle.yv_path_tree.specs.Fronts.{GoesOn, HaveFronts, StandsIn}
+use Rattle.yv_path_tree.specs.Fronts.{GoesOn, HaveFronts, IsReached, StandsIn}
 use Rattle.yv_path_tree.specs.InnerTree.{IsAdded, IsPathTree, Key, branches_at, key_cmp, known_in}
 use Rattle.yv_path_tree.specs.declared.path_tree.PathTree.{PathTree}
-
--- one more stands behind all
-pub get_before : {A : Type 0} (xs : List A) (y : A) (k : ℕ) → k < length xs → slice_get (xs ++ y ∷ []) k ≡ slice_get xs k
-get_before [] y k h = absurd (omega arith)
-get_before (x ∷ xs) y zero h = refl
-get_before (x ∷ xs) y (suc k) h = get_before xs y k (omega arith)
+use Rattle.yv_path_tree.proofs.Rows.{KeepRows, get_before}
 
 pub get_last : {A : Type 0} (xs : List A) (y : A) → slice_get (xs ++ y ∷ []) (length xs) ≡ Some y
 get_last [] y = refl
@@ -69,10 +67,11 @@ tied_key front step = ap (λ o. ordering_then o (nat_cmp step step)) (tied_itsel
 
 -- a new path goes on from one of the paths by a step by which none did, and stands behind all
 module _ (paths : List (List ℕ)) (old new : PathTree) (front step path : ℕ) (steps : List ℕ)
-    (is : IsPathTree paths old) (at : slice_get paths front ≡ Some steps) (less : length steps < old.deepest) (absent : (p : ℕ) → GoesOn paths front step p → ⊥)
+    (is : IsPathTree paths old) (at : slice_get paths front ≡ Some steps) (absent : (p : ℕ) → GoesOn paths front step p → ⊥)
     (next : path ≡ length paths) (stepped : new.steps.items ≡ old.steps.items ++ step ∷ []) (rows : length new.branches.items ≡ length old.branches.items + 1)
     (here : branches_at new front ≡ branches_at old front ++ path ∷ []) (others : (k : ℕ) → (k ≡ front → ⊥) → branches_at new k ≡ branches_at old k)
-    (updates : UpdatesBy key_cmp (key_cmp (front, step)) old.known new.known (Some path)) (same : new.deepest ≡ old.deepest) where
+    (updates : UpdatesBy key_cmp (key_cmp (front, step)) old.known new.known (Some path))
+    (most : old.deepest ≤ new.deepest) (deep : length steps + 1 ≤ new.deepest) (which : (new.deepest ≡ old.deepest) ⊎ (new.deepest ≡ length steps + 1)) where
   abbrev added : List ℕ
   added = steps ++ step ∷ []
 
@@ -191,8 +190,15 @@ module _ (paths : List (List ℕ)) (old new : PathTree) (front step path : ℕ) 
 
   deepest_then : (number : ℕ) (some : List ℕ) → slice_get all number ≡ Some some → length some ≤ new.deepest
   deepest_then number some there = numbered (λ (k : ℕ). length some ≤ new.deepest) some number there
-      (λ before. let h = is.deepest number some before in omega (arith, h, same))
-      (λ last is_added. let e : length some ≡ length steps + 1 = ap length is_added ∙ length-append steps (step ∷ []) in omega (arith, e, less, same))
+      (λ before. let h = is.deepest number some before in omega (arith, h, most))
+      (λ last is_added. let e : length some ≡ length steps + 1 = ap length is_added ∙ length-append steps (step ∷ []) in omega (arith, e, deep))
+
+  reached_then : IsReached all new.deepest
+  reached_then = by which
+    where
+      by : (new.deepest ≡ old.deepest) ⊎ (new.deepest ≡ length steps + 1) → IsReached all new.deepest
+      by (inl same) = record { path = is.reached.path; steps = is.reached.steps; at = old_path is.reached.path is.reached.steps is.reached.at; long = is.reached.long ∙ sym same }
+      by (inr longer) = record { path = path; steps = added; at = new_path; long = length-append steps (step ∷ []) ∙ sym longer }
 
   count : length all ≡ length paths + 1
   count = length-append paths (added ∷ [])
@@ -211,7 +217,37 @@ module _ (paths : List (List ℕ)) (old new : PathTree) (front step path : ℕ) 
       branch = branch_then;
       all_branches = all_branches_then;
       deepest = deepest_then;
+      reached = reached_then;
     };
     kept = old_path;
     at = new_path;
   }
+
+-- a tree that keeps the same has the same paths
+pub same_tree : (paths : List (List ℕ)) (old new : PathTree) → IsPathTree paths old → new.steps.items ≡ old.steps.items → KeepRows old.branches.items new.branches.items
+    → new.known.entries ≡ old.known.entries → new.deepest ≡ old.deepest → IsPathTree paths new
+same_tree paths old new is steps rows entries deepest = record {
+  fronts = is.fronts;
+  differ = is.differ;
+  steps = ap length steps ∙ is.steps;
+  branches = rows.long ∙ is.branches;
+  step = λ f s p g. ap (λ (l : List ℕ). slice_get l p) steps ∙ is.step f s p g;
+  known = λ f s p h. is.known f s p (sym (same_known f s) ∙ h);
+  all_known = λ f s p g. same_known f s ∙ is.all_known f s p g;
+  branch = λ f p there. is.branch f p (subst (λ (l : List ℕ). StandsIn l p) (rows.each f) there);
+  all_branches = λ f s p g. subst (λ (l : List ℕ). StandsIn l p) (sym (rows.each f)) (is.all_branches f s p g);
+  deepest = λ path some there. let h = is.deepest path some there in omega (arith, h, deepest);
+  reached = record { path = is.reached.path; steps = is.reached.steps; at = is.reached.at; long = is.reached.long ∙ sym deepest };
+}
+  where
+    same_known : (f s : ℕ) → known_in new f s ≡ known_in old f s
+    same_known f s = ap (λ (es : List (Key × ℕ)). lookup (is_at (key_cmp (f, s))) es) entries
+
+-- what holds holds after an error
+pub on_err : {A E P : Type 0} (r : Result A E) → P → OnErr r P
+on_err (Ok a) p = tt
+on_err (Err e) p = p
+
+pub after_err : {A E Q : Type 0} (P : A → Type 0) (r : Result A E) → IsErr r → Q → MatchResult r P (λ (e : E). Q)
+after_err P (Ok a) bad q = absurd (let no : false ≡ true = bad in cc)
+after_err P (Err e) is q = q

@@ -1,5 +1,5 @@
 -- Numbered paths, where what a path has before its last step is one of them too.
-use Rattle.std.specs.Prelude.{◌≡◌, ℕ, List, [], ◌∷◌, ◌++◌, Some, slice_get}
+use Rattle.std.specs.Prelude.{◌≡◌, ℕ, List, [], ◌∷◌, ◌++◌, Some, length, slice_get}
 
 -- the path of a number goes on from that of another by one step
 pub record GoesOn (paths : List (List ℕ)) (front step path : ℕ) : Type 0 where
@@ -21,3 +21,10 @@ KeepPaths old new = (path : ℕ) (steps : List ℕ) → slice_get old path ≡ S
 pub record StandsIn (numbers : List ℕ) (number : ℕ) : Type 0 where
   pub place : ℕ
   pub at : slice_get numbers place ≡ Some number
+
+-- one of the paths has so many steps
+pub record IsReached (paths : List (List ℕ)) (count : ℕ) : Type 0 where
+  pub path : ℕ
+  pub steps : List ℕ
+  pub at : slice_get paths path ≡ Some steps
+  pub long : length steps ≡ count

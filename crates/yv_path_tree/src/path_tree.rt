@@ -1,13 +1,13 @@
 //! Different paths as a tree.
-ghost use Rattle.std.specs.Prelude.{◌≡◌, ◌<◌, ◌≤◌, ◌∷◌, ◌++◌, ℕ, [], List, Some, length, slice_get, IfOk, IfSome, OnOk};
-ghost use Rattle.yv_path_tree.specs.Fronts.{GoesOn, StandsIn};
-ghost use Rattle.yv_path_tree.specs.InnerTree.{branches_in};
+ghost use Rattle.std.specs.Prelude.{◌≡◌, ◌<◌, ◌≤◌, ◌+◌, ◌∷◌, ◌++◌, ℕ, [], List, Some, length, slice_get, IfOk, IfSome, MatchResult, OnErr, OnOk};
+ghost use Rattle.yv_path_tree.specs.Fronts.{GoesOn, IsReached, StandsIn};
+ghost use Rattle.yv_path_tree.specs.InnerTree.{HasRoom, branches_in};
 
 use std::alloc::{AllocError, Global};
 use std::collections::BTreeMap;
 
 /// Different paths, each with a number, where what a path has before its last step has a number too: the empty path is 0. Takes memory
-/// for each step that no path before had there. It can't be used after memory ran out.
+/// for each step that no path before had there.
 #[derive(Drop)]
 pub struct PathTree {
     // The last step of each path; 0 of the first.
@@ -19,12 +19,24 @@ pub struct PathTree {
     deepest: usize,
 }
 
+// Makes room for one more path that goes on from a numbered one.
+fn make_room(branches: &mut [Vec<usize>], front: usize) -> Result<(), AllocError>
+    ensures room { OnOk result (HasRoom branches.new front) }
+    ensures kept { (number : ℕ) → branches_in branches.new number ≡ branches_in branches.old number }
+{
+    if front < branches.len() {
+        branches[front].reserve(1)?;
+    }
+    Ok(())
+}
+
 // A path goes on from a numbered one, behind those that did before; from none where no path has this number.
 fn branch(branches: &mut [Vec<usize>], front: usize, path: usize) -> Result<(), AllocError>
     ensures here { front < length branches.old
         → OnOk result (branches_in branches.new front ≡ branches_in branches.old front ++ path ∷ []) }
     ensures others { (other : ℕ) → (other ≡ front → ⊥)
         → OnOk result (branches_in branches.new other ≡ branches_in branches.old other) }
+    ensures full { OnErr result (HasRoom branches.old front → ⊥) }
 {
     if front < branches.len() {
         branches[front].push(path)?;
@@ -33,7 +45,7 @@ fn branch(branches: &mut [Vec<usize>], front: usize, path: usize) -> Result<(), 
 }
 
 impl PathTree {
-    ghost use Rattle.yv_path_tree.specs.InnerTree.{IsAdded, IsPathTree, known_in, branches_at};
+    ghost use Rattle.yv_path_tree.specs.InnerTree.{HoldsPaths, IsAdded, IsPathTree, known_in, branches_at};
 
     /// Only the empty path. Err only if memory runs out.
     pub fn new(alloc: Global) -> Result<PathTree, AllocError>
@@ -60,42 +72,61 @@ impl PathTree {
         self.known.get(&(front, step)).copied()
     }
 
-    // A path that goes on from a numbered one by a step, and is a new one.
-    fn grow(&mut self, alloc: Global, front: usize, step: usize) -> Result<usize, AllocError>
+    // A path of so many steps that goes on from a numbered one by a step, and is a new one. Room for it is made first, so that none is
+    // half added where memory runs out.
+    fn grow(
+        &mut self,
+        alloc: Global,
+        front: usize,
+        step: usize,
+        depth: usize,
+    ) -> Result<usize, AllocError>
         ensures added { (paths : List (List ℕ)) (steps : List ℕ) → IsPathTree paths self.old → slice_get paths front ≡ Some steps
-            → length steps < self.old.deepest → ((path : ℕ) → GoesOn paths front step path → ⊥)
+            → depth ≡ length steps + 1 → ((path : ℕ) → GoesOn paths front step path → ⊥)
             → IfOk result (λ path. IsAdded paths (steps ++ step ∷ []) path self.new) }
-        ensures deepest { self.new.deepest ≡ self.old.deepest }
+        ensures kept { (paths : List (List ℕ)) (steps : List ℕ) → IsPathTree paths self.old → slice_get paths front ≡ Some steps
+            → OnErr result (IsPathTree paths self.new) }
     {
         let path = self.steps.len();
-        self.steps.push(step)?;
-        branch(&mut self.branches, front, path)?;
-        self.branches.push(Vec::new(alloc))?;
+        make_room(&mut self.branches, front)?;
+        self.branches.reserve(1)?;
+        self.steps.reserve(1)?;
         self.known.insert((front, step), path)?;
+        self.steps.push(step)?;
+        self.branches.push(Vec::new(alloc))?;
+        branch(&mut self.branches, front, path)?;
+        self.deepest = self.deepest.max(depth);
         Ok(path)
     }
 
-    // The path that goes on from a numbered one by a step, which is a new one where there was none.
-    fn go_on(&mut self, alloc: Global, front: usize, step: usize) -> Result<usize, AllocError>
+    // The path of so many steps that goes on from a numbered one by a step, which is a new one where there was none.
+    fn go_on(
+        &mut self,
+        alloc: Global,
+        front: usize,
+        step: usize,
+        depth: usize,
+    ) -> Result<usize, AllocError>
         ensures added { (paths : List (List ℕ)) (steps : List ℕ) → IsPathTree paths self.old → slice_get paths front ≡ Some steps
-            → length steps < self.old.deepest → IfOk result (λ path. IsAdded paths (steps ++ step ∷ []) path self.new) }
-        ensures deepest { self.new.deepest ≡ self.old.deepest }
+            → depth ≡ length steps + 1 → IfOk result (λ path. IsAdded paths (steps ++ step ∷ []) path self.new) }
+        ensures kept { (paths : List (List ℕ)) (steps : List ℕ) → IsPathTree paths self.old → slice_get paths front ≡ Some steps
+            → OnErr result (IsPathTree paths self.new) }
     {
         match self.next(front, step) {
             Some(path) => Ok(path),
-            None => self.grow(alloc, front, step),
+            None => self.grow(alloc, front, step, depth),
         }
     }
 
-    /// The number of a path, which is a new one where none has these steps. Takes time n log n in its steps. Err only if memory runs out.
+    /// The number of a path, which is a new one where none has these steps. Takes time n log n in its steps. Err only if memory runs
+    /// out, and then the paths that were there are there still, with their numbers; some that the new one begins with may be there too.
     pub fn add(&mut self, alloc: Global, steps: &[usize]) -> Result<usize, AllocError>
         ensures { (paths : List (List ℕ)) → IsPathTree paths self.old
-            → IfOk result (λ path. IsAdded paths steps.now path self.new) }
+            → MatchResult result (λ path. IsAdded paths steps.now path self.new) (λ error. HoldsPaths paths self.new) }
     {
-        self.deepest = self.deepest.max(steps.len());
         let mut path = 0;
-        for step in steps {
-            path = self.go_on(alloc, path, *step)?;
+        for (place, step) in steps.iter().enumerate() {
+            path = self.go_on(alloc, path, *step, place + 1)?;
         }
         Ok(path)
     }
@@ -121,10 +152,11 @@ impl PathTree {
         self.steps.get(path).copied().unwrap_or(0)
     }
 
-    /// No path has more steps.
+    /// How many steps a path has than which none has more.
     pub fn deepest(&self) -> usize
-        ensures { (paths : List (List ℕ)) (path : ℕ) (steps : List ℕ) → IsPathTree paths self.now
+        ensures most { (paths : List (List ℕ)) (path : ℕ) (steps : List ℕ) → IsPathTree paths self.now
             → slice_get paths path ≡ Some steps → length steps ≤ result }
+        ensures reached { (paths : List (List ℕ)) → IsPathTree paths self.now → IsReached paths result }
     {
         self.deepest
     }

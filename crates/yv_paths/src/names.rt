@@ -10,9 +10,6 @@ use std::alloc::{AllocError, Global};
 use yv_rows::{Rows, name_of};
 use yv_statement::Statement;
 
-// As many statements as leave each name a number of 32 bits, and the last of these to none.
-const MOST_STATEMENTS: usize = 4_294_967_293;
-
 /// The name of the node that a statement gives: its argument, or of an input or output, which has none, its keyword
 /// (RFC 7950, section 7.14).
 pub fn node_name<'a>(statement: &'a Statement<'_>) -> &'a str
@@ -66,15 +63,12 @@ impl<'a> Names<'a> {
     ghost use Rattle.yv_paths.specs.Known.{AreNames};
 
     /// Numbers the names of these statements, and those of an operation's input and output, which may be left out. Takes
-    /// time n log n in the text. Err if memory runs out, and where there are more than 2 to the 32 less 3 statements.
+    /// time n log n in the text. Err only if memory runs out.
     pub fn read(alloc: Global, rows: &Rows<'a, '_>) -> Result<Names<'a>, AllocError>
         ensures names { IfOk result (AreNames (rows_in rows.now)) }
         ensures few { OnOk result (length (rows_in rows.now) ≤ 4294967293) }
     {
-        let count = rows.entries().len();
-        if count > MOST_STATEMENTS {
-            return Err(AllocError);
-        }
+        let count = rows.len();
         let mut table = Table::new(alloc);
         let numbers = numbers(alloc, rows, &mut table)?;
         let input = table.keep("input", count as u32)?;

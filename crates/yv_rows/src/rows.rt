@@ -1,5 +1,5 @@
 //! The statements of the files, and what prefixes and names in them mean.
-ghost use Rattle.std.specs.Prelude.{◌≡◌, ◌≤◌, ℕ, List, map, length, slice_get, IfOk};
+ghost use Rattle.std.specs.Prelude.{◌≡◌, ◌<◌, ◌≤◌, ℕ, List, map, length, slice_get, IfOk, IsErr};
 ghost use Rattle.std.specs.Option.{option_map};
 ghost use Rattle.yv_rows.specs.Tables.{table_of, first_of};
 ghost use Rattle.yv_rows.specs.Files.{brief, brief_of, named, home_at};
@@ -17,6 +17,9 @@ use crate::scopes::meaning_at;
 use std::alloc::{AllocError, Global};
 use yv_statement::Statement;
 
+// Each statement has a number of 32 bits, and three such numbers are left over, since other crates need some that no statement has.
+const MOST_STATEMENTS: usize = 4_294_967_293;
+
 /// The statements of files as one numbered list.
 #[derive(Drop)]
 pub struct Rows<'a, 'b> {
@@ -26,6 +29,7 @@ pub struct Rows<'a, 'b> {
     names: Places<'a>,
     prefixes: Places<'a>,
     ghost few: { length roots.now ≤ 4294967296 },
+    ghost few_rows: { length entries.items ≤ 4294967293 },
     ghost briefed: { map brief files.items ≡ map brief_of roots.now },
     ghost listed: { map row entries.items ≡ rows_of roots.now },
     ghost told: { map tree entries.items ≡ statements_of roots.now },
@@ -37,18 +41,22 @@ impl<'a, 'b> Rows<'a, 'b> {
     ghost use Rattle.yv_rows.specs.Lent.{lent_in, files_in, rows_in, trees_in};
     ghost use Rattle.yv_rows.specs.Scopes.{Means, MeansIn, block_of, module_of, start_of};
 
-    /// The statements of files that have these roots. No memory where there are more than 2 to the 32.
+    /// The statements of files that have these roots. Err if memory runs out, and where there are more than 2^32 - 3 statements.
     pub fn read(alloc: Global, roots: &'a [Statement<'b>]) -> Result<Rows<'a, 'b>, AllocError>
         ensures lent { IfOk result (λ rows. lent_in rows ≡ roots.now) }
         ensures files { IfOk result (λ rows. files_in rows ≡ map brief_of roots.now) }
         ensures rows { IfOk result (λ rows. rows_in rows ≡ rows_of roots.now) }
+        ensures many { 4294967293 < length (rows_of roots.now) → IsErr result }
     {
-        if roots.len() > 4_294_967_296 {
+        if roots.len() > MOST_STATEMENTS {
             return Err(AllocError);
         }
         let files = read_files(alloc, roots)?;
         let names = file_places(alloc, &files)?;
         let entries = read_entries(alloc, roots, &files, &names)?;
+        if entries.len() > MOST_STATEMENTS {
+            return Err(AllocError);
+        }
         let prefixes = first_entries(alloc, Kind::Prefix, &entries)?;
         Ok(Rows {
             roots,
@@ -57,6 +65,14 @@ impl<'a, 'b> Rows<'a, 'b> {
             names,
             prefixes,
         })
+    }
+
+    /// How many statements there are, without those inside extensions' statements: never more than 2^32 - 3.
+    pub fn len(&self) -> usize
+        ensures count { result ≡ length (rows_in self.now) }
+        ensures few { length (rows_in self.now) ≤ 4294967293 }
+    {
+        self.entries.len()
     }
 
     /// The statements by number, without those inside extensions' statements.

@@ -7,6 +7,7 @@ pub mod Rowing
 pub mod HomesGiven
 pub mod Targeting
 pub mod Parenting
+pub mod Numbering
 pub mod Noting
 pub mod Forming
 pub mod Telling

@@ -46,7 +46,7 @@ each_from place number (p ∷ ps) k n at = by (is_place place p) refl (each_from
     by false is others k at = later (others k n at)
 
 -- the numbers at a place are of what has that place
-each_at : (ps : List (Option ℕ)) (place k n : ℕ) → slice_get (numbers_at ps place) k ≡ Some n → slice_get ps n ≡ Some (Some place)
+pub each_at : (ps : List (Option ℕ)) (place k n : ℕ) → slice_get (numbers_at ps place) k ≡ Some n → slice_get ps n ≡ Some (Some place)
 each_at ps place k n at =
     let found = each_from place 0 ps k n at in
     let same : found.0 ≡ n = omega (arith, found.1) in
@@ -79,7 +79,7 @@ noted b o r target place (n ∷ ns) home argument at adds is to filled at_home t
     ∙ ap (λ (t : Option ℕ). note_by b (Some r) t all) (sym to)
     ∙ ap (λ (o : Option Statement). note_by b o target all) (sym is)
 
-rank_up_to : (p : NodeId) (n : ℕ) → p.0 < n → rank p ≤ n
+pub rank_up_to : (p : NodeId) (n : ℕ) → p.0 < n → rank p ≤ n
 rank_up_to p n lt = by (is_root p)
   where
     by : (root : Bool) → cond root 0 (p.0 + 1) ≤ n

@@ -10,9 +10,9 @@ use Rattle.yv_nodes.specs.declared.node.NodeId.{NodeId}
 use Rattle.yv_nodes.specs.Numbers.{rows_below, rows_from}
 use Rattle.yv_nodes.specs.Rows.{Row}
 use Rattle.yv_nodes.specs.Tree.{count, Label}
-use Rattle.yv_schema.specs.InnerRowing.{number_at, parent_of}
+use Rattle.yv_schema.specs.InnerRowing.{IsWithin, number_at, parent_of}
 use Rattle.yv_schema.specs.Module.{Basis, label_at, labelled, stated_of, nodes_in}
-use Rattle.yv_schema.proofs.Rowing.{IsWithin, count_labelled, within_more}
+use Rattle.yv_schema.proofs.Rowing.{count_labelled, within_more}
 
 -- what stands in one list behind another stands in one of them
 pub in_one : {X : Type 0} (xs ys : List X) (k : ℕ) (x : X) → slice_get (xs ++ ys) k ≡ Some x → (slice_get xs k ≡ Some x) ⊎ ((j : ℕ) × (k ≡ length xs + j) × (slice_get ys j ≡ Some x))
@@ -40,7 +40,7 @@ length_listed parent first (items.item number below behind) =
     )
 
 -- the node above each stands before it
-before_each : (parent : Option ℕ) (first : ℕ) (t : items.Nodes) → IsWithin parent first → (k : ℕ) (x : Node) → slice_get (items.listed parent first t) k ≡ Some x → IsWithin x.parent (first + k)
+pub before_each : (parent : Option ℕ) (first : ℕ) (t : items.Nodes) → IsWithin parent first → (k : ℕ) (x : Node) → slice_get (items.listed parent first t) k ≡ Some x → IsWithin x.parent (first + k)
 before_each parent first items.none within k x at = cc
 before_each parent first (items.item number below behind) within zero x at =
     let same : parent ≡ x.parent = cc in subst (λ (p : Option ℕ). IsWithin p (first + 0)) same (within_more parent first (first + 0) (omega arith) within)

@@ -1,17 +1,23 @@
 -- The leafrefs of a basis, and those that are read of its nodes.
-use Rattle.std.proofs.Common.{◌≡◌, ◌≢◌, ◌⊎◌, inl, inr, ℕ, ◌+◌, List, [], ◌∷◌, ◌++◌, length, map, refl, sym, ap, ◌∙◌, subst, arith, Option, Some, None}
+use Rattle.std.proofs.Common.{◌≡◌, ◌≢◌, ◌⊎◌, inl, inr, ℕ, ◌+◌, ◌<◌, ◌≤◌, List, [], ◌∷◌, ◌++◌, length, map, refl, sym, ap, ◌∙◌, subst, arith, Option, Some, None}
 use Rattle.std.specs.List.{slice_get}
 use Rattle.std.specs.Option.{option_and_then, option_map}
-use Rattle.std.proofs.lemmas.List.{length-map, map-append}
+use Rattle.std.proofs.lemmas.Bool.{cases_lt}
+use Rattle.std.proofs.lemmas.List.{get_or_past, length-map, map-append}
 use Rattle.std.proofs.lemmas.Option.{slice_get-map}
 use Rattle.yv_statement.specs.Order.{IsLeast}
 use Rattle.yv_statement.specs.declared.refusal.Refusal.{Refusal}
+use Rattle.yv_statement.specs.Tree.{Tree, name_of as name_of_head}
+use Rattle.yv_conform.specs.Names.{keyword_of}
 use Rattle.yv_rows.specs.Files.{Files}
+use Rattle.yv_rows.specs.Listed.{rows_of, statements_of}
+use Rattle.yv_rows.specs.Rows.{Row as Statement}
+use Rattle.yv_stated.specs.Statements.{no_statement, statement_at}
 use Rattle.yv_expansion.specs.Tree as items
 use Rattle.yv_expansion.specs.Tree.{Item, Node}
 use Rattle.yv_expansion.specs.declared.item.Origin.{Origin}
 use Rattle.yv_expansion.specs.declared.item.Origin.TheVariants as origin
-use Rattle.yv_definitions.specs.Defined.{defined}
+use Rattle.yv_definitions.specs.Defined.{defined, kind_of, node_name}
 use Rattle.yv_definitions.specs.Kinds.{Typing}
 use Rattle.yv_final_tree.specs.Final.{Final}
 use Rattle.yv_final_tree.specs.Kept.{origin_at}
@@ -37,17 +43,34 @@ then_mapped : {X Y Z : Type 0} (f : X → Y) (g : Y → Option Z) (o : Option X)
 then_mapped f g None = refl
 then_mapped f g (Some x) = refl
 
+-- the statements have as many rows
+pub count_statements : (files : Files) → map (λ (t : Tree). t.head) (statements_of files) ≡ map (λ (r : Statement). r.head) (rows_of files) → length (rows_of files) ≡ length (statements_of files)
+count_statements files heads =
+    sym (length-map (rows_of files) (λ (r : Statement). r.head)) ∙ sym (ap length heads) ∙ length-map (statements_of files) (λ (t : Tree). t.head)
+
+-- what stands past all statements is one thing
+past_all : (files : Files) (m n : ℕ) → length (statements_of files) ≤ m → length (statements_of files) ≤ n → statement_at files m ≡ statement_at files n
+past_all files m n past too = get_or_past (statements_of files) m no_statement past ∙ sym (get_or_past (statements_of files) n no_statement too)
+
 -- nodes of one number have one name
-same_name : (typing : Typing) (files : Files) (p q : Origin) → statement_number p ≡ statement_number q → (defined typing files p).name ≡ (defined typing files q).name
-same_name typing files (origin.Statement m) (origin.Statement n) same = let is : m ≡ n = omega (arith, same) in ap (λ k. (defined typing files (origin.Statement k)).name) is
-same_name typing files (origin.Statement m) (origin.Input n) same = absurd (omega (arith, same))
-same_name typing files (origin.Statement m) (origin.Output n) same = absurd (omega (arith, same))
-same_name typing files (origin.Input m) (origin.Statement n) same = absurd (omega (arith, same))
-same_name typing files (origin.Input m) (origin.Input n) same = refl
-same_name typing files (origin.Input m) (origin.Output n) same = absurd (omega (arith, same))
-same_name typing files (origin.Output m) (origin.Statement n) same = absurd (omega (arith, same))
-same_name typing files (origin.Output m) (origin.Input n) same = absurd (omega (arith, same))
-same_name typing files (origin.Output m) (origin.Output n) same = refl
+same_name : (typing : Typing) (files : Files) (count : ℕ) (p q : Origin) → count ≡ length (statements_of files) → statement_number count p ≡ statement_number count q
+    → (defined typing files p).name ≡ (defined typing files q).name
+same_name typing files count (origin.Statement m) (origin.Statement n) many same = by (cases_lt m count) (cases_lt n count)
+  where
+    by : (m < count) ⊎ (count ≤ m) → (n < count) ⊎ (count ≤ n) → (defined typing files (origin.Statement m)).name ≡ (defined typing files (origin.Statement n)).name
+    by (inl here) (inl too) = let is : m ≡ n = omega (arith, same, here, too) in ap (λ k. (defined typing files (origin.Statement k)).name) is
+    by (inl here) (inr past) = absurd (omega (arith, same, here, past))
+    by (inr past) (inl here) = absurd (omega (arith, same, here, past))
+    by (inr past) (inr too) =
+        ap (λ (t : Tree). node_name (kind_of (keyword_of t.head.keyword)) (name_of_head t.head)) (past_all files m n (omega (arith, past, many)) (omega (arith, too, many)))
+same_name typing files count (origin.Statement m) (origin.Input n) many same = absurd (omega (arith, same))
+same_name typing files count (origin.Statement m) (origin.Output n) many same = absurd (omega (arith, same))
+same_name typing files count (origin.Input m) (origin.Statement n) many same = absurd (omega (arith, same))
+same_name typing files count (origin.Input m) (origin.Input n) many same = refl
+same_name typing files count (origin.Input m) (origin.Output n) many same = absurd (omega (arith, same))
+same_name typing files count (origin.Output m) (origin.Statement n) many same = absurd (omega (arith, same))
+same_name typing files count (origin.Output m) (origin.Input n) many same = absurd (omega (arith, same))
+same_name typing files count (origin.Output m) (origin.Output n) many same = refl
 
 module _ (b : Basis) where
   abbrev origin_of : Node → Origin
@@ -85,17 +108,18 @@ module _ (b : Basis) where
       cc
 
   -- nodes that one statement defines have one name
-  pub are_named : (rows : List Row) (statements : List ℕ) → rows ≡ rows_from 0 (stated_of b) → statements ≡ map statement_number (origins_of b) → AreNamed rows statements
-  are_named rows statements are numbers = record {
+  pub are_named : (count : ℕ) (rows : List Row) (statements : List ℕ) → count ≡ length (statements_of b.files) → rows ≡ rows_from 0 (stated_of b)
+      → statements ≡ map (statement_number count) (origins_of b) → AreNamed rows statements
+  are_named count rows statements many are numbers = record {
     each =
-        ap length numbers ∙ length-map (origins_of b) statement_number ∙ length-map (nodes_in b) origin_of ∙ sym (count_rows b rows are);
+        ap length numbers ∙ length-map (origins_of b) (statement_number count) ∙ length-map (nodes_in b) origin_of ∙ sym (count_rows b rows are);
     same = λ n m k r q at_n at_m row_n row_m.
-        let (p, p_at, p_is) = made_at statement_number (origins_of b) n k (ap (λ (ns : List ℕ). slice_get ns n) (sym numbers) ∙ at_n) in
-        let (o, o_at, o_is) = made_at statement_number (origins_of b) m k (ap (λ (ns : List ℕ). slice_get ns m) (sym numbers) ∙ at_m) in
+        let (p, p_at, p_is) = made_at (statement_number count) (origins_of b) n k (ap (λ (ns : List ℕ). slice_get ns n) (sym numbers) ∙ at_n) in
+        let (o, o_at, o_is) = made_at (statement_number count) (origins_of b) m k (ap (λ (ns : List ℕ). slice_get ns m) (sym numbers) ∙ at_m) in
         let (x, x_at, x_is) = made_at origin_of (nodes_in b) n p p_at in
         let (y, y_at, y_is) = made_at origin_of (nodes_in b) m o o_at in
         row_name rows n r x are row_n x_at
-        ∙ same_name b.typing b.files (origin_of x) (origin_of y) (ap statement_number x_is ∙ p_is ∙ sym (ap statement_number y_is ∙ o_is))
+        ∙ same_name b.typing b.files count (origin_of x) (origin_of y) many (ap (statement_number count) x_is ∙ p_is ∙ sym (ap (statement_number count) y_is ∙ o_is))
         ∙ sym (row_name rows m q y are row_m y_at);
   }
 

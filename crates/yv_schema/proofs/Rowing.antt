@@ -14,17 +14,12 @@ use Rattle.yv_above.specs.Above.{Seen, seen_of}
 use Rattle.yv_above.specs.Labels.{label_of}
 use Rattle.yv_schema.specs.Module.{Basis, label_at, labelled, stated_of}
 use Rattle.yv_nodes.specs.Numbers.{numbers_from, rows_below, rows_from}
-use Rattle.yv_schema.specs.InnerRowing.{AreSeen, line_at, line_of, number_at, numbers_at, parent_of, row_of, rows_for}
+use Rattle.yv_schema.specs.InnerRowing.{AreSeen, IsWithin, line_at, line_of, number_at, numbers_at, parent_of, row_of, rows_for}
 
 length_below : (first : ℕ) (t : items.Nodes) → length (families.below_from first t) ≡ items.count t
 length_below first items.none = refl
 length_below first (items.item origin below behind) =
     omega (arith, length-append (families.below_from (first + 1) below) (families.below_from (first + 1 + items.count below) behind), length_below (first + 1) below, length_below (first + 1 + items.count below) behind)
-
--- a place, where there is one, is before this
-abbrev pub IsWithin : Option ℕ → ℕ → Type 0
-IsWithin None many = Unit {0}
-IsWithin (Some place) many = place < many
 
 pub within_more : (parent : Option ℕ) (m n : ℕ) → m ≤ n → IsWithin parent m → IsWithin parent n
 within_more None m n le h = tt

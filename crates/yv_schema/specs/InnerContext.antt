@@ -26,6 +26,11 @@ pub record Tells (b : Basis) (c : Context) : Type 0 where
   pub final : kept.final ≡ b.final
   pub nodes : kept.nodes ≡ b.nodes
 
+-- the context tells of a basis
+pub record IsTold (c : Context) : Type 0 where
+  pub basis : Basis
+  pub tells : Tells basis c
+
 -- the context tells of a basis with these files, of which this was chosen
 pub record TellsOf (choice : Choice) (files : Files) (c : Context) : Type 0 where
   pub basis : Basis

@@ -1,5 +1,5 @@
 -- Only private clauses cite this: what comes of resolving the leafrefs of a schema tree.
-use Rattle.std.specs.Prelude.{◌≡◌, ℕ, ◌+◌, List, map, Option, None}
+use Rattle.std.specs.Prelude.{◌≡◌, ℕ, ◌+◌, List, map, min, Option, None}
 use Rattle.yv_statement.specs.Order.{IsLeast}
 use Rattle.yv_rows.specs.Files.{Files}
 use Rattle.yv_expansion.specs.declared.item.Origin.{Origin}
@@ -18,11 +18,11 @@ use Rattle.yv_schema.specs.InnerContext.{Tells}
 use Rattle.yv_schema.specs.declared.context.Context.{Context}
 use Rattle.yv_schema.specs.declared.resolved.Resolved.{Resolved}
 
--- a number for each statement that defines nodes: one for all inputs, and one for all outputs
-abbrev pub statement_number : Origin → ℕ
-statement_number (origin.Input number) = 0
-statement_number (origin.Output number) = 1
-statement_number (origin.Statement number) = number + 2
+-- a number for each of so many statements that defines nodes: one for all inputs, and one for all outputs
+abbrev pub statement_number : (count : ℕ) → Origin → ℕ
+statement_number count (origin.Input number) = 0
+statement_number count (origin.Output number) = 1
+statement_number count (origin.Statement number) = min number count + 2
 
 -- the origins of the nodes that are left
 abbrev pub origins_of : Basis → List Origin

@@ -1,11 +1,16 @@
 -- Only private clauses cite this: rows made of items, one by one.
-use Rattle.std.specs.Prelude.{◌≡◌, ℕ, ◌+◌, List, [], ◌∷◌, ◌++◌, map, Option, Some, None, slice_index_or}
+use Rattle.std.specs.Prelude.{◌≡◌, ℕ, ◌+◌, ◌<◌, List, [], ◌∷◌, ◌++◌, map, Option, Some, None, slice_index_or}
 use Rattle.yv_expansion.specs.Tree.{Node}
 use Rattle.yv_nodes.specs.declared.node.NodeId.{NodeId}
 use Rattle.yv_nodes.specs.Tree.{Label}
 use Rattle.yv_nodes.specs.Rows.{Row, root}
 use Rattle.yv_above.specs.Above.{Seen, seen_of}
 use Rattle.yv_schema.specs.Module.{Basis, label_at}
+
+-- a place, where there is one, is before this
+abbrev pub IsWithin : Option ℕ → ℕ → Type 0
+IsWithin None many = Unit {0}
+IsWithin (Some place) many = place < many
 
 -- the number of the node at a place
 abbrev pub number_at : ℕ → NodeId

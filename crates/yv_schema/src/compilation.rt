@@ -1,9 +1,10 @@
 //! The compilation of files.
-ghost use Rattle.std.specs.Prelude.{◌≡◌, IfOk, OnOk, Some, None, Err};
+ghost use Rattle.std.specs.Prelude.{◌≡◌, ◌<◌, ◌≤◌, length, IfOk, OnOk, Some, None, Err};
 ghost use Rattle.yv_statement.specs.declared.refusal.Refusal.{Refusal};
-ghost use Rattle.yv_statement.specs.declared.refusal.Stop.TheVariants.{Fault, PatternBuild};
+ghost use Rattle.yv_statement.specs.declared.refusal.Stop.TheVariants.{Fault, NoMemory, PatternBuild};
 ghost use Rattle.yv_statement.specs.Order.{IsLeast};
 ghost use Rattle.yv_selection.specs.Choice.{choice_of};
+ghost use Rattle.yv_rows.specs.Listed.{rows_of};
 ghost use Rattle.yv_restricted_types.specs.Types.{HasTypePattern};
 ghost use Rattle.yv_schema.specs.Refuses.{Refuses, RefusesBeforeTypes};
 ghost use Rattle.yv_nodes.specs.Rows.{whole};
@@ -25,7 +26,7 @@ use yv_tables::Schema;
 /// or the least refusal by phase, file, offset and code. Statements that are outside the profile, such as `must`, are refused as
 /// `Unsupported`. If these modules expand to more units than the limit, they are refused as `TooManyNodes` before anything is
 /// built. `PatternBuild` says that the library of regular expressions doesn't build a pattern of the dialect. More than 2^32
-/// files are refused as if memory ran out.
+/// files are answered as if memory ran out; so are more than 2^32 - 3 statements that fit the tables of the language.
 pub fn compile(
     alloc: Global,
     files: &[Statement<'_>],
@@ -44,6 +45,8 @@ pub fn compile(
     ensures built { result ≡ Err PatternBuild → HasTypePattern files.now }
     ensures before { result ≡ Err PatternBuild
         → IsLeast (RefusesBeforeTypes (choice_of selection.now) files.now limit) None }
+    ensures many { 4294967296 < length files.now → result ≡ Err NoMemory }
+    ensures few { OnOk result (length (rows_of files.now) ≤ 4294967293) }
 {
     links_have_phases();
     refusals_of_expansions_have_phases();

@@ -1,13 +1,13 @@
 //! The augments of modules that add nodes.
-ghost use Rattle.std.specs.Prelude.{◌≡◌, map, option_to_list, IfOk, IfErr, slice_get};
+ghost use Rattle.std.specs.Prelude.{◌≡◌, ◌<◌, ◌≤◌, All, length, map, option_to_list, IfOk, IfErr, slice_get};
 ghost use Rattle.std.specs.Option.{option_and_then};
 ghost use Rattle.yv_statement.specs.declared.refusal.Stop.TheVariants.{NoMemory};
 ghost use Rattle.yv_rows.specs.Files.{home_at};
 ghost use Rattle.yv_rows.specs.Lent.{files_in, lent_in, rows_in};
 ghost use Rattle.yv_expansion.specs.Tree.{Node};
 ghost use Rattle.yv_final_tree.specs.Kept.{giver_at};
-ghost use Rattle.yv_schema.specs.InnerContext.{Tells};
-ghost use Rattle.yv_schema.specs.InnerRowing.{numbers_at};
+ghost use Rattle.yv_schema.specs.InnerContext.{IsTold, Tells};
+ghost use Rattle.yv_schema.specs.InnerRowing.{IsWithin, numbers_at};
 ghost use Rattle.yv_schema.specs.Module.{Basis};
 ghost use Rattle.yv_schema.specs.Notes.{note_by, notes_of};
 
@@ -59,6 +59,8 @@ fn note(
     target: Option<usize>,
     nodes: &[usize],
 ) -> Result<Option<AugmentNote>, Stop>
+    requires target { IsWithin target 4294967296 }
+    requires nodes { All (λ place. place < 4294967296) nodes.now }
     ensures note { (b : Basis) → b.files ≡ lent_in rows.now → IfOk result (λ note. option_to_list note
         ≡ note_by b (slice_get (rows_in rows.now) augment) target (numbers_at nodes.now)) }
     ensures memory { IfErr result (λ stop. stop ≡ NoMemory) }
@@ -72,7 +74,7 @@ fn note(
     Ok(Some(AugmentNote {
         home: home_of(rows, entry.file),
         argument: RcStr::from_str(alloc, name_of(entry.statement))?,
-        target: number_at(target)?,
+        target: number_at(target),
         nodes: numbers_at(alloc, nodes)?,
     }))
 }
@@ -84,6 +86,8 @@ pub(crate) fn notes(
     rows: &Rows<'_, '_>,
     context: &Context<'_, '_, '_>,
 ) -> Result<Vec<AugmentNote>, Stop>
+    requires few { length context.now.tree.now.left ≤ 4294967296 }
+    requires told { IsTold context.now }
     ensures notes { (b : Basis) → Tells b context.now → b.files ≡ lent_in rows.now → IfOk result (λ notes. notes.items ≡ notes_of b) }
     ensures memory { IfErr result (λ stop. stop ≡ NoMemory) }
 {

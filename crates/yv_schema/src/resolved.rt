@@ -1,6 +1,6 @@
 //! The leafrefs of a schema tree, resolved.
-ghost use Rattle.std.specs.Prelude.{◌≡◌, ◌≢◌, [], None, map, IfOk};
-ghost use Rattle.yv_rows.specs.Lent.{lent_in};
+ghost use Rattle.std.specs.Prelude.{◌≡◌, ◌≢◌, [], None, map, length, IfOk};
+ghost use Rattle.yv_rows.specs.Lent.{lent_in, rows_in};
 ghost use Rattle.yv_final_tree.specs.Kept.{origin_at};
 ghost use Rattle.yv_nodes.specs.Numbers.{rows_from};
 ghost use Rattle.yv_leafrefs.specs.Above.{AreBehind};
@@ -21,6 +21,7 @@ use yv_leafrefs::laws::{alike_schemas_have_the_same_leafrefs, rows_of_a_tree_are
 use yv_nodes::{Links, Nodes};
 use yv_referrals::{Referrals, referrals};
 use yv_rows::Rows;
+use yv_rows::laws::statements_have_their_rows;
 use yv_statement::Refusal;
 
 /// Nodes whose leafrefs are resolved where nothing is wrong with these, where the paths of those lead that require an instance, and
@@ -43,27 +44,29 @@ fn origins(alloc: Global, tree: &FinalTree) -> Result<Vec<Origin>, AllocError>
     Ok(origins)
 }
 
-// A number for the statement that defines a node: all inputs have one, and all outputs, since these have one name.
-fn statement_number(origin: Origin) -> Result<usize, AllocError>
-    ensures { IfOk result (λ number. number ≡ statement_number origin) }
+// A number for the statement that defines a node: all inputs have one, and all outputs, since these have one name. So would all
+// statements behind the last one.
+fn statement_number(rows: &Rows<'_, '_>, origin: Origin) -> usize
+    ensures { result ≡ statement_number (length (rows_in rows.now)) origin }
 {
     match origin {
-        Origin::Input(_) => Ok(0),
-        Origin::Output(_) => Ok(1),
-        Origin::Statement(number) => match number.checked_add(2) {
-            Some(number) => Ok(number),
-            None => Err(AllocError),
-        },
+        Origin::Input(_) => 0,
+        Origin::Output(_) => 1,
+        Origin::Statement(number) => number.min(rows.len()) + 2,
     }
 }
 
 // Those of nodes of these origins.
-fn statement_numbers(alloc: Global, origins: &[Origin]) -> Result<Vec<usize>, AllocError>
-    ensures { IfOk result (λ numbers. numbers.items ≡ map statement_number origins.now) }
+fn statement_numbers(
+    alloc: Global,
+    rows: &Rows<'_, '_>,
+    origins: &[Origin],
+) -> Result<Vec<usize>, AllocError>
+    ensures { IfOk result (λ numbers. numbers.items ≡ map (statement_number (length (rows_in rows.now))) origins.now) }
 {
     let mut numbers = Vec::new(alloc);
     for origin in origins {
-        numbers.push(statement_number(*origin)?)?;
+        numbers.push(statement_number(rows, *origin))?;
     }
     Ok(numbers)
 }
@@ -81,6 +84,7 @@ pub(crate) fn resolve<'a>(
         → IfOk result (IsAnswered b) }
     ensures limit { IfOk result (λ r. r.nodes.limit ≡ nodes.limit) }
 {
+    statements_have_their_rows();
     rows_of_a_tree_are_behind();
     alike_schemas_have_the_same_leafrefs();
     alike_schemas_have_the_same_links();
@@ -88,7 +92,7 @@ pub(crate) fn resolve<'a>(
     types_leave_links();
     let mut nodes = nodes;
     let origins = origins(alloc, context.tree)?;
-    let statements = statement_numbers(alloc, &origins)?;
+    let statements = statement_numbers(alloc, rows, &origins)?;
     let said = referrals(alloc, rows, context.definitions(), &origins)?;
     let leafrefs = Leafrefs::read(alloc, &nodes, &statements, &said.of, &said.leafrefs)?;
     let fault = leafrefs.fault();

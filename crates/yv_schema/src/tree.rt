@@ -1,15 +1,16 @@
 //! The nodes of a schema.
-ghost use Rattle.std.specs.Prelude.{◌≡◌, ◌≤◌, ◌+◌, [], ◌∷◌, ◌++◌, List, length, IfOk, IfErr, OnOk, slice_index_or};
+ghost use Rattle.std.specs.Prelude.{◌≡◌, ◌<◌, ◌≤◌, ◌+◌, [], ◌∷◌, ◌++◌, ℕ, All, List, Some, length, IfOk, IfErr, OnOk, slice_get, slice_index_or};
 ghost use Rattle.std.specs.Rc.{rc_str_bytes};
 ghost use Rattle.yv_statement.specs.declared.refusal.Stop.TheVariants.{NoMemory};
 ghost use Rattle.yv_children.specs.Families.{lists_of};
+ghost use Rattle.yv_expansion.specs.Tree.{Node as Left};
 ghost use Rattle.yv_nodes.specs.Numbers.{numbers_from, rows_from};
 ghost use Rattle.yv_nodes.specs.Tree.{Label};
 ghost use Rattle.yv_above.specs.Above.{seen_of};
 ghost use Rattle.yv_schema.specs.Module.{Basis, label_at, stated_of};
-ghost use Rattle.yv_schema.specs.InnerContext.{Tells};
+ghost use Rattle.yv_schema.specs.InnerContext.{IsTold, Tells};
 ghost use Rattle.yv_schema.specs.InnerHomes.{AreHomes};
-ghost use Rattle.yv_schema.specs.InnerRowing.{AreSeen, line_at, number_at, numbers_at, parent_of, row_of, rows_for};
+ghost use Rattle.yv_schema.specs.InnerRowing.{AreSeen, IsWithin, line_at, number_at, numbers_at, parent_of, row_of, rows_for};
 
 use crate::context::Context;
 use crate::homes::Homes;
@@ -39,7 +40,8 @@ pub(crate) struct Builder<'c, 'a, 'b> {
 impl Builder<'_, '_, '_> {
     /// The nodes that are left, each before those below it, of which there are no more than the limit.
     pub(crate) fn numbered(&self, limit: u32) -> Result<Numbered, Stop>
-        requires { length self.now.context.now.tree.now.left ≤ limit }
+        requires room { length self.now.context.now.tree.now.left ≤ limit }
+        requires told { IsTold self.now.context.now }
         ensures rows { (b : Basis) → Tells b self.now.context.now → AreHomes b.files self.now.homes.now
             → IfOk result (λ n. n.nodes.rows ≡ rows_from 0 (stated_of b)) }
         ensures top { (b : Basis) → Tells b self.now.context.now → AreHomes b.files self.now.homes.now
@@ -62,7 +64,10 @@ impl Builder<'_, '_, '_> {
         below: &[Vec<usize>],
         nodes: &mut Nodes,
     ) -> Result<(), Stop>
-        requires { length nodes.old.rows + length items.now ≤ nodes.old.limit }
+        requires room { length nodes.old.rows + length items.now ≤ nodes.old.limit }
+        requires few { length items.now ≤ 4294967296 }
+        requires parents { (place : ℕ) (item : Left) → slice_get items.now place ≡ Some item → IsWithin item.parent place }
+        requires children { (place : ℕ) → All (λ child. child < 4294967296) (slice_index_or (lists_of below.now) place []) }
         ensures rows { (b : Basis) → Tells b self.now.context.now → AreHomes b.files self.now.homes.now → OnOk result (nodes.new.rows
             ≡ nodes.old.rows ++ rows_for b (lists_of below.now) [] 0 items.now) }
         ensures limit { nodes.new.limit ≡ nodes.old.limit }
@@ -72,7 +77,7 @@ impl Builder<'_, '_, '_> {
         let mut aboves = Vec::new(self.alloc);
         for (place, item) in items.iter().enumerate() {
             let above = above_at(&top, &aboves, item.parent);
-            let parent = parent_of(item.parent)?;
+            let parent = parent_of(item.parent);
             let children = numbers_at(self.alloc, places_at(below, place))?;
             let made = self.node(item, above, parent, children)?;
             aboves.push(made.above_others)?;
@@ -93,6 +98,7 @@ impl Builder<'_, '_, '_> {
             → above.now ≡ seen_of ls → IfOk result (λ made. made.node ≡ row_of b ls item.now parent children.items) }
         ensures above { (b : Basis) (ls : List Label) → Tells b self.now.context.now → AreHomes b.files self.now.homes.now
             → above.now ≡ seen_of ls → IfOk result (λ made. made.above_others ≡ seen_of (label_at b ls item.now.origin ∷ ls)) }
+        ensures parent { IfOk result (λ made. made.node.parent ≡ parent) }
     {
         let definition = self.context.definition(item.origin)?;
         let home = self.context.home(item.origin);
@@ -134,36 +140,33 @@ fn places_at(below: &[Vec<usize>], place: usize) -> &[usize]
     }
 }
 
-/// The number of the node at a place: no memory, where it has more than 32 bits.
-pub(crate) fn number_at(place: usize) -> Result<NodeId, Stop>
-    ensures number { IfOk result (λ id. id ≡ number_at place) }
-    ensures memory { IfErr result (λ stop. stop ≡ NoMemory) }
+/// The number of the node at a place.
+pub(crate) fn number_at(place: usize) -> NodeId
+    requires { place < 4294967296 }
+    ensures { result ≡ number_at place }
 {
-    if place > u32::MAX as usize {
-        return Err(Stop::NoMemory);
-    }
-    Ok(NodeId(place as u32))
+    NodeId(place as u32)
 }
 
 // The number of the node above one: the root's at the top.
-fn parent_of(place: Option<usize>) -> Result<NodeId, Stop>
-    ensures number { IfOk result (λ id. id ≡ parent_of place) }
-    ensures memory { IfErr result (λ stop. stop ≡ NoMemory) }
+fn parent_of(place: Option<usize>) -> NodeId
+    requires { IsWithin place 4294967296 }
+    ensures { result ≡ parent_of place }
 {
     match place {
         Some(place) => number_at(place),
-        None => Ok(Schema::ROOT),
+        None => Schema::ROOT,
     }
 }
 
 /// The numbers of the nodes at these places.
-pub(crate) fn numbers_at(alloc: Global, places: &[usize]) -> Result<Vec<NodeId>, Stop>
-    ensures numbers { IfOk result (λ numbers. numbers.items ≡ numbers_at places.now) }
-    ensures memory { IfErr result (λ stop. stop ≡ NoMemory) }
+pub(crate) fn numbers_at(alloc: Global, places: &[usize]) -> Result<Vec<NodeId>, AllocError>
+    requires { All (λ place. place < 4294967296) places.now }
+    ensures { IfOk result (λ numbers. numbers.items ≡ numbers_at places.now) }
 {
     let mut numbers = Vec::new(alloc);
     for place in places {
-        numbers.push(number_at(*place)?)?;
+        numbers.push(number_at(*place))?;
     }
     Ok(numbers)
 }

@@ -27,7 +27,10 @@ pub place-requires-clause-laid : goal.place-requires-clause-laid
 place-requires-clause-laid c =
     let w : Whole = whole_in c.in_ok-plan.plan in
     let long : length c.args.items.now ≡ w.items = sym (ap (λ (v : Whole). v.items) c.in_ok-plan.ensures.whole) in
-    subst (AreLaid w) (sym c.in_ok-layout.ensures) (laid_whole w c.args.items.now long)
+    subst (AreLaid w) (sym c.in_ok-layout.ensures.laid) (laid_whole w c.args.items.now long)
+
+pub place-requires-clause-few : goal.place-requires-clause-few
+place-requires-clause-few c = c.in_ok-layout.ensures.few
 
 pub returns : goal.returns
 returns c =
@@ -40,7 +43,7 @@ returns c =
     let are : AreLaid w l = laid_whole w items long in
     let lists : Vec ℕ Global → List ℕ = λ p. p.items in
     let ready : IsGrafting labels old c.in_ok-grafting.field-0.grafting =
-    subst (λ (x : Laid). IsGrafting (labels_of x.spots) (placed w x) c.in_ok-grafting.field-0.grafting) c.in_ok-layout.ensures c.in_ok-grafting.ensures.state in
+    subst (λ (x : Laid). IsGrafting (labels_of x.spots) (placed w x) c.in_ok-grafting.field-0.grafting) c.in_ok-layout.ensures.laid c.in_ok-grafting.ensures.state in
     let paths : map lists c.deref-2.result.now ≡ module_paths w = ap (map lists) c.deref-2.ensures.value ∙ c.in_ok-paths.ensures in
     let ends = placed_ends w labels l.copies c.turns_keep_augments.ensures 0 l.spots in
     let count : length c.deref-2.result.now ≡ length w.augments =
@@ -54,20 +57,20 @@ returns c =
     c.each_item_stands_once.ensures.applied labels l.copies 0 (module_paths w) old new entered (omega (arith, size, modules)) known in
     let all : length labels ≡ length items = length-map l.spots (λ s. s.label) ∙ are.long ∙ sym long in
     let grafts : Grafts = record { spots = c.in_ok-layout.layout.spots; missing = c.in_ok-grafting.field-0.missing; refined = c.in_ok-grafting.field-0.refined; grafting = c.run.new.self } in
-    let size_of : length c.in_ok-layout.layout.spots.items ≡ length items = ap (λ (x : Laid). length x.spots) c.in_ok-layout.ensures ∙ are.long ∙ sym long in
+    let size_of : length c.in_ok-layout.layout.spots.items ≡ length items = ap (λ (x : Laid). length x.spots) c.in_ok-layout.ensures.laid ∙ are.long ∙ sym long in
     let told_end : (i : ℕ) → i < length items → get_or c.deref.result.now i 0 ≡ end_at items i =
     λ i lt. (ap (λ (xs : List ℕ). get_or xs i 0) c.deref.ensures.value ∙ c.in_ok-ends.ensures.at i lt) in
     let made : AreGrafts w items new grafts = record {
       grafted = record { applied = known };
       each = are.long ∙ sym long;
       once = subst (λ (n : ℕ). StandOnce n new.groups) all once;
-      spots = ap (λ (x : Laid). x.spots) c.in_ok-layout.ensures;
-      missing = λ i. subst (λ (x : Laid). IsLeast (MissesAt w x (end_at items i) i) (get_or c.in_ok-grafting.field-0.missing.items i None)) c.in_ok-layout.ensures
+      spots = ap (λ (x : Laid). x.spots) c.in_ok-layout.ensures.laid;
+      missing = λ i. subst (λ (x : Laid). IsLeast (MissesAt w x (end_at items i) i) (get_or c.in_ok-grafting.field-0.missing.items i None)) c.in_ok-layout.ensures.laid
           (missing_same w (laid_in c.in_ok-layout.layout) _ (end_at items i) i _ (λ lt. told_end i (omega (arith, lt, size_of))) (c.in_ok-grafting.ensures.missing i));
       refined = c.in_ok-grafting.ensures.refined
           ∙ refined_same w (labels_of (laid_in c.in_ok-layout.layout).spots) (laid_in c.in_ok-layout.layout).copies _ (end_at items) 0 (laid_in c.in_ok-layout.layout).spots
           (λ k lt. told_end k (omega (arith, lt, size_of)))
-          ∙ ap (λ (x : Laid). refined w x (end_at items)) c.in_ok-layout.ensures;
+          ∙ ap (λ (x : Laid). refined w x (end_at items)) c.in_ok-layout.ensures.laid;
       grafting = grafting;
     } in
     (new, subst (λ (v : Whole). AreGrafts v items new grafts) c.in_ok-plan.ensures.whole made)

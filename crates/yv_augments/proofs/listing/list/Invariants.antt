@@ -2,12 +2,14 @@ use Rattle.std.proofs.Common.{◌+◌, ℕ, List, length}
 use Rattle.std.specs.List.{sum_by}
 use Rattle.yv_augments.specs.InnerListing.{StandAtMostOnce, groups_in}
 use Rattle.yv_augments.proofs.Taking.{AreFresh, Completes}
+use Rattle.yv_augments.proofs.Depths.{NoDeeper}
 use Rattle.yv_augments.proofs.listing.list.Given as goal
 
 abbrev pub invariant-loop-row : goal.invariant-loop-row
 invariant-loop-row l = record {
   fresh : StandAtMostOnce (groups_in l.fn.groups.items) → AreFresh (groups_in l.fn.groups.items) (groups_in l.groups.items) l.stack.items;
   completes : StandAtMostOnce (groups_in l.fn.groups.items) → Completes l.labels (groups_in l.fn.groups.items) l.stack.items l.rows.items;
+  shallow : NoDeeper (length l.rows.items + 1) l.stack.items;
 }
 
 abbrev pub decreases-loop-row : goal.decreases-loop-row

@@ -1,4 +1,4 @@
-use Rattle.std.proofs.Common.{◌≡◌, ◌∙◌, List, sym, subst, IfOk, OnOk, None}
+use Rattle.std.proofs.Common.{◌≡◌, ◌∙◌, List, sym, subst, arith, IfOk, OnOk, None}
 use Rattle.std.specs.declared.option.Option.{Option}
 use Rattle.std.specs.declared.result.Result.{Result}
 use Rattle.std.proofs.lemmas.Result.{IfOk-weaker}
@@ -25,6 +25,15 @@ use Rattle.yv_schema.proofs.build.build.Goals as goal
 pub numbered-requires-2-clause-modules : goal.numbered-requires-2-clause-modules
 numbered-requires-2-clause-modules c =
     modules_in_order (choice_of c.args.selection.now) (lent_in c.args.rows.now) c.in_ok-modules.modules.items c.requires.names c.in_ok-modules.ensures
+
+pub numbered-requires-clause-told : goal.numbered-requires-clause-told
+numbered-requires-clause-told c = record { basis = c.requires.basis.basis; tells = c.requires.basis.tells }
+
+pub notes-requires-clause-few : goal.notes-requires-clause-few
+notes-requires-clause-few c = omega (arith, c.requires.room, c.ranges.limit.fits)
+
+pub notes-requires-clause-told : goal.notes-requires-clause-told
+notes-requires-clause-told c = record { basis = c.requires.basis.basis; tells = c.requires.basis.tells }
 
 -- what resolving answers of the basis
 pub resolve-requires : goal.resolve-requires

@@ -1,4 +1,8 @@
-use Rattle.std.proofs.Common.{◌≡◌, Some, arith, subst}
+use Rattle.std.proofs.Common.{◌≡◌, ℕ, ◌≤◌, length, inl, inr, Some, Ok, Err, arith, subst}
+use Rattle.std.specs.Prelude.{Result, OnOk}
+use Rattle.std.proofs.lemmas.Bool.{cases_lt}
+use Rattle.yv_rows.specs.Listed.{rows_of}
+use Rattle.yv_statement.specs.declared.refusal.Stop.TheVariants.{NoMemory}
 use Rattle.yv_statement.specs.declared.refusal.Refusal.{Refusal}
 use Rattle.yv_statement.specs.Order.{IsLeast}
 use Rattle.yv_selection.specs.Choice.{choice_of}
@@ -75,3 +79,25 @@ returns-clause-modules c =
     let own = rw c.in_default.is at c.first_bad_file.ensures in
     let clear : AreClear (choice_of c.args.selection.now) c.args.files.now c.in-Ok.linked = record { few = omega arith; own = own; links = c.in-Ok.ensures.clear; are = c.in-Ok.ensures.linked } in
     c.of_linked.ensures.modules c.args.files.now clear
+
+pub returns-in-Some-clause-many : goal.returns-in-Some-clause-many
+returns-in-Some-clause-many c = λ more. absurd (omega (arith, more))
+
+pub returns-in-Err-clause-many : goal.returns-in-Err-clause-many
+returns-in-Err-clause-many c = λ more. absurd (omega (arith, more))
+
+pub returns-clause-many : goal.returns-clause-many
+returns-clause-many c = λ more. absurd (omega (arith, more))
+
+on_ok : {A E P : Type 0} (r : Result A E) → P → OnOk r P
+on_ok (Ok a) p = p
+on_ok (Err e) p = tt
+
+pub returns-clause-few : goal.returns-clause-few
+returns-clause-few c =
+    let count : ℕ = length (rows_of c.args.files.now) in
+    let few : count ≤ 4294967293 = elim (cases_lt 4294967293 count) [
+      | inl more ↦ absurd (let bad : Ok c.in-Ok.linked ≡ Err NoMemory = c.in-Ok.ensures.many more in cc)
+      | inr at_most ↦ at_most
+    ] in
+    on_ok c.of_linked.result few

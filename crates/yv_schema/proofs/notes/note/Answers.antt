@@ -14,4 +14,4 @@ returns-clause-note c = λ b files.
     let filled : c.args.nodes.now ≡ [] → ⊥ = λ none. false≢true (sym c.if-is_empty.false ∙ c.is_empty.ensures ∙ ap (λ (ns : List _). length ns == 0) none) in
     noted b _ (row entry) c.args.target c.in-Some-Some.target c.args.nodes.now _ _ _ _ at c.in-Some-Some.is-1 filled
     (c.home_of.ensures ∙ ap (λ (fs : Files). home_at (map brief_of fs) entry.file) (sym files))
-    (c.in_ok-from_str.ensures.ok ∙ c.name_of.ensures) c.in_ok-number_at.ensures.number c.in_ok-numbers_at.ensures.numbers
+    (c.in_ok-from_str.ensures.ok ∙ c.name_of.ensures) c.number_at.ensures c.in_ok-numbers_at.ensures

@@ -1,13 +1,36 @@
-use Rattle.std.proofs.Common.{◌≡◌, ◌<◌, ◌≤◌, ◌∷◌, ◌∙◌, sym, ap, List, ℕ, [], length, get_or, refl, append-nil, subst, Option}
+use Rattle.std.proofs.Common.{arith, ◌≡◌, ◌<◌, ◌≤◌, ◌∷◌, ◌∙◌, sym, ap, List, ℕ, [], length, get_or, refl, append-nil, subst, Option}
+use Rattle.std.specs.List.{slice_get}
 use Rattle.std.specs.Option.{option_to_list}
+use Rattle.yv_expansion.specs.Tree.{Node}
 use Rattle.yv_rows.specs.Listed.{rows_of}
 use Rattle.yv_rows.specs.Lent.{rows_in}
 use Rattle.yv_nodes.specs.Rows.{Note}
+use Rattle.yv_schema.specs.InnerRowing.{IsWithin}
 use Rattle.yv_schema.specs.Notes.{notes_of}
-use Rattle.yv_schema.proofs.Noting.{family_is, givers_kept, note_is, notes_end, notes_more}
+use Rattle.yv_schema.proofs.Numbering.{AllBefore, above_before, family_before, givers_many, parents_before}
+use Rattle.yv_schema.proofs.Noting.{family_is, givers, givers_kept, note_is, notes_end, notes_more}
 use Rattle.yv_schema.proofs.Telling.{follows, kept}
 use Rattle.yv_schema.proofs.notes.notes.Goals as goal
 use Rattle.yv_schema.proofs.notes.notes.Goals.{in-Some+in_ok-push, in_default}
+
+pub note-requires-clause-target : goal.note-requires-clause-target
+note-requires-clause-target c =
+    let told = c.requires.told in
+    let k = kept told.basis c.args.context.now told.tells in
+    let left : List Node = c.args.context.now.tree.now.left in
+    subst (λ (o : Option ℕ). IsWithin o 4294967296) (sym c.target_of-target.ensures)
+    (above_before left 4294967296 (slice_get c.at-nodes.result.now 0) (parents_before told.basis left 4294967296 k.left_are c.requires.few))
+
+pub note-requires-clause-nodes : goal.note-requires-clause-nodes
+note-requires-clause-nodes c =
+    let told = c.requires.told in
+    let b = told.basis in
+    let so = follows b c.args.context.now told.tells c.given_nodes_stand_below_their_target.ensures c.no_item_is_left_twice.ensures in
+    let k = kept b c.args.context.now told.tells in
+    let found = c.deref.ensures.value ∙ c.in_ok-givers.ensures ∙ givers_kept b so _ _ _ k in
+    let nodes = family_is b so c.deref.result.now (length c.augments-augments.result.now) c.loop-place.place c.in_ok-added.added c.at-nodes.result.now found c.in_ok-added.ensures c.loop-place-test.true c.at-nodes.ensures in
+    let few : length (givers b so) ≤ 4294967296 = omega (arith, givers_many b so, ap (length {A = Node}) k.left_are, c.requires.few) in
+    subst (λ (ns : List ℕ). AllBefore 4294967296 ns) (sym nodes) (family_before (givers b so) c.loop-place.place 4294967296 few)
 
 pub loop-place-preserved : goal.loop-place-preserved
 loop-place-preserved c = λ b tells files.

@@ -1,8 +1,9 @@
-use Rattle.std.proofs.Common.{◌≡◌, ◌⊎◌, ℕ, List, Option, None, map, refl, sym, ap, ap₂, ◌∙◌, subst}
+use Rattle.std.proofs.Common.{◌≡◌, ◌⊎◌, ℕ, List, Option, None, length, map, refl, sym, ap, ap₂, ◌∙◌, subst}
 use Rattle.std.specs.List.{slice_get}
 use Rattle.std.specs.Option.{option_and_then}
 use Rattle.yv_rows.specs.Files.{Files}
-use Rattle.yv_rows.specs.Lent.{lent_in}
+use Rattle.yv_rows.specs.Lent.{lent_in, rows_in}
+use Rattle.yv_rows.specs.Listed.{rows_of, statements_of}
 use Rattle.yv_expansion.specs.declared.item.Origin.{Origin}
 use Rattle.yv_definitions.specs.Kinds.{Typing}
 use Rattle.yv_definitions.specs.Known.{files_in, typing_in}
@@ -13,7 +14,7 @@ use Rattle.yv_leafrefs.specs.Schema.{AreAlike, Referral, Schema, said_by}
 use Rattle.yv_referrals.specs.Said.{said}
 use Rattle.yv_schema.specs.InnerResolved.{origins_of, schema_by, statement_number}
 use Rattle.yv_schema.specs.Module.{leafrefs_of, stated_of}
-use Rattle.yv_schema.proofs.Resolving.{are_alike, are_named, links_are, origins_told}
+use Rattle.yv_schema.proofs.Resolving.{are_alike, are_named, count_statements, links_are, origins_told}
 use Rattle.yv_schema.proofs.Typing.{links_resolved}
 use Rattle.yv_schema.proofs.resolved.resolve.Goals as goal
 
@@ -25,9 +26,12 @@ pub read-requires-clause-named : goal.read-requires-clause-named
 read-requires-clause-named c =
     let b = c.requires.basis in
     let origins : c.in_ok-origins.origins.items ≡ origins_of b = c.in_ok-origins.ensures ∙ origins_told b c.args.context.now c.requires.tells in
-    let numbers : c.in_ok-statements.statements.items ≡ map statement_number (origins_of b) =
-    c.in_ok-statements.ensures ∙ ap (map statement_number) (c.deref.ensures.value ∙ origins) in
-    rw (c.deref-3.ensures.value) (are_named b c.args.nodes.rows c.in_ok-statements.statements.items c.requires.are numbers)
+    let count : ℕ = length (rows_in c.args.rows.now) in
+    let many : count ≡ length (statements_of b.files) =
+    ap (λ (fs : Files). length (rows_of fs)) (sym c.requires.of_files) ∙ count_statements b.files (c.statements_have_their_rows.ensures b.files) in
+    let numbers : c.in_ok-statements.statements.items ≡ map (statement_number count) (origins_of b) =
+    c.in_ok-statements.ensures ∙ ap (map (statement_number count)) (c.deref.ensures.value ∙ origins) in
+    rw (c.deref-3.ensures.value) (are_named b count c.args.nodes.rows c.in_ok-statements.statements.items many c.requires.are numbers)
 
 pub links_unless-requires-clause-behind : goal.links_unless-requires-clause-behind
 links_unless-requires-clause-behind c =

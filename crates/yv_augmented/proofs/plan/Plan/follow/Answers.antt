@@ -1,15 +1,33 @@
-use Rattle.std.proofs.Common.{◌≡◌, ◌+◌, ℕ, Option, length, arith, subst}
+use Rattle.std.proofs.Common.{◌≡◌, ◌+◌, ℕ, Option, length, refl, sym, ◌∙◌, ap, arith, subst}
 use Rattle.yv_statement.specs.Order.{IsLeast}
 use Rattle.yv_augments.specs.Turns.{State}
 use Rattle.yv_augmented.specs.InnerPlan.{whole_in}
 use Rattle.yv_augmented.specs.InnerSchedule.{IsEnded, IsReady, MissesBetween}
 use Rattle.yv_augmented.specs.Spots.{Whole}
-use Rattle.yv_augmented.specs.Untargeted.{after_turns, had_turns}
+use Rattle.yv_augmented.specs.Untargeted.{after_turns, had_turns, next_number}
 use Rattle.yv_augmented.specs.declared.schedule.Addressed.{Addressed}
 use Rattle.yv_augmented.proofs.Entering.{turns_ends}
-use Rattle.yv_augmented.proofs.Following.{between_more, giver_least, idle_told, ready_giver, ready_idle}
-use Rattle.yv_augmented.proofs.Turning.{number_within}
+use Rattle.yv_augmented.proofs.Following.{between_more, giver_least, idle_told, number_idle, ready_giver, ready_idle}
+use Rattle.yv_augmented.proofs.Turning.{number_more, number_within}
 use Rattle.yv_augmented.proofs.plan.Plan.follow.Goals as goal
+
+pub returns-in-None-clause-number : goal.returns-in-None-clause-number
+returns-in-None-clause-number c = λ from to s is. (
+    let w : Whole = whole_in c.args.self.now in
+    let spot = c.args.spot.now in
+    let last : s.place ≡ to = subst (λ (o : Option Addressed). IsEnded w spot.statement spot.home s.place to o) c.in-None.is s.ended in
+    is ∙ sym (number_idle w spot from s.place c.args.stretch.now.idle.items s.idle) ∙ ap (next_number w.rows spot) last)
+
+pub returns-in_ok-own-in-Some-clause-number : goal.returns-in_ok-own-in-Some-clause-number
+returns-in_ok-own-in-Some-clause-number c = λ from to s is. (
+    let w : Whole = whole_in c.args.self.now in
+    let spot = c.args.spot.now in
+    let x : Addressed = c.in-Some.it in
+    let ended = subst (λ (o : Option Addressed). IsEnded w spot.statement spot.home s.place to o) c.in-Some.is s.ended in
+    let idle = number_idle w spot from s.place c.args.stretch.now.idle.items s.idle in
+    let more = number_more w.rows spot s.place x.augment ended.1.at ended.1.gives in
+    let next : c.args.number + 1 ≡ next_number w.rows spot (s.place + 1) = omega (arith, is, idle, more) in
+    next ∙ ap (next_number w.rows spot) ended.0)
 
 pub returns-in-None-clause-ready : goal.returns-in-None-clause-ready
 returns-in-None-clause-ready c = λ labels st from to ready s. (
@@ -28,13 +46,13 @@ returns-in-None-clause-missing c = λ labels st from to ready s. (
     (idle_told w labels spot c.args.end st from s.place c.args.stretch.now.idle.items s.idle c.first_missing-missing.result c.deref.result.now c.deref.ensures.value
     (c.first_missing-missing.ensures labels (after_turns w labels spot from st) ready.grafting)))
 
-pub returns-in-Some-checked_add-clause-ready : goal.returns-in-Some-checked_add-clause-ready
-returns-in-Some-checked_add-clause-ready c = λ labels st from to ready s. (
+pub returns-in_ok-own-in-Some-clause-ready : goal.returns-in_ok-own-in-Some-clause-ready
+returns-in_ok-own-in-Some-clause-ready c = λ labels st from to ready s. (
     let w : Whole = whole_in c.args.self.now in
     let spot = c.args.spot.now in
     let x : Addressed = c.in-Some.it in
     let number : ℕ = c.args.number in
-    let next : ℕ = c.in-Some-checked_add.next in
+    let next : ℕ = number + 1 in
     let ended = subst (λ (o : Option Addressed). IsEnded w spot.statement spot.home s.place to o) c.in-Some.is s.ended in
     let here : IsReady w labels spot st s.place number c.args.grafting.now =
     ready_idle w labels spot c.args.end st from s.place c.args.stretch.now.idle.items s.idle number c.args.grafting.now ready in
@@ -44,12 +62,11 @@ returns-in-Some-checked_add-clause-ready c = λ labels st from to ready s. (
     let count = here.next in
     let room = here.room in
     let turned = c.in_ok-own-in-Some.ensures.state labels now here.grafting here.long ended.1.path (omega (arith, within, ends, count, room)) in
-    let more : next ≡ number + 1 = omega (arith, c.in-Some-checked_add.ensures) in
     subst (λ (n : ℕ). IsReady w labels spot st n next c.give.new.grafting) ended.0
-    (ready_giver w labels spot c.args.end st s.place x ended.1 number next c.give.new.grafting more here.long count room turned))
+    (ready_giver w labels spot c.args.end st s.place x ended.1 number next c.give.new.grafting refl here.long count room turned))
 
-pub returns-in-Some-checked_add-clause-missing : goal.returns-in-Some-checked_add-clause-missing
-returns-in-Some-checked_add-clause-missing c = λ labels st from to ready s. (
+pub returns-in_ok-own-in-Some-clause-missing : goal.returns-in_ok-own-in-Some-clause-missing
+returns-in_ok-own-in-Some-clause-missing c = λ labels st from to ready s. (
     let w : Whole = whole_in c.args.self.now in
     let spot = c.args.spot.now in
     let x : Addressed = c.in-Some.it in

@@ -15,7 +15,7 @@ pub returns-clause-state : goal.returns-clause-state
 returns-clause-state c = λ labels st is long path room. (
     let spot = c.args.spot.now in
     let number : ℕ = c.args.number in
-    let group : c.in_ok-group.group ≡ group_of_augment labels number = c.in_ok-group.ensures ∙ ap (λ (n : ℕ). n + 1 + number) (sym long) in
+    let group : c.copy_group-group.result ≡ group_of_augment labels number = c.copy_group-group.ensures ∙ ap (λ (n : ℕ). n + 1 + number) (sym long) in
     let limit : c.last_of-limit.result ≡ last_of (members_of st.groups (group_of_augment labels number)) =
     c.last_of-limit.ensures ∙ ap last_of (c.members.ensures labels st is ∙ ap (members_of st.groups) group) in
     subst (λ (x : State). IsGrafting labels x c.turn.new.self)
@@ -27,7 +27,7 @@ pub returns-clause-missing : goal.returns-clause-missing
 returns-clause-missing c = λ labels st is long. (
     let it = c.args.it.now in
     let number : ℕ = c.args.number in
-    let group : c.in_ok-group.group ≡ group_of_augment labels number = c.in_ok-group.ensures ∙ ap (λ (n : ℕ). n + 1 + number) (sym long) in
+    let group : c.copy_group-group.result ≡ group_of_augment labels number = c.copy_group-group.ensures ∙ ap (λ (n : ℕ). n + 1 + number) (sym long) in
     let limit : c.last_of-limit.result ≡ last_of (members_of st.groups (group_of_augment labels number)) =
     c.last_of-limit.ensures ∙ ap last_of (c.members.ensures labels st is ∙ ap (members_of st.groups) group) in
     subst (λ (n : ℕ). IsLeast (Refused (rows_in c.args.self.now.rows.now) code.AugmentTarget (added_to labels st n c.args.spot.now.group it.path.items ≡ None) it.augment) c.missing-missing.result)

@@ -1,7 +1,12 @@
-use Rattle.std.proofs.Common.{◌≡◌, drop}
+use Rattle.std.proofs.Common.{◌≡◌, drop, length}
+use Rattle.yv_rows.specs.Lent.{rows_in}
 use Rattle.yv_augmented.specs.Spots.{laid, laid_from}
+use Rattle.yv_augmented.specs.InnerLayout.{AreNumbered}
 use Rattle.yv_augmented.specs.InnerPlan.{whole_in}
 use Rattle.yv_augmented.proofs.plan.Plan.lay.Given as goal
 
 abbrev pub invariant-loop-item : goal.invariant-loop-item
-invariant-loop-item l = laid_from (whole_in l.self) (drop l.item-index l.items) (record { spots = l.spots.items; copies = l.copies }) ≡ laid (whole_in l.self) l.items
+invariant-loop-item l = record {
+  laid : laid_from (whole_in l.self) (drop l.item-index l.items) (record { spots = l.spots.items; copies = length l.copies.items }) ≡ laid (whole_in l.self) l.items;
+  few : AreNumbered (rows_in l.self.rows.now) l.spots.items;
+}

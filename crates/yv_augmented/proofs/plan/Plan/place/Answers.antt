@@ -49,6 +49,18 @@ loop-left-init c =
           (missing_past w (laid_in c.args.layout.now) (get_or c.args.ends.now i 0) i past));
     }
 
+pub turns-requires-clause-few : goal.turns-requires-clause-few
+turns-requires-clause-few c =
+    let spots : List Spot = c.args.layout.now.spots.items in
+    let left : ℕ = c.loop-left.left in
+    let n : ℕ = left - 1 in
+    let inside : n < length spots = omega (arith, c.loop-left-test.true, c.loop-left.invariant.within) in
+    let s : Spot = c.index-spot.result.now in
+    let at : slice_get spots n ≡ Some s = slice_get-get_or spots n s inside ∙ ap Some (sym c.index-spot.ensures) in
+    let fit = (c.requires.laid.all n s at).copies in
+    let few = c.requires.few in
+    omega (arith, fit, few)
+
 pub loop-left-preserved : goal.loop-left-preserved
 loop-left-preserved c =
     let w : Whole = whole_in c.args.self.now in

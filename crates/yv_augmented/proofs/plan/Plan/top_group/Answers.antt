@@ -1,13 +1,13 @@
 use Rattle.std.proofs.Common.{◌≡◌, List, Some, None, sym, ◌∙◌, ap, arith}
 use Rattle.std.specs.List.{slice_get}
 use Rattle.std.proofs.lemmas.Option.{slice_get_within}
-use Rattle.std.proofs.lemmas.Result.{IfOk-weaker}
 use Rattle.yv_rows.specs.Rows.{Row, row}
 use Rattle.yv_rows.specs.Lent.{lent_in, rows_in}
 use Rattle.yv_rows.specs.declared.entries.Entry.{Entry}
 use Rattle.yv_augmented.specs.Giving.{place_of}
-use Rattle.yv_augmented.specs.Spots.{Whole, copy_group, top_by, top_group}
+use Rattle.yv_augmented.specs.Spots.{Whole, top_by, top_group}
 use Rattle.yv_augmented.specs.InnerPlan.{whole_in}
+use Rattle.yv_augmented.proofs.Counting.{place_within}
 use Rattle.yv_augmented.proofs.Reading.{row_read}
 use Rattle.yv_augmented.proofs.plan.Plan.top_group.Goals as goal
 
@@ -21,6 +21,13 @@ module_place-requires-clause-within c =
     let m = slice_get_within rows c.args.statement r at in
     omega (arith, l, m, same)
 
+pub copy_group-requires : goal.copy_group-requires
+copy_group-requires c =
+    let augments = c.args.self.now.augments.now in
+    let place = ap (λ (e : Entry). place_of augments e.scope) c.index-entries-statement.is ∙ sym c.module_place.ensures ∙ c.in-Some.is in
+    let l = place_within (row c.index-entries-statement.result).scope 0 augments c.in-Some.place place in
+    omega (arith, l)
+
 pub returns-in-Some : goal.returns-in-Some
 returns-in-Some c =
     let w : Whole = whole_in c.args.self.now in
@@ -29,8 +36,7 @@ returns-in-Some c =
     let at : slice_get rows c.args.statement ≡ Some r = row_read row _ rows c.args.statement c.index-entries-statement.result c.entries-entries.ensures c.if-statement-entries.false c.index-entries-statement.is in
     let place : place_of w.augments r.scope ≡ Some c.in-Some.place =
     ap (λ (e : Entry). place_of w.augments e.scope) c.index-entries-statement.is ∙ sym c.module_place.ensures ∙ c.in-Some.is in
-    let told : top_group w (slice_get rows c.args.statement) ≡ copy_group w c.in-Some.place = ap (top_group w) at ∙ ap (top_by w) place in
-    IfOk-weaker c.copy_group.result _ _ (λ g h. h ∙ sym told) c.copy_group.ensures
+    c.copy_group.ensures ∙ sym (ap (top_group w) at ∙ ap (top_by w) place)
 
 pub returns-in-None : goal.returns-in-None
 returns-in-None c =

@@ -17,7 +17,7 @@ use Rattle.yv_augmented.specs.Spots.{Whole, copies_of}
 use Rattle.yv_augmented.specs.Untargeted.{MissesInTurn, MissesOf, augments_in}
 use Rattle.yv_augmented.specs.declared.schedule.Stretch.{Stretch}
 use Rattle.yv_augmented.proofs.Following.{among_more, next_stretch, no_turns, none_refused, ready_first, stretch_ascends}
-use Rattle.yv_augmented.proofs.Turning.{after_all}
+use Rattle.yv_augmented.proofs.Turning.{after_all, number_most}
 use Rattle.yv_augmented.proofs.plan.Plan.turns.Goals as goal
 
 pub returns-then-not-has_augments-clause-state : goal.returns-then-not-has_augments-clause-state
@@ -28,6 +28,19 @@ returns-then-not-has_augments-clause-state c = λ labels st is long room.
 pub returns-then-not-has_augments-clause-missing : goal.returns-then-not-has_augments-clause-missing
 returns-then-not-has_augments-clause-missing c = λ labels st is long room.
     none_refused (whole_in c.args.self.now) labels c.args.spot.now c.args.end st (sym c.has_augments.ensures ∙ c.if-not-has_augments.true)
+
+pub follow-requires : goal.follow-requires
+follow-requires c =
+    let w : Whole = whole_in c.args.self.now in
+    let spot = c.args.spot.now in
+    let all : List ℕ = augments_in w.rows spot.statement in
+    let uses : is_uses spot.label.kind ≡ true =
+    (and_parts (is_uses spot.label.kind) (not (length all == 0)) (sym c.has_augments.ensures ∙ c.if-not-has_augments.false)).0 in
+    let count : copies_of w.rows spot ≡ length (giving w.rows spot.statement) = ap (λ (b : Bool). if b then length (giving w.rows spot.statement) else 0) uses in
+    let most = number_most w.rows spot c.loop-stretch.invariant.at in
+    let is = c.loop-stretch.invariant.number in
+    let few = c.requires.few in
+    omega (arith, count, most, is, few)
 
 pub loop-stretch-init : goal.loop-stretch-init
 loop-stretch-init c =
@@ -40,6 +53,7 @@ loop-stretch-init c =
     record {
       at = 0;
       left = subst (AreStretches w spot.statement spot.home 0 (length all)) (sym c.stretches-stretch-items.ensures) c.in_ok-prepare.ensures.ready;
+      number = omega arith;
       each = λ labels st is long room. (
         ready_first w labels spot st c.args.grafting.now is long (omega (arith, room, count)),
         least_start all (MissesInTurn w labels spot c.args.end st),
@@ -60,6 +74,7 @@ loop-stretch-preserved c =
     record {
       at = step.0;
       left = step.2;
+      number = c.in_ok-followed.ensures.number at step.0 step.1 c.loop-stretch.invariant.number;
       each = λ labels st is long room. (
           let before = c.loop-stretch.invariant.each labels st is long room in (
             c.in_ok-followed.ensures.ready labels st at step.0 before.0 step.1,

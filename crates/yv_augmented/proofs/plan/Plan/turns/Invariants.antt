@@ -7,7 +7,7 @@ use Rattle.yv_augments.specs.InnerState.{IsGrafting}
 use Rattle.yv_augmented.specs.InnerPlan.{whole_in}
 use Rattle.yv_augmented.specs.InnerSchedule.{AreStretches, IsReady}
 use Rattle.yv_augmented.specs.Spots.{copies_of}
-use Rattle.yv_augmented.specs.Untargeted.{MissesInTurn, augments_in}
+use Rattle.yv_augmented.specs.Untargeted.{MissesInTurn, augments_in, next_number}
 use Rattle.yv_augmented.proofs.plan.Plan.turns.Given as goal
 
 abbrev pub invariant-loop-stretch : goal.invariant-loop-stretch
@@ -15,7 +15,8 @@ invariant-loop-stretch l = record {
   at : ℕ;
   left : AreStretches (whole_in l.self) l.spot.statement l.spot.home at (length (augments_in (rows_in l.self.rows.now) l.spot.statement))
       (drop l.stretch-index l.stretch-items);
-  each : (labels : List Label) (st : State) → IsGrafting labels st l.fn.grafting → length labels ≡ l.self.items
+  number : l.number ≡ next_number (rows_in l.self.rows.now) l.spot at;
+  each : (labels : List Label) (st : State) → IsGrafting labels st l.fn.grafting → length labels ≡ length l.self.items.now
       → l.spot.first + copies_of (rows_in l.self.rows.now) l.spot ≤ length st.ends
       → IsReady (whole_in l.self) labels l.spot st at l.number l.grafting
       × IsLeast (Among (augments_in (rows_in l.self.rows.now) l.spot.statement) (MissesInTurn (whole_in l.self) labels l.spot l.end st) at) l.least;

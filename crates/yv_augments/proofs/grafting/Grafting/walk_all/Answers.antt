@@ -25,7 +25,7 @@ returns c = λ labels st all is tree.
     let closed : AreClosed labels st.groups c.args.limit all c.args.start found = elim c.loop-test.branch [
       | else-loop-test w ↦
           closed_deepest labels st.groups c.args.limit all c.args.start c.loop.counter c.loop.followed found deep
-          (λ path steps at. let most = c.deepest-end.ensures all path steps tree at in let t = w.loop-test.false in omega (arith, most, t))
+          (λ path steps at. let most = c.deepest-end.ensures.most all path steps tree at in let t = w.loop-test.false in omega (arith, most, t))
       | then-loop-test+then-followed-len w ↦
           closed_all labels st.groups c.args.limit all c.args.start c.loop.counter c.loop.followed found deep
           (let same = w.if-followed-len.true in let n = w.len.ensures in omega (arith, same, n))

@@ -6,11 +6,13 @@ use Rattle.yv_augments.proofs.group.Group.add.Goals as goal
 
 pub returns-clause-state : goal.returns-clause-state
 returns-clause-state c = λ members old. record {
-  members_are = c.in_ok-push.ensures.items ∙ ap (λ v. v.items ++ c.args.item ∷ []) c.note.ensures.members ∙ ap (λ l. l ++ c.args.item ∷ []) old.members_are;
+  members_are =
+      c.in_ok-push.ensures.items ∙ ap (λ v. v.items ++ c.args.item ∷ []) c.note.ensures.members
+      ∙ ap (λ l. l ++ c.args.item ∷ []) (c.reserve.ensures.items ∙ old.members_are);
   named = λ n. c.in_ok-displaced.ensures.named n ∙ first_more c.args.labels.now members c.args.item n (first_in c.args.self.now) (old.named n);
   descend = λ is.
       let kept : List ℕ = c.args.self.now.members.items in
-      let before : c.note.new.self.members.items ≡ kept = ap (λ v. v.items) c.note.ensures.members in
+      let before : c.note.new.self.members.items ≡ kept = ap (λ v. v.items) c.note.ensures.members ∙ c.reserve.ensures.items in
       let was : Descend members = old.descend (sym c.note.ensures.descending ∙ c.descends_to-self.ensures.so_far is) in
       let below : IsBelowLast members c.args.item =
       subst (λ (ms : List ℕ). IsBelowLast ms c.args.item) (before ∙ old.members_are) (c.descends_to-self.ensures.last is) in

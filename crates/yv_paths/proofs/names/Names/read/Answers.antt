@@ -1,11 +1,10 @@
 use Rattle.std.proofs.Common.{◌≡◌, ◌++◌, ◌∷◌, [], ◌+◌, ℕ, List, codes, length, sym, ◌∙◌, ap, arith, append_assoc}
 use Rattle.std.proofs.lemmas.List.{length-map, length_push}
-use Rattle.yv_rows.specs.Rows.{Row, row}
+use Rattle.yv_rows.specs.Rows.{Row}
 use Rattle.yv_rows.specs.Lent.{rows_in}
 use Rattle.yv_paths.specs.Names.{node_name, own_names, place_of}
 use Rattle.yv_paths.specs.InnerNames.{table_of}
 use Rattle.yv_paths.proofs.Placing.{place_front}
-use Rattle.yv_paths.proofs.Reading.{rows_count}
 use Rattle.yv_paths.proofs.Keeping.{told_more, numbers_behind}
 use Rattle.yv_paths.proofs.names.Names.read.Goals as goal
 
@@ -15,8 +14,8 @@ returns-clause-names c =
     let names : List (List ℕ) = own_names rows in
     let input : List ℕ = codes "input" in
     let output : List ℕ = codes "output" in
-    let count : ℕ = length c.entries-count.result.now in
-    let long : count ≡ length names = rows_count row c.entries-count.result.now rows c.entries-count.ensures ∙ sym (length-map rows (λ r. node_name r.head)) in
+    let count : ℕ = c.len-count.result in
+    let long : count ≡ length names = c.len-count.ensures.count ∙ sym (length-map rows (λ r. node_name r.head)) in
     let longer : count + 1 ≡ length (names ++ input ∷ []) = omega (arith, long, length_push names input) in
     let with_input : (n : List ℕ) → table_of c.keep.new.self n ≡ place_of (names ++ input ∷ []) n =
     told_more names input count (table_of c.numbers.new.table) (table_of c.keep.new.self) long c.in_ok-numbers.ensures.told c.in_ok-input.ensures.told in

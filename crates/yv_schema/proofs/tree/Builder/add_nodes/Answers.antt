@@ -1,12 +1,15 @@
-use Rattle.std.proofs.Common.{◌≡◌, ◌+◌, arith, length, length-append, ◌∷◌, List, [], refl, sym, ap, ◌∙◌, ◌++◌, subst, append-nil, None, get_or}
+use Rattle.std.proofs.Common.{◌≡◌, ℕ, ◌+◌, ◌<◌, ◌≤◌, arith, length, length-append, ◌∷◌, List, [], refl, sym, ap, ◌∙◌, ◌++◌, subst, append-nil, None, get_or}
+use Rattle.std.specs.List.{All}
 use Rattle.std.proofs.lemmas.List.{at_drop_all}
+use Rattle.std.proofs.lemmas.Option.{slice_get-get_or}
 use Rattle.yv_children.specs.Families.{lists_of}
 use Rattle.yv_expansion.specs.Tree.{Node}
 use Rattle.yv_nodes.specs.declared.node.NodeId.{NodeId}
-use Rattle.yv_nodes.specs.Rows.{Row}
+use Rattle.yv_nodes.specs.Rows.{Row, rank}
 use Rattle.yv_above.specs.Above.{Seen, seen_of}
-use Rattle.yv_schema.specs.InnerRowing.{AreSeen, line_at, line_of, numbers_at, parent_of, row_of, rows_for}
-use Rattle.yv_schema.proofs.Rowing.{kept_more}
+use Rattle.yv_schema.specs.InnerRowing.{AreSeen, IsWithin, line_at, line_of, numbers_at, parent_of, row_of, rows_for}
+use Rattle.yv_schema.proofs.Numbering.{rank_within}
+use Rattle.yv_schema.proofs.Rowing.{kept_more, within_more}
 use Rattle.yv_schema.proofs.tree.Builder.add_nodes.Goals as goal
 
 pub loop-place-init : goal.loop-place-init
@@ -15,6 +18,25 @@ loop-place-init c = record {
   limit = refl;
   grown = omega arith;
 }
+
+pub parent_of-parent-requires : goal.parent_of-parent-requires
+parent_of-parent-requires c =
+    let blank : Node = record { origin = 0; parent = None } in
+    let x : Node = get_or c.args.items.now c.loop-place.place blank in
+    within_more x.parent c.loop-place.place 4294967296 (omega (arith, c.loop-place-test.true, c.requires.few))
+    (c.requires.parents c.loop-place.place x (slice_get-get_or c.args.items.now c.loop-place.place blank c.loop-place-test.true))
+
+pub numbers_at-requires : goal.numbers_at-requires
+numbers_at-requires c = subst (λ (ps : List ℕ). All (λ (p : ℕ). p < 4294967296) ps) (sym c.places_at.ensures) (c.requires.children c.loop-place.place)
+
+pub push-requires-in-loop-place-clause-parent : goal.push-requires-in-loop-place-clause-parent
+push-requires-in-loop-place-clause-parent c =
+    let blank : Node = record { origin = 0; parent = None } in
+    let place : ℕ = c.loop-place.place in
+    let x : Node = get_or c.args.items.now place blank in
+    let within : IsWithin x.parent place = c.requires.parents place x (slice_get-get_or c.args.items.now place blank c.loop-place-test.true) in
+    subst (λ (p : NodeId). rank p ≤ length c.loop-place.nodes.rows) (sym (c.in_ok-made.ensures.parent ∙ c.parent_of-parent.ensures))
+    (rank_within x.parent place (length c.loop-place.nodes.rows) within (omega (arith, c.loop-place.invariant.grown)))
 
 pub loop-place-preserved : goal.loop-place-preserved
 loop-place-preserved c = record {
@@ -25,10 +47,10 @@ loop-place-preserved c = record {
       let x : Node = get_or c.args.items.now i blank in
       let k = c.loop-place.invariant.kept b tells homes in
       let above = line_at k.lines x.parent in
-      let are : c.in_ok-children.children.items ≡ numbers_at (get_or below i []) = c.in_ok-children.ensures.numbers ∙ ap numbers_at c.places_at.ensures in
+      let are : c.in_ok-children.children.items ≡ numbers_at (get_or below i []) = c.in_ok-children.ensures ∙ ap numbers_at c.places_at.ensures in
       let seen : c.above_at-above.result.now ≡ seen_of above = c.above_at-above.ensures k.lines c.top-top.ensures (subst (λ (seen : List Seen). AreSeen k.lines seen) (sym c.deref.ensures.value) k.are) in
       let made : c.in_ok-made.made.node ≡ row_of b above x (parent_of x.parent) (numbers_at (get_or below i [])) =
-      c.in_ok-made.ensures.node b above tells homes seen ∙ ap (λ (p : NodeId). row_of b above x p c.in_ok-children.children.items) c.in_ok-parent.ensures.number
+      c.in_ok-made.ensures.node b above tells homes seen ∙ ap (λ (p : NodeId). row_of b above x p c.in_ok-children.children.items) c.parent_of-parent.ensures
       ∙ ap (row_of b above x (parent_of x.parent)) are in
       let told : c.in_ok-made.made.above_others ≡ seen_of (line_of b k.lines x) = c.in_ok-made.ensures.above b above tells homes seen in
       kept_more b below c.loop-place.aboves.items c.push.new.self.items c.in_ok-made.made.above_others i c.args.items.now blank c.loop-place.nodes.rows c.push-in-loop-place.new.self.rows c.args.nodes.now.rows

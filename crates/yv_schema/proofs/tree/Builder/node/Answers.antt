@@ -2,6 +2,7 @@ use Rattle.std.proofs.Common.{◌≡◌, ◌∙◌, List, ℕ, ap}
 use Rattle.std.specs.Rc.{rc_str_bytes}
 use Rattle.yv_above.specs.Labels.{label_of}
 use Rattle.yv_properties.specs.Defined.{Defined}
+use Rattle.yv_nodes.specs.Rows.{Row}
 use Rattle.yv_schema.specs.Module.{home_name, home_of, label_at}
 use Rattle.yv_schema.proofs.Rowing.{row_is, seen_below}
 use Rattle.yv_schema.proofs.tree.Builder.node.Goals as goal
@@ -18,6 +19,9 @@ returns-clause-node c = λ b ls tells homes seen.
     ∙ ap (λ (d : Defined). label_of d (home_of b c.args.item.now.origin) (home_name b.files (home_of b c.args.item.now.origin)) ls) (c.in_ok-definition.ensures b tells) in
     c.new.ensures
     ∙ row_is b ls c.args.item.now c.args.parent c.args.children.items d home name c.in_ok-standing.standing is (c.in_ok-standing.ensures ls seen name c.args.parent c.args.children.items)
+
+pub returns-clause-parent : goal.returns-clause-parent
+returns-clause-parent c = ap (λ (r : Row). r.parent) c.new.ensures
 
 pub returns-clause-above : goal.returns-clause-above
 returns-clause-above c = λ b ls tells homes seen.

@@ -13,7 +13,7 @@ pub of-requires : goal.of-requires
 of-requires c =
     let nodes = c.args.nodes in
     let are = c.requires.numbered in
-    let bounded : length nodes.rows ≤ nodes.limit = subst (λ (v : Bounded). length v.rows ≤ v.limit) c.nodes.view_is c.nodes.invariant in
+    let bounded : length nodes.rows ≤ nodes.limit = subst (λ (v : Bounded). length v.rows ≤ v.limit) c.nodes.view_is c.nodes.invariant.0 in
     let built = built_of nodes.limit c.args.modules.items nodes.rows c.args.top.items c.args.links are.trees c.requires.modules are (omega (arith, bounded)) bounded are.rows are.top_is in
     record { names = rw c.deref-2.ensures.value c.in_ok-named.ensures.numbers; trees = rw c.deref-3.ensures.value (built_top nodes.limit c.args.modules.items are.trees nodes.rows c.args.top.items built) }
 
@@ -21,7 +21,7 @@ pub node_tables-requires : goal.node_tables-requires
 node_tables-requires c =
     let nodes = c.args.nodes in
     let are = c.requires.numbered in
-    let bounded : length nodes.rows ≤ nodes.limit = subst (λ (v : Bounded). length v.rows ≤ v.limit) c.nodes.view_is c.nodes.invariant in
+    let bounded : length nodes.rows ≤ nodes.limit = subst (λ (v : Bounded). length v.rows ≤ v.limit) c.nodes.view_is c.nodes.invariant.0 in
     let built = built_of nodes.limit c.args.modules.items nodes.rows c.args.top.items c.args.links are.trees c.requires.modules are (omega (arith, bounded)) bounded are.rows are.top_is in
     record { names = rw c.deref-4.ensures.value c.in_ok-named.ensures.numbers; trees = built_rows nodes.limit c.args.modules.items are.trees nodes.rows c.args.top.items built }
 
@@ -32,7 +32,7 @@ invariant_of-result c =
     let modules = c.args.modules.items in
     let top = c.args.top.items in
     let are = c.requires.numbered in
-    let bounded : length nodes.rows ≤ nodes.limit = subst (λ (v : Bounded). length v.rows ≤ v.limit) c.nodes.view_is c.nodes.invariant in
+    let bounded : length nodes.rows ≤ nodes.limit = subst (λ (v : Bounded). length v.rows ≤ v.limit) c.nodes.view_is c.nodes.invariant.0 in
     let built = built_of nodes.limit modules nodes.rows top c.args.links are.trees c.requires.modules are (omega (arith, bounded)) bounded are.rows are.top_is in
     let none = both_none c.lesser-doubled.result c.in_ok-found.found.fault None c.in-None.ensures refl in
     let first = rw c.deref-3.ensures.value at c.in_ok-at_top.ensures.doubled in
@@ -52,7 +52,7 @@ returns-in-Some-clause-refusal c = λ ts rows top_is.
     let nodes = c.args.nodes in
     let modules = c.args.modules.items in
     let top = c.args.top.items in
-    let bounded : length nodes.rows ≤ nodes.limit = subst (λ (v : Bounded). length v.rows ≤ v.limit) c.nodes.view_is c.nodes.invariant in
+    let bounded : length nodes.rows ≤ nodes.limit = subst (λ (v : Bounded). length v.rows ≤ v.limit) c.nodes.view_is c.nodes.invariant.0 in
     let built = built_of nodes.limit modules nodes.rows top c.args.links ts c.requires.modules c.requires.numbered (omega (arith, bounded)) bounded rows top_is in
     let first = rw c.deref-3.ensures.value at c.in_ok-at_top.ensures.doubled in
     let found : IsLeast (BadRows ts) (Some c.in-Some.refusal) =
@@ -65,7 +65,7 @@ returns-in-None-clause-schema c = λ ts rows top_is.
     let nodes = c.args.nodes in
     let modules = c.args.modules.items in
     let top = c.args.top.items in
-    let bounded : length nodes.rows ≤ nodes.limit = subst (λ (v : Bounded). length v.rows ≤ v.limit) c.nodes.view_is c.nodes.invariant in
+    let bounded : length nodes.rows ≤ nodes.limit = subst (λ (v : Bounded). length v.rows ≤ v.limit) c.nodes.view_is c.nodes.invariant.0 in
     let built = built_of nodes.limit modules nodes.rows top c.args.links ts c.requires.modules c.requires.numbered (omega (arith, bounded)) bounded rows top_is in
     whole_made nodes.limit modules ts nodes.rows top built c.args.notes.items c.args.links
 
@@ -74,7 +74,7 @@ returns-in-None-clause-clear c = λ ts rows top_is.
     let nodes = c.args.nodes in
     let modules = c.args.modules.items in
     let top = c.args.top.items in
-    let bounded : length nodes.rows ≤ nodes.limit = subst (λ (v : Bounded). length v.rows ≤ v.limit) c.nodes.view_is c.nodes.invariant in
+    let bounded : length nodes.rows ≤ nodes.limit = subst (λ (v : Bounded). length v.rows ≤ v.limit) c.nodes.view_is c.nodes.invariant.0 in
     let built = built_of nodes.limit modules nodes.rows top c.args.links ts c.requires.modules c.requires.numbered (omega (arith, bounded)) bounded rows top_is in
     let first = rw c.deref-3.ensures.value at c.in_ok-at_top.ensures.doubled in
     built_bad nodes.limit modules ts nodes.rows top built c.in_ok-at_top.at_top.doubled c.in_ok-below.below.doubled c.lesser-doubled.result c.in_ok-found.found.fault None c.lesser-doubled.ensures c.in-None.ensures
