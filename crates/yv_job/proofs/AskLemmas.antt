@@ -6,10 +6,12 @@ use Rattle.std.proofs.lemmas.List.Elements.{recursion_from_All}
 use Rattle.std.proofs.lemmas.List.Splits.{slice_split_at}
 use Rattle.std.proofs.Math.Dec.{eqb}
 use Rattle.clap.specs.Words.{Text, Row, subcommand_of}
-use Rattle.yv_job.specs.Asks.{IsAsked, IsLimit, IsSupportFor, IsImportsFor, IsChoice, IsFiles, Asks, AsksIn, WordsAsk}
+use Rattle.yv_job.specs.Asks.{IsAsked, IsLimit, IsSupportFor, IsImportsFor, IsKindFor, IsChoice, IsFiles, Asks, AsksIn, WordsAsk}
 use Rattle.yv_job.specs.CommandLine.{yangcheck_app}
 use Rattle.yv_job.specs.Jobs.{Task, Asked, Compiles, Draws, Checks}
 use Rattle.yv_selection.specs.Choice.{Choice, Entry}
+use Rattle.yv_selection.specs.declared.kind.Kind.{Kind}
+use Rattle.yv_selection.specs.declared.kind.Kind.TheVariants.{All, ConfigOnly}
 use Rattle.yv_job.specs.Names.{JoinsNames, IsNames, IsIdentifier, HasIdentifiers, entry_text}
 use Rattle.yv_job.proofs.NameLemmas.{free_name, split_names, split_entries}
 
@@ -30,6 +32,13 @@ same_files rows fs gs h i = let e : Some fs ≡ Some gs = sym h.given ∙ i.give
 same_limit : (t : Option Text) (m n : ℕ) → IsLimit t m → IsLimit t n → m ≡ n
 same_limit None m n h i = h ∙ sym i
 same_limit (Some t) m n h i = sym h.0.1 ∙ i.0.1
+
+same_kind : (t : Option Text) (k l : Kind) → IsKindFor t k → IsKindFor t l → k ≡ l
+same_kind None k l h i = h ∙ sym i
+same_kind (Some t) All All h i = refl
+same_kind (Some t) All ConfigOnly h i = let e : codes "data" ≡ codes "config" = sym h ∙ i in cc
+same_kind (Some t) ConfigOnly All h i = let e : codes "config" ≡ codes "data" = sym h ∙ i in cc
+same_kind (Some t) ConfigOnly ConfigOnly h i = refl
 
 same_imports : (t : Option Text) (ms ns : List Text) → IsImportsFor t ms → IsImportsFor t ns → ms ≡ ns
 same_imports None ms ns h i = h ∙ sym i
@@ -96,8 +105,10 @@ same_task name rows t u h i =
     let files = same_files rows t.files u.files h.files i.files in
     let limit = same_limit _ t.limit u.limit h.limit i.limit in
     let choice = same_choice rows t.choice u.choice h.choice i.choice in
-    ap₂ (λ (a : Asked) (fs : List (List ℕ)). record { asked = a; files = fs; limit = t.limit; choice = t.choice }) asked files
-    ∙ ap₂ (λ (n : ℕ) (c : Choice). record { asked = u.asked; files = u.files; limit = n; choice = c }) limit choice
+    let kind = same_kind _ t.kind u.kind h.kind i.kind in
+    ap₂ (λ (a : Asked) (fs : List (List ℕ)). record { asked = a; files = fs; limit = t.limit; choice = t.choice; kind = t.kind }) asked files
+    ∙ ap₂ (λ (n : ℕ) (c : Choice). record { asked = u.asked; files = u.files; limit = n; choice = c; kind = t.kind }) limit choice
+    ∙ ap (λ (k : Kind). record { asked = u.asked; files = u.files; limit = u.limit; choice = u.choice; kind = k }) kind
 
 same_in : (found : Option (Text × List Row)) (t u : Task) → AsksIn found t → AsksIn found u → t ≡ u
 same_in None t u h i = absurd h

@@ -4,6 +4,8 @@ use Rattle.std.specs.Str.Parse.{IsNumeral, digits_value}
 use Rattle.clap.specs.Words.{Text, Row, all_of, first_of, fault_of, subcommand_of}
 use Rattle.yv_job.specs.Jobs.{Task, Asked, Compiles, Draws, Checks}
 use Rattle.yv_selection.specs.Choice.{Choice, Entry}
+use Rattle.yv_selection.specs.declared.kind.Kind.{Kind}
+use Rattle.yv_selection.specs.declared.kind.Kind.TheVariants.{All, ConfigOnly}
 use Rattle.yv_job.specs.CommandLine.{yangcheck_app}
 use Rattle.yv_job.specs.Names.{IsNames, IsSupport}
 
@@ -32,6 +34,16 @@ abbrev pub IsImportsFor : Option Text → List Text → Type 0
 IsImportsFor None ns = ns ≡ []
 IsImportsFor (Some t) ns = IsNames t ns
 
+-- what a command line calls a kind
+abbrev pub kind_word : Kind → Text
+kind_word All = codes "data"
+kind_word ConfigOnly = codes "config"
+
+-- the text is a kind's word, and the kind is all data where none was named
+abbrev pub IsKindFor : Option Text → Kind → Type 0
+IsKindFor None k = k ≡ All
+IsKindFor (Some t) k = t ≡ kind_word k
+
 -- the choice is that of `--support` and `--import-only`
 pub record IsChoice (rows : List Row) (c : Choice) : Type 0 where
   pub support : IsSupportFor (first_of (codes "support") rows) c.support
@@ -49,6 +61,7 @@ pub record Asks (name : Text) (rows : List Row) (t : Task) : Type 0 where
   pub files : IsFiles rows t.files
   pub limit : IsLimit (first_of (codes "max-nodes") rows) t.limit
   pub choice : IsChoice rows t.choice
+  pub kind : IsKindFor (first_of (codes "kind") rows) t.kind
 
 -- the same of a command that may not be there
 abbrev pub AsksIn : Option (Text × List Row) → Task → Type 0

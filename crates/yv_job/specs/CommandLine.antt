@@ -36,9 +36,11 @@ compile_app = with_shared (new_app (codes "compile"))
 abbrev pub tree_app : App
 tree_app = with_shared (with_rule (new_app (codes "tree")) (required_rule (codes "module")))
 
--- `validate --data F`
+-- `validate --data F`, with `--kind K`
 abbrev pub validate_app : App
-validate_app = with_shared (with_rule (new_app (codes "validate")) (required_rule (codes "data")))
+validate_app =
+    let checking = with_rule (new_app (codes "validate")) (required_rule (codes "data")) in
+    with_shared (with_rule checking (option_rule (codes "kind")))
 
 -- a command that has a version, and wants one of its subcommands
 abbrev pub top_app : Text → App

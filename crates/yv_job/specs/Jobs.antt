@@ -4,6 +4,7 @@ use Rattle.yv_job.specs.declared.job.Job.{Job}
 use Rattle.yv_job.specs.declared.job.Command.{Command}
 use Rattle.yv_job.specs.declared.job.Command.TheVariants.{Compile, Tree, Validate}
 use Rattle.yv_selection.specs.Choice.{Choice, choice_of}
+use Rattle.yv_selection.specs.declared.kind.Kind.{Kind}
 
 -- a command: it compiles, or it draws the tree of a module, or it checks the document of a file
 pub data Asked : Type 0 where
@@ -17,6 +18,7 @@ pub record Task : Type 0 where
   pub files : List (List ℕ)
   pub limit : ℕ
   pub choice : Choice
+  pub kind : Kind
 
 abbrev pub asked_of : Command → Asked
 asked_of Compile = Compiles
@@ -29,6 +31,7 @@ task_of j = record {
   files = map string_bytes j.files.items;
   limit = j.limit;
   choice = choice_of j.selection;
+  kind = j.kind;
 }
 
 -- a job has 1 to 256 files

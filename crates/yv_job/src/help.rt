@@ -75,8 +75,10 @@ Validates a JSON document (RFC 7951) against YANG 1.1 modules (RFC 7950).
 
 The modules are compiled first. If they are invalid, one line, FILE:LINE: NAME,
 reports the first error, and the document is not read. Otherwise each fault has
-one line, KIND PATH, and the last line is `valid` or `faults: N`. Every module or
-submodule that a module imports or includes must be among the files.";
+one line, KIND PATH, and the last line is `valid` or `faults: N`. With --kind config
+the document is checked as configuration alone: state data that is written is a
+fault, and none is required. Every module or submodule that a module imports or
+includes must be among the files.";
 
 pub const VALIDATE_CLOSING: &str = "\
 Example:
@@ -89,6 +91,9 @@ Exit status:
   3  out of memory, pattern not built, cannot read, or cannot write";
 
 pub const DATA: &str = "The JSON document, or - for standard input";
+
+pub const KIND: &str = "\
+What the document holds: data (configuration and state) or config (configuration alone) [default: data]";
 
 pub const FILE: &str = "The files of the YANG modules and submodules (at most 256)";
 

@@ -2,7 +2,7 @@
 
 use std::alloc::AllocError;
 use thiserror::Error;
-use yv_selection::Selection;
+use yv_selection::{Kind, Selection};
 
 /// What is to be done with the modules.
 #[derive(Debug, Drop)]
@@ -24,6 +24,8 @@ pub struct Job {
     /// The most schema nodes that the modules may expand to.
     pub limit: u32,
     pub selection: Selection,
+    /// What a document is checked as. It is all data for a job that checks none.
+    pub kind: Kind,
 }
 
 /// Why there is no job, with the text to print. Each text ends with a line feed.

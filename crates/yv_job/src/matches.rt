@@ -8,7 +8,7 @@ ghost use Rattle.yv_job.specs.Matched.{AsksForNothing};
 
 use crate::job::{Command, Job};
 use crate::names::copied;
-use crate::options::{imports_for, limit_of, support_for};
+use crate::options::{imports_for, kind_for, limit_of, support_for};
 use clap::ArgMatches;
 use std::alloc::{AllocError, Global};
 use yv_selection::Selection;
@@ -100,6 +100,9 @@ fn job_for(alloc: Global, name: &str, below: &ArgMatches<'_>) -> Result<Option<J
     let Some(limit) = limit_of(first(below, "max-nodes")) else {
         return Ok(None);
     };
+    let Some(kind) = kind_for(first(below, "kind")) else {
+        return Ok(None);
+    };
     let Some(command) = command_of(alloc, name, below)? else {
         return Ok(None);
     };
@@ -114,6 +117,7 @@ fn job_for(alloc: Global, name: &str, below: &ArgMatches<'_>) -> Result<Option<J
         files,
         limit,
         selection,
+        kind,
     }))
 }
 

@@ -1,14 +1,18 @@
 //! The values of the options that all commands share.
 ghost use Rattle.std.specs.Prelude.{◌≡◌, ◌≤◌, ◌==◌, ℕ, List, slice_index, IfSome, IfOk, MatchOption, map, option_map, string_bytes};
-ghost use Rattle.yv_job.specs.Asks.{IsDecimal, IsLimit, IsSupportFor, IsImportsFor};
+ghost use Rattle.yv_job.specs.Asks.{IsDecimal, IsLimit, IsSupportFor, IsImportsFor, IsKindFor};
 ghost use Rattle.yv_selection.specs.Choice.{Entry, entry_of};
+ghost use Rattle.yv_selection.specs.declared.kind.Kind.{Kind as TheKind};
 
 use crate::names::{names_of, support_of};
 use std::alloc::{AllocError, Global};
+use yv_selection::Kind;
 
 const MOST_NODES: u32 = 1_000_000;
 
 const USUAL_NODES: u32 = 100_000;
+
+const USUAL_KIND: Kind = Kind::All;
 
 fn has_plus(text: &str) -> bool
     ensures { result ≡ (slice_index text.now 0 == 43) }
@@ -70,4 +74,21 @@ pub fn imports_for(alloc: Global, value: Option<&str>) -> Result<Option<Vec<Stri
         None => Ok(Some(Vec::new(alloc))),
         Some(text) => names_of(alloc, text),
     }
+}
+
+/// What the value of `--kind` asks for: all data where there is none.
+pub fn kind_for(value: Option<&str>) -> Option<Kind>
+    ensures { let text = option_map (λ t. t.now) value.entry in
+        MatchOption result ((k : TheKind) → IsKindFor text k → ⊥) (IsKindFor text) }
+{
+    let Some(text) = value else {
+        return Some(USUAL_KIND);
+    };
+    if text == "data" {
+        return Some(Kind::All);
+    }
+    if text == "config" {
+        return Some(Kind::ConfigOnly);
+    }
+    None
 }

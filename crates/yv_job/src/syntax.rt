@@ -135,8 +135,10 @@ fn validate<'a>(alloc: Global) -> Result<Command<'a>, AllocError>
         help::VALIDATE_CLOSING,
     );
     let data = required(alloc, "data", "F", help::DATA);
+    let kind = option(alloc, "kind", "K", help::KIND);
     let checking = with_arg(command, data)?;
-    shared(alloc, checking)
+    let asking = with_arg(checking, kind)?;
+    shared(alloc, asking)
 }
 
 // The program with none of its commands.

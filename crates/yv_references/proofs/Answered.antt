@@ -1,311 +1,352 @@
--- The answers of the index are what a search afresh finds.
-use Rattle.std.proofs.Common.{◌≡◌, ℕ, zero, suc, ◌+◌, ◌-◌, ◌==◌, ◌<◌, ◌≤◌, List, [], ◌∷◌, ◌++◌, slice_index_or, Bool, true, false, Option, Some, None, refl, sym, ap, subst, ◌∙◌, arith}
-use Rattle.std.proofs.lemmas.Bool.Decides.{nat_tests}
-use Rattle.serde_json.specs.Data.{Data, null, boolean, number, string, array, object, Items, no_items, item, Members}
-use Rattle.serde_json.specs.Find.{get_member}
-use Rattle.yv_properties.specs.declared.kind.NodeKind.{NodeKind}
-use Rattle.yv_properties.specs.declared.kind.NodeKind.TheVariants as kind
+-- What an index answers is what is read off the list of all that is met.
+use Rattle.std.proofs.Common.{◌≡◌, ℕ, zero, suc, ◌+◌, ◌-◌, ◌==◌, ◌<◌, ◌≤◌, inl, inr, List, [], ◌∷◌, ◌++◌, length, map, slice_index_or, Bool, true, false, ◌&&◌, ◌||◌, nat_le, Option, Some, None, cond, refl, sym, ap, subst, ◌∙◌, append-nil, append_assoc, arith}
+use Rattle.std.proofs.lemmas.Bool.Decides.{nat_tests, Decides-eqb}
+use Rattle.std.proofs.lemmas.Grind.{flat_map-append}
+use Rattle.std.proofs.lemmas.List.Sums.{sum_by-cons}
+use Rattle.std.specs.List.{AllByRecursion, filter, flat_map}
+use Rattle.serde_json.specs.Data.{Data, null, boolean, number, string, array, object, Members}
+use Rattle.yv_selection.specs.declared.kind.Kind.{Kind}
 use Rattle.yv_values.specs.Values.{Val}
-use Rattle.yv_nodes.specs.Numbers.{rows_from}
+use Rattle.yv_nodes.specs.Link.{climbed, Link}
 use Rattle.yv_nodes.specs.Rows.{Rows, row_at, whole}
-use Rattle.yv_nodes.specs.Tree.{count, Label, node, Tree, Forest, no_trees, tree}
-use Rattle.yv_references.specs.declared.scope.Scope.{Scope}
+use Rattle.yv_nodes.specs.Tree.{Forest, Label}
+use Rattle.yv_nodes.specs.declared.node.NodeId.{NodeId}
 use Rattle.yv_references.specs.declared.scope.Scope.TheVariants.{Always}
-use Rattle.yv_references.specs.InUse.{case_scope, value_of}
-use Rattle.yv_nodes.specs.Link.{AreLinked, AreLinkedBelow, climbed, Ground, IsLinked, KindLinked, Leads, Link}
-use Rattle.yv_references.specs.Place.{Place, step_name, under}
-use Rattle.yv_references.specs.Reached.{is_among}
-use Rattle.yv_references.specs.References.{all_references, entries_references, found_from, item_references, kind_references, leaf_references, Level, listed_references, object_references, references, told_unless, top_level, value_references}
-use Rattle.yv_references.specs.Positions.{entered, entries_entered, entries_kept, entry_entered, entry_kept, is_within, Kept, kept, kind_entered, kind_kept, tree_entered}
-use Rattle.yv_references.specs.Notes.{all_positions, AreTargets, climbed_to, entries_notes, entries_positions, entry_notes, entry_positions, further_out, item_notes, judge, judged, kind_notes, kind_positions, leaf_notes, listed_notes, Noted, notes, object_positions, path_of, path_to, place_at, Position, position_at, positions, value_notes}
-use Rattle.yv_references.proofs.Paths.{reached}
-use Rattle.yv_references.proofs.Near.{Agree, agree_first, agree_rest, all_in, entries_near, entry_near, near, tree_near, within_in}
-use Rattle.yv_references.proofs.Ends.{entry_length, positions_length, Reads, reads_first, reads_rest, reads_self, tree_length}
-use Rattle.yv_references.proofs.Rowed.{all_rows, AreRows}
+use Rattle.yv_references.specs.InUse.{value_of}
+use Rattle.yv_references.specs.InnerAnswers.{AreTargets, climbed_to, further_out, is_it, is_within, judge, judged, path_of, path_to, place_at}
+use Rattle.yv_references.specs.Place.{Place, step_name}
+use Rattle.yv_references.specs.Same.{same_value}
+use Rattle.yv_references.specs.Meetings.{all_met, at, entered, entered_at, is_entered, Meeting, meetings, stand, written, ending, met, Spot, Stand, top, Written}
+use Rattle.yv_references.specs.Values.{Valued, values_in}
+use Rattle.yv_references.specs.Findings.{first_of, Kept, kept_if, kept_in, kept_of, Noted, notes_at, notes_in, Position, position_at, position_of, positions_at, positions_in, value_notes}
+use Rattle.yv_references.specs.References.{is_among, is_in, is_reached, number_of, path_unless, reached, references_at, references_by}
+use Rattle.yv_references.proofs.Placed.{all_first, all_rest, all_weaker, End, ends_append, ends_in, IsBefore, IsNear, IsPlaced, Parts, PartsAll, placed, within}
+use Rattle.yv_references.proofs.Rowed.{AreRows}
+use Rattle.yv_references.proofs.Walked.{AreUnwritten, Closed, entered_stand, IsPlain, walk_holds}
 
--- what an index and the objects answer is of a schema, its links and its targets
+-- ---- positions in a list
+
+abbrev pub Reads : List Position → ℕ → List Position → Type 0
+Reads ps next [] = Unit {0}
+Reads ps next (x ∷ xs) = (position_at ps next ≡ x) × Reads ps (next + 1) xs
+
+reads_first : (ps : List Position) (next : ℕ) (xs ys : List Position) → Reads ps next (xs ++ ys) → Reads ps next xs
+reads_first ps next [] ys h = tt
+reads_first ps next (x ∷ xs) ys h = (h.0, reads_first ps (next + 1) xs ys h.1)
+
+reads_rest : (ps : List Position) (next a : ℕ) (xs ys : List Position) → length xs ≡ a → Reads ps next (xs ++ ys) → Reads ps (next + a) ys
+reads_rest ps next a [] ys e h = let same : next ≡ next + a = omega (arith, e) in subst (λ k. Reads ps k ys) same h
+reads_rest ps next a (x ∷ xs) ys e h =
+    let same : next + 1 + length xs ≡ next + a = omega (arith, e) in
+    subst (λ k. Reads ps k ys) same (reads_rest ps (next + 1) (length xs) xs ys refl h.1)
+
+pub join_length : (xs ys : List Position) (a b : ℕ) → length xs ≡ a → length ys ≡ b → length (xs ++ ys) ≡ a + b
+join_length [] ys a b e f = omega (arith, e, f)
+join_length (x ∷ xs) ys a b e f = omega (arith, e, join_length xs ys (length xs) b refl f)
+
+pub from_head : (xs ys : List Position) (y : Position) (a : ℕ) → length xs ≡ a → position_at (xs ++ y ∷ ys) a ≡ y
+from_head [] ys y zero e = refl
+from_head [] ys y (suc a) e = absurd (omega (arith, e))
+from_head (x ∷ xs) ys y zero e = absurd (omega (arith, e))
+from_head (x ∷ xs) ys y (suc a) e = from_head xs ys y a (omega (arith, e))
+
+pub move : (xs ys : List Position) (y : Position) → (xs ++ y ∷ []) ++ ys ≡ xs ++ y ∷ ys
+move [] ys y = refl
+move (x ∷ xs) ys y = ap (λ zs. x ∷ zs) (move xs ys y)
+
+reads_behind : (xs ys : List Position) (a : ℕ) → length xs ≡ a → Reads (xs ++ ys) a ys
+reads_behind xs [] a e = tt
+reads_behind xs (y ∷ ys) a e = (
+  from_head xs ys y a e,
+  subst (λ zs. Reads zs (a + 1) ys) (move xs ys y) (reads_behind (xs ++ y ∷ []) ys (a + 1) (join_length xs (y ∷ []) a 1 e (omega arith))),
+)
+
+one_length : (m : Stand) (d : Data) → length (position_of m d) ≡ is_entered d
+one_length m (object ms) = refl
+one_length m null = refl
+one_length m (boolean x) = refl
+one_length m (number x) = refl
+one_length m (string x) = refl
+one_length m (array x) = refl
+
+at_length : (m : Meeting) → length (positions_at m) ≡ entered_at m
+at_length (stand m) = one_length m m.found
+at_length (written m) = refl
+at_length (ending m) = refl
+at_length (met m) = refl
+
+entered_cons : (m : Meeting) (ms : List Meeting) → entered (m ∷ ms) ≡ entered_at m + entered ms
+entered_cons m ms = sum_by-cons entered_at m ms
+
+pub positions_length : (ms : List Meeting) → length (positions_in ms) ≡ entered ms
+positions_length [] = refl
+positions_length (m ∷ ms) =
+    join_length (positions_at m) (positions_in ms) (entered_at m) (entered ms) (at_length m) (positions_length ms)
+    ∙ sym (entered_cons m ms)
+
+positions_append : (xs ys : List Meeting) → positions_in (xs ++ ys) ≡ positions_in xs ++ positions_in ys
+positions_append xs ys = flat_map-append positions_at xs ys
+
+-- ---- what is asked of a value
+
 pub record Asked : Type 0 where
   pub rows : Rows
-  pub links : ℕ → Option Link
-  pub is_target : ℕ → Bool
-  pub kept : List Kept
   pub positions : List Position
+  pub values : List Valued
 
--- from the object with this number the index answers what paths reach from it
-abbrev pub IsGood : Asked → ℕ → Level → Type 0
-IsGood q n l =
-    (steps : List ℕ) (target : ℕ) (v : Val) → Leads l.below.first l.below.trees steps target → q.is_target target ≡ true
-    → is_within target v n (position_at q.positions n).last q.kept ≡ is_among v (found_from q.rows steps l)
+-- the objects around something are those that the positions tell
+abbrev pub IsChain : Asked → List ℕ → Type 0
+IsChain q around = (i : ℕ) → further_out q.positions i (first_of around) ≡ slice_index_or around i 0
 
--- so from it and from those around it
-abbrev pub AreGood : Asked → ℕ → List Level → Type 0
-AreGood q here [] = here ≡ 0
-AreGood q here (l ∷ ls) = IsGood q here l × AreGood q (position_at q.positions here).parent ls
-
--- and the top is around all
-pub record IsTop (q : Asked) (top : Level) : Type 0 where
-  pub good : IsGood q 0 top
-  pub outermost : (position_at q.positions 0).parent ≡ 0
-  pub targets : AreTargets q.links q.is_target
-
-abbrev pub grounds_of : List Level → List Ground
-grounds_of [] = []
-grounds_of (l ∷ ls) = l.below ∷ grounds_of ls
-
-outside_top : (q : Asked) (top : Level) (i : ℕ) → IsTop q top → further_out q.positions i 0 ≡ 0
-outside_top q top zero g = refl
-outside_top q top (suc i) g = ap (λ n. further_out q.positions i n) g.outermost ∙ outside_top q top i g
-
-good_at : (q : Asked) (here : ℕ) (ls : List Level) (top : Level) (i : ℕ) → IsTop q top → AreGood q here ls → IsGood q (further_out q.positions i here) (slice_index_or ls i top)
-good_at q here [] top i g m = subst (λ n. IsGood q n top) (sym (ap (λ n. further_out q.positions i n) m ∙ outside_top q top i g)) g.good
-good_at q here (l ∷ ls) top zero g m = m.0
-good_at q here (l ∷ ls) top (suc i) g m = good_at q (position_at q.positions here).parent ls top i g m.1
-
-climbed_good : (q : Asked) (here : ℕ) (ls : List Level) (top : Level) (c : Option ℕ) → IsTop q top → AreGood q here ls → IsGood q (climbed_to q.positions c here) (climbed top c ls)
-climbed_good q here ls top None g m = g.good
-climbed_good q here ls top (Some k) g m = good_at q here ls top (k - 1) g m
-
-ground_at : (ls : List Level) (top : Level) (i : ℕ) → slice_index_or (grounds_of ls) i top.below ≡ (slice_index_or ls i top).below
-ground_at [] top i = refl
-ground_at (l ∷ ls) top zero = refl
-ground_at (l ∷ ls) top (suc i) = ground_at ls top i
-
-climbed_ground : (ls : List Level) (top : Level) (c : Option ℕ) → climbed top.below c (grounds_of ls) ≡ (climbed top c ls).below
-climbed_ground ls top None = refl
-climbed_ground ls top (Some k) = ground_at ls top (k - 1)
-
--- ---- paths
-
--- the object with this number stands at this path
+-- the object with this number is at this path
 abbrev pub IsAt : Asked → ℕ → List Place → Type 0
 IsAt q here path = (most : ℕ) → here ≤ most → path_to q.rows q.positions most here ≡ path
+
+-- the object with this number is around a value exactly where its interval says so
+abbrev pub IsGood : Asked → ℕ → Type 0
+IsGood q n = PartsAll q.values (record { number = n; last = (position_at q.positions n).last })
+
+pub record IsReady (q : Asked) (spot : Spot) : Type 0 where
+  pub chain : IsChain q spot.around
+  pub path : IsAt q (first_of spot.around) spot.path
+  pub good : (i : ℕ) → IsGood q (slice_index_or spot.around i 0)
+
+pub record IsFit (q : Asked) (m : Written) : Type 0 where
+  pub label : (row_at q.rows m.node).label ≡ m.label
+  pub ready : IsReady q m.spot
+
+abbrev pub FitAt : Asked → Meeting → Type 0
+FitAt q (written m) = IsFit q m
+FitAt q _ = Unit {0}
+
+abbrev pub AreFit : Asked → List Meeting → Type 0
+AreFit q ms = AllByRecursion (FitAt q) ms
+
+abbrev pub Fits : Asked → Spot → ℕ → List Meeting → Type 0
+Fits q spot next ms =
+    Reads q.positions next (positions_in ms) → AllByRecursion (PartsAll q.values) (ends_in ms) → first_of spot.around < next → IsReady q spot → AreFit q ms
+
+fit_append : (q : Asked) (xs ys : List Meeting) → AreFit q xs → AreFit q ys → AreFit q (xs ++ ys)
+fit_append q [] ys p r = r
+fit_append q (x ∷ xs) ys p r = (p.0, fit_append q xs ys p.1 r)
+
+both_fit : (q : Asked) (spot : Spot) (next : ℕ) (xs ys : List Meeting) → Fits q spot next xs → Fits q spot (next + entered xs) ys → Fits q spot next (xs ++ ys)
+both_fit q spot next xs ys f g reads ends lt ready =
+    let rs : Reads q.positions next (positions_in xs ++ positions_in ys) = subst (λ (ps : List Position). Reads q.positions next ps) (positions_append xs ys) reads in
+    let es : AllByRecursion (PartsAll q.values) (ends_in xs ++ ends_in ys) = subst (λ (zs : List End). AllByRecursion (PartsAll q.values) zs) (ends_append xs ys) ends in
+    fit_append q xs ys (f (reads_first q.positions next (positions_in xs) (positions_in ys) rs) (all_first (PartsAll q.values) (ends_in xs) (ends_in ys) es) lt ready)
+    (g (reads_rest q.positions next (entered xs) (positions_in xs) (positions_in ys) (positions_length xs) rs) (all_rest (PartsAll q.values) (ends_in xs) (ends_in ys) es)
+    (omega (arith, lt)) ready)
+
+plain_fit : (q : Asked) (spot : Spot) (next : ℕ) (m : Meeting) → IsPlain q.rows spot m → Fits q spot next (m ∷ [])
+plain_fit q spot next (stand m) p reads ends lt ready = (tt, tt)
+plain_fit q spot next (written m) p reads ends lt ready = (record { label = p.1; ready = subst (λ (at : Spot). IsReady q at) (sym p.0) ready }, tt)
+plain_fit q spot next (ending m) p reads ends lt ready = (tt, tt)
+plain_fit q spot next (met m) p reads ends lt ready = (tt, tt)
 
 not_zero : (here next : ℕ) → here < next → (next == 0) ≡ false
 not_zero here next lt = grind (arith, nat_tests, lt)
 
-below_at : (q : Asked) (here next n last : ℕ) (nth : Option ℕ) (l : Label) (path : List Place) (most : ℕ) → here < next
-    → position_at q.positions next ≡ record { parent = here; node = n; item = nth; last = last } → (row_at q.rows (record { 0 = n })).label ≡ l → IsAt q here path → next ≤ most
-    → path_to q.rows q.positions most next ≡ path ++ record { member = step_name l; item = nth } ∷ []
-below_at q here next n last nth l path zero lt e f at le = absurd (omega (arith, lt, le))
-below_at q here next n last nth l path (suc most) lt e f at le =
+path_below : (q : Asked) (here next : ℕ) (n : NodeId) (last : ℕ) (i : Option ℕ) (l : Label) (path : List Place) (most : ℕ) → here < next
+    → position_at q.positions next ≡ record { parent = here; node = n.0; item = i; last = last } → (row_at q.rows n).label ≡ l → IsAt q here path → next ≤ most
+    → path_to q.rows q.positions most next ≡ path ++ record { member = step_name l; item = i } ∷ []
+path_below q here next n last i l path zero lt e f at le = absurd (omega (arith, lt, le))
+path_below q here next n last i l path (suc most) lt e f at le =
     rw (not_zero here next lt)
     (ap (λ (p : Position). path_to q.rows q.positions most p.parent ++ place_at q.rows p.node p.item ∷ []) e
-    ∙ ap (λ ps. ps ++ place_at q.rows n nth ∷ []) (at most (omega (arith, lt, le)))
-    ∙ ap (λ (x : Label). path ++ record { member = step_name x; item = nth } ∷ []) f)
+    ∙ ap (λ ps. ps ++ place_at q.rows n.0 i ∷ []) (at most (omega (arith, lt, le)))
+    ∙ ap (λ (x : Label). path ++ record { member = step_name x; item = i } ∷ []) f)
 
-noted_at : (q : Asked) (here n : ℕ) (nth : Option ℕ) (v : Val) (l : Label) (path : List Place) → (row_at q.rows (record { 0 = n })).label ≡ l → IsAt q here path
-    → path_of q.rows q.positions (record { position = here; node = n; item = nth; value = v }) ≡ path ++ record { member = step_name l; item = nth } ∷ []
-noted_at q here n nth v l path f at =
-    ap (λ ps. ps ++ place_at q.rows n nth ∷ []) (at here (omega arith)) ∙ ap (λ (x : Label). path ++ record { member = step_name x; item = nth } ∷ []) f
+chain_below : (q : Asked) (next : ℕ) (outer : List ℕ) → (position_at q.positions next).parent ≡ first_of outer → IsChain q outer → IsChain q (next ∷ outer)
+chain_below q next outer e h zero = refl
+chain_below q next outer e h (suc i) = ap (λ n. further_out q.positions i n) e ∙ h i
 
--- ---- lists of answers
+good_below : (q : Asked) (next last : ℕ) (outer : List ℕ) → (position_at q.positions next).last ≡ last → PartsAll q.values (record { number = next; last = last })
+    → ((i : ℕ) → IsGood q (slice_index_or outer i 0)) → (i : ℕ) → IsGood q (slice_index_or (next ∷ outer) i 0)
+good_below q next last outer e p h zero = subst (λ k. PartsAll q.values (record { number = next; last = k })) (sym e) p
+good_below q next last outer e p h (suc i) = h i
 
-nothing_more : (xs : List (List Place)) → xs ++ [] ≡ xs
-nothing_more [] = refl
-nothing_more (x ∷ xs) = ap (λ ys. x ∷ ys) (nothing_more xs)
+object_fit : (q : Asked) (spot : Spot) (next entry : ℕ) (n : NodeId) (l : Label) (i : Option ℕ) (kids : Forest) (ms : Members) (xs : List Meeting) → (row_at q.rows n).label ≡ l
+    → Fits q (record { path = at spot l i; around = next ∷ spot.around; entry = entry }) (next + 1) xs
+    → Fits q spot next (entered_stand n i kids (record { path = at spot l i; around = next ∷ spot.around; entry = entry }) next ms xs ∷ xs)
+object_fit q spot next entry n l i kids ms xs is f reads ends lt ready = (
+  tt,
+  f reads.1 ends.1 (omega arith) (record {
+    chain = chain_below q next spot.around (ap (λ (p : Position). p.parent) reads.0) ready.chain;
+    path = λ most le. path_below q (first_of spot.around) next n (next + entered xs) i l spot.path most lt reads.0 is ready.path le;
+    good = good_below q next (next + entered xs) spot.around (ap (λ (p : Position). p.last) reads.0) ends.0 ready.good;
+  }),
+)
 
-append_same : (xs ys zs : List (List Place)) → (xs ++ ys) ++ zs ≡ xs ++ (ys ++ zs)
-append_same [] ys zs = refl
-append_same (x ∷ xs) ys zs = ap (λ ws. x ∷ ws) (append_same xs ys zs)
+unwritten_fit : (q : Asked) (ms : List Meeting) → AreUnwritten ms → AreFit q ms
+unwritten_fit q [] h = tt
+unwritten_fit q (stand m ∷ ms) h = (tt, unwritten_fit q ms h.1)
+unwritten_fit q (written m ∷ ms) h = absurd h.0
+unwritten_fit q (ending m ∷ ms) h = (tt, unwritten_fit q ms h.1)
+unwritten_fit q (met m ∷ ms) h = (tt, unwritten_fit q ms h.1)
 
-abbrev pub answers : Asked → List Noted → List (List Place)
-answers q ns = judged q.rows q.links q.kept q.positions ns
+fits : (q : Asked) → Closed q.rows (Fits q)
+fits q = record {
+  none = λ spot next reads ends lt ready. tt;
+  both = both_fit q;
+  plain = plain_fit q;
+  object = object_fit q;
+  absent = λ spot next l xs h p reads ends lt ready. unwritten_fit q xs h;
+}
 
-judged_append : (q : Asked) (xs ys : List Noted) → answers q (xs ++ ys) ≡ answers q xs ++ answers q ys
-judged_append q [] ys = refl
-judged_append q (x ∷ xs) ys =
-    ap (λ zs. judge q.rows q.links q.kept q.positions x ++ zs) (judged_append q xs ys) ∙ sym (append_same (judge q.rows q.links q.kept q.positions x) (answers q xs) (answers q ys))
+-- ---- one answer
 
-join_answers : (q : Asked) (xs ys : List Noted) (fs gs : List (List Place)) → answers q xs ≡ fs → answers q ys ≡ gs → answers q (xs ++ ys) ≡ fs ++ gs
-join_answers q xs ys fs gs e f = judged_append q xs ys ∙ ap (λ zs. zs ++ answers q ys) e ∙ ap (λ zs. fs ++ zs) f
+sort : (a s c d rest : Bool) → ((a && s && c && d) || rest) ≡ cond (a && (c && d)) (s || rest) rest
+sort true true true true rest = refl
+sort true true true false rest = refl
+sort true true false d rest = refl
+sort true false true true rest = refl
+sort true false true false rest = refl
+sort true false false d rest = refl
+sort false s c d rest = refl
 
--- ---- values
+sorted : (a s c d b rest : Bool) → b ≡ (c && d) → ((a && s && c && d) || rest) ≡ cond (a && b) (s || rest) rest
+sorted a s c d b rest e = rw e (sort a s c d rest)
 
-one_answered : (q : Asked) (here n : ℕ) (nth : Option ℕ) (ls : List Level) (top : Level) (link : Link) (l : Label) (path : List Place) (v : Val)
-    → IsTop q top → AreGood q here ls → IsAt q here path → (row_at q.rows (record { 0 = n })).label ≡ l → q.links n ≡ Some link → IsLinked (Some link) top.below (grounds_of ls)
-    → judge q.rows q.links q.kept q.positions (record { position = here; node = n; item = nth; value = v })
-    ≡ value_references q.rows (Some link) top ls (path ++ record { member = step_name l; item = nth } ∷ []) (Some v)
-one_answered q here n nth ls top link l path v g m at f e lead =
-    rw e
-    (ap (λ b. told_unless b (path_of q.rows q.positions (record { position = here; node = n; item = nth; value = v })))
-    (climbed_good q here ls top link.climbs g m link.steps link.target v (subst (λ (x : Ground). Leads x.first x.trees link.steps link.target) (climbed_ground ls top link.climbs) lead) (g.targets n link e))
-    ∙ ap (λ here. told_unless (is_among v (found_from q.rows link.steps (climbed top link.climbs ls))) here) (noted_at q here n nth v l path f at))
+different_by : (is_target : ℕ → Bool) (n t : ℕ) (b : Bool) → (n == t) ≡ b → is_target n ≡ false → is_target t ≡ true → (n == t) ≡ false
+different_by is_target n t true e off on = let same : n ≡ t = (Decides-eqb n t).0 e in let both : is_target n ≡ is_target t = ap is_target same in absurd (cc)
+different_by is_target n t false e off on = e
 
-value_answered : (q : Asked) (here n : ℕ) (nth : Option ℕ) (ls : List Level) (top : Level) (link : Option Link) (l : Label) (path : List Place) (v : Option Val)
-    → IsTop q top → AreGood q here ls → IsAt q here path → (row_at q.rows (record { 0 = n })).label ≡ l → q.links n ≡ link → IsLinked link top.below (grounds_of ls)
-    → answers q (value_notes link here n nth v) ≡ value_references q.rows link top ls (path ++ record { member = step_name l; item = nth } ∷ []) v
-value_answered q here n nth ls top None l path v g m at f e lead = refl
-value_answered q here n nth ls top (Some link) l path None g m at f e lead = refl
-value_answered q here n nth ls top (Some link) l path (Some v) g m at f e lead = nothing_more _ ∙ one_answered q here n nth ls top link l path v g m at f e lead
+off_left : (a b : Bool) → a ≡ false → (a && b) ≡ false
+off_left true b e = absurd (cc)
+off_left false b e = refl
 
-leaf_answered : (q : Asked) (here n : ℕ) (ls : List Level) (top : Level) (link : Option Link) (l : Label) (path : List Place) (d : Option Data)
-    → IsTop q top → AreGood q here ls → IsAt q here path → (row_at q.rows (record { 0 = n })).label ≡ l → q.links n ≡ link → IsLinked link top.below (grounds_of ls)
-    → answers q (leaf_notes link l here n d) ≡ leaf_references q.rows link l top ls (under path (step_name l)) d
-leaf_answered q here n ls top link l path None g m at f e lead = refl
-leaf_answered q here n ls top link l path (Some d) g m at f e lead = value_answered q here n None ls top link l path (value_of l d) g m at f e lead
+within_if : (b : Bool) (n here : ℕ) (w : Val) (t : ℕ) (v : Val) (f l : ℕ) (ks : List Kept)
+    → is_within t v f l (kept_if b n here (w ∷ []) ++ ks) ≡ cond b (is_it t v f l (record { target = n; value = w; place = here }) || is_within t v f l ks) (is_within t v f l ks)
+within_if true n here w t v f l ks = refl
+within_if false n here w t v f l ks = refl
 
-items_answered : (q : Asked) (here n i : ℕ) (ls : List Level) (top : Level) (link : Option Link) (l : Label) (path : List Place) (ds : Items)
-    → IsTop q top → AreGood q here ls → IsAt q here path → (row_at q.rows (record { 0 = n })).label ≡ l → q.links n ≡ link → IsLinked link top.below (grounds_of ls)
-    → answers q (item_notes link l here n i ds) ≡ item_references q.rows link l top ls path i ds
-items_answered q here n i ls top link l path no_items g m at f e lead = refl
-items_answered q here n i ls top link l path (item d ds) g m at f e lead =
-    join_answers q (value_notes link here n (Some i) (value_of l d)) _ _ _
-    (value_answered q here n (Some i) ls top link l path (value_of l d) g m at f e lead) (items_answered q here n (i + 1) ls top link l path ds g m at f e lead)
+among_if : (r : Bool) (v : Val) (w : Valued) (ws : List Valued)
+    → is_among v (map (λ x. x.value) (cond r (w ∷ ws) ws)) ≡ cond r (same_value v w.value || is_among v (map (λ x. x.value) ws)) (is_among v (map (λ x. x.value) ws))
+among_if true v w ws = refl
+among_if false v w ws = refl
 
-listed_answered : (q : Asked) (here n : ℕ) (ls : List Level) (top : Level) (link : Option Link) (l : Label) (path : List Place) (d : Option Data)
-    → IsTop q top → AreGood q here ls → IsAt q here path → (row_at q.rows (record { 0 = n })).label ≡ l → q.links n ≡ link → IsLinked link top.below (grounds_of ls)
-    → answers q (listed_notes link l here n d) ≡ listed_references q.rows link l top ls path d
-listed_answered q here n ls top link l path (Some (array ds)) g m at f e lead = items_answered q here n 1 ls top link l path ds g m at f e lead
-listed_answered q here n ls top link l path None g m at f e lead = refl
-listed_answered q here n ls top link l path (Some null) g m at f e lead = refl
-listed_answered q here n ls top link l path (Some (boolean b)) g m at f e lead = refl
-listed_answered q here n ls top link l path (Some (number x)) g m at f e lead = refl
-listed_answered q here n ls top link l path (Some (string x)) g m at f e lead = refl
-listed_answered q here n ls top link l path (Some (object x)) g m at f e lead = refl
+-- `kept` says whether the value is kept
+one_answer : (kept : Bool) (a s c d b rest : Bool) → b ≡ (c && d) → (kept ≡ false → a ≡ false)
+    → cond kept ((a && s && c && d) || rest) rest ≡ cond (a && b) (s || rest) rest
+one_answer true a s c d b rest e off = sorted a s c d b rest e
+one_answer false a s c d b rest e off = sym (ap (λ (x : Bool). cond x (s || rest) rest) (off_left a b (off refl)))
 
--- ---- objects
+kept_answer : (is_target : ℕ → Bool) (t : ℕ) (v : Val) (f l : ℕ) (vs : List Valued) → is_target t ≡ true → PartsAll vs (record { number = f; last = l })
+    → is_within t v f l (flat_map (kept_of is_target) vs) ≡ is_among v (map (λ w. w.value) (filter (is_reached t f) vs))
+kept_answer is_target t v f l [] on p = refl
+kept_answer is_target t v f l (w ∷ ws) on p =
+    let here : ℕ = first_of w.spot.around in
+    within_if (is_target w.node) w.node here w.value t v f l (flat_map (kept_of is_target) ws)
+    ∙ ap (λ (rest : Bool). cond (is_target w.node) (((w.node == t) && same_value v w.value && nat_le f here && nat_le here l) || rest) rest) (kept_answer is_target t v f l ws on p.1)
+    ∙ one_answer (is_target w.node) (w.node == t) (same_value v w.value) (nat_le f here) (nat_le here l) (is_in w.spot.around f) _ p.0
+    (λ off. different_by is_target w.node t (w.node == t) refl off on)
+    ∙ sym (among_if (is_reached t f w) v w (filter (is_reached t f) ws))
 
--- what is noted among these trees, in an object, is answered so
-abbrev pub AreAnswered : Asked → Level → ℕ → Forest → Type 0
-AreAnswered q top first ts =
-    (scope_of : ℕ → Tree → Scope) (here next : ℕ) (ls : List Level) (path : List Place) (ms : Members) → here < next
-    → Agree q.kept (kept q.rows q.is_target scope_of here next first ts ms) next (next + entered ts ms) → Reads q.positions next (positions here next first ts ms)
-    → AreGood q here ls → IsAt q here path → AreLinkedBelow q.links top.below (grounds_of ls) first ts
-    → answers q (notes q.links here next first ts ms) ≡ references q.rows q.links top ls path first ts ms
+climbed_same : (q : Asked) (around : List ℕ) (climbs : Option ℕ) → IsChain q around → climbed_to q.positions climbs (first_of around) ≡ climbed 0 climbs around
+climbed_same q around None h = refl
+climbed_same q around (Some k) h = h (k - 1)
 
--- an object that is entered
-object_answered : (q : Asked) (top : Level) (first : ℕ) (kids : Forest) (here next n : ℕ) (nth : Option ℕ) (l : Label) (ls : List Level) (path : List Place) (ms : Members)
-    → AreAnswered q top first kids → here < next → (row_at q.rows (record { 0 = n })).label ≡ l
-    → Agree q.kept (kept q.rows q.is_target (λ m t. Always) next (next + 1) first kids ms) next (next + suc (entered kids ms))
-    → Reads q.positions next (object_positions here next n nth ms (λ ds. entered kids ds) (λ at from ds. positions at from first kids ds))
-    → AreGood q here ls → IsAt q here path → AreLinkedBelow q.links top.below (record { first = first; trees = kids } ∷ grounds_of ls) first kids
-    → answers q (notes q.links next (next + 1) first kids ms)
-    ≡ references q.rows q.links top (record { below = record { first = first; trees = kids }; members = ms } ∷ ls) (path ++ record { member = step_name l; item = nth } ∷ []) first kids ms
-object_answered q top first kids here next n nth l ls path ms ih lt f agree reads m at linked =
-    let size = entered kids ms in
-    let own : Level = record { below = record { first = first; trees = kids }; members = ms } in
-    let all : ℕ → Tree → Scope = λ k t. Always in
-    let good : IsGood q next own =
-    λ steps target v lead on.
-    ap (λ (p : Position). is_within target v next p.last q.kept) reads.0
-    ∙ agree target v next (next + size) (omega arith) (omega arith)
-    ∙ within_in target v next (next + size) (kept q.rows q.is_target all next (next + 1) first kids ms) (all_in next size _ (near q.rows q.is_target all next (next + 1) first kids ms))
-    ∙ ap (is_among v) (reached q.rows q.is_target all steps target next (next + 1) first kids ms lead on) in
-    let around : AreGood q (position_at q.positions next).parent ls = subst (λ k. AreGood q k ls) (sym (ap (λ (p : Position). p.parent) reads.0)) m in
-    ih all next (next + 1) (own ∷ ls) (path ++ record { member = step_name l; item = nth } ∷ []) ms (omega arith)
-    (λ k v f l low high. agree k v f l (omega (arith, low)) (omega (arith, high))) reads.1 (good, around)
-    (λ most le. below_at q here next n (next + size) nth l path most lt reads.0 f at le) linked
+climbed_good : (q : Asked) (around : List ℕ) (climbs : Option ℕ) → IsGood q 0 → ((i : ℕ) → IsGood q (slice_index_or around i 0)) → IsGood q (climbed 0 climbs around)
+climbed_good q around None g h = g
+climbed_good q around (Some k) g h = h (k - 1)
 
-entry_answered : (q : Asked) (top : Level) (first : ℕ) (kids : Forest) (here next n : ℕ) (nth : Option ℕ) (l : Label) (ls : List Level) (path : List Place) (d : Data)
-    → AreAnswered q top first kids → here < next → (row_at q.rows (record { 0 = n })).label ≡ l
-    → Agree q.kept (entry_kept next d (λ at from ds. kept q.rows q.is_target (λ m t. Always) at from first kids ds)) next (next + entry_entered d (λ ds. entered kids ds))
-    → Reads q.positions next (entry_positions here next n nth d (λ ds. entered kids ds) (λ at from ds. positions at from first kids ds))
-    → AreGood q here ls → IsAt q here path → AreLinkedBelow q.links top.below (record { first = first; trees = kids } ∷ grounds_of ls) first kids
-    → answers q (entry_notes next d (λ at ds. notes q.links at (at + 1) first kids ds))
-    ≡ object_references (path ++ record { member = step_name l; item = nth } ∷ []) d (λ here ds. references q.rows q.links top (record { below = record { first = first; trees = kids }; members = ds } ∷ ls) here first kids ds)
-entry_answered q top first kids here next n nth l ls path (object ms) ih lt f agree reads m at linked = object_answered q top first kids here next n nth l ls path ms ih lt f agree reads m at linked
-entry_answered q top first kids here next n nth l ls path _ ih lt f agree reads m at linked = refl
+path_same : (q : Asked) (m : Written) (v : Val) → IsFit q m
+    → path_of q.rows q.positions (record { position = first_of m.spot.around; node = m.node.0; item = number_of m.before; value = v }) ≡ at m.spot m.label (number_of m.before)
+path_same q m v h =
+    ap (λ ps. ps ++ place_at q.rows m.node.0 (number_of m.before) ∷ []) (h.ready.path (first_of m.spot.around) (omega arith))
+    ∙ ap (λ (x : Label). m.spot.path ++ record { member = step_name x; item = number_of m.before } ∷ []) h.label
 
-entries_answered : (q : Asked) (top : Level) (first : ℕ) (kids : Forest) (here next n i : ℕ) (l : Label) (ls : List Level) (path : List Place) (ds : Items)
-    → AreAnswered q top first kids → here < next → (row_at q.rows (record { 0 = n })).label ≡ l
-    → Agree q.kept (entries_kept next ds (λ ms. entered kids ms) (λ at from ms. kept q.rows q.is_target (λ m t. Always) at from first kids ms)) next (next + entries_entered ds (λ ms. entered kids ms))
-    → Reads q.positions next (entries_positions here next n i ds (λ ms. entered kids ms) (λ at from ms. positions at from first kids ms))
-    → AreGood q here ls → IsAt q here path → AreLinkedBelow q.links top.below (record { first = first; trees = kids } ∷ grounds_of ls) first kids
-    → answers q (entries_notes next ds (λ ms. entered kids ms) (λ at ms. notes q.links at (at + 1) first kids ms))
-    ≡ entries_references l path i ds (λ here ms. references q.rows q.links top (record { below = record { first = first; trees = kids }; members = ms } ∷ ls) here first kids ms)
-entries_answered q top first kids here next n i l ls path no_items ih lt f agree reads m at linked = refl
-entries_answered q top first kids here next n i l ls path (item d ds) ih lt f agree reads m at linked =
-    let size : Members → ℕ = λ ms. entered kids ms in
-    let all : ℕ → Tree → Scope = λ k t. Always in
-    let inside : ℕ → ℕ → Members → List Kept = λ at from ms. kept q.rows q.is_target all at from first kids ms in
-    let objects : ℕ → ℕ → Members → List Position = λ at from ms. positions at from first kids ms in
-    let a = entry_entered d size in
-    let b = entries_entered ds size in
-    let xs = entry_kept next d inside in
-    let ys = entries_kept (next + a) ds size inside in
-    join_answers q (entry_notes next d (λ at ms. notes q.links at (at + 1) first kids ms)) _ _ _
-    (entry_answered q top first kids here next n (Some i) l ls path d ih lt f
-    (agree_first q.kept xs ys here next a b lt (entries_near here (next + a) ds size inside (λ at from ms. near q.rows q.is_target all at from first kids ms)) agree)
-    (reads_first q.positions next (entry_positions here next n (Some i) d size objects) (entries_positions here (next + a) n (i + 1) ds size objects) reads) m at linked)
-    (entries_answered q top first kids here (next + a) n (i + 1) l ls path ds ih (omega (arith, lt)) f
-    (agree_rest q.kept xs ys here next a b lt (entry_near here next d size inside (λ at from ms. near q.rows q.is_target all at from first kids ms)) agree)
-    (reads_rest q.positions next a (entry_positions here next n (Some i) d size objects) (entries_positions here (next + a) n (i + 1) ds size objects)
-    (entry_length here next n (Some i) d size objects (λ at from ms. positions_length at from first kids ms)) reads)
-    m at linked)
+record IsAsked (q : Asked) (links : ℕ → Option Link) (is_target : ℕ → Bool) (ks : List Kept) : Type 0 where
+  pub targets : AreTargets links is_target
+  pub kept : ks ≡ flat_map (kept_of is_target) q.values
+  pub top : IsGood q 0
 
--- ---- nodes
+value_answer : (q : Asked) (links : ℕ → Option Link) (is_target : ℕ → Bool) (ks : List Kept) (m : Written) (link : Option Link) (v : Option Val) → IsAsked q links is_target ks → IsFit q m
+    → links m.node.0 ≡ link
+    → judged q.rows links ks q.positions (value_notes link (first_of m.spot.around) m.node.0 (number_of m.before) v) ≡ references_by q.values link m v
+value_answer q links is_target ks m None None a h e = refl
+value_answer q links is_target ks m None (Some v) a h e = refl
+value_answer q links is_target ks m (Some link) None a h e = refl
+value_answer q links is_target ks m (Some link) (Some v) a h e =
+    let n : Noted = record { position = first_of m.spot.around; node = m.node.0; item = number_of m.before; value = v } in
+    let f : ℕ = climbed 0 link.climbs m.spot.around in
+    append-nil (judge q.rows links ks q.positions n)
+    ∙ rw e (
+    ap (λ (from : ℕ). path_unless (is_within link.target v from (position_at q.positions from).last ks) (path_of q.rows q.positions n)) (climbed_same q m.spot.around link.climbs h.ready.chain)
+    ∙ ap (λ (xs : List Kept). path_unless (is_within link.target v f (position_at q.positions f).last xs) (path_of q.rows q.positions n)) a.kept
+    ∙ ap (λ (b : Bool). path_unless b (path_of q.rows q.positions n)) (kept_answer is_target link.target v f (position_at q.positions f).last q.values (a.targets m.node.0 link e)
+    (climbed_good q m.spot.around link.climbs a.top h.ready.good))
+    ∙ ap (λ (ps : List Place). path_unless (is_among v (reached q.values link m.spot)) ps) (path_same q m v h))
 
-kind_answered : (k : NodeKind) (q : Asked) (top : Level) (first : ℕ) (l : Label) (kids : Forest) (scope : Scope) (cases : ℕ → Tree → Scope) (here next : ℕ) (d : Option Data) (ls : List Level) (path : List Place) (ms : Members)
-    → IsTop q top → AreAnswered q top (first + 1) kids → here < next → (row_at q.rows (record { 0 = first })).label ≡ l
-    → Agree q.kept (kind_kept k (q.is_target first) first l here next scope d (λ ds. entered kids ds) (λ at from i ds. kept q.rows q.is_target (λ m t. i) at from (first + 1) kids ds)
-    (kept q.rows q.is_target cases here next (first + 1) kids ms) (kept q.rows q.is_target (λ m t. scope) here next (first + 1) kids ms))
-    next (next + kind_entered k l d (λ ds. entered kids ds) (entered kids ms))
-    → Reads q.positions next (kind_positions k l here next first d (λ ds. entered kids ds) (λ at from ds. positions at from (first + 1) kids ds) (positions here next (first + 1) kids ms))
-    → AreGood q here ls → IsAt q here path
-    → KindLinked k (q.links first) top.below (grounds_of ls) (record { first = first + 1; trees = kids }) (λ us. AreLinkedBelow q.links top.below us (first + 1) kids)
-    → answers q (kind_notes k (q.links first) l here next first d (λ ds. entered kids ds) (λ at ds. notes q.links at (at + 1) (first + 1) kids ds) (notes q.links here next (first + 1) kids ms))
-    ≡ kind_references q.rows k (q.links first) l top ls path d (λ here ds. references q.rows q.links top (record { below = record { first = first + 1; trees = kids }; members = ds } ∷ ls) here (first + 1) kids ds)
-    (references q.rows q.links top ls path (first + 1) kids ms)
-kind_answered kind.Container q top first l kids scope cases here next None ls path ms g ih lt f agree reads m at linked = refl
-kind_answered kind.Container q top first l kids scope cases here next (Some (object ds)) ls path ms g ih lt f agree reads m at linked =
-    object_answered q top (first + 1) kids here next first None l ls path ds ih lt f agree reads m at linked
-kind_answered kind.Container q top first l kids scope cases here next (Some _) ls path ms g ih lt f agree reads m at linked = refl
-kind_answered kind.Leaf q top first l kids scope cases here next d ls path ms g ih lt f agree reads m at linked = leaf_answered q here first ls top (q.links first) l path d g m at f refl linked
-kind_answered kind.LeafList q top first l kids scope cases here next d ls path ms g ih lt f agree reads m at linked = listed_answered q here first ls top (q.links first) l path d g m at f refl linked
-kind_answered kind.List q top first l kids scope cases here next (Some (array ds)) ls path ms g ih lt f agree reads m at linked =
-    entries_answered q top (first + 1) kids here next first 1 l ls path ds ih lt f agree reads m at linked
-kind_answered kind.List q top first l kids scope cases here next None ls path ms g ih lt f agree reads m at linked = refl
-kind_answered kind.List q top first l kids scope cases here next (Some _) ls path ms g ih lt f agree reads m at linked = refl
-kind_answered kind.Choice q top first l kids scope cases here next d ls path ms g ih lt f agree reads m at linked = ih cases here next ls path ms lt agree reads m at linked
-kind_answered kind.Case q top first l kids scope cases here next d ls path ms g ih lt f agree reads m at linked = ih (λ m t. scope) here next ls path ms lt agree reads m at linked
-kind_answered kind.Anydata q top first l kids scope cases here next d ls path ms g ih lt f agree reads m at linked = refl
-kind_answered kind.Anyxml q top first l kids scope cases here next d ls path ms g ih lt f agree reads m at linked = refl
-kind_answered kind.Rpc q top first l kids scope cases here next d ls path ms g ih lt f agree reads m at linked = refl
-kind_answered kind.Action q top first l kids scope cases here next d ls path ms g ih lt f agree reads m at linked = refl
-kind_answered kind.Notification q top first l kids scope cases here next d ls path ms g ih lt f agree reads m at linked = refl
-kind_answered kind.Input q top first l kids scope cases here next d ls path ms g ih lt f agree reads m at linked = refl
-kind_answered kind.Output q top first l kids scope cases here next d ls path ms g ih lt f agree reads m at linked = refl
+-- ---- all answers
 
-pub answered : (q : Asked) (top : Level) (first : ℕ) (ts : Forest) → IsTop q top → AreRows q.rows first ts → AreAnswered q top first ts
-answered q top first no_trees g rows scope_of here next ls path ms lt agree reads m at linked = refl
-answered q top first (tree (node l kids) ts) g rows scope_of here next ls path ms lt agree reads m at linked =
-    let a = tree_entered (node l kids) ms in
-    let b = entered ts ms in
-    let cases : ℕ → Tree → Scope = case_scope q.rows (record { 0 = first }) (first + 1) kids ms in
-    let scope : Scope = scope_of first (node l kids) in
-    let xs = kind_kept l.defined.kind (q.is_target first) first l here next scope (get_member l.member ms) (λ ds. entered kids ds)
-    (λ at from i ds. kept q.rows q.is_target (λ m t. i) at from (first + 1) kids ds) (kept q.rows q.is_target cases here next (first + 1) kids ms) (kept q.rows q.is_target (λ m t. scope) here next (first + 1) kids ms) in
-    let ys = kept q.rows q.is_target scope_of here (next + a) (first + 1 + count kids) ts ms in
-    let ps = kind_positions l.defined.kind l here next first (get_member l.member ms) (λ ds. entered kids ds) (λ at from ds. positions at from (first + 1) kids ds) (positions here next (first + 1) kids ms) in
-    join_answers q _ (notes q.links here (next + a) (first + 1 + count kids) ts ms) _ _
-    (kind_answered l.defined.kind q top first l kids scope cases here next (get_member l.member ms) ls path ms g (answered q top (first + 1) kids g rows.1) lt rows.0
-    (agree_first q.kept xs ys here next a b lt (near q.rows q.is_target scope_of here (next + a) (first + 1 + count kids) ts ms) agree)
-    (reads_first q.positions next ps (positions here (next + a) (first + 1 + count kids) ts ms) reads) m at linked.0)
-    (answered q top (first + 1 + count kids) ts g rows.2 scope_of here (next + a) ls path ms (omega (arith, lt))
-    (agree_rest q.kept xs ys here next a b lt (tree_near q.rows q.is_target scope here next first l kids ms) agree)
-    (reads_rest q.positions next a ps (positions here (next + a) (first + 1 + count kids) ts ms) (tree_length here next first l kids ms) reads) m at linked.1)
+judged_append : (s : Rows) (links : ℕ → Option Link) (ks : List Kept) (ps : List Position) (xs ys : List Noted) → judged s links ks ps (xs ++ ys) ≡ judged s links ks ps xs ++ judged s links ks ps ys
+judged_append s links ks ps [] ys = refl
+judged_append s links ks ps (x ∷ xs) ys =
+    ap (λ fs. judge s links ks ps x ++ fs) (judged_append s links ks ps xs ys) ∙ sym (append_assoc (judge s links ks ps x) (judged s links ks ps xs) (judged s links ks ps ys))
 
--- ---- of a whole document
+meeting_answer : (q : Asked) (links : ℕ → Option Link) (is_target : ℕ → Bool) (ks : List Kept) (m : Meeting) → IsAsked q links is_target ks → FitAt q m
+    → judged q.rows links ks q.positions (notes_at links m) ≡ references_at links q.values m
+meeting_answer q links is_target ks (stand m) a h = refl
+meeting_answer q links is_target ks (written m) a h = value_answer q links is_target ks m (links m.node.0) (value_of m.label m.found) a h refl
+meeting_answer q links is_target ks (ending m) a h = refl
+meeting_answer q links is_target ks (met m) a h = refl
 
-at_top : (q : Asked) (most : ℕ) → 0 ≤ most → path_to q.rows q.positions most 0 ≡ []
-at_top q zero le = refl
-at_top q (suc most) le = refl
+answers : (q : Asked) (links : ℕ → Option Link) (is_target : ℕ → Bool) (ks : List Kept) (ms : List Meeting) → IsAsked q links is_target ks → AreFit q ms
+    → judged q.rows links ks q.positions (notes_in links ms) ≡ flat_map (references_at links q.values) ms
+answers q links is_target ks [] a h = refl
+answers q links is_target ks (m ∷ ms) a h =
+    judged_append q.rows links ks q.positions (notes_at links m) (notes_in links ms)
+    ∙ ap (λ fs. fs ++ judged q.rows links ks q.positions (notes_in links ms)) (meeting_answer q links is_target ks m a h.0)
+    ∙ ap (λ fs. references_at links q.values m ++ fs) (answers q links is_target ks ms a h.1)
 
-pub all_answered : (s : Rows) (links : ℕ → Option Link) (is_target : ℕ → Bool) (ms : Members) → s.nodes ≡ rows_from 0 (whole s) → AreTargets links is_target → AreLinked links (whole s)
-    → judged s links (kept s is_target (λ n t. Always) 0 1 0 (whole s) ms) (all_positions (whole s) ms) (notes links 0 1 0 (whole s) ms) ≡ all_references s links (object ms)
-all_answered s links is_target ms rows targets linked =
-    let all : ℕ → Tree → Scope = λ k t. Always in
-    let ts = whole s in
-    let top : Level = top_level ts ms in
-    let ks = kept s is_target all 0 1 0 ts ms in
-    let ps = all_positions ts ms in
-    let size = entered ts ms in
-    let q : Asked = record { rows = s; links = links; is_target = is_target; kept = ks; positions = ps } in
-    let good : IsGood q 0 top =
-    λ steps target v lead on.
-    within_in target v 0 (0 + size) ks (all_in 0 size ks (near s is_target all 0 1 0 ts ms))
-    ∙ ap (is_among v) (reached s is_target all steps target 0 1 0 ts ms lead on) in
-    let agree : Agree ks ks 1 (1 + size) = λ n v f l low high. refl in
-    let reads : Reads ps 0 ps = reads_self ps in
-    let is_top : IsTop q top = record { good = good; outermost = refl; targets = targets } in
-    answered q top 0 ts is_top (all_rows s rows) all 0 1 (top ∷ []) [] ms (omega arith) agree reads.1 (good, refl) (λ most le. at_top q most le) linked
+outermost : (ps : List Position) (i : ℕ) → (position_at ps 0).parent ≡ 0 → further_out ps i 0 ≡ 0
+outermost ps zero e = refl
+outermost ps (suc i) e = ap (λ n. further_out ps i n) e ∙ outermost ps i e
+
+zero_other : (n : ℕ) → 0 < n → (0 == n) ≡ false
+zero_other n lt = grind (arith, nat_tests)
+
+beside : (n : ℕ) → 0 < n → (0 == n || false) ≡ false
+beside n lt = ap (λ (b : Bool). b || false) (zero_other n lt)
+
+in_document : (size : ℕ) (v : Valued) → IsNear top 1 size v.spot.around → Parts (record { number = 0; last = 0 + size }) v
+in_document size v h =
+    h.outer 0 (omega arith)
+    ∙ elim h.place [
+      | inl e ↦ within 0 (0 + size) (first_of v.spot.around) (omega arith) (omega (arith, e))
+      | inr p ↦ within 0 (0 + size) (first_of v.spot.around) (omega arith) (omega (arith, p.1))
+    ]
+
+chain_top : (q : Asked) → (position_at q.positions 0).parent ≡ 0 → (i : ℕ) → further_out q.positions i 0 ≡ slice_index_or (0 ∷ []) i 0
+chain_top q e zero = refl
+chain_top q e (suc i) = ap (λ n. further_out q.positions i n) e ∙ outermost q.positions i e
+
+path_top : (q : Asked) (most : ℕ) → path_to q.rows q.positions most 0 ≡ []
+path_top q zero = refl
+path_top q (suc most) = refl
+
+good_top : (q : Asked) → IsGood q 0 → (i : ℕ) → IsGood q (slice_index_or (0 ∷ []) i 0)
+good_top q g zero = g
+good_top q g (suc i) = g
+
+-- what an index answers of all that is met in a document
+pub all_answered : (k : Kind) (s : Rows) (links : ℕ → Option Link) (is_target : ℕ → Bool) (ms : Members) → AreRows s 0 (whole s) → AreTargets links is_target
+    → judged s links (kept_in is_target (all_met k s (object ms))) (positions_in (all_met k s (object ms))) (notes_in links (all_met k s (object ms))) ≡ flat_map (references_at links (values_in (all_met k s (object ms)))) (all_met k s (object ms))
+all_answered k s links is_target ms rows targets =
+    let inside : List Meeting = meetings k s (λ m t. Always) top 1 0 (whole s) ms in
+    let all : List Meeting = all_met k s (object ms) in
+    let ps : List Position = positions_in all in
+    let q : Asked = record { rows = s; positions = ps; values = values_in all } in
+    let before : IsBefore top 1 = record { first = omega arith; beyond = λ n le. beside n (omega (arith, le)) } in
+    let p : IsPlaced top 1 inside = walk_holds k s _ (placed s) (λ m t. Always) top 1 0 (whole s) ms rows before in
+    let reads : Reads ps 0 ps = reads_behind [] ps 0 refl in
+    let good : IsGood q 0 = all_weaker (λ (v : Valued). IsNear top 1 (entered inside) v.spot.around) (Parts (record { number = 0; last = 0 + entered inside })) (values_in all) (λ v h. in_document (entered inside) v h) p.near in
+    let ready : IsReady q top = record {
+      chain = λ i. chain_top q refl i;
+      path = λ most le. path_top q most;
+      good = λ i. good_top q good i;
+    } in
+    answers q links is_target (kept_in is_target all) all (record { targets = targets; kept = refl; top = good })
+    (tt, walk_holds k s (Fits q) (fits q) (λ m t. Always) top 1 0 (whole s) ms rows reads.1 p.parted (omega arith) ready)

@@ -7,12 +7,11 @@ use Rattle.yv_values.specs.Count.{counted}
 use Rattle.yv_values.specs.Pairs.{IsWithin, Keeps}
 use Rattle.yv_values.specs.Values.{Val}
 use Rattle.yv_nodes.specs.Rows.{Rows}
-use Rattle.yv_references.specs.Findings.{Gains, index_of, Indexes, IsKept}
-use Rattle.yv_references.specs.Notes.{asked, asked_once, climbed_to, judge, judged, Noted, path_of, Position, position_at}
-use Rattle.yv_references.specs.Positions.{is_it, is_within, Kept}
+use Rattle.yv_references.specs.Findings.{Gains, index_of, Indexes, IsKept, Kept, Noted, Position, position_at}
+use Rattle.yv_references.specs.InnerAnswers.{asked, asked_once, climbed_to, is_it, is_within, judge, judged, path_of}
 use Rattle.yv_nodes.specs.Link.{Link}
 use Rattle.yv_references.specs.Place.{Place}
-use Rattle.yv_references.specs.References.{paths_in, told_unless}
+use Rattle.yv_references.specs.References.{paths_in, path_unless}
 use Rattle.yv_references.specs.Same.{same_value}
 use Rattle.yv_references.proofs.Same.{same_value-Decides}
 
@@ -74,21 +73,21 @@ unlinked s links ks ps n old e = rw e (sym (append-nil old))
 -- what is answered of a note whose path climbs to `from`, where the last object is `last`
 pub judge_is : (s : Rows) (links : ℕ → Option Link) (is : Indexes) (ks : List Kept) (ps : List Position) (n : Noted) (link : Link) (from last : ℕ) (b : Bool)
     → Gains [] is ks → links n.node ≡ Some link → from ≡ climbed_to ps link.climbs n.position → last ≡ (position_at ps from).last
-    → (IsTrue b ↔ IsWithin (index_of is link.target) (n.value ∷ []) from last) → judge s links ks ps n ≡ told_unless b (path_of s ps n)
+    → (IsTrue b ↔ IsWithin (index_of is link.target) (n.value ∷ []) from last) → judge s links ks ps n ≡ path_unless b (path_of s ps n)
 judge_is s links is ks ps n link from last b g e f h a =
-    rw (e, ← f, ← h) (ap (λ c. told_unless c (path_of s ps n)) (sym (answer_is is ks link.target n.value from last b g a)))
+    rw (e, ← f, ← h) (ap (λ c. path_unless c (path_of s ps n)) (sym (answer_is is ks link.target n.value from last b g a)))
 
-pub reaches : (s : Rows) (ps : List Position) (n : Noted) (b : Bool) (told old : List (List Place)) → told ≡ told_unless b (path_of s ps n) → b ≡ true → old ≡ old ++ told
-reaches s ps n b told old e f = sym (ap (λ fs. old ++ fs) (e ∙ ap (λ c. told_unless c (path_of s ps n)) f) ∙ append-nil old)
+pub reaches : (s : Rows) (ps : List Position) (n : Noted) (b : Bool) (told old : List (List Place)) → told ≡ path_unless b (path_of s ps n) → b ≡ true → old ≡ old ++ told
+reaches s ps n b told old e f = sym (ap (λ fs. old ++ fs) (e ∙ ap (λ c. path_unless c (path_of s ps n)) f) ∙ append-nil old)
 
 map_more : (paths : List (Vec Place Global)) (path : Vec Place Global) → paths_in (paths ++ path ∷ []) ≡ paths_in paths ++ path.items ∷ []
 map_more [] path = refl
 map_more (p ∷ ps) path = ap (λ qs. p.items ∷ qs) (map_more ps path)
 
 pub misses : (s : Rows) (ps : List Position) (n : Noted) (b : Bool) (told : List (List Place)) (old new : List (Vec Place Global)) (path : Vec Place Global)
-    → told ≡ told_unless b (path_of s ps n) → b ≡ false → path.items ≡ path_of s ps n → new ≡ old ++ path ∷ [] → paths_in new ≡ paths_in old ++ told
+    → told ≡ path_unless b (path_of s ps n) → b ≡ false → path.items ≡ path_of s ps n → new ≡ old ++ path ∷ [] → paths_in new ≡ paths_in old ++ told
 misses s ps n b told old new path e f g h =
-    ap paths_in h ∙ map_more old path ∙ ap (λ q. paths_in old ++ q ∷ []) g ∙ ap (λ c. paths_in old ++ told_unless c (path_of s ps n)) (sym f) ∙ ap (λ t. paths_in old ++ t) (sym e)
+    ap paths_in h ∙ map_more old path ∙ ap (λ q. paths_in old ++ q ∷ []) g ∙ ap (λ c. paths_in old ++ path_unless c (path_of s ps n)) (sym f) ∙ ap (λ t. paths_in old ++ t) (sym e)
 
 -- ---- all notes
 

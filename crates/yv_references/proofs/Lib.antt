@@ -1,11 +1,10 @@
-pub mod Paths
-pub mod Near
-pub mod Ends
-pub mod Counted
 pub mod Rowed
+pub mod Walked
+pub mod Placed
 pub mod Answered
+pub mod Counted
 pub mod Marked
 pub mod Same
 pub mod Judged
 pub mod Told
-pub mod Walked
+pub mod Findings

@@ -2,7 +2,7 @@
 use Rattle.std.proofs.Common.{◌≡◌, ℕ, zero, suc, Bool, true, false, ◌||◌, Option, Some, List, [], ◌∷◌, refl, ap, ◌∙◌}
 use Rattle.std.proofs.lemmas.Bool.Decides.{Decides-eqb}
 use Rattle.yv_nodes.specs.Link.{is_target, leads_to, Link, link_in}
-use Rattle.yv_references.specs.Notes.{AreTargets}
+use Rattle.yv_references.specs.InnerAnswers.{AreTargets}
 
 or_right : (a b : Bool) → b ≡ true → (a || b) ≡ true
 or_right true b e = refl

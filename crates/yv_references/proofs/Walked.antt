@@ -1,108 +1,177 @@
--- What a walk meets, one thing after another.
-use Rattle.std.proofs.Common.{◌≡◌, ℕ, ◌+◌, ◌-◌, ◌⊎◌, inl, inr, List, [], ◌∷◌, ◌++◌, length, Bool, Option, None, refl, sym, ap, subst, ◌∙◌, append_assoc, append-nil, arith}
-use Rattle.std.specs.List.{slice_set}
-use Rattle.std.proofs.Math.Seq.{set-append_seam}
-use Rattle.serde_json.specs.Data.{Members, no_members}
+-- What holds of all that a walk meets: the kinds of nodes are gone through once, here.
+use Rattle.std.proofs.Common.{◌≡◌, ℕ, ◌+◌, List, [], ◌∷◌, ◌++◌, length, Bool, true, false, Option, Some, None, cond, refl}
+use Rattle.std.specs.List.{AllByRecursion}
+use Rattle.serde_json.specs.Data.{Data, null, boolean, number, string, array, object, Items, no_items, item, Members, no_members}
+use Rattle.serde_json.specs.Find.{get_member}
+use Rattle.yv_properties.specs.Kinds.{is_operation}
 use Rattle.yv_properties.specs.declared.kind.NodeKind.{NodeKind}
 use Rattle.yv_properties.specs.declared.kind.NodeKind.TheVariants as kind
-use Rattle.yv_values.specs.Values.{Val}
-use Rattle.yv_nodes.specs.Rows.{Rows}
-use Rattle.yv_nodes.specs.Tree.{count, Label, node, Forest, no_trees, tree}
+use Rattle.yv_selection.specs.declared.kind.Kind.{Kind}
+use Rattle.yv_nodes.specs.Rows.{Rows, row_at}
+use Rattle.yv_nodes.specs.Tree.{count, Label, node, Tree, Forest, no_trees, tree}
+use Rattle.yv_nodes.specs.declared.node.NodeId.{NodeId}
+use Rattle.yv_references.specs.declared.scope.Scope.{Scope}
 use Rattle.yv_references.specs.declared.scope.Scope.TheVariants.{Always}
-use Rattle.yv_references.specs.Findings.{ended, Findings, Gains, Indexes, IsKept, Meets, opened, with_last}
-use Rattle.yv_references.specs.Notes.{kind_notes, Noted, notes, object_positions, Position, position_at, positions}
-use Rattle.yv_references.specs.Positions.{entered, Kept, kept, tree_entered}
-use Rattle.yv_nodes.specs.Link.{Link}
-use Rattle.yv_references.proofs.Ends.{from_head, join_length, move, positions_length}
+use Rattle.yv_references.specs.InUse.{case_scope, scope_in}
+use Rattle.yv_references.proofs.Rowed.{AreRows}
+use Rattle.yv_references.specs.Meetings.{at, Below, Meeting, stand, written, ending, met, Node, Spot, entered, entries_met, entry_met, in_entry, in_no_object, is_entered, is_left, items_met, kind_met, meetings, node_met, object_met}
 
-kept_left : (xs ys : List Kept) (n : ℕ) (v : Val) (p : ℕ) → IsKept xs n v p → IsKept (xs ++ ys) n v p
-kept_left [] ys n v p h = absurd h
-kept_left (x ∷ xs) ys n v p (inl e) = inl e
-kept_left (x ∷ xs) ys n v p (inr h) = inr (kept_left xs ys n v p h)
+-- nothing is written
+abbrev pub IsUnwritten : Meeting → Type 0
+IsUnwritten (written m) = ⊥
+IsUnwritten _ = Unit {0}
 
-kept_right : (xs ys : List Kept) (n : ℕ) (v : Val) (p : ℕ) → IsKept ys n v p → IsKept (xs ++ ys) n v p
-kept_right [] ys n v p h = h
-kept_right (x ∷ xs) ys n v p h = inr (kept_right xs ys n v p h)
+abbrev pub AreUnwritten : List Meeting → Type 0
+AreUnwritten ms = AllByRecursion IsUnwritten ms
 
-kept_split : (xs ys : List Kept) (n : ℕ) (v : Val) (p : ℕ) → IsKept (xs ++ ys) n v p → IsKept xs n v p ⊎ IsKept ys n v p
-kept_split [] ys n v p h = inr h
-kept_split (x ∷ xs) ys n v p (inl e) = inl (inl e)
-kept_split (x ∷ xs) ys n v p (inr h) = elim (kept_split xs ys n v p h) [ inl a ↦ inl (inr a) | inr b ↦ inr b ]
+-- it is met at this spot, and enters no object; a value is one of the node of its number
+abbrev pub IsPlain : Rows → Spot → Meeting → Type 0
+IsPlain s spot (stand m) = is_entered m.found ≡ 0
+IsPlain s spot (written m) = (m.spot ≡ spot) × ((row_at s m.node).label ≡ m.label)
+IsPlain s spot (ending m) = Unit {0}
+IsPlain s spot (met m) = m.spot ≡ spot
 
-gains_none : (is : Indexes) → Gains is is []
-gains_none is = record { each = λ n v p. (λ h. inl h, λ h. elim h [ inl a ↦ a | inr b ↦ absurd b ]) }
+-- an object that is entered, of the node n, with the number next
+abbrev pub entered_stand : NodeId → Option ℕ → Forest → Spot → ℕ → Members → List Meeting → Meeting
+entered_stand n i kids spot next ms inside = stand (record { node = n; item = i; spot = spot; last = next + entered inside; trees = kids; found = object ms })
 
-gains_more : (a b c : Indexes) (xs ys : List Kept) → Gains a b xs → Gains b c ys → Gains a c (xs ++ ys)
-gains_more a b c xs ys g h = record {
-  each = λ n v p. (
-    λ k. elim ((h.each n v p).0 k) [
-      | inl m ↦ elim ((g.each n v p).0 m) [ inl o ↦ inl o | inr o ↦ inr (kept_left xs ys n v p o) ]
-      | inr m ↦ inr (kept_right xs ys n v p m)
-    ],
-    λ k. elim k [
-      | inl o ↦ (h.each n v p).1 (inl ((g.each n v p).1 (inl o)))
-      | inr m ↦ elim (kept_split xs ys n v p m) [ inl o ↦ (h.each n v p).1 (inl ((g.each n v p).1 (inr o))) | inr o ↦ (h.each n v p).1 (inr o) ]
-    ],
-  );
-}
+abbrev pub Property : Type 1
+Property = Spot → ℕ → List Meeting → Type 0
 
-pub nothing_met : (a : Findings) → Meets a a [] [] []
-nothing_met a = record { indexes = gains_none a.indexes; positions = sym (append-nil a.positions); notes = sym (append-nil a.notes) }
+-- it holds of what is met at a spot, where the next object has this number, if it holds of the parts
+pub record Closed (s : Rows) (P : Spot → ℕ → List Meeting → Type 0) : Type 0 where
+  pub none : (spot : Spot) (next : ℕ) → P spot next []
+  pub both : (spot : Spot) (next : ℕ) (xs ys : List Meeting) → P spot next xs → P spot (next + entered xs) ys → P spot next (xs ++ ys)
+  pub plain : (spot : Spot) (next : ℕ) (m : Meeting) → IsPlain s spot m → P spot next (m ∷ [])
+  pub object : (spot : Spot) (next entry : ℕ) (n : NodeId) (l : Label) (i : Option ℕ) (kids : Forest) (ms : Members) (xs : List Meeting) → (row_at s n).label ≡ l
+      → P (record { path = at spot l i; around = next ∷ spot.around; entry = entry }) (next + 1) xs
+      → P spot next (entered_stand n i kids (record { path = at spot l i; around = next ∷ spot.around; entry = entry }) next ms xs ∷ xs)
+  pub absent : (spot : Spot) (next : ℕ) (l : Label) (xs : List Meeting) → AreUnwritten xs → P (in_no_object spot l) next xs → P spot next xs
 
-pub met_behind : (a b c : Findings) (ks js : List Kept) (ps qs : List Position) (ns ms : List Noted) → Meets a b ks ps ns → Meets b c js qs ms → Meets a c (ks ++ js) (ps ++ qs) (ns ++ ms)
-met_behind a b c ks js ps qs ns ms g h = record {
-  indexes = gains_more a.indexes b.indexes c.indexes ks js g.indexes h.indexes;
-  positions = h.positions ∙ ap (λ x. x ++ qs) g.positions ∙ append_assoc a.positions ps qs;
-  notes = h.notes ∙ ap (λ x. x ++ ms) g.notes ∙ append_assoc a.notes ns ms;
-}
+-- ---- nothing is written in an object without members
 
--- ---- nothing is noted where nothing is written
+unwritten_append : (xs ys : List Meeting) → AreUnwritten xs → AreUnwritten ys → AreUnwritten (xs ++ ys)
+unwritten_append [] ys p q = q
+unwritten_append (x ∷ xs) ys p q = (p.0, unwritten_append xs ys p.1 q)
 
-kind_nothing : (k : NodeKind) (link : Option Link) (l : Label) (here next n : ℕ) (size : Members → ℕ) (inside : ℕ → Members → List Noted) (nodes : List Noted)
-    → nodes ≡ [] → kind_notes k link l here next n None size inside nodes ≡ []
-kind_nothing kind.Choice link l here next n size inside nodes e = e
-kind_nothing kind.Case link l here next n size inside nodes e = e
-kind_nothing kind.Container link l here next n size inside nodes e = refl
-kind_nothing kind.Leaf link l here next n size inside nodes e = refl
-kind_nothing kind.LeafList link l here next n size inside nodes e = refl
-kind_nothing kind.List link l here next n size inside nodes e = refl
-kind_nothing _ link l here next n size inside nodes e = refl
+unwritten_if : (c : Bool) (xs : List Meeting) → AreUnwritten xs → AreUnwritten (cond c [] xs)
+unwritten_if true xs p = tt
+unwritten_if false xs p = p
 
-pub nothing_noted : (links : ℕ → Option Link) (here next first : ℕ) (ts : Forest) → notes links here next first ts no_members ≡ []
-nothing_noted links here next first no_trees = refl
-nothing_noted links here next first (tree (node l kids) ts) =
-    ap (λ xs. xs ++ notes links here (next + tree_entered (node l kids) no_members) (first + 1 + count kids) ts no_members)
-    (kind_nothing l.defined.kind (links first) l here next first _ _ _ (nothing_noted links here next (first + 1) kids))
-    ∙ nothing_noted links here (next + tree_entered (node l kids) no_members) (first + 1 + count kids) ts
+kind_unwritten : (K : NodeKind) (m : NodeId) (l : Label) (kids : Forest) (spot : Spot) (scope : Scope) (next : ℕ) (below : Below)
+    → ((at : Spot) (from : ℕ) (inner : Scope) → AreUnwritten (below.inside at from inner no_members)) → AreUnwritten below.cases → AreUnwritten below.nodes
+    → AreUnwritten (kind_met K m l kids spot scope next None below)
+kind_unwritten kind.Container m l kids spot scope next below h p q = unwritten_if l.defined.has_presence _ (h (in_no_object spot l) next scope)
+kind_unwritten kind.Choice m l kids spot scope next below h p q = p
+kind_unwritten kind.Case m l kids spot scope next below h p q = q
+kind_unwritten _ m l kids spot scope next below h p q = tt
 
--- ---- an object that is entered, walked over and left
+unwritten : (k : Kind) (s : Rows) (scope_of : ℕ → Tree → Scope) (spot : Spot) (next first : ℕ) (ts : Forest) → AreUnwritten (meetings k s scope_of spot next first ts no_members)
+unwritten k s scope_of spot next first no_trees = tt
+unwritten k s scope_of spot next first (tree (node l kids) ts) =
+    let m : NodeId = record { 0 = first } in
+    let scope : Scope = scope_in k l.is_config (scope_of first (node l kids)) in
+    let own : Node = record { node = m; label = l; spot = spot; scope = scope; members = no_members; kids = kids } in
+    let below : Below = record {
+      inside = λ at from inner ds. meetings k s (λ n t. inner) at from (first + 1) kids ds;
+      cases = meetings k s (case_scope s m (first + 1) kids no_members) spot next (first + 1) kids no_members;
+      nodes = meetings k s (λ n t. scope) spot next (first + 1) kids no_members;
+    } in
+    let left : Bool = is_left l.defined.kind scope None in
+    let inward : List Meeting = kind_met l.defined.kind m l kids spot scope next None below in
+    let here : List Meeting = cond left [] inward in
+    unwritten_append (node_met m l kids spot scope next no_members below) _
+    (unwritten_if (is_operation l.defined.kind) (here ++ met own ∷ [])
+    (unwritten_append here (met own ∷ [])
+    (unwritten_if left inward (kind_unwritten l.defined.kind m l kids spot scope next below (λ at from i. unwritten k s (λ n t. i) at from (first + 1) kids)
+    (unwritten k s (case_scope s m (first + 1) kids no_members) spot next (first + 1) kids) (unwritten k s (λ n t. scope) spot next (first + 1) kids))) (tt, tt)))
+    (unwritten k s scope_of spot (next + entered (node_met m l kids spot scope next no_members below)) (first + 1 + count kids) ts)
 
-pub object_met : (s : Rows) (links : ℕ → Option Link) (is_target : ℕ → Bool) (a b c d : Findings) (parent n first : ℕ) (nth : Option ℕ) (ts : Forest) (ms : Members)
-    → b.positions ≡ a.positions ++ opened parent n nth ∷ [] → b.indexes ≡ a.indexes → b.notes ≡ a.notes
-    → Meets b c (kept s is_target (λ m t. Always) (length a.positions) (length b.positions) first ts ms) (positions (length a.positions) (length b.positions) first ts ms)
-    (notes links (length a.positions) (length b.positions) first ts ms)
-    → d.positions ≡ ended c.positions (length a.positions) → d.indexes ≡ c.indexes → d.notes ≡ c.notes
-    → Meets a d (kept s is_target (λ m t. Always) (length a.positions) (length a.positions + 1) first ts ms)
-    (object_positions parent (length a.positions) n nth ms (λ ds. entered ts ds) (λ at from ds. positions at from first ts ds))
-    (notes links (length a.positions) (length a.positions + 1) first ts ms)
-object_met s links is_target a b c d parent n first nth ts ms entering same_indexes same_notes inside leaving last_indexes last_notes =
-    let k = length a.positions in
-    let own : Position = opened parent n nth in
-    let from : length b.positions ≡ k + 1 = ap length entering ∙ join_length a.positions (own ∷ []) k 1 refl refl in
-    let met : Meets b c (kept s is_target (λ m t. Always) k (k + 1) first ts ms) (positions k (k + 1) first ts ms) (notes links k (k + 1) first ts ms) =
-    subst (λ j. Meets b c (kept s is_target (λ m t. Always) k j first ts ms) (positions k j first ts ms) (notes links k j first ts ms)) from inside in
-    let ps = positions k (k + 1) first ts ms in
-    let all : c.positions ≡ a.positions ++ own ∷ ps = met.positions ∙ ap (λ xs. xs ++ ps) entering ∙ move a.positions ps own in
-    let many : length ps ≡ entered ts ms = positions_length k (k + 1) first ts ms in
-    let size : length (a.positions ++ own ∷ ps) ≡ k + (1 + entered ts ms) = join_length a.positions (own ∷ ps) k (1 + entered ts ms) refl (omega (arith, many)) in
-    let last : length (a.positions ++ own ∷ ps) - 1 ≡ k + entered ts ms = omega (arith, size) in
-    let here : position_at (a.positions ++ own ∷ ps) k ≡ own = from_head a.positions ps own k refl in
-    record {
-      indexes = subst (λ x. Gains x d.indexes (kept s is_target (λ m t. Always) k (k + 1) first ts ms)) same_indexes
-          (subst (λ x. Gains b.indexes x (kept s is_target (λ m t. Always) k (k + 1) first ts ms)) (sym last_indexes) met.indexes);
-      positions = leaving ∙ ap (λ (xs : List Position). ended xs k) all
-          ∙ ap (λ (o : Position). slice_set (a.positions ++ own ∷ ps) k (with_last o (length (a.positions ++ own ∷ ps) - 1))) here
-          ∙ ap (λ (j : ℕ). slice_set (a.positions ++ own ∷ ps) k (with_last own j)) last
-          ∙ set-append_seam a.positions own ps (with_last own (k + entered ts ms));
-      notes = last_notes ∙ met.notes ∙ ap (λ xs. xs ++ notes links k (k + 1) first ts ms) same_notes;
-    }
+-- ---- all nodes
+
+record Holds (s : Rows) (P : Spot → ℕ → List Meeting → Type 0) (spot : Spot) (next : ℕ) (below : Below) : Type 0 where
+  pub closed : Closed s P
+  pub inside : (at : Spot) (from : ℕ) (scope : Scope) (ms : Members) → P at from (below.inside at from scope ms)
+  pub absent : (at : Spot) (from : ℕ) (scope : Scope) → AreUnwritten (below.inside at from scope no_members)
+  pub cases : P spot next below.cases
+  pub nodes : P spot next below.nodes
+
+object_holds : (s : Rows) (P : Spot → ℕ → List Meeting → Type 0) (n : NodeId) (l : Label) (i : Option ℕ) (kids : Forest) (spot : Spot) (next entry : ℕ) (d : Data) (below : Below) (here : ℕ) → (row_at s n).label ≡ l
+    → Holds s P spot here below → P spot next (object_met n i kids (record { path = at spot l i; around = next ∷ spot.around; entry = entry }) next d below)
+object_holds s P n l i kids spot next entry (object ms) below here is h =
+    h.closed.object spot next entry n l i kids ms _ is (h.inside (record { path = at spot l i; around = next ∷ spot.around; entry = entry }) (next + 1) Always ms)
+object_holds s P n l i kids spot next entry null below here is h = h.closed.plain spot next _ refl
+object_holds s P n l i kids spot next entry (boolean x) below here is h = h.closed.plain spot next _ refl
+object_holds s P n l i kids spot next entry (number x) below here is h = h.closed.plain spot next _ refl
+object_holds s P n l i kids spot next entry (string x) below here is h = h.closed.plain spot next _ refl
+object_holds s P n l i kids spot next entry (array x) below here is h = h.closed.plain spot next _ refl
+
+if_holds : (s : Rows) (P : Spot → ℕ → List Meeting → Type 0) (spot : Spot) (next : ℕ) (c : Bool) (xs : List Meeting) → Closed s P → P spot next xs → P spot next (cond c [] xs)
+if_holds s P spot next true xs h p = h.none spot next
+if_holds s P spot next false xs h p = p
+
+items_hold : (s : Rows) (P : Spot → ℕ → List Meeting → Type 0) (n : NodeId) (l : Label) (spot : Spot) (next : ℕ) (done : List Data) (ds : Items) → (row_at s n).label ≡ l
+    → Closed s P → P spot next (items_met n l spot done ds)
+items_hold s P n l spot next done no_items is h = h.none spot next
+items_hold s P n l spot next done (item d ds) is h =
+    h.both spot next (written (record { node = n; label = l; spot = spot; before = Some done; found = d }) ∷ []) (items_met n l spot (done ++ d ∷ []) ds)
+    (h.plain spot next _ (refl, is)) (items_hold s P n l spot (next + 0) (done ++ d ∷ []) ds is h)
+
+entry_holds : (s : Rows) (P : Spot → ℕ → List Meeting → Type 0) (n : NodeId) (l : Label) (kids : Forest) (spot : Spot) (next : ℕ) (done : List Data) (d : Data) (below : Below) (here : ℕ) → (row_at s n).label ≡ l
+    → Holds s P spot here below → P spot next (entry_met n l kids spot next done d below)
+entry_holds s P n l kids spot next done d below here is h =
+    h.closed.both spot next (object_met n (Some (length done + 1)) kids (in_entry spot next l (length done + 1)) next d below) _
+    (object_holds s P n l (Some (length done + 1)) kids spot next next d below here is h) (h.closed.plain spot _ _ tt)
+
+entries_hold : (s : Rows) (P : Spot → ℕ → List Meeting → Type 0) (n : NodeId) (l : Label) (kids : Forest) (spot : Spot) (next : ℕ) (done : List Data) (ds : Items) (below : Below) (here : ℕ) → (row_at s n).label ≡ l
+    → Holds s P spot here below → P spot next (entries_met n l kids spot next done ds below)
+entries_hold s P n l kids spot next done no_items below here is h = h.closed.none spot next
+entries_hold s P n l kids spot next done (item d ds) below here is h =
+    h.closed.both spot next (entry_met n l kids spot next done d below) _ (entry_holds s P n l kids spot next done d below here is h)
+    (entries_hold s P n l kids spot (next + entered (entry_met n l kids spot next done d below)) (done ++ d ∷ []) ds below here is h)
+
+kind_holds : (s : Rows) (P : Spot → ℕ → List Meeting → Type 0) (K : NodeKind) (n : NodeId) (l : Label) (kids : Forest) (spot : Spot) (scope : Scope) (next : ℕ) (found : Option Data) (below : Below) → (row_at s n).label ≡ l
+    → Holds s P spot next below → P spot next (kind_met K n l kids spot scope next found below)
+kind_holds s P kind.Container n l kids spot scope next None below is h =
+    if_holds s P spot next l.defined.has_presence _ h.closed (h.closed.absent spot next l _ (h.absent (in_no_object spot l) next scope) (h.inside (in_no_object spot l) next scope no_members))
+kind_holds s P kind.Container n l kids spot scope next (Some d) below is h = object_holds s P n l None kids spot next spot.entry d below next is h
+kind_holds s P kind.Leaf n l kids spot scope next None below is h = h.closed.none spot next
+kind_holds s P kind.Leaf n l kids spot scope next (Some d) below is h = h.closed.plain spot next _ (refl, is)
+kind_holds s P kind.LeafList n l kids spot scope next (Some (array ds)) below is h = items_hold s P n l spot next [] ds is h.closed
+kind_holds s P kind.LeafList n l kids spot scope next None below is h = h.closed.none spot next
+kind_holds s P kind.LeafList n l kids spot scope next (Some _) below is h = h.closed.none spot next
+kind_holds s P kind.List n l kids spot scope next (Some (array ds)) below is h = entries_hold s P n l kids spot next [] ds below next is h
+kind_holds s P kind.List n l kids spot scope next None below is h = h.closed.none spot next
+kind_holds s P kind.List n l kids spot scope next (Some _) below is h = h.closed.none spot next
+kind_holds s P kind.Choice n l kids spot scope next found below is h = h.cases
+kind_holds s P kind.Case n l kids spot scope next found below is h = h.nodes
+kind_holds s P _ n l kids spot scope next found below is h = h.closed.none spot next
+
+-- it holds of what is met by these trees
+pub walk_holds : (k : Kind) (s : Rows) (P : Spot → ℕ → List Meeting → Type 0) → Closed s P → (scope_of : ℕ → Tree → Scope) (spot : Spot) (next first : ℕ) (ts : Forest) (ms : Members) → AreRows s first ts
+    → P spot next (meetings k s scope_of spot next first ts ms)
+walk_holds k s P h scope_of spot next first no_trees ms rows = h.none spot next
+walk_holds k s P h scope_of spot next first (tree (node l kids) ts) ms rows =
+    let m : NodeId = record { 0 = first } in
+    let scope : Scope = scope_in k l.is_config (scope_of first (node l kids)) in
+    let own : Node = record { node = m; label = l; spot = spot; scope = scope; members = ms; kids = kids } in
+    let below : Below = record {
+      inside = λ at from inner ds. meetings k s (λ n t. inner) at from (first + 1) kids ds;
+      cases = meetings k s (case_scope s m (first + 1) kids ms) spot next (first + 1) kids ms;
+      nodes = meetings k s (λ n t. scope) spot next (first + 1) kids ms;
+    } in
+    let inner : Holds s P spot next below = record {
+      closed = h;
+      inside = λ at from i ds. walk_holds k s P h (λ n t. i) at from (first + 1) kids ds rows.1;
+      absent = λ at from i. unwritten k s (λ n t. i) at from (first + 1) kids;
+      cases = walk_holds k s P h (case_scope s m (first + 1) kids ms) spot next (first + 1) kids ms rows.1;
+      nodes = walk_holds k s P h (λ n t. scope) spot next (first + 1) kids ms rows.1;
+    } in
+    let left : Bool = is_left l.defined.kind scope (get_member l.member ms) in
+    let inward : List Meeting = kind_met l.defined.kind m l kids spot scope next (get_member l.member ms) below in
+    let here : List Meeting = cond left [] inward in
+    h.both spot next (node_met m l kids spot scope next ms below) _
+    (if_holds s P spot next (is_operation l.defined.kind) (here ++ met own ∷ []) h
+    (h.both spot next here (met own ∷ [])
+    (if_holds s P spot next left inward h (kind_holds s P l.defined.kind m l kids spot scope next (get_member l.member ms) below rows.0 inner)) (h.plain spot _ (met own) refl)))
+    (walk_holds k s P h scope_of spot (next + entered (node_met m l kids spot scope next ms below)) (first + 1 + count kids) ts ms rows.2)

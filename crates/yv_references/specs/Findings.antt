@@ -1,22 +1,110 @@
--- What a walk that looks for references has found, as it grows.
-use Rattle.std.specs.Prelude.{◌≡◌, ℕ, ◌-◌, ◌⊎◌, ◌↔◌, List, [], ◌∷◌, ◌++◌, length, Option, Some, None}
+-- What a walk keeps of what it meets, so that references can be looked up behind it: the values of targets, the objects that it entered, and
+-- the values of leafrefs.
+use Rattle.std.specs.Prelude.{◌≡◌, ℕ, ◌-◌, ◌⊎◌, ◌↔◌, List, [], ◌∷◌, ◌++◌, length, Bool, Option, Some, None, if◌then◌else◌}
 use Rattle.std.specs.BTreeMap.{is_at}
-use Rattle.std.specs.List.{slice_set}
+use Rattle.std.specs.List.{flat_map, slice_index_or, slice_set}
 use Rattle.std.specs.Map.{lookup}
 use Rattle.std.specs.Ordering.{nat_cmp}
+use Rattle.serde_json.specs.Data.{Data, object, Members}
+use Rattle.yv_selection.specs.declared.kind.Kind.{Kind}
 use Rattle.yv_values.specs.Pairs.{Keeps, Pair}
 use Rattle.yv_values.specs.Values.{Val}
-use Rattle.serde_json.specs.Data.{Members}
-use Rattle.yv_nodes.specs.Rows.{Rows, whole}
-use Rattle.yv_references.specs.declared.scope.Scope.TheVariants.{Always}
-use Rattle.yv_references.specs.Notes.{all_positions, Noted, notes, Position, position_at}
-use Rattle.yv_references.specs.Positions.{Kept, kept}
 use Rattle.yv_nodes.specs.Link.{is_target, Link, link_in}
+use Rattle.yv_nodes.specs.Rows.{Rows}
+use Rattle.yv_references.specs.InUse.{value_of}
+use Rattle.yv_references.specs.Meetings.{all_met, Meeting, stand, written, Stand}
+use Rattle.yv_references.specs.References.{number_of}
+use Rattle.yv_references.specs.Values.{Valued, values_in}
 
--- this value of this target was kept at this place
-abbrev pub IsKept : List Kept → ℕ → Val → ℕ → Type 0
-IsKept [] n v p = ⊥
-IsKept (k ∷ ks) n v p = ((k.target ≡ n) × (k.value ≡ v) × (k.place ≡ p)) ⊎ IsKept ks n v p
+-- ---- what is kept
+
+-- a target's value, and the number of the object where it is or its default is in use
+pub record Kept : Type 0 where
+  pub target : ℕ
+  pub value : Val
+  pub place : ℕ
+
+-- an object that was entered: the number of the one around it, its node, its number from 1 where it is an entry, and the number of the
+-- last object in it
+pub record Position : Type 0 where
+  pub parent : ℕ
+  pub node : ℕ
+  pub item : Option ℕ
+  pub last : ℕ
+
+-- a leafref's value: the number of the object that it is in, its node, its number from 1 where it is an item, and what it is
+pub record Noted : Type 0 where
+  pub position : ℕ
+  pub node : ℕ
+  pub item : Option ℕ
+  pub value : Val
+
+pub record Met : Type 0 where
+  pub kept : List Kept
+  pub positions : List Position
+  pub notes : List Noted
+
+-- ---- what is kept of what is met
+
+-- the number of the object in which something is, and of the one around that; the document is in no other
+abbrev pub first_of : List ℕ → ℕ
+first_of [] = 0
+first_of (n ∷ ns) = n
+
+abbrev pub second_of : List ℕ → ℕ
+second_of [] = 0
+second_of (n ∷ ns) = first_of ns
+
+abbrev pub kept_at : ℕ → ℕ → List Val → List Kept
+kept_at n here [] = []
+kept_at n here (v ∷ vs) = record { target = n; value = v; place = here } ∷ kept_at n here vs
+
+-- values of a target
+abbrev pub kept_if : Bool → ℕ → ℕ → List Val → List Kept
+kept_if is_target n here vs = if is_target then kept_at n here vs else []
+
+abbrev pub kept_of : (is_target : ℕ → Bool) → Valued → List Kept
+kept_of is_target v = kept_if (is_target v.node) v.node (first_of v.spot.around) (v.value ∷ [])
+
+abbrev pub kept_in : (is_target : ℕ → Bool) → List Meeting → List Kept
+kept_in is_target ms = flat_map (kept_of is_target) (values_in ms)
+
+-- only an object is entered
+abbrev pub position_of : Stand → Data → List Position
+position_of m (object ms) = record { parent = second_of m.spot.around; node = m.node.0; item = m.item; last = m.last } ∷ []
+position_of m _ = []
+
+abbrev pub positions_at : Meeting → List Position
+positions_at (stand m) = position_of m m.found
+positions_at _ = []
+
+abbrev pub positions_in : List Meeting → List Position
+positions_in ms = flat_map positions_at ms
+
+-- a value that was read of a leafref with a link
+abbrev pub value_notes : Option Link → (here n : ℕ) → Option ℕ → Option Val → List Noted
+value_notes None here n number v = []
+value_notes (Some link) here n number None = []
+value_notes (Some link) here n number (Some v) = record { position = here; node = n; item = number; value = v } ∷ []
+
+abbrev pub notes_at : (ℕ → Option Link) → Meeting → List Noted
+notes_at links (written m) = value_notes (links m.node.0) (first_of m.spot.around) m.node.0 (number_of m.before) (value_of m.label m.found)
+notes_at links _ = []
+
+abbrev pub notes_in : (ℕ → Option Link) → List Meeting → List Noted
+notes_in links ms = flat_map (notes_at links) ms
+
+abbrev pub met_in : Rows → List Meeting → Met
+met_in s ms = record { kept = kept_in (is_target s.links) ms; positions = positions_in ms; notes = notes_in (link_in s.links) ms }
+
+-- values of targets alone, and those of leafrefs alone
+abbrev pub only_kept : List Kept → Met
+only_kept ks = record { kept = ks; positions = []; notes = [] }
+
+abbrev pub only_notes : List Noted → Met
+only_notes ns = record { kept = []; positions = []; notes = ns }
+
+-- ---- what has been found, as it grows
 
 -- what an index keeps, where there is one
 abbrev pub pairs_in : Option (List Pair) → List Pair
@@ -30,7 +118,7 @@ Indexes = List (ℕ × List Pair)
 abbrev pub index_of : Indexes → ℕ → List Pair
 index_of indexes n = pairs_in (lookup (is_at (nat_cmp n)) indexes)
 
--- the indexes, what was noted of the objects that were entered, and the references
+-- the indexes, the objects that were entered, and the values of leafrefs
 pub record Findings : Type 0 where
   pub indexes : Indexes
   pub positions : List Position
@@ -40,15 +128,26 @@ pub record Findings : Type 0 where
 abbrev pub none_found : Findings
 none_found = record { indexes = []; positions = []; notes = [] }
 
+-- this value of this target was kept at this place
+abbrev pub IsKept : List Kept → ℕ → Val → ℕ → Type 0
+IsKept [] n v p = ⊥
+IsKept (k ∷ ks) n v p = ((k.target ≡ n) × (k.value ≡ v) × (k.place ≡ p)) ⊎ IsKept ks n v p
+
 -- the indexes keep what they kept, and these
 pub record Gains (old new : Indexes) (more : List Kept) : Type 0 where
   pub each : (n : ℕ) (v : Val) (p : ℕ) → Keeps (index_of new n) (v ∷ []) p ↔ (Keeps (index_of old n) (v ∷ []) p ⊎ IsKept more n v p)
 
 -- these were met
-pub record Meets (old new : Findings) (ks : List Kept) (ps : List Position) (ns : List Noted) : Type 0 where
-  pub indexes : Gains old.indexes new.indexes ks
-  pub positions : new.positions ≡ old.positions ++ ps
-  pub notes : new.notes ≡ old.notes ++ ns
+pub record Finds (old new : Findings) (more : Met) : Type 0 where
+  pub indexes : Gains old.indexes new.indexes more.kept
+  pub positions : new.positions ≡ old.positions ++ more.positions
+  pub notes : new.notes ≡ old.notes ++ more.notes
+
+abbrev pub nowhere : Position
+nowhere = record { parent = 0; node = 0; item = None; last = 0 }
+
+abbrev pub position_at : List Position → ℕ → Position
+position_at ps n = slice_index_or ps n nowhere
 
 -- an object whose end isn't known yet
 abbrev pub opened : ℕ → ℕ → Option ℕ → Position
@@ -61,7 +160,6 @@ with_last p last = record { parent = p.parent; node = p.node; item = p.item; las
 abbrev pub ended : List Position → ℕ → List Position
 ended ps n = slice_set ps n (with_last (position_at ps n) (length ps - 1))
 
--- a walk over the whole document met these
-abbrev pub HasMet : Rows → List (Option Link) → Members → Findings → Type 0
-HasMet s links ms found =
-    Meets none_found found (kept s (is_target links) (λ n t. Always) 0 1 0 (whole s) ms) (all_positions (whole s) ms) (notes (link_in links) 0 1 0 (whole s) ms)
+-- a walk over a whole document met these
+abbrev pub HasMet : Kind → Rows → Members → Findings → Type 0
+HasMet k s ms found = Finds none_found found (met_in s (all_met k s (object ms)))

@@ -1,9 +1,8 @@
 pub mod Place
 pub mod Same
 pub mod InUse
-pub mod Reached
+pub mod Meetings
+pub mod Values
 pub mod References
-pub mod Lookups
-pub mod Positions
-pub mod Notes
 pub mod Findings
+pub mod InnerAnswers

@@ -1,14 +1,14 @@
 //! The values of leafrefs that reach nothing.
 ghost use Rattle.std.specs.Prelude.{◌≡◌, ◌+◌, [], ◌∷◌, ◌++◌, List, IfOk, OnOk};
+ghost use Rattle.std.specs.List.{sum_by};
 ghost use Rattle.serde_json.specs.Data.{Members, object};
-ghost use Rattle.yv_nodes.specs.Rows.{whole};
+ghost use Rattle.yv_selection.specs.declared.kind.Kind.{Kind};
 ghost use Rattle.yv_values.specs.Count.{counted};
-ghost use Rattle.yv_references.specs.Findings.{Gains, HasMet};
-ghost use Rattle.yv_references.specs.Notes.{asked, asked_once, climbed_to, further_out, judge, judged, path_to, place_at, position_at};
-ghost use Rattle.yv_references.specs.Positions.{Kept};
-ghost use Rattle.yv_nodes.specs.Link.{AreLinked, link_in};
-ghost use Rattle.yv_references.specs.Lookups.{all_lookups};
-ghost use Rattle.yv_references.specs.References.{all_references, paths_in};
+ghost use Rattle.yv_nodes.specs.Link.{link_in};
+ghost use Rattle.yv_references.specs.Findings.{Gains, HasMet, Kept, position_at};
+ghost use Rattle.yv_references.specs.InnerAnswers.{asked, asked_once, climbed_to, further_out, judge, judged, path_to, place_at};
+ghost use Rattle.yv_references.specs.Meetings.{all_met};
+ghost use Rattle.yv_references.specs.References.{all_references, lookups_at, paths_in};
 
 use crate::found::{Found, Note, Position};
 use crate::place::Step;
@@ -25,14 +25,13 @@ use yv_values::{Meter, Tuple};
 pub fn answer(
     alloc: Global,
     schema: &Schema,
-    links: &Links,
     found: Found,
     meter: &mut Meter,
 ) -> Result<Vec<Vec<Step>>, AllocError>
-    ensures told { IfOk result (λ paths. (ms : Members) → HasMet schema.now links.now ms found → AreLinked (link_in links.now) (whole schema.now)
-        → paths_in paths.items ≡ all_references schema.now (link_in links.now) (object ms)) }
-    ensures steps { OnOk result ((ms : Members) → HasMet schema.now links.now ms found
-        → counted meter.new ≡ counted (meter.old + all_lookups schema.now (link_in links.now) (object ms))) }
+    ensures told { IfOk result (λ paths. (k : Kind) (ms : Members) → HasMet k schema.now ms found
+        → paths_in paths.items ≡ all_references k schema.now (object ms)) }
+    ensures steps { OnOk result ((k : Kind) (ms : Members) → HasMet k schema.now ms found
+        → counted meter.new ≡ counted (meter.old + sum_by (lookups_at (link_in schema.now.links)) (all_met k schema.now (object ms)))) }
 {
     let Found {
         alloc: _,
@@ -43,7 +42,7 @@ pub fn answer(
     let answers = Answers {
         alloc,
         schema,
-        links,
+        links: schema.links(),
         positions,
         targets,
     };
@@ -108,7 +107,7 @@ impl Answers<'_> {
     }
 
     // The object that a path climbs to from another; the first `../` only leaves the leafref itself.
-    fn climbed_to(&self, climbs: Option<u32>, position: u64) -> u64
+    fn climbed_to(&self, climbs: Option<usize>, position: u64) -> u64
         ensures { result ≡ climbed_to self.now.positions.items climbs position }
     {
         match climbs {
@@ -117,7 +116,7 @@ impl Answers<'_> {
         }
     }
 
-    fn further_out(&self, many: u32, position: u64) -> u64
+    fn further_out(&self, many: usize, position: u64) -> u64
         ensures { result ≡ further_out self.now.positions.items many position }
     {
         let mut outer = position;

@@ -1,11 +1,8 @@
 //! What a walk finds of references and of their targets.
 ghost use Rattle.std.specs.Prelude.{◌≡◌, ◌<◌, [], ◌∷◌, ◌++◌, length, Some, IfOk, OnOk};
 ghost use Rattle.yv_nodes.specs.Rows.{row_at};
-ghost use Rattle.yv_references.specs.InUse.{default_value};
-ghost use Rattle.yv_references.specs.Reached.{some_value};
-ghost use Rattle.yv_references.specs.Findings.{ended, Meets, none_found, opened};
-ghost use Rattle.yv_references.specs.Notes.{value_notes};
-ghost use Rattle.yv_references.specs.Positions.{kept_if};
+ghost use Rattle.yv_references.specs.InUse.{default_value, some_value};
+ghost use Rattle.yv_references.specs.Findings.{ended, Finds, kept_if, none_found, only_kept, only_notes, opened, value_notes};
 ghost use Rattle.yv_nodes.specs.Link.{is_target, link_in};
 
 use crate::targets::Targets;
@@ -29,9 +26,9 @@ pub(crate) struct Position {
 }
 
 impl Model for Position {
-    ghost use Rattle.yv_references.specs.Notes as notes;
+    ghost use Rattle.yv_references.specs.Findings as findings;
 
-    ghost Value = { notes.Position };
+    ghost Value = { findings.Position };
 
     ghost view = { λ p. record { parent = p.parent; node = p.node.0; item = p.item; last = p.last } };
 }
@@ -49,7 +46,7 @@ pub(crate) struct Note {
 }
 
 impl Model for Note {
-    ghost use Rattle.yv_references.specs.Notes.{Noted};
+    ghost use Rattle.yv_references.specs.Findings.{Noted};
 
     ghost Value = { Noted };
 
@@ -125,7 +122,7 @@ impl Found {
         value: &Value,
         position: u64,
     ) -> Result<(), AllocError>
-        ensures { OnOk result (Meets self.old self.new (kept_if (is_target links.now node.0) node.0 position (value.now ∷ [])) [] []) }
+        ensures { OnOk result (Finds self.old self.new (only_kept (kept_if (is_target links.now node.0) node.0 position (value.now ∷ [])))) }
     {
         if !links.is_target(node) {
             return Ok(());
@@ -143,8 +140,8 @@ impl Found {
         position: u64,
     ) -> Result<(), AllocError>
         requires { node.0 < length schema.now.nodes }
-        ensures { OnOk result (Meets self.old self.new
-            (kept_if (is_target links.now node.0) node.0 position (some_value (default_value (row_at schema.now node).label))) [] []) }
+        ensures { OnOk result (Finds self.old self.new
+            (only_kept (kept_if (is_target links.now node.0) node.0 position (some_value (default_value (row_at schema.now node).label))))) }
     {
         match schema.node(node).defaults().first() {
             Some(default) => self.keep(links, node, default, position),
@@ -162,7 +159,7 @@ impl Found {
         value: &Value,
         position: u64,
     ) -> Result<(), AllocError>
-        ensures { OnOk result (Meets self.old self.new [] [] (value_notes (link_in links.now node.0) position node.0 item (Some value.now))) }
+        ensures { OnOk result (Finds self.old self.new (only_notes (value_notes (link_in links.now node.0) position node.0 item (Some value.now)))) }
     {
         if links.link(node).is_none() {
             return Ok(());

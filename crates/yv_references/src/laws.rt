@@ -1,69 +1,53 @@
-//! Laws about the definitions only: what an index answers is what a new search finds; and how a walk meets what is to be met.
-ghost use Rattle.std.specs.Prelude.{◌≡◌, ℕ, ◌+◌, Bool, true, List, [], ◌∷◌, ◌++◌, length, Option};
-ghost use Rattle.serde_json.specs.Data.{Members, no_members, object};
-ghost use Rattle.yv_nodes.specs.Numbers.{rows_from};
-ghost use Rattle.yv_nodes.specs.Rows.{Rows, whole};
-ghost use Rattle.yv_nodes.specs.Tree.{Forest, Tree};
-ghost use Rattle.yv_references.specs.declared.scope.Scope.{Scope};
-ghost use Rattle.yv_references.specs.declared.scope.Scope.TheVariants.{Always};
-ghost use Rattle.yv_references.specs.Findings.{ended, Findings, Meets, opened};
-ghost use Rattle.yv_references.specs.Notes.{AreTargets, Noted, Position, all_positions, judged, notes, object_positions, positions};
-ghost use Rattle.yv_references.specs.Positions.{Kept, entered, kept, values_of};
-ghost use Rattle.yv_nodes.specs.Link.{AreLinked, Leads, Link};
-ghost use Rattle.yv_references.specs.Lookups.{lookups};
-ghost use Rattle.yv_references.specs.Reached.{values};
-ghost use Rattle.yv_references.specs.References.{all_references};
+//! Laws about the definitions only: how a walk finds what is to be found of all that it meets.
+ghost use Rattle.std.specs.Prelude.{◌≡◌, ℕ, ◌+◌, List, [], ◌∷◌, ◌++◌, length, Option};
+ghost use Rattle.serde_json.specs.Data.{Members, object};
+ghost use Rattle.yv_values.specs.Values.{Val};
+ghost use Rattle.yv_nodes.specs.Link.{is_target, link_in};
+ghost use Rattle.yv_nodes.specs.Rows.{Rows};
+ghost use Rattle.yv_nodes.specs.Tree.{Forest};
+ghost use Rattle.yv_nodes.specs.declared.node.NodeId.{NodeId};
+ghost use Rattle.yv_references.specs.Findings.{ended, Findings, Finds, first_of, kept_if, met_in, only_kept, opened, positions_in, second_of, value_notes};
+ghost use Rattle.yv_references.specs.InUse.{in_use, some_value, value_of};
+ghost use Rattle.yv_references.specs.Meetings.{entered, found_of, Meeting, met, Node, Spot, stand, Written, written};
+ghost use Rattle.yv_references.specs.References.{number_of};
 
-/// What is kept of a target below an object is, value by value and in order, what its path reaches from there.
-pub fn reached()
-    ensures { (s : Rows) (is_target : ℕ → Bool) (scope_of : ℕ → Tree → Scope) (path : List ℕ) (target here next first : ℕ) (ts : Forest) (ms : Members)
-        → Leads first ts path target → is_target target ≡ true
-        → values_of target (kept s is_target scope_of here next first ts ms) ≡ values s scope_of first ts ms path }
-{}
-
-/// The answers of the index are what a search afresh finds, in the same order.
-pub fn references()
-    ensures { (s : Rows) (links : ℕ → Option Link) (is_target : ℕ → Bool) (ms : Members)
-        → s.nodes ≡ rows_from 0 (whole s) → AreTargets links is_target → AreLinked links (whole s)
-        → judged s links (kept s is_target (λ n t. Always) 0 1 0 (whole s) ms) (all_positions (whole s) ms) (notes links 0 1 0 (whole s) ms)
-        ≡ all_references s links (object ms) }
-{}
-
-/// As many references are noted as are looked up.
-pub fn noted()
-    ensures { (links : ℕ → Option Link) (here next first : ℕ) (ts : Forest) (ms : Members)
-        → length (notes links here next first ts ms) ≡ lookups links first ts ms }
-{}
-
-/// No reference is noted where nothing is written.
-pub fn nothing_noted()
-    ensures { (links : ℕ → Option Link) (here next first : ℕ) (ts : Forest) → notes links here next first ts no_members ≡ [] }
-{}
-
-/// As many objects are noted as are entered.
+/// As many objects are kept as are entered.
 pub fn counted()
-    ensures { (here next first : ℕ) (ts : Forest) (ms : Members) → length (positions here next first ts ms) ≡ entered ts ms }
+    ensures { (ms : List Meeting) → length (positions_in ms) ≡ entered ms }
 {}
 
 /// What stays as it is has met nothing.
 pub fn nothing_met()
-    ensures { (a : Findings) → Meets a a [] [] [] }
+    ensures { (s : Rows) (a : Findings) → Finds a a (met_in s []) }
 {}
 
 /// What is met later comes after what was met before.
 pub fn met_behind()
-    ensures { (a b c : Findings) (ks js : List Kept) (ps qs : List Position) (ns ms : List Noted)
-        → Meets a b ks ps ns → Meets b c js qs ms → Meets a c (ks ++ js) (ps ++ qs) (ns ++ ms) }
+    ensures { (s : Rows) (a b c : Findings) (xs ys : List Meeting)
+        → Finds a b (met_in s xs) → Finds b c (met_in s ys) → Finds a c (met_in s (xs ++ ys)) }
 {}
 
-/// What an object meets that is entered, walked over and left.
+/// What is found of a value that is written for a leaf or an item: the value of a target, and that of a leafref.
+pub fn value_met()
+    ensures { (s : Rows) (m : Written) (v : Option Val) → value_of m.label m.found ≡ v → met_in s (written m ∷ [])
+        ≡ record {
+          kept = kept_if (is_target s.links m.node.0) m.node.0 (first_of m.spot.around) (some_value v);
+          positions = [];
+          notes = value_notes (link_in s.links m.node.0) (first_of m.spot.around) m.node.0 (number_of m.before) v;
+        } }
+{}
+
+/// What is found of a node apart from what is below it: the defaults that are in use.
+pub fn default_met()
+    ensures { (s : Rows) (m : Node) → met_in s (met m ∷ [])
+        ≡ only_kept (kept_if (is_target s.links m.node.0) m.node.0 (first_of m.spot.around) (in_use m.label.defined.kind m.label m.scope (found_of m))) }
+{}
+
+/// What is found of an object that is entered, walked over and left.
 pub fn object_met()
-    ensures { (s : Rows) (links : ℕ → Option Link) (is_target : ℕ → Bool) (a b c d : Findings) (parent n first : ℕ) (nth : Option ℕ) (ts : Forest) (ms : Members)
-        → b.positions ≡ a.positions ++ opened parent n nth ∷ [] → b.indexes ≡ a.indexes → b.notes ≡ a.notes
-        → Meets b c (kept s is_target (λ m t. Always) (length a.positions) (length b.positions) first ts ms)
-        (positions (length a.positions) (length b.positions) first ts ms) (notes links (length a.positions) (length b.positions) first ts ms)
+    ensures { (s : Rows) (a b c d : Findings) (n : NodeId) (item : Option ℕ) (spot : Spot) (ts : Forest) (ms : Members) (inside : List Meeting)
+        → b.positions ≡ a.positions ++ opened (second_of spot.around) n.0 item ∷ [] → b.indexes ≡ a.indexes → b.notes ≡ a.notes
+        → Finds b c (met_in s inside)
         → d.positions ≡ ended c.positions (length a.positions) → d.indexes ≡ c.indexes → d.notes ≡ c.notes
-        → Meets a d (kept s is_target (λ m t. Always) (length a.positions) (length a.positions + 1) first ts ms)
-        (object_positions parent (length a.positions) n nth ms (λ ds. entered ts ds) (λ at from ds. positions at from first ts ds))
-        (notes links (length a.positions) (length a.positions + 1) first ts ms) }
+        → Finds a d (met_in s (stand (record { node = n; item = item; spot = spot; last = length a.positions + entered inside; trees = ts; found = object ms }) ∷ inside)) }
 {}

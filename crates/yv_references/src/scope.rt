@@ -1,20 +1,40 @@
 //! Where a rule holds.
 ghost use Rattle.std.specs.Prelude.{◌≡◌};
-ghost use Rattle.yv_references.specs.InUse.{enforces, enforces_beside, uses_defaults};
+ghost use Rattle.yv_references.specs.InUse.{enforces, enforces_beside, is_asked, scope_in, uses_defaults};
 
 use yv_nodes::NodeId;
+use yv_selection::Kind;
 use yv_walk::Standing;
 
-/// Where the rules of a node hold: always, in a case if one of these nodes exists, or only by default.
+/// Where the rules of a node hold: always, in a case if one of these nodes exists, only by default, or not at all.
 #[derive(Clone, Copy, Debug, PartialEq, Eq)]
 pub enum Scope {
     Always,
     InCase(Standing),
     /// In the default case of a choice, if no case of it exists (RFC 7950, section 7.9.3).
     InDefault,
+    /// Nowhere: the node is state, and configuration alone is asked for (RFC 7950, section 7.21.1).
+    Unasked,
 }
 
 impl Scope {
+    /// The scope of a node in this scope, which is configuration or not, in a document of this kind.
+    pub fn narrowed(self, kind: Kind, is_config: bool) -> Scope
+        ensures { result ≡ scope_in kind is_config self }
+    {
+        match kind {
+            Kind::ConfigOnly if !is_config => Scope::Unasked,
+            _ => self,
+        }
+    }
+
+    /// Whether some rule holds.
+    pub fn is_asked(self) -> bool
+        ensures { result ≡ is_asked self }
+    {
+        !matches!(self, Scope::Unasked)
+    }
+
     /// Whether what is mandatory must be there.
     pub fn enforces(self) -> bool
         ensures { result ≡ enforces self }
@@ -22,7 +42,7 @@ impl Scope {
         match self {
             Scope::Always => true,
             Scope::InCase(those) => those.any(),
-            Scope::InDefault => false,
+            Scope::InDefault | Scope::Unasked => false,
         }
     }
 
@@ -33,7 +53,7 @@ impl Scope {
         match self {
             Scope::Always => true,
             Scope::InCase(those) => those.any_but(id),
-            Scope::InDefault => false,
+            Scope::InDefault | Scope::Unasked => false,
         }
     }
 
@@ -42,9 +62,9 @@ impl Scope {
         ensures { result ≡ uses_defaults self }
     {
         match self {
-            Scope::Always => true,
+            Scope::Always | Scope::InDefault => true,
             Scope::InCase(those) => those.any(),
-            Scope::InDefault => true,
+            Scope::Unasked => false,
         }
     }
 }

@@ -1,11 +1,12 @@
--- The steps of a validation are bounded by the sizes of the document and of the schema.
+-- The steps of a validation are bounded by the sizes of the document and of the schema, whatever kind of document is asked for.
 use Rattle.std.proofs.Common.{◌≡◌, ◌≢◌, ◌⊎◌, inl, inr, ℕ, zero, suc, ◌+◌, ◌*◌, ◌≤◌, List, [], ◌∷◌, ◌++◌, length, map, max, Bool, true, false, cond, not, ◌&&◌, ◌||◌, Option, Some, None, is_some, Ordering, Less, Equal, Greater, refl, sym, ap, subst, is_eq, ◌∙◌, arith}
-use Rattle.std.specs.List.{AllByRecursion}
+use Rattle.std.specs.List.{AllByRecursion, sum_by}
 use Rattle.std.specs.Ordering.{nat_cmp, match_ordering}
 use Rattle.std.specs.Cmp.Lexicographic.{slice_cmp}
 use Rattle.std.proofs.lemmas.Map.Text.{is_eq-slice_cmp}
 use Rattle.std.proofs.lemmas.Bool.{true≢false}
 use Rattle.std.proofs.lemmas.List.{length-map}
+use Rattle.std.proofs.lemmas.List.Sums.{sum_by-append, sum_by-cons}
 use Rattle.std.proofs.lemmas.Slice.Eq.{bytes_eq-Decides}
 use Rattle.serde_json.specs.Data.{Data, null, boolean, number, string, array, object, Items, no_items, item, Members, no_members, member}
 use Rattle.serde_json.specs.Find.{get_member}
@@ -18,26 +19,23 @@ use Rattle.yv_values.specs.Values.{Val}
 use Rattle.yv_nodes.specs.declared.node.NodeId.{NodeId}
 use Rattle.yv_leaf_targets.specs.Numbers.{unique_leaf_at}
 use Rattle.yv_nodes.specs.Link.{Link, link_in}
-use Rattle.yv_nodes.specs.Rows.{Rows, whole}
-use Rattle.yv_references.specs.InUse.{value_of}
-use Rattle.yv_references.specs.Lookups.{entries_lookups, item_lookups, kind_lookups, lookups, object_lookups, value_lookups}
-use Rattle.yv_nodes.specs.Tree.{count, Label, Forest, no_trees, tree, node}
-use Rattle.yv_tables.specs.Measures.{greatest, is_container, is_open, measures_of, met, met_below, types_of, uniques_of}
-use Rattle.yv_walk.specs.Context.{members_len}
+use Rattle.yv_nodes.specs.Rows.{Rows, root, whole}
+use Rattle.yv_nodes.specs.Tree.{count, Label, Forest, Tree, no_trees, tree, node}
+use Rattle.yv_tables.specs.Measures.{greatest, is_container, is_open, measures_of, met_below, types_of, uniques_of}
+use Rattle.yv_tables.specs.Measures as measured
 use Rattle.yv_tables.specs.Sound.{IsSound}
+use Rattle.yv_walk.specs.Context.{members_len}
 use Rattle.yv_validate.proofs.Apart.{AreApart, AreApartBelow, AreDistinct, apart, members}
 use Rattle.yv_validate.specs.Size.{size, items_size, members_size}
-use Rattle.yv_validate.specs.Faults.{Leafs, item_tuple, leafs_of}
-use Rattle.yv_validate.specs.Values.{entry_tuple}
-use Rattle.yv_validate.specs.Work.{Costs, array_work, container_work, entries_work, entry_work, forest_work, items_work, kind_work, leaf_work, list_work, tuple_work, uniques_work, value_work, work}
-
--- ---- numbers
-
-pub left_max : (a b k : ℕ) → max a b ≤ k → a ≤ k
-left_max a b k h = omega (arith, h)
-
-pub right_max : (a b k : ℕ) → max a b ≤ k → b ≤ k
-right_max a b k h = omega (arith, h)
+use Rattle.yv_validate.specs.Values.{key_leafs, unique_leafs}
+use Rattle.yv_selection.specs.declared.kind.Kind.{Kind}
+use Rattle.yv_references.specs.declared.scope.Scope.{Scope}
+use Rattle.yv_references.specs.declared.scope.Scope.TheVariants.{Always}
+use Rattle.yv_references.specs.InUse.{case_scope, scope_in, value_of}
+use Rattle.yv_validate.specs.Faults.{item_tuple, tuple_at}
+use Rattle.yv_references.specs.Meetings.{Below, Ending, Meeting, stand, written, ending, met, Node, Spot, entered, entries_met, entry_met, in_container, in_entry, in_no_object, is_left, items_met, kind_met, meetings, node_met, object_met, top}
+use Rattle.yv_references.specs.References.{lookups_at, value_lookups}
+use Rattle.yv_validate.specs.Work.{tuple_work, uniques_work, work, work_at}
 
 -- ---- what a member pays for, beside its own look-up
 
@@ -104,6 +102,16 @@ pub shares_distinct : (k : ℕ) (ns : List (List ℕ)) (ms : Members) → AreDis
 shares_distinct k ns no_members h = omega (arith, shares_none k ns)
 shares_distinct k ns (member key d ms) h = omega (arith, shares_first k ns key d ms h, shares_distinct k ns ms h)
 
+-- ---- sums
+
+-- the steps of one thing that is met
+abbrev pub cost : Kind → Rows → Meeting → ℕ
+cost q s m = work_at q s m + lookups_at (link_in s.links) m
+
+cond_pays : (f : Meeting → ℕ) (c : Bool) (xs : List Meeting) (a : ℕ) → sum_by f xs ≤ a → sum_by f (cond c [] xs) ≤ a
+cond_pays f true xs a p = omega arith
+cond_pays f false xs a p = p
+
 -- ---- what a node costs, for which this is written
 
 tuple_one : (o : Option (List Val)) → tuple_work o ≤ 1
@@ -118,102 +126,92 @@ tried_few : (ts : List Plain) (m : List ℕ) (d : Data) → tried ts m d ≤ len
 tried_few [] m d = omega arith
 tried_few (t ∷ ts) m d = omega (arith, tried_by (is_some (read_by t m d)) (tried ts m d) (length ts) (tried_few ts m d))
 
-value_few : (k : ℕ) (l : Label) (d : Data) → length l.defined.types ≤ k → value_work l d ≤ k
-value_few k l d few = omega (arith, tried_few l.defined.types l.module_name d, few)
+reference_one : (link : Option Link) (v : Option Val) → value_lookups link v ≤ 1
+reference_one None v = omega arith
+reference_one (Some link) None = omega arith
+reference_one (Some link) (Some v) = omega arith
 
--- a value is looked up once at most
-value_one : (link : Option Link) (v : Option Val) → value_lookups link v ≤ 1
-value_one None v = omega arith
-value_one (Some link) None = omega arith
-value_one (Some link) (Some v) = omega arith
+uniques_few : (tuple : List (Option NodeId) → Data → Option (List Val)) (us : List (List (Option NodeId))) (d : Data) → uniques_work tuple us d ≤ length us
+uniques_few tuple [] d = omega arith
+uniques_few tuple (us ∷ rest) d = omega (arith, tuple_one (tuple us d), uniques_few tuple rest d)
 
-items_pay : (k : ℕ) (link : Option Link) (l : Label) (ds : Items) → length l.defined.types + 1 ≤ k
-    → items_work l ds + item_lookups link l ds ≤ items_size ds * (k + 1)
-items_pay k link l no_items few = omega arith
-items_pay k link l (item d ds) few =
+unique_count : (s : Rows) (n : NodeId) (l : Label) → length (unique_leafs s n l) ≡ length l.defined.uniques
+unique_count s n l = length-map l.defined.uniques (map (unique_leaf_at s.nodes n))
+
+leaf_pays : (q : Kind) (s : Rows) (k : ℕ) (n : NodeId) (l : Label) (spot : Spot) (d : Data) → length l.defined.types + 1 ≤ k
+    → cost q s (written (record { node = n; label = l; spot = spot; before = None; found = d })) ≤ k
+leaf_pays q s k n l spot d few =
+    omega (arith, tried_few l.defined.types l.module_name d, reference_one (link_in s.links n.0) (value_of l d), few)
+
+items_pay : (q : Kind) (s : Rows) (k : ℕ) (n : NodeId) (l : Label) (spot : Spot) (done : List Data) (ds : Items) → length l.defined.types + 1 ≤ k
+    → sum_by (cost q s) (items_met n l spot done ds) ≤ items_size ds * (k + 1)
+items_pay q s k n l spot done no_items few = omega arith
+items_pay q s k n l spot done (item d ds) few =
     omega (
       arith,
-      value_few (length l.defined.types) l d (omega arith),
+      sum_by-cons (cost q s) (written (record { node = n; label = l; spot = spot; before = Some done; found = d })) (items_met n l spot (done ++ d ∷ []) ds),
+      tried_few l.defined.types l.module_name d,
       tuple_one (item_tuple l d),
-      value_one link
-          (value_of l d),
-      items_pay k link l ds few,
+      reference_one (link_in s.links n.0) (value_of l d),
+      items_pay q s k n l spot (done ++ d ∷ []) ds few,
       few,
     )
 
--- the cost of an object of a node, the look-ups of references in it among it, with what is to be paid at its end
-abbrev pub PaysInside : ℕ → ℕ → (inside looked : Members → ℕ) → Type 0
-PaysInside k b inside looked = (ms : Members) → inside ms + looked ms ≤ b + members_size ms * (k + 1)
+-- what is below a node pays with what is in it
+record Pays (q : Kind) (s : Rows) (k m inner own : ℕ) (below : Below) : Type 0 where
+  pub inside : (spot : Spot) (next : ℕ) (scope : Scope) (ms : Members) → members_len ms + sum_by (cost q s) (below.inside spot next scope ms) ≤ m + members_size ms * (k + 1)
+  pub absent : (spot : Spot) (next : ℕ) (scope : Scope) → sum_by (cost q s) (below.inside spot next scope no_members) ≤ inner
+  pub cases : sum_by (cost q s) below.cases ≤ inner + own
+  pub nodes : sum_by (cost q s) below.nodes ≤ inner + own
 
-entry_pays : (k b : ℕ) (inside looked : Members → ℕ) → PaysInside k b inside looked → (d : Data)
-    → entry_work inside d + object_lookups d looked ≤ b + size d * (k + 1)
-entry_pays k b inside looked ok (object ms) = ok ms
-entry_pays k b inside looked ok null = omega arith
-entry_pays k b inside looked ok (boolean x) = omega arith
-entry_pays k b inside looked ok (number x) = omega arith
-entry_pays k b inside looked ok (string x) = omega arith
-entry_pays k b inside looked ok (array x) = omega arith
+object_pays : (q : Kind) (s : Rows) (k m : ℕ) (n : NodeId) (i : Option ℕ) (kids : Forest) (spot : Spot) (next : ℕ) (d : Data) (below : Below)
+    → ((at : Spot) (from : ℕ) (ms : Members) → members_len ms + sum_by (cost q s) (below.inside at from Always ms) ≤ m + members_size ms * (k + 1))
+    → sum_by (cost q s) (object_met n i kids spot next d below) ≤ m + size d * (k + 1)
+object_pays q s k m n i kids spot next (object ms) below h =
+    omega (
+      arith,
+      sum_by-cons (cost q s)
+          (stand (record { node = n; item = i; spot = spot; last = next + entered (below.inside spot (next + 1) Always ms); trees = kids; found = object ms }))
+          (below.inside spot (next + 1) Always ms),
+      h spot (next + 1) ms,
+    )
+object_pays q s k m n i kids spot next null below h = omega arith
+object_pays q s k m n i kids spot next (boolean x) below h = omega arith
+object_pays q s k m n i kids spot next (number x) below h = omega arith
+object_pays q s k m n i kids spot next (string x) below h = omega arith
+object_pays q s k m n i kids spot next (array x) below h = omega arith
 
-entries_pay : (k : ℕ) (each : Data → ℕ) (looked : Members → ℕ)
-    → ((d : Data) → each d + object_lookups d looked ≤ k + 1 + size d * (k + 1)) → (ds : Items)
-    → entries_work each ds + entries_lookups ds looked ≤ items_size ds * (k + 1)
-entries_pay k each looked ok no_items = omega arith
-entries_pay k each looked ok (item d ds) = omega (arith, ok d, entries_pay k each looked ok ds)
+entry_pays : (q : Kind) (s : Rows) (k m u : ℕ) (n : NodeId) (l : Label) (kids : Forest) (spot : Spot) (next : ℕ) (done : List Data) (d : Data) (below : Below)
+    → m + u ≤ k → length l.defined.uniques ≤ u
+    → ((at : Spot) (from : ℕ) (ms : Members) → members_len ms + sum_by (cost q s) (below.inside at from Always ms) ≤ m + members_size ms * (k + 1))
+    → sum_by (cost q s) (entry_met n l kids spot next done d below) ≤ (1 + size d) * (k + 1)
+entry_pays q s k m u n l kids spot next done d below le few h =
+    let own : Ending = record { node = n; label = l; spot = spot; before = done; trees = kids; found = d } in
+    omega (
+      arith,
+      sum_by-append (cost q s) (object_met n (Some (length done + 1)) kids (in_entry spot next l (length done + 1)) next d below) (ending own ∷ []),
+      sum_by-cons (cost q s) (ending own) [],
+      object_pays q s k m n (Some (length done + 1)) kids (in_entry spot next l (length done + 1)) next d below h,
+      tuple_one (tuple_at q s own (key_leafs s n l) d),
+      uniques_few (tuple_at q s own) (unique_leafs s n l) d,
+      unique_count s n l,
+      le,
+      few,
+    )
 
-absent_pays : (p : Bool) (n : ℕ) → cond p 0 n ≤ cond (not p) n 0 + 0
-absent_pays true n = omega arith
-absent_pays false n = omega arith
-
-open_more : (b : Bool) (x y : ℕ) → x ≤ y → cond b x 0 ≤ cond b y 0
-open_more true x y h = h
-open_more false x y h = omega arith
-
-container_pays : (k m inner : ℕ) (link : Option Link) (l : Label) (found : Option Data) (costs : Costs) (looked : Members → ℕ) (nodes : ℕ)
-    → m ≤ k → PaysInside k m costs.inside looked → costs.absent ≤ inner
-    → container_work l found costs.inside costs.absent + kind_lookups kind.Container link l found looked nodes ≤ cond
-    (not l.defined.has_presence) inner 0 + (share_if k found + 0)
-container_pays k m inner link l None costs looked nodes le ok few =
-    omega (arith, absent_pays l.defined.has_presence costs.absent, open_more (not l.defined.has_presence) costs.absent inner few)
-container_pays k m inner link l (Some (object ms)) costs looked nodes le ok few = omega (arith, le, ok ms)
-container_pays k m inner link l (Some null) costs looked nodes le ok few = omega arith
-container_pays k m inner link l (Some (boolean x)) costs looked nodes le ok few = omega arith
-container_pays k m inner link l (Some (number x)) costs looked nodes le ok few = omega arith
-container_pays k m inner link l (Some (string x)) costs looked nodes le ok few = omega arith
-container_pays k m inner link l (Some (array x)) costs looked nodes le ok few = omega arith
-
-leaf_pays : (k : ℕ) (link : Option Link) (l : Label) (found : Option Data) (looked : Members → ℕ) (nodes : ℕ)
-    → length l.defined.types + 1 ≤ k
-    → leaf_work l found + kind_lookups kind.Leaf link l found looked nodes ≤ share_if k found + 0
-leaf_pays k link l None looked nodes few = omega arith
-leaf_pays k link l (Some d) looked nodes few = omega (
-  arith,
-  value_few (length l.defined.types) l d (omega arith),
-  value_one link
-      (value_of l d),
-  few,
-)
-
-array_pays : (k : ℕ) (each looked : Items → ℕ) (found : Option Data) → ((ds : Items) → each ds + looked ds ≤ items_size ds * (k + 1))
-    → array_work found each + array_work found looked ≤ share_if k found + 0
-array_pays k each looked None ok = omega arith
-array_pays k each looked (Some (array ds)) ok = omega (arith, ok ds)
-array_pays k each looked (Some null) ok = omega arith
-array_pays k each looked (Some (boolean x)) ok = omega arith
-array_pays k each looked (Some (number x)) ok = omega arith
-array_pays k each looked (Some (string x)) ok = omega arith
-array_pays k each looked (Some (object x)) ok = omega arith
-
-listed_looked : (link : Option Link) (l : Label) (found : Option Data) (looked : Members → ℕ) (nodes : ℕ)
-    → kind_lookups kind.LeafList link l found looked nodes ≡ array_work found (item_lookups link l)
-listed_looked link l None looked nodes = refl
-listed_looked link l (Some (array ds)) looked nodes = refl
-listed_looked link l (Some _) looked nodes = refl
-
-list_looked : (link : Option Link) (l : Label) (found : Option Data) (looked : Members → ℕ) (nodes : ℕ)
-    → kind_lookups kind.List link l found looked nodes ≡ array_work found (λ ds. entries_lookups ds looked)
-list_looked link l None looked nodes = refl
-list_looked link l (Some (array ds)) looked nodes = refl
-list_looked link l (Some _) looked nodes = refl
+entries_pay : (q : Kind) (s : Rows) (k m u : ℕ) (n : NodeId) (l : Label) (kids : Forest) (spot : Spot) (next : ℕ) (done : List Data) (ds : Items) (below : Below)
+    → m + u ≤ k → length l.defined.uniques ≤ u
+    → ((at : Spot) (from : ℕ) (ms : Members) → members_len ms + sum_by (cost q s) (below.inside at from Always ms) ≤ m + members_size ms * (k + 1))
+    → sum_by (cost q s) (entries_met n l kids spot next done ds below) ≤ items_size ds * (k + 1)
+entries_pay q s k m u n l kids spot next done no_items below le few h = omega arith
+entries_pay q s k m u n l kids spot next done (item d ds) below le few h =
+    omega (
+      arith,
+      sum_by-append (cost q s) (entry_met n l kids spot next done d below)
+          (entries_met n l kids spot (next + entered (entry_met n l kids spot next done d below)) (done ++ d ∷ []) ds below),
+      entry_pays q s k m u n l kids spot next done d below le few h,
+      entries_pay q s k m u n l kids spot (next + entered (entry_met n l kids spot next done d below)) (done ++ d ∷ []) ds below le few h,
+    )
 
 -- what a node's own members may be called, and whether what is below is met where it is
 abbrev pub own_names : NodeKind → Label → List (List ℕ) → List (List ℕ)
@@ -222,74 +220,51 @@ own_names K l ns = cond (is_passed K) ns (cond (is_data K) (l.member ∷ []) [])
 abbrev pub is_open_as : NodeKind → Label → Bool
 is_open_as K l = is_passed K || is_container K && not l.defined.has_presence
 
-uniques_few : (tuple : List (Option NodeId) → Data → Option (List Val)) (us : List (List (Option NodeId))) (d : Data) → uniques_work tuple us d ≤ length us
-uniques_few tuple [] d = omega arith
-uniques_few tuple (us ∷ rest) d = omega (arith, tuple_one (tuple us d), uniques_few tuple rest d)
+absent_pays : (f : Meeting → ℕ) (p : Bool) (xs : List Meeting) (inner rest : ℕ) → sum_by f xs ≤ inner → sum_by f (cond p [] xs) ≤ cond (not p) inner 0 + rest
+absent_pays f true xs inner rest h = omega arith
+absent_pays f false xs inner rest h = omega (arith, h)
 
--- an entry: its object, its key, and its `unique` tuples
-list_pays : (k m u : ℕ) (inner looked : Members → ℕ) (leafs : Leafs) (tuple : List (Option NodeId) → Data → Option (List Val)) (d : Data)
-    → m + u ≤ k
-    → PaysInside k m inner looked → length leafs.uniques ≤ u
-    → list_work inner leafs tuple d + object_lookups d looked ≤ k + 1 + size d * (k + 1)
-list_pays k m u inner looked leafs tuple d le ok few =
-    omega (arith, le, entry_pays k m inner looked ok d, tuple_one (tuple leafs.keys d), uniques_few tuple leafs.uniques d, few)
+pays_own : (a k : ℕ) (p : Bool) (inner : ℕ) → a ≤ k → a ≤ cond p inner 0 + (k + 0)
+pays_own a k true inner h = omega (arith, h)
+pays_own a k false inner h = omega (arith, h)
 
-pub kind_pays : (k m u inner : ℕ) (K : NodeKind) (link : Option Link) (l : Label) (ns : List (List ℕ)) (ms : Members) (costs : Costs)
-    (looked : Members → ℕ) (nodes : ℕ) → m + u ≤ k
-    → (is_passed K ≡ false → (is_container K || is_list K) ≡ true → PaysInside k m costs.inside looked) → length l.defined.types + 1 ≤ k
-    → length costs.leafs.uniques ≤ u
-    → costs.absent ≤ inner → costs.here + nodes ≤ inner + shares k ns ms
-    → kind_work K l (get_member l.member ms) costs + kind_lookups K link l (get_member l.member ms) looked nodes ≤ cond
-    (is_open_as K l) inner 0 + shares k (own_names K l ns) ms
-kind_pays k m u inner kind.Container link l ns ms costs looked nodes le ok few named absent here =
-    container_pays k m inner link l (get_member l.member ms) costs looked nodes (omega (arith, le)) (ok refl refl) absent
-kind_pays k m u inner kind.Leaf link l ns ms costs looked nodes le ok few named absent here = omega (
-  arith,
-  leaf_pays k link l
-      (get_member l.member ms) looked nodes few,
-)
-kind_pays k m u inner kind.LeafList link l ns ms costs looked nodes le ok few named absent here =
-    omega (
-      arith,
-      listed_looked link l (get_member l.member ms) looked nodes,
-      array_pays k (items_work l) (item_lookups link l) (get_member l.member ms) (λ ds. items_pay k link l ds few),
-    )
-kind_pays k m u inner kind.List link l ns ms costs looked nodes le ok few named absent here =
-    omega (
-      arith,
-      list_looked link l (get_member l.member ms) looked nodes,
-      array_pays k (entries_work (list_work costs.inside costs.leafs costs.tuple)) (λ ds. entries_lookups ds looked)
-          (get_member l.member ms)
-          (λ ds. entries_pay k (list_work costs.inside costs.leafs costs.tuple) looked
-          (λ d. list_pays k m u costs.inside looked costs.leafs costs.tuple d le (ok refl refl) named) ds),
-    )
-kind_pays k m u inner kind.Choice link l ns ms costs looked nodes le ok few named absent here = here
-kind_pays k m u inner kind.Case link l ns ms costs looked nodes le ok few named absent here = here
-kind_pays k m u inner kind.Anydata link l ns ms costs looked nodes le ok few named absent here = omega arith
-kind_pays k m u inner kind.Anyxml link l ns ms costs looked nodes le ok few named absent here = omega arith
-kind_pays k m u inner kind.Rpc link l ns ms costs looked nodes le ok few named absent here = omega arith
-kind_pays k m u inner kind.Action link l ns ms costs looked nodes le ok few named absent here = omega arith
-kind_pays k m u inner kind.Notification link l ns ms costs looked nodes le ok few named absent here = omega arith
-kind_pays k m u inner kind.Input link l ns ms costs looked nodes le ok few named absent here = omega arith
-kind_pays k m u inner kind.Output link l ns ms costs looked nodes le ok few named absent here = omega arith
+kind_pays : (q : Kind) (s : Rows) (k m u inner : ℕ) (K : NodeKind) (n : NodeId) (l : Label) (kids : Forest) (spot : Spot) (scope : Scope) (next : ℕ) (ns : List (List ℕ)) (ms : Members) (below : Below)
+    → m + u ≤ k → length l.defined.types + 1 ≤ k → length l.defined.uniques ≤ u
+    → (is_passed K ≡ false → (is_container K || is_list K) ≡ true → (at : Spot) (from : ℕ) (ds : Members) → members_len ds + sum_by (cost q s) (below.inside at from Always ds) ≤ m + members_size ds * (k + 1))
+    → ((at : Spot) (from : ℕ) (i : Scope) → sum_by (cost q s) (below.inside at from i no_members) ≤ inner)
+    → sum_by (cost q s) below.cases ≤ inner + shares k ns ms → sum_by (cost q s) below.nodes ≤ inner + shares k ns ms
+    → (found : Option Data) → get_member l.member ms ≡ found
+    → sum_by (cost q s) (kind_met K n l kids spot scope next found below) ≤ cond (is_open_as K l) inner 0 + cond (is_passed K) (shares k ns ms) (cond (is_data K) (share_if k found + 0) 0)
+kind_pays q s k m u inner kind.Container n l kids spot scope next ns ms below le few named ok absent cases nodes None is =
+    absent_pays (cost q s) l.defined.has_presence _ inner _ (absent (in_no_object spot l) next scope)
+kind_pays q s k m u inner kind.Container n l kids spot scope next ns ms below le few named ok absent cases nodes (Some d) is =
+    pays_own _ (share k d) (not l.defined.has_presence) inner (omega (arith, le, object_pays q s k m n None kids (in_container spot next l) next d below (ok refl refl)))
+kind_pays q s k m u inner kind.Leaf n l kids spot scope next ns ms below le few named ok absent cases nodes None is = omega arith
+kind_pays q s k m u inner kind.Leaf n l kids spot scope next ns ms below le few named ok absent cases nodes (Some d) is =
+    omega (arith, sum_by-cons (cost q s) (written (record { node = n; label = l; spot = spot; before = None; found = d })) [], leaf_pays q s k n l spot d few)
+kind_pays q s k m u inner kind.LeafList n l kids spot scope next ns ms below le few named ok absent cases nodes (Some (array ds)) is =
+    omega (arith, items_pay q s k n l spot [] ds few)
+kind_pays q s k m u inner kind.LeafList n l kids spot scope next ns ms below le few named ok absent cases nodes None is = omega arith
+kind_pays q s k m u inner kind.LeafList n l kids spot scope next ns ms below le few named ok absent cases nodes (Some _) is = omega arith
+kind_pays q s k m u inner kind.List n l kids spot scope next ns ms below le few named ok absent cases nodes (Some (array ds)) is =
+    omega (arith, entries_pay q s k m u n l kids spot next [] ds below le named (ok refl refl))
+kind_pays q s k m u inner kind.List n l kids spot scope next ns ms below le few named ok absent cases nodes None is = omega arith
+kind_pays q s k m u inner kind.List n l kids spot scope next ns ms below le few named ok absent cases nodes (Some _) is = omega arith
+kind_pays q s k m u inner kind.Choice n l kids spot scope next ns ms below le few named ok absent cases nodes found is = cases
+kind_pays q s k m u inner kind.Case n l kids spot scope next ns ms below le few named ok absent cases nodes found is = nodes
+kind_pays q s k m u inner _ n l kids spot scope next ns ms below le few named ok absent cases nodes found is = omega arith
+
+names_pay : (k : ℕ) (p d : Bool) (l : Label) (ns : List (List ℕ)) (ms : Members) → cond p (shares k ns ms) (cond d (share_if k (get_member l.member ms) + 0) 0) ≡ shares k (cond p ns (cond d (l.member ∷ []) [])) ms
+names_pay k true d l ns ms = refl
+names_pay k false true l ns ms = refl
+names_pay k false false l ns ms = refl
 
 -- ---- all nodes
 
-unique_count : (s : Rows) (n : NodeId) (l : Label) → length (leafs_of s n l).uniques ≡ length l.defined.uniques
-unique_count s n l = length-map l.defined.uniques (map (unique_leaf_at s.nodes n))
-
--- nothing is looked up in an operation
-operation_looks : (K : NodeKind) (link : Option Link) (l : Label) (found : Option Data) (looked : Members → ℕ) (nodes : ℕ)
-    → is_operation K ≡ true → kind_lookups K link l found looked nodes ≡ 0
-operation_looks kind.Rpc link l found looked nodes e = refl
-operation_looks kind.Action link l found looked nodes e = refl
-operation_looks kind.Notification link l found looked nodes e = refl
-operation_looks _ link l found looked nodes e = absurd (true≢false (sym e))
-
-one_tree : (b : Bool) (cost look inner own : ℕ) → (b ≡ true → look ≡ 0) → (b ≡ false → cost + look ≤ inner + own)
-    → cond b 0 (1 + cost) + look ≤ cond b 0 (1 + inner) + own
-one_tree true cost look inner own none h = omega (arith, none refl)
-one_tree false cost look inner own none h = omega (arith, h refl)
+one_tree : (f : Meeting → ℕ) (op : Bool) (xs : List Meeting) (m : Meeting) (inner own : ℕ) → (op ≡ false → sum_by f xs ≤ inner + own)
+    → sum_by f (cond op [] (xs ++ m ∷ [])) ≤ cond op 0 (f m + inner) + own
+one_tree f true xs m inner own h = omega arith
+one_tree f false xs m inner own h = omega (arith, sum_by-append f xs (m ∷ []), sum_by-cons f m [], h refl)
 
 -- what is greatest of all is no less than what is here, at nodes that aren't operations, and than what is behind
 here_at_most : (b : Bool) (x y z k : ℕ) → max (cond b 0 (max x y)) z ≤ k → b ≡ false → x ≤ k
@@ -313,85 +288,93 @@ pub record IsWithin (m u w : ℕ) (ts : Forest) : Type 0 where
   pub uniques : greatest uniques_of ts ≤ u
   pub types : greatest types_of ts ≤ w
 
-pub forest_pays : (m u w : ℕ) (s : Rows) (links : ℕ → Option Link) (first : ℕ) (ts : Forest) (ms : Members) → 1 ≤ m → IsWithin m u w ts
+pub forest_pays : (q : Kind) (s : Rows) (m u w : ℕ) (scope_of : ℕ → Tree → Scope) (spot : Spot) (next first : ℕ) (ts : Forest) (ms : Members) → 1 ≤ m → IsWithin m u w ts
     → AreApartBelow ts
-    → forest_work s first ts ms + lookups links first ts ms ≤ met ts + shares (m + u + w) (members ts) ms
-forest_pays m u w s links first no_trees ms some h apart = omega arith
-forest_pays m u w s links first (tree (node l kids) ts) ms some h apart =
+    → sum_by (cost q s) (meetings q s scope_of spot next first ts ms) ≤ measured.met ts + shares (m + u + w) (members ts) ms
+forest_pays q s m u w scope_of spot next first no_trees ms some h apart = omega arith
+forest_pays q s m u w scope_of spot next first (tree (node l kids) ts) ms some h apart =
     let k : ℕ = m + u + w in
     let K : NodeKind = l.defined.kind in
-    let b : Bool = is_operation K in
-    let inner : b ≡ false → IsWithin m u w kids = λ e. record {
-      met = below_at_most b _ _ _ m h.met e;
-      uniques = below_at_most b _ _ _ u h.uniques e;
-      types = below_at_most b _ _ _ w h.types e;
+    let op : Bool = is_operation K in
+    let n : NodeId = record { 0 = first } in
+    let scope : Scope = scope_in q l.is_config (scope_of first (node l kids)) in
+    let found : Option Data = get_member l.member ms in
+    let own : Node = record { node = n; label = l; spot = spot; scope = scope; members = ms; kids = kids } in
+    let below : Below = record {
+      inside = λ at from i ds. meetings q s (λ j t. i) at from (first + 1) kids ds;
+      cases = meetings q s (case_scope s n (first + 1) kids ms) spot next (first + 1) kids ms;
+      nodes = meetings q s (λ j t. scope) spot next (first + 1) kids ms;
+    } in
+    let inner : op ≡ false → IsWithin m u w kids = λ e. record {
+      met = below_at_most op _ _ _ m h.met e;
+      uniques = below_at_most op _ _ _ u h.uniques e;
+      types = below_at_most op _ _ _ w h.types e;
     } in
     let rest : IsWithin m u w ts = record {
       met = behind_at_most _ _ m h.met;
       uniques = behind_at_most _ _ u h.uniques;
       types = behind_at_most _ _ w h.types;
     } in
-    let below : b ≡ false → (ds : Members) → forest_work s (first + 1) kids ds + lookups links (first + 1) kids ds ≤ met kids + shares k
-    (members kids) ds =
-    λ e ds. forest_pays m u w s links (first + 1) kids ds some (inner e) apart.1 in
-    let costs : Costs = record {
-      inside = λ ds. members_len ds + forest_work s (first + 1) kids ds;
-      leafs = leafs_of s (record { 0 = first }) l;
-      tuple = entry_tuple s (first + 1) kids;
-      absent = forest_work s (first + 1) kids no_members;
-      here = forest_work s (first + 1) kids ms;
-    } in
-    let looked : Members → ℕ = λ ds. lookups links (first + 1) kids ds in
-    let look : ℕ = kind_lookups K (links first) l (get_member l.member ms) looked (looked ms) in
-    let own : b ≡ false → kind_work K l (get_member l.member ms) costs + look ≤ cond (is_open l) (met kids) 0 + shares k (own_names K l
-    (members kids)) ms =
-    λ e. kind_pays k m u (met kids) K (links first) l (members kids) ms costs looked (looked ms) (omega arith)
-    (λ not_passed has_objects ds. omega (
+    let down : op ≡ false → (of : ℕ → Tree → Scope) (at : Spot) (from : ℕ) (ds : Members)
+    → sum_by (cost q s) (meetings q s of at from (first + 1) kids ds) ≤ measured.met kids + shares k (members kids) ds =
+    λ e of at from ds. forest_pays q s m u w of at from (first + 1) kids ds some (inner e) apart.1 in
+    let kind_list : List Meeting = kind_met K n l kids spot scope next found below in
+    let own_pays : op ≡ false → sum_by (cost q s) (cond (is_left K scope found) [] kind_list) ≤ cond (is_open l) (measured.met kids) 0 + shares k (own_names K l (members kids)) ms =
+    λ e. cond_pays (cost q s) (is_left K scope found) kind_list _ (omega (
       arith,
-      below e ds,
-      shares_distinct k (members kids) ds (apart.0 not_passed),
-      shares_are k ds,
-      met_if (is_container K || is_list K) (met kids) m (here_at_most b _ _ _ m h.met e) has_objects,
-    ))
-    (omega (arith, some, here_at_most b _ _ _ w h.types e))
-    (omega (arith, here_at_most b _ _ _ u h.uniques e, unique_count s (record { 0 = first }) l))
-    (omega (arith, below e no_members, shares_none k (members kids)))
-    (below e ms) in
+      names_pay k (is_passed K) (is_data K) l (members kids) ms,
+      kind_pays q s k m u (measured.met kids) K n l kids spot scope next (members kids) ms below (omega arith)
+          (omega (arith, some, here_at_most op _ _ _ w h.types e))
+          (here_at_most op _ _ _ u h.uniques e)
+          (λ not_passed has_objects at from ds. omega (
+            arith,
+            down e (λ j t. Always) at from ds,
+            shares_distinct k (members kids) ds (apart.0 not_passed),
+            shares_are k ds,
+            met_if (is_container K || is_list K) (measured.met kids) m (here_at_most op _ _ _ m h.met e) has_objects,
+          ))
+          (λ at from i. omega (arith, down e (λ j t. i) at from no_members, shares_none k (members kids)))
+          (down e (case_scope s n (first + 1) kids ms) spot next ms)
+          (down e (λ j t. scope) spot next ms) found refl,
+    )) in
     omega (
       arith,
-      one_tree b _ look _ _ (operation_looks K (links first) l (get_member l.member ms) looked (looked ms)) own,
-      forest_pays m u w s links (first + 1 + count kids) ts ms some rest apart.2,
+      sum_by-append (cost q s) (node_met n l kids spot scope next ms below)
+          (meetings q s scope_of spot (next + entered (node_met n l kids spot scope next ms below)) (first + 1 + count kids) ts ms),
+      one_tree (cost q s) op (cond (is_left K scope found) [] kind_list) (met own) (cond (is_open l) (measured.met kids) 0) (shares k (own_names K l (members kids)) ms) own_pays,
+      forest_pays q s m u w scope_of spot (next + entered (node_met n l kids spot scope next ms below)) (first + 1 + count kids) ts ms some rest apart.2,
       shares_append k (own_names K l (members kids)) (members ts) ms,
     )
 
 -- where nothing is met, there are only operations, and no step is taken
-only_operations : (b : Bool) (x y : ℕ) → cond b 0 (1 + x) + y ≡ 0 → (b ≡ true) × (y ≡ 0)
-only_operations true x y e = (refl, omega (arith, e))
-only_operations false x y e = absurd (omega (arith, e))
+only_operations : (b : Bool) (x y z : ℕ) → 1 ≤ x → cond b 0 (x + y) + z ≡ 0 → (b ≡ true) × (z ≡ 0)
+only_operations true x y z le e = (refl, omega (arith, e))
+only_operations false x y z le e = absurd (omega (arith, le, e))
 
-not_entered : (b : Bool) (cost : ℕ) → b ≡ true → cond b 0 cost ≡ 0
-not_entered true cost e = refl
-not_entered false cost e = absurd (true≢false (sym e))
+left_out : (f : Meeting → ℕ) (b : Bool) (xs : List Meeting) → b ≡ true → sum_by f (cond b [] xs) ≡ 0
+left_out f true xs e = refl
+left_out f false xs e = absurd (true≢false (sym e))
 
-nothing_taken : (s : Rows) (links : ℕ → Option Link) (first : ℕ) (ts : Forest) (ms : Members) → met ts ≡ 0
-    → forest_work s first ts ms + lookups links first ts ms ≡ 0
-nothing_taken s links first no_trees ms e = refl
-nothing_taken s links first (tree (node l kids) ts) ms e =
+nothing_taken : (q : Kind) (s : Rows) (scope_of : ℕ → Tree → Scope) (spot : Spot) (next first : ℕ) (ts : Forest) (ms : Members) → measured.met ts ≡ 0
+    → sum_by (cost q s) (meetings q s scope_of spot next first ts ms) ≡ 0
+nothing_taken q s scope_of spot next first no_trees ms e = refl
+nothing_taken q s scope_of spot next first (tree (node l kids) ts) ms e =
     let b : Bool = is_operation l.defined.kind in
-    let only : (b ≡ true) × (met ts ≡ 0) = only_operations b (cond (is_open l) (met kids) 0) (met ts) e in
-    let costs : Costs = record {
-      inside = λ ds. members_len ds + forest_work s (first + 1) kids ds;
-      leafs = leafs_of s (record { 0 = first }) l;
-      tuple = entry_tuple s (first + 1) kids;
-      absent = forest_work s (first + 1) kids no_members;
-      here = forest_work s (first + 1) kids ms;
+    let only : (b ≡ true) × (measured.met ts ≡ 0) = only_operations b 1 (cond (is_open l) (measured.met kids) 0) (measured.met ts) (omega arith) e in
+    let n : NodeId = record { 0 = first } in
+    let scope : Scope = scope_in q l.is_config (scope_of first (node l kids)) in
+    let below : Below = record {
+      inside = λ at from i ds. meetings q s (λ j t. i) at from (first + 1) kids ds;
+      cases = meetings q s (case_scope s n (first + 1) kids ms) spot next (first + 1) kids ms;
+      nodes = meetings q s (λ j t. scope) spot next (first + 1) kids ms;
     } in
     omega (
       arith,
-      not_entered b (1 + kind_work l.defined.kind l (get_member l.member ms) costs) only.0,
-      operation_looks l.defined.kind (links first) l (get_member l.member ms) (λ ds. lookups links (first + 1) kids ds) (lookups links
-          (first + 1) kids ms) only.0,
-      nothing_taken s links (first + 1 + count kids) ts ms only.1,
+      sum_by-append (cost q s) (node_met n l kids spot scope next ms below)
+          (meetings q s scope_of spot (next + entered (node_met n l kids spot scope next ms below)) (first + 1 + count kids) ts ms),
+      left_out (cost q s) b (cond (is_left l.defined.kind scope (get_member l.member ms)) [] (kind_met l.defined.kind n l kids spot scope next (get_member l.member ms) below)
+          ++ met (record { node = n; label = l; spot = spot; scope = scope; members = ms; kids = kids }) ∷ []) only.0,
+      nothing_taken q s scope_of spot (next + entered (node_met n l kids spot scope next ms below)) (first + 1 + count kids) ts ms only.1,
     )
 
 none_or_some : (n : ℕ) → (n ≡ 0) ⊎ (1 ≤ n)
@@ -405,24 +388,31 @@ within ts = record {
   types = omega arith;
 }
 
-pub work_bounded : (s : Rows) (d : Data) → IsSound s
-    → work s d ≤ (size d + 1) * ((measures_of (whole s)).m + (measures_of (whole s)).u + (measures_of (whole s)).w + 1)
-work_bounded s (object ms) sound =
+pub work_bounded : (q : Kind) (s : Rows) (d : Data) → IsSound s
+    → work q s d ≤ (size d + 1) * ((measures_of (whole s)).m + (measures_of (whole s)).u + (measures_of (whole s)).w + 1)
+work_bounded q s (object ms) sound =
     let told : AreApart (whole s) = apart (whole s) sound.members in
     let k : ℕ = (measures_of (whole s)).m + (measures_of (whole s)).u + (measures_of (whole s)).w in
-    let met_few : met (whole s) ≤ (measures_of (whole s)).m = omega arith in
-    let taken : ℕ = forest_work s 0 (whole s) ms + lookups (link_in s.links) 0 (whole s) ms in
-    let few : taken ≤ met (whole s) + all_shares k ms = elim (none_or_some (met (whole s))) [
-      | inl none ↦ omega (arith, nothing_taken s (link_in s.links) 0 (whole s) ms none)
+    let met_few : measured.met (whole s) ≤ (measures_of (whole s)).m = omega arith in
+    let inside : List Meeting = meetings q s (λ n t. Always) top 1 0 (whole s) ms in
+    let taken : ℕ = sum_by (cost q s) inside in
+    let few : taken ≤ measured.met (whole s) + all_shares k ms = elim (none_or_some (measured.met (whole s))) [
+      | inl none ↦ omega (arith, nothing_taken q s (λ n t. Always) top 1 0 (whole s) ms none)
       | inr some ↦ omega (
         arith,
-        forest_pays _ _ _ s (link_in s.links) 0 (whole s) ms (omega (arith, some, met_few)) (within (whole s)) told.1,
+        forest_pays q s _ _ _ (λ n t. Always) top 1 0 (whole s) ms (omega (arith, some, met_few)) (within (whole s)) told.1,
         shares_distinct k (members (whole s)) ms told.0,
       )
     ] in
-    omega (arith, met_few, few, shares_are k ms)
-work_bounded s null sound = omega arith
-work_bounded s (boolean x) sound = omega arith
-work_bounded s (number x) sound = omega arith
-work_bounded s (string x) sound = omega arith
-work_bounded s (array x) sound = omega arith
+    omega (
+      arith,
+      sum_by-cons (cost q s) (stand (record { node = root; item = None; spot = top; last = 0 + entered inside; trees = whole s; found = object ms })) inside,
+      met_few,
+      few,
+      shares_are k ms,
+    )
+work_bounded q s null sound = omega arith
+work_bounded q s (boolean x) sound = omega arith
+work_bounded q s (number x) sound = omega arith
+work_bounded q s (string x) sound = omega arith
+work_bounded q s (array x) sound = omega arith

@@ -1,22 +1,32 @@
 -- The items of an array, one by one.
-use Rattle.std.proofs.Common.{◌≡◌, ℕ, ◌+◌, ◌<◌, List, [], ◌∷◌, ◌++◌, length, get_or, take, drop, map, length-take-le, sym, ap, ◌∙◌, append_assoc, arith, add-one, drop-cons, subst, Option, Bool, Some}
+use Rattle.std.proofs.Common.{◌≡◌, ℕ, ◌+◌, ◌<◌, List, [], ◌∷◌, ◌++◌, length, get_or, take, drop, map, length-take-le, sym, ap, ◌∙◌, subst, arith, add-one, drop-cons, append-nil, Option, Bool, true, false, cond, Some, is_some, refl}
 use Rattle.std.proofs.lemmas.List.{take_more, map-append, length-map}
-use Rattle.serde_json.specs.Data.{Data, Members, item}
+use Rattle.std.proofs.lemmas.List.Sums.{sum_by-cons}
+use Rattle.serde_json.specs.Data.{Data, item, Items}
 use Rattle.serde_json.specs.View.{view, items_view}
 use Rattle.serde_json.specs.declared.value.Value.{Value}
+use Rattle.yv_selection.specs.declared.kind.Kind.{Kind}
 use Rattle.yv_nodes.specs.declared.node.NodeId.{NodeId}
+use Rattle.yv_nodes.specs.Link.{is_target, link_in}
+use Rattle.yv_nodes.specs.Rows.{below, rank, row_at, Rows}
 use Rattle.yv_nodes.specs.Tree.{Label}
 use Rattle.yv_values.specs.Count.{counted}
 use Rattle.yv_values.specs.Values.{Val}
-use Rattle.yv_references.specs.declared.scope.Scope.{Scope}
-use Rattle.yv_references.specs.declared.scope.Scope.TheVariants.{Always}
-use Rattle.yv_validate.specs.declared.fault.FaultKind.TheVariants.{Duplicate}
-use Rattle.yv_validate.specs.Faults.{Leafs, each_after, end_faults, entry_faults, flaw_if, item_place, list_faults, unique_faults}
+use Rattle.yv_references.specs.Findings.{Findings, Finds, first_of, kept_if, Met, met_in, value_notes}
+use Rattle.yv_references.specs.InUse.{some_value, value_of}
+use Rattle.yv_references.specs.Meetings.{at, Ending, ending, entered, entry_met, Meeting, object_met, Spot, written, Written}
 use Rattle.yv_references.specs.Place.{Place, step_name}
-use Rattle.yv_validate.specs.Repeats.{repeats}
+use Rattle.yv_references.specs.References.{number_of}
+use Rattle.yv_validate.specs.declared.fault.FaultKind.TheVariants.{Duplicate, Value as Unread}
+use Rattle.yv_validate.specs.Faults.{end_faults, faults_at, flaw, flaw_if, is_repeated, Leafs, leafs_of, unique_faults, value_faults}
 use Rattle.yv_validate.specs.Flaw.{Flaw}
-use Rattle.yv_validate.specs.Work.{entries_work}
-use Rattle.yv_validate.proofs.Steps.{steps_on, told_both}
+use Rattle.yv_validate.specs.InnerNotes.{list_tuple}
+use Rattle.yv_validate.specs.InnerWalk.{entries_at, Grows, inside_at, items_at, Told, value_found, written_at}
+use Rattle.yv_validate.specs.Repeats.{repeats}
+use Rattle.yv_validate.specs.Values.{entry_tuple}
+use Rattle.yv_validate.specs.Work.{end_work, item_work, value_work, work_at}
+use Rattle.yv_validate.proofs.Grown.{Behind, grows_both, Quiet}
+use Rattle.yv_validate.proofs.Steps.{told_both}
 
 first_left : (xs : List Value) (i : ℕ) (x : Value) → i < length xs → drop i xs ≡ get_or xs i x ∷ drop (i + 1) xs
 first_left xs i x lt = rw (add-one) (drop-cons xs i x lt)
@@ -27,36 +37,99 @@ items_left xs i x lt is = ap items_view (first_left xs i x lt) ∙ ap (λ y. ite
 pub one_more : (xs : List Value) (i : ℕ) (x : Value) → i < length xs → x ≡ get_or xs i x → map view (take (i + 1) xs) ≡ map view (take i xs) ++ view x ∷ []
 one_more xs i x lt is = ap (map view) (take_more xs i x lt) ∙ map-append view (take i xs) (get_or xs i x ∷ []) ∙ ap (λ y. map view (take i xs) ++ view y ∷ []) (sym is)
 
-pub here_is : (path : List Place) (l : Label) (xs : List Value) (i : ℕ) → i < length xs
-    → item_place path l (map view (take i xs)) ≡ path ++ record { member = step_name l; item = Some (i + 1) } ∷ []
-here_is path l xs i lt =
-    ap (λ n. path ++ record { member = step_name l; item = Some (n + 1) } ∷ []) (length-map (take i xs) view ∙ length-take-le i xs (omega arith))
+pub many_before : (xs : List Value) (i : ℕ) → i < length xs → length (map view (take i xs)) ≡ i
+many_before xs i lt = length-map (take i xs) view ∙ length-take-le i xs (omega arith)
 
-pub each_step : (each : List Data → Data → List Flaw) (xs : List Value) (i : ℕ) (x : Value) (old new : List Flaw) {all : List Flaw} → i < length xs → x ≡ get_or xs i x
-    → new ≡ old ++ each (map view (take i xs)) (view x)
-    → old ++ each_after each (map view (take i xs)) (items_view (drop i xs)) ≡ all
-    → new ++ each_after each (map view (take (i + 1) xs)) (items_view (drop (i + 1) xs)) ≡ all
-each_step each xs i x old new lt is told whole =
-    let before = map view (take i xs) in
-    let left = items_view (drop (i + 1) xs) in
-    ap (λ ds. new ++ each_after each ds left) (one_more xs i x lt is)
-    ∙ ap (λ fs. fs ++ each_after each (before ++ view x ∷ []) left) told
-    ∙ append_assoc old (each before (view x)) (each_after each (before ++ view x ∷ []) left)
-    ∙ ap (λ ds. old ++ each_after each before ds) (sym (items_left xs i x lt is))
-    ∙ whole
+-- ---- values
 
-pub entries_step : (each : Data → ℕ) (xs : List Value) (i : ℕ) (x : Value) (old new all : ℕ) → i < length xs → x ≡ get_or xs i x
-    → counted new ≡ counted (old + each (view x)) → counted (old + entries_work each (items_view (drop i xs))) ≡ all → counted (new + entries_work each (items_view (drop (i + 1) xs))) ≡ all
-entries_step each xs i x old new all lt is told whole =
-    steps_on old new (each (view x)) _ (entries_work each (items_view (drop (i + 1) xs))) all told (ap (entries_work each) (items_left xs i x lt is)) whole
+abbrev pub Reads : Type 0
+Reads = (s : Rows) (m : Written) (v : Option Val) → value_of m.label m.found ≡ v → met_in s (written m ∷ []) ≡ record {
+  kept = kept_if (is_target s.links m.node.0) m.node.0 (first_of m.spot.around) (some_value v);
+  positions = [];
+  notes = value_notes (link_in s.links m.node.0) (first_of m.spot.around) m.node.0 (number_of m.before) v;
+}
 
--- an entry, whether its keys are those of one before, and the `unique` statements
-pub list_step : (l : Label) (leafs : Leafs) (inside : Scope → List Place → Members → List Flaw) (tuple : List (Option NodeId) → Data → Option (List Val)) (path : List Place) (before : List Data) (d : Data)
-    (here : List Place) (old mid end new : List Flaw) (b : Bool) → item_place path l before ≡ here → mid ≡ old ++ entry_faults here d (inside Always here) → b ≡ repeats (tuple leafs.keys) before d
-    → end ≡ mid ++ flaw_if b Duplicate here → new ≡ end ++ unique_faults tuple here 1 leafs.uniques before d → new ≡ old ++ list_faults l leafs inside tuple path before d
-list_step l leafs inside tuple path before d here old mid end new b is entered repeated told uniques =
-    let told_at : List Place → Type 0 = λ h. new ≡ old ++ (entry_faults h d (inside Always h) ++ end_faults leafs tuple h before d) in
-    subst told_at (sym is)
-    (told_both old (entry_faults here d (inside Always here)) (end_faults leafs tuple here before d) entered
-    (told_both mid (flaw_if (repeats (tuple leafs.keys) before d) Duplicate here) (unique_faults tuple here 1 leafs.uniques before d)
-    (told ∙ ap (λ (x : Bool). mid ++ flaw_if x Duplicate here) repeated) uniques))
+-- a value is met
+pub writes : Reads → (k : Kind) (s : Rows) (n : NodeId) (spot : Spot) (before : Option (List Data)) (d : Data) (a : Told) (faults : List Flaw) (found : Findings) (steps : ℕ)
+    → faults ≡ a.faults ++ value_faults (written_at s n before d spot)
+    → Finds a.found found (value_found s n (first_of spot.around) (number_of before) (value_of (row_at s n).label d))
+    → counted steps ≡ counted (a.steps + (value_work (row_at s n).label d + item_work (row_at s n).label before d))
+    → Grows k s a (record { faults = faults; found = found; steps = steps }) (written (written_at s n before d spot) ∷ [])
+writes reads k s n spot before d a faults found steps told kept taken =
+    let m : Written = written_at s n before d spot in
+    record {
+      faults = told ∙ ap (λ (fs : List Flaw). a.faults ++ fs) (sym (append-nil (value_faults m)));
+      found = subst (λ (x : Met). Finds a.found found x) (sym (reads s m (value_of (row_at s n).label d) refl)) kept;
+      steps = omega (arith, taken, sum_by-cons (work_at k s) (written m) []);
+    }
+
+pub read_told : (m : Written) (old new : List Flaw) (b : Bool) → is_some (value_of m.label m.found) ≡ true → b ≡ is_repeated m.label m.before m.found
+    → new ≡ old ++ flaw_if b Duplicate (at m.spot m.label (number_of m.before)) → new ≡ old ++ value_faults m
+read_told m old new b has is told =
+    let here : List Place = at m.spot m.label (number_of m.before) in
+    told ∙ ap (λ (fs : List Flaw). old ++ fs) (ap (λ (x : Bool). flaw_if x Duplicate here) is
+    ∙ sym (ap (λ (x : Bool). cond x (flaw_if (is_repeated m.label m.before m.found) Duplicate here) (flaw Unread here ∷ [])) has))
+
+pub unread_told : (m : Written) (old new : List Flaw) → is_some (value_of m.label m.found) ≡ false
+    → new ≡ old ++ flaw Unread (at m.spot m.label (number_of m.before)) ∷ [] → new ≡ old ++ value_faults m
+unread_told m old new none told =
+    let here : List Place = at m.spot m.label (number_of m.before) in
+    told ∙ ap (λ (fs : List Flaw). old ++ fs)
+    (sym (ap (λ (x : Bool). cond x (flaw_if (is_repeated m.label m.before m.found) Duplicate here) (flaw Unread here ∷ [])) none))
+
+-- the first of the items that are left
+pub items_split : (s : Rows) (n : NodeId) (spot : Spot) (next : ℕ) (xs : List Value) (i : ℕ) (x : Value) → i < length xs → x ≡ get_or xs i x
+    → items_at s n (map view (take i xs)) (items_view (drop i xs)) spot next
+    ≡ (written (written_at s n (Some (map view (take i xs))) (view x) spot) ∷ []) ++ items_at s n (map view (take (i + 1) xs)) (items_view (drop (i + 1) xs)) spot next
+items_split s n spot next xs i x lt is =
+    ap (λ (ds : Items). items_at s n (map view (take i xs)) ds spot next) (items_left xs i x lt is)
+    ∙ ap (λ (ds : List Data). written (written_at s n (Some (map view (take i xs))) (view x) spot) ∷ items_at s n ds (items_view (drop (i + 1) xs)) spot next) (sym (one_more xs i x lt is))
+
+-- ---- entries
+
+-- an entry ends
+pub ends : Quiet → (k : Kind) (s : Rows) (n : NodeId) (spot : Spot) (before : List Data) (d : Data) (a : Told) (faults : List Flaw) (steps : ℕ) → rank n ≡ n.0 + 1
+    → faults ≡ a.faults ++ end_faults (leafs_of s n (row_at s n).label) (list_tuple k s n) (at spot (row_at s n).label (Some (length before + 1))) before d
+    → counted steps ≡ counted (a.steps + end_work (leafs_of s n (row_at s n).label) (list_tuple k s n) d)
+    → Grows k s a (record { faults = faults; found = a.found; steps = steps })
+    (ending (record { node = n; label = (row_at s n).label; spot = spot; before = before; trees = below s n; found = d }) ∷ [])
+ends quiet k s n spot before d a faults steps first told taken =
+    let l : Label = (row_at s n).label in
+    let here : List Place = at spot l (Some (length before + 1)) in
+    let own : Ending = record { node = n; label = l; spot = spot; before = before; trees = below s n; found = d } in
+    let work : end_work (leafs_of s n l) (list_tuple k s n) d ≡ work_at k s (ending own) =
+    ap (λ (r : ℕ). end_work (leafs_of s n l) (λ ls e. entry_tuple k s r (below s n) ls e) d) first in
+    record {
+      faults = told ∙ ap (λ (r : ℕ). a.faults ++ end_faults (leafs_of s n l) (λ ls e. entry_tuple k s r (below s n) ls e) here before d) first
+          ∙ ap (λ (fs : List Flaw). a.faults ++ fs) (sym (append-nil (faults_at k s (ending own))));
+      found = quiet s a.found;
+      steps = omega (arith, taken, work, sum_by-cons (work_at k s) (ending own) []);
+    }
+
+-- an entry with its end; the number by which it goes is one more than there are before it
+pub entry_grows : Behind → (k : Kind) (s : Rows) (n : NodeId) (way : List Place) (position : ℕ) (outer : List ℕ) (entry next place : ℕ) (before : List Data) (d : Data) (a b c : Told) → place ≡ length before + 1
+    → Grows k s a b (object_met n (Some place) (below s n) (record { path = way ++ record { member = step_name (row_at s n).label; item = Some place } ∷ []; around = next ∷ position ∷ outer; entry = next }) next d (inside_at k s n))
+    → Grows k s b c (ending (record { node = n; label = (row_at s n).label; spot = record { path = way; around = position ∷ outer; entry = entry }; before = before; trees = below s n; found = d }) ∷ [])
+    → Grows k s a c (entry_met n (row_at s n).label (below s n) (record { path = way; around = position ∷ outer; entry = entry }) next before d (inside_at k s n))
+entry_grows behind k s n way position outer entry next place before d a b c many inside end =
+    let l : Label = (row_at s n).label in
+    let object : ℕ → List Meeting = λ m. object_met n (Some m) (below s n) (record { path = way ++ record { member = step_name l; item = Some m } ∷ []; around = next ∷ position ∷ outer; entry = next }) next d (inside_at k s n) in
+    grows_both behind k s a b c (object (length before + 1)) _ (subst (λ (m : ℕ). Grows k s a b (object m)) many inside) end
+
+-- the first of the entries that are left
+pub entries_split : (k : Kind) (s : Rows) (n : NodeId) (spot : Spot) (next : ℕ) (xs : List Value) (i : ℕ) (x : Value) → i < length xs → x ≡ get_or xs i x
+    → entries_at k s n (map view (take i xs)) (items_view (drop i xs)) spot next
+    ≡ entry_met n (row_at s n).label (below s n) spot next (map view (take i xs)) (view x) (inside_at k s n)
+    ++ entries_at k s n (map view (take (i + 1) xs)) (items_view (drop (i + 1) xs)) spot
+    (next + entered (entry_met n (row_at s n).label (below s n) spot next (map view (take i xs)) (view x) (inside_at k s n)))
+entries_split k s n spot next xs i x lt is =
+    let here : List Meeting = entry_met n (row_at s n).label (below s n) spot next (map view (take i xs)) (view x) (inside_at k s n) in
+    ap (λ (ds : Items). entries_at k s n (map view (take i xs)) ds spot next) (items_left xs i x lt is)
+    ∙ ap (λ (ds : List Data). here ++ entries_at k s n ds (items_view (drop (i + 1) xs)) spot (next + entered here)) (sym (one_more xs i x lt is))
+
+-- what is told at the end of an entry: its keys, and the `unique` statements
+pub end_told : (leafs : Leafs) (tuple : List (Option NodeId) → Data → Option (List Val)) (here : List Place) (before : List Data) (d : Data) (old mid new : List Flaw) (b : Bool) → b ≡ repeats (tuple leafs.keys) before d
+    → mid ≡ old ++ flaw_if b Duplicate here → new ≡ mid ++ unique_faults tuple here 1 leafs.uniques before d → new ≡ old ++ end_faults leafs tuple here before d
+end_told leafs tuple here before d old mid new b repeated told uniques =
+    told_both old (flaw_if (repeats (tuple leafs.keys) before d) Duplicate here) (unique_faults tuple here 1 leafs.uniques before d)
+    (told ∙ ap (λ (x : Bool). old ++ flaw_if x Duplicate here) repeated) uniques

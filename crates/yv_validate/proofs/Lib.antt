@@ -2,11 +2,14 @@ pub mod Apart
 pub mod Same
 pub mod Remembered
 pub mod Steps
+pub mod Grown
 pub mod Beneath
+pub mod Entered
 pub mod Items
 pub mod Noted
+pub mod Own
 pub mod Meeting
 pub mod Reading
 pub mod Each
-pub mod Found
+pub mod Closed
 pub mod Bound

@@ -1,8 +1,9 @@
 -- Which nodes stand in an object, one after the other, and in which scope.
-use Rattle.std.proofs.Common.{◌≡◌, ℕ, ◌+◌, ◌<◌, ◌≤◌, ◌&&◌, not, cond, List, length, get_or, true, false, Bool, Option, None, refl, ap, ◌∙◌, subst, sym}
+use Rattle.std.proofs.Common.{◌≡◌, ℕ, ◌+◌, ◌<◌, ◌≤◌, ◌&&◌, not, cond, List, length, get_or, true, false, Bool, Option, None, refl, ap, ◌∙◌, subst, sym, arith}
 use Rattle.std.specs.List.{slice_index_or}
 use Rattle.serde_json.specs.Data.{Members}
 use Rattle.serde_json.specs.Find.{get_member}
+use Rattle.yv_properties.specs.Kinds.{is_passed}
 use Rattle.yv_properties.specs.declared.kind.NodeKind.{NodeKind}
 use Rattle.yv_properties.specs.declared.kind.NodeKind.TheVariants as kind
 use Rattle.yv_nodes.specs.declared.node.NodeId.{NodeId}
@@ -16,7 +17,7 @@ use Rattle.yv_references.specs.InUse.{is_number}
 use Rattle.yv_validate.specs.InnerWalk.{Meets, MeetsBelow}
 use Rattle.yv_references.specs.declared.scope.Scope.{Scope}
 use Rattle.yv_references.specs.declared.scope.Scope.TheVariants.{InCase, InDefault}
-use Rattle.yv_validate.proofs.Beneath.{rank_is}
+use Rattle.yv_validate.proofs.Beneath.{not_same, rank_is}
 
 -- a child
 pub meets_child : (s : Rows) (x : Context) (p : NodeId) (cs : List NodeId) (i : ℕ) (d : NodeId) → MeetsBelow s x p → cs ≡ children_of s p → i < length cs → Meets s x (get_or cs i d)
@@ -33,16 +34,6 @@ pub meets_object : (s : Rows) (x : Context) (p : NodeId)
 meets_object s x p law sound le object context is = record {
   context = context;
   stand = λ i d lt. ap (λ q. stands_in s q (slice_index_or (children_of s p) i d)) is ∙ law s p i d sound le object lt;
-}
-
--- those of a choice or case that stands there
-pub meets_inner : (s : Rows) (x : Context) (n : NodeId)
-    → ((s : Rows) (p a : NodeId) (i : ℕ) (d : NodeId) → IsSound s → stands_in s p a ≡ true → passes s a ≡ true → i < length (children_of s a)
-    → stands_in s p (slice_index_or (children_of s a) i d) ≡ true)
-    → IsSound s → Meets s x n → passes s n ≡ true → MeetsBelow s x n
-meets_inner s x n law sound h pass = record {
-  context = h.context;
-  stand = λ i d lt. law s (parent_of x) n i d sound h.stands pass lt;
 }
 
 -- what exists of a choice is what exists in it
@@ -69,3 +60,8 @@ pub scope_is : (is_any : Bool) (o : Option NodeId) (at : ℕ) (those : Standing)
     → scope ≡ cond (is_number fallback at) InDefault (InCase those) → scope ≡ cond (is_number o at && not is_any) InDefault (InCase those)
 scope_is is_any o at those fallback scope is chosen =
     chosen ∙ ap (λ (f : Option NodeId). cond (is_number f at) InDefault (InCase those)) is ∙ ap (λ (b : Bool). cond b InDefault (InCase those)) (counts is_any o at)
+
+-- a choice has no object of its own
+pub choice_passes : (s : Rows) (n : NodeId) → IsSound s → n.0 < length s.nodes → (row_at s n).label.defined.kind ≡ kind.Choice → passes s n ≡ true
+choice_passes s n sound lt is =
+    ap (λ (b : Bool). cond b false (is_passed (row_at s n).label.defined.kind)) (not_same n.0 4294967295 (omega (arith, sound.small, lt))) ∙ ap is_passed is

@@ -68,10 +68,6 @@ abbrev pub behind : List Val → Option (List Val) → Option (List Val)
 behind vs None = None
 behind vs (Some ws) = Some (vs ++ ws)
 
-pub behind_nothing : (o : Option (List Val)) → behind [] o ≡ o
-behind_nothing None = refl
-behind_nothing (Some ws) = refl
-
 behind_joined : (vs : List Val) (v : Val) (o : Option (List Val)) → behind (vs ++ v ∷ []) o ≡ behind vs (joined (Some v) o)
 behind_joined vs v None = refl
 behind_joined vs v (Some ws) = ap Some (append_assoc vs (v ∷ []) ws)

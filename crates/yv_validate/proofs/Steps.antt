@@ -1,5 +1,7 @@
 -- How counts that stop add up, and lists that grow.
-use Rattle.std.proofs.Common.{◌≡◌, ℕ, ◌+◌, List, ◌++◌, sym, ap, ◌∙◌, append_assoc, arith}
+use Rattle.std.proofs.Common.{◌≡◌, ℕ, ◌+◌, List, [], ◌∷◌, ◌++◌, sym, ap, ◌∙◌, append_assoc, arith}
+use Rattle.std.specs.List.{sum_by}
+use Rattle.std.proofs.lemmas.List.Sums.{sum_by-cons}
 use Rattle.yv_values.specs.Count.{counted}
 
 -- one more turn of a loop
@@ -17,3 +19,12 @@ joins old here rest added split whole = ap (λ xs. xs ++ rest) added ∙ append_
 -- two parts, one after the other
 pub told_both : {X : Type 0} (old first second : List X) {mid new : List X} → mid ≡ old ++ first → new ≡ mid ++ second → new ≡ old ++ (first ++ second)
 told_both old first second told rest = rest ∙ ap (λ xs. xs ++ second) told ∙ append_assoc old first second
+
+-- two sums at once
+pub sum_of_both : {X : Type 0} (f g : X → ℕ) (xs : List X) → sum_by (λ x. f x + g x) xs ≡ sum_by f xs + sum_by g xs
+sum_of_both f g [] = omega arith
+sum_of_both f g (x ∷ xs) = omega (arith, sum_by-cons (λ y. f y + g y) x xs, sum_by-cons f x xs, sum_by-cons g x xs, sum_of_both f g xs)
+
+-- nothing more
+pub plus_none : (old here : ℕ) → counted (old + here) ≡ counted (old + (here + 0))
+plus_none old here = omega arith

@@ -1,32 +1,28 @@
--- The faults of a document, by the tree of its schema (RFC 7950, sections 7.5 to 7.11 and 9; RFC 7951, sections 4 to 6).
+-- The faults of a document, each read from one thing that a validation meets (RFC 7950, sections 7.5 to 7.11, 7.21.1 and 9; RFC 7951,
+-- sections 4 to 6).
 use Rattle.std.specs.Prelude.{ℕ, zero, suc, ◌+◌, min, nat_lt, ◌&&◌, List, [], ◌∷◌, ◌++◌, length, map, Bool, false, Option, Some, None, is_some, option_map, unwrap_or, if◌then◌else◌}
-use Rattle.serde_json.specs.Data.{Data, array, object, Items, no_items, item, Members, no_members}
+use Rattle.std.specs.List.{flat_map}
+use Rattle.serde_json.specs.Data.{Data, array, object}
 use Rattle.serde_json.specs.Events.{items_len}
-use Rattle.serde_json.specs.Find.{get_member}
 use Rattle.yv_properties.specs.declared.kind.NodeKind.{NodeKind}
 use Rattle.yv_properties.specs.declared.kind.NodeKind.TheVariants as kind
+use Rattle.yv_selection.specs.declared.kind.Kind.{Kind}
 use Rattle.yv_values.specs.Values.{Val}
 use Rattle.yv_nodes.specs.declared.node.NodeId.{NodeId}
-use Rattle.yv_nodes.specs.Rows.{Rows, whole}
-use Rattle.yv_nodes.specs.Tree.{count, Label, Tree, node, Forest, no_trees, tree}
+use Rattle.yv_nodes.specs.Rows.{Rows}
+use Rattle.yv_nodes.specs.Tree.{Label}
 use Rattle.yv_tables.specs.Opened.{opened_trees}
 use Rattle.yv_walk.specs.Context.{unknown_names}
-use Rattle.yv_walk.specs.Standing.{count_standing}
+use Rattle.yv_walk.specs.Standing.{count_standing, is_there}
+use Rattle.yv_references.specs.InUse.{enforces, enforces_beside, is_asked, value_of}
+use Rattle.yv_references.specs.Meetings.{all_met, at, Ending, found_of, Meeting, stand, written, ending, met, Node, Stand, Written}
+use Rattle.yv_references.specs.Place.{Place, under}
+use Rattle.yv_references.specs.References.{all_references, number_of}
 use Rattle.yv_validate.specs.declared.fault.FaultKind.{FaultKind}
-use Rattle.yv_validate.specs.declared.fault.FaultKind.TheVariants.{Unknown, Shape, Value, MissingKey, Duplicate, Unique, Mandatory, Min, Max, Choice, Reference}
-use Rattle.yv_references.specs.declared.scope.Scope.{Scope}
-use Rattle.yv_references.specs.declared.scope.Scope.TheVariants.{Always}
-use Rattle.yv_references.specs.InUse.{case_scope, enforces, enforces_beside, value_of}
-use Rattle.yv_nodes.specs.Link.{link_in}
-use Rattle.yv_references.specs.Place.{at_item, Place, step_name, under}
-use Rattle.yv_references.specs.References.{all_references}
+use Rattle.yv_validate.specs.declared.fault.FaultKind.TheVariants.{Unknown, Shape, Value, MissingKey, Duplicate, Unique, Mandatory, Min, Max, Choice, Reference, State}
 use Rattle.yv_validate.specs.Flaw.{Flaw}
 use Rattle.yv_validate.specs.Repeats.{repeats}
 use Rattle.yv_validate.specs.Values.{entry_tuple, key_leafs, unique_leafs}
-
--- the place of an item behind these
-abbrev pub item_place : List Place → Label → List Data → List Place
-item_place path l before = at_item path (step_name l) (length before + 1)
 
 abbrev pub flaw : FaultKind → List Place → Flaw
 flaw kind path = record { kind = kind; path = path; number = 0 }
@@ -34,63 +30,30 @@ flaw kind path = record { kind = kind; path = path; number = 0 }
 abbrev pub flaw_if : Bool → FaultKind → List Place → List Flaw
 flaw_if b kind path = if b then flaw kind path ∷ [] else []
 
--- one fault for each member that names no node, through choices and cases, in the order of the object, which is that of the names' bytes
-abbrev pub unknowns : List Place → Forest → Members → List Flaw
-unknowns path ts ms = map (λ key. flaw Unknown (under path key)) (unknown_names (opened_trees ts) ms)
+-- ---- an object
 
--- ---- one node, by its kind
+-- one fault for each member that names no node, in the order of the object, which is that of the names' bytes; or one for what is not an object
+abbrev pub object_faults : Stand → Data → List Flaw
+object_faults m (object ms) = map (λ key. flaw Unknown (under m.spot.path key)) (unknown_names (opened_trees m.trees) ms)
+object_faults m _ = flaw Shape m.spot.path ∷ []
 
--- a leaf, choice, anydata or anyxml that is missing (RFC 7950, sections 7.6.5 and 7.9.4)
-abbrev pub missing : Label → Scope → List Place → List Flaw
-missing l scope here = flaw_if (l.defined.is_mandatory && enforces scope) Mandatory here
+-- ---- a value
 
-abbrev pub leaf_faults : Label → Scope → List Place → Option Data → List Flaw
-leaf_faults l scope here None = if l.is_key then flaw MissingKey here ∷ [] else missing l scope here
-leaf_faults l scope here (Some d) = if is_some (value_of l d) then [] else flaw Value here ∷ []
-
--- a container: what is below it in an object, where it is written as one, or where it isn't written and means nothing by itself
--- (section 7.5.1): then as in an object without members, in the scope of the container itself
-abbrev pub container_faults : Label → Scope → List Place → Option Data → (Scope → Members → List Flaw) → List Flaw
-container_faults l scope here None inner = if l.defined.has_presence then [] else inner scope no_members
-container_faults l scope here (Some (object ms)) inner = inner Always ms
-container_faults l scope here (Some _) inner = flaw Shape here ∷ []
-
-abbrev pub anydata_faults : Label → Scope → List Place → Option Data → List Flaw
-anydata_faults l scope here None = missing l scope here
-anydata_faults l scope here (Some (object ms)) = []
-anydata_faults l scope here (Some _) = flaw Shape here ∷ []
-
-abbrev pub anyxml_faults : Label → Scope → List Place → Option Data → List Flaw
-anyxml_faults l scope here None = missing l scope here
-anyxml_faults l scope here (Some d) = []
-
--- what each item of an array gives, by the items before it
-abbrev pub each_after : (List Data → Data → List Flaw) → List Data → Items → List Flaw
-each_after each before no_items = []
-each_after each before (item d ds) = each before d ++ each_after each (before ++ d ∷ []) ds
-
--- behind the items, of which there are so many (sections 7.7.5 and 7.7.6)
-abbrev pub count_faults : NodeId → Label → Scope → List Place → ℕ → List Flaw
-count_faults n l scope here total =
-    flaw_if (nat_lt total l.defined.min && enforces_beside n scope) Min here
-    ++ flaw_if (unwrap_or (option_map (λ most. nat_lt most total) l.defined.max) false) Max here
-
-abbrev pub array_faults : NodeId → Label → Scope → List Place → Option Data → (List Data → Data → List Flaw) → List Flaw
-array_faults n l scope here None each = count_faults n l scope here 0
-array_faults n l scope here (Some (array ds)) each = each_after each [] ds ++ count_faults n l scope here (items_len ds)
-array_faults n l scope here (Some _) each = flaw Shape here ∷ []
-
--- what may stand only once in a leaf-list: its value, where it is configuration (section 7.7)
+-- what may be only once in a leaf-list: its value, where it is configuration (section 7.7)
 abbrev pub item_tuple : Label → Data → Option (List Val)
 item_tuple l d = if l.is_config then option_map (λ v. v ∷ []) (value_of l d) else None
 
-abbrev pub item_faults : Label → List Place → List Data → Data → List Flaw
-item_faults l here before d =
-    if is_some (value_of l d) then flaw_if (repeats (item_tuple l) before d) Duplicate here else flaw Value here ∷ []
+-- an item has the value of one before it
+abbrev pub is_repeated : Label → Option (List Data) → Data → Bool
+is_repeated l None d = false
+is_repeated l (Some before) d = repeats (item_tuple l) before d
 
-abbrev pub entry_faults : List Place → Data → (Members → List Flaw) → List Flaw
-entry_faults here (object ms) inner = inner ms
-entry_faults here _ inner = flaw Shape here ∷ []
+abbrev pub value_faults : Written → List Flaw
+value_faults m =
+    let here : List Place = at m.spot m.label (number_of m.before) in
+    if is_some (value_of m.label m.found) then flaw_if (is_repeated m.label m.before m.found) Duplicate here else flaw Value here ∷ []
+
+-- ---- the end of an entry
 
 -- a `unique` statement that is repeated, by its number from 1: a fault tells numbers of 32 bits
 abbrev pub unique_if : Bool → List Place → ℕ → List Flaw
@@ -110,77 +73,88 @@ pub record Leafs : Type 0 where
 abbrev pub leafs_of : Rows → NodeId → Label → Leafs
 leafs_of s n l = record { keys = key_leafs s n l; uniques = unique_leafs s n l }
 
--- behind an entry: whether its keys are those of one before (section 7.8.2), and then the `unique` statements
+-- after an entry: whether its keys are those of one before (section 7.8.2), and then the `unique` statements
 abbrev pub end_faults : Leafs → (List (Option NodeId) → Data → Option (List Val)) → List Place → List Data → Data → List Flaw
 end_faults leafs tuple here before d =
     flaw_if (repeats (tuple leafs.keys) before d) Duplicate here ++ unique_faults tuple here 1 leafs.uniques before d
 
--- an entry of a list, and what stands behind it
-abbrev pub list_faults : Label → Leafs → (Scope → List Place → Members → List Flaw) → (List (Option NodeId) → Data → Option (List Val)) → List Place → List Data → Data → List Flaw
-list_faults l leafs inside tuple path before d =
-    entry_faults (item_place path l before) d (inside Always (item_place path l before))
-    ++ end_faults leafs tuple (item_place path l before) before d
+-- the values of these leafs in an entry, where each has one
+abbrev pub tuple_at : Kind → Rows → Ending → List (Option NodeId) → Data → Option (List Val)
+tuple_at k s m leafs d = entry_tuple k s (m.node.0 + 1) m.trees leafs d
 
--- behind the cases, of which so many exist (section 7.9)
-abbrev pub choice_faults : Label → Scope → List Place → ℕ → List Flaw
-choice_faults l scope here zero = missing l scope here
-choice_faults l scope here (suc zero) = []
-choice_faults l scope here (suc (suc n)) = flaw Choice here ∷ []
+abbrev pub ending_faults : Kind → Rows → Ending → List Flaw
+ending_faults k s m = end_faults (leafs_of s m.node m.label) (tuple_at k s m) (at m.spot m.label (Some (length m.before + 1))) m.before m.found
 
--- what is below a node: in an object of its own, in a scope and at a place, and the tuples of that; and in the object around it, where the
--- node is a choice its cases, and how many of them exist, and else its nodes
-pub record Parts : Type 0 where
-  pub inside : Scope → List Place → Members → List Flaw
-  pub leafs : Leafs
-  pub tuple : List (Option NodeId) → Data → Option (List Val)
-  pub cases : List Flaw
-  pub existing : ℕ
-  pub nodes : List Flaw
+-- ---- a node, after what is below it
 
--- the faults of the node n, for which this is written; of other nodes than data nodes, choices and cases nothing is told
-abbrev pub kind_faults : NodeKind → NodeId → Label → Scope → List Place → Option Data → Parts → List Flaw
-kind_faults kind.Container n l scope path found parts = container_faults l scope (under path (step_name l)) found (λ inner ms. parts.inside inner (under path (step_name l)) ms)
-kind_faults kind.Leaf n l scope path found parts = leaf_faults l scope (under path (step_name l)) found
-kind_faults kind.LeafList n l scope path found parts =
-    array_faults n l scope (under path (step_name l)) found (λ before d. item_faults l (item_place path l before) before d)
-kind_faults kind.List n l scope path found parts =
-    array_faults n l scope (under path (step_name l)) found (list_faults l parts.leafs parts.inside parts.tuple path)
-kind_faults kind.Anydata n l scope path found parts = anydata_faults l scope (under path (step_name l)) found
-kind_faults kind.Anyxml n l scope path found parts = anyxml_faults l scope (under path (step_name l)) found
-kind_faults kind.Choice n l scope path found parts = parts.cases ++ choice_faults l scope (under path (step_name l)) parts.existing
-kind_faults kind.Case n l scope path found parts = parts.nodes
-kind_faults _ n l scope path found parts = []
+-- a leaf, choice, anydata or anyxml that is missing (sections 7.6.5 and 7.9.4)
+abbrev pub missing : Node → List Flaw
+missing m = flaw_if (m.label.defined.is_mandatory && enforces m.scope) Mandatory (at m.spot m.label None)
 
--- ---- all nodes
+abbrev pub misshapen : Node → List Flaw
+misshapen m = flaw Shape (at m.spot m.label None) ∷ []
 
--- the faults of these trees in an object with these members, in order: the first node has the number `first`, and each tree its scope
-abbrev pub forest_faults : Rows → (ℕ → Tree → Scope) → List Place → ℕ → Forest → Members → List Flaw
-forest_faults s scope_of path first no_trees ms = []
-forest_faults s scope_of path first (tree (node l kids) ts) ms =
-    kind_faults l.defined.kind (record { 0 = first }) l (scope_of first (node l kids)) path (get_member l.member ms) (record {
-      inside = λ scope here ds. unknowns here kids ds ++ forest_faults s (λ at t. scope) here (first + 1) kids ds;
-      leafs = leafs_of s (record { 0 = first }) l;
-      tuple = entry_tuple s (first + 1) kids;
-      cases = forest_faults s (case_scope s (record { 0 = first }) (first + 1) kids ms) path (first + 1) kids ms;
-      existing = count_standing (first + 1) kids ms;
-      nodes = forest_faults s (λ at t. scope_of first (node l kids)) path (first + 1) kids ms;
-    })
-    ++ forest_faults s scope_of path (first + 1 + count kids) ts ms
+abbrev pub leaf_faults : Node → Option Data → List Flaw
+leaf_faults m None = if m.label.is_key then flaw MissingKey (at m.spot m.label None) ∷ [] else missing m
+leaf_faults m (Some d) = []
 
--- the faults at an object of a node that has these trees below it: first the members that name none of them
-abbrev pub object_faults : Rows → Scope → List Place → ℕ → Forest → Members → List Flaw
-object_faults s scope path first ts ms = unknowns path ts ms ++ forest_faults s (λ at t. scope) path first ts ms
+abbrev pub anydata_faults : Node → Option Data → List Flaw
+anydata_faults m None = missing m
+anydata_faults m (Some (object ms)) = []
+anydata_faults m (Some _) = misshapen m
 
--- what is wrong with the data of a whole document, whatever other data it refers to
-abbrev pub data_faults : Rows → Data → List Flaw
-data_faults s (object ms) = object_faults s Always [] 0 (whole s) ms
-data_faults s _ = flaw Shape [] ∷ []
+abbrev pub anyxml_faults : Node → Option Data → List Flaw
+anyxml_faults m None = missing m
+anyxml_faults m (Some d) = []
+
+-- a list or leaf-list with so many items (sections 7.7.5 and 7.7.6)
+abbrev pub count_faults : Node → ℕ → List Flaw
+count_faults m total =
+    flaw_if (nat_lt total m.label.defined.min && enforces_beside m.node m.scope) Min (at m.spot m.label None)
+    ++ flaw_if (unwrap_or (option_map (λ most. nat_lt most total) m.label.defined.max) false) Max (at m.spot m.label None)
+
+abbrev pub array_faults : Node → Option Data → List Flaw
+array_faults m None = count_faults m 0
+array_faults m (Some (array ds)) = count_faults m (items_len ds)
+array_faults m (Some _) = misshapen m
+
+-- a choice of which so many cases exist (section 7.9)
+abbrev pub choice_faults : Node → ℕ → List Flaw
+choice_faults m zero = missing m
+choice_faults m (suc zero) = []
+choice_faults m (suc (suc n)) = flaw Choice (at m.spot m.label None) ∷ []
+
+-- a node for which this is written
+abbrev pub kind_faults : NodeKind → Node → Option Data → List Flaw
+kind_faults kind.Leaf m found = leaf_faults m found
+kind_faults kind.LeafList m found = array_faults m found
+kind_faults kind.List m found = array_faults m found
+kind_faults kind.Choice m found = choice_faults m (count_standing (m.node.0 + 1) m.kids m.members)
+kind_faults kind.Anydata m found = anydata_faults m found
+kind_faults kind.Anyxml m found = anyxml_faults m found
+kind_faults _ m found = []
+
+-- state that exists where configuration alone is asked for (section 7.21.1): choices and cases aren't written
+abbrev pub state_faults : NodeKind → Node → Option Data → List Flaw
+state_faults k m None = []
+state_faults k m (Some d) = flaw_if (is_there k d) State (at m.spot m.label None)
+
+abbrev pub node_faults : NodeKind → Node → Option Data → List Flaw
+node_faults k m found = if is_asked m.scope then kind_faults k m found else state_faults k m found
+
+-- ---- all of them
+
+abbrev pub faults_at : Kind → Rows → Meeting → List Flaw
+faults_at k s (stand m) = object_faults m m.found
+faults_at k s (written m) = value_faults m
+faults_at k s (ending m) = ending_faults k s m
+faults_at k s (met m) = node_faults m.label.defined.kind m (found_of m)
 
 -- references that reach nothing, at these paths (section 9.9)
 abbrev pub reference_faults : List (List Place) → List Flaw
 reference_faults paths = map (λ path. flaw Reference path) paths
 
--- the faults of a whole document: what is wrong with its data, and behind it the values of leafrefs that are the same as none that their
+-- the faults of a whole document: what is wrong with its data, and after it the values of leafrefs that are the same as none that their
 -- paths reach
-abbrev pub faults : Rows → Data → List Flaw
-faults s d = data_faults s d ++ reference_faults (all_references s (link_in s.links) d)
+abbrev pub faults : Kind → Rows → Data → List Flaw
+faults k s d = flat_map (faults_at k s) (all_met k s d) ++ reference_faults (all_references k s d)

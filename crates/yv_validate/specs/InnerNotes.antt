@@ -1,5 +1,5 @@
 -- Only private clauses cite this: the values of leafs as the walk notes them.
-use Rattle.std.specs.Prelude.{◌≡◌, ℕ, List, Option, Some, None}
+use Rattle.std.specs.Prelude.{◌≡◌, ℕ, ◌<◌, List, Option, Some, None}
 use Rattle.std.specs.Ordering.{nat_cmp}
 use Rattle.std.specs.BTreeMap.{get_by}
 use Rattle.serde_json.specs.Data.{Data}
@@ -8,7 +8,10 @@ use Rattle.yv_values.specs.Reads.{or_else}
 use Rattle.yv_values.specs.Values.{Val}
 use Rattle.yv_nodes.specs.Rows.{Rows, below, rank, row_at}
 use Rattle.yv_references.specs.InUse.{default_value}
-use Rattle.yv_validate.specs.Values.{entry_tuple, tuple_of}
+use Rattle.yv_references.specs.Meetings.{Meeting, Spot}
+use Rattle.yv_references.specs.Values.{values_in}
+use Rattle.yv_selection.specs.declared.kind.Kind.{Kind}
+use Rattle.yv_validate.specs.Values.{entry_tuple, tuple_of, unique_leafs, value_in}
 use Rattle.yv_validate.specs.declared.notes.Notes.{Notes}
 
 -- what a note at this number says: nothing, that the default is in use, or a value
@@ -24,11 +27,27 @@ noted_at s notes n = note_value s n (get_by (nat_cmp n) notes.values)
 pub record Gains (s : Rows) (old new : Notes) (values : ℕ → Option Val) : Type 0 where
   pub each : (n : ℕ) → noted_at s new n ≡ or_else (values n) (noted_at s old n)
 
+-- the value of a leaf in the entry in which a spot is, of what is met
+abbrev pub own_value : Spot → List Meeting → ℕ → Option Val
+own_value spot ms n = value_in spot.entry n (values_in ms)
+
+-- with the values of what is met in an entry, wherever that is: objects in it have greater numbers
+abbrev pub GainsBy : Rows → Notes → Notes → (Spot → ℕ → List Meeting) → Type 0
+GainsBy s old new met_at = (spot : Spot) (next : ℕ) → spot.entry < next → Gains s old new (own_value spot (met_at spot next))
+
 -- a tuple of what was noted at an entry, if it is an object
 abbrev pub tuple_in : Rows → Option Notes → List (Option NodeId) → Option (List Val)
 tuple_in s None leafs = None
 tuple_in s (Some notes) leafs = tuple_of (noted_at s notes) leafs
 
+-- the tuple of these leafs in an entry of a list
+abbrev pub list_tuple : Kind → Rows → NodeId → List (Option NodeId) → Data → Option (List Val)
+list_tuple k s n leafs d = entry_tuple k s (rank n) (below s n) leafs d
+
+-- the leafs of the list's `unique` statements
+abbrev pub uniques_at : Rows → NodeId → List (List (Option NodeId))
+uniques_at s n = unique_leafs s n (row_at s n).label
+
 -- its tuples are those of the entry
-pub record HasTuples (s : Rows) (n : NodeId) (notes : Option Notes) (d : Data) : Type 0 where
-  pub each : (leafs : List (Option NodeId)) → tuple_in s notes leafs ≡ entry_tuple s (rank n) (below s n) leafs d
+pub record HasTuples (k : Kind) (s : Rows) (n : NodeId) (notes : Option Notes) (d : Data) : Type 0 where
+  pub each : (leafs : List (Option NodeId)) → tuple_in s notes leafs ≡ list_tuple k s n leafs d

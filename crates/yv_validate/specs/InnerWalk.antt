@@ -1,132 +1,200 @@
--- Only private clauses cite this: what the walk gives for one node of the schema, and for nodes one after the other, by their numbers.
-use Rattle.std.specs.Prelude.{◌≡◌, ◌<◌, ◌+◌, ℕ, ◌==◌, List, [], ◌∷◌, ◌++◌, length, true, Option, None, if◌then◌else◌}
-use Rattle.yv_values.specs.Reads.{or_else}
-use Rattle.std.specs.List.{slice_index_or}
-use Rattle.serde_json.specs.Data.{Data, Members, no_members}
-use Rattle.serde_json.specs.Find.{get_member}
-use Rattle.yv_properties.specs.Kinds.{is_operation}
+-- Only private clauses cite this: what is met at one node of the schema, and at nodes one after the other, by their numbers; and what a
+-- walk gains by what it meets.
+use Rattle.std.specs.Prelude.{◌≡◌, ◌<◌, ℕ, ◌+◌, List, [], ◌∷◌, ◌++◌, length, map, true, Option, None, if◌then◌else◌}
+use Rattle.std.specs.List.{flat_map, slice_index_or, sum_by}
+use Rattle.serde_json.specs.Data.{Data, Items, Members, no_members}
+use Rattle.yv_selection.specs.declared.kind.Kind.{Kind}
+use Rattle.yv_values.specs.Count.{counted}
+use Rattle.yv_values.specs.Values.{Val}
 use Rattle.yv_nodes.specs.declared.node.NodeId.{NodeId}
+use Rattle.yv_nodes.specs.Link.{is_target, link_in}
 use Rattle.yv_nodes.specs.Rows.{Rows, below, children_of, rank, row_at, tree_of}
-use Rattle.yv_nodes.specs.Tree.{Tree}
-use Rattle.yv_walk.specs.Context.{IsContext, parent_of}
-use Rattle.yv_walk.specs.Standing.{count_standing, stands_in}
+use Rattle.yv_nodes.specs.Tree.{Forest, Tree}
+use Rattle.yv_tables.specs.Opened.{opened_trees}
+use Rattle.yv_walk.specs.Context.{IsContext, parent_of, unknown_names}
+use Rattle.yv_walk.specs.Standing.{stands_in}
 use Rattle.yv_walk.specs.declared.context.Context.{Context}
 use Rattle.yv_references.specs.declared.scope.Scope.{Scope}
-use Rattle.yv_references.specs.InUse.{case_scope}
-use Rattle.yv_validate.specs.Faults.{Leafs, leafs_of, Parts, forest_faults, kind_faults, object_faults}
-use Rattle.yv_references.specs.Place.{Place}
+use Rattle.yv_references.specs.Findings.{Findings, Finds, kept_if, Met, met_in, only_kept, value_notes}
+use Rattle.yv_references.specs.InUse.{case_scope, leaf_in_use, scope_in, some_value}
+use Rattle.yv_references.specs.Meetings.{array_met, Below, container_met, entered, entries_met, is_left, items_met, kind_met, leaf_met, Meeting, meetings, met, Node, node_met, object_met, Spot, Written}
+use Rattle.yv_references.specs.Place.{Place, under}
+use Rattle.serde_json.specs.Find.{get_member}
+use Rattle.yv_validate.specs.Faults.{faults_at, flaw}
 use Rattle.yv_validate.specs.Flaw.{Flaw}
-use Rattle.yv_validate.specs.Values.{Values, entry_tuple, forest_value, kind_value}
-use Rattle.yv_validate.specs.Work.{Costs, forest_work, kind_work, object_work}
-use Rattle.yv_values.specs.Values.{Val}
+use Rattle.yv_validate.specs.InnerTrail.{places}
+use Rattle.yv_validate.specs.Work.{work_at}
+use Rattle.yv_validate.specs.declared.fault.FaultKind.TheVariants.{Unknown}
+use Rattle.yv_validate.specs.declared.progress.Progress.{Progress}
+use Rattle.yv_validate.specs.declared.trail.Trail.{Trail}
 
--- the node stands in the object
+-- the node may be in the object
 pub record Meets (s : Rows) (c : Context) (n : NodeId) : Type 0 where
   pub context : IsContext s c
   pub stands : stands_in s (parent_of c) n ≡ true
 
--- the children of the node stand in it
+-- the children of the node may be in it
 pub record MeetsBelow (s : Rows) (c : Context) (p : NodeId) : Type 0 where
   pub context : IsContext s c
   pub stand : (i : ℕ) (d : NodeId) → i < length (children_of s p) → stands_in s (parent_of c) (slice_index_or (children_of s p) i d) ≡ true
 
--- the leafs that make entries of the list n differ, and the tuples of an entry
-abbrev pub leafs_at : Rows → NodeId → Leafs
-leafs_at s n = leafs_of s n (row_at s n).label
+-- ---- what is met, where the node is in this scope already
 
-abbrev pub tuple_at : Rows → NodeId → List (Option NodeId) → Data → Option (List Val)
-tuple_at s n = entry_tuple s (rank n) (below s n)
-
--- what is below the node n, where the first node there has this number
-abbrev pub parts_from : Rows → Scope → List Place → NodeId → (first : ℕ) → Members → Parts
-parts_from s scope path n first ms = record {
-  inside = λ inner here ds. object_faults s inner here first (below s n) ds;
-  leafs = leafs_at s n;
-  tuple = entry_tuple s first (below s n);
-  cases = forest_faults s (case_scope s n first (below s n) ms) path first (below s n) ms;
-  existing = count_standing first (below s n) ms;
-  nodes = forest_faults s (λ at t. scope) path first (below s n) ms;
+-- below the node n, where the first node there has this number
+abbrev pub below_from : Kind → Rows → Scope → Spot → ℕ → NodeId → (first : ℕ) → Members → Below
+below_from k s scope spot next n first ms = record {
+  inside = λ at from inner ds. meetings k s (λ m t. inner) at from first (below s n) ds;
+  cases = meetings k s (case_scope s n first (below s n) ms) spot next first (below s n) ms;
+  nodes = meetings k s (λ m t. scope) spot next first (below s n) ms;
 }
 
--- the same of a node that is no choice or case: as of a choice of which one case exists, of which nothing is told
-abbrev pub object_parts : Rows → NodeId → Parts
-object_parts s n = record {
-  inside = λ inner here ds. object_faults s inner here (rank n) (below s n) ds;
-  leafs = leafs_at s n;
-  tuple = tuple_at s n;
-  cases = [];
-  existing = 1;
-  nodes = [];
+abbrev pub one_from : Kind → Rows → Scope → NodeId → (first : ℕ) → Members → Spot → ℕ → List Meeting
+one_from k s scope n first ms spot next =
+    node_met n (row_at s n).label (below s n) spot scope next ms (below_from k s scope spot next n first ms)
+
+-- at one node, and what is below it
+abbrev pub one_met : Kind → Rows → Scope → NodeId → Members → Spot → ℕ → List Meeting
+one_met k s scope n ms spot next = one_from k s scope n (rank n) ms spot next
+
+-- the scope of a node that has this scope around it
+abbrev pub scope_at : Kind → Rows → Scope → NodeId → Scope
+scope_at k s scope n = scope_in k (row_at s n).label.is_config scope
+
+-- at nodes, one after the other
+abbrev pub ones_met : Kind → Rows → (ℕ → Tree → Scope) → List NodeId → Members → Spot → ℕ → List Meeting
+ones_met k s scope_of [] ms spot next = []
+ones_met k s scope_of (n ∷ ns) ms spot next =
+    let here : List Meeting = one_met k s (scope_at k s (scope_of n.0 (tree_of s n)) n) n ms spot next in
+    here ++ ones_met k s scope_of ns ms spot (next + entered here)
+
+-- at the nodes below one, each in this scope
+abbrev pub children_met : Kind → Rows → Scope → NodeId → Members → Spot → ℕ → List Meeting
+children_met k s scope n ms spot next = meetings k s (λ m t. scope) spot next (rank n) (below s n) ms
+
+-- at the cases of a choice, each in a scope of its own
+abbrev pub cases_met : Kind → Rows → NodeId → Members → Spot → ℕ → List Meeting
+cases_met k s n ms spot next = meetings k s (case_scope s n (rank n) (below s n) ms) spot next (rank n) (below s n) ms
+
+-- in an object of a node
+abbrev pub inside_at : Kind → Rows → NodeId → Below
+inside_at k s n = record { inside = λ at from inner ds. children_met k s inner n ds at from; cases = []; nodes = [] }
+
+-- where an object is to be, on this way, and in it: in objects of these numbers, and in the entry of this one
+abbrev pub object_at : Kind → Rows → NodeId → Option ℕ → Trail → List ℕ → ℕ → ℕ → Data → List Meeting
+object_at k s n item here outer entry next d =
+    object_met n item (below s n) (record { path = places s here; around = next ∷ outer; entry = entry }) next d (inside_at k s n)
+
+abbrev pub container_at : Kind → Rows → Scope → NodeId → Option Data → Spot → ℕ → List Meeting
+container_at k s scope n found spot next = container_met n (row_at s n).label (below s n) spot scope next found (inside_at k s n)
+
+-- at entries of a list, behind these
+abbrev pub entries_at : Kind → Rows → NodeId → List Data → Items → Spot → ℕ → List Meeting
+entries_at k s n before ds spot next = entries_met n (row_at s n).label (below s n) spot next before ds (inside_at k s n)
+
+abbrev pub list_at : Kind → Rows → NodeId → Option Data → Spot → ℕ → List Meeting
+list_at k s n found spot next = array_met found (λ ds. entries_at k s n [] ds spot next)
+
+-- at items of a leaf-list, behind these
+abbrev pub items_at : Rows → NodeId → List Data → Items → Spot → ℕ → List Meeting
+items_at s n before ds spot next = items_met n (row_at s n).label spot before ds
+
+abbrev pub leaf_list_at : Rows → NodeId → Option Data → Spot → ℕ → List Meeting
+leaf_list_at s n found spot next = array_met found (λ ds. items_at s n [] ds spot next)
+
+-- at a leaf
+abbrev pub leaf_at : Rows → NodeId → Option Data → Spot → ℕ → List Meeting
+leaf_at s n found spot next = leaf_met n (row_at s n).label spot found
+
+-- at a data node for which this is written, but for the node itself
+abbrev pub data_met : Kind → Rows → Scope → NodeId → Option Data → Spot → ℕ → List Meeting
+data_met k s scope n found spot next =
+    if is_left (row_at s n).label.defined.kind scope found then []
+    else kind_met (row_at s n).label.defined.kind n (row_at s n).label (below s n) spot scope next found (inside_at k s n)
+
+-- the node itself
+abbrev pub node_at : Rows → Scope → NodeId → Members → Spot → Node
+node_at s scope n ms spot = record { node = n; label = (row_at s n).label; spot = spot; scope = scope; members = ms; kids = below s n }
+
+-- with the node behind
+abbrev pub with_node : (Spot → ℕ → List Meeting) → (Spot → Node) → Spot → ℕ → List Meeting
+with_node met_at node_of spot next = met_at spot next ++ met (node_of spot) ∷ []
+
+-- ---- how a walk grows
+
+-- what it has reported, found and counted
+pub record Told : Type 0 where
+  pub faults : List Flaw
+  pub found : Findings
+  pub steps : ℕ
+
+abbrev pub told : Progress → Told
+told p = record { faults = p.faults.items; found = p.found; steps = p.meter }
+
+-- the number of the next object
+abbrev pub next_of : Told → ℕ
+next_of t = length t.found.positions
+
+-- what it gained by these meetings
+pub record Grows (k : Kind) (s : Rows) (old new : Told) (ms : List Meeting) : Type 0 where
+  pub faults : new.faults ≡ old.faults ++ flat_map (faults_at k s) ms
+  pub found : Finds old.found new.found (met_in s ms)
+  pub steps : counted new.steps ≡ counted (old.steps + sum_by (work_at k s) ms)
+
+-- by these meetings, and faults of the node's own behind them
+pub record GrowsWith (k : Kind) (s : Rows) (old new : Told) (ms : List Meeting) (own : List Flaw) : Type 0 where
+  pub faults : new.faults ≡ old.faults ++ (flat_map (faults_at k s) ms ++ own)
+  pub found : Finds old.found new.found (met_in s ms)
+  pub steps : counted new.steps ≡ counted (old.steps + sum_by (work_at k s) ms)
+
+-- by these meetings, and by the node itself, whose visit is counted already
+pub record Closes (k : Kind) (s : Rows) (old new : Told) (ms : List Meeting) (m : Node) : Type 0 where
+  pub faults : new.faults ≡ old.faults ++ flat_map (faults_at k s) (ms ++ met m ∷ [])
+  pub found : Finds old.found new.found (met_in s (ms ++ met m ∷ []))
+  pub steps : counted new.steps ≡ counted (old.steps + sum_by (work_at k s) ms)
+
+-- on this way, in the object of this number
+abbrev pub spot_at : Rows → Trail → ℕ → List ℕ → ℕ → Spot
+spot_at s way position outer entry = record { path = places s way; around = position ∷ outer; entry = entry }
+
+-- whatever objects are around it, and whatever entry it is in
+abbrev pub GrowsAt : Kind → Rows → Trail → ℕ → Told → Told → (Spot → ℕ → List Meeting) → Type 0
+GrowsAt k s way position old new met_at =
+    (outer : List ℕ) (entry : ℕ) → Grows k s old new (met_at (spot_at s way position outer entry) (next_of old))
+
+abbrev pub GrowsWithAt : Kind → Rows → Trail → ℕ → Told → Told → (Spot → ℕ → List Meeting) → List Flaw → Type 0
+GrowsWithAt k s way position old new met_at own =
+    (outer : List ℕ) (entry : ℕ) → GrowsWith k s old new (met_at (spot_at s way position outer entry) (next_of old)) own
+
+abbrev pub ClosesAt : Kind → Rows → Trail → ℕ → Told → Told → (Spot → ℕ → List Meeting) → (Spot → Node) → Type 0
+ClosesAt k s way position old new met_at node_of =
+    (outer : List ℕ) (entry : ℕ) → Closes k s old new (met_at (spot_at s way position outer entry) (next_of old)) (node_of (spot_at s way position outer entry))
+
+-- the members write this for the node
+abbrev pub Writes : Rows → NodeId → Option Data → Members → Type 0
+Writes s n found ms = get_member (row_at s n).label.member ms ≡ found
+
+-- ---- parts of it
+
+-- members that name no node
+abbrev pub unknowns : List Place → Forest → Members → List Flaw
+unknowns path ts ms = map (λ key. flaw Unknown (under path key)) (unknown_names (opened_trees ts) ms)
+
+-- a node as its own faults are read: none of them asks what is around it
+abbrev pub plain_at : Rows → Scope → NodeId → Trail → Node
+plain_at s scope n way = node_at s scope n no_members (spot_at s way 0 [] 0)
+
+-- what is found of a value that was read, in the object of this number
+abbrev pub value_found : Rows → NodeId → ℕ → Option ℕ → Option Val → Met
+value_found s n position item v = record {
+  kept = kept_if (is_target s.links n.0) n.0 position (some_value v);
+  positions = [];
+  notes = value_notes (link_in s.links n.0) position n.0 item v;
 }
 
-abbrev pub costs_from : Rows → NodeId → (first : ℕ) → Members → Costs
-costs_from s n first ms = record {
-  inside = object_work s first (below s n);
-  leafs = leafs_at s n;
-  tuple = entry_tuple s first (below s n);
-  absent = forest_work s first (below s n) no_members;
-  here = forest_work s first (below s n) ms;
-}
+-- what is found of a leaf that isn't written: its default, where that is in use
+abbrev pub default_found : Rows → Scope → NodeId → ℕ → Met
+default_found s scope n position = only_kept (kept_if (is_target s.links n.0) n.0 position (leaf_in_use (row_at s n).label scope None))
 
-abbrev pub object_costs : Rows → NodeId → Costs
-object_costs s n = record {
-  inside = object_work s (rank n) (below s n);
-  leafs = leafs_at s n;
-  tuple = tuple_at s n;
-  absent = forest_work s (rank n) (below s n) no_members;
-  here = 0;
-}
-
-abbrev pub node_faults_from : Rows → Scope → List Place → NodeId → (first : ℕ) → Members → List Flaw
-node_faults_from s scope path n first ms =
-    let l = (row_at s n).label in
-    kind_faults l.defined.kind n l scope path (get_member l.member ms) (parts_from s scope path n first ms)
-
--- the faults of one node, and of what is below it
-abbrev pub node_faults : Rows → Scope → List Place → NodeId → Members → List Flaw
-node_faults s scope path n ms = node_faults_from s scope path n (rank n) ms
-
-abbrev pub node_work_from : Rows → NodeId → (first : ℕ) → Members → ℕ
-node_work_from s n first ms =
-    let l = (row_at s n).label in
-    if is_operation l.defined.kind then 0 else 1 + kind_work l.defined.kind l (get_member l.member ms) (costs_from s n first ms)
-
-abbrev pub node_work : Rows → NodeId → Members → ℕ
-node_work s n ms = node_work_from s n (rank n) ms
-
--- those of nodes, one after the other
-abbrev pub nodes_faults : Rows → (ℕ → Tree → Scope) → List Place → List NodeId → Members → List Flaw
-nodes_faults s scope_of path [] ms = []
-nodes_faults s scope_of path (n ∷ ns) ms = node_faults s (scope_of n.0 (tree_of s n)) path n ms ++ nodes_faults s scope_of path ns ms
-
-abbrev pub nodes_work : Rows → List NodeId → Members → ℕ
-nodes_work s [] ms = 0
-nodes_work s (n ∷ ns) ms = node_work s n ms + nodes_work s ns ms
-
--- ---- the value of the leaf of a number, in an object
-
-abbrev pub values_from : Rows → (leaf : ℕ) → Scope → NodeId → (first : ℕ) → Members → Values
-values_from s leaf scope n first ms = record {
-  inside = λ inner ds. forest_value s leaf (λ at t. inner) first (below s n) ds;
-  cases = forest_value s leaf (case_scope s n first (below s n) ms) first (below s n) ms;
-  nodes = forest_value s leaf (λ at t. scope) first (below s n) ms;
-}
-
-abbrev pub object_values : Rows → (leaf : ℕ) → NodeId → Values
-object_values s leaf n = record {
-  inside = λ inner ds. forest_value s leaf (λ at t. inner) (rank n) (below s n) ds;
-  cases = None;
-  nodes = None;
-}
-
-abbrev pub node_value_from : Rows → (leaf : ℕ) → Scope → NodeId → (first : ℕ) → Members → Option Val
-node_value_from s leaf scope n first ms =
-    let l = (row_at s n).label in
-    kind_value l.defined.kind (n.0 == leaf) l scope (get_member l.member ms) (values_from s leaf scope n first ms)
-
-abbrev pub node_value : Rows → Scope → NodeId → Members → (leaf : ℕ) → Option Val
-node_value s scope n ms leaf = node_value_from s leaf scope n (rank n) ms
-
-abbrev pub nodes_value : Rows → (ℕ → Tree → Scope) → List NodeId → Members → (leaf : ℕ) → Option Val
-nodes_value s scope_of [] ms leaf = None
-nodes_value s scope_of (n ∷ ns) ms leaf = or_else (nodes_value s scope_of ns ms leaf) (node_value s (scope_of n.0 (tree_of s n)) n ms leaf)
+-- a value that is written for a leaf, or for an item behind these
+abbrev pub written_at : Rows → NodeId → Option (List Data) → Data → Spot → Written
+written_at s n before d spot = record { node = n; label = (row_at s n).label; spot = spot; before = before; found = d }

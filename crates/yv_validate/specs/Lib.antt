@@ -9,6 +9,5 @@ pub mod InnerTrail
 pub mod InnerWalk
 pub mod InnerMemory
 pub mod InnerNotes
-pub mod InnerMet
 pub use Rattle.yv_nodes.specs.Tree
 pub use Rattle.yv_nodes.specs.Rows

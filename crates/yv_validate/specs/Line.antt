@@ -2,7 +2,7 @@
 use Rattle.std.specs.Prelude.{ℕ, ◌+◌, ◌-◌, ◌/◌, ◌%◌, ◌==◌, ◌&&◌, List, [], ◌∷◌, ◌++◌, Bool, not, nat_le, nat_lt, Option, Some, None, codes, decimal, if◌then◌else◌}
 use Rattle.std.specs.List.{flat_map}
 use Rattle.yv_validate.specs.declared.fault.FaultKind.{FaultKind}
-use Rattle.yv_validate.specs.declared.fault.FaultKind.TheVariants.{Unknown, Shape, Value, MissingKey, Duplicate, Unique, Mandatory, Min, Max, Choice, Reference}
+use Rattle.yv_validate.specs.declared.fault.FaultKind.TheVariants.{Unknown, Shape, Value, MissingKey, Duplicate, Unique, Mandatory, Min, Max, Choice, Reference, State}
 use Rattle.yv_references.specs.Place.{Place}
 use Rattle.yv_validate.specs.Flaw.{Flaw}
 
@@ -18,6 +18,7 @@ kind_name Min = codes "min"
 kind_name Max = codes "max"
 kind_name Choice = codes "choice"
 kind_name Reference = codes "reference"
+kind_name State = codes "state"
 
 -- a visible ASCII character but for the percent sign
 abbrev pub is_plain : ℕ → Bool

@@ -1,48 +1,34 @@
--- The values that leafs have in an object, by the leafs' numbers, defaults in use among them (RFC 7950, section 7.6.1).
-use Rattle.std.specs.Prelude.{ℕ, ◌+◌, ◌==◌, List, [], ◌∷◌, Bool, Option, Some, None, map, if◌then◌else◌}
-use Rattle.yv_leaf_targets.specs.Numbers.{key_leaf_at, unique_leaf_at}
-use Rattle.yv_nodes.specs.declared.node.NodeId.{NodeId}
-use Rattle.serde_json.specs.Data.{Data, object, Members, no_members}
-use Rattle.serde_json.specs.Find.{get_member}
-use Rattle.yv_properties.specs.declared.kind.NodeKind.{NodeKind}
-use Rattle.yv_properties.specs.declared.kind.NodeKind.TheVariants as kind
+-- The values of leafs in an entry of a list, by the leafs' numbers, and the leafs that make entries differ (RFC 7950, sections 7.8.2 and 7.8.3).
+use Rattle.std.specs.Prelude.{ℕ, ◌==◌, ◌&&◌, List, [], ◌∷◌, Bool, Option, Some, None, map, if◌then◌else◌}
+use Rattle.serde_json.specs.Data.{Data, object}
+use Rattle.yv_properties.specs.Kinds.{is_leaf}
+use Rattle.yv_selection.specs.declared.kind.Kind.{Kind}
 use Rattle.yv_values.specs.Reads.{or_else}
 use Rattle.yv_values.specs.Values.{Val}
 use Rattle.yv_nodes.specs.Rows.{Rows}
-use Rattle.yv_nodes.specs.Tree.{count, Label, Tree, node, Forest, no_trees, tree}
-use Rattle.yv_references.specs.declared.scope.Scope.{Scope}
+use Rattle.yv_nodes.specs.Tree.{Forest, Label}
+use Rattle.yv_nodes.specs.declared.node.NodeId.{NodeId}
+use Rattle.yv_leaf_targets.specs.Numbers.{key_leaf_at, unique_leaf_at}
 use Rattle.yv_references.specs.declared.scope.Scope.TheVariants.{Always}
-use Rattle.yv_references.specs.InUse.{case_scope, leaf_value}
+use Rattle.yv_references.specs.Meetings.{meetings, top}
+use Rattle.yv_references.specs.Values.{Valued, values_in}
 
-abbrev pub container_value : Label → Scope → Option Data → (Scope → Members → Option Val) → Option Val
-container_value l scope None inner = if l.defined.has_presence then None else inner scope no_members
-container_value l scope (Some (object ms)) inner = inner Always ms
-container_value l scope (Some _) inner = None
+-- it is a value of the leaf n, in the entry of this number itself, and not in a list in it
+abbrev pub is_own : (entry n : ℕ) → Valued → Bool
+is_own entry n v = is_leaf v.kind && (v.node == n) && (v.spot.entry == entry)
 
--- what is below a node: in an object of its own, and in the object around it, where the node is a choice as cases, and else as nodes
-pub record Values : Type 0 where
-  pub inside : Scope → Members → Option Val
-  pub cases : Option Val
-  pub nodes : Option Val
+abbrev pub value_if : Bool → Val → Option Val
+value_if b v = if b then Some v else None
 
-abbrev pub kind_value : NodeKind → (is_it : Bool) → Label → Scope → Option Data → Values → Option Val
-kind_value kind.Container is_it l scope found values = container_value l scope found values.inside
-kind_value kind.Leaf is_it l scope found values = if is_it then leaf_value l scope found else None
-kind_value kind.Choice is_it l scope found values = values.cases
-kind_value kind.Case is_it l scope found values = values.nodes
-kind_value _ is_it l scope found values = None
+-- the value of the leaf n in the entry of this number: it has one at most
+abbrev pub value_in : (entry n : ℕ) → List Valued → Option Val
+value_in entry n [] = None
+value_in entry n (v ∷ vs) = or_else (value_in entry n vs) (value_if (is_own entry n v) v.value)
 
--- the value of the leaf n, which is one of these trees or stands below one, through choices, cases and containers: the first node has the
--- number `first`, and each tree its scope
-abbrev pub forest_value : Rows → (n : ℕ) → (ℕ → Tree → Scope) → (first : ℕ) → Forest → Members → Option Val
-forest_value s n scope_of first no_trees ms = None
-forest_value s n scope_of first (tree (node l kids) ts) ms =
-    or_else (forest_value s n scope_of (first + 1 + count kids) ts ms)
-    (kind_value l.defined.kind (first == n) l (scope_of first (node l kids)) (get_member l.member ms) (record {
-      inside = λ scope ds. forest_value s n (λ at t. scope) (first + 1) kids ds;
-      cases = forest_value s n (case_scope s (record { 0 = first }) (first + 1) kids ms) (first + 1) kids ms;
-      nodes = forest_value s n (λ at t. scope_of first (node l kids)) (first + 1) kids ms;
-    }))
+-- the value of a leaf in an entry of a list that has these trees below it, by a walk over the entry alone
+abbrev pub leaf_in : Kind → Rows → (first : ℕ) → Forest → Data → (n : ℕ) → Option Val
+leaf_in k s first ts (object ms) n = value_in 0 n (values_in (meetings k s (λ m t. Always) top 1 first ts ms))
+leaf_in k s first ts _ n = None
 
 -- ---- tuples
 
@@ -66,9 +52,8 @@ tuple_of value_at [] = None
 tuple_of value_at (n ∷ ns) = all_values value_at (n ∷ ns)
 
 -- the tuple of an entry of a list that has these trees below it
-abbrev pub entry_tuple : Rows → (first : ℕ) → Forest → List (Option NodeId) → Data → Option (List Val)
-entry_tuple s first ts leafs (object ms) = tuple_of (λ n. forest_value s n (λ at t. Always) first ts ms) leafs
-entry_tuple s first ts leafs _ = None
+abbrev pub entry_tuple : Kind → Rows → (first : ℕ) → Forest → List (Option NodeId) → Data → Option (List Val)
+entry_tuple k s first ts leafs d = tuple_of (leaf_in k s first ts d) leafs
 
 -- the leafs that the key of the list n names (RFC 7950, section 7.8.2)
 abbrev pub key_leafs : Rows → NodeId → Label → List (Option NodeId)

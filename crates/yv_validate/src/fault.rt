@@ -31,6 +31,8 @@ pub enum FaultKind {
     /// The value of a leafref, or of an item of a leaf-list of them, is the same as none that its path reaches (RFC 7950, sections
     /// 9.9 and 9.9.3).
     Reference,
+    /// State is in a document that is to have configuration alone (RFC 7950, section 7.21.1).
+    State,
 }
 
 impl FaultKind {
@@ -52,6 +54,7 @@ impl FaultKind {
             FaultKind::Max => "max",
             FaultKind::Choice => "choice",
             FaultKind::Reference => "reference",
+            FaultKind::State => "state",
         }
     }
 }

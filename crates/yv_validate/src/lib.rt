@@ -19,3 +19,4 @@ pub use fault::{Fault, FaultKind, Report};
 pub use text::{line, push_line};
 pub use walk::validate;
 pub use yv_references::{MemberName, Scope, Step};
+pub use yv_selection::Kind;

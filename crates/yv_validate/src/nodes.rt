@@ -1,17 +1,20 @@
 //! Nodes below which the walk doesn't go.
-ghost use Rattle.std.specs.Prelude.{◌≡◌, ◌==◌, ◌∷◌, [], ◌++◌, ◌+◌, ◌<◌, nat_lt, length, map, false, IfOk, OnOk, option_map, unwrap_or, if◌then◌else◌};
+ghost use Rattle.std.specs.Prelude.{◌≡◌, ◌==◌, ◌∷◌, [], ◌++◌, ◌+◌, ◌<◌, List, ℕ, Option, nat_lt, length, map, false, true, Some, None, IfOk, OnOk, option_map, unwrap_or, if◌then◌else◌};
+ghost use Rattle.serde_json.specs.Data.{Members};
 ghost use Rattle.serde_json.specs.Events.{items_len};
 ghost use Rattle.serde_json.specs.View.{view, items_view};
+ghost use Rattle.yv_properties.specs.declared.kind.NodeKind.TheVariants.{Leaf};
 ghost use Rattle.yv_values.specs.Count.{counted};
 ghost use Rattle.yv_nodes.specs.Rows.{row_at};
+ghost use Rattle.yv_references.specs.Findings.{Finds};
+ghost use Rattle.yv_references.specs.InUse.{default_value, is_asked, uses_defaults, value_of};
+ghost use Rattle.yv_references.specs.Meetings.{written};
+ghost use Rattle.yv_validate.specs.Faults.{anydata_faults, anyxml_faults, array_faults, choice_faults, count_faults, flaw_if, item_tuple, leaf_faults, misshapen as misshapen_faults};
 ghost use Rattle.yv_validate.specs.InnerMemory.{Remembers};
-ghost use Rattle.yv_validate.specs.InnerMet.{Finds, items_met, leaf_met, listed_met, value_met};
-ghost use Rattle.yv_validate.specs.InnerNotes.{Gains};
-ghost use Rattle.yv_references.specs.InUse.{leaf_value, value_of};
+ghost use Rattle.yv_validate.specs.InnerNotes.{Gains, GainsBy};
 ghost use Rattle.yv_validate.specs.InnerTrail.{places, IsWithin};
-ghost use Rattle.yv_validate.specs.Faults.{flaw_if, item_place, each_after, item_tuple, item_faults as faults_of_item, leaf_faults, anydata_faults, anyxml_faults, array_faults, choice_faults, count_faults};
-ghost use Rattle.yv_references.specs.Place.{step_name, under};
-ghost use Rattle.yv_validate.specs.Work.{array_work, items_work, leaf_work, tuple_work, value_work};
+ghost use Rattle.yv_validate.specs.InnerWalk.{ClosesAt, default_found, Grows, GrowsAt, GrowsWithAt, items_at, leaf_at, leaf_list_at, node_at, plain_at, spot_at, told, value_found, with_node, Writes, written_at};
+ghost use Rattle.yv_validate.specs.Work.{value_work};
 
 use crate::fault::{Fault, FaultKind};
 use crate::memory::{alone, stood_before};
@@ -33,52 +36,53 @@ pub(crate) fn count_of(items: &Vec<Value>) -> usize
 }
 
 impl<'a> Walk<'a> {
-    /// A leaf, written so or not, in the object with this number.
+    /// A leaf that was visited, written so or not.
     pub(crate) fn leaf(
         &self,
-        id: NodeId,
         scope: Scope,
+        id: NodeId,
         value: Option<&Value>,
         position: u64,
-        here: &Trail<'_>,
+        path: &Trail<'_>,
         notes: &mut Notes,
         progress: &mut Progress<'a>,
     ) -> Result<(), AllocError>
         requires node { id.0 < length self.now.schema.now.nodes }
-        requires way { IsWithin self.now.schema.now here.now }
-        ensures faults { OnOk result (progress.new.faults.items ≡ progress.old.faults.items
-            ++ leaf_faults (row_at self.now.schema.now id).label scope (places self.now.schema.now here.now) (option_map (λ v. view v.now) value.entry)) }
-        ensures notes { OnOk result (Gains self.now.schema.now notes.old notes.new
-            (λ n. if id.0 == n then leaf_value (row_at self.now.schema.now id).label scope (option_map (λ v. view v.now) value.entry) else None)) }
-        ensures found { OnOk result (Finds progress.old.found progress.new.found
-            (leaf_met self.now.schema.now id (row_at self.now.schema.now id).label position scope
-            (option_map (λ v. view v.now) value.entry))) }
-        ensures steps { OnOk result (counted progress.new.meter ≡ counted (progress.old.meter
-            + leaf_work (row_at self.now.schema.now id).label (option_map (λ v. view v.now) value.entry))) }
+        requires kind { (row_at self.now.schema.now id).label.defined.kind ≡ Leaf }
+        requires asked { is_asked scope ≡ true }
+        requires way { IsWithin self.now.schema.now path.now }
+        ensures grows { OnOk result ((ms : Members) → Writes self.now.schema.now id (option_map (λ v. view v.now) value.entry) ms
+            → ClosesAt self.now.kind self.now.schema.now path.now position (told progress.old) (told progress.new)
+            (leaf_at self.now.schema.now id (option_map (λ v. view v.now) value.entry)) (node_at self.now.schema.now scope id ms)) }
+        ensures notes { OnOk result ((ms : Members) → Writes self.now.schema.now id (option_map (λ v. view v.now) value.entry) ms
+            → GainsBy self.now.schema.now notes.old notes.new
+            (with_node (leaf_at self.now.schema.now id (option_map (λ v. view v.now) value.entry)) (node_at self.now.schema.now scope id ms))) }
     {
+        laws::nothing_met();
+        laws::met_behind();
+        laws::default_met();
         match value {
             None => {
-                self.note_default(id, scope, position, notes, &mut progress.found)?;
-                self.absent_leaf(id, scope, here, &mut progress.faults)
+                self.note_default(scope, id, position, notes, &mut progress.found)?;
+                self.absent_leaf(scope, id, path, &mut progress.faults)
             }
-            Some(written) => self.written_leaf(id, written, position, here, notes, progress),
+            Some(written) => self.written_leaf(id, written, position, path, notes, progress),
         }
     }
 
     // Notes the default of a leaf that isn't written, and keeps it for references, where it is in use.
     fn note_default(
         &self,
-        id: NodeId,
         scope: Scope,
+        id: NodeId,
         position: u64,
         notes: &mut Notes,
         found: &mut Found,
     ) -> Result<(), AllocError>
         requires { id.0 < length self.now.schema.now.nodes }
         ensures notes { OnOk result (Gains self.now.schema.now notes.old notes.new
-            (λ n. if id.0 == n then leaf_value (row_at self.now.schema.now id).label scope None else None)) }
-        ensures found { OnOk result (Finds found.old found.new
-            (leaf_met self.now.schema.now id (row_at self.now.schema.now id).label position scope None)) }
+            (λ n. if id.0 == n then (if uses_defaults scope then default_value (row_at self.now.schema.now id).label else None) else None)) }
+        ensures found { OnOk result (Finds found.old found.new (default_found self.now.schema.now scope id position)) }
     {
         laws::nothing_met();
         if !scope.uses_defaults() {
@@ -90,21 +94,21 @@ impl<'a> Walk<'a> {
 
     fn absent_leaf(
         &self,
-        id: NodeId,
         scope: Scope,
-        here: &Trail<'_>,
+        id: NodeId,
+        path: &Trail<'_>,
         faults: &mut Vec<Fault>,
     ) -> Result<(), AllocError>
         requires node { id.0 < length self.now.schema.now.nodes }
-        requires way { IsWithin self.now.schema.now here.now }
-        ensures { OnOk result (faults.new.items ≡ faults.old.items
-            ++ leaf_faults (row_at self.now.schema.now id).label scope (places self.now.schema.now here.now) None) }
+        requires way { IsWithin self.now.schema.now path.now }
+        ensures { OnOk result (faults.new.items ≡ faults.old.items ++ leaf_faults (plain_at self.now.schema.now scope id path.now) None) }
     {
         let node = self.schema.node(id);
+        let here = Trail::Below(&*path, id, None);
         if node.is_key() {
-            self.tell(FaultKind::MissingKey, here, faults)
+            self.tell(FaultKind::MissingKey, &here, faults)
         } else {
-            self.missing(node, scope, here, faults)
+            self.missing(node, scope, &here, faults)
         }
     }
 
@@ -113,25 +117,23 @@ impl<'a> Walk<'a> {
         id: NodeId,
         value: &Value,
         position: u64,
-        here: &Trail<'_>,
+        path: &Trail<'_>,
         notes: &mut Notes,
         progress: &mut Progress<'a>,
     ) -> Result<(), AllocError>
         requires node { id.0 < length self.now.schema.now.nodes }
-        requires way { IsWithin self.now.schema.now here.now }
-        ensures faults { OnOk result (progress.new.faults.items ≡ progress.old.faults.items
-            ++ leaf_faults (row_at self.now.schema.now id).label Scope.Always (places self.now.schema.now here.now) (Some (view value.now))) }
+        requires way { IsWithin self.now.schema.now path.now }
+        ensures grows { OnOk result (GrowsAt self.now.kind self.now.schema.now path.now position (told progress.old) (told progress.new)
+            (leaf_at self.now.schema.now id (Some (view value.now)))) }
         ensures notes { OnOk result (Gains self.now.schema.now notes.old notes.new
             (λ n. if id.0 == n then value_of (row_at self.now.schema.now id).label (view value.now) else None)) }
-        ensures found { OnOk result (Finds progress.old.found progress.new.found
-            (leaf_met self.now.schema.now id (row_at self.now.schema.now id).label position Scope.Always (Some (view value.now)))) }
-        ensures steps { OnOk result (counted progress.new.meter ≡ counted (progress.old.meter
-            + value_work (row_at self.now.schema.now id).label (view value.now))) }
     {
+        laws::value_met();
+        let here = Trail::Below(&*path, id, None);
         let read = self.read(id, None, value, position, progress)?;
         match read {
             Some(read) => notes.keep(id, read),
-            None => self.tell(FaultKind::Value, here, &mut progress.faults),
+            None => self.tell(FaultKind::Value, &here, &mut progress.faults),
         }
     }
 
@@ -149,7 +151,7 @@ impl<'a> Walk<'a> {
         ensures value { IfOk result (λ read. read ≡ value_of (row_at self.now.schema.now id).label (view value.now)) }
         ensures faults { progress.new.faults.items ≡ progress.old.faults.items }
         ensures found { OnOk result (Finds progress.old.found progress.new.found
-            (value_met self.now.schema.now id position item (value_of (row_at self.now.schema.now id).label (view value.now)))) }
+            (value_found self.now.schema.now id position item (value_of (row_at self.now.schema.now id).label (view value.now)))) }
         ensures steps { OnOk result (counted progress.new.meter ≡ counted (progress.old.meter
             + value_work (row_at self.now.schema.now id).label (view value.now))) }
     {
@@ -169,38 +171,42 @@ impl<'a> Walk<'a> {
     /// An anydata node, written so or not: an object of any content.
     pub(crate) fn anydata(
         &self,
-        node: &Node,
         scope: Scope,
+        id: NodeId,
         value: Option<&Value>,
-        here: &Trail<'_>,
+        path: &Trail<'_>,
         faults: &mut Vec<Fault>,
     ) -> Result<(), AllocError>
-        requires { IsWithin self.now.schema.now here.now }
+        requires node { id.0 < length self.now.schema.now.nodes }
+        requires way { IsWithin self.now.schema.now path.now }
         ensures { OnOk result (faults.new.items ≡ faults.old.items
-            ++ anydata_faults node.now.label scope (places self.now.schema.now here.now) (option_map (λ v. view v.now) value.entry)) }
+            ++ anydata_faults (plain_at self.now.schema.now scope id path.now) (option_map (λ v. view v.now) value.entry)) }
     {
+        let here = Trail::Below(&*path, id, None);
         match value {
-            None => self.missing(node, scope, here, faults),
+            None => self.missing(self.schema.node(id), scope, &here, faults),
             Some(Value::Object(_)) => Ok(()),
-            Some(_) => self.tell(FaultKind::Shape, here, faults),
+            Some(_) => self.tell(FaultKind::Shape, &here, faults),
         }
     }
 
     /// An anyxml node, written so or not: any value.
     pub(crate) fn anyxml(
         &self,
-        node: &Node,
         scope: Scope,
+        id: NodeId,
         value: Option<&Value>,
-        here: &Trail<'_>,
+        path: &Trail<'_>,
         faults: &mut Vec<Fault>,
     ) -> Result<(), AllocError>
-        requires { IsWithin self.now.schema.now here.now }
+        requires node { id.0 < length self.now.schema.now.nodes }
+        requires way { IsWithin self.now.schema.now path.now }
         ensures { OnOk result (faults.new.items ≡ faults.old.items
-            ++ anyxml_faults node.now.label scope (places self.now.schema.now here.now) (option_map (λ v. view v.now) value.entry)) }
+            ++ anyxml_faults (plain_at self.now.schema.now scope id path.now) (option_map (λ v. view v.now) value.entry)) }
     {
+        let here = Trail::Below(&*path, id, None);
         match value {
-            None => self.missing(node, scope, here, faults),
+            None => self.missing(self.schema.node(id), scope, &here, faults),
             Some(_) => Ok(()),
         }
     }
@@ -208,42 +214,61 @@ impl<'a> Walk<'a> {
     /// What follows the cases of a choice, so many of which exist.
     pub(crate) fn end_choice(
         &self,
-        node: &Node,
         scope: Scope,
+        id: NodeId,
         existing: usize,
-        here: &Trail<'_>,
+        path: &Trail<'_>,
         faults: &mut Vec<Fault>,
     ) -> Result<(), AllocError>
-        requires { IsWithin self.now.schema.now here.now }
+        requires node { id.0 < length self.now.schema.now.nodes }
+        requires way { IsWithin self.now.schema.now path.now }
         ensures { OnOk result (faults.new.items ≡ faults.old.items
-            ++ choice_faults node.now.label scope (places self.now.schema.now here.now) existing) }
+            ++ (if is_asked scope then choice_faults (plain_at self.now.schema.now scope id path.now) existing else [])) }
     {
+        if !scope.is_asked() {
+            return Ok(());
+        }
+        let here = Trail::Below(&*path, id, None);
         match existing {
-            0 => self.missing(node, scope, here, faults),
+            0 => self.missing(self.schema.node(id), scope, &here, faults),
             1 => Ok(()),
-            _ => self.tell(FaultKind::Choice, here, faults),
+            _ => self.tell(FaultKind::Choice, &here, faults),
         }
     }
 
     /// What follows the entries of a list or leaf-list.
     pub(crate) fn end_array(
         &self,
-        id: NodeId,
         scope: Scope,
+        id: NodeId,
         total: usize,
-        here: &Trail<'_>,
+        path: &Trail<'_>,
         faults: &mut Vec<Fault>,
     ) -> Result<(), AllocError>
         requires node { id.0 < length self.now.schema.now.nodes }
-        requires way { IsWithin self.now.schema.now here.now }
-        ensures { OnOk result (faults.new.items ≡ faults.old.items
-            ++ count_faults id (row_at self.now.schema.now id).label scope (places self.now.schema.now here.now) total) }
+        requires way { IsWithin self.now.schema.now path.now }
+        ensures { OnOk result (faults.new.items ≡ faults.old.items ++ count_faults (plain_at self.now.schema.now scope id path.now) total) }
     {
         let node = self.schema.node(id);
+        let here = Trail::Below(&*path, id, None);
         let is_short = total < node.min() as usize && scope.enforces_beside(id);
-        self.tell_if(is_short, FaultKind::Min, here, faults)?;
+        self.tell_if(is_short, FaultKind::Min, &here, faults)?;
         let is_long = exceeds(total, node.max());
-        self.tell_if(is_long, FaultKind::Max, here, faults)
+        self.tell_if(is_long, FaultKind::Max, &here, faults)
+    }
+
+    /// A list or leaf-list for which no array is written.
+    pub(crate) fn misshapen(
+        &self,
+        id: NodeId,
+        path: &Trail<'_>,
+        faults: &mut Vec<Fault>,
+    ) -> Result<(), AllocError>
+        requires node { id.0 < length self.now.schema.now.nodes }
+        requires way { IsWithin self.now.schema.now path.now }
+        ensures { OnOk result (faults.new.items ≡ faults.old.items ++ misshapen_faults (plain_at self.now.schema.now Scope.Always id path.now)) }
+    {
+        self.tell(FaultKind::Shape, &Trail::Below(&*path, id, None), faults)
     }
 
     /// Tells a fault, where there is one.
@@ -263,7 +288,7 @@ impl<'a> Walk<'a> {
         Ok(())
     }
 
-    /// A leaf-list, written so or not, in the object with this number.
+    /// A leaf-list, written so or not.
     pub(crate) fn leaf_list(
         &self,
         scope: Scope,
@@ -275,27 +300,20 @@ impl<'a> Walk<'a> {
     ) -> Result<(), AllocError>
         requires node { id.0 < length self.now.schema.now.nodes }
         requires way { IsWithin self.now.schema.now path.now }
-        ensures faults { OnOk result (progress.new.faults.items ≡ progress.old.faults.items
-            ++ array_faults id (row_at self.now.schema.now id).label scope
-            (under (places self.now.schema.now path.now) (step_name (row_at self.now.schema.now id).label))
-            (option_map (λ v. view v.now) value.entry)
-            (λ before d. faults_of_item (row_at self.now.schema.now id).label
-            (item_place (places self.now.schema.now path.now) (row_at self.now.schema.now id).label before) before d)) }
-        ensures found { OnOk result (Finds progress.old.found progress.new.found
-            (listed_met self.now.schema.now id (row_at self.now.schema.now id).label position
-            (option_map (λ v. view v.now) value.entry))) }
-        ensures steps { OnOk result (counted progress.new.meter ≡ counted (progress.old.meter
-            + array_work (option_map (λ v. view v.now) value.entry) (items_work (row_at self.now.schema.now id).label))) }
+        ensures grows { OnOk result (GrowsWithAt self.now.kind self.now.schema.now path.now position (told progress.old) (told progress.new)
+            (leaf_list_at self.now.schema.now id (option_map (λ v. view v.now) value.entry))
+            (array_faults (plain_at self.now.schema.now scope id path.now) (option_map (λ v. view v.now) value.entry))) }
     {
         laws::nothing_met();
-        let here = Trail::Below(&*path, id, None);
         match value {
-            None => self.end_array(id, scope, 0, &here, &mut progress.faults),
-            Some(Value::Array(items)) => {
-                self.items(id, items, position, path, progress)?;
-                self.end_array(id, scope, count_of(items), &here, &mut progress.faults)
-            }
-            Some(_) => self.tell(FaultKind::Shape, &here, &mut progress.faults),
+            None => self.end_array(scope, id, 0, path, &mut progress.faults),
+            Some(written) => match written {
+                Value::Array(items) => {
+                    self.items(id, items, position, path, progress)?;
+                    self.end_array(scope, id, count_of(items), path, &mut progress.faults)
+                }
+                _ => self.misshapen(id, path, &mut progress.faults),
+            },
         }
     }
 
@@ -309,22 +327,16 @@ impl<'a> Walk<'a> {
     ) -> Result<(), AllocError>
         requires node { id.0 < length self.now.schema.now.nodes }
         requires way { IsWithin self.now.schema.now path.now }
-        ensures faults { OnOk result (progress.new.faults.items ≡ progress.old.faults.items
-            ++ each_after (λ before d. faults_of_item (row_at self.now.schema.now id).label
-            (item_place (places self.now.schema.now path.now) (row_at self.now.schema.now id).label before) before d) []
-            (items_view items.now.items)) }
-        ensures found { OnOk result (Finds progress.old.found progress.new.found
-            (items_met self.now.schema.now id (row_at self.now.schema.now id).label position 1 (items_view items.now.items))) }
-        ensures steps { OnOk result (counted progress.new.meter ≡ counted (progress.old.meter
-            + items_work (row_at self.now.schema.now id).label (items_view items.now.items))) }
+        ensures grows { OnOk result (GrowsAt self.now.kind self.now.schema.now path.now position (told progress.old) (told progress.new)
+            (items_at self.now.schema.now id [] (items_view items.now.items))) }
     {
         laws::nothing_met();
         laws::met_behind();
+        laws::counted();
         let mut kept = Index::new(self.alloc);
         for (index, item) in items.iter().enumerate() {
-            let here = Trail::Below(&*path, id, Some(index as u64 + 1));
             let earlier = &items[..index];
-            self.item(id, earlier, item, &mut kept, position, &here, progress)?;
+            self.item(id, earlier, item, &mut kept, position, path, progress)?;
         }
         Ok(())
     }
@@ -337,37 +349,33 @@ impl<'a> Walk<'a> {
         item: &Value,
         kept: &mut Index,
         position: u64,
-        here: &Trail<'_>,
+        path: &Trail<'_>,
         progress: &mut Progress<'a>,
     ) -> Result<(), AllocError>
         requires node { id.0 < length self.now.schema.now.nodes }
-        requires way { IsWithin self.now.schema.now here.now }
+        requires way { IsWithin self.now.schema.now path.now }
         requires kept { Remembers kept.now (item_tuple (row_at self.now.schema.now id).label) (map view earlier.now) }
-        ensures faults { OnOk result (progress.new.faults.items ≡ progress.old.faults.items
-            ++ faults_of_item (row_at self.now.schema.now id).label (places self.now.schema.now here.now)
-            (map view earlier.now) (view item.now)) }
+        ensures grows { OnOk result ((outer : List ℕ) (entry : ℕ) → Grows self.now.kind self.now.schema.now (told progress.old) (told progress.new)
+            (written (written_at self.now.schema.now id (Some (map view earlier.now)) (view item.now)
+            (spot_at self.now.schema.now path.now position outer entry)) ∷ [])) }
         ensures kept { OnOk result (Remembers kept.new (item_tuple (row_at self.now.schema.now id).label)
             (map view earlier.now ++ view item.now ∷ [])) }
-        ensures found { OnOk result (Finds progress.old.found progress.new.found
-            (value_met self.now.schema.now id position (Some (length earlier.now + 1))
-            (value_of (row_at self.now.schema.now id).label (view item.now)))) }
-        ensures steps { OnOk result (counted progress.new.meter ≡ counted (progress.old.meter
-            + (value_work (row_at self.now.schema.now id).label (view item.now)
-            + tuple_work (item_tuple (row_at self.now.schema.now id).label (view item.now))))) }
     {
+        laws::value_met();
         let node = self.schema.node(id);
         let place = earlier.len() as u64 + 1;
+        let here = Trail::Below(&*path, id, Some(place));
         let read = self.read(id, Some(place), item, position, progress)?;
         let is_read = read.is_some();
         let tuple = alone(self.alloc, node.config(), read)?;
         let is_repeated = stood_before(tuple, place, kept, &mut progress.meter)?;
         if !is_read {
-            return self.tell(FaultKind::Value, here, &mut progress.faults);
+            return self.tell(FaultKind::Value, &here, &mut progress.faults);
         }
         self.tell_if(
             is_repeated,
             FaultKind::Duplicate,
-            here,
+            &here,
             &mut progress.faults,
         )
     }

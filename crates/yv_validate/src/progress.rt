@@ -1,12 +1,12 @@
 //! What grows in a walk.
 ghost use Rattle.std.specs.Prelude.{◌≡◌, [], OnOk};
-ghost use Rattle.yv_references.specs.Findings.{none_found};
-ghost use Rattle.yv_validate.specs.InnerMet.{Finds, value_met};
+ghost use Rattle.yv_references.specs.Findings.{Finds, none_found};
+ghost use Rattle.yv_validate.specs.InnerWalk.{value_found};
 
 use crate::fault::Fault;
 use std::alloc::{AllocError, Global};
 use yv_nodes::NodeId;
-use yv_references::{Found, laws};
+use yv_references::Found;
 use yv_tables::Schema;
 use yv_values::{Matchers, Meter, Value};
 
@@ -46,10 +46,8 @@ pub(crate) fn meet(
     position: u64,
     found: &mut Found,
 ) -> Result<(), AllocError>
-    ensures { OnOk result (Finds found.old found.new (value_met schema.now node position item read.now)) }
+    ensures { OnOk result (Finds found.old found.new (value_found schema.now node position item read.now)) }
 {
-    laws::nothing_met();
-    laws::met_behind();
     match read {
         Some(value) => {
             let links = schema.links();

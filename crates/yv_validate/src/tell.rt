@@ -1,7 +1,8 @@
 //! Faults as they are reported, with the way to their place.
-ghost use Rattle.std.specs.Prelude.{◌≡◌, ◌∷◌, [], ◌++◌, map, OnOk};
+ghost use Rattle.std.specs.Prelude.{◌≡◌, ◌&&◌, ◌∷◌, [], ◌++◌, map, OnOk};
 ghost use Rattle.yv_validate.specs.InnerTrail.{places, IsWithin};
-ghost use Rattle.yv_validate.specs.Faults.{flaw, missing as missing_faults, reference_faults};
+ghost use Rattle.yv_references.specs.InUse.{enforces};
+ghost use Rattle.yv_validate.specs.Faults.{flaw, flaw_if, reference_faults};
 ghost use Rattle.yv_references.specs.Place.{under};
 ghost use Rattle.yv_references.specs.References.{paths_in};
 
@@ -96,7 +97,7 @@ impl Walk<'_> {
     ) -> Result<(), AllocError>
         requires { IsWithin self.now.schema.now trail.now }
         ensures { OnOk result (faults.new.items ≡ faults.old.items
-            ++ missing_faults node.now.label scope (places self.now.schema.now trail.now)) }
+            ++ flaw_if (node.now.label.defined.is_mandatory && enforces scope) FaultKind.Mandatory (places self.now.schema.now trail.now)) }
     {
         if node.mandatory() && scope.enforces() {
             self.tell(FaultKind::Mandatory, trail, faults)?;

@@ -1,5 +1,5 @@
 //! A fault's line.
-ghost use Rattle.std.specs.Prelude.{◌≡◌, ◌++◌, ◌∷◌, [], ◌<◌, IfOk, OnOk, codes, decimal, string_bytes, IsTrue};
+ghost use Rattle.std.specs.Prelude.{◌≡◌, ◌++◌, ◌∷◌, [], ◌<◌, IfOk, OnErr, OnOk, codes, decimal, string_bytes, IsTrue};
 ghost use Rattle.std.specs.Option.{option_map};
 ghost use Rattle.yv_nodes.specs.Member.{behind};
 ghost use Rattle.yv_validate.specs.Line.{is_plain, hexadecimal, escaped_byte, escaped, item_text, place_text, places_text, path_text, line_text};
@@ -16,22 +16,23 @@ pub fn line(alloc: Global, fault: &Fault) -> Result<String, AllocError>
     ensures { IfOk result (λ s. string_bytes s ≡ line_text fault.now) }
 {
     let mut text = String::new(alloc);
-    push_line(&mut text, fault)?;
-    Ok(text)
-}
-
-/// Appends a fault's line to a text.
-pub fn push_line(text: &mut String, fault: &Fault) -> Result<(), AllocError>
-    ensures { OnOk result (string_bytes text.new ≡ string_bytes text.old ++ line_text fault.now) }
-{
     text.push_str(fault.kind.name())?;
     text.push(' ')?;
-    push_path(text, fault.path.as_slice())?;
+    push_path(&mut text, fault.path.as_slice())?;
     if fault.number != 0 {
         text.push(' ')?;
         text.push_str(Buffer::new().format(fault.number))?;
     }
-    Ok(())
+    Ok(text)
+}
+
+/// Appends a fault's line to a text. The line is made first, so that the text stays as it is where memory runs out.
+pub fn push_line(text: &mut String, fault: &Fault) -> Result<(), AllocError>
+    ensures line { OnOk result (string_bytes text.new ≡ string_bytes text.old ++ line_text fault.now) }
+    ensures same { OnErr result (string_bytes text.new ≡ string_bytes text.old) }
+{
+    let line = line(*text.allocator(), fault)?;
+    text.push_str(line.as_str())
 }
 
 fn push_path(text: &mut String, path: &[Step]) -> Result<(), AllocError>

@@ -4,9 +4,8 @@ ghost use Rattle.serde_json.specs.Data.{Data};
 ghost use Rattle.serde_json.specs.View.{view};
 ghost use Rattle.yv_values.specs.Count.{counted};
 ghost use Rattle.yv_validate.specs.InnerMemory.{RemembersEach};
-ghost use Rattle.yv_validate.specs.InnerNotes.{HasTuples, tuple_in};
+ghost use Rattle.yv_validate.specs.InnerNotes.{HasTuples, list_tuple, tuple_in, uniques_at};
 ghost use Rattle.yv_validate.specs.InnerTrail.{places, IsWithin};
-ghost use Rattle.yv_validate.specs.InnerWalk.{leafs_at, tuple_at};
 ghost use Rattle.yv_validate.specs.Faults.{unique_faults, unique_if};
 ghost use Rattle.yv_validate.specs.Work.{uniques_work};
 
@@ -38,7 +37,7 @@ impl Walk<'_> {
     /// An empty index for each `unique` statement of a list.
     pub(crate) fn no_tuples(&self, id: NodeId) -> Result<Vec<Index>, AllocError>
         requires { id.0 < length self.now.schema.now.nodes }
-        ensures { IfOk result (λ v. RemembersEach v.items (tuple_at self.now.schema.now id) (leafs_at self.now.schema.now id).uniques []) }
+        ensures { IfOk result (λ v. RemembersEach v.items (list_tuple self.now.kind self.now.schema.now id) (uniques_at self.now.schema.now id) []) }
     {
         let mut uniques = Vec::new(self.alloc);
         for _statement in self.schema.uniques(id) {
@@ -60,14 +59,14 @@ impl Walk<'_> {
     ) -> Result<(), AllocError>
         requires node { id.0 < length self.now.schema.now.nodes }
         requires way { IsWithin self.now.schema.now here.now }
-        requires kept { RemembersEach kept.now.items (tuple_at self.now.schema.now id) (leafs_at self.now.schema.now id).uniques (map view earlier.now) }
-        ensures faults { OnOk result ((d : Data) → HasTuples self.now.schema.now id notes.now d → faults.new.items ≡ faults.old.items
-            ++ unique_faults (tuple_at self.now.schema.now id) (places self.now.schema.now here.now) 1 (leafs_at self.now.schema.now id).uniques
+        requires kept { RemembersEach kept.now.items (list_tuple self.now.kind self.now.schema.now id) (uniques_at self.now.schema.now id) (map view earlier.now) }
+        ensures faults { OnOk result ((d : Data) → HasTuples self.now.kind self.now.schema.now id notes.now d → faults.new.items ≡ faults.old.items
+            ++ unique_faults (list_tuple self.now.kind self.now.schema.now id) (places self.now.schema.now here.now) 1 (uniques_at self.now.schema.now id)
             (map view earlier.now) d) }
-        ensures kept { OnOk result ((d : Data) → HasTuples self.now.schema.now id notes.now d → RemembersEach kept.new.items
-            (tuple_at self.now.schema.now id) (leafs_at self.now.schema.now id).uniques (map view earlier.now ++ d ∷ [])) }
-        ensures steps { OnOk result ((d : Data) → HasTuples self.now.schema.now id notes.now d → counted meter.new ≡ counted (meter.old
-            + uniques_work (tuple_at self.now.schema.now id) (leafs_at self.now.schema.now id).uniques d)) }
+        ensures kept { OnOk result ((d : Data) → HasTuples self.now.kind self.now.schema.now id notes.now d → RemembersEach kept.new.items
+            (list_tuple self.now.kind self.now.schema.now id) (uniques_at self.now.schema.now id) (map view earlier.now ++ d ∷ [])) }
+        ensures steps { OnOk result ((d : Data) → HasTuples self.now.kind self.now.schema.now id notes.now d → counted meter.new ≡ counted (meter.old
+            + uniques_work (list_tuple self.now.kind self.now.schema.now id) (uniques_at self.now.schema.now id) d)) }
     {
         let place = earlier.len() as u64 + 1;
         for (number, leafs) in self.schema.uniques(id).iter().enumerate() {

@@ -1,24 +1,23 @@
 //! The walk over a document and its schema.
-ghost use Rattle.std.specs.Prelude.{◌≡◌, ◌==◌, ◌++◌, ◌<◌, ◌≤◌, ◌+◌, ◌*◌, [], ◌∷◌, length, true, IfOk, OnOk, None, option_map, if◌then◌else◌};
-ghost use Rattle.serde_json.specs.Data.{depth as nesting, no_members, object as an_object};
+ghost use Rattle.std.specs.Prelude.{◌≡◌, ◌==◌, ◌++◌, ◌<◌, ◌≤◌, ◌+◌, ◌*◌, ℕ, List, [], ◌∷◌, length, true, false, IfOk, OnOk, None, Some, option_map, if◌then◌else◌};
+ghost use Rattle.serde_json.specs.Data.{Members, depth as nesting, object as an_object};
 ghost use Rattle.serde_json.specs.View.{view, items_view, members_view};
+ghost use Rattle.yv_properties.specs.Kinds.{is_data};
 ghost use Rattle.yv_values.specs.Count.{counted};
 ghost use Rattle.yv_nodes.specs.Rows.{row_at, rank, below, whole};
+ghost use Rattle.yv_leaf_targets.specs.Numbers.{default_case_at};
 ghost use Rattle.yv_tables.specs.Measures.{measures_of};
 ghost use Rattle.yv_tables.specs.Sound.{is_object};
 ghost use Rattle.yv_walk.specs.Context.{members_len, members_of};
-ghost use Rattle.yv_validate.specs.Size.{size};
-ghost use Rattle.yv_validate.specs.InnerTrail.{places, IsWithin};
-ghost use Rattle.yv_validate.specs.InnerWalk.{Meets, MeetsBelow, leafs_at, tuple_at, node_faults, node_value, node_work, object_costs, object_parts, object_values};
-ghost use Rattle.yv_validate.specs.InnerMet.{Finds, container_met, entries_met, entry_met, forest_met, inside_at, kind_met, list_met, next_in, node_met, nothing, object_met};
-ghost use Rattle.yv_validate.specs.InnerNotes.{Gains, HasTuples};
-ghost use Rattle.yv_references.specs.InUse.{case_scope, is_number};
-ghost use Rattle.yv_validate.specs.Values.{container_value, forest_value, kind_value};
-ghost use Rattle.yv_leaf_targets.specs.Numbers.{default_case_at};
 ghost use Rattle.yv_walk.specs.Standing.{any, standing};
-ghost use Rattle.yv_references.specs.Place.{step_name, under};
-ghost use Rattle.yv_validate.specs.Faults.{unknowns, kind_faults, container_faults, array_faults, each_after, entry_faults, list_faults, object_faults, forest_faults, faults as all_faults, flaw};
-ghost use Rattle.yv_validate.specs.Work.{array_work, container_work, entries_work, entry_work, forest_work, kind_work, list_work, object_work, work};
+ghost use Rattle.yv_references.specs.Findings.{first_of};
+ghost use Rattle.yv_references.specs.InUse.{is_asked, is_number};
+ghost use Rattle.yv_validate.specs.Faults.{array_faults, faults as all_faults, flaw};
+ghost use Rattle.yv_validate.specs.InnerNotes.{GainsBy, HasTuples};
+ghost use Rattle.yv_validate.specs.InnerTrail.{places, IsWithin};
+ghost use Rattle.yv_validate.specs.InnerWalk.{cases_met, children_met, ClosesAt, container_at, data_met, entries_at, Grows, GrowsAt, GrowsWithAt, list_at, Meets, MeetsBelow, next_of, node_at, object_at, one_met, plain_at, scope_at, told, unknowns, with_node, Writes};
+ghost use Rattle.yv_validate.specs.Size.{size};
+ghost use Rattle.yv_validate.specs.Work.{work};
 
 use crate::fault::{Fault, FaultKind, Report};
 use crate::laws::work_bound;
@@ -33,29 +32,40 @@ use std::alloc::{AllocError, Global};
 use yv_nodes::NodeId;
 use yv_properties::NodeKind;
 use yv_references::{Scope, answer, laws as found_laws};
+use yv_selection::Kind;
 use yv_tables::Schema;
 use yv_values::{Index, Meter};
-use yv_walk::{Context, Standing, laws};
+use yv_walk::{Context, Standing, is_there, laws};
 
-/// A validation: where its memory comes from, and the schema.
+/// A validation: where its memory comes from, the schema, and what kind of document is asked for.
 #[derive(Clone, Copy)]
 pub(crate) struct Walk<'a> {
     pub(crate) alloc: Global,
     pub(crate) schema: &'a Schema,
+    pub(crate) kind: Kind,
 }
 
-/// The faults of a document, in order (RFC 7950, section 8; RFC 7951): what is wrong with its data, and after it the references that
-/// reach nothing, in the order in which their values are met.
-pub fn validate(alloc: Global, schema: &Schema, document: &Value) -> Result<Report, AllocError>
+/// The faults of a document of this kind, in order (RFC 7950, section 8; RFC 7951): what is wrong with its data, and after it the
+/// references that reach nothing, in the order in which their values are met.
+pub fn validate(
+    alloc: Global,
+    schema: &Schema,
+    document: &Value,
+    kind: Kind,
+) -> Result<Report, AllocError>
     requires size { size (view document.now) ≤ 16777216 }
     requires nests { nesting (view document.now) ≤ 127 }
-    ensures faults { IfOk result (λ r. r.faults.items ≡ all_faults schema.now (view document.now)) }
-    ensures steps { IfOk result (λ r. r.steps ≡ counted (work schema.now (view document.now))) }
+    ensures faults { IfOk result (λ r. r.faults.items ≡ all_faults kind schema.now (view document.now)) }
+    ensures steps { IfOk result (λ r. r.steps ≡ counted (work kind schema.now (view document.now))) }
     ensures bound { IfOk result (λ r. r.steps ≤ (size (view document.now) + 1)
         * ((measures_of (whole schema.now)).m + (measures_of (whole schema.now)).u + (measures_of (whole schema.now)).w + 1)) }
 {
-    work_bound(schema, document);
-    let walk = Walk { alloc, schema };
+    work_bound(schema, document, kind);
+    let walk = Walk {
+        alloc,
+        schema,
+        kind,
+    };
     match document {
         Value::Object(members) => walk.document(members),
         _ => walk.no_object(),
@@ -65,8 +75,8 @@ pub fn validate(alloc: Global, schema: &Schema, document: &Value) -> Result<Repo
 impl<'a> Walk<'a> {
     // The faults of a document that is an object: what is wrong with its data, and behind it its references that reach nothing.
     fn document(&self, members: &Map<String, Value>) -> Result<Report, AllocError>
-        ensures faults { IfOk result (λ r. r.faults.items ≡ all_faults self.now.schema.now (an_object (members_view members.now.entries))) }
-        ensures steps { IfOk result (λ r. r.steps ≡ counted (work self.now.schema.now (an_object (members_view members.now.entries)))) }
+        ensures faults { IfOk result (λ r. r.faults.items ≡ all_faults self.now.kind self.now.schema.now (an_object (members_view members.now.entries))) }
+        ensures steps { IfOk result (λ r. r.steps ≡ counted (work self.now.kind self.now.schema.now (an_object (members_view members.now.entries)))) }
     {
         let mut progress = Progress::new(self.alloc);
         let mut notes = Notes::new(self.alloc);
@@ -86,8 +96,7 @@ impl<'a> Walk<'a> {
             mut meter,
             matchers: _matchers,
         } = progress;
-        let links = self.schema.links();
-        let paths = answer(self.alloc, self.schema, links, found, &mut meter)?;
+        let paths = answer(self.alloc, self.schema, found, &mut meter)?;
         tell_references(paths, &mut faults)?;
         Ok(Report {
             faults,
@@ -130,7 +139,7 @@ impl<'a> Walk<'a> {
         Ok(context)
     }
 
-    // An object of a node, with all that is below it, which stands in the object with this number; with its number from 1, where it is
+    // An object of a node, with all that is below it, which is in the object with this number; with its number from 1, where it is
     // an entry.
     #[cycle(walk)]
     fn object(
@@ -146,17 +155,12 @@ impl<'a> Walk<'a> {
         requires node { rank id ≤ length self.now.schema.now.nodes }
         requires object { is_object self.now.schema.now id ≡ true }
         requires way { IsWithin self.now.schema.now here.now }
-        ensures faults { OnOk result (progress.new.faults.items ≡ progress.old.faults.items
-            ++ object_faults self.now.schema.now Scope.Always (places self.now.schema.now here.now) (rank id) (below self.now.schema.now id)
-            (members_view members.now.entries)) }
-        ensures notes { OnOk result (Gains self.now.schema.now notes.old notes.new
-            (λ n. forest_value self.now.schema.now n (λ at t. Scope.Always) (rank id) (below self.now.schema.now id)
-            (members_view members.now.entries))) }
-        ensures found { OnOk result (Finds progress.old.found progress.new.found
-            (object_met position (next_in progress.old.found) id item (members_view members.now.entries)
-            (inside_at self.now.schema.now id))) }
-        ensures steps { OnOk result (counted progress.new.meter ≡ counted (progress.old.meter
-            + object_work self.now.schema.now (rank id) (below self.now.schema.now id) (members_view members.now.entries))) }
+        ensures grows { OnOk result ((outer : List ℕ) (entry : ℕ) → first_of outer ≡ position
+            → Grows self.now.kind self.now.schema.now (told progress.old) (told progress.new)
+            (object_at self.now.kind self.now.schema.now id item here.now outer entry (next_of (told progress.old))
+            (an_object (members_view members.now.entries)))) }
+        ensures notes { OnOk result (GainsBy self.now.schema.now notes.old notes.new
+            (children_met self.now.kind self.now.schema.now Scope.Always id (members_view members.now.entries))) }
     {
         found_laws::object_met();
         let context = self.enter(id, members, here, &mut progress.meter, &mut progress.faults)?;
@@ -181,16 +185,10 @@ impl<'a> Walk<'a> {
         requires node { rank parent ≤ length self.now.schema.now.nodes }
         requires meets { MeetsBelow self.now.schema.now context.now parent }
         requires way { IsWithin self.now.schema.now path.now }
-        ensures faults { OnOk result (progress.new.faults.items ≡ progress.old.faults.items
-            ++ forest_faults self.now.schema.now (λ at t. scope) (places self.now.schema.now path.now) (rank parent)
-            (below self.now.schema.now parent) (members_of context.now)) }
-        ensures notes { OnOk result (Gains self.now.schema.now notes.old notes.new
-            (λ n. forest_value self.now.schema.now n (λ at t. scope) (rank parent) (below self.now.schema.now parent) (members_of context.now))) }
-        ensures found { OnOk result (Finds progress.old.found progress.new.found
-            (forest_met self.now.schema.now (λ at t. scope) position (next_in progress.old.found)
-            (rank parent) (below self.now.schema.now parent) (members_of context.now))) }
-        ensures steps { OnOk result (counted progress.new.meter ≡ counted (progress.old.meter
-            + forest_work self.now.schema.now (rank parent) (below self.now.schema.now parent) (members_of context.now))) }
+        ensures grows { OnOk result (GrowsAt self.now.kind self.now.schema.now path.now position (told progress.old) (told progress.new)
+            (children_met self.now.kind self.now.schema.now scope parent (members_of context.now))) }
+        ensures notes { OnOk result (GainsBy self.now.schema.now notes.old notes.new
+            (children_met self.now.kind self.now.schema.now scope parent (members_of context.now))) }
     {
         laws::child_numbers();
         found_laws::nothing_met();
@@ -218,18 +216,10 @@ impl<'a> Walk<'a> {
         requires kind { (row_at self.now.schema.now choice).label.defined.kind ≡ NodeKind.Choice }
         requires meets { MeetsBelow self.now.schema.now context.now choice }
         requires way { IsWithin self.now.schema.now path.now }
-        ensures faults { OnOk result (progress.new.faults.items ≡ progress.old.faults.items
-            ++ forest_faults self.now.schema.now (case_scope self.now.schema.now choice (rank choice) (below self.now.schema.now choice) (members_of context.now)) (places self.now.schema.now path.now) (rank choice)
-            (below self.now.schema.now choice) (members_of context.now)) }
-        ensures notes { OnOk result (Gains self.now.schema.now notes.old notes.new
-            (λ n. forest_value self.now.schema.now n (case_scope self.now.schema.now choice (rank choice) (below self.now.schema.now choice) (members_of context.now)) (rank choice)
-            (below self.now.schema.now choice) (members_of context.now))) }
-        ensures found { OnOk result (Finds progress.old.found progress.new.found
-            (forest_met self.now.schema.now (case_scope self.now.schema.now choice (rank choice) (below self.now.schema.now choice)
-            (members_of context.now)) position (next_in progress.old.found) (rank choice) (below self.now.schema.now choice)
-            (members_of context.now))) }
-        ensures steps { OnOk result (counted progress.new.meter ≡ counted (progress.old.meter
-            + forest_work self.now.schema.now (rank choice) (below self.now.schema.now choice) (members_of context.now))) }
+        ensures grows { OnOk result (GrowsAt self.now.kind self.now.schema.now path.now position (told progress.old) (told progress.new)
+            (cases_met self.now.kind self.now.schema.now choice (members_of context.now))) }
+        ensures notes { OnOk result (GainsBy self.now.schema.now notes.old notes.new
+            (cases_met self.now.kind self.now.schema.now choice (members_of context.now))) }
     {
         laws::child_numbers();
         found_laws::nothing_met();
@@ -260,7 +250,7 @@ impl<'a> Walk<'a> {
         self.schema.default_case(choice)
     }
 
-    // A node that stands in the object.
+    // A node that may be in the object, whose surroundings have this scope.
     #[cycle(walk)]
     fn node(
         &self,
@@ -275,16 +265,14 @@ impl<'a> Walk<'a> {
         requires node { id.0 < length self.now.schema.now.nodes }
         requires meets { Meets self.now.schema.now context.now id }
         requires way { IsWithin self.now.schema.now path.now }
-        ensures faults { OnOk result (progress.new.faults.items ≡ progress.old.faults.items
-            ++ node_faults self.now.schema.now scope (places self.now.schema.now path.now) id (members_of context.now)) }
-        ensures notes { OnOk result (Gains self.now.schema.now notes.old notes.new
-            (node_value self.now.schema.now scope id (members_of context.now))) }
-        ensures found { OnOk result (Finds progress.old.found progress.new.found
-            (node_met self.now.schema.now scope position (next_in progress.old.found) id (members_of context.now))) }
-        ensures steps { OnOk result (counted progress.new.meter ≡ counted (progress.old.meter
-            + node_work self.now.schema.now id (members_of context.now))) }
+        ensures grows { OnOk result (GrowsAt self.now.kind self.now.schema.now path.now position (told progress.old) (told progress.new)
+            (one_met self.now.kind self.now.schema.now (scope_at self.now.kind self.now.schema.now scope id) id (members_of context.now))) }
+        ensures notes { OnOk result (GainsBy self.now.schema.now notes.old notes.new
+            (one_met self.now.kind self.now.schema.now (scope_at self.now.kind self.now.schema.now scope id) id (members_of context.now))) }
     {
         found_laws::nothing_met();
+        found_laws::met_behind();
+        found_laws::default_met();
         let node = self.schema.node(id);
         let kind = node.kind();
         if kind.is_operation() {
@@ -292,27 +280,51 @@ impl<'a> Walk<'a> {
         }
         progress.meter.visit();
         laws::inner_stands();
+        let scope = scope.narrowed(self.kind, node.config());
+        if kind.is_data() {
+            let value = context.value(id);
+            return self.data(scope, id, value, position, path, notes, progress);
+        }
         match kind {
-            NodeKind::Choice => {
-                let here = Trail::Below(&*path, id, None);
-                self.cases(id, context, position, path, notes, progress)?;
-                let existing = context.count(self.schema, id);
-                self.end_choice(node, scope, existing, &here, &mut progress.faults)
-            }
+            NodeKind::Choice => self.choice(scope, id, context, position, path, notes, progress),
             NodeKind::Case => self.children(scope, id, context, position, path, notes, progress),
-            _ => self.data(
-                scope,
-                id,
-                context.value(id),
-                position,
-                path,
-                notes,
-                progress,
-            ),
+            _ => Ok(()),
         }
     }
 
-    // A node that is no choice or case, written so or not.
+    // A choice that was visited.
+    #[cycle(walk)]
+    fn choice(
+        &self,
+        scope: Scope,
+        id: NodeId,
+        context: &Context<'_>,
+        position: u64,
+        path: &Trail<'_>,
+        notes: &mut Notes,
+        progress: &mut Progress<'a>,
+    ) -> Result<(), AllocError>
+        requires node { id.0 < length self.now.schema.now.nodes }
+        requires itself { Meets self.now.schema.now context.now id }
+        requires kind { (row_at self.now.schema.now id).label.defined.kind ≡ NodeKind.Choice }
+        requires meets { MeetsBelow self.now.schema.now context.now id }
+        requires way { IsWithin self.now.schema.now path.now }
+        ensures grows { OnOk result (ClosesAt self.now.kind self.now.schema.now path.now position (told progress.old) (told progress.new)
+            (cases_met self.now.kind self.now.schema.now id (members_of context.now))
+            (node_at self.now.schema.now scope id (members_of context.now))) }
+        ensures notes { OnOk result (GainsBy self.now.schema.now notes.old notes.new
+            (cases_met self.now.kind self.now.schema.now id (members_of context.now))) }
+    {
+        found_laws::nothing_met();
+        found_laws::met_behind();
+        found_laws::default_met();
+        let _node = self.schema.node(id);
+        self.cases(id, context, position, path, notes, progress)?;
+        let existing = context.count(self.schema, id);
+        self.end_choice(scope, id, existing, path, &mut progress.faults)
+    }
+
+    // A data node that was visited, written so or not.
     #[cycle(walk)]
     fn data(
         &self,
@@ -325,34 +337,78 @@ impl<'a> Walk<'a> {
         progress: &mut Progress<'a>,
     ) -> Result<(), AllocError>
         requires node { id.0 < length self.now.schema.now.nodes }
+        requires data { is_data (row_at self.now.schema.now id).label.defined.kind ≡ true }
         requires way { IsWithin self.now.schema.now path.now }
-        ensures faults { OnOk result (progress.new.faults.items ≡ progress.old.faults.items
-            ++ kind_faults (row_at self.now.schema.now id).label.defined.kind id (row_at self.now.schema.now id).label scope
-            (places self.now.schema.now path.now) (option_map (λ v. view v.now) value.entry) (object_parts self.now.schema.now id)) }
-        ensures notes { OnOk result (Gains self.now.schema.now notes.old notes.new
-            (λ n. kind_value (row_at self.now.schema.now id).label.defined.kind (id.0 == n) (row_at self.now.schema.now id).label scope
-            (option_map (λ v. view v.now) value.entry) (object_values self.now.schema.now n id))) }
-        ensures found { OnOk result (Finds progress.old.found progress.new.found
-            (kind_met (row_at self.now.schema.now id).label.defined.kind self.now.schema.now id (row_at self.now.schema.now id).label
-            position (next_in progress.old.found) scope (option_map (λ v. view v.now) value.entry)
-            (inside_at self.now.schema.now id) nothing nothing)) }
-        ensures steps { OnOk result (counted progress.new.meter ≡ counted (progress.old.meter
-            + kind_work (row_at self.now.schema.now id).label.defined.kind (row_at self.now.schema.now id).label
-            (option_map (λ v. view v.now) value.entry) (object_costs self.now.schema.now id))) }
+        ensures grows { OnOk result ((ms : Members) → Writes self.now.schema.now id (option_map (λ v. view v.now) value.entry) ms
+            → ClosesAt self.now.kind self.now.schema.now path.now position (told progress.old) (told progress.new)
+            (data_met self.now.kind self.now.schema.now scope id (option_map (λ v. view v.now) value.entry))
+            (node_at self.now.schema.now scope id ms)) }
+        ensures notes { OnOk result ((ms : Members) → Writes self.now.schema.now id (option_map (λ v. view v.now) value.entry) ms
+            → GainsBy self.now.schema.now notes.old notes.new
+            (with_node (data_met self.now.kind self.now.schema.now scope id (option_map (λ v. view v.now) value.entry))
+            (node_at self.now.schema.now scope id ms))) }
     {
         found_laws::nothing_met();
+        found_laws::met_behind();
+        found_laws::default_met();
         let node = self.schema.node(id);
-        let here = Trail::Below(&*path, id, None);
+        if !scope.is_asked() {
+            return self.state(scope, id, value, position, path, notes, progress);
+        }
         match node.kind() {
             NodeKind::Container => self.container(
-                scope, id, value, position, &here, notes, progress,
+                scope, id, value, position, path, notes, progress,
             ),
-            NodeKind::Leaf => self.leaf(id, scope, value, position, &here, notes, progress),
+            NodeKind::Leaf => self.leaf(scope, id, value, position, path, notes, progress),
             NodeKind::LeafList => self.leaf_list(scope, id, value, position, path, progress),
             NodeKind::List => self.list(scope, id, value, position, path, progress),
-            NodeKind::Anydata => self.anydata(node, scope, value, &here, &mut progress.faults),
-            NodeKind::Anyxml => self.anyxml(node, scope, value, &here, &mut progress.faults),
+            NodeKind::Anydata => self.anydata(scope, id, value, path, &mut progress.faults),
+            NodeKind::Anyxml => self.anyxml(scope, id, value, path, &mut progress.faults),
             _ => Ok(()),
+        }
+    }
+
+    // State, where configuration alone is asked for: it may not be there, and what is written of it isn't entered.
+    #[cycle(walk)]
+    fn state(
+        &self,
+        scope: Scope,
+        id: NodeId,
+        value: Option<&Value>,
+        position: u64,
+        path: &Trail<'_>,
+        notes: &mut Notes,
+        progress: &mut Progress<'a>,
+    ) -> Result<(), AllocError>
+        requires node { id.0 < length self.now.schema.now.nodes }
+        requires data { is_data (row_at self.now.schema.now id).label.defined.kind ≡ true }
+        requires unasked { is_asked scope ≡ false }
+        requires way { IsWithin self.now.schema.now path.now }
+        ensures grows { OnOk result ((ms : Members) → Writes self.now.schema.now id (option_map (λ v. view v.now) value.entry) ms
+            → ClosesAt self.now.kind self.now.schema.now path.now position (told progress.old) (told progress.new)
+            (data_met self.now.kind self.now.schema.now scope id (option_map (λ v. view v.now) value.entry))
+            (node_at self.now.schema.now scope id ms)) }
+        ensures notes { OnOk result ((ms : Members) → Writes self.now.schema.now id (option_map (λ v. view v.now) value.entry) ms
+            → GainsBy self.now.schema.now notes.old notes.new
+            (with_node (data_met self.now.kind self.now.schema.now scope id (option_map (λ v. view v.now) value.entry))
+            (node_at self.now.schema.now scope id ms))) }
+    {
+        found_laws::nothing_met();
+        found_laws::met_behind();
+        found_laws::default_met();
+        let kind = self.schema.node(id).kind();
+        match value {
+            Some(written) => {
+                let here = Trail::Below(&*path, id, None);
+                let exists = is_there(kind, written);
+                self.tell_if(exists, FaultKind::State, &here, &mut progress.faults)
+            }
+            None => match kind {
+                NodeKind::Container => self.container(
+                    scope, id, None, position, path, notes, progress,
+                ),
+                _ => Ok(()),
+            },
         }
     }
 
@@ -363,31 +419,21 @@ impl<'a> Walk<'a> {
         id: NodeId,
         value: Option<&Value>,
         position: u64,
-        here: &Trail<'_>,
+        path: &Trail<'_>,
         notes: &mut Notes,
         progress: &mut Progress<'a>,
     ) -> Result<(), AllocError>
         requires node { id.0 < length self.now.schema.now.nodes }
         requires object { is_object self.now.schema.now id ≡ true }
-        requires way { IsWithin self.now.schema.now here.now }
-        ensures faults { OnOk result (progress.new.faults.items ≡ progress.old.faults.items
-            ++ container_faults (row_at self.now.schema.now id).label scope (places self.now.schema.now here.now)
-            (option_map (λ v. view v.now) value.entry)
-            (λ inner ms. object_faults self.now.schema.now inner (places self.now.schema.now here.now) (rank id) (below self.now.schema.now id) ms)) }
-        ensures notes { OnOk result (Gains self.now.schema.now notes.old notes.new
-            (λ n. container_value (row_at self.now.schema.now id).label scope (option_map (λ v. view v.now) value.entry)
-            (λ inner ms. forest_value self.now.schema.now n (λ at t. inner) (rank id) (below self.now.schema.now id) ms))) }
-        ensures found { OnOk result (Finds progress.old.found progress.new.found
-            (container_met (row_at self.now.schema.now id).label position (next_in progress.old.found) id scope
-            (option_map (λ v. view v.now) value.entry) (inside_at self.now.schema.now id))) }
-        ensures steps { OnOk result (counted progress.new.meter ≡ counted (progress.old.meter
-            + container_work (row_at self.now.schema.now id).label (option_map (λ v. view v.now) value.entry)
-            (object_work self.now.schema.now (rank id) (below self.now.schema.now id))
-            (forest_work self.now.schema.now (rank id) (below self.now.schema.now id) no_members))) }
+        requires way { IsWithin self.now.schema.now path.now }
+        ensures grows { OnOk result (GrowsAt self.now.kind self.now.schema.now path.now position (told progress.old) (told progress.new)
+            (container_at self.now.kind self.now.schema.now scope id (option_map (λ v. view v.now) value.entry))) }
+        ensures notes { OnOk result (GainsBy self.now.schema.now notes.old notes.new
+            (container_at self.now.kind self.now.schema.now scope id (option_map (λ v. view v.now) value.entry))) }
     {
         found_laws::nothing_met();
-        found_laws::nothing_noted();
         let node = self.schema.node(id);
+        let here = Trail::Below(&*path, id, None);
         match value {
             None => {
                 if node.presence() {
@@ -395,12 +441,14 @@ impl<'a> Walk<'a> {
                 }
                 let context = Context::empty(self.alloc, id);
                 laws::child_stands();
-                self.children(scope, id, &context, position, here, notes, progress)
+                self.children(scope, id, &context, position, &here, notes, progress)
             }
-            Some(Value::Object(members)) => {
-                self.object(id, None, members, position, here, notes, progress)
-            }
-            Some(_) => self.tell(FaultKind::Shape, here, &mut progress.faults),
+            Some(written) => match written {
+                Value::Object(members) => {
+                    self.object(id, None, members, position, &here, notes, progress)
+                }
+                _ => self.tell(FaultKind::Shape, &here, &mut progress.faults),
+            },
         }
     }
 
@@ -417,29 +465,20 @@ impl<'a> Walk<'a> {
         requires node { id.0 < length self.now.schema.now.nodes }
         requires object { is_object self.now.schema.now id ≡ true }
         requires way { IsWithin self.now.schema.now path.now }
-        ensures faults { OnOk result (progress.new.faults.items ≡ progress.old.faults.items
-            ++ array_faults id (row_at self.now.schema.now id).label scope
-            (under (places self.now.schema.now path.now) (step_name (row_at self.now.schema.now id).label))
-            (option_map (λ v. view v.now) value.entry)
-            (list_faults (row_at self.now.schema.now id).label (leafs_at self.now.schema.now id) (object_parts self.now.schema.now id).inside
-            (tuple_at self.now.schema.now id) (places self.now.schema.now path.now))) }
-        ensures found { OnOk result (Finds progress.old.found progress.new.found
-            (list_met position (next_in progress.old.found) id (option_map (λ v. view v.now) value.entry)
-            (inside_at self.now.schema.now id))) }
-        ensures steps { OnOk result (counted progress.new.meter ≡ counted (progress.old.meter
-            + array_work (option_map (λ v. view v.now) value.entry)
-            (entries_work (list_work (object_work self.now.schema.now (rank id) (below self.now.schema.now id)) (leafs_at self.now.schema.now id)
-            (tuple_at self.now.schema.now id))))) }
+        ensures grows { OnOk result (GrowsWithAt self.now.kind self.now.schema.now path.now position (told progress.old) (told progress.new)
+            (list_at self.now.kind self.now.schema.now id (option_map (λ v. view v.now) value.entry))
+            (array_faults (plain_at self.now.schema.now scope id path.now) (option_map (λ v. view v.now) value.entry))) }
     {
         found_laws::nothing_met();
-        let here = Trail::Below(&*path, id, None);
         match value {
-            None => self.end_array(id, scope, 0, &here, &mut progress.faults),
-            Some(Value::Array(items)) => {
-                self.entries(id, items, position, path, progress)?;
-                self.end_array(id, scope, count_of(items), &here, &mut progress.faults)
-            }
-            Some(_) => self.tell(FaultKind::Shape, &here, &mut progress.faults),
+            None => self.end_array(scope, id, 0, path, &mut progress.faults),
+            Some(written) => match written {
+                Value::Array(items) => {
+                    self.entries(id, items, position, path, progress)?;
+                    self.end_array(scope, id, count_of(items), path, &mut progress.faults)
+                }
+                _ => self.misshapen(id, path, &mut progress.faults),
+            },
         }
     }
 
@@ -455,19 +494,13 @@ impl<'a> Walk<'a> {
         requires node { id.0 < length self.now.schema.now.nodes }
         requires object { is_object self.now.schema.now id ≡ true }
         requires way { IsWithin self.now.schema.now path.now }
-        ensures faults { OnOk result (progress.new.faults.items ≡ progress.old.faults.items
-            ++ each_after (list_faults (row_at self.now.schema.now id).label (leafs_at self.now.schema.now id) (object_parts self.now.schema.now id).inside
-            (tuple_at self.now.schema.now id) (places self.now.schema.now path.now)) [] (items_view items.now.items)) }
-        ensures found { OnOk result (Finds progress.old.found progress.new.found
-            (entries_met position (next_in progress.old.found) id 1 (items_view items.now.items) (inside_at self.now.schema.now id))) }
-        ensures steps { OnOk result (counted progress.new.meter ≡ counted (progress.old.meter
-            + entries_work (list_work (object_work self.now.schema.now (rank id) (below self.now.schema.now id)) (leafs_at self.now.schema.now id)
-            (tuple_at self.now.schema.now id))
-            (items_view items.now.items))) }
+        ensures grows { OnOk result (GrowsAt self.now.kind self.now.schema.now path.now position (told progress.old) (told progress.new)
+            (entries_at self.now.kind self.now.schema.now id [] (items_view items.now.items))) }
     {
         found_laws::nothing_met();
         found_laws::met_behind();
         found_laws::counted();
+        let _node = self.schema.node(id);
         let mut keys = Index::new(self.alloc);
         let mut uniques = self.no_tuples(id)?;
         for (index, item) in items.iter().enumerate() {
@@ -511,14 +544,10 @@ impl<'a> Walk<'a> {
         requires node { id.0 < length self.now.schema.now.nodes }
         requires object { is_object self.now.schema.now id ≡ true }
         requires way { IsWithin self.now.schema.now here.now }
-        ensures faults { OnOk result (progress.new.faults.items ≡ progress.old.faults.items
-            ++ entry_faults (places self.now.schema.now here.now) (view item.now)
-            ((object_parts self.now.schema.now id).inside Scope.Always (places self.now.schema.now here.now))) }
-        ensures tuples { IfOk result (λ o. HasTuples self.now.schema.now id o (view item.now)) }
-        ensures found { OnOk result (Finds progress.old.found progress.new.found
-            (entry_met position (next_in progress.old.found) id place (view item.now) (inside_at self.now.schema.now id))) }
-        ensures steps { OnOk result (counted progress.new.meter ≡ counted (progress.old.meter
-            + entry_work (object_work self.now.schema.now (rank id) (below self.now.schema.now id)) (view item.now))) }
+        ensures grows { OnOk result ((outer : List ℕ) → Grows self.now.kind self.now.schema.now (told progress.old) (told progress.new)
+            (object_at self.now.kind self.now.schema.now id (Some place) here.now (position ∷ outer) (next_of (told progress.old))
+            (next_of (told progress.old)) (view item.now))) }
+        ensures tuples { IfOk result (λ o. HasTuples self.now.kind self.now.schema.now id o (view item.now)) }
     {
         found_laws::nothing_met();
         let _node = self.schema.node(id);

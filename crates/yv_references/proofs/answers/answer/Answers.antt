@@ -1,10 +1,11 @@
-use Rattle.std.proofs.Common.{◌∙◌, Result, Ok, Err, IfOk, OnOk, sym, subst}
+use Rattle.std.proofs.Common.{◌+◌, ◌∙◌, List, Option, Result, Ok, Err, IfOk, OnOk, sym, subst, ap}
 use Rattle.std.specs.declared.alloc.AllocError.{AllocError}
-use Rattle.yv_nodes.specs.Rows.{whole}
-use Rattle.yv_references.specs.declared.scope.Scope.TheVariants.{Always}
-use Rattle.yv_references.specs.Findings.{Findings, HasMet}
-use Rattle.yv_references.specs.Positions.{kept}
-use Rattle.yv_nodes.specs.Link.{is_target}
+use Rattle.serde_json.specs.Data.{object}
+use Rattle.yv_values.specs.Count.{counted}
+use Rattle.yv_nodes.specs.Link.{is_target, Link, link_in}
+use Rattle.yv_references.specs.Findings.{Findings, HasMet, Kept, kept_in}
+use Rattle.yv_references.specs.InnerAnswers.{asked, judged}
+use Rattle.yv_references.specs.Meetings.{all_met}
 use Rattle.yv_references.proofs.Told.{shown, told}
 use Rattle.yv_references.proofs.answers.answer.Goals as goal
 
@@ -19,21 +20,23 @@ on_ok (Err e) P Q f h = tt
 pub returns-clause-told : goal.returns-clause-told
 returns-clause-told c =
     let s = c.args.schema.now in
-    let links = c.args.links.now in
     let found : Findings = record { indexes = c.found.inside.targets; positions = c.found.inside.positions.items; notes = c.found.inside.notes.items } in
     if_ok c.all.result _ _
-    (λ paths h ms met linked.
-    let seen : HasMet s links ms found = subst (λ (x : Findings). HasMet s links ms x) (sym c.found.view_is) met in
-    h (kept s (is_target links) (λ n t. Always) 0 1 0 (whole s) ms) seen.indexes ∙ told s links ms found c.children-nodes.ensures.sound.rows seen linked)
+    (λ paths h k ms met.
+    let seen : HasMet k s ms found = subst (λ (x : Findings). HasMet k s ms x) (sym c.found.view_is) met in
+    let ks : List Kept = kept_in (is_target s.links) (all_met k s (object ms)) in
+    h ks seen.indexes
+    ∙ ap (λ (links : List (Option Link)). judged s (link_in links) ks found.positions found.notes) c.links.ensures.value
+    ∙ told k s ms found c.children-nodes.ensures.sound.rows seen)
     c.all.ensures.told
 
 pub returns-clause-steps : goal.returns-clause-steps
 returns-clause-steps c =
     let s = c.args.schema.now in
-    let links = c.args.links.now in
     let found : Findings = record { indexes = c.found.inside.targets; positions = c.found.inside.positions.items; notes = c.found.inside.notes.items } in
     on_ok c.all.result _ _
-    (λ h ms met.
-    let seen : HasMet s links ms found = subst (λ (x : Findings). HasMet s links ms x) (sym c.found.view_is) met in
-    shown s links ms found c.args.meter.now c.all.new.meter seen h)
+    (λ h k ms met.
+    let seen : HasMet k s ms found = subst (λ (x : Findings). HasMet k s ms x) (sym c.found.view_is) met in
+    shown k s ms found c.args.meter.now c.all.new.meter seen
+    (h ∙ ap (λ (links : List (Option Link)). counted (c.args.meter.now + asked (link_in links) found.notes)) c.links.ensures.value))
     c.all.ensures.steps

@@ -1,4 +1,4 @@
-use Rattle.yv_references.proofs.Walked.{nothing_met}
+use Rattle.yv_references.proofs.Findings.{nothing_met}
 use Rattle.yv_references.proofs.laws.nothing_met.Goals as goal
 
 pub returns : goal.returns

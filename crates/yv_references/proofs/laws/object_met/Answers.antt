@@ -1,4 +1,4 @@
-use Rattle.yv_references.proofs.Walked.{object_met}
+use Rattle.yv_references.proofs.Findings.{object_met}
 use Rattle.yv_references.proofs.laws.object_met.Goals as goal
 
 pub returns : goal.returns

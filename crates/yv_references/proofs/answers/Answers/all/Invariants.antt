@@ -1,8 +1,7 @@
 use Rattle.std.proofs.Common.{◌≡◌, ◌+◌, List, []}
 use Rattle.yv_values.specs.Count.{counted}
-use Rattle.yv_references.specs.Findings.{Gains}
-use Rattle.yv_references.specs.Notes.{asked, judged}
-use Rattle.yv_references.specs.Positions.{Kept}
+use Rattle.yv_references.specs.Findings.{Gains, Kept}
+use Rattle.yv_references.specs.InnerAnswers.{asked, judged}
 use Rattle.yv_nodes.specs.Link.{link_in}
 use Rattle.yv_references.specs.References.{paths_in}
 use Rattle.yv_references.proofs.answers.Answers.all.Given as goal

@@ -1,5 +1,5 @@
 use Rattle.std.proofs.Common.{◌≡◌, ℕ, ◌+◌}
-use Rattle.yv_references.specs.Notes.{further_out}
+use Rattle.yv_references.specs.InnerAnswers.{further_out}
 use Rattle.yv_references.proofs.answers.Answers.further_out.Given as goal
 
 -- what is left leads from here to the same object

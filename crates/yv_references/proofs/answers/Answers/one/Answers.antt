@@ -1,7 +1,7 @@
 use Rattle.std.proofs.Common.{◌≡◌, ◌∙◌, [], ◌∷◌, ◌++◌, List, Some, map, ap, sym}
 use Rattle.yv_nodes.specs.declared.node.NodeId.{NodeId}
 use Rattle.yv_values.specs.Values.{Val}
-use Rattle.yv_references.specs.Notes.{Noted}
+use Rattle.yv_references.specs.Findings.{Noted}
 use Rattle.yv_nodes.specs.Link.{Link, link_in}
 use Rattle.yv_references.proofs.Judged.{judge_is, misses, reaches}
 use Rattle.yv_references.proofs.answers.Answers.one.Goals as goal

@@ -1,53 +1,58 @@
-use Rattle.std.proofs.Common.{◌≡◌, ◌<◌, ◌≤◌, ℕ, ◌+◌, ◌==◌, ◌∷◌, ◌++◌, List, [], Bor, Option, Some, None, option_map, append-nil, length, map, min, take, drop, slice_index_or, sym, ap, ◌∙◌, subst, arith, cond}
+use Rattle.std.proofs.Common.{◌≡◌, ◌<◌, ◌≤◌, ℕ, ◌+◌, ◌∷◌, ◌++◌, List, [], true, Bor, Option, Some, None, option_map, length, length-append, map, min, take, drop, slice_index_or, refl, sym, ap, ◌∙◌, subst, arith, cond}
 use Rattle.std.proofs.lemmas.List.{drop_all}
 use Rattle.std.proofs.lemmas.Result.{on_ok_weaker}
-use Rattle.serde_json.specs.Data.{Data, Members, object}
+use Rattle.serde_json.specs.Data.{Data, Members, array, object}
 use Rattle.serde_json.specs.declared.value.Value.{Value}
-use Rattle.serde_json.proofs.Views.{view-Object}
+use Rattle.serde_json.proofs.Views.{view-Array, view-Object}
 use Rattle.serde_json.specs.View.{view, items_view, members_view}
-use Rattle.yv_values.specs.Reads.{or_else}
+use Rattle.yv_properties.specs.Kinds.{is_data, is_operation}
+use Rattle.yv_properties.specs.declared.kind.NodeKind.TheVariants as kind
 use Rattle.yv_values.specs.Values.{Val}
 use Rattle.yv_nodes.specs.declared.node.NodeId.{NodeId}
 use Rattle.yv_nodes.specs.Rows.{below, rank, row_at, tree_of}
 use Rattle.yv_nodes.specs.Tree.{Tree}
 use Rattle.yv_walk.specs.Context.{members_of}
-use Rattle.yv_walk.specs.Standing.{any, standing, tree_standing}
+use Rattle.yv_walk.specs.Standing.{any, is_there, passes, standing, tree_standing}
 use Rattle.yv_walk.specs.declared.standing.Standing.{Standing}
 use Rattle.yv_leaf_targets.specs.Numbers.{default_case_at}
-use Rattle.yv_references.specs.InUse.{case_scope, is_number}
-use Rattle.yv_validate.specs.Faults.{forest_faults, list_faults, unique_faults, unknowns}
+use Rattle.yv_references.specs.Findings.{opened}
+use Rattle.yv_references.specs.InUse.{case_scope, in_use, is_number, scope_in}
+use Rattle.yv_references.specs.Meetings.{at, entered, entry_met, found_of, in_container, in_no_object, Meeting, met, object_met, Spot, top}
 use Rattle.yv_references.specs.Place.{Place, step_name}
-use Rattle.yv_validate.specs.InnerMemory.{Remembers, RemembersEach}
-use Rattle.yv_validate.specs.Repeats.{repeats}
-use Rattle.yv_validate.specs.Work.{end_work, entry_work, kind_work, list_work, object_work, tuple_work, uniques_work}
-use Rattle.yv_validate.specs.InnerNotes.{noted_at, tuple_in}
-use Rattle.yv_nodes.specs.Link.{is_target, link_in}
-use Rattle.yv_references.specs.Findings.{Findings, ended}
-use Rattle.yv_validate.specs.InnerMet.{Finds, Met, entries_met, forest_met, inside_at, next_in, node_met, nodes_met, nothing}
-use Rattle.yv_validate.specs.InnerTrail.{places}
-use Rattle.yv_validate.specs.InnerWalk.{leafs_at, node_faults, node_value, node_work, nodes_faults, nodes_value, nodes_work, object_costs, object_parts, tuple_at}
-use Rattle.yv_validate.specs.Flaw.{Flaw}
-use Rattle.yv_validate.specs.Values.{forest_value}
 use Rattle.yv_references.specs.declared.scope.Scope.{Scope}
 use Rattle.yv_references.specs.declared.scope.Scope.TheVariants.{Always, InCase, InDefault}
-use Rattle.yv_validate.proofs.Beneath.{AreKids, TellsNothing, child_rank, faults_drop, faults_start, met_start, others_quiet, rank_is, values_drop, values_start, work_drop, work_start}
-use Rattle.yv_validate.proofs.Found.{absent_met, entries_on, finds_as, nodes_on}
-use Rattle.yv_validate.proofs.Meeting.{meets_child, meets_object, scope_is}
-use Rattle.yv_validate.proofs.Items.{each_step, entries_step, here_is, list_step, one_more}
-use Rattle.yv_validate.proofs.Noted.{gains_as, gains_nothing, gains_on, noted_fresh, same_tuple}
-use Rattle.yv_validate.proofs.Reading.{absent_value}
-use Rattle.yv_validate.proofs.Steps.{joins, steps_both, steps_on, told_both}
+use Rattle.yv_validate.specs.declared.fault.FaultKind.TheVariants.{State}
+use Rattle.yv_validate.specs.Faults.{array_faults, count_faults, end_faults, flaw_if, leafs_of, state_faults, unique_faults}
+use Rattle.yv_validate.specs.InnerMemory.{Remembers, RemembersEach}
+use Rattle.yv_validate.specs.InnerNotes.{GainsBy, list_tuple, noted_at, tuple_in}
+use Rattle.yv_validate.specs.InnerTrail.{places}
+use Rattle.yv_validate.specs.InnerWalk.{cases_met, children_met, Closes, container_at, data_met, entries_at, Grows, GrowsWith, inside_at, leaf_at, list_at, next_of, node_at, object_at, one_met, ones_met, plain_at, scope_at, spot_at, Told, told, with_node}
+use Rattle.yv_validate.specs.Repeats.{repeats}
+use Rattle.yv_validate.specs.Values.{leaf_in}
+use Rattle.yv_validate.specs.Work.{tuple_work, uniques_work}
+use Rattle.yv_validate.proofs.Beneath.{AreKids, ones_drop, ones_start, other_kind, rank_is, split_at}
+use Rattle.yv_validate.proofs.Closed.{arm_closes, at_case, at_choice, at_data, at_operation, at_other, choice_closes, data_absent, data_asked, data_left, data_nothing, no_default, other_closes, state_closes}
+use Rattle.yv_validate.proofs.Entered.{container_none, container_open, container_some, object_grows}
+use Rattle.yv_validate.proofs.Grown.{grows_alone, grows_as, grows_nothing, grows_only, grows_with, in_use_unasked, next_behind, not_fewer, turn, visited}
+use Rattle.yv_validate.proofs.Items.{end_told, ends, entries_split, entry_grows, many_before, one_more}
+use Rattle.yv_validate.proofs.Meeting.{choice_passes, meets_child, meets_object, scope_is}
+use Rattle.yv_validate.proofs.Noted.{noted_fresh, same_tuple}
+use Rattle.yv_validate.proofs.Own.{gains_array, gains_behind, gains_met, gains_none, notes_done, notes_start, notes_turn}
+use Rattle.yv_validate.proofs.Steps.{steps_both}
 use Rattle.yv_validate.proofs.walk.Walk.+walk.Goals as goal
+
+-- ---- children
 
 pub children-loop-child-init : goal.children-loop-child-init
 children-loop-child-init t c =
+    let k = c.args.self.now.kind in
     let s = c.args.self.now.schema.now in
     let p = c.args.parent in
     let kids = c.children-child-items in
     let cs = kids.result.now in
     let ms = members_of c.args.context.now in
-    let path = places s c.args.path.now in
     let of : ℕ → Tree → Scope = λ at u. c.args.scope in
+    let start : Told = told c.args.progress.now in
     let are : AreKids s p cs = record {
       same = kids.ensures.value;
       each = kids.ensures.each;
@@ -56,22 +61,76 @@ children-loop-child-init t c =
       numbers = c.child_numbers.ensures s p kids.ensures.sound c.requires.node;
     } in
     record {
-      faults = ap (λ (fs : List Flaw). c.args.progress.now.faults.items ++ fs) (faults_start s p cs of path ms are);
-      notes = λ n. ap (λ (v : Option Val). or_else v (noted_at s c.args.notes.now n)) (values_start s p cs n of ms are);
-      found = λ x h. finds_as c.args.progress.now.found x _ _ (met_start s p cs of c.args.position
-          (next_in c.args.progress.now.found) ms are) h;
-      steps = ap (λ n. min (c.args.progress.now.meter + n) 18446744073709551615) (work_start s p cs ms are);
+      grows = λ outer entry x h. grows_as k s start x _ _ (ones_start k s p cs of (spot_at s c.args.path.now c.args.position outer entry) (next_of start) ms are) h;
+      notes = λ spot next lt. notes_start k s of cs ms spot next c.args.notes.now (children_met k s c.args.scope p ms spot next) lt
+          (ones_start k s p cs of spot next ms are);
     }
+
+pub children-loop-child-preserved : goal.children-loop-child-preserved
+children-loop-child-preserved t c =
+    let k = c.args.self.now.kind in
+    let s = c.args.self.now.schema.now in
+    let p = c.args.parent in
+    let cs = c.children-child-items.result.now in
+    let ms = members_of c.args.context.now in
+    let of : ℕ → Tree → Scope = λ at u. c.args.scope in
+    let i = c.loop-child.child-index in
+    let d : NodeId = record { 0 = 0 } in
+    let n : NodeId = slice_index_or cs i d in
+    let lt = c.loop-child-test.true in
+    let left = drop i cs in
+    let rest = drop (i + 1) cs in
+    let start : Told = told c.args.progress.now in
+    let old : Told = told c.loop-child.progress in
+    let new : Told = told c.node.new.progress in
+    record {
+      grows = λ outer entry x later.
+          let spot : Spot = spot_at s c.args.path.now c.args.position outer entry in
+          let one : List Meeting = one_met k s (scope_at k s c.args.scope n) n ms spot (next_of old) in
+          let grows : Grows k s old new one = c.in_ok-node.ensures.grows outer entry in
+          turn c.met_behind.ensures k s start old new one (ones_met k s of rest ms spot (next_of old + entered one)) (ones_met k s of left ms spot (next_of old))
+          (children_met k s c.args.scope p ms spot (next_of start)) grows (ones_drop k s of spot (next_of old) cs i d ms lt)
+          (c.loop-child.invariant.grows outer entry) x
+          (subst (λ (m : ℕ). Grows k s new x (ones_met k s of rest ms spot m)) (next_behind c.counted.ensures k s old new one grows) later);
+      notes = λ spot next less. notes_turn k s of n left rest ms spot c.loop-child.notes c.node.new.notes c.args.notes.now (children_met k s c.args.scope p ms spot next)
+          (split_at cs i d lt) (c.loop-child.invariant.notes spot next less) c.in_ok-node.ensures.notes;
+    }
+
+pub children-returns-clause-grows : goal.children-returns-clause-grows
+children-returns-clause-grows t c =
+    let k = c.args.self.now.kind in
+    let s = c.args.self.now.schema.now in
+    let ms = members_of c.args.context.now in
+    let cs = c.children-child-items.result.now in
+    let i = c.loop-child.child-index in
+    let now : Told = told c.loop-child.progress in
+    let past : drop i cs ≡ [] = drop_all i cs c.loop-child-test.false in
+    λ outer entry. c.loop-child.invariant.grows outer entry now
+    (subst (λ (ns : List NodeId). Grows k s now now (ones_met k s (λ at u. c.args.scope) ns ms (spot_at s c.args.path.now c.args.position outer entry) (next_of now)))
+    (sym past) (grows_nothing c.nothing_met.ensures k s now))
+
+pub children-returns-clause-notes : goal.children-returns-clause-notes
+children-returns-clause-notes t c =
+    let k = c.args.self.now.kind in
+    let s = c.args.self.now.schema.now in
+    let ms = members_of c.args.context.now in
+    let cs = c.children-child-items.result.now in
+    let i = c.loop-child.child-index in
+    λ spot next less. notes_done k s (λ at u. c.args.scope) (drop i cs) ms spot c.loop-child.notes c.args.notes.now (children_met k s c.args.scope c.args.parent ms spot next)
+    (drop_all i cs c.loop-child-test.false) (c.loop-child.invariant.notes spot next less)
+
+-- ---- cases
 
 pub cases-loop-child-init : goal.cases-loop-child-init
 cases-loop-child-init t c =
+    let k = c.args.self.now.kind in
     let s = c.args.self.now.schema.now in
     let p = c.args.choice in
     let kids = c.children-child-items in
     let cs = kids.result.now in
     let ms = members_of c.args.context.now in
-    let path = places s c.args.path.now in
     let of = case_scope s p (rank p) (below s p) ms in
+    let start : Told = told c.args.progress.now in
     let le : rank p ≤ length s.nodes = omega (arith, rank_is s p kids.ensures.sound c.requires.node) in
     let are : AreKids s p cs = record {
       same = kids.ensures.value;
@@ -81,147 +140,200 @@ cases-loop-child-init t c =
       numbers = c.child_numbers.ensures s p kids.ensures.sound le;
     } in
     record {
-      faults = ap (λ (fs : List Flaw). c.args.progress.now.faults.items ++ fs) (faults_start s p cs of path ms are);
-      notes = λ n. ap (λ (v : Option Val). or_else v (noted_at s c.args.notes.now n)) (values_start s p cs n of ms are);
-      found = λ x h. finds_as c.args.progress.now.found x _ _ (met_start s p cs of c.args.position
-          (next_in c.args.progress.now.found) ms are) h;
-      steps = ap (λ n. min (c.args.progress.now.meter + n) 18446744073709551615) (work_start s p cs ms are);
-    }
-
-pub children-loop-child-preserved : goal.children-loop-child-preserved
-children-loop-child-preserved t c =
-    let s = c.args.self.now.schema.now in
-    let cs = c.children-child-items.result.now in
-    let ms = members_of c.args.context.now in
-    let path = places s c.args.path.now in
-    let of : ℕ → Tree → Scope = λ at u. c.args.scope in
-    let i = c.loop-child.child-index in
-    let d : NodeId = record { 0 = 0 } in
-    let n : NodeId = slice_index_or cs i d in
-    let lt = c.loop-child-test.true in
-    let left = drop (i + 1) cs in
-    record {
-      faults = joins c.loop-child.progress.faults.items (node_faults s c.args.scope path n ms)
-          (nodes_faults s of path left ms) c.in_ok-node.ensures.faults
-          (faults_drop s of path cs i d ms lt) c.loop-child.invariant.faults;
-      notes = λ m. gains_on (noted_at s c.loop-child.notes m) (noted_at s c.node.new.notes m) (node_value s c.args.scope n ms m) _ (nodes_value s of left ms m) _
-          (c.in_ok-node.ensures.notes.each m) (values_drop s of cs i d ms m lt) (c.loop-child.invariant.notes m);
-      found = nodes_on c.met_behind.ensures c.counted.ensures s of c.args.position cs i d ms c.loop-child.progress.found c.node.new.progress.found c.args.progress.now.found _ lt
-          (child_rank s c.args.parent cs i d c.children-child-items.ensures.each c.children-child-items.ensures.sound lt) c.in_ok-node.ensures.found c.loop-child.invariant.found;
-      steps = steps_on c.loop-child.progress.meter c.node.new.progress.meter (node_work s n ms) _
-          (nodes_work s left ms) _ c.in_ok-node.ensures.steps
-          (work_drop s cs i d ms lt) c.loop-child.invariant.steps;
+      grows = λ outer entry x h. grows_as k s start x _ _ (ones_start k s p cs of (spot_at s c.args.path.now c.args.position outer entry) (next_of start) ms are) h;
+      notes = λ spot next lt. notes_start k s of cs ms spot next c.args.notes.now (cases_met k s p ms spot next) lt (ones_start k s p cs of spot next ms are);
     }
 
 pub cases-loop-child-preserved : goal.cases-loop-child-preserved
 cases-loop-child-preserved t c =
+    let k = c.args.self.now.kind in
     let s = c.args.self.now.schema.now in
+    let p = c.args.choice in
     let kids = c.children-child-items in
     let cs = kids.result.now in
     let ms = members_of c.args.context.now in
-    let path = places s c.args.path.now in
+    let of = case_scope s p (rank p) (below s p) ms in
     let i = c.loop-child.child-index in
     let d : NodeId = record { 0 = 0 } in
     let n : NodeId = slice_index_or cs i d in
     let lt = c.loop-child-test.true in
-    let left = drop (i + 1) cs in
-    let meets = meets_child s c.args.context.now c.args.choice cs i d c.requires.meets kids.ensures.value lt in
+    let left = drop i cs in
+    let rest = drop (i + 1) cs in
+    let start : Told = told c.args.progress.now in
+    let old : Told = told c.loop-child.progress in
+    let new : Told = told c.node.new.progress in
+    let meets = meets_child s c.args.context.now p cs i d c.requires.meets kids.ensures.value lt in
     let those : c.standing-those.result ≡ tree_standing n.0 (tree_of s n) ms = c.standing-those.ensures meets.context meets.stands in
-    let p = c.args.choice in
-    let of = case_scope s p (rank p) (below s p) ms in
     let scope : c.case_scope-scope.result ≡ of n.0 (tree_of s n) =
     scope_is (any (standing (rank p) (below s p) ms)) (default_case_at s.nodes p) n.0 (tree_standing n.0 (tree_of s n) ms) c.fallback-fallback.result c.case_scope-scope.result
     c.fallback-fallback.ensures (c.case_scope-scope.ensures ∙ ap (λ (x : Standing). cond (is_number c.fallback-fallback.result n.0) InDefault (InCase x)) those) in
     record {
-      faults = joins c.loop-child.progress.faults.items (node_faults s (of n.0 (tree_of s n)) path n ms) (nodes_faults s of path left ms)
-          (c.in_ok-node.ensures.faults ∙ ap (λ (x : Scope). c.loop-child.progress.faults.items ++ node_faults s x path n ms) scope)
-          (faults_drop s of path cs i d ms lt) c.loop-child.invariant.faults;
-      notes = λ m. gains_on (noted_at s c.loop-child.notes m) (noted_at s c.node.new.notes m) (node_value s (of n.0 (tree_of s n)) n ms m) _ (nodes_value s of left ms m) _
-          (c.in_ok-node.ensures.notes.each m ∙ ap (λ (x : Scope). or_else (node_value s x n ms m) (noted_at s c.loop-child.notes m)) scope)
-          (values_drop s of cs i d ms m lt) (c.loop-child.invariant.notes m);
-      found = nodes_on c.met_behind.ensures c.counted.ensures s of c.args.position cs i d ms c.loop-child.progress.found c.node.new.progress.found c.args.progress.now.found _ lt
-          (child_rank s p cs i d kids.ensures.each kids.ensures.sound lt)
-          (finds_as c.loop-child.progress.found c.node.new.progress.found _ _ (ap (λ (x : Scope). node_met s x c.args.position
-          (next_in c.loop-child.progress.found) n ms) scope) c.in_ok-node.ensures.found)
-          c.loop-child.invariant.found;
-      steps = steps_on c.loop-child.progress.meter c.node.new.progress.meter (node_work s n ms) _
-          (nodes_work s left ms) _ c.in_ok-node.ensures.steps
-          (work_drop s cs i d ms lt) c.loop-child.invariant.steps;
+      grows = λ outer entry x later.
+          let spot : Spot = spot_at s c.args.path.now c.args.position outer entry in
+          let at_scope : Scope → List Meeting = λ y. one_met k s (scope_at k s y n) n ms spot (next_of old) in
+          let one : List Meeting = at_scope (of n.0 (tree_of s n)) in
+          let grows : Grows k s old new one = grows_as k s old new (at_scope c.case_scope-scope.result) one (ap at_scope scope) (c.in_ok-node.ensures.grows outer entry) in
+          turn c.met_behind.ensures k s start old new one (ones_met k s of rest ms spot (next_of old + entered one)) (ones_met k s of left ms spot (next_of old))
+          (cases_met k s p ms spot (next_of start)) grows (ones_drop k s of spot (next_of old) cs i d ms lt)
+          (c.loop-child.invariant.grows outer entry) x
+          (subst (λ (m : ℕ). Grows k s new x (ones_met k s of rest ms spot m)) (next_behind c.counted.ensures k s old new one grows) later);
+      notes = λ spot next less. notes_turn k s of n left rest ms spot c.loop-child.notes c.node.new.notes c.args.notes.now (cases_met k s p ms spot next)
+          (split_at cs i d lt) (c.loop-child.invariant.notes spot next less)
+          (subst (λ (y : Scope). GainsBy s c.loop-child.notes c.node.new.notes (one_met k s (scope_at k s y n) n ms)) scope c.in_ok-node.ensures.notes);
     }
 
-pub children-returns-clause-notes : goal.children-returns-clause-notes
-children-returns-clause-notes t c =
-    let s = c.args.self.now.schema.now in
-    let cs = c.children-child-items.result.now in
-    let ms = members_of c.args.context.now in
-    let of : ℕ → Tree → Scope = λ at u. c.args.scope in
-    let i = c.loop-child.child-index in
-    let past : drop i cs ≡ [] = drop_all i cs c.loop-child-test.false in
-    record {
-      each = λ n. ap (λ (xs : List NodeId). or_else (nodes_value s of xs ms n) (noted_at s c.loop-child.notes n)) (sym past) ∙ c.loop-child.invariant.notes n;
-    }
-
-pub children-returns-clause-found : goal.children-returns-clause-found
-children-returns-clause-found t c =
-    let s = c.args.self.now.schema.now in
-    let ms = members_of c.args.context.now in
-    let of : ℕ → Tree → Scope = λ at u. c.args.scope in
-    let i = c.loop-child.child-index in
-    let now : Findings = c.loop-child.progress.found in
-    let past : drop i c.children-child-items.result.now ≡ [] = drop_all i c.children-child-items.result.now c.loop-child-test.false in
-    c.loop-child.invariant.found now
-    (finds_as now now nothing _ (ap (λ (xs : List NodeId). nodes_met s of c.args.position (next_in now) xs ms) (sym past))
-    (c.nothing_met.ensures now))
-
-pub cases-returns-clause-found : goal.cases-returns-clause-found
-cases-returns-clause-found t c =
+pub cases-returns-clause-grows : goal.cases-returns-clause-grows
+cases-returns-clause-grows t c =
+    let k = c.args.self.now.kind in
     let s = c.args.self.now.schema.now in
     let p = c.args.choice in
     let ms = members_of c.args.context.now in
     let of = case_scope s p (rank p) (below s p) ms in
+    let cs = c.children-child-items.result.now in
     let i = c.loop-child.child-index in
-    let now : Findings = c.loop-child.progress.found in
-    let past : drop i c.children-child-items.result.now ≡ [] = drop_all i c.children-child-items.result.now c.loop-child-test.false in
-    c.loop-child.invariant.found now
-    (finds_as now now nothing _ (ap (λ (xs : List NodeId). nodes_met s of c.args.position (next_in now) xs ms) (sym past))
-    (c.nothing_met.ensures now))
+    let now : Told = told c.loop-child.progress in
+    let past : drop i cs ≡ [] = drop_all i cs c.loop-child-test.false in
+    λ outer entry. c.loop-child.invariant.grows outer entry now
+    (subst (λ (ns : List NodeId). Grows k s now now (ones_met k s of ns ms (spot_at s c.args.path.now c.args.position outer entry) (next_of now)))
+    (sym past) (grows_nothing c.nothing_met.ensures k s now))
 
-pub object-returns-clause-faults : goal.object-returns-clause-faults
-object-returns-clause-faults t c =
+pub cases-returns-clause-notes : goal.cases-returns-clause-notes
+cases-returns-clause-notes t c =
+    let k = c.args.self.now.kind in
+    let s = c.args.self.now.schema.now in
+    let p = c.args.choice in
+    let ms = members_of c.args.context.now in
+    let of = case_scope s p (rank p) (below s p) ms in
+    let cs = c.children-child-items.result.now in
+    let i = c.loop-child.child-index in
+    λ spot next less. notes_done k s of (drop i cs) ms spot c.loop-child.notes c.args.notes.now (cases_met k s p ms spot next)
+    (drop_all i cs c.loop-child-test.false) (c.loop-child.invariant.notes spot next less)
+
+-- ---- objects
+
+pub object-returns-clause-grows : goal.object-returns-clause-grows
+object-returns-clause-grows t c =
+    let k = c.args.self.now.kind in
     let s = c.args.self.now.schema.now in
     let id = c.args.id in
     let path = places s c.args.here.now in
     let ms = members_view c.args.members.now.entries in
-    told_both c.args.progress.now.faults.items (unknowns path (below s id) ms) (forest_faults s (λ at u. Always) path (rank id)
-    (below s id) ms) c.in_ok-context.ensures.faults
-    (c.in_ok-children.ensures.faults ∙ ap (λ (xs : Members). c.enter.new.faults.items ++ forest_faults s (λ at u. Always) path (rank id)
-    (below s id) xs) c.in_ok-context.ensures.members)
+    let number = c.in_ok-number.number in
+    let begun = c.enter-2.new.self in
+    let start : Told = record { faults = c.enter.new.faults.items; found = begun; steps = c.enter.new.meter } in
+    let walked : Told = told c.children.new.progress in
+    λ outer entry around. object_grows c.object_met.ensures k s id c.args.item path outer entry c.args.position number ms (told c.args.progress.now) begun
+    c.enter.new.faults.items c.enter.new.meter walked c.leave.new.self around c.in_ok-number.ensures.number
+    c.in_ok-number.ensures.positions c.in_ok-number.ensures.indexes c.in_ok-number.ensures.notes
+    c.in_ok-context.ensures.faults c.in_ok-context.ensures.steps
+    (subst (λ (ds : Members). Grows k s start walked (children_met k s Always id ds (record { path = path; around = number ∷ outer; entry = entry }) (length begun.positions)))
+    c.in_ok-context.ensures.members (c.in_ok-children.ensures.grows outer entry))
+    c.leave.ensures.positions c.leave.ensures.indexes c.leave.ensures.notes
 
 pub object-returns-clause-notes : goal.object-returns-clause-notes
 object-returns-clause-notes t c =
+    let k = c.args.self.now.kind in
     let s = c.args.self.now.schema.now in
-    let id = c.args.id in
-    gains_as s c.args.notes.now c.children.new.notes _ _ c.in_ok-children.ensures.notes
-    (λ n. ap (λ (xs : Members). forest_value s n (λ at u. Always) (rank id) (below s id) xs) c.in_ok-context.ensures.members)
+    subst (λ (ds : Members). GainsBy s c.args.notes.now c.children.new.notes (children_met k s Always c.args.id ds)) c.in_ok-context.ensures.members c.in_ok-children.ensures.notes
 
-pub object-returns-clause-found : goal.object-returns-clause-found
-object-returns-clause-found t c =
+-- ---- entries
+
+pub entries-loop-index-preserved : goal.entries-loop-index-preserved
+entries-loop-index-preserved t c =
+    let k = c.args.self.now.kind in
     let s = c.args.self.now.schema.now in
     let id = c.args.id in
-    let ms = members_view c.args.members.now.entries in
-    let before : Findings = c.args.progress.now.found in
-    let opened : Findings = c.enter-2.new.self in
-    let walked : Findings = c.children.new.progress.found in
-    let number : c.in_ok-number.number ≡ next_in before = c.in_ok-number.ensures.number in
-    let met : ℕ → Members → Met = λ here ds. forest_met s (λ m u. Always) here (next_in opened) (rank id) (below s id) ds in
-    let seen : Finds opened walked (met (next_in before) ms) =
-    subst (λ (here : ℕ). Finds opened walked (met here ms)) number
-    (subst (λ (ds : Members). Finds opened walked
-    (met c.in_ok-number.number ds)) c.in_ok-context.ensures.members c.in_ok-children.ensures.found) in
-    c.object_met.ensures s (link_in s.links) (is_target s.links) before opened walked c.leave.new.self c.args.position id.0
-    (rank id) c.args.item (below s id) ms
-    c.in_ok-number.ensures.positions c.in_ok-number.ensures.indexes c.in_ok-number.ensures.notes seen
-    (c.leave.ensures.positions ∙ ap (ended walked.positions) number) c.leave.ensures.indexes c.leave.ensures.notes
+    let l = (row_at s id).label in
+    let leafs = leafs_of s id l in
+    let f = list_tuple k s id in
+    let xs = c.args.items.now.items in
+    let i = c.loop-index.index in
+    let x = c.item-item.result in
+    let d = view x in
+    let done = map view (take i xs) in
+    let lt : i < length xs = subst (λ (ys : List Value). i < length ys) c.deref-item-items.ensures.value (omega arith) in
+    let is : x ≡ slice_index_or xs i x = c.item-item.is ∙ ap (λ (ys : List Value). slice_index_or ys i x) c.deref-item-items.ensures.value in
+    let has = c.in_ok-notes.ensures.tuples in
+    let keys : f leafs.keys d ≡ c.in_ok-tuple.tuple = sym (has.each leafs.keys)
+    ∙ ap (tuple_in s c.in_ok-notes.notes) (sym c.keys-leafs.ensures) ∙ sym c.in_ok-tuple.ensures in
+    let stood = c.in_ok-is_repeated.ensures.told in
+    let b = c.in_ok-is_repeated.is_repeated in
+    let repeated : b ≡ repeats (f leafs.keys) done d = stood.same (f leafs.keys) done d c.loop-index.invariant.keys keys in
+    let earlier : map view (take i c.deref.result.now) ≡ done = ap (λ (ys : List Value). map view (take i ys)) c.deref.ensures.value in
+    let first : rank id ≡ id.0 + 1 = rank_is s id c.node-node.ensures.sound c.requires.node in
+    let many : length done ≡ i = many_before xs i lt in
+    let place : i + 1 ≡ length done + 1 = ap (λ m. m + 1) (sym many) in
+    let start : Told = told c.args.progress.now in
+    let old : Told = told c.loop-index.progress in
+    let mid : Told = told c.entry.new.progress in
+    let new : Told = record { faults = c.end_uniques.new.faults.items; found = c.entry.new.progress.found; steps = c.end_uniques.new.meter } in
+    let here : ℕ → List Place = λ m. places s c.args.path.now ++ record { member = step_name l; item = Some m } ∷ [] in
+    let uniques : c.end_uniques.new.faults.items ≡ c.tell_if.new.faults.items ++ unique_faults f (here (i + 1)) 1 leafs.uniques done d =
+    subst (λ (ds : List Data). c.end_uniques.new.faults.items ≡ c.tell_if.new.faults.items ++ unique_faults f (here (i + 1)) 1 leafs.uniques ds d) earlier (c.in_ok-end_uniques.ensures.faults d has) in
+    let ended = end_told leafs f (here (i + 1)) done d mid.faults c.tell_if.new.faults.items c.end_uniques.new.faults.items b repeated c.in_ok-tell_if.ensures uniques in
+    record {
+      grows = λ outer entry y later.
+          let spot : Spot = spot_at s c.args.path.now c.args.position outer entry in
+          let one : List Meeting = entry_met id l (below s id) spot (next_of old) done d (inside_at k s id) in
+          let grows : Grows k s old new one =
+          entry_grows c.met_behind.ensures k s id (places s c.args.path.now) c.args.position outer entry (next_of old) (i + 1) done d old mid new place
+          (c.in_ok-notes.ensures.grows outer)
+          (ends c.nothing_met.ensures k s id spot done d mid new.faults new.steps first
+          (subst (λ (m : ℕ). new.faults ≡ mid.faults ++ end_faults leafs f (here m) done d) place ended)
+          (steps_both mid.steps c.stood_before.new.meter new.steps (tuple_work (f leafs.keys d)) (uniques_work f leafs.uniques d)
+          (c.in_ok-is_repeated.ensures.steps ∙ ap (λ (o : Option (List Val)). min (mid.steps + tuple_work o) 18446744073709551615) (sym keys))
+          (c.in_ok-end_uniques.ensures.steps d has))) in
+          turn c.met_behind.ensures k s start old new one
+          (entries_at k s id (map view (take (i + 1) xs)) (items_view (drop (i + 1) xs)) spot (next_of old + entered one))
+          (entries_at k s id done (items_view (drop i xs)) spot (next_of old)) (entries_at k s id [] (items_view xs) spot (next_of start))
+          grows (entries_split k s id spot (next_of old) xs i x lt is) (c.loop-index.invariant.grows outer entry) y
+          (subst (λ (m : ℕ). Grows k s new y (entries_at k s id (map view (take (i + 1) xs)) (items_view (drop (i + 1) xs)) spot m))
+          (next_behind c.counted.ensures k s old new one grows) later);
+      keys = subst (Remembers c.stood_before.new.kept (f leafs.keys)) (sym (one_more xs i x lt is)) (stood.next (f leafs.keys) done d c.loop-index.invariant.keys keys);
+      uniques = subst (RemembersEach c.end_uniques.new.kept.items f leafs.uniques) (ap (λ (ds : List Data). ds ++ d ∷ []) earlier ∙ sym (one_more xs i x lt is)) (c.in_ok-end_uniques.ensures.kept d has);
+    }
+
+pub entries-returns : goal.entries-returns
+entries-returns t c =
+    let k = c.args.self.now.kind in
+    let s = c.args.self.now.schema.now in
+    let id = c.args.id in
+    let xs = c.args.items.now.items in
+    let i = c.loop-index.index in
+    let now : Told = told c.loop-index.progress in
+    let done = map view (take i xs) in
+    let le : length xs ≤ i = subst (λ (ys : List Value). length ys ≤ i) c.deref-item-items.ensures.value (omega (arith, c.loop-index-test.false)) in
+    record {
+      grows = λ outer entry. c.loop-index.invariant.grows outer entry now
+          (subst (λ (ys : List Value). Grows k s now now (entries_at k s id done (items_view ys) (spot_at s c.args.path.now c.args.position outer entry) (next_of now)))
+          (sym (drop_all i xs le)) (grows_nothing c.nothing_met.ensures k s now));
+    }
+
+pub entry-returns-in_ok-object-in-Object-clause-tuples : goal.entry-returns-in_ok-object-in-Object-clause-tuples
+entry-returns-in_ok-object-in-Object-clause-tuples t c =
+    let k = c.args.self.now.kind in
+    let s = c.args.self.now.schema.now in
+    let id = c.args.id in
+    let ms = members_view c.in-Object.members.entries in
+    let new = c.object.new.notes in
+    let value : ℕ → Option Val = leaf_in k s (rank id) (below s id) (object ms) in
+    let doc : view c.args.item.now ≡ object ms = ap view c.in-Object.is ∙ view-Object c.in-Object.members in
+    let same : (n : ℕ) → noted_at s new n ≡ value n = noted_fresh s c.new-notes.result new value
+    (c.new-notes.ensures s) (c.in_ok-object-in-Object.ensures.notes top 1 (omega arith)) in
+    record { each = λ leafs. same_tuple (noted_at s new) value leafs same ∙ ap (list_tuple k s id leafs) (sym doc) }
+
+pub entry-returns-in_ok-object-in-Object-clause-grows : goal.entry-returns-in_ok-object-in-Object-clause-grows
+entry-returns-in_ok-object-in-Object-clause-grows t c =
+    let k = c.args.self.now.kind in
+    let s = c.args.self.now.schema.now in
+    let id = c.args.id in
+    let old : Told = told c.args.progress.now in
+    let ms = members_view c.in-Object.members.entries in
+    let doc : view c.args.item.now ≡ object ms = ap view c.in-Object.is ∙ view-Object c.in-Object.members in
+    λ outer. subst (λ (d : Data). Grows k s old (told c.object.new.progress) (object_at k s id (Some c.args.place) c.args.here.now (c.args.position ∷ outer) (next_of old) (next_of old) d))
+    (sym doc) (c.in_ok-object-in-Object.ensures.grows (c.args.position ∷ outer) (next_of old) refl)
+
+-- ---- containers
 
 pub container-children-requires : goal.container-children-requires
 container-children-requires t c =
@@ -235,129 +347,610 @@ container-children-requires t c =
         le,
         (
           meets_object s c.empty-context.result id c.child_stands.ensures sound le c.requires.object (c.empty-context.ensures.context s) c.empty-context.ensures.parent,
-          c.requires.way,
+          (c.requires.way, c.requires.node),
         ),
       ),
     )
 
-pub container-returns-else-presence-clause-notes : goal.container-returns-else-presence-clause-notes
-container-returns-else-presence-clause-notes t c =
+pub container-returns-then-presence-clause-grows : goal.container-returns-then-presence-clause-grows
+container-returns-then-presence-clause-grows t c =
+    let k = c.args.self.now.kind in
     let s = c.args.self.now.schema.now in
     let id = c.args.id in
-    let l = (row_at s id).label in
-    let none : option_map (λ (v : Bor Value). view v.now) c.args.value ≡ None = ap (option_map (λ (v : Bor Value). view v.now)) c.in-None.is in
-    let plain = sym (ap (λ r. r.label.defined.has_presence) c.node-node.ensures.value) ∙ sym c.presence.ensures ∙ c.if-presence.false in
-    on_ok_weaker c.children.result
-    (λ gains. gains_as s c.args.notes.now c.children.new.notes _ _ gains
-    (λ n. absent_value l c.args.scope (option_map (λ (v : Bor Value). view v.now) c.args.value) (λ inner ms. forest_value s n (λ at u. inner) (rank id) (below s id) ms) _ none plain
-    (ap (λ (ms : Members). forest_value s n (λ at u. c.args.scope) (rank id) (below s id) ms) c.empty-context.ensures.members)))
-    c.children.ensures.notes
+    let old : Told = told c.args.progress.now in
+    let found = option_map (λ (v : Bor Value). view v.now) c.args.value in
+    let none : found ≡ None = ap (option_map (λ (v : Bor Value). view v.now)) c.in-None.is in
+    let presence = sym (ap (λ r. r.label.defined.has_presence) c.node-node.ensures.value) ∙ sym c.presence.ensures ∙ c.if-presence.true in
+    λ outer entry. grows_as k s old old [] _
+    (sym (container_none k s c.args.scope id found (spot_at s c.args.path.now c.args.position outer entry) (next_of old) none presence)) (grows_nothing c.nothing_met.ensures k s old)
 
-pub container-returns-else-presence-clause-found : goal.container-returns-else-presence-clause-found
-container-returns-else-presence-clause-found t c =
+pub container-returns-then-presence-clause-notes : goal.container-returns-then-presence-clause-notes
+container-returns-then-presence-clause-notes t c =
+    let k = c.args.self.now.kind in
     let s = c.args.self.now.schema.now in
     let id = c.args.id in
-    let l = (row_at s id).label in
-    let before : Findings = c.args.progress.now.found in
+    let found = option_map (λ (v : Bor Value). view v.now) c.args.value in
+    let none : found ≡ None = ap (option_map (λ (v : Bor Value). view v.now)) c.in-None.is in
+    let presence = sym (ap (λ r. r.label.defined.has_presence) c.node-node.ensures.value) ∙ sym c.presence.ensures ∙ c.if-presence.true in
+    gains_none s c.args.notes.now (container_at k s c.args.scope id found) (λ spot next. container_none k s c.args.scope id found spot next none presence)
+
+pub container-returns-else-presence-clause-grows : goal.container-returns-else-presence-clause-grows
+container-returns-else-presence-clause-grows t c =
+    let k = c.args.self.now.kind in
+    let s = c.args.self.now.schema.now in
+    let id = c.args.id in
+    let old : Told = told c.args.progress.now in
+    let new : Told = told c.children.new.progress in
     let found = option_map (λ (v : Bor Value). view v.now) c.args.value in
     let none : found ≡ None = ap (option_map (λ (v : Bor Value). view v.now)) c.in-None.is in
     let plain = sym (ap (λ r. r.label.defined.has_presence) c.node-node.ensures.value) ∙ sym c.presence.ensures ∙ c.if-presence.false in
-    let met : Members → Met = λ ds. forest_met s (λ m u. c.args.scope) c.args.position (next_in before) (rank id) (below s id) ds in
     on_ok_weaker c.children.result
-    (λ h. finds_as before c.children.new.progress.found _ _
-    (ap met c.empty-context.ensures.members ∙ sym (absent_met s (c.nothing_noted.ensures (link_in s.links)) id l c.args.position
-    (next_in before) c.args.scope found none plain)) h)
-    c.children.ensures.found
+    (λ h. λ outer entry.
+    let spot : Spot = spot_at s c.args.path.now c.args.position outer entry in
+    grows_as k s old new _ _
+    (ap (λ (ds : Members). children_met k s c.args.scope id ds (in_no_object spot (row_at s id).label) (next_of old)) c.empty-context.ensures.members
+    ∙ sym (container_open k s c.args.scope id found spot (next_of old) none plain)) (h outer entry))
+    c.children.ensures.grows
+
+pub container-returns-else-presence-clause-notes : goal.container-returns-else-presence-clause-notes
+container-returns-else-presence-clause-notes t c =
+    let k = c.args.self.now.kind in
+    let s = c.args.self.now.schema.now in
+    let id = c.args.id in
+    let l = (row_at s id).label in
+    let found = option_map (λ (v : Bor Value). view v.now) c.args.value in
+    let none : found ≡ None = ap (option_map (λ (v : Bor Value). view v.now)) c.in-None.is in
+    let plain = sym (ap (λ r. r.label.defined.has_presence) c.node-node.ensures.value) ∙ sym c.presence.ensures ∙ c.if-presence.false in
+    on_ok_weaker c.children.result
+    (λ h. gains_met s c.args.notes.now c.children.new.notes
+    (λ spot next. children_met k s c.args.scope id (members_of c.empty-context.result) (in_no_object spot l) next) (container_at k s c.args.scope id found)
+    (λ spot next. ap (λ (ds : Members). children_met k s c.args.scope id ds (in_no_object spot l) next) c.empty-context.ensures.members
+    ∙ sym (container_open k s c.args.scope id found spot next none plain))
+    (λ spot next lt. h (in_no_object spot l) next lt))
+    c.children.ensures.notes
+
+pub container-returns-in-Object-clause-grows : goal.container-returns-in-Object-clause-grows
+container-returns-in-Object-clause-grows t c =
+    let k = c.args.self.now.kind in
+    let s = c.args.self.now.schema.now in
+    let id = c.args.id in
+    let old : Told = told c.args.progress.now in
+    let new : Told = told c.object.new.progress in
+    let found = option_map (λ (v : Bor Value). view v.now) c.args.value in
+    let ms = members_view c.in-Object.members.entries in
+    let some : found ≡ Some (object ms) = ap (option_map (λ (v : Bor Value). view v.now)) c.in-Some.is
+    ∙ ap (λ (v : Value). Some (view v)) c.in-Object.is ∙ ap (λ (d : Data). Some d) (view-Object c.in-Object.members) in
+    on_ok_weaker c.object.result
+    (λ h. λ outer entry. grows_as k s old new _ _
+    (sym (container_some k s c.args.scope id found (spot_at s c.args.path.now c.args.position outer entry) (next_of old) (object ms) some)) (h (c.args.position ∷ outer) entry refl))
+    c.object.ensures.grows
+
+pub container-returns-in-Object-clause-notes : goal.container-returns-in-Object-clause-notes
+container-returns-in-Object-clause-notes t c =
+    let k = c.args.self.now.kind in
+    let s = c.args.self.now.schema.now in
+    let id = c.args.id in
+    let l = (row_at s id).label in
+    let found = option_map (λ (v : Bor Value). view v.now) c.args.value in
+    let ms = members_view c.in-Object.members.entries in
+    let some : found ≡ Some (object ms) = ap (option_map (λ (v : Bor Value). view v.now)) c.in-Some.is
+    ∙ ap (λ (v : Value). Some (view v)) c.in-Object.is ∙ ap (λ (d : Data). Some d) (view-Object c.in-Object.members) in
+    on_ok_weaker c.object.result
+    (λ h. gains_met s c.args.notes.now c.object.new.notes
+    (λ spot next. object_met id None (below s id) (in_container spot next l) next (object ms) (inside_at k s id)) (container_at k s c.args.scope id found)
+    (λ spot next. sym (container_some k s c.args.scope id found spot next (object ms) some))
+    (λ spot next lt. h (in_container spot next l) (next + 1) (omega (arith, lt))))
+    c.object.ensures.notes
+
+-- ---- data nodes
+
+pub data-returns-in-Container-clause-grows : goal.data-returns-in-Container-clause-grows
+data-returns-in-Container-clause-grows t c =
+    let k = c.args.self.now.kind in
+    let s = c.args.self.now.schema.now in
+    let id = c.args.id in
+    let old : Told = told c.args.progress.now in
+    let new : Told = told c.container.new.progress in
+    let found = option_map (λ (v : Bor Value). view v.now) c.args.value in
+    let is : (row_at s id).label.defined.kind ≡ kind.Container = sym (ap (λ r. r.label.defined.kind) c.node-node.ensures.value) ∙ sym c.kind.ensures ∙ c.in-Container.is in
+    let asked = sym c.is_asked.ensures ∙ c.if-not-is_asked.false in
+    on_ok_weaker c.container.result
+    (λ h. λ ms writes outer entry. arm_closes c.default_met.ensures c.nothing_met.ensures c.met_behind.ensures k s c.args.scope id ms found
+    (spot_at s c.args.path.now c.args.position outer entry) (next_of old) old new kind.Container is asked (λ e. cc) writes (grows_alone k s old new _ (h outer entry)))
+    c.container.ensures.grows
+
+pub data-returns-in-Container-clause-notes : goal.data-returns-in-Container-clause-notes
+data-returns-in-Container-clause-notes t c =
+    let k = c.args.self.now.kind in
+    let s = c.args.self.now.schema.now in
+    let id = c.args.id in
+    let l = (row_at s id).label in
+    let found = option_map (λ (v : Bor Value). view v.now) c.args.value in
+    let is : l.defined.kind ≡ kind.Container = sym (ap (λ r. r.label.defined.kind) c.node-node.ensures.value) ∙ sym c.kind.ensures ∙ c.in-Container.is in
+    let asked = sym c.is_asked.ensures ∙ c.if-not-is_asked.false in
+    on_ok_weaker c.container.result
+    (λ h. λ ms writes. gains_behind s c.args.notes.now c.container.new.notes (data_met k s c.args.scope id found) (node_at s c.args.scope id ms)
+    (λ spot. ap (λ K. in_use K l c.args.scope (found_of (node_at s c.args.scope id ms spot))) is)
+    (gains_met s c.args.notes.now c.container.new.notes (container_at k s c.args.scope id found) (data_met k s c.args.scope id found)
+    (λ spot next. data_asked k s c.args.scope id found spot next kind.Container is asked) h))
+    c.container.ensures.notes
+
+pub data-returns-in-Leaf-clause-grows : goal.data-returns-in-Leaf-clause-grows
+data-returns-in-Leaf-clause-grows t c =
+    let k = c.args.self.now.kind in
+    let s = c.args.self.now.schema.now in
+    let id = c.args.id in
+    let old : Told = told c.args.progress.now in
+    let new : Told = told c.leaf.new.progress in
+    let found = option_map (λ (v : Bor Value). view v.now) c.args.value in
+    let is : (row_at s id).label.defined.kind ≡ kind.Leaf = sym (ap (λ r. r.label.defined.kind) c.node-node.ensures.value) ∙ sym c.kind.ensures ∙ c.in-Leaf.is in
+    let asked = sym c.is_asked.ensures ∙ c.if-not-is_asked.false in
+    on_ok_weaker c.leaf.result
+    (λ h. λ ms writes outer entry.
+    let spot : Spot = spot_at s c.args.path.now c.args.position outer entry in
+    subst (λ (xs : List Meeting). Closes k s old new xs (node_at s c.args.scope id ms spot)) (data_asked k s c.args.scope id found spot (next_of old) kind.Leaf is asked) (h ms writes outer entry))
+    c.leaf.ensures.grows
+
+pub data-returns-in-Leaf-clause-notes : goal.data-returns-in-Leaf-clause-notes
+data-returns-in-Leaf-clause-notes t c =
+    let k = c.args.self.now.kind in
+    let s = c.args.self.now.schema.now in
+    let id = c.args.id in
+    let found = option_map (λ (v : Bor Value). view v.now) c.args.value in
+    let is : (row_at s id).label.defined.kind ≡ kind.Leaf = sym (ap (λ r. r.label.defined.kind) c.node-node.ensures.value) ∙ sym c.kind.ensures ∙ c.in-Leaf.is in
+    let asked = sym c.is_asked.ensures ∙ c.if-not-is_asked.false in
+    on_ok_weaker c.leaf.result
+    (λ h. λ ms writes. gains_met s c.args.notes.now c.leaf.new.notes (with_node (leaf_at s id found) (node_at s c.args.scope id ms))
+    (with_node (data_met k s c.args.scope id found) (node_at s c.args.scope id ms))
+    (λ spot next. ap (λ (xs : List Meeting). xs ++ met (node_at s c.args.scope id ms spot) ∷ []) (data_asked k s c.args.scope id found spot next kind.Leaf is asked)) (h ms writes))
+    c.leaf.ensures.notes
+
+pub data-returns-in-LeafList-clause-grows : goal.data-returns-in-LeafList-clause-grows
+data-returns-in-LeafList-clause-grows t c =
+    let k = c.args.self.now.kind in
+    let s = c.args.self.now.schema.now in
+    let id = c.args.id in
+    let old : Told = told c.args.progress.now in
+    let new : Told = told c.leaf_list.new.progress in
+    let found = option_map (λ (v : Bor Value). view v.now) c.args.value in
+    let is : (row_at s id).label.defined.kind ≡ kind.LeafList = sym (ap (λ r. r.label.defined.kind) c.node-node.ensures.value) ∙ sym c.kind.ensures ∙ c.in-LeafList.is in
+    let asked = sym c.is_asked.ensures ∙ c.if-not-is_asked.false in
+    on_ok_weaker c.leaf_list.result
+    (λ h. λ ms writes outer entry. arm_closes c.default_met.ensures c.nothing_met.ensures c.met_behind.ensures k s c.args.scope id ms found
+    (spot_at s c.args.path.now c.args.position outer entry) (next_of old) old new kind.LeafList is asked (λ e. cc) writes (h outer entry))
+    c.leaf_list.ensures.grows
+
+pub data-returns-in-LeafList-clause-notes : goal.data-returns-in-LeafList-clause-notes
+data-returns-in-LeafList-clause-notes t c =
+    let k = c.args.self.now.kind in
+    let s = c.args.self.now.schema.now in
+    let id = c.args.id in
+    let found = option_map (λ (v : Bor Value). view v.now) c.args.value in
+    let is : (row_at s id).label.defined.kind ≡ kind.LeafList = sym (ap (λ r. r.label.defined.kind) c.node-node.ensures.value) ∙ sym c.kind.ensures ∙ c.in-LeafList.is in
+    on_ok_weaker c.leaf_list.result
+    (λ h. λ ms writes. gains_array k s c.args.notes.now id c.args.scope ms kind.LeafList found is tt)
+    c.leaf_list.ensures.grows
+
+pub data-returns-in-List-clause-grows : goal.data-returns-in-List-clause-grows
+data-returns-in-List-clause-grows t c =
+    let k = c.args.self.now.kind in
+    let s = c.args.self.now.schema.now in
+    let id = c.args.id in
+    let old : Told = told c.args.progress.now in
+    let new : Told = told c.list.new.progress in
+    let found = option_map (λ (v : Bor Value). view v.now) c.args.value in
+    let is : (row_at s id).label.defined.kind ≡ kind.List = sym (ap (λ r. r.label.defined.kind) c.node-node.ensures.value) ∙ sym c.kind.ensures ∙ c.in-List.is in
+    let asked = sym c.is_asked.ensures ∙ c.if-not-is_asked.false in
+    on_ok_weaker c.list.result
+    (λ h. λ ms writes outer entry. arm_closes c.default_met.ensures c.nothing_met.ensures c.met_behind.ensures k s c.args.scope id ms found
+    (spot_at s c.args.path.now c.args.position outer entry) (next_of old) old new kind.List is asked (λ e. cc) writes (h outer entry))
+    c.list.ensures.grows
+
+pub data-returns-in-List-clause-notes : goal.data-returns-in-List-clause-notes
+data-returns-in-List-clause-notes t c =
+    let k = c.args.self.now.kind in
+    let s = c.args.self.now.schema.now in
+    let id = c.args.id in
+    let found = option_map (λ (v : Bor Value). view v.now) c.args.value in
+    let is : (row_at s id).label.defined.kind ≡ kind.List = sym (ap (λ r. r.label.defined.kind) c.node-node.ensures.value) ∙ sym c.kind.ensures ∙ c.in-List.is in
+    on_ok_weaker c.list.result
+    (λ h. λ ms writes. gains_array k s c.args.notes.now id c.args.scope ms kind.List found is tt)
+    c.list.ensures.grows
+
+pub data-returns-in-Anydata-clause-grows : goal.data-returns-in-Anydata-clause-grows
+data-returns-in-Anydata-clause-grows t c =
+    let k = c.args.self.now.kind in
+    let s = c.args.self.now.schema.now in
+    let id = c.args.id in
+    let old : Told = told c.args.progress.now in
+    let found = option_map (λ (v : Bor Value). view v.now) c.args.value in
+    let is : (row_at s id).label.defined.kind ≡ kind.Anydata = sym (ap (λ r. r.label.defined.kind) c.node-node.ensures.value) ∙ sym c.kind.ensures ∙ c.in-Anydata.is in
+    let asked = sym c.is_asked.ensures ∙ c.if-not-is_asked.false in
+    on_ok_weaker c.anydata.result
+    (λ h. λ ms writes outer entry. arm_closes c.default_met.ensures c.nothing_met.ensures c.met_behind.ensures k s c.args.scope id ms found
+    (spot_at s c.args.path.now c.args.position outer entry) (next_of old) old _ kind.Anydata is asked (λ e. cc) writes (grows_only c.nothing_met.ensures k s old c.anydata.new.faults.items _ h))
+    c.anydata.ensures
+
+pub data-returns-in-Anydata-clause-notes : goal.data-returns-in-Anydata-clause-notes
+data-returns-in-Anydata-clause-notes t c =
+    let k = c.args.self.now.kind in
+    let s = c.args.self.now.schema.now in
+    let id = c.args.id in
+    let found = option_map (λ (v : Bor Value). view v.now) c.args.value in
+    let is : (row_at s id).label.defined.kind ≡ kind.Anydata = sym (ap (λ r. r.label.defined.kind) c.node-node.ensures.value) ∙ sym c.kind.ensures ∙ c.in-Anydata.is in
+    on_ok_weaker c.anydata.result
+    (λ h. λ ms writes. gains_array k s c.args.notes.now id c.args.scope ms kind.Anydata found is tt)
+    c.anydata.ensures
+
+pub data-returns-in-Anyxml-clause-grows : goal.data-returns-in-Anyxml-clause-grows
+data-returns-in-Anyxml-clause-grows t c =
+    let k = c.args.self.now.kind in
+    let s = c.args.self.now.schema.now in
+    let id = c.args.id in
+    let old : Told = told c.args.progress.now in
+    let found = option_map (λ (v : Bor Value). view v.now) c.args.value in
+    let is : (row_at s id).label.defined.kind ≡ kind.Anyxml = sym (ap (λ r. r.label.defined.kind) c.node-node.ensures.value) ∙ sym c.kind.ensures ∙ c.in-Anyxml.is in
+    let asked = sym c.is_asked.ensures ∙ c.if-not-is_asked.false in
+    on_ok_weaker c.anyxml.result
+    (λ h. λ ms writes outer entry. arm_closes c.default_met.ensures c.nothing_met.ensures c.met_behind.ensures k s c.args.scope id ms found
+    (spot_at s c.args.path.now c.args.position outer entry) (next_of old) old _ kind.Anyxml is asked (λ e. cc) writes (grows_only c.nothing_met.ensures k s old c.anyxml.new.faults.items _ h))
+    c.anyxml.ensures
+
+pub data-returns-in-Anyxml-clause-notes : goal.data-returns-in-Anyxml-clause-notes
+data-returns-in-Anyxml-clause-notes t c =
+    let k = c.args.self.now.kind in
+    let s = c.args.self.now.schema.now in
+    let id = c.args.id in
+    let found = option_map (λ (v : Bor Value). view v.now) c.args.value in
+    let is : (row_at s id).label.defined.kind ≡ kind.Anyxml = sym (ap (λ r. r.label.defined.kind) c.node-node.ensures.value) ∙ sym c.kind.ensures ∙ c.in-Anyxml.is in
+    on_ok_weaker c.anyxml.result
+    (λ h. λ ms writes. gains_array k s c.args.notes.now id c.args.scope ms kind.Anyxml found is tt)
+    c.anyxml.ensures
 
 pub data-returns-in_default : goal.data-returns-in_default
 data-returns-in_default t c =
     let s = c.args.self.now.schema.now in
+    let is : c.kind.result ≡ (row_at s c.args.id).label.defined.kind = c.kind.ensures ∙ ap (λ r. r.label.defined.kind) c.node-node.ensures.value in
+    absurd (other_kind (row_at s c.args.id).label.defined.kind c.requires.«data» (λ e. c.in_default.not-Container (is ∙ e)) (λ e. c.in_default.not-Leaf (is ∙ e)) (λ e. c.in_default.not-LeafList (is ∙ e))
+    (λ e. c.in_default.not-List (is ∙ e)) (λ e. c.in_default.not-Anydata (is ∙ e)) (λ e. c.in_default.not-Anyxml (is ∙ e)))
+
+-- ---- state
+
+pub state-returns-in-Some-clause-grows : goal.state-returns-in-Some-clause-grows
+state-returns-in-Some-clause-grows t c =
+    let k = c.args.self.now.kind in
+    let s = c.args.self.now.schema.now in
     let id = c.args.id in
-    let l = (row_at s id).label in
-    let k = l.defined.kind in
+    let old : Told = told c.args.progress.now in
     let found = option_map (λ (v : Bor Value). view v.now) c.args.value in
-    let is : c.kind.result ≡ k = c.kind.ensures ∙ ap (λ r. r.label.defined.kind) c.node-node.ensures.value in
-    let q : TellsNothing k = others_quiet k (λ e. c.in_default.not-Container (is ∙ e)) (λ e. c.in_default.not-Leaf (is ∙ e)) (λ e. c.in_default.not-LeafList (is ∙ e))
-    (λ e. c.in_default.not-List (is ∙ e)) (λ e. c.in_default.not-Anydata (is ∙ e)) (λ e. c.in_default.not-Anyxml (is ∙ e)) in
-    let none : kind_work k l found (object_costs s id) ≡ 0 = q.work l found s id in
-    let before : Findings = c.args.progress.now.found in
-    record {
-      faults = sym (ap (λ (fs : List Flaw). c.args.progress.now.faults.items ++ fs) (q.faults id l c.args.scope
-          (places s c.args.path.now) found s) ∙ append-nil c.args.progress.now.faults.items);
-      notes = gains_nothing s c.args.notes.now _ (λ n. q.value (id.0 == n) l c.args.scope found s n id);
-      found = finds_as before before nothing _ (sym (q.met s id l c.args.position (next_in before) c.args.scope found))
-          (c.nothing_met.ensures before);
-      steps = omega (arith, none);
-    }
+    let d = view c.in-Some.written.now in
+    let some : found ≡ Some d = ap (option_map (λ (v : Bor Value). view v.now)) c.in-Some.is in
+    let is : c.kind-kind.result ≡ (row_at s id).label.defined.kind = c.kind-kind.ensures ∙ ap (λ r. r.label.defined.kind) c.node.ensures.value in
+    let there : c.is_there-exists.result ≡ is_there (row_at s id).label.defined.kind d = c.is_there-exists.ensures ∙ ap (λ K. is_there K d) is in
+    on_ok_weaker c.tell_if.result
+    (λ h. λ ms writes outer entry.
+    let spot : Spot = spot_at s c.args.path.now c.args.position outer entry in
+    let m = node_at s c.args.scope id ms spot in
+    let own : c.tell_if.new.faults.items ≡ old.faults ++ state_faults m.label.defined.kind m found =
+    h ∙ ap (λ b. old.faults ++ flaw_if b State (at spot m.label None)) there ∙ ap (λ (o : Option Data). old.faults ++ state_faults m.label.defined.kind m o) (sym some) in
+    state_closes c.default_met.ensures c.nothing_met.ensures c.met_behind.ensures k s c.args.scope id ms found spot (next_of old) old _ [] c.requires.unasked writes
+    (data_left k s c.args.scope id d spot (next_of old) c.requires.«data» c.requires.unasked ∙ ap (λ (o : Option Data). data_met k s c.args.scope id o spot (next_of old)) (sym some))
+    (grows_only c.nothing_met.ensures k s old c.tell_if.new.faults.items _ own))
+    c.tell_if.ensures
 
-pub entries-loop-index-preserved : goal.entries-loop-index-preserved
-entries-loop-index-preserved t c =
+pub state-returns-in-Some-clause-notes : goal.state-returns-in-Some-clause-notes
+state-returns-in-Some-clause-notes t c =
+    let k = c.args.self.now.kind in
     let s = c.args.self.now.schema.now in
     let id = c.args.id in
     let l = (row_at s id).label in
-    let path = places s c.args.path.now in
-    let inside = (object_parts s id).inside in
-    let leafs = leafs_at s id in
-    let f = tuple_at s id in
-    let xs = c.args.items.now.items in
-    let i = c.loop-index.index in
-    let x = c.item-item.result in
-    let d = view x in
-    let done = map view (take i xs) in
-    let here : List Place = path ++ record { member = step_name l; item = Some (i + 1) } ∷ [] in
-    let lt : i < length xs = subst (λ (ys : List Value). i < length ys) c.deref-item-items.ensures.value (omega arith) in
-    let is : x ≡ slice_index_or xs i x = c.item-item.is ∙ ap (λ (ys : List Value). slice_index_or ys i x) c.deref-item-items.ensures.value in
-    let has = c.in_ok-notes.ensures.tuples in
-    let keys : f leafs.keys d ≡ c.in_ok-tuple.tuple = sym (has.each leafs.keys)
-    ∙ ap (tuple_in s c.in_ok-notes.notes) (sym c.keys-leafs.ensures) ∙ sym c.in_ok-tuple.ensures in
-    let told = c.in_ok-is_repeated.ensures.told in
-    let repeated : c.in_ok-is_repeated.is_repeated ≡ repeats (f leafs.keys) done d = told.same (f leafs.keys) done d c.loop-index.invariant.keys keys in
-    let one = list_work (object_work s (rank id) (below s id)) leafs f in
-    let earlier : map view (take i c.deref.result.now) ≡ done = ap (λ (ys : List Value). map view (take i ys)) c.deref.ensures.value in
-    let uniques = subst (λ (ds : List Data). c.end_uniques.new.faults.items ≡ c.tell_if.new.faults.items ++ unique_faults f here 1 leafs.uniques ds d) earlier (c.in_ok-end_uniques.ensures.faults d has) in
+    let found = option_map (λ (v : Bor Value). view v.now) c.args.value in
+    let d = view c.in-Some.written.now in
+    let some : found ≡ Some d = ap (option_map (λ (v : Bor Value). view v.now)) c.in-Some.is in
+    on_ok_weaker c.tell_if.result
+    (λ h. λ ms writes. gains_behind s c.args.notes.now c.args.notes.now (data_met k s c.args.scope id found) (node_at s c.args.scope id ms)
+    (λ spot. in_use_unasked l.defined.kind l c.args.scope (found_of (node_at s c.args.scope id ms spot)) c.requires.unasked)
+    (gains_none s c.args.notes.now (data_met k s c.args.scope id found)
+    (λ spot next. ap (λ (o : Option Data). data_met k s c.args.scope id o spot next) some ∙ sym (data_left k s c.args.scope id d spot next c.requires.«data» c.requires.unasked))))
+    c.tell_if.ensures
+
+pub state-returns-in-Container-clause-grows : goal.state-returns-in-Container-clause-grows
+state-returns-in-Container-clause-grows t c =
+    let k = c.args.self.now.kind in
+    let s = c.args.self.now.schema.now in
+    let id = c.args.id in
+    let old : Told = told c.args.progress.now in
+    let new : Told = told c.container.new.progress in
+    let found = option_map (λ (v : Bor Value). view v.now) c.args.value in
+    let none : found ≡ None = ap (option_map (λ (v : Bor Value). view v.now)) c.in-None.is in
+    let is : (row_at s id).label.defined.kind ≡ kind.Container = sym (c.kind-kind.ensures ∙ ap (λ r. r.label.defined.kind) c.node.ensures.value) ∙ c.in-Container.is in
+    on_ok_weaker c.container.result
+    (λ h. λ ms writes outer entry.
+    let spot : Spot = spot_at s c.args.path.now c.args.position outer entry in
+    let m = node_at s c.args.scope id ms spot in
+    state_closes c.default_met.ensures c.nothing_met.ensures c.met_behind.ensures k s c.args.scope id ms found spot (next_of old) old new
+    (container_at k s c.args.scope id None spot (next_of old)) c.requires.unasked writes
+    (data_absent k s c.args.scope id spot (next_of old) kind.Container is ∙ ap (λ (o : Option Data). data_met k s c.args.scope id o spot (next_of old)) (sym none))
+    (subst (λ (o : Option Data). GrowsWith k s old new (container_at k s c.args.scope id None spot (next_of old)) (state_faults m.label.defined.kind m o)) (sym none)
+    (grows_alone k s old new _ (h outer entry))))
+    c.container.ensures.grows
+
+pub state-returns-in-Container-clause-notes : goal.state-returns-in-Container-clause-notes
+state-returns-in-Container-clause-notes t c =
+    let k = c.args.self.now.kind in
+    let s = c.args.self.now.schema.now in
+    let id = c.args.id in
+    let l = (row_at s id).label in
+    let found = option_map (λ (v : Bor Value). view v.now) c.args.value in
+    let none : found ≡ None = ap (option_map (λ (v : Bor Value). view v.now)) c.in-None.is in
+    let is : l.defined.kind ≡ kind.Container = sym (c.kind-kind.ensures ∙ ap (λ r. r.label.defined.kind) c.node.ensures.value) ∙ c.in-Container.is in
+    on_ok_weaker c.container.result
+    (λ h. λ ms writes. gains_behind s c.args.notes.now c.container.new.notes (data_met k s c.args.scope id found) (node_at s c.args.scope id ms)
+    (λ spot. in_use_unasked l.defined.kind l c.args.scope (found_of (node_at s c.args.scope id ms spot)) c.requires.unasked)
+    (gains_met s c.args.notes.now c.container.new.notes (container_at k s c.args.scope id None) (data_met k s c.args.scope id found)
+    (λ spot next. data_absent k s c.args.scope id spot next kind.Container is ∙ ap (λ (o : Option Data). data_met k s c.args.scope id o spot next) (sym none)) h))
+    c.container.ensures.notes
+
+pub state-returns-in_default : goal.state-returns-in_default
+state-returns-in_default t c =
+    let k = c.args.self.now.kind in
+    let s = c.args.self.now.schema.now in
+    let id = c.args.id in
+    let l = (row_at s id).label in
+    let old : Told = told c.args.progress.now in
+    let found = option_map (λ (v : Bor Value). view v.now) c.args.value in
+    let none : found ≡ None = ap (option_map (λ (v : Bor Value). view v.now)) c.in-None.is in
+    let other : l.defined.kind ≡ kind.Container → ⊥ = λ e. c.in_default.not-Container (c.kind-kind.ensures ∙ ap (λ r. r.label.defined.kind) c.node.ensures.value ∙ e) in
     record {
-      faults = each_step (list_faults l leafs inside f path) xs i x c.loop-index.progress.faults.items c.end_uniques.new.faults.items lt is
-          (list_step l leafs inside f path done d here c.loop-index.progress.faults.items c.entry.new.progress.faults.items c.tell_if.new.faults.items c.end_uniques.new.faults.items c.in_ok-is_repeated.is_repeated
-          (here_is path l xs i lt) c.in_ok-notes.ensures.faults repeated c.in_ok-tell_if.ensures uniques)
-          c.loop-index.invariant.faults;
-      keys = subst (Remembers c.stood_before.new.kept (f leafs.keys)) (sym (one_more xs i x lt is)) (told.next (f leafs.keys) done d c.loop-index.invariant.keys keys);
-      uniques = subst (RemembersEach c.end_uniques.new.kept.items f leafs.uniques) (ap (λ (ds : List Data). ds ++ d ∷ []) earlier ∙ sym (one_more xs i x lt is)) (c.in_ok-end_uniques.ensures.kept d has);
-      found = entries_on c.met_behind.ensures c.counted.ensures s id
-          (rank id) c.args.position xs i x c.loop-index.progress.found c.entry.new.progress.found c.args.progress.now.found _ lt is
-          c.in_ok-notes.ensures.found c.loop-index.invariant.found;
-      steps = entries_step one xs i x c.loop-index.progress.meter c.end_uniques.new.meter _ lt is
-          (steps_both c.loop-index.progress.meter c.entry.new.progress.meter c.end_uniques.new.meter (entry_work (object_work s (rank id)
-          (below s id)) d) (end_work leafs f d)
-          c.in_ok-notes.ensures.steps
-          (steps_both c.entry.new.progress.meter c.stood_before.new.meter c.end_uniques.new.meter (tuple_work (f leafs.keys d))
-          (uniques_work f leafs.uniques d)
-          (c.in_ok-is_repeated.ensures.steps ∙ ap (λ (o : Option (List Val)). min
-          (c.entry.new.progress.meter + tuple_work o) 18446744073709551615) (sym keys))
-          (c.in_ok-end_uniques.ensures.steps d has)))
-          c.loop-index.invariant.steps;
+      grows = λ ms writes outer entry.
+          let spot : Spot = spot_at s c.args.path.now c.args.position outer entry in
+          let m = node_at s c.args.scope id ms spot in
+          state_closes c.default_met.ensures c.nothing_met.ensures c.met_behind.ensures k s c.args.scope id ms found spot (next_of old) old old [] c.requires.unasked writes
+          (data_nothing k s c.args.scope id spot (next_of old) c.requires.«data» other ∙ ap (λ (o : Option Data). data_met k s c.args.scope id o spot (next_of old)) (sym none))
+          (subst (λ (o : Option Data). GrowsWith k s old old [] (state_faults m.label.defined.kind m o)) (sym none)
+          (grows_alone k s old old [] (grows_nothing c.nothing_met.ensures k s old)));
+      notes = λ ms writes. gains_behind s c.args.notes.now c.args.notes.now (data_met k s c.args.scope id found) (node_at s c.args.scope id ms)
+          (λ spot. in_use_unasked l.defined.kind l c.args.scope (found_of (node_at s c.args.scope id ms spot)) c.requires.unasked)
+          (gains_none s c.args.notes.now (data_met k s c.args.scope id found)
+          (λ spot next. ap (λ (o : Option Data). data_met k s c.args.scope id o spot next) none ∙ sym (data_nothing k s c.args.scope id spot next c.requires.«data» other)));
     }
 
-pub entries-returns-clause-found : goal.entries-returns-clause-found
-entries-returns-clause-found t c =
-    let s = c.args.self.now.schema.now in
-    let id = c.args.id in
-    let xs = c.args.items.now.items in
-    let i = c.loop-index.index in
-    let now : Findings = c.loop-index.progress.found in
-    let le : length xs ≤ i = subst (λ (ys : List Value). length ys ≤ i) c.deref-item-items.ensures.value (omega
-    (arith, c.loop-index-test.false)) in
-    c.loop-index.invariant.found now
-    (finds_as now now nothing _ (ap (λ (ys : List Value). entries_met c.args.position (next_in now) id (i + 1) (items_view ys)
-    (inside_at s id)) (sym (drop_all i xs le))) (c.nothing_met.ensures now))
+-- ---- choices
 
-pub entry-returns-in_ok-object-in-Object-clause-tuples : goal.entry-returns-in_ok-object-in-Object-clause-tuples
-entry-returns-in_ok-object-in-Object-clause-tuples t c =
+pub choice-returns-clause-grows : goal.choice-returns-clause-grows
+choice-returns-clause-grows t c =
+    let k = c.args.self.now.kind in
     let s = c.args.self.now.schema.now in
     let id = c.args.id in
-    let ms = members_view c.in-Object.members.entries in
-    let new = c.object.new.notes in
-    let value : ℕ → Option Val = λ n. forest_value s n (λ at u. Always) (rank id) (below s id) ms in
-    let doc : view c.args.item.now ≡ object ms = ap view c.in-Object.is ∙ view-Object c.in-Object.members in
-    let same : (n : ℕ) → noted_at s new n ≡ value n = noted_fresh s c.new-notes.result new value
-    (c.new-notes.ensures s) c.in_ok-object-in-Object.ensures.notes in
-    record { each = λ leafs. same_tuple (noted_at s new) value leafs same ∙ ap (tuple_at s id leafs) (sym doc) }
+    let ms = members_of c.args.context.now in
+    let old : Told = told c.args.progress.now in
+    let mid : Told = told c.cases.new.progress in
+    let first : rank id ≡ id.0 + 1 = rank_is s id c.node-node.ensures.sound c.requires.node in
+    let passed : passes s id ≡ true = choice_passes s id c.node-node.ensures.sound c.requires.node c.requires.kind in
+    on_ok_weaker c.end_choice.result
+    (λ h. λ outer entry.
+    let spot : Spot = spot_at s c.args.path.now c.args.position outer entry in
+    choice_closes c.default_met.ensures c.nothing_met.ensures c.met_behind.ensures k s c.args.scope id ms spot old _ (cases_met k s id ms spot (next_of old)) c.count-existing.result c.requires.kind
+    first (c.count-existing.ensures c.requires.itself.context c.requires.itself.stands passed)
+    (grows_with k s old mid _ c.end_choice.new.faults.items _ (c.in_ok-cases.ensures.grows outer entry) h))
+    c.end_choice.ensures
+
+-- ---- nodes
+
+pub node-returns-then-is_operation-clause-grows : goal.node-returns-then-is_operation-clause-grows
+node-returns-then-is_operation-clause-grows t c =
+    let k = c.args.self.now.kind in
+    let s = c.args.self.now.schema.now in
+    let id = c.args.id in
+    let ms = members_of c.args.context.now in
+    let old : Told = told c.args.progress.now in
+    let is : c.kind-kind.result ≡ (row_at s id).label.defined.kind = c.kind-kind.ensures ∙ ap (λ r. r.label.defined.kind) c.node-node.ensures.value in
+    let op = sym (ap is_operation is) ∙ sym c.is_operation.ensures ∙ c.if-is_operation.true in
+    λ outer entry. grows_as k s old old [] _ (sym (at_operation k s (scope_at k s c.args.scope id) id ms (spot_at s c.args.path.now c.args.position outer entry) (next_of old) op))
+    (grows_nothing c.nothing_met.ensures k s old)
+
+pub node-returns-then-is_operation-clause-notes : goal.node-returns-then-is_operation-clause-notes
+node-returns-then-is_operation-clause-notes t c =
+    let k = c.args.self.now.kind in
+    let s = c.args.self.now.schema.now in
+    let id = c.args.id in
+    let ms = members_of c.args.context.now in
+    let is : c.kind-kind.result ≡ (row_at s id).label.defined.kind = c.kind-kind.ensures ∙ ap (λ r. r.label.defined.kind) c.node-node.ensures.value in
+    let op = sym (ap is_operation is) ∙ sym c.is_operation.ensures ∙ c.if-is_operation.true in
+    gains_none s c.args.notes.now (one_met k s (scope_at k s c.args.scope id) id ms) (λ spot next. at_operation k s (scope_at k s c.args.scope id) id ms spot next op)
+
+pub node-returns-then-is_data-clause-grows : goal.node-returns-then-is_data-clause-grows
+node-returns-then-is_data-clause-grows t c =
+    let k = c.args.self.now.kind in
+    let s = c.args.self.now.schema.now in
+    let id = c.args.id in
+    let ms = members_of c.args.context.now in
+    let old : Told = told c.args.progress.now in
+    let new : Told = told c.«data».new.progress in
+    let found = option_map (λ (v : Bor Value). view v.now) c.value-value.result in
+    let is : c.kind-kind.result ≡ (row_at s id).label.defined.kind = c.kind-kind.ensures ∙ ap (λ r. r.label.defined.kind) c.node-node.ensures.value in
+    let plain = sym (ap is_operation is) ∙ sym c.is_operation.ensures ∙ c.if-is_operation.false in
+    let one = sym (ap is_data is) ∙ sym c.is_data.ensures ∙ c.if-is_data.true in
+    let writes = sym (c.value-value.ensures s c.requires.meets.context c.requires.meets.stands one) in
+    let scope : c.narrowed-scope.result ≡ scope_at k s c.args.scope id = c.narrowed-scope.ensures
+    ∙ ap (λ b. scope_in k b c.args.scope) (c.config.ensures ∙ ap (λ r. r.label.is_config) c.node-node.ensures.value) in
+    on_ok_weaker c.«data».result
+    (λ h. λ outer entry.
+    let spot : Spot = spot_at s c.args.path.now c.args.position outer entry in
+    subst (λ (y : Scope). Grows k s old new (one_met k s y id ms spot (next_of old))) scope
+    (grows_as k s old new _ _ (at_data k s c.narrowed-scope.result id ms found spot (next_of old) plain one writes)
+    (visited k s old c.visit.new.self new _ (node_at s c.narrowed-scope.result id ms spot) c.visit.ensures (h ms writes outer entry))))
+    c.«data».ensures.grows
+
+pub node-returns-then-is_data-clause-notes : goal.node-returns-then-is_data-clause-notes
+node-returns-then-is_data-clause-notes t c =
+    let k = c.args.self.now.kind in
+    let s = c.args.self.now.schema.now in
+    let id = c.args.id in
+    let ms = members_of c.args.context.now in
+    let found = option_map (λ (v : Bor Value). view v.now) c.value-value.result in
+    let is : c.kind-kind.result ≡ (row_at s id).label.defined.kind = c.kind-kind.ensures ∙ ap (λ r. r.label.defined.kind) c.node-node.ensures.value in
+    let plain = sym (ap is_operation is) ∙ sym c.is_operation.ensures ∙ c.if-is_operation.false in
+    let one = sym (ap is_data is) ∙ sym c.is_data.ensures ∙ c.if-is_data.true in
+    let writes = sym (c.value-value.ensures s c.requires.meets.context c.requires.meets.stands one) in
+    let scope : c.narrowed-scope.result ≡ scope_at k s c.args.scope id = c.narrowed-scope.ensures
+    ∙ ap (λ b. scope_in k b c.args.scope) (c.config.ensures ∙ ap (λ r. r.label.is_config) c.node-node.ensures.value) in
+    on_ok_weaker c.«data».result
+    (λ h. subst (λ (y : Scope). GainsBy s c.args.notes.now c.«data».new.notes (one_met k s y id ms)) scope
+    (gains_met s c.args.notes.now c.«data».new.notes (with_node (data_met k s c.narrowed-scope.result id found) (node_at s c.narrowed-scope.result id ms)) (one_met k s c.narrowed-scope.result id ms)
+    (λ spot next. at_data k s c.narrowed-scope.result id ms found spot next plain one writes) (h ms writes)))
+    c.«data».ensures.notes
+
+pub node-returns-in-Choice-clause-grows : goal.node-returns-in-Choice-clause-grows
+node-returns-in-Choice-clause-grows t c =
+    let k = c.args.self.now.kind in
+    let s = c.args.self.now.schema.now in
+    let id = c.args.id in
+    let ms = members_of c.args.context.now in
+    let old : Told = told c.args.progress.now in
+    let new : Told = told c.choice.new.progress in
+    let as_kind : (row_at s id).label.defined.kind ≡ kind.Choice = sym (c.kind-kind.ensures ∙ ap (λ r. r.label.defined.kind) c.node-node.ensures.value) ∙ c.in-Choice.is in
+    let scope : c.narrowed-scope.result ≡ scope_at k s c.args.scope id = c.narrowed-scope.ensures
+    ∙ ap (λ b. scope_in k b c.args.scope) (c.config.ensures ∙ ap (λ r. r.label.is_config) c.node-node.ensures.value) in
+    on_ok_weaker c.choice.result
+    (λ h. λ outer entry.
+    let spot : Spot = spot_at s c.args.path.now c.args.position outer entry in
+    subst (λ (y : Scope). Grows k s old new (one_met k s y id ms spot (next_of old))) scope
+    (grows_as k s old new _ _ (at_choice k s c.narrowed-scope.result id ms spot (next_of old) as_kind)
+    (visited k s old c.visit.new.self new _ (node_at s c.narrowed-scope.result id ms spot) c.visit.ensures (h outer entry))))
+    c.choice.ensures.grows
+
+pub node-returns-in-Choice-clause-notes : goal.node-returns-in-Choice-clause-notes
+node-returns-in-Choice-clause-notes t c =
+    let k = c.args.self.now.kind in
+    let s = c.args.self.now.schema.now in
+    let id = c.args.id in
+    let l = (row_at s id).label in
+    let ms = members_of c.args.context.now in
+    let as_kind : l.defined.kind ≡ kind.Choice = sym (c.kind-kind.ensures ∙ ap (λ r. r.label.defined.kind) c.node-node.ensures.value) ∙ c.in-Choice.is in
+    let scope : c.narrowed-scope.result ≡ scope_at k s c.args.scope id = c.narrowed-scope.ensures
+    ∙ ap (λ b. scope_in k b c.args.scope) (c.config.ensures ∙ ap (λ r. r.label.is_config) c.node-node.ensures.value) in
+    on_ok_weaker c.choice.result
+    (λ h. subst (λ (y : Scope). GainsBy s c.args.notes.now c.choice.new.notes (one_met k s y id ms)) scope
+    (gains_met s c.args.notes.now c.choice.new.notes (with_node (cases_met k s id ms) (node_at s c.narrowed-scope.result id ms)) (one_met k s c.narrowed-scope.result id ms)
+    (λ spot next. at_choice k s c.narrowed-scope.result id ms spot next as_kind)
+    (gains_behind s c.args.notes.now c.choice.new.notes (cases_met k s id ms) (node_at s c.narrowed-scope.result id ms)
+    (λ spot. no_default l.defined.kind l c.narrowed-scope.result (found_of (node_at s c.narrowed-scope.result id ms spot)) (ap is_data as_kind)) h)))
+    c.choice.ensures.notes
+
+pub node-returns-in-Case-clause-grows : goal.node-returns-in-Case-clause-grows
+node-returns-in-Case-clause-grows t c =
+    let k = c.args.self.now.kind in
+    let s = c.args.self.now.schema.now in
+    let id = c.args.id in
+    let ms = members_of c.args.context.now in
+    let old : Told = told c.args.progress.now in
+    let new : Told = told c.children.new.progress in
+    let as_kind : (row_at s id).label.defined.kind ≡ kind.Case = sym (c.kind-kind.ensures ∙ ap (λ r. r.label.defined.kind) c.node-node.ensures.value) ∙ c.in-Case.is in
+    let scope : c.narrowed-scope.result ≡ scope_at k s c.args.scope id = c.narrowed-scope.ensures
+    ∙ ap (λ b. scope_in k b c.args.scope) (c.config.ensures ∙ ap (λ r. r.label.is_config) c.node-node.ensures.value) in
+    on_ok_weaker c.children.result
+    (λ h. λ outer entry.
+    let spot : Spot = spot_at s c.args.path.now c.args.position outer entry in
+    subst (λ (y : Scope). Grows k s old new (one_met k s y id ms spot (next_of old))) scope
+    (grows_as k s old new _ _ (at_case k s c.narrowed-scope.result id ms spot (next_of old) as_kind)
+    (visited k s old c.visit.new.self new _ (node_at s c.narrowed-scope.result id ms spot) c.visit.ensures (other_closes c.default_met.ensures c.nothing_met.ensures c.met_behind.ensures k s c.narrowed-scope.result id ms spot (record { faults = old.faults; found = old.found; steps = c.visit.new.self }) new _ (ap is_data as_kind) (λ e. cc) (h outer entry)))))
+    c.children.ensures.grows
+
+pub node-returns-in-Case-clause-notes : goal.node-returns-in-Case-clause-notes
+node-returns-in-Case-clause-notes t c =
+    let k = c.args.self.now.kind in
+    let s = c.args.self.now.schema.now in
+    let id = c.args.id in
+    let l = (row_at s id).label in
+    let ms = members_of c.args.context.now in
+    let as_kind : l.defined.kind ≡ kind.Case = sym (c.kind-kind.ensures ∙ ap (λ r. r.label.defined.kind) c.node-node.ensures.value) ∙ c.in-Case.is in
+    let scope : c.narrowed-scope.result ≡ scope_at k s c.args.scope id = c.narrowed-scope.ensures
+    ∙ ap (λ b. scope_in k b c.args.scope) (c.config.ensures ∙ ap (λ r. r.label.is_config) c.node-node.ensures.value) in
+    on_ok_weaker c.children.result
+    (λ h. subst (λ (y : Scope). GainsBy s c.args.notes.now c.children.new.notes (one_met k s y id ms)) scope
+    (gains_met s c.args.notes.now c.children.new.notes (with_node (children_met k s c.narrowed-scope.result id ms) (node_at s c.narrowed-scope.result id ms)) (one_met k s c.narrowed-scope.result id ms)
+    (λ spot next. at_case k s c.narrowed-scope.result id ms spot next as_kind)
+    (gains_behind s c.args.notes.now c.children.new.notes (children_met k s c.narrowed-scope.result id ms) (node_at s c.narrowed-scope.result id ms)
+    (λ spot. no_default l.defined.kind l c.narrowed-scope.result (found_of (node_at s c.narrowed-scope.result id ms spot)) (ap is_data as_kind)) h)))
+    c.children.ensures.notes
+
+pub node-returns-in_default : goal.node-returns-in_default
+node-returns-in_default t c =
+    let k = c.args.self.now.kind in
+    let s = c.args.self.now.schema.now in
+    let id = c.args.id in
+    let l = (row_at s id).label in
+    let ms = members_of c.args.context.now in
+    let old : Told = told c.args.progress.now in
+    let begun : Told = record { faults = old.faults; found = old.found; steps = c.visit.new.self } in
+    let is : c.kind-kind.result ≡ l.defined.kind = c.kind-kind.ensures ∙ ap (λ r. r.label.defined.kind) c.node-node.ensures.value in
+    let plain = sym (ap is_operation is) ∙ sym c.is_operation.ensures ∙ c.if-is_operation.false in
+    let none = sym (ap is_data is) ∙ sym c.is_data.ensures ∙ c.if-is_data.false in
+    let no_choice : l.defined.kind ≡ kind.Choice → ⊥ = λ e. c.in_default.not-Choice (is ∙ e) in
+    let no_case : l.defined.kind ≡ kind.Case → ⊥ = λ e. c.in_default.not-Case (is ∙ e) in
+    let y : Scope = scope_at k s c.args.scope id in
+    record {
+      grows = λ outer entry.
+          let spot : Spot = spot_at s c.args.path.now c.args.position outer entry in
+          grows_as k s old begun _ _ (at_other k s y id ms spot (next_of old) plain none no_choice no_case)
+          (visited k s old c.visit.new.self begun [] (node_at s y id ms spot) c.visit.ensures
+          (other_closes c.default_met.ensures c.nothing_met.ensures c.met_behind.ensures k s y id ms spot begun begun [] none no_choice (grows_nothing c.nothing_met.ensures k s begun)));
+      notes = gains_met s c.args.notes.now c.args.notes.now (with_node (λ spot next. []) (node_at s y id ms)) (one_met k s y id ms)
+          (λ spot next. at_other k s y id ms spot next plain none no_choice no_case)
+          (gains_behind s c.args.notes.now c.args.notes.now (λ spot next. []) (node_at s y id ms)
+          (λ spot. no_default l.defined.kind l y (found_of (node_at s y id ms spot)) none) (gains_none s c.args.notes.now (λ spot next. []) (λ spot next. refl)));
+    }
+
+-- ---- lists
+
+pub list-returns-in-None : goal.list-returns-in-None
+list-returns-in-None t c =
+    let k = c.args.self.now.kind in
+    let s = c.args.self.now.schema.now in
+    let id = c.args.id in
+    let old : Told = told c.args.progress.now in
+    let found = option_map (λ (v : Bor Value). view v.now) c.args.value in
+    let none : found ≡ None = ap (option_map (λ (v : Bor Value). view v.now)) c.in-None.is in
+    record {
+      grows = on_ok_weaker c.end_array.result
+          (λ h. λ outer entry.
+          let spot : Spot = spot_at s c.args.path.now c.args.position outer entry in
+          subst (λ (o : Option Data). GrowsWith k s old (record { faults = c.end_array.new.faults.items; found = old.found; steps = old.steps }) (list_at k s id o spot (next_of old)) (array_faults (plain_at s c.args.scope id c.args.path.now) o)) (sym none)
+          (grows_only c.nothing_met.ensures k s old c.end_array.new.faults.items _ h))
+          c.end_array.ensures;
+    }
+
+pub list-returns-in_ok-entries-in-Array : goal.list-returns-in_ok-entries-in-Array
+list-returns-in_ok-entries-in-Array t c =
+    let k = c.args.self.now.kind in
+    let s = c.args.self.now.schema.now in
+    let id = c.args.id in
+    let old : Told = told c.args.progress.now in
+    let mid : Told = told c.entries.new.progress in
+    let found = option_map (λ (v : Bor Value). view v.now) c.args.value in
+    let ds = items_view c.in-Array.items.items in
+    let some : found ≡ Some (array ds) = ap (option_map (λ (v : Bor Value). view v.now)) c.in-Some.is
+    ∙ ap (λ (v : Value). Some (view v)) c.in-Array.is ∙ ap (λ (d : Data). Some d) (view-Array c.in-Array.items) in
+    record {
+      grows = on_ok_weaker c.end_array-in-Array.result
+          (λ h. λ outer entry.
+          let spot : Spot = spot_at s c.args.path.now c.args.position outer entry in
+          let m = plain_at s c.args.scope id c.args.path.now in
+          subst (λ (o : Option Data). GrowsWith k s old (record { faults = c.end_array-in-Array.new.faults.items; found = mid.found; steps = mid.steps }) (list_at k s id o spot (next_of old)) (array_faults m o)) (sym some)
+          (grows_with k s old mid _ c.end_array-in-Array.new.faults.items _ (c.in_ok-entries-in-Array.ensures.grows outer entry)
+          (h ∙ ap (λ n. mid.faults ++ count_faults m n) c.count_of.ensures)))
+          c.end_array-in-Array.ensures;
+    }
+
+pub object-leave-requires : goal.object-leave-requires
+object-leave-requires t c =
+    let begun = c.enter-2.new.self in
+    let start : Told = record { faults = c.enter.new.faults.items; found = begun; steps = c.enter.new.meter } in
+    omega (
+      arith,
+      c.in_ok-number.ensures.number,
+      ap length c.in_ok-number.ensures.positions,
+      length-append c.args.progress.now.found.positions (opened c.args.position c.args.id.0 c.args.item ∷ []),
+      not_fewer start (told c.children.new.progress) (c.in_ok-children.ensures.grows [] 0),
+    )

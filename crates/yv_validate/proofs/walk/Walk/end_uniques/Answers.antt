@@ -5,9 +5,8 @@ use Rattle.yv_values.specs.Values.{Val}
 use Rattle.yv_nodes.specs.declared.node.NodeId.{NodeId}
 use Rattle.yv_validate.specs.Faults.{unique_faults, unique_if}
 use Rattle.yv_validate.specs.InnerMemory.{Remembers}
-use Rattle.yv_validate.specs.InnerNotes.{tuple_in}
+use Rattle.yv_validate.specs.InnerNotes.{list_tuple, tuple_in, uniques_at}
 use Rattle.yv_validate.specs.InnerTrail.{places}
-use Rattle.yv_validate.specs.InnerWalk.{leafs_at, tuple_at}
 use Rattle.yv_validate.specs.Repeats.{repeats}
 use Rattle.yv_validate.specs.Work.{tuple_work, uniques_work}
 use Rattle.yv_validate.proofs.Each.{all_done, at_turn, get_map, none_done, some_step, unique_drop, work_drop}
@@ -20,22 +19,22 @@ loop-number-init c = record {
   same = c.requires.kept.same;
   each = λ d has. record {
     faults = refl;
-    kept = none_done c.args.kept.now.items (tuple_at c.args.self.now.schema.now c.args.id) (leafs_at c.args.self.now.schema.now c.args.id).uniques (map view c.args.earlier.now) d c.requires.kept;
+    kept = none_done c.args.kept.now.items (list_tuple c.args.self.now.kind c.args.self.now.schema.now c.args.id) (uniques_at c.args.self.now.schema.now c.args.id) (map view c.args.earlier.now) d c.requires.kept;
     steps = refl;
   };
 }
 
 pub index_mut-requires : goal.index_mut-requires
 index_mut-requires c =
-    let us = (leafs_at c.args.self.now.schema.now c.args.id).uniques in
+    let us = (uniques_at c.args.self.now.schema.now c.args.id) in
     let many : length us ≡ length c.uniques-leafs-items.result.now = sym (ap length c.uniques-leafs-items.ensures) ∙ length-map c.uniques-leafs-items.result.now _ in
     omega (arith, many, c.loop-number.invariant.same)
 
 pub loop-number-preserved : goal.loop-number-preserved
 loop-number-preserved c =
     let s = c.args.self.now.schema.now in
-    let f = tuple_at s c.args.id in
-    let us = (leafs_at s c.args.id).uniques in
+    let f = list_tuple c.args.self.now.kind s c.args.id in
+    let us = uniques_at s c.args.id in
     let here = places s c.args.here.now in
     let before = map view c.args.earlier.now in
     let n = c.loop-number.number in
@@ -67,8 +66,8 @@ loop-number-preserved c =
 pub returns-clause-faults : goal.returns-clause-faults
 returns-clause-faults c = λ d has.
     let s = c.args.self.now.schema.now in
-    let f = tuple_at s c.args.id in
-    let us = (leafs_at s c.args.id).uniques in
+    let f = list_tuple c.args.self.now.kind s c.args.id in
+    let us = uniques_at s c.args.id in
     let n = c.loop-number.number in
     let many : length us ≡ length c.uniques-leafs-items.result.now = sym (ap length c.uniques-leafs-items.ensures) ∙ length-map c.uniques-leafs-items.result.now _ in
     let le : length us ≤ n = omega (arith, many, c.loop-number-test.false) in
@@ -79,8 +78,8 @@ returns-clause-faults c = λ d has.
 pub returns-clause-kept : goal.returns-clause-kept
 returns-clause-kept c = λ d has.
     let s = c.args.self.now.schema.now in
-    let f = tuple_at s c.args.id in
-    let us = (leafs_at s c.args.id).uniques in
+    let f = list_tuple c.args.self.now.kind s c.args.id in
+    let us = uniques_at s c.args.id in
     let n = c.loop-number.number in
     let many : length us ≡ length c.uniques-leafs-items.result.now = sym (ap length c.uniques-leafs-items.ensures) ∙ length-map c.uniques-leafs-items.result.now _ in
     all_done c.loop-number.kept.items f us (map view c.args.earlier.now) d n (omega (arith, many, c.loop-number-test.false)) (c.loop-number.invariant.each d has).kept
@@ -88,8 +87,8 @@ returns-clause-kept c = λ d has.
 pub returns-clause-steps : goal.returns-clause-steps
 returns-clause-steps c = λ d has.
     let s = c.args.self.now.schema.now in
-    let f = tuple_at s c.args.id in
-    let us = (leafs_at s c.args.id).uniques in
+    let f = list_tuple c.args.self.now.kind s c.args.id in
+    let us = uniques_at s c.args.id in
     let n = c.loop-number.number in
     let many : length us ≡ length c.uniques-leafs-items.result.now = sym (ap length c.uniques-leafs-items.ensures) ∙ length-map c.uniques-leafs-items.result.now _ in
     let le : length us ≤ n = omega (arith, many, c.loop-number-test.false) in

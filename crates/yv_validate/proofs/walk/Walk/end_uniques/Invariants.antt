@@ -3,9 +3,8 @@ use Rattle.serde_json.specs.Data.{Data}
 use Rattle.serde_json.specs.View.{view}
 use Rattle.yv_values.specs.Count.{counted}
 use Rattle.yv_validate.specs.Faults.{unique_faults}
-use Rattle.yv_validate.specs.InnerNotes.{HasTuples}
+use Rattle.yv_validate.specs.InnerNotes.{HasTuples, list_tuple, uniques_at}
 use Rattle.yv_validate.specs.InnerTrail.{places}
-use Rattle.yv_validate.specs.InnerWalk.{leafs_at, tuple_at}
 use Rattle.yv_validate.specs.Work.{uniques_work}
 use Rattle.yv_validate.proofs.Each.{RemembersSome}
 use Rattle.yv_validate.proofs.walk.Walk.end_uniques.Given as goal
@@ -15,12 +14,12 @@ use Rattle.yv_validate.proofs.walk.Walk.end_uniques.Given as goal
 abbrev pub invariant-loop-number : goal.invariant-loop-number
 invariant-loop-number l =
     let s = l.self.schema.now in
-    let f = tuple_at s l.fn.id in
-    let us = (leafs_at s l.fn.id).uniques in
+    let f = list_tuple l.self.kind s l.fn.id in
+    let us = uniques_at s l.fn.id in
     let before = map view l.earlier in
     record {
       same : length l.kept.items ≡ length us;
-      each : (d : Data) → HasTuples s l.fn.id l.notes d → record {
+      each : (d : Data) → HasTuples l.self.kind s l.fn.id l.notes d → record {
         faults : l.faults.items ++ unique_faults f (places s l.here) (l.number + 1) (drop l.number us) before d ≡ l.initial.faults.items ++ unique_faults f (places s l.here) 1 us before d;
         kept : RemembersSome l.kept.items f us before d l.number;
         steps : counted (l.meter + uniques_work f (drop l.number us) d) ≡ counted (l.initial.meter + uniques_work f us d);

@@ -1,29 +1,73 @@
-use Rattle.std.proofs.Common.{◌≡◌, ◌++◌, List, true, is_some, map, sym, ap, ◌∙◌}
+use Rattle.std.proofs.Common.{◌≡◌, ◌+◌, ◌++◌, ◌∷◌, [], ℕ, List, Option, true, false, is_some, length, map, min, Some, sym, ap, ◌∙◌, subst}
+use Rattle.std.proofs.lemmas.List.{length-map}
 use Rattle.std.proofs.lemmas.Result.{on_ok_weaker}
 use Rattle.serde_json.specs.View.{view}
+use Rattle.yv_values.specs.Values.{Val}
 use Rattle.yv_nodes.specs.Rows.{row_at}
-use Rattle.yv_validate.specs.Faults.{flaw_if, item_tuple}
-use Rattle.yv_validate.specs.Flaw.{Flaw}
-use Rattle.yv_validate.specs.declared.fault.FaultKind.TheVariants.{Duplicate}
-use Rattle.yv_validate.specs.InnerTrail.{places}
-use Rattle.yv_validate.specs.Repeats.{repeats}
+use Rattle.yv_references.specs.Findings.{Finds}
 use Rattle.yv_references.specs.InUse.{value_of}
-use Rattle.yv_validate.proofs.Reading.{alone_is, item_told}
+use Rattle.yv_references.specs.Place.{Place, step_name}
+use Rattle.yv_validate.specs.declared.fault.FaultKind.TheVariants.{Duplicate, Value as Unread}
+use Rattle.yv_validate.specs.Faults.{flaw, flaw_if, item_tuple}
+use Rattle.yv_validate.specs.Flaw.{Flaw}
+use Rattle.yv_validate.specs.InnerTrail.{places}
+use Rattle.yv_validate.specs.InnerWalk.{spot_at, Told, told, value_found, written_at}
+use Rattle.yv_validate.specs.Repeats.{repeats}
+use Rattle.yv_validate.specs.Work.{tuple_work, value_work}
+use Rattle.yv_validate.proofs.Items.{read_told, unread_told, writes}
+use Rattle.yv_validate.proofs.Reading.{alone_is}
+use Rattle.yv_validate.proofs.Steps.{steps_both}
 use Rattle.yv_validate.proofs.walk.Walk.item.Goals as goal
 
-pub returns-clause-faults : goal.returns-clause-faults
-returns-clause-faults c =
+pub returns-clause-grows : goal.returns-clause-grows
+returns-clause-grows c =
+    let k = c.args.self.now.kind in
     let s = c.args.self.now.schema.now in
     let id = c.args.id in
     let l = (row_at s id).label in
-    let row = c.node-node.ensures.value in
     let before = map view c.args.earlier.now in
     let d = view c.args.item.now in
+    let old : Told = told c.args.progress.now in
     let is : c.in_ok-read.read ≡ value_of l d = c.in_ok-read.ensures.value in
     let has : is_some (value_of l d) ≡ true = sym (ap is_some is) ∙ sym c.is_some-is_read.ensures ∙ c.if-not-is_read.false in
-    let made : item_tuple l d ≡ c.in_ok-tuple.tuple = alone_is c.node-node.result.now (row_at s id) d c.config.result c.in_ok-read.read c.in_ok-tuple.tuple row c.config.ensures is c.in_ok-tuple.ensures in
+    let made : item_tuple l d ≡ c.in_ok-tuple.tuple = alone_is c.node-node.result.now (row_at s id) d c.config.result c.in_ok-read.read c.in_ok-tuple.tuple c.node-node.ensures.value c.config.ensures is c.in_ok-tuple.ensures in
     let repeated : c.in_ok-is_repeated.is_repeated ≡ repeats (item_tuple l) before d = c.in_ok-is_repeated.ensures.told.same (item_tuple l) before d c.requires.kept made in
-    let here = places s c.args.here.now in
+    let many : length c.args.earlier.now + 1 ≡ length before + 1 = ap (λ n. n + 1) (sym (length-map c.args.earlier.now view)) in
+    let here : ℕ → List Place = λ n. places s c.args.path.now ++ record { member = step_name l; item = Some n } ∷ [] in
+    let steps = steps_both old.steps c.read.new.progress.meter c.stood_before.new.meter (value_work l d) (tuple_work (item_tuple l d)) c.in_ok-read.ensures.steps
+    (c.in_ok-is_repeated.ensures.steps ∙ ap (λ (o : Option (List Val)). min (c.read.new.progress.meter + tuple_work o) 18446744073709551615) (sym made)) in
     on_ok_weaker c.tell_if.result
-    (λ told. item_told l here before d c.args.progress.now.faults.items c.tell_if.new.faults.items c.in_ok-is_repeated.is_repeated has repeated
-    (told ∙ ap (λ (fs : List Flaw). fs ++ flaw_if c.in_ok-is_repeated.is_repeated Duplicate here) c.read.ensures.faults)) c.tell_if.ensures
+    (λ h. λ outer entry.
+    let spot = spot_at s c.args.path.now c.args.position outer entry in
+    writes c.value_met.ensures k s id spot (Some before) d old c.tell_if.new.faults.items c.read.new.progress.found c.stood_before.new.meter
+    (read_told (written_at s id (Some before) d spot) old.faults c.tell_if.new.faults.items c.in_ok-is_repeated.is_repeated has repeated
+    (h ∙ ap (λ (fs : List Flaw). fs ++ flaw_if c.in_ok-is_repeated.is_repeated Duplicate (here (length c.args.earlier.now + 1))) c.read.ensures.faults
+    ∙ ap (λ n. old.faults ++ flaw_if c.in_ok-is_repeated.is_repeated Duplicate (here n)) many))
+    (subst (λ n. Finds old.found c.read.new.progress.found (value_found s id c.args.position (Some n) (value_of l d))) many c.in_ok-read.ensures.found) steps)
+    c.tell_if.ensures
+
+pub returns-then-not-is_read-clause-grows : goal.returns-then-not-is_read-clause-grows
+returns-then-not-is_read-clause-grows c =
+    let k = c.args.self.now.kind in
+    let s = c.args.self.now.schema.now in
+    let id = c.args.id in
+    let l = (row_at s id).label in
+    let before = map view c.args.earlier.now in
+    let d = view c.args.item.now in
+    let old : Told = told c.args.progress.now in
+    let is : c.in_ok-read.read ≡ value_of l d = c.in_ok-read.ensures.value in
+    let none : is_some (value_of l d) ≡ false = sym (ap is_some is) ∙ sym c.is_some-is_read.ensures ∙ c.if-not-is_read.true in
+    let made : item_tuple l d ≡ c.in_ok-tuple.tuple = alone_is c.node-node.result.now (row_at s id) d c.config.result c.in_ok-read.read c.in_ok-tuple.tuple c.node-node.ensures.value c.config.ensures is c.in_ok-tuple.ensures in
+    let many : length c.args.earlier.now + 1 ≡ length before + 1 = ap (λ n. n + 1) (sym (length-map c.args.earlier.now view)) in
+    let here : ℕ → List Place = λ n. places s c.args.path.now ++ record { member = step_name l; item = Some n } ∷ [] in
+    let steps = steps_both old.steps c.read.new.progress.meter c.stood_before.new.meter (value_work l d) (tuple_work (item_tuple l d)) c.in_ok-read.ensures.steps
+    (c.in_ok-is_repeated.ensures.steps ∙ ap (λ (o : Option (List Val)). min (c.read.new.progress.meter + tuple_work o) 18446744073709551615) (sym made)) in
+    on_ok_weaker c.tell.result
+    (λ h. λ outer entry.
+    let spot = spot_at s c.args.path.now c.args.position outer entry in
+    writes c.value_met.ensures k s id spot (Some before) d old c.tell.new.faults.items c.read.new.progress.found c.stood_before.new.meter
+    (unread_told (written_at s id (Some before) d spot) old.faults c.tell.new.faults.items none
+    (h ∙ ap (λ (fs : List Flaw). fs ++ flaw Unread (here (length c.args.earlier.now + 1)) ∷ []) c.read.ensures.faults
+    ∙ ap (λ n. old.faults ++ flaw Unread (here n) ∷ []) many))
+    (subst (λ n. Finds old.found c.read.new.progress.found (value_found s id c.args.position (Some n) (value_of l d))) many c.in_ok-read.ensures.found) steps)
+    c.tell.ensures

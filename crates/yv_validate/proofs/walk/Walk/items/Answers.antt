@@ -1,68 +1,57 @@
-use Rattle.std.proofs.Common.{◌≡◌, ◌+◌, ◌<◌, ◌≤◌, ◌∷◌, ◌++◌, [], List, Some, length, length-take-le, map, take, drop, slice_index_or, sym, ap, ◌∙◌, subst, arith}
+use Rattle.std.proofs.Common.{◌≡◌, ◌+◌, ◌<◌, ◌≤◌, ◌∷◌, ◌++◌, [], List, Some, length, map, take, drop, slice_index_or, sym, ap, ◌∙◌, subst, arith}
 use Rattle.std.proofs.lemmas.List.{drop_all}
 use Rattle.serde_json.specs.Data.{Data}
 use Rattle.serde_json.specs.View.{view, items_view}
 use Rattle.serde_json.specs.declared.value.Value.{Value}
 use Rattle.yv_nodes.specs.Rows.{row_at}
-use Rattle.yv_references.specs.Findings.{Findings}
-use Rattle.yv_references.specs.InUse.{value_of}
-use Rattle.yv_references.specs.Place.{Place, step_name}
-use Rattle.yv_validate.specs.Faults.{item_faults, item_place, item_tuple}
+use Rattle.yv_references.specs.Meetings.{Meeting, Spot, written}
+use Rattle.yv_validate.specs.Faults.{item_tuple}
 use Rattle.yv_validate.specs.InnerMemory.{Remembers}
-use Rattle.yv_validate.specs.InnerMet.{items_met, nothing, value_met}
-use Rattle.yv_validate.specs.InnerTrail.{places}
-use Rattle.yv_validate.specs.Work.{items_work, tuple_work, value_work}
-use Rattle.yv_validate.proofs.Found.{finds_as, items_nothing, items_on}
-use Rattle.yv_validate.proofs.Items.{each_step, here_is, items_left, one_more}
-use Rattle.yv_validate.proofs.Steps.{steps_on}
+use Rattle.yv_validate.specs.InnerWalk.{Grows, items_at, next_of, spot_at, Told, told, written_at}
+use Rattle.yv_validate.proofs.Grown.{grows_nothing, turn}
+use Rattle.yv_validate.proofs.Items.{items_split, one_more}
 use Rattle.yv_validate.proofs.walk.Walk.items.Goals as goal
 
 pub loop-index-preserved : goal.loop-index-preserved
 loop-index-preserved c =
+    let k = c.args.self.now.kind in
     let s = c.args.self.now.schema.now in
     let id = c.args.id in
     let l = (row_at s id).label in
-    let path = places s c.args.path.now in
     let xs = c.args.items.now.items in
     let i = c.loop-index.index in
     let x = c.item-item.result in
     let d : Data = view x in
     let done = map view (take i xs) in
-    let here : List Place = path ++ record { member = step_name l; item = Some (i + 1) } ∷ [] in
-    let old = c.loop-index.progress in
-    let new = c.item.new.progress in
+    let start : Told = told c.args.progress.now in
+    let old : Told = told c.loop-index.progress in
+    let new : Told = told c.item.new.progress in
     let lt : i < length xs = subst (λ (ys : List Value). i < length ys) c.deref-item-items.ensures.value (omega arith) in
-    let is : x ≡ slice_index_or xs i x = c.item-item.is ∙ ap (λ
-    (ys : List Value). slice_index_or ys i x) c.deref-item-items.ensures.value in
+    let is : x ≡ slice_index_or xs i x = c.item-item.is ∙ ap (λ (ys : List Value). slice_index_or ys i x) c.deref-item-items.ensures.value in
     let earlier : map view (take i c.deref.result.now) ≡ done = ap (λ (ys : List Value). map view (take i ys)) c.deref.ensures.value in
-    let many : length (take i c.deref.result.now) ≡ i = ap (λ (ys : List Value). length (take i ys)) c.deref.ensures.value
-    ∙ length-take-le i xs (omega (arith, lt)) in
     record {
-      faults = each_step (λ before e. item_faults l (item_place path l before) before e) xs i x old.faults.items new.faults.items lt is
-          (c.in_ok-item.ensures.faults ∙ ap (λ (ds : List Data). old.faults.items ++ item_faults l here ds d) earlier
-          ∙ ap (λ (p : List Place). old.faults.items ++ item_faults l p done d) (sym (here_is path l xs i lt)))
-          c.loop-index.invariant.faults;
-      kept = subst (Remembers c.item.new.kept (item_tuple l)) (ap (λ (ds : List Data). ds ++ d ∷ []) earlier ∙ sym
-          (one_more xs i x lt is)) c.in_ok-item.ensures.kept;
-      found = items_on c.met_behind.ensures s id l c.args.position xs i x old.found new.found c.args.progress.now.found _ lt is
-          (finds_as old.found new.found _ _ (ap (λ n. value_met s id c.args.position (Some (n + 1))
-          (value_of l d)) many) c.in_ok-item.ensures.found) c.loop-index.invariant.found;
-      steps = steps_on old.meter new.meter (value_work l d + tuple_work (item_tuple l d)) _ (items_work l (items_view (drop
-          (i + 1) xs))) _ c.in_ok-item.ensures.steps
-          (ap (items_work l) (items_left xs i x lt is)) c.loop-index.invariant.steps;
+      grows = λ outer entry y later.
+          let spot : Spot = spot_at s c.args.path.now c.args.position outer entry in
+          let one : List Data → List Meeting = λ ds. written (written_at s id (Some ds) d spot) ∷ [] in
+          turn c.met_behind.ensures k s start old new (one done) (items_at s id (map view (take (i + 1) xs)) (items_view (drop (i + 1) xs)) spot (next_of new))
+          (items_at s id done (items_view (drop i xs)) spot (next_of old)) (items_at s id [] (items_view xs) spot (next_of start))
+          (subst (λ (ds : List Data). Grows k s old new (one ds)) earlier (c.in_ok-item.ensures.grows outer entry))
+          (items_split s id spot (next_of old) xs i x lt is) (c.loop-index.invariant.grows outer entry) y later;
+      kept = subst (Remembers c.item.new.kept (item_tuple l)) (ap (λ (ds : List Data). ds ++ d ∷ []) earlier ∙ sym (one_more xs i x lt is)) c.in_ok-item.ensures.kept;
     }
 
-pub returns-clause-found : goal.returns-clause-found
-returns-clause-found c =
+pub returns : goal.returns
+returns c =
+    let k = c.args.self.now.kind in
     let s = c.args.self.now.schema.now in
     let id = c.args.id in
-    let l = (row_at s id).label in
     let xs = c.args.items.now.items in
     let i = c.loop-index.index in
-    let now : Findings = c.loop-index.progress.found in
-    let le : length xs ≤ i = subst (λ (ys : List Value). length ys ≤ i) c.deref-item-items.ensures.value (omega
-    (arith, c.loop-index-test.false)) in
-    c.loop-index.invariant.found now
-    (finds_as now now nothing _
-    (sym (ap (λ (ys : List Value). items_met s id l c.args.position (i + 1) (items_view ys)) (drop_all i xs le)
-    ∙ items_nothing s id l c.args.position (i + 1))) (c.nothing_met.ensures now))
+    let now : Told = told c.loop-index.progress in
+    let done = map view (take i xs) in
+    let le : length xs ≤ i = subst (λ (ys : List Value). length ys ≤ i) c.deref-item-items.ensures.value (omega (arith, c.loop-index-test.false)) in
+    record {
+      grows = λ outer entry. c.loop-index.invariant.grows outer entry now
+          (subst (λ (ys : List Value). Grows k s now now (items_at s id done (items_view ys) (spot_at s c.args.path.now c.args.position outer entry) (next_of now)))
+          (sym (drop_all i xs le)) (grows_nothing c.nothing_met.ensures k s now));
+    }

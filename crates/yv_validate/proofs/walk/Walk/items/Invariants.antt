@@ -1,31 +1,22 @@
-use Rattle.std.proofs.Common.{◌≡◌, ◌+◌, ◌++◌, [], map, take, drop}
+use Rattle.std.proofs.Common.{ℕ, List, [], map, take, drop}
 use Rattle.serde_json.specs.View.{view, items_view}
-use Rattle.yv_values.specs.Count.{counted}
 use Rattle.yv_nodes.specs.Rows.{row_at}
-use Rattle.yv_validate.specs.Faults.{each_after, item_faults, item_place, item_tuple}
-use Rattle.yv_references.specs.Findings.{Findings}
+use Rattle.yv_validate.specs.Faults.{item_tuple}
 use Rattle.yv_validate.specs.InnerMemory.{Remembers}
-use Rattle.yv_validate.specs.InnerMet.{Finds, items_met}
-use Rattle.yv_validate.specs.InnerTrail.{places}
-use Rattle.yv_validate.specs.Work.{items_work}
+use Rattle.yv_validate.specs.InnerWalk.{Grows, items_at, next_of, spot_at, Told, told}
 use Rattle.yv_validate.proofs.walk.Walk.items.Given as goal
 
--- with those of the items that are left, the faults and the steps are those of all items; the index knows those that are done
+-- what is met at the items that are left leads to what is met at all; the index knows those that are done
 abbrev pub invariant-loop-index : goal.invariant-loop-index
 invariant-loop-index l =
+    let k = l.self.kind in
     let s = l.self.schema.now in
-    let r = (row_at s l.id).label in
-    let path = places s l.path in
     let done = map view (take l.index l.items.items) in
+    let left = items_view (drop l.index l.items.items) in
     record {
-      faults : l.progress.faults.items ++ each_after (λ before d. item_faults r (item_place path r before) before d) done (items_view
-          (drop l.index l.items.items))
-          ≡ l.initial.progress.faults.items ++ each_after (λ before d. item_faults r (item_place path r before) before d) []
-          (items_view l.items.items);
-      kept : Remembers l.kept (item_tuple r) done;
-      found : (x : Findings) → Finds l.progress.found x (items_met s l.fn.id r l.fn.position (l.index + 1) (items_view
-          (drop l.index l.items.items)))
-          → Finds l.initial.progress.found x (items_met s l.fn.id r l.fn.position 1 (items_view l.items.items));
-      steps : counted (l.progress.meter + items_work r (items_view (drop l.index l.items.items))) ≡ counted
-          (l.initial.progress.meter + items_work r (items_view l.items.items));
+      grows : (outer : List ℕ) (entry : ℕ) (x : Told)
+          → Grows k s (told l.progress) x (items_at s l.fn.id done left (spot_at s l.path l.fn.position outer entry) (next_of (told l.progress)))
+          → Grows k s (told l.initial.progress) x
+          (items_at s l.fn.id [] (items_view l.items.items) (spot_at s l.path l.fn.position outer entry) (next_of (told l.initial.progress)));
+      kept : Remembers l.kept (item_tuple (row_at s l.id).label) done;
     }

@@ -1,19 +1,19 @@
 -- Where the values are that a walk meets: in which objects, by the numbers of these.
-use Rattle.std.proofs.Common.{◌≡◌, ℕ, ◌+◌, ◌<◌, ◌≤◌, ◌⊎◌, inl, inr, List, [], ◌∷◌, ◌++◌, Bool, true, false, ◌==◌, ◌&&◌, ◌||◌, nat_le, Option, Some, None, refl, sym, ap, subst, ◌∙◌, arith}
+use Rattle.std.proofs.Common.{◌≡◌, ℕ, ◌+◌, ◌<◌, ◌≤◌, ◌⊎◌, inl, inr, List, [], ◌∷◌, ◌++◌, Bool, true, false, ◌==◌, ◌&&◌, ◌||◌, nat_le, Option, refl, sym, ap, subst, ◌∙◌, arith}
 use Rattle.std.proofs.lemmas.Bool.Decides.{nat_tests}
 use Rattle.std.proofs.lemmas.Grind.{flat_map-append}
 use Rattle.std.proofs.lemmas.List.Sums.{sum_by-append, sum_by-cons}
 use Rattle.std.specs.List.{AllByRecursion, flat_map}
 use Rattle.serde_json.specs.Data.{Data, null, boolean, number, string, array, object, Members}
 use Rattle.yv_values.specs.Values.{Val}
-use Rattle.yv_nodes.specs.Rows.{Rows, row_at}
+use Rattle.yv_nodes.specs.Rows.{Rows}
 use Rattle.yv_nodes.specs.Tree.{Forest, Label}
 use Rattle.yv_nodes.specs.declared.node.NodeId.{NodeId}
-use Rattle.yv_meetings.specs.Meetings.{at, entered, entered_at, in_no_object, is_entered, Meeting, stand, written, ending, met, Spot, Stand}
-use Rattle.yv_meetings.specs.Values.{Valued, valued, values_at, values_in}
-use Rattle.yv_meetings.specs.Findings.{first_of}
-use Rattle.yv_meetings.specs.References.{is_in}
-use Rattle.yv_meetings.proofs.Walked.{AreUnwritten, Closed, entered_stand, IsPlain}
+use Rattle.yv_references.specs.Meetings.{at, entered, entered_at, in_no_object, is_entered, Meeting, stand, written, ending, met, Spot, Stand}
+use Rattle.yv_references.specs.Values.{Valued, valued, values_at, values_in}
+use Rattle.yv_references.specs.Findings.{first_of}
+use Rattle.yv_references.specs.References.{is_in}
+use Rattle.yv_references.proofs.Walked.{Closed, entered_stand, IsPlain}
 
 -- ---- lists
 

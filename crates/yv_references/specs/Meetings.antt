@@ -1,20 +1,20 @@
 -- What a validation meets in a document, by the tree of its schema and in order (RFC 7950, sections 7.5 to 7.11): one list, from which the
 -- faults, the references, the values of leafs and the steps are each read.
-use Rattle.std.specs.Prelude.{ℕ, ◌+◌, List, [], ◌∷◌, ◌++◌, length, Bool, true, false, Option, Some, None, if◌then◌else◌}
+use Rattle.std.specs.Prelude.{ℕ, ◌+◌, ◌&&◌, not, List, [], ◌∷◌, ◌++◌, length, Bool, Option, Some, None, is_some, if◌then◌else◌}
 use Rattle.std.specs.List.{sum_by}
-use Rattle.std.specs.Option.{option_map}
 use Rattle.serde_json.specs.Data.{Data, array, object, Items, no_items, item, Members, no_members}
 use Rattle.serde_json.specs.Find.{get_member}
-use Rattle.yv_properties.specs.Kinds.{is_operation}
+use Rattle.yv_properties.specs.Kinds.{is_data, is_operation}
 use Rattle.yv_properties.specs.declared.kind.NodeKind.{NodeKind}
 use Rattle.yv_properties.specs.declared.kind.NodeKind.TheVariants as kind
 use Rattle.yv_nodes.specs.declared.node.NodeId.{NodeId}
 use Rattle.yv_nodes.specs.Rows.{Rows, root, whole}
 use Rattle.yv_nodes.specs.Tree.{count, Label, Tree, node, Forest, no_trees, tree}
+use Rattle.yv_references.specs.Place.{Place, step_name}
+use Rattle.yv_selection.specs.declared.kind.Kind.{Kind}
 use Rattle.yv_references.specs.declared.scope.Scope.{Scope}
 use Rattle.yv_references.specs.declared.scope.Scope.TheVariants.{Always}
-use Rattle.yv_references.specs.InUse.{case_scope}
-use Rattle.yv_references.specs.Place.{Place, step_name}
+use Rattle.yv_references.specs.InUse.{case_scope, is_asked, scope_in}
 
 -- where something is met: the path of the node above it, and the numbers of the objects around it, from the closest on; of these `entry` is
 -- the closest that is an entry of a list, or the document
@@ -26,6 +26,8 @@ pub record Spot : Type 0 where
 -- the path of a node that is met there, with its number from 1 where it is an entry or an item
 abbrev pub at : Spot → Label → Option ℕ → List Place
 at spot l number = spot.path ++ record { member = step_name l; item = number } ∷ []
+
+-- ---- what may be met
 
 -- what is written where an object is to be: the document, a container or an entry, with its number from 1 where it is an entry; what is in
 -- it is met at this spot, by these trees, and the objects in it have the numbers up to `last`
@@ -69,7 +71,11 @@ pub data Meeting : Type 0 where
   ending : Ending → Meeting
   met : Node → Meeting
 
--- the objects that are entered
+-- what is written for a node in the object that it is in
+abbrev pub found_of : Node → Option Data
+found_of m = get_member m.label.member m.members
+
+-- how many objects are entered
 abbrev pub is_entered : Data → ℕ
 is_entered (object ms) = 1
 is_entered _ = 0
@@ -81,16 +87,15 @@ entered_at _ = 0
 abbrev pub entered : List Meeting → ℕ
 entered ms = sum_by entered_at ms
 
--- what is below a node: `inside` is in an object of its own, or of none, at a spot, where the next object has this number, and in a scope; in
--- the object around it are `cases`, where it is a choice, and `nodes`, where it is a case
+-- ---- an object, and what is in it
+
+-- what is below a node: `inside` is in an object of its own, or in none, at a spot, where the next object has this number, and in a scope;
+-- in the object around it are `cases`, where it is a choice, and `nodes`, where it is a case
 pub record Below : Type 0 where
   pub inside : Spot → ℕ → Scope → Members → List Meeting
   pub cases : List Meeting
   pub nodes : List Meeting
 
--- ---- an object, and what is in it
-
--- the spot of what is in a container, in the object of the next number, or in none
 abbrev pub in_container : Spot → ℕ → Label → Spot
 in_container spot next l = record { path = at spot l None; around = next ∷ spot.around; entry = spot.entry }
 
@@ -152,37 +157,42 @@ kind_met kind.Choice n l kids spot scope next found below = below.cases
 kind_met kind.Case n l kids spot scope next found below = below.nodes
 kind_met _ n l kids spot scope next found below = []
 
+-- state is written where configuration alone is asked for: it isn't entered
+abbrev pub is_left : NodeKind → Scope → Option Data → Bool
+is_left k scope found = is_data k && not (is_asked scope) && is_some found
+
 -- a node after what is below it; operations, notifications and what is in them are in no document
 abbrev pub node_met : NodeId → Label → Forest → Spot → Scope → ℕ → Members → Below → List Meeting
 node_met n l kids spot scope next ms below =
     if is_operation l.defined.kind then []
-    else kind_met l.defined.kind n l kids spot scope next (get_member l.member ms) below
+    else (if is_left l.defined.kind scope (get_member l.member ms) then []
+    else kind_met l.defined.kind n l kids spot scope next (get_member l.member ms) below)
     ++ met (record { node = n; label = l; spot = spot; scope = scope; members = ms; kids = kids }) ∷ []
 
 -- ---- all nodes
 
 -- what is met by these trees in an object with these members: the first node has the number `first`, each tree its scope, and the next
 -- object the number `next`
-abbrev pub meetings : Rows → (ℕ → Tree → Scope) → Spot → (next first : ℕ) → Forest → Members → List Meeting
-meetings s scope_of spot next first no_trees ms = []
-meetings s scope_of spot next first (tree (node l kids) ts) ms =
+abbrev pub meetings : Kind → Rows → (ℕ → Tree → Scope) → Spot → (next first : ℕ) → Forest → Members → List Meeting
+meetings k s scope_of spot next first no_trees ms = []
+meetings k s scope_of spot next first (tree (node l kids) ts) ms =
     let n : NodeId = record { 0 = first } in
-    let scope : Scope = scope_of first (node l kids) in
+    let scope : Scope = scope_in k l.is_config (scope_of first (node l kids)) in
     let here : List Meeting = node_met n l kids spot scope next ms (record {
-      inside = λ at from inner ds. meetings s (λ m t. inner) at from (first + 1) kids ds;
-      cases = meetings s (case_scope s n (first + 1) kids ms) spot next (first + 1) kids ms;
-      nodes = meetings s (λ m t. scope) spot next (first + 1) kids ms;
+      inside = λ at from inner ds. meetings k s (λ m t. inner) at from (first + 1) kids ds;
+      cases = meetings k s (case_scope s n (first + 1) kids ms) spot next (first + 1) kids ms;
+      nodes = meetings k s (λ m t. scope) spot next (first + 1) kids ms;
     }) in
-    here ++ meetings s scope_of spot (next + entered here) (first + 1 + count kids) ts ms
+    here ++ meetings k s scope_of spot (next + entered here) (first + 1 + count kids) ts ms
 
 -- the document, which has the number 0
 abbrev pub top : Spot
 top = record { path = []; around = 0 ∷ []; entry = 0 }
 
 -- what is met in a whole document
-abbrev pub all_met : Rows → Data → List Meeting
-all_met s d = object_met root None (whole s) top 0 d (record {
-  inside = λ spot next scope ms. meetings s (λ m t. scope) spot next 0 (whole s) ms;
+abbrev pub all_met : Kind → Rows → Data → List Meeting
+all_met k s d = object_met root None (whole s) top 0 d (record {
+  inside = λ spot next scope ms. meetings k s (λ m t. scope) spot next 0 (whole s) ms;
   cases = [];
   nodes = [];
 })

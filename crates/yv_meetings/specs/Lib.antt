@@ -1,6 +1,0 @@
-pub mod Meetings
-pub mod Values
-pub mod Faults
-pub mod Work
-pub mod References
-pub mod Findings

@@ -1,0 +1,28 @@
+-- The values that leafs and leaf-lists have in a document: those that were read, and defaults in use (RFC 7950, section 7.6.1).
+use Rattle.std.specs.Prelude.{ℕ, List, [], map}
+use Rattle.std.specs.List.{flat_map}
+use Rattle.yv_properties.specs.declared.kind.NodeKind.{NodeKind}
+use Rattle.yv_values.specs.Values.{Val}
+use Rattle.yv_nodes.specs.Tree.{Label}
+use Rattle.yv_nodes.specs.declared.node.NodeId.{NodeId}
+use Rattle.yv_references.specs.InUse.{in_use, some_value, value_of}
+use Rattle.yv_references.specs.Meetings.{found_of, Meeting, written, met, Spot}
+
+-- a value that a leaf or leaf-list has, and where it has it
+pub record Valued : Type 0 where
+  pub node : ℕ
+  pub kind : NodeKind
+  pub value : Val
+  pub spot : Spot
+
+abbrev pub valued : NodeId → Label → Spot → List Val → List Valued
+valued n l spot vs = map (λ v. record { node = n.0; kind = l.defined.kind; value = v; spot = spot }) vs
+
+abbrev pub values_at : Meeting → List Valued
+values_at (written m) = valued m.node m.label m.spot (some_value (value_of m.label m.found))
+values_at (met m) = valued m.node m.label m.spot (in_use m.label.defined.kind m.label m.scope (found_of m))
+values_at _ = []
+
+-- all values
+abbrev pub values_in : List Meeting → List Valued
+values_in ms = flat_map values_at ms
