@@ -4,12 +4,14 @@ ghost use Rattle.yv_outcome.specs.Status.{exit_of};
 ghost use Rattle.yv_job.specs.Jobs.{HasFiles, HasLimit};
 ghost use Rattle.yv_streams.specs.Files.{file_of};
 
+use std::alloc::{AllocError, Global};
 use std::fmt::Display;
 use std::fs::File;
 use std::io::{ErrorKind, Read};
 use std::rt::{Env, Files};
 use std::{env, io};
 use yv_job::{Command, Job, JobFault, read_job};
+use yv_messages::push_shown;
 use yv_outcome::Status;
 use yv_run::{Ended, run_with_note};
 use yv_streams::{Counted, Input, InputFault, read_input};
@@ -28,30 +30,49 @@ pub fn program<R: Env + Files + io::Input + Print + Eprint + AllocGlobal>(rt: &R
             let ended = done(rt, &job);
             explained(rt, &ended)
         }
-        Err(JobFault::Help(text)) => {
-            let _ = rt.print(text.as_str());
-            0
-        }
+        Err(JobFault::Help(text)) => helped(rt, text.as_str()),
         Err(JobFault::Usage(text)) => refused(rt, text.as_str()),
         Err(JobFault::NoMemory) => told(rt, Status::NoMemory),
     }
 }
 
 // Says why the words can't be read: there was no memory, or one isn't UTF-8.
-fn without_words<R: Eprint>(rt: &R, kind: ErrorKind) -> u8 {
+fn without_words<R: Eprint + AllocGlobal>(rt: &R, kind: ErrorKind) -> u8 {
     if kind == ErrorKind::OutOfMemory {
         told(rt, Status::NoMemory)
     } else {
-        refused(rt, "yangcheck: usage\n")
+        refused(rt, "yangcheck: usage\nan argument is not UTF-8\n")
     }
 }
 
-// Prints a refusal of the command line.
-fn refused<R: Eprint>(rt: &R, text: &str) -> u8
+// Prints a help text, and answers the exit status.
+fn helped<R: Print + Eprint>(rt: &R, text: &str) -> u8 {
+    match rt.print(text) {
+        Ok(()) => 0,
+        Err(_) => told(rt, Status::WriteFault),
+    }
+}
+
+// Prints a refusal of the command line. It may repeat words of the command line, so nothing of it may drive a terminal.
+fn refused<R: Eprint + AllocGlobal>(rt: &R, text: &str) -> u8
     ensures { result ≡ 2 }
 {
-    let _ = rt.eprint(text);
+    if let Ok(shown) = shown_lines(rt.alloc(), text) {
+        let _ = rt.eprint(shown.as_str());
+    }
     2
+}
+
+// A text of several lines in which nothing but line feeds, blanks and visible ASCII characters is left.
+fn shown_lines(alloc: Global, text: &str) -> Result<String, AllocError> {
+    let mut shown = String::new(alloc);
+    for (number, line) in text.split('\n').enumerate() {
+        if number > 0 {
+            shown.push('\n')?;
+        }
+        push_shown(&mut shown, line.as_bytes())?;
+    }
+    Ok(shown)
 }
 
 // Prints what stopped a run, and answers the exit status.
@@ -96,15 +117,27 @@ fn without_memory() -> Ended {
 
 // A run that is stopped by a file that can't be opened or read, with the file's name and the system's reason.
 fn unread<R: AllocGlobal, D: Display + Drop>(rt: &R, name: &str, reason: D) -> Ended {
-    let note = format!(in rt.alloc(); "{name}: {reason}\n");
     Ended {
         status: Status::ReadFault,
-        note: note.ok(),
+        note: unread_note(rt.alloc(), name, reason).ok(),
     }
 }
 
+// The name of a file as a terminal may show it, and why it can't be read.
+fn unread_note<D: Display + Drop>(
+    alloc: Global,
+    name: &str,
+    reason: D,
+) -> Result<String, AllocError> {
+    let mut note = String::new(alloc);
+    push_shown(&mut note, name.as_bytes())?;
+    let reason = format!(in alloc; ": {reason}\n")?;
+    note.push_str(reason.as_str())?;
+    Ok(note)
+}
+
 // What is said of a file that was opened, and whose reading fails.
-const UNREADABLE: &str = "reading failed; is it a directory?";
+const UNREADABLE: &str = "it was opened, but reading it failed; is it a directory?";
 
 // Runs the job over its files, and over the document where it names one.
 fn ran<R: Files + io::Input + Print + AllocGlobal>(rt: &R, job: &Job, inputs: &[Input]) -> Ended
@@ -113,10 +146,12 @@ fn ran<R: Files + io::Input + Print + AllocGlobal>(rt: &R, job: &Job, inputs: &[
     requires each { length inputs.now ≡ length job.now.files.items }
 {
     match &job.command {
-        Command::Validate(file) if file.as_str() == "-" => run_over(rt, job, inputs, rt.reader()),
+        Command::Validate(file) if file.as_str() == "-" => {
+            over_document(rt, "standard input", run_over(rt, job, inputs, rt.reader()))
+        }
         Command::Validate(file) => match File::open(rt, file.as_str()) {
             Ok(data) => over_document(rt, file.as_str(), run_over(rt, job, inputs, data)),
-            Err(error) => unread(rt, file.as_str(), error.kind()),
+            Err(error) => unread(rt, file.as_str(), error),
         },
         Command::Compile | Command::Tree(_) => run_over(rt, job, inputs, io::empty()),
     }
@@ -175,6 +210,6 @@ fn opened<R: Files + AllocGlobal>(rt: &R, name: &str) -> Result<Input, Ended>
                 Err(InputFault::NoMemory) => Err(without_memory()),
             }
         }
-        Err(error) => Err(unread(rt, name, error.kind())),
+        Err(error) => Err(unread(rt, name, error)),
     }
 }

@@ -10,6 +10,9 @@ use yv_validate::MemberName;
 use yv_values::Meter;
 use yv_walk::Context;
 
+/// How many members an object has whose cases are looked for.
+const MOST_MEMBERS: usize = 1000;
+
 /// Adds that one of the cases of a choice must be there.
 pub(crate) fn push_missing_choice(
     alloc: Global,
@@ -19,7 +22,7 @@ pub(crate) fn push_missing_choice(
     name: &MemberName<'_>,
 ) -> Result<(), AllocError> {
     let choice = choice_of(alloc, schema, spot.around, name)?;
-    text.push_str("write a node of one of its cases: ")?;
+    text.push_str("a node of one of its cases is missing: ")?;
     push_names(text, schema, children_at(schema, choice))
 }
 
@@ -31,9 +34,12 @@ pub(crate) fn push_choice(
     spot: &Spot<'_>,
     name: &MemberName<'_>,
 ) -> Result<(), AllocError> {
-    text.push_str("leave all but one of its cases out: ")?;
+    text.push_str("only one of its cases can be there, and there are ")?;
     let choice = choice_of(alloc, schema, spot.around, name)?;
     let cases = existing(alloc, schema, spot, choice)?;
+    if cases.is_empty() {
+        return text.push_str("nodes of several");
+    }
     push_names(text, schema, &cases)
 }
 
@@ -46,7 +52,8 @@ fn existing(
 ) -> Result<Vec<NodeId>, AllocError> {
     let around = spot.around.unwrap_or(Schema::ROOT);
     match spot.object {
-        Some(Value::Object(members)) if has_children(schema, around) => {
+        Some(Value::Object(members))
+            if has_children(schema, around) && members.len() <= MOST_MEMBERS => {
             let context = Context::read(alloc, schema, &mut Meter::new(), around, members)?;
             standing(alloc, schema, &context, choice)
         }

@@ -2,135 +2,115 @@
 use crate::spot::{member_of, node_at};
 use serde_json::Value;
 use std::alloc::{AllocError, Global};
-use yv_nodes::{Node, NodeId};
+use yv_nodes::NodeId;
 use yv_tables::Schema;
-use yv_values::{Index, Meter, Tuple, check};
 
-/// How many earlier entries are looked at.
-const MOST_ENTRIES: usize = 100_000;
+/// How many entries are compared for all sentences together.
+const MOST_ENTRIES: u32 = 200_000;
 
-/// A part of what makes entries differ: the leaf, and the member that writes it in an entry; none where an item is the value itself.
+/// How many entries can still be compared. It bounds the time of all sentences, whatever the document is.
 #[derive(Drop)]
-pub(crate) struct Column<'s> {
-    node: &'s Node,
-    member: Option<String>,
+pub(crate) struct Budget {
+    entries: u32,
 }
 
-/// The column of the items of a leaf-list.
-pub(crate) fn item_column<'s>(
-    alloc: Global,
-    node: &'s Node,
-) -> Result<Vec<Column<'s>>, AllocError> {
-    let mut columns = Vec::new(alloc);
-    columns.push(Column { node, member: None })?;
-    Ok(columns)
-}
+impl Budget {
+    pub(crate) fn new() -> Budget {
+        Budget {
+            entries: MOST_ENTRIES,
+        }
+    }
 
-/// The columns of these leafs of a list; none, where one of them is deeper.
-pub(crate) fn columns<'s>(
-    alloc: Global,
-    schema: &'s Schema,
-    list: NodeId,
-    leafs: &[NodeId],
-) -> Result<Vec<Column<'s>>, AllocError> {
-    let mut columns = Vec::new(alloc);
-    for leaf in leafs {
-        match node_at(schema, Some(*leaf)) {
-            Some(node) if node.parent() == list => {
-                let member = Some(node.member(alloc)?);
-                columns.push(Column { node, member })?;
+    // Whether one more entry can be compared.
+    fn spend(&mut self) -> bool {
+        match self.entries.checked_sub(1) {
+            Some(left) => {
+                self.entries = left;
+                true
             }
-            _ => return Ok(Vec::new(alloc)),
+            None => false,
         }
     }
-    Ok(columns)
 }
 
-/// The number from 1 of the first of these entries that has the same values in these columns as the one of this number. None where an
-/// entry lacks one of them, and where there are more than 100,000 in front.
-pub(crate) fn first_same(
-    alloc: Global,
-    columns: &[Column<'_>],
-    entries: &[Value],
-    number: u64,
-) -> Result<Option<usize>, AllocError> {
-    let index = usize::try_from(number.saturating_sub(1)).unwrap_or(usize::MAX);
-    let Some(entry) = entries.get(index) else {
-        return Ok(None);
-    };
-    match tuple_of(alloc, columns, entry)? {
-        Some(tuple) => first_with(alloc, columns, entries, index, tuple),
-        None => Ok(None),
+/// What makes entries differ: the members that write some leafs in an entry, or nothing if an item is the value itself.
+#[derive(Drop)]
+pub(crate) struct Columns {
+    members: Vec<String>,
+}
+
+impl Columns {
+    /// The column of the items of a leaf-list.
+    pub(crate) fn of_items(alloc: Global) -> Columns {
+        Columns {
+            members: Vec::new(alloc),
+        }
     }
-}
 
-// The number from 1 of the first of these entries, before the one behind so many, that has these values.
-fn first_with(
-    alloc: Global,
-    columns: &[Column<'_>],
-    entries: &[Value],
-    index: usize,
-    tuple: Tuple,
-) -> Result<Option<usize>, AllocError> {
-    let mut kept = Index::new(alloc);
-    kept.keep(tuple, 0)?;
-    for (place, entry) in entries.iter().enumerate() {
-        if place >= index || place >= MOST_ENTRIES {
+    /// The columns of these leafs of a list. None if one of them is deeper.
+    pub(crate) fn of_leafs(
+        alloc: Global,
+        schema: &Schema,
+        list: NodeId,
+        leafs: &[NodeId],
+    ) -> Result<Option<Columns>, AllocError> {
+        let mut members = Vec::new(alloc);
+        for leaf in leafs {
+            match node_at(schema, Some(*leaf)) {
+                Some(node) if node.parent() == list => members.push(node.member(alloc)?)?,
+                _ => return Ok(None),
+            }
+        }
+        if members.is_empty() {
             return Ok(None);
         }
-        if is_kept(alloc, columns, entry, &kept)? {
-            return Ok(Some(place.saturating_add(1)));
+        Ok(Some(Columns { members }))
+    }
+
+    // Whether two entries write the same in each column.
+    fn are_same(&self, one: &Value, other: &Value) -> bool {
+        if self.members.is_empty() {
+            return is_same(one, other);
         }
-    }
-    Ok(None)
-}
-
-// Whether an entry has values that were kept.
-fn is_kept(
-    alloc: Global,
-    columns: &[Column<'_>],
-    entry: &Value,
-    kept: &Index,
-) -> Result<bool, AllocError> {
-    match tuple_of(alloc, columns, entry)? {
-        Some(tuple) => Ok(kept.within(&mut Meter::new(), &tuple, 0, 0)),
-        None => Ok(false),
-    }
-}
-
-// The values of an entry, where it has all of them and there are some.
-fn tuple_of(
-    alloc: Global,
-    columns: &[Column<'_>],
-    entry: &Value,
-) -> Result<Option<Tuple>, AllocError> {
-    if columns.is_empty() {
-        return Ok(None);
-    }
-    let mut tuple = Tuple::new(alloc);
-    for column in columns {
-        let Some(written) = written_at(column, entry) else {
-            return Ok(None);
-        };
-        let node = column.node;
-        match check(
-            alloc,
-            &mut Meter::new(),
-            node.types(),
-            node.module(),
-            written,
-        )? {
-            Some(value) => tuple.push(value)?,
-            None => return Ok(None),
+        for member in self.members.iter() {
+            let written = member_of(Some(one), member.as_str());
+            match (written, member_of(Some(other), member.as_str())) {
+                (Some(one), Some(other)) if is_same(one, other) => {}
+                _ => return false,
+            }
         }
+        true
     }
-    Ok(Some(tuple))
+
+    /// The number from 1 of the first of these entries that writes the same as the one of this number. None if none of those before it
+    /// does, as far as they can be compared.
+    pub(crate) fn first_same(
+        &self,
+        budget: &mut Budget,
+        entries: &[Value],
+        number: u64,
+    ) -> Option<usize> {
+        let index = usize::try_from(number.saturating_sub(1)).ok()?;
+        let entry = entries.get(index)?;
+        for (place, earlier) in entries.iter().enumerate() {
+            if place >= index || !budget.spend() {
+                return None;
+            }
+            if self.are_same(earlier, entry) {
+                return Some(place.saturating_add(1));
+            }
+        }
+        None
+    }
 }
 
-// What an entry writes in a column.
-fn written_at<'d>(column: &Column<'_>, entry: &'d Value) -> Option<&'d Value> {
-    match &column.member {
-        Some(member) => member_of(Some(entry), member.as_str()),
-        None => Some(entry),
+// Whether two values of leafs are written in the same way.
+fn is_same(one: &Value, other: &Value) -> bool {
+    match (one, other) {
+        (Value::String(one), Value::String(other)) => one.as_str() == other.as_str(),
+        (Value::Number(one), Value::Number(other)) => one == other,
+        (Value::Bool(one), Value::Bool(other)) => one == other,
+        (Value::Null, Value::Null) => true,
+        _ => false,
     }
 }

@@ -1,10 +1,10 @@
 //! What is said of entries and items that repeat earlier ones.
-use crate::earlier::{Column, columns, first_same, item_column};
+use crate::earlier::{Budget, Columns};
 use crate::spot::{Spot, items_of, node_at};
 use crate::words::push_names;
 use itoa::Buffer;
 use std::alloc::{AllocError, Global};
-use yv_nodes::{Node, NodeId};
+use yv_nodes::NodeId;
 use yv_properties::NodeKind;
 use yv_tables::Schema;
 
@@ -12,49 +12,35 @@ use yv_tables::Schema;
 pub(crate) fn push_duplicate(
     alloc: Global,
     text: &mut String,
+    budget: &mut Budget,
     schema: &Schema,
     spot: &Spot<'_>,
 ) -> Result<(), AllocError> {
     match node_at(schema, spot.node) {
         Some(node) if !matches!(node.kind(), NodeKind::List) => {
-            push_item(alloc, text, node, spot)
+            let columns = Some(Columns::of_items(alloc));
+            push_earlier(text, budget, "item", &columns, spot)?;
+            text.push_str(" has the same value; remove one of them")
         }
-        _ => push_entry(alloc, text, schema, spot),
+        _ => {
+            let keys = keys_at(schema, spot.node);
+            push_entry_with(alloc, text, budget, schema, spot, keys)?;
+            text.push_str(" has the same key; remove one of them, or change its key")
+        }
     }
-}
-
-fn push_item(
-    alloc: Global,
-    text: &mut String,
-    node: &Node,
-    spot: &Spot<'_>,
-) -> Result<(), AllocError> {
-    let column = item_column(alloc, node)?;
-    push_earlier(alloc, text, "item", &column, spot)?;
-    text.push_str(" has the same value; leave one of them out")
-}
-
-fn push_entry(
-    alloc: Global,
-    text: &mut String,
-    schema: &Schema,
-    spot: &Spot<'_>,
-) -> Result<(), AllocError> {
-    let keys = keys_at(schema, spot.node);
-    push_entry_with(alloc, text, schema, spot, keys)?;
-    text.push_str(" has the same keys; leave one of them out, or give it others")
 }
 
 /// Adds which earlier entry has the values of this one for the `unique` statement of this number, from 1.
 pub(crate) fn push_unique(
     alloc: Global,
     text: &mut String,
+    budget: &mut Budget,
     schema: &Schema,
     spot: &Spot<'_>,
     number: u32,
 ) -> Result<(), AllocError> {
     let leafs = unique_at(schema, spot.node, number);
-    push_entry_with(alloc, text, schema, spot, leafs)?;
+    push_entry_with(alloc, text, budget, schema, spot, leafs)?;
     text.push_str(" has the same ")?;
     push_names(text, schema, leafs)?;
     text.push_str("; change one of them")
@@ -68,9 +54,9 @@ pub(crate) fn push_keys(
 ) -> Result<(), AllocError> {
     let keys = keys_at(schema, list);
     if keys.len() == 1 {
-        text.push_str("write it: each entry has the key ")?;
+        text.push_str("it is missing: each entry needs the key ")?;
     } else {
-        text.push_str("write it: each entry has the keys ")?;
+        text.push_str("it is missing: each entry needs the keys ")?;
     }
     push_names(text, schema, keys)
 }
@@ -79,25 +65,30 @@ pub(crate) fn push_keys(
 fn push_entry_with(
     alloc: Global,
     text: &mut String,
+    budget: &mut Budget,
     schema: &Schema,
     spot: &Spot<'_>,
     leafs: &[NodeId],
 ) -> Result<(), AllocError> {
     let list = spot.node.unwrap_or(Schema::ROOT);
-    let columns = columns(alloc, schema, list, leafs)?;
-    push_earlier(alloc, text, "entry", &columns, spot)
+    let columns = Columns::of_leafs(alloc, schema, list, leafs)?;
+    push_earlier(text, budget, "entry", &columns, spot)
 }
 
 // Adds which earlier entry or item it is.
 fn push_earlier(
-    alloc: Global,
     text: &mut String,
+    budget: &mut Budget,
     word: &str,
-    columns: &[Column<'_>],
+    columns: &Option<Columns>,
     spot: &Spot<'_>,
 ) -> Result<(), AllocError> {
     let items = items_of(spot.written);
-    match first_same(alloc, columns, items, spot.item.unwrap_or(0))? {
+    let earlier = match columns {
+        Some(columns) => columns.first_same(budget, items, spot.item.unwrap_or(0)),
+        None => None,
+    };
+    match earlier {
         Some(number) => {
             text.push_str(word)?;
             text.push_str(" ")?;

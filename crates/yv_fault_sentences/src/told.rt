@@ -1,5 +1,6 @@
 //! What is said of a fault.
 use crate::choices::{push_choice, push_missing_choice};
+use crate::earlier::Budget;
 use crate::front::left_out;
 use crate::repeated::{push_duplicate, push_keys, push_unique};
 use crate::spot::{Spot, items_of, node_at};
@@ -15,11 +16,15 @@ use yv_properties::NodeKind;
 use yv_tables::Schema;
 use yv_validate::{Fault, FaultKind, MemberName};
 
+const STATE: &str =
+    "this is state data, and a configuration has none; leave it out, or validate with --kind data";
+
 /// What is wrong at a fault, and what to do.
 pub(crate) fn told(
     alloc: Global,
     schema: &Schema,
     document: &Value,
+    budget: &mut Budget,
     fault: &Fault,
 ) -> Result<String, AllocError> {
     let path = fault.path.as_slice();
@@ -32,9 +37,9 @@ pub(crate) fn told(
                 push_quoted(&mut text, name.name)?;
                 text.push_str(": ")?;
             }
-            push_told(alloc, &mut text, schema, &spot, &name, fault)?;
+            push_told(alloc, &mut text, budget, schema, &spot, &name, fault)?;
         }
-        None => text.push_str("the document has to be an object in braces")?,
+        None => text.push_str("the document needs to be an object in braces")?,
     }
     Ok(text)
 }
@@ -43,6 +48,7 @@ pub(crate) fn told(
 fn push_told(
     alloc: Global,
     text: &mut String,
+    budget: &mut Budget,
     schema: &Schema,
     spot: &Spot<'_>,
     name: &MemberName<'_>,
@@ -53,8 +59,8 @@ fn push_told(
         FaultKind::Shape => push_shape(text, schema, spot),
         FaultKind::Value => push_value(text, schema, spot),
         FaultKind::MissingKey => push_keys(text, schema, spot.around),
-        FaultKind::Duplicate => push_duplicate(alloc, text, schema, spot),
-        FaultKind::Unique => push_unique(alloc, text, schema, spot, fault.number),
+        FaultKind::Duplicate => push_duplicate(alloc, text, budget, schema, spot),
+        FaultKind::Unique => push_unique(alloc, text, budget, schema, spot, fault.number),
         FaultKind::Mandatory if name.is_choice => {
             push_missing_choice(alloc, text, schema, spot, name)
         }
@@ -63,13 +69,14 @@ fn push_told(
         FaultKind::Max => push_many(text, schema, spot),
         FaultKind::Choice => push_choice(alloc, text, schema, spot, name),
         FaultKind::Reference => push_reference(text, schema, spot),
+        FaultKind::State => text.push_str(STATE),
     }
 }
 
 // Adds what shape a node is written in.
 fn push_shape(text: &mut String, schema: &Schema, spot: &Spot<'_>) -> Result<(), AllocError> {
     if spot.item.is_some() {
-        return text.push_str("each entry has to be an object in braces");
+        return text.push_str("each entry needs to be an object in braces");
     }
     match node_at(schema, spot.node) {
         Some(node) if matches!(node.kind(), NodeKind::List) => {
@@ -86,13 +93,13 @@ fn push_shape(text: &mut String, schema: &Schema, spot: &Spot<'_>) -> Result<(),
 fn push_value(text: &mut String, schema: &Schema, spot: &Spot<'_>) -> Result<(), AllocError> {
     match node_at(schema, spot.node) {
         Some(node) => push_type(text, node, spot.value),
-        None => text.push_str("its type takes other values"),
+        None => text.push_str("its type has other values"),
     }
 }
 
 // Adds that a node must be there, and what values it has.
 fn push_mandatory(text: &mut String, schema: &Schema, spot: &Spot<'_>) -> Result<(), AllocError> {
-    text.push_str("write it, since it must be there")?;
+    text.push_str("it is missing, and the schema requires it")?;
     match node_at(schema, spot.node) {
         Some(node) if matches!(node.kind(), NodeKind::Leaf) => {
             text.push_str("; ")?;
@@ -108,19 +115,19 @@ fn push_few(text: &mut String, schema: &Schema, spot: &Spot<'_>) -> Result<(), A
         Some(node) => node.min(),
         None => 0,
     };
-    text.push_str("at least ")?;
+    text.push_str("the schema requires at least ")?;
     text.push_str(Buffer::new().format(least))?;
-    text.push_str(" must be there, and there are ")?;
+    text.push_str(", and there are ")?;
     text.push_str(Buffer::new().format(items_of(spot.written).len()))
 }
 
 // Adds how many entries there are, and how many there may be.
 fn push_many(text: &mut String, schema: &Schema, spot: &Spot<'_>) -> Result<(), AllocError> {
-    text.push_str("at most ")?;
+    text.push_str("the schema allows at most ")?;
     if let Some(node) = node_at(schema, spot.node) {
         text.push_str(Buffer::new().format(node.max().unwrap_or(u32::MAX)))?;
     }
-    text.push_str(" may be there, and there are ")?;
+    text.push_str(", and there are ")?;
     text.push_str(Buffer::new().format(items_of(spot.written).len()))
 }
 
@@ -128,7 +135,9 @@ fn push_many(text: &mut String, schema: &Schema, spot: &Spot<'_>) -> Result<(), 
 fn push_reference(text: &mut String, schema: &Schema, spot: &Spot<'_>) -> Result<(), AllocError> {
     text.push_str("no ")?;
     push_target(text, schema, spot.node)?;
-    text.push_str(" that its path leads to has this value; write one that is there")
+    text.push_str(
+        " in the document has this value; a reference needs the value of one that is there",
+    )
 }
 
 // Adds the name of the node that the path of a leafref leads to.

@@ -42,13 +42,13 @@ fn push_plain(
         PlainType::Decimal(decimal) => push_decimal(text, decimal),
         PlainType::Text(plain) => push_text(text, plain, value),
         PlainType::Boolean => text.push_str("true or false without quotes"),
-        PlainType::Enumeration(_) => text.push_str("one of its names in quotes"),
-        PlainType::Bits(_) => text.push_str("names of its bits in quotes, with blanks between"),
+        PlainType::Enumeration(_) => text.push_str("one of its names, in quotes"),
+        PlainType::Bits(_) => text.push_str("names of its bits, in quotes and with blanks between"),
         PlainType::Binary(lengths) => {
             text.push_str("base64 in quotes")?;
             push_lengths(text, lengths, " octets")
         }
-        PlainType::Identity(_) => text.push_str("the name of one of its identities in quotes"),
+        PlainType::Identity(_) => text.push_str("the name of one of its identities, in quotes"),
         PlainType::Empty => text.push_str("[null]"),
     }
 }
@@ -65,14 +65,16 @@ fn push_whole(text: &mut String, whole: &WholeType) -> Result<(), AllocError> {
 fn push_decimal(text: &mut String, decimal: &DecimalType) -> Result<(), AllocError> {
     text.push_str("a number in quotes with at most ")?;
     text.push_str(Buffer::new().format(decimal.digits))?;
-    text.push_str(" digits behind the point, of ")?;
+    text.push_str(" digits after the point, of ")?;
     push_spans(text, decimal.spans.spans(), decimal.digits as usize)
 }
 
 // A string whose length fits is one that a pattern, or a character that no YANG string has, rules out.
 fn push_text(text: &mut String, plain: &TextType, value: Option<&Value>) -> Result<(), AllocError> {
     if has_length(plain, value) {
-        text.push_str("a string of legal characters that all its patterns match")
+        text.push_str(
+            "a string that matches all its patterns, and has only characters that YANG allows",
+        )
     } else {
         text.push_str("a string in quotes")?;
         push_lengths(text, &plain.lengths, " characters")

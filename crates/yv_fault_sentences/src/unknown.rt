@@ -4,7 +4,8 @@ use crate::spot::node_at;
 use crate::words::push_member;
 use std::alloc::{AllocError, Global};
 use yv_messages::{Likeness, compared, push_quoted};
-use yv_nodes::NodeId;
+use yv_nodes::{Node, NodeId};
+use yv_properties::NodeKind;
 use yv_tables::Schema;
 
 // A node whose name is like that of a member.
@@ -23,16 +24,52 @@ pub(crate) fn push_unknown(
     member: &str,
 ) -> Result<(), AllocError> {
     if member.starts_with('@') {
-        return text.push_str("metadata is not read; leave it out");
+        return text.push_str("metadata is not supported; remove it");
     }
     let (module, name) = match member.split_once(':') {
         Some((module, name)) => (Some(module), name),
         None => (None, member),
     };
+    if let Some(node) = other_kind(alloc, schema, around, name)? {
+        return push_other_kind(text, node);
+    }
     match nearest(alloc, schema, around, name)? {
         Some(near) => push_near(alloc, text, schema, near),
         None => push_far(text, schema, module),
     }
+}
+
+// The node of this name that no member of an object writes: an operation, a notification, a choice or a case.
+fn other_kind<'s>(
+    alloc: Global,
+    schema: &'s Schema,
+    around: Option<NodeId>,
+    name: &str,
+) -> Result<Option<&'s Node>, AllocError> {
+    let nodes = beside(alloc, schema, around)?;
+    let mut other = None;
+    for id in nodes.iter() {
+        if let Some(node) = node_at(schema, Some(*id)) {
+            if node.name() == name && node.kind().is_data() {
+                return Ok(None);
+            }
+            if node.name() == name {
+                other = Some(node);
+            }
+        }
+    }
+    Ok(other)
+}
+
+// Adds what a node is that no member of an object writes.
+fn push_other_kind(text: &mut String, node: &Node) -> Result<(), AllocError> {
+    text.push_str(match node.kind() {
+        NodeKind::Choice =>
+            "a choice has no member of its own: write the nodes of one of its cases",
+        NodeKind::Case => "a case has no member of its own: write its nodes",
+        NodeKind::Notification => "it is a notification, which a document of data does not contain",
+        _ => "it is an operation, which a document of data does not contain",
+    })
 }
 
 // Adds which node may be meant.
@@ -43,11 +80,10 @@ fn push_near(
     near: Candidate,
 ) -> Result<(), AllocError> {
     if near.likeness == Likeness::Same {
-        text.push_str("the member is called ")?;
-        push_member(alloc, text, schema, near.id)?;
-        text.push_str(" here")
+        text.push_str("the name of this member is ")?;
+        push_member(alloc, text, schema, near.id)
     } else {
-        text.push_str("no member is called so here; did you mean ")?;
+        text.push_str("there is no such member here; did you mean ")?;
         push_member(alloc, text, schema, near.id)?;
         text.push_str("?")
     }
@@ -57,12 +93,12 @@ fn push_near(
 fn push_far(text: &mut String, schema: &Schema, module: Option<&str>) -> Result<(), AllocError> {
     if let Some(module) = module {
         if !is_given(schema, module) {
-            text.push_str("no implemented module is called ")?;
+            text.push_str("there is no implemented module ")?;
             push_quoted(text, module)?;
-            return text.push_str("; give it, or mend the name");
+            return text.push_str("; add its file, or fix the name");
         }
     }
-    text.push_str("no member is called so here; leave it out")
+    text.push_str("there is no such member here; remove it")
 }
 
 // Whether a module of this name is implemented.

@@ -34,7 +34,8 @@ impl Texts {
                     let bad = Some(in_file(number, refusal)?);
                     return Ok(Texts { sources, bad });
                 }
-                Err(Stop::PatternBuild | Stop::NoMemory) => return Err(AllocError),
+                Err(Stop::NoMemory) => return Err(AllocError),
+                Err(Stop::PatternBuild) => unreachable!(),
             }
         }
         Ok(Texts { sources, bad: None })

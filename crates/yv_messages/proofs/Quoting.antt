@@ -2,11 +2,10 @@ use Rattle.std.proofs.Common.{◌≡◌, ◌++◌, ◌∙◌, ap, List, ℕ, Opt
 use Rattle.std.proofs.lemmas.List.{append_assoc}
 use Rattle.yv_messages.specs.Quoted.{Quotes, Extends, quoted}
 
--- a text to which a sentence round a word was added quotes the word
-pub quotes_between : (old before after word one two three : List ℕ) → one ≡ old ++ before → two ≡ one ++ quoted word → three ≡ two ++ after
-    → Quotes word three
-quotes_between old before after word one two three is_one is_two is_three =
-    (one, after, is_three ∙ ap (λ front. front ++ after) is_two ∙ append_assoc one (quoted word) after)
+-- a text to which a word in quotes was added, and then more, quotes the word
+pub quotes_within : (word one two three : List ℕ) → two ≡ one ++ quoted word → Extends two three → Quotes word three
+quotes_within word one two three is_two (more, is_three) =
+    (one, more, is_three ∙ ap (λ front. front ++ more) is_two ∙ append_assoc one (quoted word) more)
 
 -- it does so still where more was added
 pub quotes_longer : (word old new : List ℕ) → Extends old new → Quotes word old → Quotes word new

@@ -5,13 +5,13 @@ ghost use Rattle.yv_messages.specs.Excerpt.{Explains};
 ghost use Rattle.yv_messages.specs.Explained.{Speaks, bytes_at};
 ghost use Rattle.yv_messages.specs.Quoted.{Extends};
 
-use crate::meanings::meaning;
 use crate::place::excerpt;
 use crate::told::{Bounds, push_sentence};
+use crate::unread::push_unread;
 use std::alloc::{AllocError, Global};
 use yv_files::Texts;
 use yv_rows::Rows;
-use yv_statement::{Code, Refusal, Stop};
+use yv_statement::{Refusal, Stop};
 use yv_streams::Input;
 
 // The bytes of the file of this number; none, where there is none.
@@ -22,29 +22,6 @@ fn bytes_at(inputs: &[Input], file: u32) -> &[u8]
         Some(input) => input.bytes.as_slice(),
         None => &[],
     }
-}
-
-// What a place at which no statement goes on shows of what is wrong.
-fn hint(code: Code, byte: Option<u8>) -> &'static str {
-    match (code, byte) {
-        (Code::BadSyntax, None) =>
-            " The file ends here, where a statement or a closing brace is wanted.",
-        (Code::BadSyntax, Some(b'}')) => {
-            " This brace closes nothing, or the statement before it lacks its `;`."
-        }
-        (Code::BadSyntax, Some(_)) =>
-            " Look whether a `;`, a brace or a quote is missing before it.",
-        _ => "",
-    }
-}
-
-// Adds what is said of a file that can't be read.
-fn push_unread(text: &mut String, bytes: &[u8], refusal: &Refusal) -> Result<(), AllocError>
-    ensures { OnOk result (Extends (string_bytes text.old) (string_bytes text.new)) }
-{
-    let place = usize::try_from(refusal.offset).unwrap_or(usize::MAX);
-    text.push_str(meaning(refusal.code))?;
-    text.push_str(hint(refusal.code, bytes.get(place).copied()))
 }
 
 // Adds the sentence on a refusal.
@@ -69,7 +46,8 @@ fn push_told(
             push_unread(text, bytes_at(inputs, refusal.file), refusal)?;
             Ok(())
         }
-        Err(Stop::PatternBuild | Stop::NoMemory) => Err(AllocError),
+        Err(Stop::NoMemory) => Err(AllocError),
+        Err(Stop::PatternBuild) => unreachable!(),
     }
 }
 

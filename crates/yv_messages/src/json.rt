@@ -1,9 +1,10 @@
 //! Why the bytes of a document are no JSON.
-ghost use Rattle.std.specs.Prelude.{◌≤◌, length, IfOk, IfSome, string_bytes};
-ghost use Rattle.yv_messages.specs.Document.{SaysWhy};
+ghost use Rattle.std.specs.Prelude.{◌≤◌, length, IfOk, IfSome, IfNone, string_bytes};
+ghost use Rattle.yv_messages.specs.Document.{IsJson, SaysWhy, ShowsReason, TellsLarge};
 
+use crate::json_reason::reason_at;
 use crate::place::excerpt;
-use serde_json::Value;
+use serde_json::{Error, Value};
 use std::alloc::{AllocError, Global};
 
 // The place of a line and a column of these bytes, both counted from 1; their end, where there is no such place.
@@ -29,22 +30,62 @@ fn start_of(bytes: &[u8], line: usize) -> usize {
     bytes.len()
 }
 
-/// Why these bytes are not JSON: the line and the column with the text of that line, and the reason. None where they are
+/// Why these bytes are not JSON: the line and the column with the text of that line, and the reason. None if they are
 /// JSON.
 pub fn why_not_json(alloc: Global, bytes: &[u8]) -> Result<Option<String>, AllocError>
-    ensures { IfOk result (λ why. IfSome why (λ text. SaysWhy bytes.now (string_bytes text))) }
+    ensures why { IfOk result (λ why. IfSome why (λ text. SaysWhy bytes.now (string_bytes text))) }
+    ensures json { IfOk result (λ why. IfNone why (IsJson bytes.now)) }
 {
-    let Ok(text) = str::from_utf8(bytes) else {
-        return Ok(Some(String::from_str(alloc, "data: not UTF-8\n")?));
+    let text = match str::from_utf8(bytes) {
+        Ok(text) => text,
+        Err(error) => return Ok(Some(not_text(alloc, bytes, error.valid_up_to())?)),
     };
     match Value::from_str(alloc, text) {
         Ok(_) => Ok(None),
         Err(error) if error.is_memory() => Err(AllocError),
-        Err(error) => {
-            let mut why = excerpt(alloc, bytes, offset_of(bytes, error.line(), error.column()))?;
-            let reason = format!(in alloc; "data: {error}\n")?;
-            why.push_str(reason.as_str())?;
-            Ok(Some(why))
-        }
+        Err(error) => Ok(Some(told(alloc, bytes, &error)?)),
     }
 }
+
+// That bytes are no text from a place on.
+fn not_text(alloc: Global, bytes: &[u8], valid: usize) -> Result<String, AllocError>
+    ensures { IfOk result (λ text. ShowsReason bytes.now (string_bytes text)) }
+{
+    let mut why = excerpt(alloc, bytes, valid.min(bytes.len()))?;
+    why.push_str("data: not UTF-8 from this byte on\n")?;
+    Ok(why)
+}
+
+// Where a text is not JSON, and why.
+fn told(alloc: Global, bytes: &[u8], error: &Error) -> Result<String, AllocError>
+    ensures { IfOk result (λ text. ShowsReason bytes.now (string_bytes text)) }
+{
+    let place = offset_of(bytes, error.line(), error.column());
+    let mut why = excerpt(alloc, bytes, place)?;
+    let message = format!(in alloc; "{error}")?;
+    let reason = if message.as_str().starts_with("number") {
+        "a number has a size below 1.8e308"
+    } else if error.is_eof() {
+        reason_at(bytes, bytes.len())
+    } else {
+        reason_at(bytes, place)
+    };
+    let line = format!(in alloc; "data: {message}: {reason}\n")?;
+    why.push_str(line.as_str())?;
+    Ok(why)
+}
+
+/// How many bytes a document has at most, and how many members and items.
+const MOST: usize = 16_777_216;
+
+/// Why a document is too large, of which these bytes were read: it has too many bytes, or too many members and items.
+pub fn why_too_large(alloc: Global, bytes: &[u8]) -> Result<String, AllocError>
+    ensures { IfOk result (λ text. TellsLarge bytes.now (string_bytes text)) }
+{
+    let what = if bytes.len() > MOST { LARGE } else { MANY };
+    String::from_str(alloc, what)
+}
+
+const LARGE: &str = "data: more than 16,777,216 bytes, which is the limit\n";
+
+const MANY: &str = "data: more than 16,777,216 members and items, which is the limit\n";

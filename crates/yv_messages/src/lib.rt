@@ -2,26 +2,45 @@
 //! there.
 #![tactic(auto)]
 
+mod arguments;
+mod augments;
+mod cause;
 mod circle;
+mod defaults;
+mod definitions;
 mod explain;
 mod guess;
 mod json;
+mod json_reason;
 mod likeness;
+mod lists;
 mod meanings;
+mod modules;
+mod nodes;
+mod numbering;
+mod paths;
+mod pattern_text;
 mod patterns;
 mod place;
+mod placement;
 mod quoted;
+mod restrictions;
 mod sentences;
+mod site;
+mod substatements;
+mod telling;
 mod told;
+mod types;
 mod unbuilt;
 mod units;
+mod unread;
+mod values;
 mod words;
 
 pub use explain::explanation;
-pub use json::why_not_json;
+pub use json::{why_not_json, why_too_large};
 pub use likeness::{Likeness, compared};
-pub use meanings::meaning;
-pub use place::excerpt;
+pub use place::{excerpt, push_shown};
 pub use quoted::push_quoted;
 pub use told::{Bounds, push_sentence};
 pub use unbuilt::unbuilt_pattern;

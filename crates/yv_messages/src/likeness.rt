@@ -16,28 +16,54 @@ pub enum Likeness {
 /// The longest names that are compared.
 const MOST_BYTES: usize = 64;
 
-/// How a name is like one that was written, if it is: both have at most 64 bytes.
+/// How many letters a name has at least for each difference.
+const LETTERS_EACH: usize = 3;
+
+/// How a name is like one that was written, if it is. Both have 3 to 64 bytes, and differ in a third of them at most, or
+/// what was written is the front of the name. Two neighbours that are exchanged count as one difference.
 pub fn compared(written: &[u8], name: &[u8]) -> Option<Likeness> {
-    if written.len() > MOST_BYTES || name.len() > MOST_BYTES {
+    if written == name {
+        return Some(Likeness::Same);
+    }
+    if !has_fit_length(written) || !has_fit_length(name) {
         return None;
     }
     let front = common_front(written, name);
     let rest = &written[front..];
     let others = &name[front..];
-    if rest.is_empty() && others.is_empty() {
-        return Some(Likeness::Same);
-    }
     let end = common_end(rest, others);
-    let apart = rest.len().max(others.len()).saturating_sub(end);
-    like(apart, front + end > 0, rest.is_empty() && front > 2)
+    let apart = differences(rest, others, end);
+    match near(apart, written.len().max(name.len())) {
+        None if rest.is_empty() => Some(Likeness::Longer),
+        likeness => likeness,
+    }
 }
 
-// The likeness of names that are so many characters apart.
-fn like(apart: usize, has_common: bool, is_front: bool) -> Option<Likeness> {
+// Whether a name is long enough to be like another one, and short enough to be compared.
+fn has_fit_length(name: &[u8]) -> bool {
+    name.len() >= LETTERS_EACH && name.len() <= MOST_BYTES
+}
+
+// By how many bytes names differ that end alike.
+fn differences(rest: &[u8], others: &[u8], end: usize) -> usize {
+    let apart = rest.len().max(others.len()).saturating_sub(end);
+    if apart == 2 && are_exchanged(rest, others) {
+        1
+    } else {
+        apart
+    }
+}
+
+// Whether the first two bytes of one are those of the other, exchanged.
+fn are_exchanged(one: &[u8], other: &[u8]) -> bool {
+    one.len() == other.len() && one.first() == other.get(1) && one.get(1) == other.first()
+}
+
+// The likeness of names of this length that are so many bytes apart.
+fn near(apart: usize, length: usize) -> Option<Likeness> {
     match apart {
-        0 | 1 if has_common => Some(Likeness::OneApart),
-        2 if has_common => Some(Likeness::TwoApart),
-        _ if is_front => Some(Likeness::Longer),
+        0 | 1 => Some(Likeness::OneApart),
+        2 if length >= 2 * LETTERS_EACH => Some(Likeness::TwoApart),
         _ => None,
     }
 }

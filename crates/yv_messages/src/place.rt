@@ -75,7 +75,7 @@ fn shown_char(byte: u8) -> char
 }
 
 /// Adds one character of ASCII for each character that begins in these bytes.
-pub(crate) fn push_shown(text: &mut String, bytes: &[u8]) -> Result<(), AllocError>
+pub fn push_shown(text: &mut String, bytes: &[u8]) -> Result<(), AllocError>
     ensures { OnOk result (string_bytes text.new ≡ string_bytes text.old ++ shown_bytes bytes.now) }
 {
     for byte in bytes {

@@ -78,6 +78,7 @@ pub fn unbuilt_pattern(alloc: Global, inputs: &[Input]) -> Result<Option<String>
             told_among(alloc, inputs, &rows)
         }
         Err(Stop::Fault(_)) => Ok(None),
-        Err(Stop::PatternBuild | Stop::NoMemory) => Err(AllocError),
+        Err(Stop::NoMemory) => Err(AllocError),
+        Err(Stop::PatternBuild) => unreachable!(),
     }
 }

@@ -1,7 +1,6 @@
 //! How many nodes and uses modules expand to.
-ghost use Rattle.std.specs.Prelude.{OnOk, string_bytes};
-ghost use Rattle.yv_messages.specs.Quoted.{Extends};
-
+use crate::site::Site;
+use crate::telling::Telling;
 use std::alloc::{AllocError, Global};
 use yv_names::names;
 use yv_rows::{Entry, Rows};
@@ -31,12 +30,20 @@ fn is_counted(marks: &[bool], number: usize, entry: &Entry<'_, '_>) -> bool {
     is_top && marks.get(entry.file as usize).copied().unwrap_or(false)
 }
 
-// How many units the implemented modules come to, or 2 to the 64 less one where these are more. None where names mean nothing.
-fn units_of(
+// How many units modules expand to, and the number of the statement at the top of one that expands to most of them.
+#[derive(Clone, Copy)]
+struct Count {
+    total: u64,
+    most: u64,
+    largest: usize,
+}
+
+// How many units the implemented modules expand to, or 2 to the 64 less one if these are more. None if names mean nothing.
+fn count_of(
     alloc: Global,
     rows: &Rows<'_, '_>,
     selection: &Selection,
-) -> Result<Option<u64>, AllocError> {
+) -> Result<Option<Count>, AllocError> {
     let names = match names(alloc, rows) {
         Ok(names) => names,
         Err(Stop::NoMemory) => return Err(AllocError),
@@ -44,52 +51,61 @@ fn units_of(
     };
     let units = Units::read(alloc, rows, &names)?;
     let marks = marks(alloc, rows, selection)?;
-    let mut total: u64 = 0;
+    let mut count = Count {
+        total: 0,
+        most: 0,
+        largest: 0,
+    };
     for (number, entry) in rows.entries().iter().enumerate() {
         if is_counted(&marks, number, entry) {
-            total = total.saturating_add(units.weight(number));
+            add(&mut count, number, units.weight(number));
         }
     }
-    Ok(Some(total))
+    Ok(Some(count))
 }
 
-// Adds a number with a comma before each three digits.
-fn push_grouped(alloc: Global, text: &mut String, number: u64) -> Result<(), AllocError>
-    ensures { OnOk result (Extends (string_bytes text.old) (string_bytes text.new)) }
-{
-    let digits = format!(in alloc; "{number}")?;
-    let count = digits.len();
-    for (place, digit) in digits.chars().enumerate() {
-        let left = count.saturating_sub(place);
-        if place > 0 && left % 3 == 0 {
-            text.push(',')?;
-        }
-        text.push(digit)?;
+// Counts the units of a statement.
+fn add(count: &mut Count, number: usize, weight: u64) {
+    count.total = count.total.saturating_add(weight);
+    if weight > count.most {
+        count.most = weight;
+        count.largest = number;
+    }
+}
+
+/// Adds how many nodes and uses the implemented modules expand to, where most of them are, and what the limit is.
+pub(crate) fn tell_units<'a>(
+    alloc: Global,
+    telling: &mut Telling<'a>,
+    rows: &Rows<'a, '_>,
+    selection: &Selection,
+    limit: u32,
+) -> Result<(), AllocError> {
+    telling.say("The modules expand to more nodes and uses than the limit.")?;
+    let Some(count) = count_of(alloc, rows, selection)? else {
+        return Ok(());
+    };
+    telling.say(" They expand to ")?;
+    say_many(telling, count.total)?;
+    telling.say(", and the limit is ")?;
+    telling.count(limit as u64)?;
+    telling.say(if count.total > HIGHEST_LIMIT {
+        "; the highest that --max-nodes takes is 1,000,000."
+    } else {
+        "; --max-nodes sets another one."
+    })?;
+    if let Some(largest) = Site::at(rows, count.largest) {
+        telling.statement(" Most are in the ", &largest, " at ")?;
+        telling.point(&largest)?;
+        telling.say(": ")?;
+        say_many(telling, count.most)?;
+        telling.say(".")?;
     }
     Ok(())
 }
 
-/// Adds how many nodes and uses the implemented modules expand to, and what the limit is.
-pub(crate) fn push_units(
-    alloc: Global,
-    text: &mut String,
-    rows: &Rows<'_, '_>,
-    selection: &Selection,
-    limit: u32,
-) -> Result<(), AllocError>
-    ensures { OnOk result (Extends (string_bytes text.old) (string_bytes text.new)) }
-{
-    let Some(total) = units_of(alloc, rows, selection)? else {
-        return Ok(());
-    };
-    text.push_str(" They come to ")?;
-    push_grouped(alloc, text, total)?;
-    text.push_str(if total == u64::MAX { " or more" } else { "" })?;
-    text.push_str(", and the limit is ")?;
-    push_grouped(alloc, text, limit as u64)?;
-    if total > HIGHEST_LIMIT {
-        text.push_str("; the highest that --max-nodes takes is 1,000,000.")
-    } else {
-        text.push_str("; --max-nodes sets another one.")
-    }
+// Adds a number that may be one of many more.
+fn say_many(telling: &mut Telling<'_>, number: u64) -> Result<(), AllocError> {
+    telling.count(number)?;
+    telling.say(if number == u64::MAX { " or more" } else { "" })
 }

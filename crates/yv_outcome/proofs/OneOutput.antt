@@ -123,4 +123,4 @@ files_once once choice limit files _ _ (built {schema} ts p a is) (built {schema
 pub one_output : Once → (task : Task) (files : List File) (given : List ℕ) (p q : Printed) → IsOutput task files given p → IsOutput task files given q → p ≡ q
 one_output once task files given p q a b =
     let one : a.0 ≡ b.0 = files_once once task.choice task.limit files a.0 b.0 a.1 b.1 in
-    sym a.2 ∙ ap (λ c. compiled_printed task.asked files c given) one ∙ b.2
+    sym a.2 ∙ ap (λ c. compiled_printed task files c given) one ∙ b.2

@@ -8,6 +8,7 @@ use Rattle.yv_statement.specs.Codes.{name_of}
 use Rattle.yv_statement.specs.declared.refusal.Refusal.{Refusal}
 use Rattle.yv_nodes.specs.Tree.{Forest, count as node_count}
 use Rattle.yv_nodes.specs.Rows.{Rows, whole}
+use Rattle.yv_selection.specs.declared.kind.Kind.{Kind}
 use Rattle.yv_tree.specs.Diagram.{diagram_of}
 use Rattle.yv_job.specs.Jobs.{Asked, Compiles, Draws, Checks, Task}
 use Rattle.yv_validate.specs.Flaw.{Flaw}
@@ -47,14 +48,14 @@ faults_printed (f ∷ fs) = record { text = faults_text (f ∷ fs); verdict = Re
 abbrev pub bad_input : List ℕ → Printed
 bad_input text = record { text = ended_line text; verdict = BadInput }
 
--- what is said of a document, by what its bytes are
-abbrev pub reading_printed : Rows → Reading → Printed
-reading_printed s TooLarge = bad_input (codes "data: too large")
-reading_printed s NotJson = bad_input (codes "data: not JSON")
-reading_printed s (Reads d) = faults_printed (faults s d)
+-- what is said of a document of a kind, by what its bytes are
+abbrev pub reading_printed : Kind → Rows → Reading → Printed
+reading_printed k s TooLarge = bad_input (codes "data: too large")
+reading_printed k s NotJson = bad_input (codes "data: not JSON")
+reading_printed k s (Reads d) = faults_printed (faults k s d)
 
-abbrev pub data_printed : Rows → List ℕ → Printed
-data_printed s given = reading_printed s (reading given)
+abbrev pub data_printed : Kind → Rows → List ℕ → Printed
+data_printed k s given = reading_printed k s (reading given)
 
 -- `nodes: N`, for as many nodes as the schema has
 abbrev pub count_printed : Forest → Printed
@@ -70,19 +71,19 @@ abbrev pub diagram_printed : Rows → (name : List ℕ) → Printed
 diagram_printed s name = drawn_printed (diagram_of s name)
 
 -- what is said of a schema, by what was asked
-abbrev pub schema_printed : Asked → Rows → List ℕ → Printed
-schema_printed Compiles s given = count_printed (whole s)
-schema_printed (Draws name) s given = diagram_printed s name
-schema_printed (Checks f) s given = data_printed s given
+abbrev pub schema_printed : Asked → Kind → Rows → List ℕ → Printed
+schema_printed Compiles k s given = count_printed (whole s)
+schema_printed (Draws name) k s given = diagram_printed s name
+schema_printed (Checks f) k s given = data_printed k s given
 
 -- a refusal's line, or what is said of the schema
-abbrev pub compiled_printed : Asked → List File → Compiled → List ℕ → Printed
-compiled_printed asked files (RefusedAt r) given = record { text = refusal_line files r; verdict = Refused }
-compiled_printed asked files (Built s) given = schema_printed asked s given
+abbrev pub compiled_printed : Task → List File → Compiled → List ℕ → Printed
+compiled_printed task files (RefusedAt r) given = record { text = refusal_line files r; verdict = Refused }
+compiled_printed task files (Built s) given = schema_printed task.asked task.kind s given
 
 -- what a run prints that is to do this task with these files, where the document's bytes are `given`
 abbrev pub IsOutput : Task → List File → List ℕ → Printed → Type 0
-IsOutput task files given p = (c : Compiled) × FilesCompile task.choice task.limit files c × (compiled_printed task.asked files c given ≡ p)
+IsOutput task files given p = (c : Compiled) × FilesCompile task.choice task.limit files c × (compiled_printed task files c given ≡ p)
 
 -- a document is read for this
 abbrev pub ReadsData : Asked → Type 0

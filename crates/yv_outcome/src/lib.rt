@@ -4,6 +4,7 @@
 
 mod document;
 pub mod laws;
+mod modules;
 mod print;
 mod status;
 

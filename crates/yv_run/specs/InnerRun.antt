@@ -4,6 +4,7 @@ use Rattle.std.specs.declared.option.Option.{Option}
 use Rattle.std.specs.Io.KnownBytes.{Appends, Consumes}
 use Rattle.yv_nodes.specs.Rows.{Rows, whole}
 use Rattle.yv_job.specs.Jobs.{Asked, Compiles, Draws, Checks}
+use Rattle.yv_selection.specs.declared.kind.Kind.{Kind}
 use Rattle.yv_outcome.specs.Output.{Gives, count_printed, data_printed, diagram_printed, printed_of}
 use Rattle.yv_outcome.specs.Status.{status_of}
 use Rattle.yv_outcome.specs.declared.print.Output.{Output}
@@ -20,26 +21,26 @@ pub record AppendsFront (o : Output) (old new : Option (List ℕ)) : Type 0 wher
   pub appended : Appends old new (take count (printed_of o).text)
 
 -- what is said of some bytes, which are those that the reader gives where they are known
-pub record SaysOfData (known : Option (List ℕ)) (s : Rows) (o : Output) : Type 0 where
+pub record SaysOfData (known : Option (List ℕ)) (k : Kind) (s : Rows) (o : Output) : Type 0 where
   pub given : List ℕ
   pub gives : Gives known given
-  pub printed : printed_of o ≡ data_printed s given
+  pub printed : printed_of o ≡ data_printed k s given
 
 -- what is said of the schema, by what was asked
-abbrev pub SaysOf : Option (List ℕ) → Asked → Rows → Output → Type 0
-SaysOf known Compiles s o = printed_of o ≡ count_printed (whole s)
-SaysOf known (Draws name) s o = printed_of o ≡ diagram_printed s name
-SaysOf known (Checks f) s o = SaysOfData known s o
+abbrev pub SaysOf : Option (List ℕ) → Asked → Kind → Rows → Output → Type 0
+SaysOf known Compiles k s o = printed_of o ≡ count_printed (whole s)
+SaysOf known (Draws name) k s o = printed_of o ≡ diagram_printed s name
+SaysOf known (Checks f) k s o = SaysOfData known k s o
 
 -- what is said of some bytes, which the reader gave, and which are gone from it
-pub record ReadsOfData (old new : Option (List ℕ)) (s : Rows) (o : Output) : Type 0 where
+pub record ReadsOfData (old new : Option (List ℕ)) (k : Kind) (s : Rows) (o : Output) : Type 0 where
   pub given : List ℕ
   pub gives : Gives old given
-  pub printed : printed_of o ≡ data_printed s given
+  pub printed : printed_of o ≡ data_printed k s given
   pub consumed : Consumes old new given
 
 -- what is read for what is said of the schema, by what was asked
-abbrev pub ReadsOf : Option (List ℕ) → Option (List ℕ) → Asked → Rows → Output → Type 0
-ReadsOf old new Compiles s o = Consumes old new []
-ReadsOf old new (Draws name) s o = Consumes old new []
-ReadsOf old new (Checks f) s o = ReadsOfData old new s o
+abbrev pub ReadsOf : Option (List ℕ) → Option (List ℕ) → Asked → Kind → Rows → Output → Type 0
+ReadsOf old new Compiles k s o = Consumes old new []
+ReadsOf old new (Draws name) k s o = Consumes old new []
+ReadsOf old new (Checks f) k s o = ReadsOfData old new k s o

@@ -29,7 +29,7 @@ pub record ReadsAndPrints (old new : Option (List ℕ)) (task : Task) (files : L
   pub gives : Gives old given
   pub compiled : Compiled
   pub compiles : FilesCompile task.choice task.limit files compiled
-  pub printed : compiled_printed task.asked files compiled given ≡ p
+  pub printed : compiled_printed task files compiled given ≡ p
   pub consumed : Consumes old new (compiled_read task.asked compiled given)
 
 -- the first bytes of such an output, or all, were appended to what the writer holds

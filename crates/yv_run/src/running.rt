@@ -6,14 +6,15 @@ ghost use Rattle.std.specs.Io.KnownBytes.{Appends};
 ghost use Rattle.yv_streams.specs.Stream.{stream_inner, has_failed, IsFresh, FailsOnceAtMost, TakesAtMost};
 ghost use Rattle.yv_streams.specs.Files.{file_of};
 ghost use Rattle.yv_outcome.specs.Compiles.{HavePattern};
-ghost use Rattle.yv_messages.specs.Document.{SaysWhy};
 ghost use Rattle.yv_messages.specs.Excerpt.{Explains};
 ghost use Rattle.yv_messages.specs.Explained.{Speaks, bytes_at};
 ghost use Rattle.yv_messages.specs.Unbuilt.{TellsPattern};
 ghost use Rattle.yv_run.specs.InnerRun.{AppendsAll, AppendsFront, ReadsOf, ReadsOfData, SaysOf, SaysOfData};
-ghost use Rattle.yv_run.specs.Notes.{IsNote, NotesDocument, NotesGiven};
+ghost use Rattle.yv_run.specs.Notes.{IsNote, NotesAsked, NotesDocument};
+ghost use Rattle.yv_outcome.specs.Told.{NotesGiven};
+ghost use Rattle.yv_tree.specs.Diagram.{diagram_of};
 ghost use Rattle.yv_run.specs.Reads.{ReadsAndPrints, ReadsAndWrites, most_read};
-ghost use Rattle.yv_outcome.specs.Output.{PrintsFor, ReadsData, WantsData, WritesAll, WritesFront, IsFinished, IsStopped, body_text, data_printed, printed_of};
+ghost use Rattle.yv_outcome.specs.Output.{PrintsFor, ReadsData, WantsData, WritesAll, WritesFront, IsFinished, IsStopped, body_text, data_printed, diagram_printed, printed_of};
 
 use crate::compiling::compiled;
 use std::alloc::{AllocError, Global};
@@ -21,9 +22,10 @@ use std::io::{Read, Write};
 use thiserror::Error;
 use yv_fault_lines::write_faults;
 use yv_job::{Command, Job};
-use yv_messages::{Bounds, explanation, unbuilt_pattern, why_not_json};
+use yv_messages::{Bounds, explanation, unbuilt_pattern};
 use yv_outcome::{Body, Output, Status, of_count, of_data, of_diagram, of_refusal};
 use yv_schema::Schema;
+use yv_selection::Kind;
 use yv_statement::{Refusal, Stop};
 use yv_streams::{Counted, Input, InputFault, read_up_to, write_whole};
 
@@ -53,8 +55,9 @@ impl From<AllocError> for Halt {
 #[derive(Drop)]
 pub struct Ended {
     pub status: Status,
-    /// Where the files were refused, the place and what the refusal means; where a pattern isn't built, its place; where the document is not
-    /// JSON, the place and why; where it has faults, sentences on the first of them. None otherwise, or if memory ran out.
+    /// If the files were refused, the place and the cause; if a pattern isn't built, its place; if the document is not JSON, the
+    /// place and why; if it is too large, of what it has too many; if it has faults, sentences on the first of them. None otherwise, or
+    /// if memory ran out.
     pub note: Option<String>,
 }
 
@@ -207,7 +210,7 @@ fn outcome<R: Read>(
     ensures built { IsErrOf result Halt.PatternBuild → HavePattern (choice_of job.now.selection) job.now.limit (map file_of inputs.now) }
 {
     match compiled(alloc, inputs, &job.selection, job.limit) {
-        Ok(schema) => answered(alloc, &job.command, &schema, reader),
+        Ok(schema) => answered(alloc, job, &schema, reader),
         Err(Stop::Fault(refusal)) => Ok(Found {
             output: of_refusal(alloc, inputs, &refusal)?,
             note: note_of(alloc, job, inputs, &refusal),
@@ -221,31 +224,41 @@ fn outcome<R: Read>(
 #[tactic(auto, using(crate::proofs::RunLemmas::takes_none))]
 fn answered<R: Read>(
     alloc: Global,
-    command: &Command,
+    job: &Job,
     schema: &Schema,
     reader: &mut Counted<R>,
 ) -> Result<Found, Halt>
     requires { IsFresh reader.old }
-    ensures printed { IfOk result (λ f. SaysOf (R.remaining (stream_inner reader.old)) (asked_of command.now) schema.now f.output) }
-    ensures note { IfOk result (λ f. IfSome f.note (λ s. NotesDocument (R.remaining (stream_inner reader.old)) schema.now (string_bytes s))) }
-    ensures unread { ReadsData (asked_of command.now) ⊎ (reader.new ≡ reader.old) }
+    ensures printed { IfOk result (λ f. SaysOf (R.remaining (stream_inner reader.old)) (asked_of job.now.command) job.now.kind schema.now f.output) }
+    ensures note { IfOk result (λ f. IfSome f.note (λ s. NotesAsked (R.remaining (stream_inner reader.old)) (asked_of job.now.command) job.now.kind schema.now (string_bytes s))) }
+    ensures unread { ReadsData (asked_of job.now.command) ⊎ (reader.new ≡ reader.old) }
     ensures fault { IsErrOf result Halt.Read ↔ (has_failed reader.new ≡ true) }
-    ensures read { IfOk result (λ f. ReadsOf (R.remaining (stream_inner reader.old)) (R.remaining (stream_inner reader.new)) (asked_of command.now) schema.now f.output) }
+    ensures read { IfOk result (λ f. ReadsOf (R.remaining (stream_inner reader.old)) (R.remaining (stream_inner reader.new)) (asked_of job.now.command) job.now.kind schema.now f.output) }
     ensures taken { TakesAtMost most_read (R.remaining (stream_inner reader.old)) (R.remaining (stream_inner reader.new)) }
     ensures once { FailsOnceAtMost reader.new }
     ensures never_built { IsErrOf result Halt.PatternBuild → ⊥ }
 {
-    match command {
+    match &job.command {
         Command::Compile => Ok(Found {
             output: of_count(alloc, schema)?,
             note: None,
         }),
-        Command::Tree(name) => Ok(Found {
-            output: of_diagram(alloc, schema, name.as_str())?,
-            note: None,
-        }),
-        Command::Validate(_) => validated(alloc, schema, reader),
+        Command::Tree(name) => drawn(alloc, job, schema, name.as_str()),
+        Command::Validate(_) => validated(alloc, schema, reader, job.kind),
     }
+}
+
+// The diagram of a module, or that there is none.
+fn drawn(alloc: Global, job: &Job, schema: &Schema, name: &str) -> Result<Found, Halt>
+    ensures printed { IfOk result (λ f. printed_of f.output ≡ diagram_printed schema.now name.now) }
+    ensures note { IfOk result (λ f. IfSome f.note (λ text. diagram_of schema.now name.now ≡ None)) }
+    ensures no_memory { IfErr result (λ h. h ≡ Halt.NoMemory) }
+{
+    let drawn = of_diagram(alloc, schema, &job.selection, name)?;
+    Ok(Found {
+        output: drawn.output,
+        note: drawn.told,
+    })
 }
 
 // What is said of the document.
@@ -253,47 +266,35 @@ fn validated<R: Read>(
     alloc: Global,
     schema: &Schema,
     reader: &mut Counted<R>,
+    kind: Kind,
 ) -> Result<Found, Halt>
     requires { IsFresh reader.old }
-    ensures printed { IfOk result (λ f. SaysOfData (R.remaining (stream_inner reader.old)) schema.now f.output) }
-    ensures note { IfOk result (λ f. IfSome f.note (λ s. NotesDocument (R.remaining (stream_inner reader.old)) schema.now (string_bytes s))) }
+    ensures printed { IfOk result (λ f. SaysOfData (R.remaining (stream_inner reader.old)) kind schema.now f.output) }
+    ensures note { IfOk result (λ f. IfSome f.note (λ s. NotesDocument (R.remaining (stream_inner reader.old)) kind schema.now (string_bytes s))) }
     ensures fault { IsErrOf result Halt.Read ↔ (has_failed reader.new ≡ true) }
-    ensures read { IfOk result (λ f. ReadsOfData (R.remaining (stream_inner reader.old)) (R.remaining (stream_inner reader.new)) schema.now f.output) }
+    ensures read { IfOk result (λ f. ReadsOfData (R.remaining (stream_inner reader.old)) (R.remaining (stream_inner reader.new)) kind schema.now f.output) }
     ensures taken { TakesAtMost most_read (R.remaining (stream_inner reader.old)) (R.remaining (stream_inner reader.new)) }
     ensures once { FailsOnceAtMost reader.new }
     ensures never_built { IsErrOf result Halt.PatternBuild → ⊥ }
 {
     match read_up_to(alloc, DATA_BYTES, reader) {
-        Ok(bytes) => noted(alloc, schema, bytes.as_slice()),
+        Ok(bytes) => noted(alloc, schema, bytes.as_slice(), kind),
         Err(InputFault::Read) => Err(Halt::Read),
         Err(InputFault::NoMemory) => Err(Halt::NoMemory),
     }
 }
 
 // What is said of a document of these bytes, with the note on it.
-fn noted(alloc: Global, schema: &Schema, bytes: &[u8]) -> Result<Found, Halt>
-    ensures printed { IfOk result (λ f. printed_of f.output ≡ data_printed schema.now bytes.now) }
-    ensures note { IfOk result (λ f. IfSome f.note (λ s. NotesGiven schema.now bytes.now (string_bytes s))) }
+fn noted(alloc: Global, schema: &Schema, bytes: &[u8], kind: Kind) -> Result<Found, Halt>
+    ensures printed { IfOk result (λ f. printed_of f.output ≡ data_printed kind schema.now bytes.now) }
+    ensures note { IfOk result (λ f. IfSome f.note (λ s. NotesGiven kind schema.now bytes.now (string_bytes s))) }
     ensures no_memory { IfErr result (λ h. h ≡ Halt.NoMemory) }
 {
-    let checked = of_data(alloc, schema, bytes)?;
+    let checked = of_data(alloc, schema, bytes, kind)?;
     Ok(Found {
         output: checked.output,
-        note: match checked.told {
-            Some(told) => Some(told),
-            None => note_on(alloc, bytes),
-        },
+        note: checked.told,
     })
-}
-
-// Why a document is no JSON, where there is memory to say it.
-fn note_on(alloc: Global, bytes: &[u8]) -> Option<String>
-    ensures { IfSome result (λ s. SaysWhy bytes.now (string_bytes s)) }
-{
-    match why_not_json(alloc, bytes) {
-        Ok(why) => why,
-        Err(_) => None,
-    }
 }
 
 // What helps a person to mend a file that is refused, where there is memory to say it.

@@ -20,7 +20,7 @@ returns-in-Ok-clause-note g c =
     let read = c.in-Ok.ensures in
     let notes = rw c.as_slice.ensures.value at c.noted.ensures.note in
     IfOk-weaker c.noted.result _ _
-    (λ f note. notes_given string_bytes _ c.args.schema.now c.in-Ok.bytes.items (gave_up_to _ _ _ 16777217 read.given read.bound read.end) f.note note)
+    (λ f note. notes_given string_bytes _ c.args.kind c.args.schema.now c.in-Ok.bytes.items (gave_up_to _ _ _ 16777217 read.given read.bound read.end) f.note note)
     notes
 
 pub returns-in-Ok-clause-read : goal.returns-in-Ok-clause-read

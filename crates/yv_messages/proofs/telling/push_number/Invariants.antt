@@ -1,6 +1,6 @@
 use Rattle.std.proofs.Common.{string_bytes}
 use Rattle.yv_messages.specs.Quoted.{Extends}
-use Rattle.yv_messages.proofs.units.push_grouped.Given as goal
+use Rattle.yv_messages.proofs.telling.push_number.Given as goal
 
 abbrev pub invariant-loop-place : goal.invariant-loop-place
 invariant-loop-place l = Extends (string_bytes l.fn.text) (string_bytes l.text)

@@ -1,0 +1,241 @@
+//! What is said of a refusal, piece by piece.
+ghost use Rattle.std.specs.Prelude.{OnOk, string_bytes};
+ghost use Rattle.yv_messages.specs.Quoted.{Extends, Quotes};
+
+use crate::place::{excerpt, push_shown};
+use crate::quoted::push_quoted;
+use crate::site::Site;
+use std::alloc::{AllocError, Global};
+use yv_streams::Input;
+
+// A part of what is said. A place is a file's number, and a line or an offset.
+#[derive(Drop)]
+enum Piece<'w> {
+    Text(&'w str),
+    Name(&'w str),
+    Prefixed(&'w str, &'w str),
+    Number(u64),
+    Line(u32, u64),
+    Excerpt(u32, u64),
+}
+
+/// What is said of a refusal: pieces, and between them the word that the refusal is about.
+#[derive(Drop)]
+pub(crate) struct Telling<'w> {
+    before: Vec<Piece<'w>>,
+    after: Vec<Piece<'w>>,
+    has_subject: bool,
+}
+
+impl<'w> Telling<'w> {
+    /// Nothing, so far.
+    pub(crate) fn new(alloc: Global) -> Telling<'w> {
+        Telling {
+            before: Vec::new(alloc),
+            after: Vec::new(alloc),
+            has_subject: false,
+        }
+    }
+
+    fn push(&mut self, piece: Piece<'w>) -> Result<(), AllocError> {
+        if self.has_subject {
+            self.after.push(piece)?;
+        } else {
+            self.before.push(piece)?;
+        }
+        Ok(())
+    }
+
+    /// Adds words of our own.
+    pub(crate) fn say(&mut self, text: &'w str) -> Result<(), AllocError> {
+        self.push(Piece::Text(text))
+    }
+
+    /// Adds a word of the files, in quotes.
+    pub(crate) fn quote(&mut self, name: &'w str) -> Result<(), AllocError> {
+        self.push(Piece::Name(name))
+    }
+
+    /// Adds a name with a prefix, in quotes; without one, if the prefix is no text.
+    pub(crate) fn quote_prefixed(
+        &mut self,
+        prefix: &'w str,
+        name: &'w str,
+    ) -> Result<(), AllocError> {
+        if prefix.is_empty() {
+            self.quote(name)
+        } else {
+            self.push(Piece::Prefixed(prefix, name))
+        }
+    }
+
+    /// Adds a number.
+    pub(crate) fn count(&mut self, number: u64) -> Result<(), AllocError> {
+        self.push(Piece::Number(number))
+    }
+
+    /// Adds the file and the line of a statement.
+    pub(crate) fn point(&mut self, site: &Site<'_, '_, '_>) -> Result<(), AllocError> {
+        self.push(Piece::Line(site.file, site.statement.line()))
+    }
+
+    /// Adds the line of a statement with a caret under it, below what was said so far.
+    pub(crate) fn show(&mut self, site: &Site<'_, '_, '_>) -> Result<(), AllocError> {
+        self.push(Piece::Excerpt(site.file, site.statement.offset()))
+    }
+
+    /// Adds the word that the refusal is about, with these words before and after it.
+    pub(crate) fn subject(&mut self, before: &'w str, after: &'w str) -> Result<(), AllocError> {
+        self.say(before)?;
+        self.has_subject = true;
+        self.say(after)
+    }
+
+    /// Adds a statement as its keyword and its name, with these words before and after it.
+    pub(crate) fn statement(
+        &mut self,
+        before: &'w str,
+        site: &Site<'_, 'w, '_>,
+        after: &'w str,
+    ) -> Result<(), AllocError> {
+        self.say(before)?;
+        self.say(site.plain_keyword())?;
+        if let Some(argument) = site.statement.argument() {
+            self.say(" ")?;
+            self.quote(argument)?;
+        }
+        self.say(after)
+    }
+
+    /// Whether nothing was said.
+    pub(crate) fn is_empty(&self) -> bool {
+        self.before.is_empty() && self.after.is_empty() && !self.has_subject
+    }
+}
+
+// Adds a piece.
+fn push_piece(
+    alloc: Global,
+    text: &mut String,
+    inputs: &[Input],
+    piece: &Piece<'_>,
+) -> Result<(), AllocError>
+    ensures { OnOk result (Extends (string_bytes text.old) (string_bytes text.new)) }
+{
+    match piece {
+        Piece::Text(words) => text.push_str(words),
+        Piece::Name(name) => push_quoted(text, name),
+        Piece::Prefixed(prefix, name) => push_prefixed(text, prefix, name),
+        Piece::Number(number) => push_number(alloc, text, *number),
+        Piece::Line(file, line) => push_line(alloc, text, inputs, *file, *line),
+        Piece::Excerpt(file, offset) => push_excerpt(alloc, text, inputs, *file, *offset),
+    }
+}
+
+// Adds a name with a prefix, in quotes.
+fn push_prefixed(text: &mut String, prefix: &str, name: &str) -> Result<(), AllocError>
+    ensures { OnOk result (Extends (string_bytes text.old) (string_bytes text.new)) }
+{
+    text.push_str("\"")?;
+    push_shown(text, prefix.as_bytes())?;
+    text.push_str(":")?;
+    push_shown(text, name.as_bytes())?;
+    text.push_str("\"")
+}
+
+/// Adds a number with a comma before each three digits.
+pub(crate) fn push_number(alloc: Global, text: &mut String, number: u64) -> Result<(), AllocError>
+    ensures { OnOk result (Extends (string_bytes text.old) (string_bytes text.new)) }
+{
+    let digits = format!(in alloc; "{number}")?;
+    let count = digits.len();
+    for (place, digit) in digits.chars().enumerate() {
+        let left = count.saturating_sub(place);
+        if place > 0 && left % 3 == 0 {
+            text.push(',')?;
+        }
+        text.push(digit)?;
+    }
+    Ok(())
+}
+
+// Adds the name of a file and a line of it.
+fn push_line(
+    alloc: Global,
+    text: &mut String,
+    inputs: &[Input],
+    file: u32,
+    line: u64,
+) -> Result<(), AllocError>
+    ensures { OnOk result (Extends (string_bytes text.old) (string_bytes text.new)) }
+{
+    if let Some(input) = inputs.get(file as usize) {
+        push_shown(text, input.name.as_bytes())?;
+    }
+    let place = format!(in alloc; ":{line}")?;
+    text.push_str(place.as_str())
+}
+
+// Adds a line of a file with a caret under this offset.
+fn push_excerpt(
+    alloc: Global,
+    text: &mut String,
+    inputs: &[Input],
+    file: u32,
+    offset: u64,
+) -> Result<(), AllocError>
+    ensures { OnOk result (Extends (string_bytes text.old) (string_bytes text.new)) }
+{
+    let Some(input) = inputs.get(file as usize) else {
+        return Ok(());
+    };
+    text.push_str("\n")?;
+    let place = usize::try_from(offset).unwrap_or(0);
+    let shown = excerpt(alloc, &input.bytes, place.min(input.bytes.len()))?;
+    text.push_str(shown.trim_end())
+}
+
+fn push_pieces(
+    alloc: Global,
+    text: &mut String,
+    inputs: &[Input],
+    pieces: &[Piece<'_>],
+) -> Result<(), AllocError>
+    ensures { OnOk result (Extends (string_bytes text.old) (string_bytes text.new)) }
+{
+    for piece in pieces {
+        push_piece(alloc, text, inputs, piece)?;
+    }
+    Ok(())
+}
+
+/// Adds what is said of a refusal that is about a word.
+pub(crate) fn push_around(
+    alloc: Global,
+    text: &mut String,
+    inputs: &[Input],
+    telling: &Telling<'_>,
+    word: &str,
+) -> Result<(), AllocError>
+    ensures grows { OnOk result (Extends (string_bytes text.old) (string_bytes text.new)) }
+    ensures names { OnOk result (Quotes word.now (string_bytes text.new)) }
+{
+    push_pieces(alloc, text, inputs, &telling.before)?;
+    push_quoted(text, word)?;
+    push_pieces(alloc, text, inputs, &telling.after)?;
+    Ok(())
+}
+
+/// Adds what is said of a refusal that is about no word.
+pub(crate) fn push_plain(
+    alloc: Global,
+    text: &mut String,
+    inputs: &[Input],
+    telling: &Telling<'_>,
+) -> Result<(), AllocError>
+    ensures { OnOk result (Extends (string_bytes text.old) (string_bytes text.new)) }
+{
+    push_pieces(alloc, text, inputs, &telling.before)?;
+    push_pieces(alloc, text, inputs, &telling.after)?;
+    Ok(())
+}
