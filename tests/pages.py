@@ -7,7 +7,7 @@ here. A line `[2]` at the end is the exit status, which isn't compared without i
 REFUSALS.md and FAULTS.md have samples besides: blocks of files, or a document, then standard output in a `text` block. A file is marked
 `yang`, `yang file NAME`, `yang hex`, `yang padded N` (blanks to N bytes), `yang nested N` (N more containers, all of them closed), or
 `yang limit N` (with that `--max-nodes`); it is `ex.yang` if it isn't named. `yang module` is the module of the documents after it,
-which are marked `json`; files without a document are compiled. The last lines of standard error are those of the block `text stderr`
+which are marked `json`, or `json kind K` (with that `--kind`); files without a document are compiled. The last lines of standard error are those of the block `text stderr`
 after the output; without one, of a refusal, its name with the sentence below its heading.
 """
 import re
@@ -74,10 +74,10 @@ def file_of(block):
     return words[1] if how == "file" else "ex.yang", block.text.encode()
 
 
-def limit_of(block):
-    """The options that a block of a file asks for."""
-    words = block.label.split()
-    return ["--max-nodes", words[1]] if words[:1] == ["limit"] else []
+def options_of(block):
+    """The options that a block of a file or of a document asks for."""
+    words, options = block.label.split(), {"limit": "--max-nodes", "kind": "--kind"}
+    return [options[words[0]], words[1]] if words and words[0] in options else []
 
 
 class Samples:
@@ -113,9 +113,9 @@ class Samples:
             self.module = file_of(block)
         elif block.language == "yang":
             self.files.append(file_of(block))
-            self.options += limit_of(block)
+            self.options += options_of(block)
         elif block.language == "json":
-            self.files, self.data = [self.module], block.text.encode()
+            self.files, self.data, self.options = [self.module], block.text.encode(), options_of(block)
         elif (block.language, block.label) in (("told", ""), ("text", "stderr")):
             self.found[-1].errors, self.found[-1].last = block, block.lines
         elif block.language == "text" and self.files:

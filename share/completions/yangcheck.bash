@@ -27,6 +27,7 @@ _yangcheck_value() {
   local option=$1 word=$2
   case $option in
     --data) _yangcheck_files .json "$word" ;;
+    --kind) _yangcheck_words "data config" "$word" ;;
     --module) _yangcheck_words "$(_yangcheck_module_names)" "$word" ;;
     --support) _yangcheck_words "$(_yangcheck_module_names | sed 's/$/:/')" "$word" ;;
     --import-only)
@@ -45,7 +46,7 @@ _yangcheck_options() {
   local command=$1 word=$2 option left=()
   local options=(--max-nodes --support --import-only --help)
   [ "$command" = tree ] && options+=(--module)
-  [ "$command" = validate ] && options+=(--data)
+  [ "$command" = validate ] && options+=(--data --kind)
   for option in "${options[@]}"; do
     [[ " ${COMP_WORDS[*]:2} " == *" $option "* && $option != "$word" ]] || left+=("$option")
   done

@@ -25,4 +25,5 @@ complete -c yangcheck -n $in_command -l support -x -a '(__yangcheck_modules | st
 complete -c yangcheck -n $in_command -l import-only -x -a '(__fish_append , (__yangcheck_modules))' -d 'Modules that are only imported'
 complete -c yangcheck -n '__fish_seen_subcommand_from tree' -l module -x -a '(__yangcheck_modules)' -d 'Module to draw'
 complete -c yangcheck -n '__fish_seen_subcommand_from validate' -l data -r -k -a '(__fish_complete_suffix .json)' -d 'JSON document, or - for standard input'
+complete -c yangcheck -n '__fish_seen_subcommand_from validate' -l kind -x -a 'data\t"configuration and state" config\t"configuration alone"' -d 'What the document holds'
 complete -c yangcheck -n $in_command -k -a '(__fish_complete_suffix .yang)'
