@@ -88,8 +88,16 @@ struct Placing {
 // A stretch of augments that had its turns: its least refusal, and the number of the next copy.
 #[derive(Drop)]
 struct Followed {
+    grafting: Grafting,
     missing: Option<Refusal>,
     number: usize,
+}
+
+// A uses whose augments had their turns, and the least refusal of these.
+#[derive(Drop)]
+struct Turned {
+    grafting: Grafting,
+    missing: Option<Refusal>,
 }
 
 impl Plan<'_, '_, '_> {
@@ -137,30 +145,31 @@ impl Plan<'_, '_, '_> {
     // The turn of the numbered copy of an augment of a uses that gives something. Its refusal, if it adds to no node.
     fn give(
         &self,
-        grafting: &mut Grafting,
+        grafting: Grafting,
         spot: &Spot,
         number: usize,
         it: &Addressed,
-    ) -> Result<Option<Refusal>, AllocError>
+    ) -> Result<Turned, AllocError>
         requires few { number < 2 ^ 63 }
-        ensures state { (labels : List Label) (st : State) → IsGrafting labels st grafting.old → length labels ≡ length self.now.items.now
+        ensures state { (labels : List Label) (st : State) → IsGrafting labels st grafting → length labels ≡ length self.now.items.now
             → it.now.path.items ≡ path_in (whole_in self.now) spot.now.home it.now.augment → number < length st.ends
-            → OnOk result (IsGrafting labels (copy_turn (whole_in self.now) labels spot.now number it.now.augment st) grafting.new) }
-        ensures missing { (labels : List Label) (st : State) → IsGrafting labels st grafting.old → length labels ≡ length self.now.items.now
-            → IfOk result (IsLeast (Refused (rows_in self.now.rows.now) AugmentTarget (added_to labels st
-            (last_of (members_of st.groups (group_of_augment labels number))) spot.now.group it.now.path.items ≡ None) it.now.augment)) }
+            → IfOk result (λ turned. IsGrafting labels (copy_turn (whole_in self.now) labels spot.now number it.now.augment st) turned.grafting) }
+        ensures missing { (labels : List Label) (st : State) → IsGrafting labels st grafting → length labels ≡ length self.now.items.now
+            → IfOk result (λ turned. IsLeast (Refused (rows_in self.now.rows.now) AugmentTarget (added_to labels st
+            (last_of (members_of st.groups (group_of_augment labels number))) spot.now.group it.now.path.items ≡ None) it.now.augment)
+            turned.missing) }
     {
         let group = self.copy_group(number);
         let limit = last_of(grafting.members(group));
-        let missing = self.missing(grafting, spot.group, limit, it);
-        grafting.turn(number, spot.group, limit, &it.path)?;
-        Ok(missing)
+        let missing = self.missing(&grafting, spot.group, limit, it);
+        let grafting = grafting.turn(number, spot.group, limit, &it.path)?;
+        Ok(Turned { grafting, missing })
     }
 
     // The turns of a stretch of augments of a uses.
     fn follow(
         &self,
-        grafting: &mut Grafting,
+        grafting: Grafting,
         spot: &Spot,
         end: usize,
         number: usize,
@@ -171,25 +180,30 @@ impl Plan<'_, '_, '_> {
             → number ≡ next_number (rows_in self.now.rows.now) spot.now from
             → IfOk result (λ followed. followed.number ≡ next_number (rows_in self.now.rows.now) spot.now to) }
         ensures ready { (labels : List Label) (st : State) (from to : ℕ)
-            → IsReady (whole_in self.now) labels spot.now st from number grafting.old
+            → IsReady (whole_in self.now) labels spot.now st from number grafting
             → IsStretch (whole_in self.now) spot.now.statement spot.now.home from to stretch.now
-            → IfOk result (λ followed. IsReady (whole_in self.now) labels spot.now st to followed.number grafting.new) }
+            → IfOk result (λ followed. IsReady (whole_in self.now) labels spot.now st to followed.number followed.grafting) }
         ensures missing { (labels : List Label) (st : State) (from to : ℕ)
-            → IsReady (whole_in self.now) labels spot.now st from number grafting.old
+            → IsReady (whole_in self.now) labels spot.now st from number grafting
             → IsStretch (whole_in self.now) spot.now.statement spot.now.home from to stretch.now
             → IfOk result (λ followed. IsLeast (MissesBetween (whole_in self.now) labels spot.now end st from to) followed.missing) }
     {
         yv_augments::laws::turns_keep_augments();
-        let missing = self.first_missing(grafting, spot, end, &stretch.idle);
+        let missing = self.first_missing(&grafting, spot, end, &stretch.idle);
         match &stretch.giving {
             Some(it) => {
                 let own = self.give(grafting, spot, number, it)?;
                 Ok(Followed {
-                    missing: lesser(missing, own),
+                    grafting: own.grafting,
+                    missing: lesser(missing, own.missing),
                     number: number + 1,
                 })
             }
-            None => Ok(Followed { missing, number }),
+            None => Ok(Followed {
+                grafting,
+                missing,
+                number,
+            }),
         }
     }
 
@@ -206,25 +220,28 @@ impl Plan<'_, '_, '_> {
     fn turns(
         &self,
         alloc: Global,
-        grafting: &mut Grafting,
+        mut grafting: Grafting,
         spot: &Spot,
         end: usize,
         schedules: &mut Schedules,
-    ) -> Result<Option<Refusal>, AllocError>
+    ) -> Result<Turned, AllocError>
         requires plan { IsPlan self.now }
         requires schedules { AreSchedules (whole_in self.now) schedules.old }
         requires few { IsNumbered (rows_in self.now.rows.now) spot.now }
         ensures schedules { OnOk result (AreSchedules (whole_in self.now) schedules.new) }
-        ensures state { (labels : List Label) (st : State) → IsGrafting labels st grafting.old → length labels ≡ length self.now.items.now
+        ensures state { (labels : List Label) (st : State) → IsGrafting labels st grafting → length labels ≡ length self.now.items.now
             → spot.now.first + copies_of (rows_in self.now.rows.now) spot.now ≤ length st.ends
-            → OnOk result (IsGrafting labels (turns (whole_in self.now) labels spot.now st) grafting.new) }
-        ensures missing { (labels : List Label) (st : State) → IsGrafting labels st grafting.old → length labels ≡ length self.now.items.now
+            → IfOk result (λ turned. IsGrafting labels (turns (whole_in self.now) labels spot.now st) turned.grafting) }
+        ensures missing { (labels : List Label) (st : State) → IsGrafting labels st grafting → length labels ≡ length self.now.items.now
             → spot.now.first + copies_of (rows_in self.now.rows.now) spot.now ≤ length st.ends
-            → IfOk result (IsLeast (MissesOf (whole_in self.now) labels spot.now end st)) }
+            → IfOk result (λ turned. IsLeast (MissesOf (whole_in self.now) labels spot.now end st) turned.missing) }
     {
         let mut least = None;
         if !self.has_augments(spot) {
-            return Ok(least);
+            return Ok(Turned {
+                grafting,
+                missing: least,
+            });
         }
         self.prepare(alloc, schedules, spot.statement, spot.home)?;
         let mut number = spot.first;
@@ -232,8 +249,12 @@ impl Plan<'_, '_, '_> {
             let followed = self.follow(grafting, spot, end, number, stretch)?;
             least = lesser(least, followed.missing);
             number = followed.number;
+            grafting = followed.grafting;
         }
-        Ok(least)
+        Ok(Turned {
+            grafting,
+            missing: least,
+        })
     }
 
     // The items enter from the last to the first, and before a uses enters its refines are followed, and its augments have their turns.
@@ -261,8 +282,9 @@ impl Plan<'_, '_, '_> {
             let spot = &layout.spots[left];
             let end = end_of(ends, left);
             self.refine_all(alloc, &grafting, spot, left, end, &mut aims)?;
-            let refusal = self.turns(alloc, &mut grafting, spot, end, &mut schedules)?;
-            note(&mut missing, left, refusal);
+            let turned = self.turns(alloc, grafting, spot, end, &mut schedules)?;
+            note(&mut missing, left, turned.missing);
+            grafting = turned.grafting;
             grafting.enter(left, spot.group)?;
         }
         Ok(Placing {
@@ -344,12 +366,12 @@ pub fn graft(
     let layout = plan.lay(alloc, items)?;
     let ends = ends(alloc, items)?;
     let Placing {
-        mut grafting,
+        grafting,
         missing,
         refined,
     } = plan.place(alloc, &layout, &ends)?;
     let paths = plan.module_paths(alloc)?;
-    grafting.run(0, &paths)?;
+    let grafting = grafting.run(0, &paths)?;
     let Layout { spots, copies: _ } = layout;
     Ok(Grafts {
         spots,

@@ -20,7 +20,7 @@ fn no_ends(alloc: Global, count: usize) -> Result<Vec<Option<End>>, AllocError>
 }
 
 /// Numbered items that enter groups, and numbered augments that give others to nodes among them. An augment that gives
-/// nothing needs no number: it may be asked where its path leads, and changes nothing. It can't be used after memory ran out.
+/// nothing needs no number: it may be asked where its path leads, and changes nothing.
 #[derive(Drop)]
 pub struct Grafting {
     pub(crate) places: Places,
@@ -106,22 +106,22 @@ impl Grafting {
 
     /// An augment has its turn: it is applied, if it wasn't yet and its target is there. What it gives goes to the target, if that
     /// may take nodes (RFC 7950, sections 7.13 and 7.17). The path of one of a uses begins in the group of the uses, and its limit is
-    /// the number of the first item of its block.
+    /// the number of the first item of its block. Where memory runs out, part of it may have been given: nothing is left then.
     pub fn turn(
-        &mut self,
+        mut self,
         number: usize,
         start: usize,
         limit: usize,
         path: &[usize],
-    ) -> Result<(), AllocError>
-        ensures { (labels : List Label) (st : State) → IsGrafting labels st self.old → number < length st.ends
-            → OnOk result (IsGrafting labels (turn labels number start limit path.now st) self.new) }
+    ) -> Result<Grafting, AllocError>
+        ensures { (labels : List Label) (st : State) → IsGrafting labels st self → number < length st.ends
+            → IfOk result (IsGrafting labels (turn labels number start limit path.now st)) }
     {
         if number < self.ends.len() {
             let end = self.places.walk(start, limit, path);
             self.settle(number, end)?;
         }
-        Ok(())
+        Ok(self)
     }
 
     /// The items of a group, as they came there.

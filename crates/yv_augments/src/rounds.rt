@@ -138,15 +138,17 @@ impl Grafting {
 
     /// Applies augments of modules in rounds, the first of them having this number and all paths beginning at the top: a round goes
     /// through those that aren't applied, in order, and applies each whose target is there; a round that applies none is the last
-    /// (RFC 7950, section 7.17).
-    pub fn run(&mut self, first: usize, paths: &[Vec<usize>]) -> Result<(), AllocError>
-        ensures { (labels : List Label) (st : State) → IsGrafting labels st self.old → first + length paths.now ≤ length st.ends
-            → OnOk result ((new : State) × AreApplied labels first (map (λ p. p.items) paths.now) st new × IsGrafting labels new self.new) }
+    /// (RFC 7950, section 7.17). Where memory runs out, some may have been applied: nothing is left then.
+    pub fn run(mut self, first: usize, paths: &[Vec<usize>]) -> Result<Grafting, AllocError>
+        ensures { (labels : List Label) (st : State) → IsGrafting labels st self → first + length paths.now ≤ length st.ends
+            → IfOk result (λ grafting. (new : State) × AreApplied labels first (map (λ p. p.items) paths.now) st new
+            × IsGrafting labels new grafting) }
     {
         let count = self.ends.len();
-        if first <= count && paths.len() <= count - first {
-            self.run_rounds(first, paths)?;
+        if first > count || paths.len() > count - first {
+            return Ok(self);
         }
-        Ok(())
+        self.run_rounds(first, paths)?;
+        Ok(self)
     }
 }

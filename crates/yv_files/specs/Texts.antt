@@ -1,5 +1,5 @@
 -- How far files were read, one after the other; how, only the readers ask.
-use Rattle.std.specs.Prelude.{◌≡◌, ℕ, List, length, take, MatchOption, slice_get, Some}
+use Rattle.std.specs.Prelude.{◌≡◌, ◌≤◌, ℕ, List, length, take, IfSome, MatchOption, slice_get, Some}
 use Rattle.std.specs.List.{AllZip}
 use Rattle.yv_statement.specs.Tree.{Tree}
 use Rattle.yv_statement.specs.declared.refusal.Refusal.{Refusal}
@@ -22,10 +22,12 @@ pub record IsNoText (files : List File) (n : ℕ) (r : Refusal) : Type 0 where
   pub bad : IsBadFile file.bytes own
   pub placed : r ≡ in_file n own
 
--- the texts are those of the first files; the next one is none where there is a refusal, and else there is no next one
+-- the texts are those of the first files; the next one is none where there is a refusal, and else there is no next one. A refusal is told
+-- of a file whose number 32 bits hold
 pub record AreTexts (files : List File) (t : Texts) : Type 0 where
   pub each : AllZip IsText (take (length t.sources.items) files) t.sources.items
   pub rest : MatchOption t.bad (length t.sources.items ≡ length files) (IsNoText files (length t.sources.items))
+  pub few : IfSome t.bad (λ r. length t.sources.items ≤ 4294967295)
 
 -- the text spells the statement
 abbrev pub Spells : source.File → Tree → Type 0

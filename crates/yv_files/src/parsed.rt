@@ -1,8 +1,8 @@
 //! The statements of texts.
-ghost use Rattle.std.specs.Prelude.{◌≡◌, ◌≢◌, IfOk, Err};
+ghost use Rattle.std.specs.Prelude.{◌≡◌, ◌≢◌, ◌<◌, ◌≤◌, ◌⊎◌, IfOk, OnErr, Err};
 ghost use Rattle.std.specs.List.{AllZip};
 ghost use Rattle.yv_statement.specs.declared.refusal.Refusal.{Refusal as TheRefusal};
-ghost use Rattle.yv_statement.specs.declared.refusal.Stop.TheVariants.{Fault, PatternBuild};
+ghost use Rattle.yv_statement.specs.declared.refusal.Stop.TheVariants.{Fault, NoMemory, PatternBuild};
 ghost use Rattle.yv_files.specs.Read.{in_file};
 ghost use Rattle.yv_files.specs.Texts.{Spells, SpellsNone};
 
@@ -10,9 +10,11 @@ use std::alloc::{AllocError, Global};
 use yv_source::{Source, parse};
 use yv_statement::{Refusal, Statement, Stop};
 
-/// A refusal of one file, reported for the file of this number.
+/// A refusal of one file, reported for the file of this number. Want of memory where 32 bits don't hold the number, and nowhere else.
 pub(crate) fn in_file(number: usize, refusal: Refusal) -> Result<Refusal, AllocError>
-    ensures { IfOk result (λ r. r ≡ in_file number refusal) }
+    ensures value { IfOk result (λ r. r ≡ in_file number refusal) }
+    ensures few { IfOk result (λ r. number ≤ 4294967295) }
+    ensures many { OnErr result (4294967295 < number) }
 {
     if number > 4_294_967_295 {
         return Err(AllocError);
@@ -46,6 +48,7 @@ pub(crate) fn parse_all<'a>(
 fn placed(number: usize, stop: Stop) -> Stop
     ensures fault { (r : TheRefusal) → result ≡ Fault r → (q : TheRefusal) × (stop ≡ Fault q) × (r ≡ in_file number q) }
     ensures built { result ≡ PatternBuild → stop ≡ PatternBuild }
+    ensures many { result ≡ NoMemory → (stop ≡ NoMemory) ⊎ (4294967295 < number) }
 {
     match stop {
         Stop::Fault(refusal) => match in_file(number, refusal) {

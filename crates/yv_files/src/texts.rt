@@ -22,7 +22,8 @@ pub struct Texts {
 }
 
 impl Texts {
-    /// The texts of files that were read, up to the first whose bytes are not text. No memory for more than 2 to the 32.
+    /// The texts of files that were read, up to the first whose bytes are not text. Want of memory where that isn't among the first
+    /// 2 to the 32.
     pub fn read(alloc: Global, inputs: &[Input]) -> Result<Texts, AllocError>
         ensures { IfOk result (AreTexts (map file_of inputs.now)) }
     {

@@ -70,7 +70,7 @@ impl<'p> Matchers<'p> {
         }
     }
 
-    /// Whether the whole text matches (RFC 7950, section 9.4.5).
+    /// Whether the whole text matches (RFC 7950, section 9.4.5). No answer depends on which matchers are kept, nor on an error before.
     pub fn is_match(
         &mut self,
         alloc: Global,

@@ -1,11 +1,12 @@
 //! The patterns of one compilation: equal ones are built once, and all of them have one allowance of room.
-ghost use Rattle.std.specs.Prelude.{◌≡◌, ◌≢◌, ◌≤◌, IfOk, IfErr, IfSome, string_bytes};
+ghost use Rattle.std.specs.Prelude.{◌≡◌, ◌≢◌, ◌≤◌, IfOk, IfErr, IfSome, OnErr, string_bytes};
 ghost use Rattle.yv_pattern.specs.Spells.{Translates, IsRefusedAs};
 
 use crate::expected::expected_tables;
 use crate::pattern::{Pattern, bad_pattern, characters_of, source_of};
 use std::alloc::{AllocError, Global};
 use std::collections::BTreeMap;
+use std::marker::Model;
 use std::rc::Rc;
 use yv_statement::{Refusal, Stop};
 
@@ -30,6 +31,15 @@ pub struct Patterns {
     room: usize,
 }
 
+impl Model for Patterns {
+    ghost use Rattle.std.specs.Prelude.{map, string_bytes};
+    ghost use Rattle.yv_pattern.specs.Kept.{Kept};
+
+    ghost Value = { Kept };
+
+    ghost view = { λ p. record { sources = map (λ e. string_bytes e.0) p.built.entries; room = p.room } };
+}
+
 impl Patterns {
     /// None yet.
     pub fn new(alloc: Global) -> Patterns {
@@ -42,10 +52,12 @@ impl Patterns {
     /// Reads the argument of a `pattern` statement; where one with the same translation was read before, it is that. A text
     /// outside the dialect is `BadPattern`, with file and offset 0 and line 1, since the text's place isn't known here.
     /// `PatternBuild` says that `regex` doesn't build the translation of a text of the dialect in the room that is left,
-    /// which is 256 MiB for all patterns together, each taking 8 KiB at least. What was read before can be read again.
+    /// which is 256 MiB for all patterns together, each taking 8 KiB at least. What was read before can be read again. After an
+    /// error all is as before.
     pub fn read(&mut self, alloc: Global, text: &str) -> Result<Rc<Pattern>, Stop>
         ensures read { IfOk result (λ p. Translates text.now p.value) }
         ensures refused { IfErr result (IsRefusedAs text.now) }
+        ensures same { OnErr result (self.new ≡ self.old) }
     {
         match source_of(alloc, text)? {
             Some(source) => self.of_source(alloc, text, source),
@@ -53,10 +65,11 @@ impl Patterns {
         }
     }
 
-    // The pattern of the source that is written for a text.
+    // The pattern of the source that is written for a text. The room is charged last, so that all is as before where memory runs out.
     fn of_source(&mut self, alloc: Global, text: &str, source: String) -> Result<Rc<Pattern>, Stop>
         ensures source { IfOk result (λ p. p.value ≡ string_bytes source) }
         ensures kind { IfErr result (λ stop. (refusal : Refusal) → stop ≢ Stop.Fault refusal) }
+        ensures same { OnErr result (self.new ≡ self.old) }
     {
         if let Some(pattern) = self.known(source.as_str())? {
             return Ok(pattern);
@@ -65,9 +78,9 @@ impl Patterns {
         let number = self.built.len();
         let (pattern, taken) = built(alloc, source.as_str(), limits, number, self.room)?;
         let pattern = Rc::new(alloc, pattern)?;
-        self.room -= taken;
         let copy = pattern.clone()?;
         self.built.insert(source, copy)?;
+        self.room -= taken;
         Ok(pattern)
     }
 

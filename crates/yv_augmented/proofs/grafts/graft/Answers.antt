@@ -49,14 +49,14 @@ returns c =
     let count : length c.deref-2.result.now ≡ length w.augments =
     sym (length-map c.deref-2.result.now lists) ∙ ap length paths ∙ length-map w.augments _ in
     let modules = are.modules in
-    let (new, applied, grafting) = c.in_ok-run.ensures labels old ready (omega (arith, ends, count, modules)) in
+    let (new, applied, grafting) = c.in_ok-grafting-2.ensures labels old ready (omega (arith, ends, count, modules)) in
     let known : AreApplied labels 0 (module_paths w) old new = subst (λ (ps : List (List ℕ)). AreApplied labels 0 ps old new) paths applied in
     let size : length (module_paths w) ≡ length w.augments = length-map w.augments _ in
     let entered : HaveEntered labels l.copies 0 old = whole_entered w items long in
     let once : StandOnce (length labels) new.groups =
     c.each_item_stands_once.ensures.applied labels l.copies 0 (module_paths w) old new entered (omega (arith, size, modules)) known in
     let all : length labels ≡ length items = length-map l.spots (λ s. s.label) ∙ are.long ∙ sym long in
-    let grafts : Grafts = record { spots = c.in_ok-layout.layout.spots; missing = c.in_ok-grafting.field-0.missing; refined = c.in_ok-grafting.field-0.refined; grafting = c.run.new.self } in
+    let grafts : Grafts = record { spots = c.in_ok-layout.layout.spots; missing = c.in_ok-grafting.field-0.missing; refined = c.in_ok-grafting.field-0.refined; grafting = c.in_ok-grafting-2.grafting } in
     let size_of : length c.in_ok-layout.layout.spots.items ≡ length items = ap (λ (x : Laid). length x.spots) c.in_ok-layout.ensures.laid ∙ are.long ∙ sym long in
     let told_end : (i : ℕ) → i < length items → get_or c.deref.result.now i 0 ≡ end_at items i =
     λ i lt. (ap (λ (xs : List ℕ). get_or xs i 0) c.deref.ensures.value ∙ c.in_ok-ends.ensures.at i lt) in

@@ -18,10 +18,10 @@ returns-clause-state c = λ labels st is long path room. (
     let group : c.copy_group-group.result ≡ group_of_augment labels number = c.copy_group-group.ensures ∙ ap (λ (n : ℕ). n + 1 + number) (sym long) in
     let limit : c.last_of-limit.result ≡ last_of (members_of st.groups (group_of_augment labels number)) =
     c.last_of-limit.ensures ∙ ap last_of (c.members.ensures labels st is ∙ ap (members_of st.groups) group) in
-    subst (λ (x : State). IsGrafting labels x c.turn.new.self)
+    subst (λ (x : State). IsGrafting labels x c.in_ok-grafting.grafting)
     (ap (λ (p : List ℕ). turn labels number spot.group c.last_of-limit.result p st) (c.deref.ensures.value ∙ path)
     ∙ ap (λ (n : ℕ). turn labels number spot.group n (path_in (whole_in c.args.self.now) spot.home c.args.it.now.augment) st) limit)
-    (c.in_ok-turn.ensures labels st is room))
+    (c.in_ok-grafting.ensures labels st is room))
 
 pub returns-clause-missing : goal.returns-clause-missing
 returns-clause-missing c = λ labels st is long. (

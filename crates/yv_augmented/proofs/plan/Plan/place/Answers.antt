@@ -78,16 +78,16 @@ loop-left-preserved c =
     let long : length labels ≡ w.items = length-map spots (λ x. x.label) ∙ c.requires.laid.long in
     let ends = placed_ends w labels copies c.turns_keep_augments.ensures left (drop left spots) in
     let room : s.first + copies_of w.rows s ≤ length st.ends = (let f = fit.copies in omega (arith, f, ends)) in
-    let refused = subst (λ (e : ℕ). IsLeast (MissesOf w labels s e st) c.in_ok-refusal.refusal) c.end_of-end.ensures
-    (c.in_ok-refusal.ensures.missing labels st c.loop-left.invariant.state long room) in
-    let ready = c.in_ok-refusal.ensures.state labels st c.loop-left.invariant.state long room in
+    let refused = subst (λ (e : ℕ). IsLeast (MissesOf w labels s e st) c.in_ok-turned.turned.missing) c.end_of-end.ensures
+    (c.in_ok-turned.ensures.missing labels st c.loop-left.invariant.state long room) in
+    let ready = c.in_ok-turned.ensures.state labels st c.loop-left.invariant.state long room in
     record {
       within = omega (arith, inside);
       each = ap length c.note.ensures ∙ length-set c.loop-left.missing.items n _ ∙ c.loop-left.invariant.each;
       state = subst (λ (x : State). IsGrafting labels x c.enter.new.self) (placed_more w labels copies n left s spots (turns w labels s st) next at refl)
           (c.in_ok-enter.ensures labels (turns w labels s st) ready);
       aims = c.in_ok-refine_all.ensures.aims;
-      schedules = c.in_ok-refusal.ensures.schedules;
+      schedules = c.in_ok-turned.ensures.schedules;
       refined = refined_more w labels copies (λ i. get_or c.args.ends.now i 0) n left s spots c.end_of-end.result (all_meant c.loop-left.aims.refinements) _ next at c.end_of-end.ensures
           (c.in_ok-refine_all.ensures.meant labels st c.loop-left.invariant.state) c.loop-left.invariant.refined;
       told = missing_more w (laid_in c.args.layout.now) c.args.ends.now n left _ c.loop-left.missing.items _ next (omega (arith, inside, c.loop-left.invariant.each)) c.note.ensures

@@ -22,7 +22,7 @@ use Rattle.yv_augmented.proofs.plan.Plan.turns.Goals as goal
 
 pub returns-then-not-has_augments-clause-state : goal.returns-then-not-has_augments-clause-state
 returns-then-not-has_augments-clause-state c = λ labels st is long room.
-    subst (λ (x : State). IsGrafting labels x c.args.grafting.now)
+    subst (λ (x : State). IsGrafting labels x c.args.grafting)
     (sym (no_turns (whole_in c.args.self.now) labels c.args.spot.now c.args.end st (sym c.has_augments.ensures ∙ c.if-not-has_augments.true))) is
 
 pub returns-then-not-has_augments-clause-missing : goal.returns-then-not-has_augments-clause-missing
@@ -55,7 +55,7 @@ loop-stretch-init c =
       left = subst (AreStretches w spot.statement spot.home 0 (length all)) (sym c.stretches-stretch-items.ensures) c.in_ok-prepare.ensures.ready;
       number = omega arith;
       each = λ labels st is long room. (
-        ready_first w labels spot st c.args.grafting.now is long (omega (arith, room, count)),
+        ready_first w labels spot st c.args.grafting is long (omega (arith, room, count)),
         least_start all (MissesInTurn w labels spot c.args.end st),
       );
     }

@@ -1,4 +1,4 @@
-use Rattle.std.proofs.Common.{◌≡◌, ◌∙◌, ap, map, subst, List, Some}
+use Rattle.std.proofs.Common.{◌≡◌, ◌∙◌, ap, arith, map, subst, List, Some}
 use Rattle.std.specs.List.{slice_get}
 use Rattle.yv_statement.specs.declared.refusal.Stop.{Stop}
 use Rattle.yv_source.specs.Answer.{IsBadFile}
@@ -17,8 +17,12 @@ returns-in-Err-Fault c =
     let bad : IsBadFile f.bytes c.in-Err-Fault.refusal =
     subst (λ bytes. IsBadFile bytes c.in-Err-Fault.refusal) c.as_slice.ensures.value
     ((c.in-Err-Fault.ensures.refused c.in-Err-Fault.refusal).0 (ap (failed source.File Stop) c.in-Err-Fault.field-0-is)) in
-    let p = texts_end files c.loop-number.sources.items c.loop-number.number f c.in-Err-Fault.refusal c.in_ok-in_file-in-Err-Fault.field-0 at bad (c.in_ok-in_file-in-Err-Fault.ensures ∙ ap (in_file c.loop-number.number) c.in-Err-Fault.refusal-is) c.loop-number.invariant in
-    record { each = p.0; rest = p.1 }
+    let p = texts_end files c.loop-number.sources.items c.loop-number.number f c.in-Err-Fault.refusal c.in_ok-in_file-in-Err-Fault.field-0 at bad (c.in_ok-in_file-in-Err-Fault.ensures.value ∙ ap (in_file c.loop-number.number) c.in-Err-Fault.refusal-is) c.loop-number.invariant in
+    record {
+      each = p.0;
+      rest = p.1;
+      few = (let long = c.loop-number.invariant.0 in let few = c.in_ok-in_file-in-Err-Fault.ensures.few in omega (arith, long, few));
+    }
 
 pub loop-number-preserved : goal.loop-number-preserved
 loop-number-preserved c =
