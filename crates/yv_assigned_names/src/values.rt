@@ -7,6 +7,7 @@ ghost use Rattle.yv_assigned_names.specs.Values.{has};
 
 use std::alloc::{AllocError, Global};
 use std::collections::BTreeSet;
+use std::rc::RcStr;
 use yv_values::Names;
 
 /// Names that are values, each once.
@@ -46,7 +47,7 @@ impl<'a> Values<'a> {
     {
         let mut names = Vec::new(alloc);
         for name in self.names.iter() {
-            names.push(String::from_str(alloc, name)?)?;
+            names.push(RcStr::from_str(alloc, name)?)?;
         }
         Names::new(names)
     }

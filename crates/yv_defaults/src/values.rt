@@ -9,7 +9,7 @@ use yv_values::{Matchers, PlainType, Scope, Value, read_text_with};
 
 /// The value of a default's text by the first of these types that reads it (RFC 7950, section 9.12), or none. The scope is
 /// that of the file in which the default is written, and the matchers are kept of
-/// the types' patterns from one text to the next.
+/// the types' patterns from one text to the next: no answer depends on which are kept, nor on an error before.
 pub fn default_value<'t>(
     alloc: Global,
     matchers: &mut Matchers<'t>,

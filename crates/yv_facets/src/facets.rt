@@ -16,8 +16,8 @@ use yv_values::PlainType;
 /// What a type statement's `range`, `length` and `pattern` leave of the type that it names, and the least that is wrong
 /// with them (RFC 7950, sections 9.2.4, 9.3.4, 9.4.4 to 9.4.6 and 9.8.1). A type that none of them restricts passes
 /// unchanged. `PatternBuild` says that `regex` doesn't build the translation of a pattern of the dialect; no refusal is
-/// an error here. Patterns that were read before are shared. It takes time linear in the statement except for what `restricted`
-/// and `Patterns::read` say and, where there is a pattern, time logarithmic in the types that it restricts.
+/// an error here. Patterns that were read before are shared; after an error they are there still, and some of this statement's may be, too. It
+/// takes time linear in the statement but for what `restricted` and `Patterns::read` say and, with a pattern, logarithmic in the types restricted.
 pub fn narrowed(
     alloc: Global,
     patterns: &mut Patterns,

@@ -1,6 +1,5 @@
 -- What a statement says of the schema node that it defines (RFC 7950, section 7).
-use Rattle.std.specs.Prelude.{ℕ, Bool, List, [], Option, None, true, false, ◌∷◌, map}
-use Rattle.std.specs.Option.{option_or}
+use Rattle.std.specs.Prelude.{ℕ, ◌==◌, Bool, List, [], Option, None, true, false, ◌∷◌, map, option_to_list, slice_get, if◌then◌else◌}
 use Rattle.std.specs.Rc.{rc_str_bytes}
 use Rattle.std.specs.declared.vec.Vec.{Vec}
 use Rattle.std.specs.declared.alloc.Global.{Global}
@@ -43,13 +42,23 @@ pub record Defined : Type 0 where
   pub max : Option ℕ
   pub keys : List (Option Step)
   pub uniques : List (List (List (Option Step)))
-  pub own_default : Option Written
+  pub own_defaults : List Written
   pub type_default : Option Written
   pub defaults : List Val
 
--- the default that is said of a node: its own, or else that of its type (sections 7.3.4 and 7.6.1)
-abbrev pub default_of : Defined → Option Written
-default_of d = option_or d.own_default d.type_default
+-- its own default, where it can have one alone, as a leaf and a choice can
+abbrev pub own_default : Defined → Option Written
+own_default d = slice_get d.own_defaults 0
+
+-- the second list, where the first is empty
+abbrev pub or_list : {A : Type 0} → List A → List A → List A
+or_list [] ys = ys
+or_list (x ∷ xs) ys = x ∷ xs
+
+-- the defaults that are said of a node: its own, or else that of its type, but not where entries are asked for (sections 7.3.4, 7.6.1
+-- and 7.7.2)
+abbrev pub defaults_said : Defined → List Written
+defaults_said d = or_list d.own_defaults (if d.min == 0 then option_to_list d.type_default else [])
 
 abbrev pub is_empty : List (Option Step) → Bool
 is_empty [] = true
@@ -79,7 +88,7 @@ blank = record {
   max = None;
   keys = [];
   uniques = [];
-  own_default = None;
+  own_defaults = [];
   type_default = None;
   defaults = [];
 }
@@ -104,7 +113,7 @@ with_types types d = record {
   max = d.max;
   keys = d.keys;
   uniques = d.uniques;
-  own_default = d.own_default;
+  own_defaults = d.own_defaults;
   type_default = d.type_default;
   defaults = d.defaults;
 }

@@ -1,9 +1,10 @@
 //! What a statement says of the schema node that it defines.
-ghost use Rattle.std.specs.Prelude.{◌≡◌, not, map, IfOk};
+ghost use Rattle.std.specs.Prelude.{◌≡◌, ◌≤◌, length, not, map, IfOk};
 ghost use Rattle.std.specs.Option.{option_map};
 ghost use Rattle.std.specs.Rc.{rc_slice_items, rc_str_bytes};
 ghost use Rattle.yv_values.specs.Types.{plain_of};
-ghost use Rattle.yv_properties.specs.Defined.{default_of, is_empty, paths_in, with_types, written_of};
+ghost use Rattle.yv_values.specs.Same.{has_same};
+ghost use Rattle.yv_properties.specs.Defined.{defaults_said, is_empty, own_default, paths_in, with_types, written_of};
 ghost use Rattle.yv_properties.specs.Steps.{has_step};
 
 use crate::keys::Keys;
@@ -13,7 +14,7 @@ use crate::step::PathStep;
 use std::alloc::{AllocError, Global};
 use std::marker::Model;
 use std::rc::{Rc, RcSlice, RcStr};
-use yv_values::{PlainType, Value};
+use yv_values::{Defaults, PlainType, Value};
 
 /// A text, and the file in which it is written, whose prefixes it uses.
 #[derive(Drop)]
@@ -46,12 +47,12 @@ pub struct DefinitionDraft {
     pub keys: Rc<Keys>,
     /// The paths of each of its `unique` statements, in order.
     pub uniques: Rc<Vec<Vec<Vec<Option<PathStep>>>>>,
-    /// The argument of its `default` statement.
-    pub own_default: Option<WrittenText>,
+    /// The arguments of its `default` statements, in order: one at most where it is no leaf-list.
+    pub own_defaults: RcSlice<WrittenText>,
     /// The default that its type has by its typedefs.
     pub type_default: Option<WrittenText>,
     /// The values that these give it: one at most at a leaf.
-    pub defaults: RcSlice<Value>,
+    pub defaults: Rc<Defaults>,
     /// The number of the file that contains the statement.
     pub file: u32,
     /// The fewest entries that a list or leaf-list has to have: 0 where nothing is said.
@@ -97,9 +98,9 @@ impl Model for DefinitionDraft {
       max = d.max;
       keys = d.keys.value;
       uniques = map paths_in d.uniques.value.items;
-      own_default = option_map written_of d.own_default;
+      own_defaults = map written_of (rc_slice_items d.own_defaults);
       type_default = option_map written_of d.type_default;
-      defaults = rc_slice_items d.defaults;
+      defaults = d.defaults.value;
     } };
 }
 
@@ -115,11 +116,15 @@ impl DefinitionDraft {
         })
     }
 
-    /// The default that is said of it: its own, or else that of its type.
-    pub fn default(&self) -> Option<&WrittenText>
-        ensures { option_map (λ written. written_of written.now) result ≡ default_of self.now }
+    /// How many defaults are said of it: its own, or else that of its type, but not where entries are asked for (RFC 7950, sections
+    /// 7.3.4, 7.6.1 and 7.7.2).
+    pub fn count_defaults_said(&self) -> usize
+        ensures { result ≡ length (defaults_said self.now) }
     {
-        self.own_default.as_ref().or(self.type_default.as_ref())
+        match self.own_defaults.len() {
+            0 if self.min == 0 && self.type_default.is_some() => 1,
+            count => count,
+        }
     }
 
     // The same once more, over the same texts and lists.
@@ -136,7 +141,7 @@ impl DefinitionDraft {
             path: self.path.clone()?,
             keys: self.keys.clone()?,
             uniques: self.uniques.clone()?,
-            own_default: shared_default(&self.own_default)?,
+            own_defaults: self.own_defaults.clone()?,
             type_default: shared_default(&self.type_default)?,
             defaults: self.defaults.clone()?,
             file: self.file,
@@ -308,11 +313,18 @@ impl Definition {
         self.said.uniques.as_slice()
     }
 
-    /// The argument of its `default` statement, and the file that contains it.
-    pub fn own_default(&self) -> Option<&WrittenText>
-        ensures { option_map (λ written. written_of written.now) result ≡ self.now.own_default }
+    /// The arguments of its `default` statements, and the files that contain them, in order: one at most where it is no leaf-list.
+    pub fn own_defaults(&self) -> &[WrittenText]
+        ensures { map written_of result.now ≡ self.now.own_defaults }
     {
-        self.said.own_default.as_ref()
+        self.said.own_defaults.as_slice()
+    }
+
+    /// The argument of its `default` statement, and the file that contains it: the first, where it has more.
+    pub fn own_default(&self) -> Option<&WrittenText>
+        ensures { option_map (λ written. written_of written.now) result ≡ own_default self.now }
+    {
+        self.own_defaults().first()
     }
 
     /// The default that its type has by its typedefs, and the file that contains it (RFC 7950, section 7.3.4).
@@ -322,18 +334,34 @@ impl Definition {
         self.said.type_default.as_ref()
     }
 
-    /// The default that is said of it: its own, or else that of its type.
-    pub fn default(&self) -> Option<&WrittenText>
-        ensures { option_map (λ written. written_of written.now) result ≡ default_of self.now }
+    /// How many defaults are said of it: its own, or else that of its type, but not where entries are asked for (RFC 7950, sections
+    /// 7.3.4, 7.6.1 and 7.7.2).
+    pub fn count_defaults_said(&self) -> usize
+        ensures { result ≡ length (defaults_said self.now) }
     {
-        self.own_default().or(self.type_default())
+        self.said.count_defaults_said()
     }
 
-    /// The values that its default gives it: one at most (RFC 7950, section 7.6.1).
+    /// The values that its defaults give it: one at most where it is no leaf-list (RFC 7950, sections 7.6.1 and 7.7.2).
     pub fn defaults(&self) -> &[Value]
+        ensures value { result.now ≡ self.now.defaults }
+        ensures few { length result.now ≤ 1024 }
+    {
+        self.said.defaults.values()
+    }
+
+    /// The same values, one of which is found in time log n.
+    pub fn default_values(&self) -> &Defaults
         ensures { result.now ≡ self.now.defaults }
     {
-        self.said.defaults.as_slice()
+        &self.said.defaults
+    }
+
+    /// Whether two of these values are the same.
+    pub fn repeats_default(&self) -> bool
+        ensures { result ≡ has_same self.now.defaults }
+    {
+        self.said.defaults.repeats()
     }
 
     /// The same once more, over the same memory.

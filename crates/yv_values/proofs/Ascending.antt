@@ -5,7 +5,7 @@ use Rattle.std.specs.Bool.{Decides}
 use Rattle.std.specs.List.{insert}
 use Rattle.std.specs.List.Sorted.{IsNonDecreasing}
 use Rattle.std.proofs.lemmas.Bool.Decides.{Decides-like, Decides-ltb, nat_tests}
-use Rattle.yv_values.specs.InnerPlaces.{IsPlace, AddsPlace, IsLeastPlace, HasBetween}
+use Rattle.yv_values.specs.Places.{IsPlace, AddsPlace, IsLeastPlace, HasBetween}
 
 place_at : (xs : List ℕ) (i : ℕ) → i < length xs → IsPlace xs (get_or xs i 0)
 place_at [] i h = absurd (omega arith)

@@ -10,8 +10,9 @@ use Rattle.std.specs.declared.alloc.Global.{Global}
 use Rattle.std.specs.declared.cmp.Ordering.TheVariants.{Less, Equal, Greater}
 use Rattle.yv_values.specs.declared.value.Atom.{Atom}
 use Rattle.yv_values.specs.contracts.value.AtomOrd.TheImpl.{cmp-value}
-use Rattle.yv_values.specs.InnerPlaces.{IsPlace, AddsPlace, IsLeastPlace, HasBetween, key_of, pairs_at, pairs_of, AreApart}
+use Rattle.yv_values.specs.InnerPlaces.{key_of, pairs_at, pairs_of, AreApart}
 use Rattle.yv_values.specs.Pairs.{Pair, Keeps, IsLeast, IsWithin, Adds}
+use Rattle.yv_values.specs.Places.{IsPlace, AddsPlace, IsLeastPlace, HasBetween}
 use Rattle.yv_values.specs.Values.{Val, value_of}
 use Rattle.yv_values.proofs.Same.{same_keys}
 

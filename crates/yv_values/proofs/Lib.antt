@@ -1,3 +1,4 @@
+pub mod Alone
 pub mod Ascending
 pub mod Chosen
 pub mod Fewer
@@ -7,4 +8,5 @@ pub mod Mapped
 pub mod Order
 pub mod Rising
 pub mod Same
+pub mod SameValues
 pub mod Single

@@ -1,5 +1,6 @@
 -- Texts in the order of their bytes, and the run of those that are one text.
-use Rattle.std.proofs.Common.{◌≡◌, ℕ, zero, suc, ◌+◌, ◌<◌, ◌≤◌, Bool, true, false, not, ◌||◌, cond, List, [], ◌∷◌, map, filter, take, drop, length, get_or, Ordering, eqb, refl, sym, ◌∙◌, ap, arith}
+use Rattle.std.proofs.Common.{◌≡◌, ℕ, zero, suc, ◌+◌, ◌<◌, ◌≤◌, Bool, true, false, not, ◌||◌, cond, List, [], ◌∷◌, map, filter, take, drop, length, get_or, Ordering, eqb, refl, sym, ◌∙◌, ap, subst, arith, Bor, Option, Some, None, is_some, IfSome, slice_get}
+use Rattle.std.specs.Option.{option_copied}
 use Rattle.std.specs.Cmp.Lexicographic.{slice_cmp, texts_ties}
 use Rattle.std.specs.List.{AllWithin, list_any}
 use Rattle.std.specs.List.Sorted.{IsSortedBy, IsNonDecreasingBy, IsPartitionedBy}
@@ -9,6 +10,7 @@ use Rattle.std.specs.declared.cmp.Ordering.TheVariants.{Less, Equal, Greater}
 use Rattle.std.proofs.lemmas.Bool.Decides.{nat_tests}
 use Rattle.std.proofs.lemmas.Cmp.{nat_list_cmp_total}
 use Rattle.std.proofs.lemmas.List.{get_or-drop, length-drop}
+use Rattle.std.proofs.lemmas.Slice.Eq.{bytes_eq-Decides}
 use Rattle.std.proofs.lemmas.List.Sorted.{ranks_by, sorted_far, searchable_from_sorted, IsNonDecreasingBy-drop}
 use Rattle.yv_values.specs.InnerNames.{is_below, NoneBelow, Ascends}
 
@@ -138,3 +140,23 @@ any_filtered p (x ∷ xs) g ys e = by (p x) e (λ h. any_filtered p xs g ys h)
     by : (b : Bool) → map g ys ≡ cond b (x ∷ filter p xs) (filter p xs) → (map g ys ≡ filter p xs → not (eqb (length ys) 0) ≡ list_any p xs) → not (eqb (length ys) 0) ≡ (b || list_any p xs)
     by true h later = is_full g ys x (filter p xs) h
     by false h later = later h
+
+passing : (p : List ℕ → Bool) (xs : List (List ℕ)) (z : List ℕ) (zs : List (List ℕ)) → filter p xs ≡ z ∷ zs → p z ≡ true
+passing p [] z zs e = absurd (cc)
+passing p (x ∷ xs) z zs e = by (p x) refl e (λ h. passing p xs z zs h)
+  where
+    by : (b : Bool) → p x ≡ b → cond b (x ∷ filter p xs) (filter p xs) ≡ z ∷ zs → (filter p xs ≡ z ∷ zs → p z ≡ true) → p z ≡ true
+    by true q h later = cc
+    by false q h later = later h
+
+-- the first of what passes: there is one where an element passes, and it passes
+pub first_any : {X : Type 0} (p : List ℕ → Bool) (xs : List (List ℕ)) (g : X → List ℕ) (ys : List X) (r : Option (Bor X)) → map g ys ≡ filter p xs → option_copied r ≡ slice_get ys 0 → is_some r ≡ list_any p xs
+first_any p xs g [] None e h = any_filtered p xs g [] e
+first_any p xs g [] (Some b) e h = absurd (cc)
+first_any p xs g (y ∷ ys) None e h = absurd (cc)
+first_any p xs g (y ∷ ys) (Some b) e h = sym (is_full g (y ∷ ys) (g y) (map g ys) refl) ∙ any_filtered p xs g (y ∷ ys) e
+
+pub first_same : {X : Type 0} (t : List ℕ) (xs : List (List ℕ)) (g : X → List ℕ) (ys : List X) (r : Option (Bor X)) → map g ys ≡ filter (λ n. bytes_eq n t) xs → option_copied r ≡ slice_get ys 0 → IfSome r (λ x. g x.now ≡ t)
+first_same t xs g ys None e h = tt
+first_same t xs g [] (Some b) e h = absurd (cc)
+first_same {X} t xs g (y ∷ ys) (Some b) e h = subst (λ (w : Option X). IfSome w (λ v. g v ≡ t)) (sym h) ((bytes_eq-Decides (g y) t).0 (passing (λ n. bytes_eq n t) xs (g y) (map g ys) (sym e)))

@@ -1,12 +1,15 @@
 pub mod Count
 pub mod Identities
 pub mod InnerBits
+pub mod InnerDefaults
 pub mod InnerNames
 pub mod InnerPatterns
 pub mod InnerPlaces
 pub mod Pairs
 pub mod Patterns
+pub mod Places
 pub mod Reads
+pub mod Same
 pub mod Scopes
 pub mod Sorted
 pub mod Texts

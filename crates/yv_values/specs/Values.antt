@@ -1,5 +1,7 @@
 -- What a value is (RFC 7950, section 9): its kind and content. Two values are the same where they are one of these.
-use Rattle.std.specs.Prelude.{ℕ, ℤ, List, Bool, String, string_bytes, map}
+use Rattle.std.specs.Prelude.{ℕ, ℤ, List, Bool, string_bytes, map}
+use Rattle.std.specs.Rc.{rc_str_bytes}
+use Rattle.std.specs.declared.rc.RcStr.{RcStr}
 use Rattle.std.specs.declared.alloc.Global.{Global}
 use Rattle.yv_numbers.specs.Numbers.{integer}
 use Rattle.yv_values.specs.declared.value.Atom.{Atom}
@@ -19,8 +21,8 @@ pub data Val : Type 0 where
   empty : Val
 
 -- the bytes of each text
-abbrev pub texts : List (String Global) → List (List ℕ)
-texts ss = map (λ s. string_bytes s) ss
+abbrev pub texts : List (RcStr Global) → List (List ℕ)
+texts ss = map (λ s. rc_str_bytes s) ss
 
 -- the value that the program keeps
 abbrev pub value_of : Atom → Val
@@ -28,8 +30,8 @@ value_of (atom.Whole n) = whole (integer n)
 value_of (atom.Decimal d n) = decimal d (integer n)
 value_of (atom.Text s) = text (string_bytes s)
 value_of (atom.Boolean b) = boolean b
-value_of (atom.Name s) = name (string_bytes s)
+value_of (atom.Name s) = name (rc_str_bytes s)
 value_of (atom.Bits ss) = bits (texts ss.items)
 value_of (atom.Binary v) = binary v.items
-value_of (atom.Identity m s) = identity (string_bytes m) (string_bytes s)
+value_of (atom.Identity s m) = identity (rc_str_bytes m) (rc_str_bytes s)
 value_of atom.Empty = empty

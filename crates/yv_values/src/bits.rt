@@ -8,8 +8,9 @@ ghost use Rattle.yv_values.specs.Values.{texts};
 
 use crate::name::is_same;
 use crate::names::Names;
-use crate::value::{Value, copied};
+use crate::value::Value;
 use std::alloc::{AllocError, Global};
+use std::rc::RcStr;
 
 /// The set of bits that the text names, where it is a value of the type.
 pub fn bits_in(alloc: Global, names: &Names, text: &str) -> Result<Option<Value>, AllocError>
@@ -159,23 +160,23 @@ fn is_first(words: &[&str], text: &[u8]) -> bool
 }
 
 // The names that are words, in their order.
-fn chosen(alloc: Global, names: &Names, words: &[&str]) -> Result<Vec<String>, AllocError>
+fn chosen(alloc: Global, names: &Names, words: &[&str]) -> Result<Vec<RcStr>, AllocError>
     requires order { Ascends (map (λ w. w.now) words.now) }
     requires distinct { are_distinct (map (λ w. w.now) words.now) ≡ true }
     ensures { IfOk result (λ v. texts v.items ≡ chosen names.now (map (λ w. w.now) words.now)) }
 {
     let mut found = Vec::new(alloc);
     for word in words {
-        add_copies(alloc, &mut found, names.equal_to(word.as_bytes()))?;
+        add_copies(&mut found, names.equal_to(word.as_bytes()))?;
     }
     Ok(found)
 }
 
-fn add_copies(alloc: Global, found: &mut Vec<String>, names: &[String]) -> Result<(), AllocError>
+fn add_copies(found: &mut Vec<RcStr>, names: &[RcStr]) -> Result<(), AllocError>
     ensures { OnOk result (texts found.new.items ≡ texts found.old.items ++ texts names.now) }
 {
     for name in names {
-        found.push(copied(alloc, name)?)?;
+        found.push(name.clone()?)?;
     }
     Ok(())
 }

@@ -46,7 +46,7 @@ pub fn read_text_with<'t>(
         PlainType::Decimal(decimal) => Ok(decimal_in(decimal, text.as_bytes())),
         PlainType::Text(plain) => text_in(alloc, matchers, plain, text),
         PlainType::Boolean => Ok(truth_of(text)),
-        PlainType::Enumeration(names) => name_in(alloc, names, text),
+        PlainType::Enumeration(names) => name_in(names, text),
         PlainType::Bits(names) => bits_in(alloc, names, text),
         PlainType::Binary(lengths) => binary_in(alloc, lengths, text),
         PlainType::Identity(members) => identity_by(alloc, members, scope, text.as_bytes()),

@@ -42,18 +42,16 @@ pub fn identity_in(
     ensures { IfOk result (λ found. found ≡ identity_in members.now module.now name.now) }
 {
     match members.find(module, name) {
-        Some(member) => Ok(Some(value_of(alloc, member)?)),
+        Some(member) => Ok(Some(value_of(member)?)),
         None => Ok(None),
     }
 }
 
 ghost use Rattle.yv_values.specs.Values.{identity};
 
-fn value_of(alloc: Global, member: &Member) -> Result<Value, AllocError>
+fn value_of(member: &Member) -> Result<Value, AllocError>
     ensures { IfOk result (λ value.
         value ≡ identity (rc_str_bytes member.now.module) (rc_str_bytes member.now.name)) }
 {
-    let module = String::from_str(alloc, member.module.as_str())?;
-    let name = String::from_str(alloc, member.name.as_str())?;
-    Ok(Value::identity(module, name))
+    Ok(Value::identity(member.module.clone()?, member.name.clone()?))
 }

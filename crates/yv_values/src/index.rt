@@ -1,8 +1,9 @@
 //! Indexes: which keys were kept, and where.
-ghost use Rattle.std.specs.Prelude.{◌≡◌, ℕ, ◌+◌, ◌≤◌, [], is_ok, IfOk, OnOk, OnErr, IsTrue, ◌↔◌, if◌then◌else◌};
+ghost use Rattle.std.specs.Prelude.{◌≡◌, ℕ, ◌+◌, ◌≤◌, ◌⊎◌, [], is_ok, IfOk, OnOk, OnErr, IsTrue, ◌↔◌, if◌then◌else◌, unwrap_or, option_map};
 ghost use Rattle.yv_values.specs.Count.{counted};
-ghost use Rattle.yv_values.specs.Pairs.{Keeps, IsLeast, Adds, AddsIfNone, IsWithin};
+ghost use Rattle.yv_values.specs.Pairs.{Keeps, IsLeast, Adds, AddsIfNone, IsAlone, IsWithin};
 
+use crate::defaults::Defaults;
 use crate::meter::Meter;
 use crate::places::Places;
 use crate::value::{Atom, Tuple};
@@ -64,10 +65,7 @@ impl Index {
         ensures kept { AddsIfNone result self.old self.new key place }
         ensures steps { meter.new ≡ (if is_ok result then counted (meter.old + 1) else meter.old) }
     {
-        let found = self.least(&key);
-        if found.is_none() {
-            self.keep_new(key, place)?;
-        }
+        let found = self.find_or_keep(key, place)?;
         meter.visit();
         Ok(found)
     }
@@ -78,6 +76,43 @@ impl Index {
         ensures steps { meter.new ≡ counted (meter.old + 1) }
     {
         meter.visit();
+        self.is_within(key, first, last)
+    }
+
+    /// Whether the same key was kept at a place from the first to the last, both included, or is one of these other
+    /// values, alone. It is one step.
+    pub fn within_or_among(
+        &self,
+        meter: &mut Meter,
+        key: &Tuple,
+        first: u64,
+        last: u64,
+        others: Option<&Defaults>,
+    ) -> bool
+        ensures found { IsTrue result ↔
+            (IsWithin self.now key.now first last ⊎ IsAlone key.now (unwrap_or (option_map (λ o. o.now) others.entry) [])) }
+        ensures steps { meter.new ≡ counted (meter.old + 1) }
+    {
+        meter.visit();
+        self.is_within(key, first, last) || is_among(key, others)
+    }
+
+    // The least place that was kept with the same key; where there is none the pair is kept. It counts no step.
+    pub(crate) fn find_or_keep(&mut self, key: Tuple, place: u64) -> Result<Option<u64>, AllocError>
+        ensures least { IfOk result (λ found. IsLeast self.old key found) }
+        ensures kept { AddsIfNone result self.old self.new key place }
+    {
+        let found = self.least(&key);
+        if found.is_none() {
+            self.keep_new(key, place)?;
+        }
+        Ok(found)
+    }
+
+    // The same as `within`, and counts no step.
+    pub(crate) fn is_within(&self, key: &Tuple, first: u64, last: u64) -> bool
+        ensures { IsTrue result ↔ IsWithin self.now key.now first last }
+    {
         match self.places.get(key.atoms()) {
             Some(places) => places.is_within(first, last),
             None => false,
@@ -102,5 +137,15 @@ impl Index {
         let places = Places::new(self.alloc, place)?;
         self.places.insert(key.into_atoms(), places)?;
         Ok(())
+    }
+}
+
+// Whether the key is one of these values, alone.
+fn is_among(key: &Tuple, others: Option<&Defaults>) -> bool
+    ensures { IsTrue result ↔ IsAlone key.now (unwrap_or (option_map (λ o. o.now) others.entry) []) }
+{
+    match others {
+        Some(values) => values.has(key),
+        None => false,
     }
 }

@@ -50,6 +50,13 @@ impl Members {
         })
     }
 
+    /// They, in their order.
+    pub fn as_slice(&self) -> &[Member]
+        ensures { map id_of result.now ≡ self.now }
+    {
+        &self.members
+    }
+
     /// The identity of this module and name, where it is one of these.
     pub(crate) fn find(&self, module: &[u8], name: &[u8]) -> Option<&Member>
         ensures value { is_some result ≡ list_any (is_identity module.now name.now) self.now }

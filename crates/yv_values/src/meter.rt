@@ -37,10 +37,11 @@ impl Meter {
     pub fn visit(&mut self)
         ensures { self.new ≡ counted (self.old + 1) }
     {
-        self.add(1);
+        self.visit_all(1);
     }
 
-    pub(crate) fn add(&mut self, count: u64)
+    /// Counts so many steps at once: as many visits.
+    pub fn visit_all(&mut self, count: u64)
         ensures { self.new ≡ counted (self.old + count) }
     {
         self.steps = self.steps.saturating_add(count);

@@ -5,16 +5,15 @@ ghost use Rattle.yv_values.specs.Texts.{name_in};
 
 use crate::names::Names;
 use crate::value::Value;
-use std::alloc::{AllocError, Global};
+use std::alloc::AllocError;
 
 /// The name, where it is one of the enumeration's.
-pub fn name_in(alloc: Global, names: &Names, text: &str) -> Result<Option<Value>, AllocError>
+pub fn name_in(names: &Names, text: &str) -> Result<Option<Value>, AllocError>
     ensures { IfOk result (λ found. found ≡ name_in names.now text.now) }
 {
-    if names.has(text.as_bytes()) {
-        Ok(Some(Value::name(String::from_str(alloc, text)?)))
-    } else {
-        Ok(None)
+    match names.find(text.as_bytes()) {
+        Some(name) => Ok(Some(Value::name(name.clone()?))),
+        None => Ok(None),
     }
 }
 

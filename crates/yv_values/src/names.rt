@@ -1,8 +1,9 @@
 //! The names of an enumeration or of a bits type, in one order.
-ghost use Rattle.std.specs.Prelude.{◌≡◌, ℕ, List, IfOk, length};
+ghost use Rattle.std.specs.Prelude.{◌≡◌, ℕ, List, IfOk, IfSome, is_some, length};
 ghost use Rattle.std.specs.Cmp.Lexicographic.{slice_cmp};
 ghost use Rattle.std.specs.List.{filter};
 ghost use Rattle.std.specs.Ordering.{nat_cmp};
+ghost use Rattle.std.specs.Rc.{rc_str_bytes};
 ghost use Rattle.std.specs.Str.{bytes_eq};
 ghost use Rattle.yv_values.specs.InnerNames.{is_below, Ascends};
 ghost use Rattle.yv_values.specs.Sorted.{Rises, is_named};
@@ -11,13 +12,13 @@ ghost use Rattle.yv_values.specs.Values.{texts};
 use std::alloc::AllocError;
 use std::cmp::Ordering;
 use std::marker::Model;
-use std::rc::RcSlice;
+use std::rc::{RcSlice, RcStr};
 
 /// The names of an enumeration or of a bits type, in the order of their bytes and each once, so that each set of bits is
 /// one list, and a name is found by halves. Contracts see it as that list.
 #[derive(Drop)]
 pub struct Names {
-    names: RcSlice<String>,
+    names: RcSlice<RcStr>,
 }
 
 impl Model for Names {
@@ -35,7 +36,7 @@ impl Model for Names {
 
 impl Names {
     /// Puts the names of a type into their order, each once.
-    pub fn new(names: Vec<String>) -> Result<Names, AllocError>
+    pub fn new(names: Vec<RcStr>) -> Result<Names, AllocError>
         ensures rises { IfOk result (λ sorted. Rises sorted) }
         ensures same { IfOk result (λ sorted. (s : List ℕ) → is_named sorted s ≡ is_named (texts names.items) s) }
     {
@@ -54,22 +55,37 @@ impl Names {
         self.names.len()
     }
 
+    /// They, in their order.
+    pub fn as_slice(&self) -> &[RcStr]
+        ensures { texts result.now ≡ self.now }
+    {
+        &self.names
+    }
+
     pub(crate) fn has(&self, text: &[u8]) -> bool
         ensures { result ≡ is_named self.now text.now }
     {
         !self.equal_to(text).is_empty()
     }
 
+    /// The name that is this text, as the type keeps it.
+    pub(crate) fn find(&self, text: &[u8]) -> Option<&RcStr>
+        ensures value { is_some result ≡ is_named self.now text.now }
+        ensures same { IfSome result (λ name. rc_str_bytes name.now ≡ text.now) }
+    {
+        self.equal_to(text).first()
+    }
+
     /// The names that are this text: one where it is a name, since each occurs once.
-    pub(crate) fn equal_to(&self, text: &[u8]) -> &[String]
+    pub(crate) fn equal_to(&self, text: &[u8]) -> &[RcStr]
         ensures names { texts result.now ≡ filter (λ n. bytes_eq n text.now) self.now }
         ensures order { Ascends self.now }
     {
         let low = self
             .names
-            .partition_point(|name| is_below(name.as_bytes(), text));
+            .partition_point(|name| is_below(name.as_str().as_bytes(), text));
         let (_, rest) = self.names.split_at(low);
-        let count = rest.partition_point(|name| !is_below(text, name.as_bytes()));
+        let count = rest.partition_point(|name| !is_below(text, name.as_str().as_bytes()));
         &rest[..count]
     }
 

@@ -1,11 +1,11 @@
-//! The places where one key was kept.
+//! Places where something was kept.
 ghost use Rattle.std.specs.Prelude.{◌≡◌, ℕ, ◌≤◌, ◌<◌, [], ◌∷◌, IfOk, OnOk, OnErr, IsTrue, ◌↔◌, length, slice_index};
-ghost use Rattle.yv_values.specs.InnerPlaces.{AddsPlace, IsLeastPlace, HasBetween};
+ghost use Rattle.yv_values.specs.Places.{AddsPlace, IsLeastPlace, HasBetween};
 
 use std::alloc::{AllocError, Global};
 use std::marker::Model;
 
-/// One place or more, in ascending order.
+/// One place or more where something was kept, in ascending order. Eight bytes each.
 #[derive(Drop)]
 pub struct Places {
     places: Vec<u64>,
@@ -23,6 +23,7 @@ impl Model for Places {
 }
 
 impl Places {
+    /// One place.
     pub fn new(alloc: Global, place: u64) -> Result<Places, AllocError>
         ensures { IfOk result (λ places. places ≡ place ∷ []) }
     {
@@ -41,7 +42,7 @@ impl Places {
         Ok(())
     }
 
-    pub fn least(&self) -> u64
+    pub(crate) fn least(&self) -> u64
         ensures { IsLeastPlace self.now result }
     {
         self.places[0]

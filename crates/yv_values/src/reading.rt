@@ -67,7 +67,7 @@ pub fn check_with<'t>(
         else meter.old) }
 {
     let found = first(alloc, matchers, types, module, json)?;
-    meter.add(found.tried);
+    meter.visit_all(found.tried);
     Ok(found.value)
 }
 
@@ -138,7 +138,7 @@ fn string_in<'t>(
     match plain {
         PlainType::Decimal(decimal) => Ok(decimal_in(decimal, text.as_bytes())),
         PlainType::Text(plain) => text_in(alloc, matchers, plain, text),
-        PlainType::Enumeration(names) => name_in(alloc, names, text),
+        PlainType::Enumeration(names) => name_in(names, text),
         PlainType::Bits(names) => bits_in(alloc, names, text),
         PlainType::Binary(lengths) => binary_in(alloc, lengths, text),
         PlainType::Identity(members) => {

@@ -3,19 +3,22 @@ ghost use Rattle.std.specs.Prelude.{◌≡◌, [], ◌∷◌, ◌++◌, IfOk, is
 
 use std::alloc::{AllocError, Global};
 use std::marker::Model;
+use std::rc::RcStr;
 use yv_numbers::Integer;
 
-/// What a value holds. Its order serves to find keys again, and means nothing besides.
+/// What a value holds. Its order serves to find keys again, and means nothing besides. Names of a type are texts that the type keeps, so
+/// that a value takes no more of memory where they are long.
 #[derive(PartialEq, Eq, PartialOrd, Ord, Drop)]
 pub(crate) enum Atom {
     Whole(Integer),
     Decimal(u32, Integer),
     Text(String),
     Boolean(bool),
-    Name(String),
-    Bits(Vec<String>),
+    Name(RcStr),
+    Bits(Vec<RcStr>),
     Binary(Vec<u8>),
-    Identity(String, String),
+    /// Its name and its module, in this order, since names differ sooner.
+    Identity(RcStr, RcStr),
     Empty,
 }
 
@@ -38,6 +41,7 @@ impl Value {
     ghost use Rattle.yv_values.specs.Values.{whole, decimal, boolean, name, bits, binary, identity, empty};
     ghost use Rattle.yv_values.specs.Values as spec;
     ghost use Rattle.std.specs.Prelude.{string_bytes};
+    ghost use Rattle.std.specs.Rc.{rc_str_bytes};
 
     pub(crate) fn whole(number: Integer) -> Value
         ensures { result ≡ whole (integer number) }
@@ -63,8 +67,8 @@ impl Value {
         }
     }
 
-    pub(crate) fn name(text: String) -> Value
-        ensures { result ≡ name (string_bytes text) }
+    pub(crate) fn name(text: RcStr) -> Value
+        ensures { result ≡ name (rc_str_bytes text) }
     {
         Value {
             atom: Atom::Name(text),
@@ -87,7 +91,7 @@ impl Value {
         }
     }
 
-    pub(crate) fn bits(names: Vec<String>) -> Value
+    pub(crate) fn bits(names: Vec<RcStr>) -> Value
         ensures { result ≡ bits (texts names.items) }
     {
         Value {
@@ -95,11 +99,11 @@ impl Value {
         }
     }
 
-    pub(crate) fn identity(module: String, name: String) -> Value
-        ensures { result ≡ identity (string_bytes «module») (string_bytes name) }
+    pub(crate) fn identity(module: RcStr, name: RcStr) -> Value
+        ensures { result ≡ identity (rc_str_bytes «module») (rc_str_bytes name) }
     {
         Value {
-            atom: Atom::Identity(module, name),
+            atom: Atom::Identity(name, module),
         }
     }
 
@@ -128,37 +132,26 @@ impl Atom {
         match self {
             Atom::Whole(number) => Ok(Atom::Whole(*number)),
             Atom::Decimal(digits, number) => Ok(Atom::Decimal(*digits, *number)),
-            Atom::Text(text) => Ok(Atom::Text(copied(alloc, text)?)),
+            Atom::Text(text) => Ok(Atom::Text(String::from_str(alloc, text.as_str())?)),
             Atom::Boolean(truth) => Ok(Atom::Boolean(*truth)),
-            Atom::Name(name) => Ok(Atom::Name(copied(alloc, name)?)),
+            Atom::Name(name) => Ok(Atom::Name(name.clone()?)),
             Atom::Bits(names) => Ok(Atom::Bits(all_copied(alloc, names)?)),
             Atom::Binary(octets) => Ok(Atom::Binary(Vec::from_slice(alloc, octets)?)),
-            Atom::Identity(module, name) => {
-                let module = copied(alloc, module)?;
-                let name = copied(alloc, name)?;
-                Ok(Atom::Identity(module, name))
-            }
+            Atom::Identity(name, module) => Ok(Atom::Identity(name.clone()?, module.clone()?)),
             Atom::Empty => Ok(Atom::Empty),
         }
     }
 }
 
-ghost use Rattle.std.specs.Prelude.{string_bytes};
 ghost use Rattle.yv_values.specs.Values.{texts};
 
-/// The same text once more.
-pub(crate) fn copied(alloc: Global, text: &String) -> Result<String, AllocError>
-    ensures { IfOk result (λ copy. string_bytes copy ≡ string_bytes text.now) }
-{
-    String::from_str(alloc, text.as_str())
-}
-
-fn all_copied(alloc: Global, names: &[String]) -> Result<Vec<String>, AllocError>
+// The same list once more, over the same texts.
+fn all_copied(alloc: Global, names: &[RcStr]) -> Result<Vec<RcStr>, AllocError>
     ensures { IfOk result (λ copy. texts copy.items ≡ texts names.now) }
 {
     let mut copy = Vec::new(alloc);
     for name in names {
-        copy.push(copied(alloc, name)?)?;
+        copy.push(name.clone()?)?;
     }
     Ok(copy)
 }
@@ -197,6 +190,16 @@ impl Tuple {
     {
         self.atoms.push(value.atom)?;
         Ok(())
+    }
+
+    // Whether it is this value, alone.
+    pub(crate) fn is_alone(&self, value: &Value) -> bool
+        ensures { IsTrue result ↔ (self.now ≡ value.now ∷ []) }
+    {
+        match self.atoms.as_slice() {
+            [atom] => *atom == value.atom,
+            _ => false,
+        }
     }
 
     pub(crate) fn atoms(&self) -> &[Atom]

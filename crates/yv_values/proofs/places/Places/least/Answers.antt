@@ -1,6 +1,6 @@
 use Rattle.std.proofs.Common.{ℕ, List, get_or, sym, subst}
 use Rattle.std.proofs.lemmas.List.{get_or_read}
-use Rattle.yv_values.specs.InnerPlaces.{IsLeastPlace}
+use Rattle.yv_values.specs.Places.{IsLeastPlace}
 use Rattle.yv_values.proofs.Ascending.{first_is_least}
 use Rattle.yv_values.proofs.places.Places.least.Goals as goal
 
