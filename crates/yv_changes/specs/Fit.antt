@@ -10,7 +10,7 @@ abbrev pub is_among : List (List ℕ) → List ℕ → Bool
 is_among words name = list_any (λ word. bytes_eq word name) words
 
 abbrev pub with_default : List (List ℕ)
-with_default = codes "leaf" ∷ codes "choice" ∷ []
+with_default = codes "leaf" ∷ codes "leaf-list" ∷ codes "choice" ∷ []
 
 abbrev pub with_mandatory : List (List ℕ)
 with_mandatory = codes "leaf" ∷ codes "choice" ∷ codes "anydata" ∷ codes "anyxml" ∷ []
@@ -37,11 +37,15 @@ is_allowed word target_word =
     else if is_among element_limits word then is_among with_elements target_word
     else is_among of_any_node word || is_extended word
 
--- a refine is fit for a node of a keyword: each statement in its block is allowed there, and at most one is a default
+-- a node of a keyword may have so many defaults: a leaf-list any number, others one
+abbrev pub may_have : (target_word : List ℕ) → (defaults : ℕ) → Bool
+may_have target_word defaults = bytes_eq target_word (codes "leaf-list") || nat_le defaults 1
+
+-- a refine is fit for a node of a keyword: each statement in its block is allowed there, and of defaults no more than it may have
 abbrev pub is_fit : (target_word : List ℕ) → Tree → Bool
 is_fit target_word t =
     list_all (λ c. is_allowed c.head.keyword target_word) (trees t.children)
-    && nat_le (count_by (λ c. has_word (codes "default") c.head) (trees t.children)) 1
+    && may_have target_word (count_by (λ c. has_word (codes "default") c.head) (trees t.children))
 
 abbrev pub fit_by : Option Row → Option Tree → Bool
 fit_by None t = false

@@ -4,13 +4,13 @@ ghost use Rattle.std.specs.List.{list_all};
 ghost use Rattle.yv_rows.specs.Files.{has_word};
 ghost use Rattle.yv_rows.specs.Rows.{is_extended};
 ghost use Rattle.yv_rows.specs.Lent.{lent_in};
-ghost use Rattle.yv_changes.specs.Fit.{is_among, is_allowed, is_fit};
+ghost use Rattle.yv_changes.specs.Fit.{is_among, is_allowed, is_fit, may_have};
 ghost use Rattle.yv_changes.specs.InnerAlike.{is_fit_at};
 
 use yv_rows::Rows;
 use yv_statement::Statement;
 
-static WITH_DEFAULT: [&str; 2] = ["leaf", "choice"];
+static WITH_DEFAULT: [&str; 3] = ["leaf", "leaf-list", "choice"];
 
 static WITH_MANDATORY: [&str; 4] = ["leaf", "choice", "anydata", "anyxml"];
 
@@ -78,12 +78,19 @@ fn defaults(children: &[Statement<'_>]) -> usize
         .count()
 }
 
+// Whether a node of a keyword may have so many defaults.
+fn may_have(target: &str, defaults: usize) -> bool
+    ensures { result ≡ may_have target.now defaults }
+{
+    target == "leaf-list" || defaults <= 1
+}
+
 // Whether a refine is fit for a node of a keyword.
 fn is_fit(target: &str, refine: &Statement<'_>) -> bool
     ensures { result ≡ is_fit target.now refine.now }
 {
     let children = refine.children();
-    is_each_allowed(target, children) && defaults(children) <= 1
+    is_each_allowed(target, children) && may_have(target, defaults(children))
 }
 
 /// Whether a numbered refine is fit for an item that a statement gives.

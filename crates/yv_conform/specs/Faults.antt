@@ -22,22 +22,21 @@ keyword_at s = keyword_of s.head.keyword
 abbrev pub has_call_or_filter : List ℕ → Bool
 has_call_or_filter text = list_any (λ b. b == opening_bracket || b == opening_parenthesis) text
 
--- what isn't supported, by the parent, the keyword and the argument: `must`, `when` and deviations, a default of a
--- leaf-list, a path with a predicate or a function, and the type `instance-identifier`
-abbrev pub is_unsupported : Keyword → Keyword → Option (List ℕ) → Bool
-is_unsupported parent word.Must argument = true
-is_unsupported parent word.When argument = true
-is_unsupported parent word.Deviation argument = true
-is_unsupported parent word.Deviate argument = true
-is_unsupported parent word.Default argument = same parent word.LeafList
-is_unsupported parent word.Path (Some text) = has_call_or_filter text
-is_unsupported parent word.Type (Some text) = bytes_eq text (codes "instance-identifier")
-is_unsupported parent keyword argument = false
+-- what isn't supported, by the keyword and the argument: `must`, `when` and deviations, a path with a predicate or a
+-- function, and the type `instance-identifier`
+abbrev pub is_unsupported : Keyword → Option (List ℕ) → Bool
+is_unsupported word.Must argument = true
+is_unsupported word.When argument = true
+is_unsupported word.Deviation argument = true
+is_unsupported word.Deviate argument = true
+is_unsupported word.Path (Some text) = has_call_or_filter text
+is_unsupported word.Type (Some text) = bytes_eq text (codes "instance-identifier")
+is_unsupported keyword argument = false
 
 -- the statement itself is wrong, in the block of a parent
 abbrev pub OwnFault : Keyword → Tree → Refusal → Type 0
 OwnFault parent s f =
-    Stands (is_unsupported parent (keyword_at s) s.head.argument ≡ true) (refusal_at code.Unsupported 0 s.head) f
+    Stands (is_unsupported (keyword_at s) s.head.argument ≡ true) (refusal_at code.Unsupported 0 s.head) f
     ⊎ (Stands (keyword_at s ≡ word.Unknown) (refusal_at code.UnknownStatement 0 s.head) f
     ⊎ Stands (ArgumentFits parent (keyword_at s) s.head.argument → ⊥) (refusal_at code.BadArgument 0 s.head) f)
 

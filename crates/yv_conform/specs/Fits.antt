@@ -13,7 +13,7 @@ use Rattle.yv_conform.specs.declared.table.Occurs.TheVariants.{One, Optional, An
 
 -- the statement itself is right, in the block of a parent
 pub record OwnFits (parent : Keyword) (s : Tree) : Type 0 where
-  pub supported : is_unsupported parent (keyword_at s) s.head.argument ≡ false
+  pub supported : is_unsupported (keyword_at s) s.head.argument ≡ false
   pub known : keyword_at s ≢ word.Unknown
   pub argument : ArgumentFits parent (keyword_at s) s.head.argument
 

@@ -1,6 +1,6 @@
 -- Which statements may stand in the block of which, and how often (RFC 7950, section 7). What is left out: `must`,
--- `when` and deviations, and `default` under `leaf-list`, which aren't supported. `yang-version` may be missing, and
--- `input`, `output` and `augment` may be without data definitions.
+-- `when` and deviations, which aren't supported. `yang-version` may be missing, and `input`, `output` and `augment` may be
+-- without data definitions.
 use Rattle.std.specs.Prelude.{Bool, true, false, List, [], ◌∷◌, ◌++◌, Option, None, Some, if◌then◌else◌}
 use Rattle.yv_conform.specs.Names.{same}
 use Rattle.yv_conform.specs.declared.keyword.Keyword.{Keyword}
@@ -52,7 +52,7 @@ rows_of word.Container = definitions ++ (word.Action, Any) ∷ (word.Notificatio
 -- 7.6.2
 rows_of word.Leaf = (word.Type, One) ∷ (word.Units, Optional) ∷ (word.Default, Optional) ∷ (word.Config, Optional) ∷ (word.Mandatory, Optional) ∷ [] ++ conditional
 -- 7.7.3
-rows_of word.LeafList = (word.Type, One) ∷ (word.Units, Optional) ∷ (word.Config, Optional) ∷ (word.MinElements, Optional) ∷ (word.MaxElements, Optional) ∷ (word.OrderedBy, Optional) ∷ [] ++ conditional
+rows_of word.LeafList = (word.Type, One) ∷ (word.Units, Optional) ∷ (word.Default, Any) ∷ (word.Config, Optional) ∷ (word.MinElements, Optional) ∷ (word.MaxElements, Optional) ∷ (word.OrderedBy, Optional) ∷ [] ++ conditional
 -- 7.8.1
 rows_of word.List = definitions ++ (word.Action, Any) ∷ (word.Notification, Any) ∷ (word.Typedef, Any) ∷ (word.Grouping, Any) ∷ (word.Config, Optional) ∷ (word.Key, Optional) ∷ (word.Unique, Any) ∷ (word.MinElements, Optional) ∷ (word.MaxElements, Optional) ∷ (word.OrderedBy, Optional) ∷ [] ++ conditional
 -- 7.9.1

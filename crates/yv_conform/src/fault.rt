@@ -20,8 +20,8 @@ use yv_statement::{Code, Refusal, Statement, lesser, refused};
 /// that it may have, no more and no fewer, and an argument in its grammar. The refusal is the least by offset and code
 /// among
 ///
-/// - `Unsupported`: `must`, `when`, `deviation` or `deviate`, a `default` of a leaf-list, a leafref's path with a
-///   predicate or a function, or the type `instance-identifier`;
+/// - `Unsupported`: `must`, `when`, `deviation` or `deviate`, a leafref's path with a predicate or a function, or the type
+///   `instance-identifier`;
 /// - `UnknownStatement`: a keyword without prefix that the language doesn't have;
 /// - `Cardinality`: a root that is not a module or submodule, a child that is not allowed where it is or is one too many,
 ///   or the parent of one that is missing;
@@ -79,7 +79,7 @@ fn own_fault(parent: Keyword, keyword: Keyword, statement: &Statement) -> Option
     ensures least { IsLeast (OwnFault parent statement.now) result }
 {
     let argument = statement.argument();
-    let unsupported = is_unsupported(parent, keyword, argument);
+    let unsupported = is_unsupported(keyword, argument);
     let unknown = keyword == Keyword::Unknown;
     let fits = argument::fits(parent, keyword, argument);
     let first = refused(unsupported, Code::Unsupported, 0, statement);
@@ -108,12 +108,11 @@ fn count_fault(keyword: Keyword, statement: &Statement) -> Option<Refusal>
 }
 
 // Whether this statement isn't supported.
-fn is_unsupported(parent: Keyword, keyword: Keyword, argument: Option<&str>) -> bool
-    ensures { result ≡ is_unsupported parent keyword (option_copied argument.entry) }
+fn is_unsupported(keyword: Keyword, argument: Option<&str>) -> bool
+    ensures { result ≡ is_unsupported keyword (option_copied argument.entry) }
 {
     match (keyword, argument) {
         (Keyword::Must | Keyword::When | Keyword::Deviation | Keyword::Deviate, _) => true,
-        (Keyword::Default, _) => parent == Keyword::LeafList,
         (Keyword::Path, Some(text)) => has_call_or_filter(text.as_bytes()),
         (Keyword::Type, Some(text)) => text == "instance-identifier",
         _ => false,

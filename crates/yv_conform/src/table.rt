@@ -91,9 +91,9 @@ static LEAF: &[Row] = rows![
 ];
 
 static LEAF_LIST: &[Row] = rows![
-    Type: One, Units: Optional, Config: Optional, MinElements: Optional, MaxElements: Optional,
-    OrderedBy: Optional, IfFeature: Any, Status: Optional, Description: Optional,
-    Reference: Optional,
+    Type: One, Units: Optional, Default: Any, Config: Optional, MinElements: Optional,
+    MaxElements: Optional, OrderedBy: Optional, IfFeature: Any, Status: Optional,
+    Description: Optional, Reference: Optional,
 ];
 
 static LIST: &[Row] = rows![

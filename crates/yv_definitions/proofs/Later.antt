@@ -1,24 +1,26 @@
 -- What statements say, one in place of the other.
-use Rattle.std.proofs.Common.{◌≡◌, ℕ, Bool, false, List, [], ◌∷◌, ◌++◌, Option, Some, None, is_some, refl, sym, ap, ◌∙◌, append_assoc}
-use Rattle.std.specs.Prelude.{◌||◌}
+use Rattle.std.proofs.Common.{◌≡◌, ◌==◌, ℕ, Bool, true, false, not, cond, List, [], ◌∷◌, ◌++◌, map, Option, Some, None, is_some, refl, sym, ap, ◌∙◌, append_assoc}
+use Rattle.std.specs.Prelude.{◌&&◌, ◌||◌, filter, option_to_list}
+use Rattle.std.specs.List.{find}
 use Rattle.std.specs.Option.{option_map, option_or, unwrap_or}
-use Rattle.yv_statement.specs.Tree.{trees}
+use Rattle.std.proofs.lemmas.Bool.{or_parts, true≢false}
+use Rattle.yv_statement.specs.Tree.{Tree, trees}
 use Rattle.yv_conform.specs.declared.keyword.Keyword.{Keyword}
 use Rattle.yv_conform.specs.declared.keyword.Keyword.TheVariants as word
 use Rattle.yv_rows.specs.Files.{Files}
 use Rattle.yv_expansion.specs.declared.item.Origin.{Origin}
 use Rattle.yv_expansion.specs.declared.item.Origin.TheVariants.{Statement, Input, Output}
 use Rattle.yv_values.specs.Values.{Val}
-use Rattle.yv_properties.specs.Defined.{Defined, Written}
+use Rattle.yv_properties.specs.Defined.{Defined, Written, or_list}
 use Rattle.yv_properties.specs.declared.kind.NodeKind.TheVariants as kind
 use Rattle.yv_definitions.specs.Kinds.{Typing}
 use Rattle.yv_definitions.specs.Features.{all_expressions, expressions, with_expressions}
-use Rattle.yv_stated.specs.Properties.{Said, elements_of, is_true, last_said, least_of, properties_of, said_at, written_by}
-use Rattle.yv_stated.specs.Statements.{statement_at}
+use Rattle.yv_stated.specs.Properties.{Said, defaults_at, elements_of, is_true, last_defaults, last_said, least_of, properties_of, said_at, written_by, written_in}
+use Rattle.yv_stated.specs.Statements.{file_at, is_of, statement_at}
 use Rattle.yv_definitions.specs.Defined.{defined, defined_at, refined, unwritten, with_properties}
 use Rattle.yv_definitions.specs.Values.{defaults_of, values_at, with_defaults}
-use Rattle.yv_definitions.specs.InnerChanged.{changed, changed_by}
-use Rattle.yv_definitions.specs.InnerRefined.{give_default}
+use Rattle.yv_definitions.specs.InnerChanged.{change_at, changed, changed_by}
+use Rattle.yv_definitions.specs.InnerRefined.{are_none, either_alone, give_default, is_moved, is_swayed}
 use Rattle.yv_definitions.proofs.Separating.{expressions_more, separated_one}
 
 or_map : {A B : Type 0} (f : A → B) (a b : Option A) → option_or (option_map f a) (option_map f b) ≡ option_map f (option_or a b)
@@ -42,33 +44,43 @@ or_none : {A : Type 0} (a : Option A) → option_or a None ≡ a
 or_none None = refl
 or_none (Some x) = refl
 
+list_assoc : (a b c : List Written) → or_list a (or_list b c) ≡ or_list (or_list a b) c
+list_assoc [] b c = refl
+list_assoc (w ∷ ws) b c = refl
+
+list_none : (a : List Written) → or_list a [] ≡ a
+list_none [] = refl
+list_none (w ∷ ws) = refl
+
 -- what is said later stands in place of what was said
 abbrev pub over : Said → Said → Said
 over later earlier keyword = option_or (later keyword) (earlier keyword)
 
-changed_with : (s t : Said) (d : Defined) → changed (properties_of s) (with_properties (properties_of t) d) ≡ with_properties (properties_of (over s t)) d
-changed_with s t d = λ i. record d {
+changed_with : (s t : Said) (l m : List Written) (d : Defined)
+    → changed (record { properties = properties_of s; defaults = l }) (with_properties (properties_of t) m d) ≡ with_properties (properties_of (over s t)) (or_list l m) d
+changed_with s t l m d = λ i. record d {
   stated_config = or_map is_true (s word.Config) (t word.Config) i;
   is_mandatory = or_unwrap is_true (s word.Mandatory) (t word.Mandatory) false i;
   has_presence = or_some (s word.Presence) (t word.Presence) i;
   min = or_unwrap least_of (s word.MinElements) (t word.MinElements) 0 i;
   max = or_unwrap elements_of (s word.MaxElements) (t word.MaxElements) None i;
-  own_default = option_or (s word.Default) (t word.Default);
+  own_defaults = or_list l m;
 }
 
-changed_last : (files : Files) (ns : List ℕ) (s : Said) (d : Defined)
-    → changed_by files ns (with_properties (properties_of s) d) ≡ with_properties (properties_of (over (last_said files ns) s)) d
-changed_last files [] s d = refl
-changed_last files (n ∷ ns) s d =
-    ap (changed_by files ns) (changed_with (said_at files n) s d)
-    ∙ changed_last files ns (over (said_at files n) s) d
-    ∙ ap (λ (said : Said). with_properties (properties_of said) d) (λ i keyword. or_assoc (last_said files ns keyword) (said_at files n keyword) (s keyword) i)
+changed_last : (files : Files) (ns : List ℕ) (s : Said) (l : List Written) (d : Defined)
+    → changed_by files ns (with_properties (properties_of s) l d) ≡ with_properties (properties_of (over (last_said files ns) s)) (or_list (last_defaults files ns) l) d
+changed_last files [] s l d = refl
+changed_last files (n ∷ ns) s l d =
+    ap (changed_by files ns) (changed_with (said_at files n) s (defaults_at files n) l d)
+    ∙ changed_last files ns (over (said_at files n) s) (or_list (defaults_at files n) l) d
+    ∙ (λ i. with_properties (properties_of (λ keyword. or_assoc (last_said files ns keyword) (said_at files n keyword) (s keyword) i))
+    (list_assoc (last_defaults files ns) (defaults_at files n) l i) d)
 
 -- the values of a definition stay, whatever changes its properties
 changed_keeps : (files : Files) (ns : List ℕ) (d : Defined) (vs : List Val)
     → changed_by files ns (record d { defaults = vs }) ≡ record (changed_by files ns d) { defaults = vs }
 changed_keeps files [] d vs = refl
-changed_keeps files (n ∷ ns) d vs = changed_keeps files ns (changed (properties_of (said_at files n)) d) vs
+changed_keeps files (n ∷ ns) d vs = changed_keeps files ns (changed (change_at files n) d) vs
 
 -- the last of some and then others
 last_joined : (files : Files) (xs ys : List ℕ) (keyword : Keyword)
@@ -78,20 +90,53 @@ last_joined files (x ∷ xs) ys keyword =
     ap (λ (o : Option Written). option_or o (said_at files x keyword)) (last_joined files xs ys keyword)
     ∙ sym (or_assoc (last_said files ys keyword) (last_said files xs keyword) (said_at files x keyword))
 
+defaults_joined : (files : Files) (xs ys : List ℕ) → last_defaults files (xs ++ ys) ≡ or_list (last_defaults files ys) (last_defaults files xs)
+defaults_joined files [] ys = sym (list_none (last_defaults files ys))
+defaults_joined files (x ∷ xs) ys =
+    ap (λ (l : List Written). or_list l (defaults_at files x)) (defaults_joined files xs ys)
+    ∙ sym (list_assoc (last_defaults files ys) (last_defaults files xs) (defaults_at files x))
+
 expressions_joined : (files : Files) (xs ys : List ℕ) → all_expressions files (xs ++ ys) ≡ all_expressions files xs ++ all_expressions files ys
 expressions_joined files [] ys = refl
 expressions_joined files (x ∷ xs) ys =
     let own : List (List ℕ) = expressions (trees (statement_at files x).children) in
     ap (λ (rest : List (List ℕ)). own ++ rest) (expressions_joined files xs ys) ∙ sym (append_assoc own (all_expressions files xs) (all_expressions files ys))
 
-no_said : (said rest : Option Written) (others : Bool) → (is_some said || others) ≡ false → (others ≡ false → rest ≡ None) → option_or rest said ≡ None
-no_said None rest others h behind = or_none rest ∙ behind h
-no_said (Some w) rest others h behind = cc
+-- where none is found, none is left
+none_found : {A : Type 0} (f : Tree → A) (p : Tree → Bool) (ts : List Tree) → is_some (option_map f (find p ts)) ≡ false → map f (filter p ts) ≡ []
+none_found f p [] h = refl
+none_found {A} f p (t ∷ ts) h =
+    let cases : (b : Bool) → is_some (option_map f (cond b (Some t) (find p ts))) ≡ false → map f (cond b (t ∷ filter p ts) (filter p ts)) ≡ [] =
+    λ b. elim b as (λ b. is_some (option_map f (cond b (Some t) (find p ts))) ≡ false → map f (cond b (t ∷ filter p ts) (filter p ts)) ≡ []) [
+      | true ↦ λ g. absurd (true≢false g)
+      | false ↦ λ g. none_found f p ts g
+    ] in
+    cases (p t) h
 
--- where none of these statements gives a default, the last says nothing of one
-no_default : (files : Files) (ns : List ℕ) → give_default files ns ≡ false → last_said files ns word.Default ≡ None
+-- where none of these statements gives a default, the last gives none
+no_default : (files : Files) (ns : List ℕ) → give_default files ns ≡ false → last_defaults files ns ≡ []
 no_default files [] h = refl
-no_default files (n ∷ ns) h = no_said (said_at files n word.Default) (last_said files ns word.Default) (give_default files ns) h (no_default files ns)
+no_default files (n ∷ ns) h =
+    let parts = or_parts _ _ h in
+    ap (λ (l : List Written). or_list l (defaults_at files n)) (no_default files ns parts.1)
+    ∙ none_found (written_in (file_at files n)) (is_of word.Default) (trees (statement_at files n).children) parts.0
+
+-- the defaults that are said of a node with these of its own, of a type with this one, and with so many entries at least
+abbrev said_by : List Written → Option Written → ℕ → List Written
+said_by own type min = or_list own (cond (min == 0) (option_to_list type) [])
+
+-- the same defaults are said of a node, where it has the same of its own, and if none, may have no entry as before
+said_stays : (own : List Written) (type : Option Written) (m n : ℕ) → (are_none own && either_alone (m == 0) (n == 0)) ≡ false
+    → said_by own type m ≡ said_by own type n
+said_stays (w ∷ ws) type m n h = refl
+said_stays [] type m n h =
+    let ws : List Written = option_to_list type in
+    let cases : (a b : Bool) → either_alone a b ≡ false → cond a ws [] ≡ cond b ws [] =
+    λ a. elim a as (λ a. (b : Bool) → either_alone a b ≡ false → cond a ws [] ≡ cond b ws []) [
+      | true ↦ λ b. elim b as (λ b. not b ≡ false → ws ≡ cond b ws []) [ true ↦ λ g. refl | false ↦ λ g. absurd (true≢false g) ]
+      | false ↦ λ b. elim b as (λ b. b ≡ false → [] ≡ cond b ws []) [ true ↦ λ g. absurd (true≢false g) | false ↦ λ g. refl ]
+    ] in
+    cases (m == 0) (n == 0) h
 
 module _ (typing : Typing) (files : Files) where
   -- what a statement says of a node is what is said of it, where nothing refines it
@@ -122,13 +167,29 @@ module _ (typing : Typing) (files : Files) where
     abbrev all : Said
     all = last_said files (written_by from ++ (before ++ refines))
 
-    abbrev with_text : List ℕ → Said → Defined
-    with_text features said = with_properties (properties_of said) (record (defined typing files from) { features = features })
+    -- the defaults until then, and in the end
+    abbrev earlier_own : List Written
+    earlier_own = last_defaults files (written_by from ++ before)
+
+    abbrev own : List Written
+    own = last_defaults files (written_by from ++ (before ++ refines))
+
+    abbrev with_text : List ℕ → Said → List Written → Defined
+    with_text features said defaults = with_properties (properties_of said) defaults (record (defined typing files from) { features = features })
 
     all_is : (keyword : Keyword) → over (last_said files refines) earlier keyword ≡ all keyword
     all_is keyword =
         sym (last_joined files (written_by from ++ before) refines keyword)
         ∙ ap (λ (ns : List ℕ). last_said files ns keyword) (append_assoc (written_by from) before refines)
+
+    own_is : or_list (last_defaults files refines) earlier_own ≡ own
+    own_is =
+        sym (defaults_joined files (written_by from ++ before) refines)
+        ∙ ap (last_defaults files) (append_assoc (written_by from) before refines)
+
+    -- what is left in the end, but for values
+    abbrev left : Defined
+    left = with_text (with_expressions (defined typing files from).features (all_expressions files (before ++ refines))) all own
 
     text_is : text ≡ with_expressions (defined typing files from).features (all_expressions files (before ++ refines))
     text_is =
@@ -140,20 +201,20 @@ module _ (typing : Typing) (files : Files) where
     values = first.defaults
 
     changed_is : (e f : Defined) → e ≡ record first { features = text } → f ≡ changed_by files refines e
-        → ◌≡◌ {A = Defined} f (record (with_text (with_expressions (defined typing files from).features (all_expressions files (before ++ refines))) all) { defaults = values })
+        → ◌≡◌ {A = Defined} f (record left { defaults = values })
     changed_is e f begun is =
         is
         ∙ ap (changed_by files refines) begun
-        ∙ changed_keeps files refines (with_text text earlier) values
-        ∙ (λ i. record (changed_last files refines earlier (record (defined typing files from) { features = text }) i) { defaults = values })
-        ∙ (λ i. record (with_text (text_is i) (λ keyword. all_is keyword i)) { defaults = values })
+        ∙ changed_keeps files refines (with_text text earlier earlier_own) values
+        ∙ (λ i. record (changed_last files refines earlier earlier_own (record (defined typing files from) { features = text }) i) { defaults = values })
+        ∙ (λ i. record (with_text (text_is i) (λ keyword. all_is keyword i) (own_is i)) { defaults = values })
 
     begun_is : (said draft : Defined) (features : List ℕ) → said ≡ first → draft ≡ record said { features = features }
         → features ≡ with_expressions said.features (all_expressions files refines) → draft ≡ record first { features = text }
     begun_is said draft features is begun told =
         begun ∙ (λ i. record (is i) { features = (told ∙ ap (λ (d : Defined). with_expressions d.features (all_expressions files refines)) is) i })
 
-    -- with the values of its default it is what all of them leave
+    -- with the values of its defaults it is what all of them leave
     pub valued_is : (said draft f : Defined) (features : List ℕ) → said ≡ first → draft ≡ record said { features = features }
         → features ≡ with_expressions said.features (all_expressions files refines) → f ≡ changed_by files refines draft
         → ◌≡◌ {A = Defined} (with_defaults files f) (refined typing files from (before ++ refines))
@@ -167,20 +228,20 @@ module _ (typing : Typing) (files : Files) where
     types_stay said draft f features is begun told changes =
         ap (λ (d : Defined). d.types) (changed_is draft f (begun_is said draft features is begun told) changes)
 
-    own_stays : (own last : Option Written) → last ≡ None → option_or last own ≡ own
-    own_stays own last e = ap (λ (o : Option Written). option_or o own) e
-
-    values_stay : give_default files refines ≡ false → values ≡ defaults_of files (with_text (with_expressions (defined typing files from).features (all_expressions files (before ++ refines))) all)
-    values_stay none =
+    values_stay : give_default files refines ≡ false → is_swayed first left ≡ false → values ≡ defaults_of files left
+    values_stay none still =
         let d : Defined = defined typing files from in
-        let own : earlier word.Default ≡ all word.Default =
-        sym (own_stays (earlier word.Default) (last_said files refines word.Default) (no_default files refines none)) ∙ all_is word.Default in
-        ap (λ (w : Option Written). values_at files d.kind d.types (option_or w d.type_default)) own
+        let same : earlier_own ≡ own = sym (ap (λ (l : List Written). or_list l earlier_own) (no_default files refines none)) ∙ own_is in
+        ap (values_at files d.kind d.types) (
+        ap (λ (l : List Written). said_by l d.type_default first.min) same ∙ said_stays own d.type_default first.min left.min still
+        )
 
-    -- and so it is as it stands, where none of the refines gives a default
+    -- and so it is as it stands, where the refines give no default and don't decide over that of the type
     pub kept_is : (said draft f : Defined) (features : List ℕ) → said ≡ first → draft ≡ record said { features = features }
         → features ≡ with_expressions said.features (all_expressions files refines) → f ≡ changed_by files refines draft
-        → give_default files refines ≡ false → f ≡ refined typing files from (before ++ refines)
-    kept_is said draft f features is begun told changes none =
-        changed_is draft f (begun_is said draft features is begun told) changes
-        ∙ (λ i. record (with_text (with_expressions (defined typing files from).features (all_expressions files (before ++ refines))) all) { defaults = values_stay none i })
+        → is_moved files refines said f ≡ false → f ≡ refined typing files from (before ++ refines)
+    kept_is said draft f features is begun told changes unmoved =
+        let so : ◌≡◌ {A = Defined} f (record left { defaults = values }) = changed_is draft f (begun_is said draft features is begun told) changes in
+        let parts = or_parts _ _ unmoved in
+        let still : is_swayed first left ≡ false = sym (λ i. is_swayed (is i) (so i)) ∙ parts.1 in
+        so ∙ (λ i. record left { defaults = values_stay parts.0 still i })

@@ -23,7 +23,7 @@ use Rattle.yv_properties.specs.declared.kind.NodeStatus.TheVariants.{Current, De
 use Rattle.yv_definitions.specs.Kinds.{Kinds, TypeDefaults, TypeReferrals, Typing}
 use Rattle.yv_stated.specs.Statements.{argument_of, arguments_among, file_at, first_of, statement_at}
 use Rattle.yv_definitions.specs.Features.{all_expressions, conditions, expressions, with_expressions}
-use Rattle.yv_stated.specs.Properties.{Properties, last_said, properties_of, said_by, written_by}
+use Rattle.yv_stated.specs.Properties.{Properties, defaults_by, last_defaults, last_said, properties_of, said_by, written_by}
 use Rattle.yv_definitions.specs.Values.{with_defaults}
 
 -- what the statements of this keyword define, where they define nodes
@@ -94,22 +94,22 @@ path_by files file (Some t) = path_of_type files file t
 abbrev pub path_in : Files → (file : ℕ) → Forest → List Piece
 path_in files file block = path_by files file (first_of word.Type block)
 
--- a definition with these properties: what isn't said isn't mandatory, and bounds no number of entries
-abbrev pub with_properties : Properties → Defined → Defined
-with_properties p d = record d {
+-- a definition with these properties and these defaults of its own: what isn't said isn't mandatory, and bounds no number of entries
+abbrev pub with_properties : Properties → List Written → Defined → Defined
+with_properties p defaults d = record d {
   stated_config = p.config;
   is_mandatory = unwrap_or p.mandatory false;
   has_presence = p.presence;
   min = unwrap_or p.min 0;
   max = unwrap_or p.max None;
-  own_default = p.default;
+  own_defaults = defaults;
 }
 
 -- what a statement of a file says of the node that it defines
 abbrev pub defined_by : Typing → Files → (file : ℕ) → Tree → Defined
 defined_by typing files file t =
     let kind : NodeKind = kind_of (keyword_of t.head.keyword) in
-    with_properties (properties_of (said_by file t)) (record blank {
+    with_properties (properties_of (said_by file t)) (defaults_by file t) (record blank {
       file = file;
       offset = t.head.offset;
       line = t.head.line;
@@ -145,12 +145,13 @@ defined typing files (origin.Statement number) = defined_at typing files number
 defined typing files (origin.Input number) = unwritten kind.Input files number
 defined typing files (origin.Output number) = unwritten kind.Output files number
 
--- what is said of it, as these refines change it: of each property what the last of these statements says, the features
--- of all, and the values of the default that there is then
+-- what is said of it, as these refines change it: of each property what the last of these statements says, the defaults that the last
+-- of them gives that gives some, the features of all, and the values of the defaults that there are then
 abbrev pub refined : Typing → Files → Origin → List ℕ → Defined
 refined typing files from refines =
     let d : Defined = defined typing files from in
-    with_defaults files (with_properties (properties_of (last_said files (written_by from ++ refines)))
+    let statements : List ℕ = written_by from ++ refines in
+    with_defaults files (with_properties (properties_of (last_said files statements)) (last_defaults files statements)
     (record d { features = with_expressions d.features (all_expressions files refines) }))
 
 -- what a `type` statement of a file says as a leafref; nothing, where there is no statement

@@ -11,14 +11,14 @@ use Rattle.yv_definitions.specs.declared.keeping.Kept.{Kept}
 use Rattle.yv_definitions.specs.declared.keeping.Kept.TheVariants.{Node, Refine}
 use Rattle.yv_definitions.specs.Kinds.{Typing}
 use Rattle.yv_definitions.specs.Defined.{defined_at}
+use Rattle.yv_definitions.specs.InnerChanged.{Change, change_at}
 use Rattle.yv_definitions.specs.Values.{with_defaults}
-use Rattle.yv_stated.specs.Properties.{Properties, properties_of, said_at}
 use Rattle.yv_stated.specs.Statements.{first_of, statement_at}
 
--- what is kept of the statement of this number is what it says, with the values of its default
+-- what is kept of the statement of this number is what it says, with the values of its defaults
 abbrev pub IsKept : Typing → Files → ℕ → Kept → Type 0
 IsKept typing files number kept =
-    ((d : Defined) → kept ≡ Node d → d ≡ with_defaults files (defined_at typing files number)) × ((p : Box Properties Global) → kept ≡ Refine p → p.value ≡ properties_of (said_at files number))
+    ((d : Defined) → kept ≡ Node d → d ≡ with_defaults files (defined_at typing files number)) × ((c : Box Change Global) → kept ≡ Refine c → c.value ≡ change_at files number)
 
 abbrev pub AreKept : Typing → Files → List Kept → Type 0
 AreKept typing files all = (number : ℕ) (kept : Kept) → slice_get all number ≡ Some kept → IsKept typing files number kept

@@ -1,13 +1,13 @@
--- The values that defaults give leafs (RFC 7950, sections 7.6.1 and 9.12).
-use Rattle.std.specs.Prelude.{ℕ, List, [], ◌∷◌, map, Option, Some, None, if◌then◌else◌, slice_get}
+-- The values that defaults give leafs and leaf-lists (RFC 7950, sections 7.6.1, 7.7.2 and 9.12).
+use Rattle.std.specs.Prelude.{ℕ, nat_le, Bool, true, false, ◌&&◌, List, [], ◌∷◌, ◌++◌, map, length, Option, Some, None, if◌then◌else◌, slice_get}
 use Rattle.std.specs.Option.{option_and_then, option_map}
 use Rattle.yv_rows.specs.Files.{Files, brief_of}
 use Rattle.yv_values.specs.Scopes.{Place}
 use Rattle.yv_values.specs.Types.{Plain}
 use Rattle.yv_values.specs.Values.{Val}
-use Rattle.yv_properties.specs.Defined.{Defined, Written, default_of}
-use Rattle.yv_properties.specs.Kinds.{is_leaf}
+use Rattle.yv_properties.specs.Defined.{Defined, Written, defaults_said}
 use Rattle.yv_properties.specs.declared.kind.NodeKind.{NodeKind}
+use Rattle.yv_properties.specs.declared.kind.NodeKind.TheVariants as kind
 use Rattle.yv_defaults.specs.Scopes.{place_at}
 use Rattle.yv_defaults.specs.Values.{first_value}
 
@@ -23,19 +23,29 @@ abbrev pub alone : Option Val → List Val
 alone None = []
 alone (Some v) = v ∷ []
 
--- the values of a text that may be there
-abbrev pub values_of : Files → List Plain → Option Written → List Val
-values_of files types None = []
-values_of files types (Some w) = alone (value_of files types w)
+-- the values of texts, in order: those that are not read have none
+abbrev pub values_of : Files → List Plain → List Written → List Val
+values_of files types [] = []
+values_of files types (w ∷ ws) = alone (value_of files types w) ++ values_of files types ws
 
--- those of a node of this kind with this default
-abbrev pub values_at : Files → NodeKind → List Plain → Option Written → List Val
-values_at files kind types default = if is_leaf kind then values_of files types default else []
+-- a node of this kind may have values by defaults: a leaf or a leaf-list
+abbrev pub has_defaults : NodeKind → Bool
+has_defaults kind.Leaf = true
+has_defaults kind.LeafList = true
+has_defaults _ = false
 
--- those of the default that is said of a node
+-- these are no more defaults than a node may have
+abbrev pub are_few : List Written → Bool
+are_few said = nat_le (length said) 1024
+
+-- the values of a node of this kind by these defaults; of too many defaults none is read
+abbrev pub values_at : Files → NodeKind → List Plain → List Written → List Val
+values_at files kind types said = if has_defaults kind && are_few said then values_of files types said else []
+
+-- those of the defaults that are said of a node
 abbrev pub defaults_of : Files → Defined → List Val
-defaults_of files d = values_at files d.kind d.types (default_of d)
+defaults_of files d = values_at files d.kind d.types (defaults_said d)
 
--- a definition with the values of its default
+-- a definition with the values of its defaults
 abbrev pub with_defaults : Files → Defined → Defined
 with_defaults files d = record d { defaults = defaults_of files d }

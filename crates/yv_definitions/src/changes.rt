@@ -1,22 +1,23 @@
 //! The properties of nodes that refines may change.
-ghost use Rattle.std.specs.Prelude.{◌≡◌, ℕ, IfOk, OnOk};
-ghost use Rattle.std.specs.Option.{option_map, option_or};
+ghost use Rattle.std.specs.Prelude.{◌≡◌, ℕ, [], ◌∷◌, ◌++◌, map, IfOk, OnOk};
+ghost use Rattle.std.specs.Option.{option_map};
+ghost use Rattle.std.specs.Rc.{rc_slice_items};
 ghost use Rattle.yv_conform.specs.declared.keyword.Keyword.TheVariants as word;
 ghost use Rattle.yv_properties.specs.Defined.{written_of};
-ghost use Rattle.yv_definitions.specs.InnerChanged.{changed};
-ghost use Rattle.yv_stated.specs.Properties.{elements_of, is_true, least_of, properties_of, said_by};
-ghost use Rattle.yv_definitions.specs.Defined.{with_properties};
+ghost use Rattle.yv_definitions.specs.InnerChanged.{change_by, changed, defaults_among};
+ghost use Rattle.yv_stated.specs.Properties.{defaults_by, elements_of, is_true, least_of, said_by, written_in};
 
+use crate::nothing::Nothing;
 use std::alloc::{AllocError, Global};
 use std::marker::Model;
-use std::rc::RcStr;
+use std::rc::{RcSlice, RcStr};
 use yv_conform::Keyword;
 use yv_properties::{DefinitionDraft, WrittenText};
-use yv_stated::{elements, first_of, has, name_of};
+use yv_stated::{elements, first_of, has, is_of, name_of};
 use yv_statement::Statement;
 
-/// What a statement says of the properties of a node that a refine may change, each where the statement says it (RFC 7950,
-/// section 7.13.2).
+/// What a statement says of the properties of a node that a refine may change, each where the statement says it, and its defaults
+/// (RFC 7950, section 7.13.2).
 #[derive(Drop)]
 pub(crate) struct Changes {
     pub(crate) config: Option<bool>,
@@ -25,23 +26,27 @@ pub(crate) struct Changes {
     pub(crate) min: Option<u32>,
     // None within it is `unbounded`.
     pub(crate) max: Option<Option<u32>>,
-    pub(crate) default: Option<WrittenText>,
+    // Nothing where it gives none.
+    pub(crate) defaults: RcSlice<WrittenText>,
 }
 
 impl Model for Changes {
-    ghost use Rattle.std.specs.Option.{option_map};
+    ghost use Rattle.std.specs.Prelude.{map};
+    ghost use Rattle.std.specs.Rc.{rc_slice_items};
     ghost use Rattle.yv_properties.specs.Defined.{written_of};
-    ghost use Rattle.yv_stated.specs.Properties.{Properties};
+    ghost use Rattle.yv_definitions.specs.InnerChanged.{Change};
 
-    ghost Value = { Properties };
+    ghost Value = { Change };
 
     ghost view = { λ c. record {
-      config = c.config;
-      mandatory = c.mandatory;
-      presence = c.presence;
-      min = c.min;
-      max = c.max;
-      default = option_map written_of c.default;
+      properties = record {
+        config = c.config;
+        mandatory = c.mandatory;
+        presence = c.presence;
+        min = c.min;
+        max = c.max;
+      };
+      defaults = map written_of (rc_slice_items c.defaults);
     } };
 }
 
@@ -49,10 +54,11 @@ impl Changes {
     /// What a statement of a file says.
     pub(crate) fn read(
         alloc: Global,
+        nothing: &Nothing,
         file: u32,
         statement: &Statement<'_>,
     ) -> Result<Changes, AllocError>
-        ensures { IfOk result (λ changes. changes ≡ properties_of (said_by file statement.now)) }
+        ensures { IfOk result (λ changes. changes ≡ change_by file statement.now) }
     {
         Ok(Changes {
             config: truth_in(Keyword::Config, statement),
@@ -60,7 +66,7 @@ impl Changes {
             presence: has(Keyword::Presence, statement),
             min: least_in(statement),
             max: most_in(statement),
-            default: default_in(alloc, file, statement)?,
+            defaults: defaults_in(alloc, nothing, file, statement)?,
         })
     }
 
@@ -73,21 +79,11 @@ impl Changes {
         definition.has_presence = self.presence || definition.has_presence;
         definition.min = self.min.unwrap_or(definition.min);
         definition.max = self.max.unwrap_or(definition.max);
-        if let Some(written) = &self.default {
-            definition.own_default = Some(shared(written)?);
+        if !self.defaults.is_empty() {
+            definition.own_defaults = self.defaults.clone()?;
         }
         Ok(())
     }
-}
-
-// The same text once more, over the same memory.
-fn shared(written: &WrittenText) -> Result<WrittenText, AllocError>
-    ensures { IfOk result (λ shared. written_of shared ≡ written_of written.now) }
-{
-    Ok(WrittenText {
-        text: written.text.clone()?,
-        file: written.file,
-    })
 }
 
 // What the first substatement of this keyword says, if there is one: true, or anything else.
@@ -120,19 +116,63 @@ fn most_in(statement: &Statement<'_>) -> Option<Option<u32>>
     }
 }
 
-// The default, where one is written.
-fn default_in(
+// The argument of a statement of a file.
+fn written_in(
     alloc: Global,
     file: u32,
     statement: &Statement<'_>,
-) -> Result<Option<WrittenText>, AllocError>
-    ensures { IfOk result (λ text. option_map written_of text ≡ said_by file statement.now word.Default) }
+) -> Result<WrittenText, AllocError>
+    ensures { IfOk result (λ written. written_of written ≡ written_in file statement.now) }
 {
-    match first_of(Keyword::Default, statement) {
-        Some(found) => Ok(Some(WrittenText {
-            text: RcStr::from_str(alloc, name_of(found))?,
-            file,
-        })),
-        None => Ok(None),
+    Ok(WrittenText {
+        text: RcStr::from_str(alloc, name_of(statement))?,
+        file,
+    })
+}
+
+// The arguments of its `default` statements, in order.
+fn default_texts(
+    alloc: Global,
+    file: u32,
+    statement: &Statement<'_>,
+) -> Result<Vec<WrittenText>, AllocError>
+    ensures { IfOk result (λ texts. map written_of texts.items ≡ defaults_by file statement.now) }
+{
+    let mut texts = Vec::new(alloc);
+    for child in statement.children() {
+        push_default(alloc, file, &mut texts, child)?;
+    }
+    Ok(texts)
+}
+
+// Adds the argument of a statement, where it is a `default` statement.
+fn push_default(
+    alloc: Global,
+    file: u32,
+    texts: &mut Vec<WrittenText>,
+    statement: &Statement<'_>,
+) -> Result<(), AllocError>
+    ensures { OnOk result (map written_of texts.new.items ≡ map written_of texts.old.items ++ defaults_among file (statement.now ∷ [])) }
+{
+    if is_of(Keyword::Default, statement) {
+        texts.push(written_in(alloc, file, statement)?)?;
+    }
+    Ok(())
+}
+
+// The same, over the memory of no defaults where there is none.
+fn defaults_in(
+    alloc: Global,
+    nothing: &Nothing,
+    file: u32,
+    statement: &Statement<'_>,
+) -> Result<RcSlice<WrittenText>, AllocError>
+    ensures { IfOk result (λ list. map written_of (rc_slice_items list) ≡ defaults_by file statement.now) }
+{
+    let texts = default_texts(alloc, file, statement)?;
+    if texts.is_empty() {
+        nothing.defaults()
+    } else {
+        RcSlice::from_vec(texts)
     }
 }

@@ -11,13 +11,12 @@ ghost use Rattle.yv_definitions.specs.Kinds.{typing_of};
 ghost use Rattle.yv_conform.specs.declared.keyword.Keyword.TheVariants as word;
 ghost use Rattle.yv_stated.specs.Statements.{file_at, first_of, statement_at};
 ghost use Rattle.yv_definitions.specs.Features.{all_expressions, expressions, with_expressions};
-ghost use Rattle.yv_stated.specs.Properties.{properties_of, said_at};
 ghost use Rattle.yv_defaults.specs.Scopes.{AreScopes};
 ghost use Rattle.yv_definitions.specs.Defined.{defined, defined_at, referring, referring_by, refined, unwritten};
 ghost use Rattle.yv_definitions.specs.Values.{with_defaults};
 ghost use Rattle.yv_definitions.specs.InnerKept.{AreKept, gives_features, has_features};
-ghost use Rattle.yv_definitions.specs.InnerChanged.{changed, changed_by};
-ghost use Rattle.yv_definitions.specs.InnerRefined.{give_default, gives_default};
+ghost use Rattle.yv_definitions.specs.InnerChanged.{change_at, changed, changed_by};
+ghost use Rattle.yv_definitions.specs.InnerRefined.{give_default, gives_default, is_moved, is_swayed};
 
 use crate::features::push_expressions;
 use crate::keeping::{Kept, changes_at, kept_at, stated_at, types_at, unwritten_at};
@@ -110,8 +109,9 @@ impl<'r, 'a, 'b> Definitions<'r, 'a, 'b> {
     }
 
     /// What is said of a node of this origin, given what was said so far, once these refines (numbered statements) change it further,
-    /// in order (RFC 7950, section 7.13.2). It shares with it what they don't change, and takes time and memory for what they do. The value
-    /// of a default that one of them gives is read anew; the matchers are kept of the types' patterns from one default to the next.
+    /// in order (RFC 7950, section 7.13.2). It shares with it what they don't change, and takes time and memory for what they do. The values
+    /// of its defaults are read anew only where these become others; the matchers are kept of the types' patterns from one default to the
+    /// next.
     pub fn more(
         &self,
         matchers: &mut Matchers<'r>,
@@ -125,7 +125,7 @@ impl<'r, 'a, 'b> Definitions<'r, 'a, 'b> {
         let mut draft = said.draft()?;
         draft.features = self.features(said, refines)?;
         let mut changed = self.changed(draft, refines)?;
-        if self.gives_default(refines) {
+        if self.is_moved(said, &changed, refines) {
             let types = self.types_of(origin);
             changed.defaults = defaults_of(
                 self.alloc,
@@ -167,6 +167,13 @@ impl<'r, 'a, 'b> Definitions<'r, 'a, 'b> {
             Origin::Statement(number) => types_at(self.rows, self.types, number),
             _ => &[],
         }
+    }
+
+    // Whether the defaults that are said of a definition are others since these refines changed it.
+    fn is_moved(&self, said: &Definition, changed: &DefinitionDraft, refines: &[usize]) -> bool
+        ensures { result ≡ is_moved (files_in self.now) refines.now said.now changed.now }
+    {
+        self.gives_default(refines) || is_swayed(said, changed)
     }
 
     // Whether one of these numbered statements gives a default.
@@ -234,13 +241,13 @@ impl<'r, 'a, 'b> Definitions<'r, 'a, 'b> {
         Ok(definition)
     }
 
-    // Changes the properties of a definition as the numbered statement says.
+    // Changes a definition as the numbered statement says.
     fn change(&self, definition: &mut DefinitionDraft, number: usize) -> Result<(), AllocError>
-        ensures { OnOk result (definition.new ≡ changed (properties_of (said_at (files_in self.now) number)) definition.old) }
+        ensures { OnOk result (definition.new ≡ changed (change_at (files_in self.now) number) definition.old) }
     {
         match self.kept_of(number) {
             Some(Kept::Refine(changes)) => changes.change(definition),
-            _ => changes_at(self.alloc, self.rows, number)?.change(definition),
+            _ => changes_at(self.alloc, &self.nothing, self.rows, number)?.change(definition),
         }
     }
 
@@ -285,4 +292,12 @@ impl<'r, 'a, 'b> Definitions<'r, 'a, 'b> {
             None => Ok(()),
         }
     }
+}
+
+// Whether a definition without defaults of its own has that of its type where it had not, or the other way round: a leaf-list has it
+// where it may be empty.
+fn is_swayed(before: &Definition, after: &DefinitionDraft) -> bool
+    ensures { result ≡ is_swayed before.now after.now }
+{
+    after.own_defaults.as_slice().is_empty() && (before.min() == 0) != (after.min == 0)
 }

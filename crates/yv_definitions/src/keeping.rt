@@ -7,9 +7,9 @@ ghost use Rattle.yv_properties.specs.declared.kind.NodeKind.{NodeKind};
 ghost use Rattle.yv_defaults.specs.Scopes.{AreScopes};
 ghost use Rattle.yv_definitions.specs.Kinds.{typing_of};
 ghost use Rattle.yv_stated.specs.Statements.{file_at, statement_at};
-ghost use Rattle.yv_stated.specs.Properties.{properties_of, said_at};
 ghost use Rattle.yv_definitions.specs.Defined.{defined_at, unwritten};
 ghost use Rattle.yv_definitions.specs.Values.{with_defaults};
+ghost use Rattle.yv_definitions.specs.InnerChanged.{change_at};
 ghost use Rattle.yv_definitions.specs.InnerKept.{IsKept};
 
 use crate::changes::Changes;
@@ -39,7 +39,7 @@ pub(crate) enum Kept {
     Nothing,
 }
 
-// What the numbered statement says of the node that it defines, without the values of its default.
+// What the numbered statement says of the node that it defines, without the values of its defaults.
 fn define_at<'a>(
     alloc: Global,
     nothing: &Nothing,
@@ -95,18 +95,19 @@ pub(crate) fn stated_at<'a, 't>(
     draft.finish(alloc)
 }
 
-/// What the numbered statement says of the properties that a refine may change.
+/// What the numbered statement says of what a refine may change.
 pub(crate) fn changes_at(
     alloc: Global,
+    nothing: &Nothing,
     rows: &Rows<'_, '_>,
     number: usize,
 ) -> Result<Changes, AllocError>
-    ensures { IfOk result (λ changes. changes ≡ properties_of (said_at (lent_in rows.now) number)) }
+    ensures { IfOk result (λ changes. changes ≡ change_at (lent_in rows.now) number) }
 {
     let file = file_at(rows, number);
     match statement_at(rows, number) {
-        Some(statement) => Changes::read(alloc, file, statement),
-        None => Changes::read(alloc, file, &Statement::new(alloc, "", 0, 0)),
+        Some(statement) => Changes::read(alloc, nothing, file, statement),
+        None => Changes::read(alloc, nothing, file, &Statement::new(alloc, "", 0, 0)),
     }
 }
 
@@ -157,7 +158,7 @@ pub(crate) fn kept_at<'a, 't>(
         let node = stated_at(alloc, nothing, rows, types, paths, scopes, matchers, number)?;
         Ok(Kept::Node(node))
     } else if keyword == Keyword::Refine {
-        let changes = changes_at(alloc, rows, number)?;
+        let changes = changes_at(alloc, nothing, rows, number)?;
         Ok(Kept::Refine(Box::new(alloc, changes)?))
     } else {
         Ok(Kept::Nothing)

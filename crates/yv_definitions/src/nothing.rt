@@ -4,10 +4,10 @@ ghost use Rattle.std.specs.Rc.{rc_slice_items, rc_str_bytes};
 
 use std::alloc::{AllocError, Global};
 use std::rc::{Rc, RcSlice, RcStr};
-use yv_properties::{Keys, PathPiece, PathStep};
-use yv_values::{PlainType, Value};
+use yv_properties::{Keys, PathPiece, PathStep, WrittenText};
+use yv_values::{Defaults, PlainType};
 
-/// Empty texts, types, keys, paths and values: a node that has nothing of a kind shares these.
+/// Empty texts, types, keys, paths, defaults and values: a node that has nothing of a kind shares these.
 #[derive(Drop)]
 pub(crate) struct Nothing {
     text: RcStr,
@@ -15,26 +15,30 @@ pub(crate) struct Nothing {
     keys: Rc<Keys>,
     uniques: Rc<Vec<Vec<Vec<Option<PathStep>>>>>,
     path: Rc<Vec<PathPiece>>,
-    values: RcSlice<Value>,
+    defaults: RcSlice<WrittenText>,
+    values: Rc<Defaults>,
     ghost no_text: { rc_str_bytes text ≡ [] },
     ghost no_types: { rc_slice_items types ≡ [] },
     ghost no_keys: { keys.value ≡ [] },
     ghost no_uniques: { uniques.value.items ≡ [] },
     ghost no_path: { path.value.items ≡ [] },
-    ghost no_values: { rc_slice_items values ≡ [] },
+    ghost no_defaults: { rc_slice_items defaults ≡ [] },
+    ghost no_values: { values.value ≡ [] },
 }
 
 impl Nothing {
     /// All of this.
     pub(crate) fn new(alloc: Global) -> Result<Nothing, AllocError> {
         let keys = Keys::of(alloc, Vec::new(alloc))?;
+        let values = Defaults::of(alloc, Vec::new(alloc))?;
         Ok(Nothing {
             text: RcStr::from_str(alloc, "")?,
             types: RcSlice::from_vec(Vec::new(alloc))?,
             keys: Rc::new(alloc, keys)?,
             uniques: Rc::new(alloc, Vec::new(alloc))?,
             path: Rc::new(alloc, Vec::new(alloc))?,
-            values: RcSlice::from_vec(Vec::new(alloc))?,
+            defaults: RcSlice::from_vec(Vec::new(alloc))?,
+            values: Rc::new(alloc, values)?,
         })
     }
 
@@ -84,9 +88,16 @@ impl Nothing {
         self.path.clone()
     }
 
+    /// No defaults.
+    pub(crate) fn defaults(&self) -> Result<RcSlice<WrittenText>, AllocError>
+        ensures { IfOk result (λ defaults. rc_slice_items defaults ≡ []) }
+    {
+        self.defaults.clone()
+    }
+
     /// No values.
-    pub(crate) fn values(&self) -> Result<RcSlice<Value>, AllocError>
-        ensures { IfOk result (λ values. rc_slice_items values ≡ []) }
+    pub(crate) fn values(&self) -> Result<Rc<Defaults>, AllocError>
+        ensures { IfOk result (λ values. values.value ≡ []) }
     {
         self.values.clone()
     }

@@ -190,7 +190,7 @@ pub(crate) fn blank(nothing: &Nothing) -> Result<DefinitionDraft, AllocError>
         path: nothing.path()?,
         keys: nothing.keys()?,
         uniques: nothing.uniques()?,
-        own_default: None,
+        own_defaults: nothing.defaults()?,
         type_default: None,
         defaults: nothing.values()?,
         file: 0,
@@ -204,7 +204,7 @@ pub(crate) fn blank(nothing: &Nothing) -> Result<DefinitionDraft, AllocError>
     })
 }
 
-/// What a statement of a file says of the node that it defines, without the values of its default, these being what its `key` and
+/// What a statement of a file says of the node that it defines, without the values of its defaults, these being what its `key` and
 /// `unique` statements name.
 pub(crate) fn define(
     alloc: Global,
@@ -218,7 +218,7 @@ pub(crate) fn define(
         → IfOk result (λ d. d ≡ defined_by (typing_of types.now) files file statement.now) }
 {
     let kind = kind_of(Keyword::read(statement.keyword()));
-    let changes = Changes::read(alloc, file, statement)?;
+    let changes = Changes::read(alloc, nothing, file, statement)?;
     Ok(DefinitionDraft {
         offset: statement.offset(),
         line: statement.line(),
@@ -229,7 +229,7 @@ pub(crate) fn define(
         path: names.path,
         keys: names.keys,
         uniques: names.uniques,
-        own_default: changes.default,
+        own_defaults: changes.defaults,
         type_default: type_default(types, file, statement)?,
         defaults: nothing.values()?,
         file,

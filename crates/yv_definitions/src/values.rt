@@ -1,20 +1,20 @@
 //! The values of defaults.
-ghost use Rattle.std.specs.Prelude.{◌≡◌, map, IfOk, Some};
-ghost use Rattle.std.specs.Rc.{rc_slice_items};
+ghost use Rattle.std.specs.Prelude.{◌≡◌, ◌+◌, ◌≤◌, ◌++◌, map, length, IfOk, OnOk};
 ghost use Rattle.yv_rows.specs.Files.{Files};
 ghost use Rattle.yv_values.specs.Types.{plain_of};
-ghost use Rattle.yv_properties.specs.Defined.{written_of};
+ghost use Rattle.yv_properties.specs.Defined.{defaults_said, written_of};
 ghost use Rattle.yv_defaults.specs.Scopes.{AreScopes};
-ghost use Rattle.yv_definitions.specs.Values.{defaults_of, value_of, values_of};
+ghost use Rattle.yv_definitions.specs.Values.{alone, defaults_of, has_defaults, value_of, values_of};
 
 use crate::nothing::Nothing;
 use std::alloc::{AllocError, Global};
-use std::rc::RcSlice;
+use std::rc::Rc;
 use yv_defaults::default_value;
 use yv_properties::{DefinitionDraft, NodeKind, WrittenText};
-use yv_values::{Matchers, PlainType, Scope, Value};
+use yv_values::{Defaults, Matchers, PlainType, Scope, Value};
 
-/// The values of the default that is said of a node of these types, these being the scopes of the files.
+/// The values of the defaults that are said of a node of these types, these being the scopes of the files. Of more defaults than a node
+/// may have none is read.
 pub(crate) fn defaults_of<'t>(
     alloc: Global,
     nothing: &Nothing,
@@ -22,32 +22,88 @@ pub(crate) fn defaults_of<'t>(
     matchers: &mut Matchers<'t>,
     types: &'t [PlainType],
     definition: &DefinitionDraft,
-) -> Result<RcSlice<Value>, AllocError>
+) -> Result<Rc<Defaults>, AllocError>
     ensures { (files : Files) → AreScopes files scopes.now → map plain_of types.now ≡ definition.now.types
-        → IfOk result (λ list. rc_slice_items list ≡ defaults_of files definition.now) }
+        → IfOk result (λ defaults. defaults.value ≡ defaults_of files definition.now) }
 {
-    match (definition.kind, definition.default()) {
-        (NodeKind::Leaf, Some(written)) => values_of(alloc, scopes, matchers, types, written),
-        _ => nothing.values(),
+    if !has_defaults(definition.kind) || definition.own_defaults.len() > Defaults::MOST {
+        return nothing.values();
     }
+    let values = said_values(alloc, scopes, matchers, types, definition)?;
+    if values.is_empty() {
+        return nothing.values();
+    }
+    Ok(Rc::new(alloc, Defaults::of(alloc, values)?)?)
 }
 
-// The values of a text: one, where these types read it.
+// Whether a node of this kind may have values by defaults.
+fn has_defaults(kind: NodeKind) -> bool
+    ensures { result ≡ has_defaults kind }
+{
+    matches!(kind, NodeKind::Leaf | NodeKind::LeafList)
+}
+
+// The values of the defaults that are said of a node.
+fn said_values<'t>(
+    alloc: Global,
+    scopes: &[Scope],
+    matchers: &mut Matchers<'t>,
+    types: &'t [PlainType],
+    definition: &DefinitionDraft,
+) -> Result<Vec<Value>, AllocError>
+    ensures values { (files : Files) → AreScopes files scopes.now → IfOk result (λ values. values.items
+        ≡ values_of files (map plain_of types.now) (defaults_said definition.now)) }
+    ensures few { IfOk result (λ values. length values.items ≤ length (defaults_said definition.now)) }
+{
+    let own = definition.own_defaults.as_slice();
+    if !own.is_empty() {
+        return values_of(alloc, scopes, matchers, types, own);
+    }
+    let mut values = Vec::new(alloc);
+    if definition.min == 0
+        && let Some(written) = &definition.type_default
+    {
+        push_value(alloc, scopes, matchers, types, written, &mut values)?;
+    }
+    Ok(values)
+}
+
+// The values of texts, in order: those that are not read have none.
 fn values_of<'t>(
     alloc: Global,
     scopes: &[Scope],
     matchers: &mut Matchers<'t>,
     types: &'t [PlainType],
-    written: &WrittenText,
-) -> Result<RcSlice<Value>, AllocError>
-    ensures { (files : Files) → AreScopes files scopes.now → IfOk result (λ list. rc_slice_items list
-        ≡ values_of files (map plain_of types.now) (Some (written_of written.now))) }
+    texts: &[WrittenText],
+) -> Result<Vec<Value>, AllocError>
+    ensures values { (files : Files) → AreScopes files scopes.now → IfOk result (λ values. values.items
+        ≡ values_of files (map plain_of types.now) (map written_of texts.now)) }
+    ensures few { IfOk result (λ values. length values.items ≤ length texts.now) }
 {
     let mut values = Vec::new(alloc);
+    for written in texts {
+        push_value(alloc, scopes, matchers, types, written, &mut values)?;
+    }
+    Ok(values)
+}
+
+// Adds the value of a text, if these types read it.
+fn push_value<'t>(
+    alloc: Global,
+    scopes: &[Scope],
+    matchers: &mut Matchers<'t>,
+    types: &'t [PlainType],
+    written: &WrittenText,
+    values: &mut Vec<Value>,
+) -> Result<(), AllocError>
+    ensures values { (files : Files) → AreScopes files scopes.now → OnOk result (values.new.items
+        ≡ values.old.items ++ alone (value_of files (map plain_of types.now) (written_of written.now))) }
+    ensures few { OnOk result (length values.new.items ≤ length values.old.items + 1) }
+{
     if let Some(value) = value_of(alloc, scopes, matchers, types, written)? {
         values.push(value)?;
     }
-    RcSlice::from_vec(values)
+    Ok(())
 }
 
 // The value of a text by the first of these types that reads it, in the file in which it is written.

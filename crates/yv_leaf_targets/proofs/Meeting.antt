@@ -13,7 +13,7 @@ use Rattle.yv_nodes.specs.Places.{Place, places}
 use Rattle.yv_nodes.specs.Rows.{Row, root}
 use Rattle.yv_nodes.specs.Numbers.{numbers_from, rows_from}
 use Rattle.yv_properties.specs.Steps.{Step}
-use Rattle.yv_properties.specs.Defined.{Written}
+use Rattle.yv_properties.specs.Defined.{Written, own_default}
 use Rattle.yv_leaf_targets.specs.Targets.{Waypoint, at_node, at_left_out_case, arrived, default_case, home_of, is_called, key_leaf, leaf_among, leaf_at_end, leaf_in, led, led_by, named, named_by, stepped, unique_leaf}
 use Rattle.yv_leaf_targets.specs.Numbers.{arrived_at, case_by, child_at, children_by, default_by, default_case_at, is_called_at, is_called_by, is_kind_at, is_kind_by, key_leaf_at, leaf_at_end_of, leaf_below, leaf_of, led_at, led_by_at, home_at, home_by, stepped_at, tree_at, tree_in, unique_leaf_at}
 use Rattle.yv_leaf_targets.specs.Refused.{is_bad_statement, is_config_leaf, is_state_leaf}
@@ -149,8 +149,8 @@ module _ (all : Forest) where
   case_is choice (node l kids) e =
       let is : IsAt all choice l kids = known choice l kids e in
       ap (λ (o : Option Row). option_map (tree_at all) (case_by rows choice (default_by o))) is.at_row
-      ∙ ap (λ (m : Label). option_map (tree_at all) (case_by rows choice (cond (is_choice m.defined.kind) m.defined.own_default None))) is.label
-      ∙ chosen_case (is_choice l.defined.kind) l.defined.own_default choice l kids is
+      ∙ ap (λ (m : Label). option_map (tree_at all) (case_by rows choice (cond (is_choice m.defined.kind) (own_default m.defined) None))) is.label
+      ∙ chosen_case (is_choice l.defined.kind) (own_default l.defined) choice l kids is
 
   way_at : Way → Option Waypoint
   way_at (AtNode n) = option_map at_node (tree_at all n)

@@ -4,7 +4,7 @@ use Rattle.std.specs.List.{find}
 use Rattle.std.specs.Option.{option_and_then, option_map}
 use Rattle.yv_properties.specs.declared.kind.NodeKind.{NodeKind}
 use Rattle.yv_properties.specs.Kinds.{is_case, is_choice, is_leaf, is_list}
-use Rattle.yv_properties.specs.Defined.{Written}
+use Rattle.yv_properties.specs.Defined.{Written, own_default}
 use Rattle.yv_nodes.specs.declared.node.NodeId.{NodeId}
 use Rattle.yv_nodes.specs.Tree.{Tree, node, Forest}
 use Rattle.yv_nodes.specs.Places.{Place, places}
@@ -98,7 +98,7 @@ unique_leaf_at rows list (s ∷ ss) = led_at rows (home_at rows list) (s ∷ ss)
 
 abbrev pub default_by : Option Row → Option Written
 default_by None = None
-default_by (Some r) = if is_choice r.label.defined.kind then r.label.defined.own_default else None
+default_by (Some r) = if is_choice r.label.defined.kind then own_default r.label.defined else None
 
 abbrev pub case_by : List Row → (choice : NodeId) → Option Written → Option NodeId
 case_by rows choice None = None

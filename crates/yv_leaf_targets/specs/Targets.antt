@@ -3,7 +3,7 @@ use Rattle.std.specs.Prelude.{ℕ, ◌==◌, Bool, not, ◌&&◌, List, [], ◌�
 use Rattle.std.specs.Option.{option_and_then, unwrap_or}
 use Rattle.std.specs.Str.{bytes_eq}
 use Rattle.yv_properties.specs.Kinds.{is_case, is_choice, is_leaf, is_list}
-use Rattle.yv_properties.specs.Defined.{Written}
+use Rattle.yv_properties.specs.Defined.{Written, own_default}
 use Rattle.yv_nodes.specs.Tree.{Label, Tree, node, Forest, no_trees, tree}
 use Rattle.yv_properties.specs.Steps.{Step}
 
@@ -78,4 +78,4 @@ named_by home (Some written) ts = named home written.text ts
 
 -- the default case of a choice: a case, or a node that is a case of its own, of the choice's own module (section 7.9.3)
 abbrev pub default_case : (choice : Tree) → Option Tree
-default_case (node l kids) = if is_choice l.defined.kind then named_by l.home l.defined.own_default kids else None
+default_case (node l kids) = if is_choice l.defined.kind then named_by l.home (own_default l.defined) kids else None

@@ -1,16 +1,16 @@
 -- The properties of a node that refines may change (RFC 7950, section 7.13.2), by the statements that say them.
-use Rattle.std.specs.Prelude.{ℕ, ◌^◌, nat_lt, Bool, false, ℤ, pos, List, [], ◌∷◌, Option, Some, None, is_some, codes, if◌then◌else◌}
+use Rattle.std.specs.Prelude.{ℕ, ◌^◌, nat_lt, Bool, false, ℤ, pos, List, [], ◌∷◌, Option, Some, None, is_some, codes, filter, map, if◌then◌else◌}
 use Rattle.std.specs.Option.{option_map, option_or, unwrap_or}
 use Rattle.std.specs.Str.{bytes_eq}
-use Rattle.yv_statement.specs.Tree.{Tree, name_of}
+use Rattle.yv_statement.specs.Tree.{Tree, name_of, trees}
 use Rattle.yv_conform.specs.declared.keyword.Keyword.{Keyword}
 use Rattle.yv_conform.specs.declared.keyword.Keyword.TheVariants as word
 use Rattle.yv_rows.specs.Files.{Files}
 use Rattle.yv_expansion.specs.declared.item.Origin.{Origin}
 use Rattle.yv_expansion.specs.declared.item.Origin.TheVariants as origin
 use Rattle.yv_numbers.specs.Numbers.{integer_of}
-use Rattle.yv_properties.specs.Defined.{Written}
-use Rattle.yv_stated.specs.Statements.{file_at, first_of, statement_at}
+use Rattle.yv_properties.specs.Defined.{Written, or_list}
+use Rattle.yv_stated.specs.Statements.{file_at, first_of, is_of, statement_at}
 
 -- what is said by a substatement of each keyword, if it is
 abbrev pub Said : Type 0
@@ -32,6 +32,19 @@ said_at files number = said_by (file_at files number) (statement_at files number
 abbrev pub last_said : Files → List ℕ → Said
 last_said files [] keyword = None
 last_said files (n ∷ ns) keyword = option_or (last_said files ns keyword) (said_at files n keyword)
+
+-- the defaults that a statement of a file gives: those of all its `default` statements, in order
+abbrev pub defaults_by : (file : ℕ) → Tree → List Written
+defaults_by file t = map (written_in file) (filter (is_of word.Default) (trees t.children))
+
+-- those that a numbered statement gives
+abbrev pub defaults_at : Files → ℕ → List Written
+defaults_at files number = defaults_by (file_at files number) (statement_at files number)
+
+-- the defaults that the last of these numbered statements gives that gives some: they stand in place of all earlier ones
+abbrev pub last_defaults : Files → List ℕ → List Written
+last_defaults files [] = []
+last_defaults files (n ∷ ns) = or_list (last_defaults files ns) (defaults_at files n)
 
 -- the statements that say what a node of this origin is
 abbrev pub written_by : Origin → List ℕ
@@ -55,16 +68,15 @@ elements_of w = elements (integer_of w.text)
 abbrev pub least_of : Written → ℕ
 least_of w = unwrap_or (elements_of w) 0
 
--- what is said of each property; a `max` of none is `unbounded`
+-- what is said of each property but defaults; a `max` of none is `unbounded`
 pub record Properties : Type 0 where
   pub config : Option Bool
   pub mandatory : Option Bool
   pub presence : Bool
   pub min : Option ℕ
   pub max : Option (Option ℕ)
-  pub default : Option Written
 
--- sections 7.21.1, 7.6.5, 7.5.5, 7.7.5, 7.7.6 and 7.6.4
+-- sections 7.21.1, 7.6.5, 7.5.5, 7.7.5 and 7.7.6
 abbrev pub properties_of : Said → Properties
 properties_of said = record {
   config = option_map is_true (said word.Config);
@@ -72,5 +84,4 @@ properties_of said = record {
   presence = is_some (said word.Presence);
   min = option_map least_of (said word.MinElements);
   max = option_map elements_of (said word.MaxElements);
-  default = said word.Default;
 }

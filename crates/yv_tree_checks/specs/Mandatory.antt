@@ -1,4 +1,4 @@
--- Mandatory nodes, and what is wrong with defaults (RFC 7950, sections 3, 7.6.5, 7.9.3 and 7.9.4).
+-- Mandatory nodes, and what is wrong with defaults (RFC 7950, sections 3, 7.6.5, 7.7.4, 7.9.3 and 7.9.4).
 use Rattle.std.specs.Prelude.{◌≡◌, ◌⊎◌, ◌==◌, ℕ, nat_lt, Bool, true, false, not, ◌&&◌, ◌||◌, List, length, Option, Some, None, is_some, if◌then◌else◌}
 use Rattle.std.specs.Str.{bytes_eq}
 use Rattle.yv_statement.specs.declared.refusal.Refusal.{Refusal}
@@ -6,10 +6,11 @@ use Rattle.yv_statement.specs.declared.refusal.Code.TheVariants as code
 use Rattle.yv_statement.specs.Order.{Among, Stands}
 use Rattle.yv_properties.specs.declared.kind.NodeKind.{NodeKind}
 use Rattle.yv_properties.specs.declared.kind.NodeKind.TheVariants as kind
-use Rattle.yv_properties.specs.Defined.{Defined, Written, default_of}
-use Rattle.yv_properties.specs.Kinds.{is_case, is_choice, is_leaf}
+use Rattle.yv_values.specs.Same.{has_same}
+use Rattle.yv_properties.specs.Defined.{Defined, Written, defaults_said, own_default}
+use Rattle.yv_properties.specs.Kinds.{is_case, is_choice}
 use Rattle.yv_nodes.specs.Tree.{Label, Tree, node, Forest, no_trees, tree}
-use Rattle.yv_nodes.specs.Defaults.{has_no_value}
+use Rattle.yv_nodes.specs.Defaults.{defaults_of}
 use Rattle.yv_nodes.specs.Places.{Place, places}
 use Rattle.yv_nodes.specs.Refused.{refusal_of}
 
@@ -48,26 +49,53 @@ named_by home (Some written) ts = named home written.text ts
 -- the default case of a choice: a case, or a node that is a case of its own, of the choice's own module
 -- (RFC 7950, section 7.9.3)
 abbrev pub default_case : Place → Option Tree
-default_case p = named_by p.label.home p.label.defined.own_default p.kids
+default_case p = named_by p.label.home (own_default p.label.defined) p.kids
 
 -- a mandatory node stands directly under a case: the node itself, where that is a case of its own
 abbrev pub is_needed_in : Option Tree → Bool
 is_needed_in None = false
 is_needed_in (Some (node l kids)) = if is_case l.defined.kind then has_mandatory kids else is_needed l (has_mandatory kids)
 
--- a leaf or choice with `mandatory true` and a default of its own (RFC 7950, sections 7.6.4 and 7.9.3)
+-- a node of a kind may have no default of its own: a leaf or choice with `mandatory true`, and a leaf-list with an entry at least (RFC
+-- 7950, sections 7.6.4, 7.7.4 and 7.9.3)
+abbrev pub forbids_default_as : NodeKind → Defined → Bool
+forbids_default_as kind.Leaf d = d.is_mandatory
+forbids_default_as kind.Choice d = d.is_mandatory
+forbids_default_as kind.LeafList d = nat_lt 0 d.min
+forbids_default_as _ d = false
+
+-- it has one nevertheless
 abbrev pub is_overruled : Label → Bool
-is_overruled l = (is_leaf l.defined.kind || is_choice l.defined.kind) && (l.defined.is_mandatory && is_some l.defined.own_default)
+is_overruled l = forbids_default_as l.defined.kind l.defined && is_some (own_default l.defined)
 
 -- a choice whose default is no case of it, where `found` says that it is one
 abbrev pub is_caseless : Label → (found : Bool) → Bool
-is_caseless l found = is_choice l.defined.kind && (is_some l.defined.own_default && not found)
+is_caseless l found = is_choice l.defined.kind && (is_some (own_default l.defined) && not found)
 
--- a leaf whose default no type of it reads. Of a key and of a mandatory leaf no default is asked (RFC 7950, sections 7.6.1 and
--- 7.8.2)
+-- a leaf or leaf-list
+abbrev pub has_values : NodeKind → Bool
+has_values kind.Leaf = true
+has_values kind.LeafList = true
+has_values _ = false
+
+-- a leaf or leaf-list that has fewer values by its defaults than it has defaults: no type of it reads one. Of a key and of a mandatory
+-- leaf no default is asked (RFC 7950, sections 7.6.1 and 7.8.2)
 abbrev pub is_illegible : Label → Bool
 is_illegible l =
-    is_leaf l.defined.kind && (not (l.is_key || l.defined.is_mandatory) && (is_some (default_of l.defined) && has_no_value l))
+    has_values l.defined.kind
+    && (not (l.is_key || l.defined.is_mandatory) && nat_lt (length (defaults_of l)) (length (defaults_said l.defined)))
+
+-- a node with more defaults of its own than are taken
+abbrev pub is_crowded : Label → Bool
+is_crowded l = nat_lt 1024 (length l.defined.own_defaults)
+
+-- a configuration node that has one value twice by its defaults, as a leaf-list that is written may not (RFC 7950, section 7.7)
+abbrev pub is_doubled : Label → Bool
+is_doubled l = l.is_config && has_same l.defined.defaults
+
+-- a node's defaults don't give it values, or not these
+abbrev pub has_unfit_default : Label → Bool
+has_unfit_default l = is_illegible l || is_crowded l || is_doubled l
 
 -- f is what is wrong with a node's default
 abbrev pub BadOfDefault : Place → Refusal → Type 0
@@ -75,7 +103,7 @@ BadOfDefault p f =
     (Stands (is_overruled p.label ≡ true) (refusal_of code.BadMandatory p.label) f
     ⊎ Stands (is_needed_in (default_case p) ≡ true) (refusal_of code.BadMandatory p.label) f)
     ⊎ (Stands (is_caseless p.label (is_some (default_case p)) ≡ true) (refusal_of code.BadDefault p.label) f
-    ⊎ Stands (is_illegible p.label ≡ true) (refusal_of code.BadDefault p.label) f)
+    ⊎ Stands (has_unfit_default p.label ≡ true) (refusal_of code.BadDefault p.label) f)
 
 -- f stands in a schema tree
 abbrev pub BadByDefault : Forest → Refusal → Type 0

@@ -2,9 +2,10 @@
 ghost use Rattle.std.specs.Prelude.{◌≡◌, ℕ, Some, IfOk, slice_get};
 ghost use Rattle.std.specs.List.{find, list_any};
 ghost use Rattle.yv_statement.specs.Order.{IsLeast};
+ghost use Rattle.yv_properties.specs.Defined.{own_default};
 ghost use Rattle.yv_nodes.specs.Tree.{Forest};
 ghost use Rattle.yv_nodes.specs.Places.{Place, places};
-ghost use Rattle.yv_tree_checks.specs.Mandatory.{BadByDefault, BadOfDefault, is_caseless, is_illegible, is_needed, is_overruled};
+ghost use Rattle.yv_tree_checks.specs.Mandatory.{BadByDefault, BadOfDefault, forbids_default_as, has_unfit_default, has_values, is_caseless, is_crowded, is_doubled, is_illegible, is_needed, is_overruled};
 ghost use Rattle.yv_tree_checks.specs.InnerSpots.{AreRows};
 ghost use Rattle.yv_tree_checks.specs.InnerBelow.{AreBelow, case_among, is_named_at, is_needed_at, is_undone_at, kept_at};
 
@@ -12,8 +13,9 @@ use std::alloc::{AllocError, Global};
 use yv_nodes::{Node, NodeId};
 use yv_properties::NodeKind;
 use yv_statement::{Code, Refusal, lesser};
+use yv_values::Defaults;
 
-/// The least refusal of the default of a choice or of a leaf, or of `mandatory true` beside a default.
+/// The least refusal of the defaults of a choice, a leaf or a leaf-list, or of `mandatory true` or `min-elements` beside a default.
 pub(crate) fn least_by_default(alloc: Global, nodes: &[Node]) -> Result<Option<Refusal>, AllocError>
     ensures { (ts : Forest) → AreRows nodes.now ts → IfOk result (λ least. IsLeast (BadByDefault ts) least) }
 {
@@ -104,7 +106,7 @@ fn first_named(nodes: &[Node], home: u32, name: &str, children: &[NodeId]) -> Op
 
 // The default case of a choice.
 fn default_case(nodes: &[Node], node: &Node) -> Option<NodeId>
-    ensures { result ≡ case_among nodes.now node.now.label.home node.now.label.defined.own_default node.now.children }
+    ensures { result ≡ case_among nodes.now node.now.label.home (own_default node.now.label.defined) node.now.children }
 {
     match node.own_default() {
         Some(written) => { first_named(nodes, node.home(), written.text.as_str(), node.children()) }
@@ -126,14 +128,22 @@ fn is_undone(nodes: &[Node], below: &[bool], case: Option<NodeId>) -> bool
     }
 }
 
-// A leaf or choice with `mandatory true` and a default of its own.
+// Whether a node may have no default of its own.
+fn forbids_default(node: &Node) -> bool
+    ensures { result ≡ forbids_default_as node.now.label.defined.kind node.now.label.defined }
+{
+    match node.kind() {
+        NodeKind::Leaf | NodeKind::Choice => node.mandatory(),
+        NodeKind::LeafList => node.min() > 0,
+        _ => false,
+    }
+}
+
+// It has one nevertheless.
 fn is_overruled(node: &Node) -> bool
     ensures { result ≡ is_overruled node.now.label }
 {
-    match node.kind() {
-        NodeKind::Leaf | NodeKind::Choice => node.mandatory() && node.own_default().is_some(),
-        _ => false,
-    }
+    forbids_default(node) && node.own_default().is_some()
 }
 
 // A choice whose default is no case of it, where this says whether it is one.
@@ -143,16 +153,44 @@ fn is_caseless(node: &Node, found: bool) -> bool
     node.kind() == NodeKind::Choice && (node.own_default().is_some() && !found)
 }
 
-// A leaf whose default no type of it reads.
+// Whether a node of this kind has values.
+fn has_values(kind: NodeKind) -> bool
+    ensures { result ≡ has_values kind }
+{
+    matches!(kind, NodeKind::Leaf | NodeKind::LeafList)
+}
+
+// A leaf or leaf-list of which no type reads one of its defaults.
 fn is_illegible(node: &Node) -> bool
     ensures { result ≡ is_illegible node.now.label }
 {
-    node.kind() == NodeKind::Leaf
+    has_values(node.kind())
         && (!(node.is_key() || node.mandatory())
-            && (node.default().is_some() && node.defaults().is_empty()))
+            && node.defaults().len() < node.count_defaults_said())
 }
 
-// What is wrong with a node's default.
+// A node with more defaults of its own than are taken.
+fn is_crowded(node: &Node) -> bool
+    ensures { result ≡ is_crowded node.now.label }
+{
+    node.own_defaults().len() > Defaults::MOST
+}
+
+// A configuration node that has one value twice by its defaults.
+fn is_doubled(node: &Node) -> bool
+    ensures { result ≡ is_doubled node.now.label }
+{
+    node.config() && node.repeats_default()
+}
+
+// A node whose defaults don't give it values, or not these.
+fn has_unfit_default(node: &Node) -> bool
+    ensures { result ≡ has_unfit_default node.now.label }
+{
+    is_illegible(node) || is_crowded(node) || is_doubled(node)
+}
+
+// What is wrong with a node's defaults.
 fn wrong_default(nodes: &[Node], below: &[bool], node: &Node) -> Option<Refusal>
     ensures { (ts : Forest) (i : ℕ) (p : Place) → AreRows nodes.now ts → AreBelow ts below.now 0
         → slice_get nodes.now i ≡ Some node.now → slice_get (places ts) i ≡ Some p → IsLeast (BadOfDefault p) result }
@@ -161,6 +199,6 @@ fn wrong_default(nodes: &[Node], below: &[bool], node: &Node) -> Option<Refusal>
     let overruled = node.refused(is_overruled(node), Code::BadMandatory);
     let undone = node.refused(is_undone(nodes, below, case), Code::BadMandatory);
     let caseless = node.refused(is_caseless(node, case.is_some()), Code::BadDefault);
-    let illegible = node.refused(is_illegible(node), Code::BadDefault);
-    lesser(lesser(overruled, undone), lesser(caseless, illegible))
+    let unfit = node.refused(has_unfit_default(node), Code::BadDefault);
+    lesser(lesser(overruled, undone), lesser(caseless, unfit))
 }

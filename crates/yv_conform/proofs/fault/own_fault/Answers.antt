@@ -13,10 +13,10 @@ pub returns : goal.returns
 returns c =
     let s = c.args.statement.now in
     let at_keyword : c.args.keyword ≡ keyword_at s = c.requires in
-    let U : Type 0 = is_unsupported c.args.parent (keyword_at s) s.head.argument ≡ true in
+    let U : Type 0 = is_unsupported (keyword_at s) s.head.argument ≡ true in
     let N : Type 0 = keyword_at s ≡ word.Unknown in
     let F : Type 0 = ArgumentFits c.args.parent (keyword_at s) s.head.argument in
-    let unsupported : c.is_unsupported-unsupported.result ≡ is_unsupported c.args.parent (keyword_at s) s.head.argument =
+    let unsupported : c.is_unsupported-unsupported.result ≡ is_unsupported (keyword_at s) s.head.argument =
     rw (← c.requires, ← c.argument-argument.ensures) c.is_unsupported-unsupported.ensures in
     let first : IsLeast (Stands U (refusal_at code.Unsupported 0 s.head)) c.refused-first.result =
     rw c.refused-first.ensures (least_refused U _ _ (λ h. sym unsupported ∙ h) (λ h. unsupported ∙ h)) in

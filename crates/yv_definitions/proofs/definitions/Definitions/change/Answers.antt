@@ -1,8 +1,7 @@
 use Rattle.std.proofs.Common.{◌≡◌, Some, sym, ap, ◌∙◌}
 use Rattle.std.specs.List.{slice_get}
 use Rattle.std.proofs.lemmas.Result.{on_ok_weaker}
-use Rattle.yv_stated.specs.Properties.{Properties}
-use Rattle.yv_definitions.specs.InnerChanged.{changed}
+use Rattle.yv_definitions.specs.InnerChanged.{Change, changed}
 use Rattle.yv_definitions.proofs.definitions.Definitions.change.Goals as goal
 
 pub returns-in-Some-Refine : goal.returns-in-Some-Refine
@@ -11,4 +10,4 @@ returns-in-Some-Refine c =
     let at : slice_get self.kept.items c.args.number ≡ Some c.in-Some-Refine.field-0.now =
     sym c.in-Some-Refine.ensures in
     let is = (self.kept_so c.args.number c.in-Some-Refine.field-0.now at).1 c.in-Some-Refine.changes c.in-Some-Refine.field-0-is in
-    on_ok_weaker c.change.result (λ e. e ∙ ap (λ (p : Properties). changed p c.args.definition.now) (c.deref.ensures ∙ is)) c.change.ensures
+    on_ok_weaker c.change.result (λ e. e ∙ ap (λ (p : Change). changed p c.args.definition.now) (c.deref.ensures ∙ is)) c.change.ensures

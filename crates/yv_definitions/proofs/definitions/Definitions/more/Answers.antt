@@ -1,11 +1,11 @@
 use Rattle.std.proofs.Common.{◌≡◌, ◌++◌, sym, ◌∙◌}
 use Rattle.std.proofs.lemmas.Result.{IfOk-weaker}
-use Rattle.std.specs.Rc.{rc_slice_items, rc_str_bytes}
+use Rattle.std.specs.Rc.{rc_str_bytes}
 use Rattle.yv_defaults.specs.Scopes.{AreScopes}
 use Rattle.yv_definitions.specs.Defined.{refined}
 use Rattle.yv_definitions.specs.Known.{files_in, typing_in}
 use Rattle.yv_definitions.proofs.Later.{kept_is, types_stay, valued_is}
-use Rattle.yv_definitions.proofs.definitions.Definitions.more.Goals.{then-gives_default+in_ok-changed-inside, else-gives_default}
+use Rattle.yv_definitions.proofs.definitions.Definitions.more.Goals.{then-is_moved+in_ok-changed-inside, else-is_moved}
 use Rattle.yv_definitions.proofs.definitions.Definitions.more.Goals as goal
 
 pub returns : goal.returns
@@ -15,18 +15,18 @@ returns c = λ before is.
     let files = files_in c.args.self.now in
     let refines = c.args.refines.now in
     let text = rc_str_bytes c.in_ok-draft-inside.field-0 in
-    let all : c.if-gives_default.changed ≡ refined typing files origin (before ++ refines) =
-    elim c.if-gives_default.branch [
-      | then-gives_default+in_ok-changed-inside w ↦
+    let all : c.if-is_moved.changed ≡ refined typing files origin (before ++ refines) =
+    elim c.if-is_moved.branch [
+      | then-is_moved+in_ok-changed-inside w ↦
           let scopes : AreScopes files w.deref.result.now = rw w.deref.ensures.value c.args.self.now.scopes_so in
-          let given = rc_slice_items w.in_ok-changed-inside.field-0 in
+          let given = w.in_ok-changed-inside.field-0.value in
           let types = w.types_of-types.ensures
           ∙ sym (types_stay typing files origin before refines c.args.said.now _ c.in_ok-changed.changed text is (λ i. record ((c.draft-2.view_is ∙ c.in_ok-draft.ensures) i) { features = text }) c.in_ok-draft-inside.ensures c.in_ok-changed.ensures) in
           w.changed-is ∙ (λ i. record (c.changed-2.view_is i) { defaults = given })
           ∙ (λ i. record c.in_ok-changed.changed { defaults = w.in_ok-changed-inside.ensures files scopes types i })
           ∙ valued_is typing files origin before refines c.args.said.now _ c.in_ok-changed.changed text is (λ i. record ((c.draft-2.view_is ∙ c.in_ok-draft.ensures) i) { features = text }) c.in_ok-draft-inside.ensures c.in_ok-changed.ensures
-      | else-gives_default w ↦
+      | else-is_moved w ↦
           w.changed-is
-          ∙ kept_is typing files origin before refines c.args.said.now _ c.in_ok-changed.changed text is (λ i. record ((c.draft-2.view_is ∙ c.in_ok-draft.ensures) i) { features = text }) c.in_ok-draft-inside.ensures c.in_ok-changed.ensures (sym c.gives_default.ensures ∙ w.if-gives_default.false)
+          ∙ kept_is typing files origin before refines c.args.said.now _ c.in_ok-changed.changed text is (λ i. record ((c.draft-2.view_is ∙ c.in_ok-draft.ensures) i) { features = text }) c.in_ok-draft-inside.ensures c.in_ok-changed.ensures (sym c.is_moved.ensures ∙ w.if-is_moved.false)
     ] in
     IfOk-weaker c.finish.result _ _ (λ d e. e ∙ all) c.finish.ensures
