@@ -8,5 +8,8 @@ pub mod Nesting
 pub mod Homes
 pub mod Judging
 pub mod Finishing
+pub mod Shutting
+pub mod Holding
+pub mod Lowering
 mod Numbering
 mod Leaving

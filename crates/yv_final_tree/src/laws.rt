@@ -17,6 +17,8 @@ ghost use Rattle.yv_final_tree.specs.Final.{Final, IsFinal, spots_of};
 ghost use Rattle.yv_final_tree.specs.Given.{HaveHomes, is_given, marks_of};
 ghost use Rattle.yv_final_tree.specs.Kept.{giver_at, targets_of};
 ghost use Rattle.yv_final_tree.specs.Left.{AreLeft};
+ghost use Rattle.yv_final_tree.specs.Lowest.{is_lowest};
+ghost use Rattle.yv_fitting.specs.Fitting.{Conform};
 
 /// What is wrong with the expansion of files is refused in the phases 7 and 8.
 pub fn refusals_of_expansions_have_phases()
@@ -101,4 +103,17 @@ pub fn given_nodes_stand_below_their_target()
     yv_augments::laws::a_tree_has_no_item_twice();
     yv_augmented::laws::items_stand_once();
     yv_augmented::laws::what_is_given_stands_below_its_target();
+}
+
+/// In files that conform, a node that is left and isn't at the top is below one that is no leaf, leaf-list, anydata or anyxml.
+pub fn nothing_stands_below_a_leaf()
+    ensures { (choice : Choice) (files : Files) (truth : Truth) (f : Final) (nodes : Nodes) (place p : ℕ) (x : Node) → Conform files
+        → IsFinal choice files f → AreLeft truth files f nodes → slice_get (listed None 0 nodes) place ≡ Some x → x.parent ≡ Some p
+        → (above : Node) × (item : Item) × (slice_get (listed None 0 nodes) p ≡ Some above) × (slice_get f.items above.origin ≡ Some item)
+        × (is_lowest (kind_of (rows_of files) item.origin) ≡ false) }
+{
+    yv_fitting::laws::no_node_stands_in_a_leaf();
+    yv_augments::laws::a_tree_has_no_item_twice();
+    yv_augments::laws::items_stand_in_one_group();
+    yv_augmented::laws::items_stand_once();
 }

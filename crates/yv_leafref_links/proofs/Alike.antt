@@ -1,7 +1,7 @@
 -- Schemas that say the same have the same links.
 use Rattle.std.proofs.Common.{◌≡◌, ◌<◌, ◌^◌, ℕ, suc, List, [], ◌∷◌, length, arith, refl, sym, ap, subst, ◌∙◌, Option, Some, None}
 use Rattle.std.specs.List.{slice_get}
-use Rattle.yv_nodes.specs.Link.{Link, link_in}
+use Rattle.yv_nodes.specs.Link.{Link, reference_in}
 use Rattle.yv_nodes.specs.Rows.{Row}
 use Rattle.yv_leafrefs.specs.Above.{IsInside}
 use Rattle.yv_leafrefs.specs.Schema.{AreAlike, Referral, Schema}
@@ -37,16 +37,16 @@ link_alike s t n link alike is =
     let r = is.refers in
     record {
       refers = refers_alike s t n link.target alike r;
-      is_required = is.is_required;
       climbs = is.climbs;
       begins = is.begins;
       way = subst
           (λ (rows : List Row). LeadsOver rows r.row.label.home r.ref.steps link.steps r.start (Some link.target)) alike.rows is.way;
       inner = subst (λ (rows : List Row). AreInner rows link.steps) alike.rows is.inner;
+      is_required = is.is_required;
     }
 
 has_alike : (s t : Schema) (a b : List (Option Link)) → AreAlike s t → AreLinks s a → AreLinks t b → (n : ℕ) (link : Link)
-    → link_in a n ≡ Some link → link_in b n ≡ Some link
+    → reference_in a n ≡ Some link → reference_in b n ≡ Some link
 has_alike s t a b alike of_a of_b n link has = (of_b.each n link).1 (link_alike s t n link alike ((of_a.each n link).0 has))
 
 same_if : {A : Type 0} (o p : Option A) → ((x : A) → o ≡ Some x → p ≡ Some x) → ((x : A) → p ≡ Some x → o ≡ Some x) → o ≡ p
@@ -55,12 +55,12 @@ same_if None (Some y) to from = from y refl
 same_if None None to from = refl
 
 links_alike : (s t : Schema) (a b : List (Option Link)) → AreAlike s t → AreLinks s a → AreLinks t b → (n : ℕ)
-    → link_in a n ≡ link_in b n
+    → reference_in a n ≡ reference_in b n
 links_alike s t a b alike of_a of_b n =
-    same_if (link_in a n) (link_in b n) (has_alike s t a b alike of_a of_b n) (has_alike t s b a (turned s t alike) of_b of_a n)
+    same_if (reference_in a n) (reference_in b n) (has_alike s t a b alike of_a of_b n) (has_alike t s b a (turned s t alike) of_b of_a n)
 
 -- lists of one length that have the same at each place are the same
-same_lists : (xs ys : List (Option Link)) → length xs ≡ length ys → ((n : ℕ) → link_in xs n ≡ link_in ys n) → xs ≡ ys
+same_lists : (xs ys : List (Option Link)) → length xs ≡ length ys → ((n : ℕ) → reference_in xs n ≡ reference_in ys n) → xs ≡ ys
 same_lists [] [] long each = refl
 same_lists [] (y ∷ ys) long each = absurd (omega (arith, long))
 same_lists (x ∷ xs) [] long each = absurd (omega (arith, long))

@@ -1,5 +1,5 @@
 -- What is found from a target up is the link.
-use Rattle.std.proofs.Common.{◌≡◌, ◌≢◌, ◌↔◌, ℕ, zero, suc, ◌+◌, ◌<◌, ◌&&◌, Bool, true, false, cond, not, List, [], ◌∷◌, length, reverse}
+use Rattle.std.proofs.Common.{◌≡◌, ◌≢◌, ◌↔◌, ℕ, zero, suc, ◌+◌, ◌<◌, Bool, true, false, cond, not, List, [], ◌∷◌, length, reverse}
 use Rattle.std.proofs.Common.{refl, sym, ◌∙◌, ap, subst, arith, Option, Some, None}
 use Rattle.std.proofs.lemmas.Bool.{false≢true, ne_eqb}
 use Rattle.std.proofs.lemmas.List.{reverse-reverse}
@@ -109,10 +109,6 @@ cond_is : {A : Type 0} (b : Bool) (o : Option A) (y : A) → cond b o None ≡ S
 cond_is true o y e = (refl, e)
 cond_is false o y e = absurd (none-some y e)
 
-both : (a b : Bool) → (a && b) ≡ true → (a ≡ true) × (b ≡ true)
-both true b h = (refl, h)
-both false b h = absurd (false≢true h)
-
 map_is : {A B : Type 0} (f : A → B) (o : Option A) (y : B) → option_map f o ≡ Some y → (x : A) × (o ≡ Some x) × (f x ≡ y)
 map_is f None y e = absurd (none-some y e)
 map_is f (Some x) y e = (x, refl, same_Some (f x) y e)
@@ -132,9 +128,8 @@ module _ (s : Schema) (above : List (Option ℕ)) (table : AreAbove s.rows (leng
   made t refers link e =
       let ref = refers.ref in
       let parts =
-      cond_is (ref.is_required && is_path ref.climbs)
+      cond_is (is_path ref.climbs)
       (option_map (λ cs. link_over ref t (reverse cs)) (upwards above (length ref.steps) (Some t))) link e in
-      let flags = both ref.is_required (is_path ref.climbs) parts.0 in
       let found = map_is (λ cs. link_over ref t (reverse cs)) (upwards above (length ref.steps) (Some t)) link parts.1 in
       let way = over s.rows refers.row.label.home ref.steps refers.start (Some t) refers.leads in
       let behind = all_down s.rows above table refers.row.label.home ref.steps way.0 refers.start (Some t) found.0 way.1 found.1 in
@@ -143,11 +138,11 @@ module _ (s : Schema) (above : List (Option ℕ)) (table : AreAbove s.rows (leng
       (
       record {
         refers = refers;
-        is_required = flags.0;
         climbs = refl;
-        begins = begins_of ref.climbs flags.1;
+        begins = begins_of ref.climbs parts.0;
         way = way.1;
         inner = behind.1;
+        is_required = refl;
       }
       )
 
@@ -157,13 +152,14 @@ module _ (s : Schema) (above : List (Option ℕ)) (table : AreAbove s.rows (leng
       let found =
       all_up s.rows above table is.refers.row.label.home ref.steps link.steps is.refers.start (Some link.target) is.way is.inner in
       let path : is_path ref.climbs ≡ true = path_of ref.climbs (λ e. is.begins (is.climbs ∙ e)) in
-      let flag : (ref.is_required && is_path ref.climbs) ≡ true = ap (λ (b : Bool). b && is_path ref.climbs) is.is_required ∙ path in
       ap (λ (b : Bool). cond b
-      (option_map (λ cs. link_over ref link.target (reverse cs)) (upwards above (length ref.steps) (Some link.target))) None) flag
+      (option_map (λ cs. link_over ref link.target (reverse cs)) (upwards above (length ref.steps) (Some link.target))) None) path
       ∙ ap (option_map (λ cs. link_over ref link.target (reverse cs))) found
       ∙ ap (λ cs. Some (link_over ref link.target cs)) (reverse-reverse link.steps)
-      ∙ ap (λ (climbs : Option ℕ). let l : Link = record { climbs = climbs; steps = link.steps; target = link.target } in Some l)
+      ∙ ap (λ (climbs : Option ℕ). let l : Link = record { climbs = climbs; steps = link.steps; target = link.target; is_required = ref.is_required } in Some l)
       (sym is.climbs)
+      ∙ ap (λ (required : Bool). let l : Link = record { climbs = link.climbs; steps = link.steps; target = link.target; is_required = required } in Some l)
+      (sym is.is_required)
 
   -- where a leafref says this and refers to the target, its link is the one that is found
   pub exact : (t : ℕ) (ref : Referral) → s.says n ≡ Some ref → RefersTo s n t → ((x : ℕ) → RefersTo s n x → t ≡ x) → (link : Link)

@@ -9,7 +9,7 @@ use Rattle.yv_properties.specs.Steps.{Step}
 use Rattle.yv_properties.specs.declared.kind.NodeKind.{NodeKind}
 use Rattle.yv_properties.specs.declared.kind.NodeKind.TheVariants as kind
 use Rattle.yv_nodes.specs.declared.node.NodeId.{NodeId}
-use Rattle.yv_nodes.specs.Link.{AreLinked, AreLinkedBelow, climbed, Ground, IsLinked, KindLeads, KindLinked, Leads, Link, link_in}
+use Rattle.yv_nodes.specs.Link.{AreLinked, AreLinkedBelow, climbed, Ground, IsLinked, KindLeads, KindLinked, Leads, Link, reference_in}
 use Rattle.yv_nodes.specs.Numbers.{rows_from}
 use Rattle.yv_nodes.specs.Rows.{root, Row}
 use Rattle.yv_nodes.specs.Tree.{count, Forest, no_trees, node, tree}
@@ -278,11 +278,11 @@ module _ (ts : Forest) (few : count ts < 2 ^ 32) where
         )
 
 pub links_lead : (s : Schema) (ts : Forest) (links : List (Option Link)) → s.rows ≡ rows_from 0 ts → AreLinks s links
-    → AreLinked (link_in links) ts
+    → AreLinked (reference_in links) ts
 links_lead s ts links is are =
     let long : length s.rows ≡ count ts = ap length is ∙ rows_long root 0 ts in
     let few : count ts < 2 ^ 32 = omega (arith, long, are.few) in
     let same : AreLinks (record { rows = rows_from 0 ts; says = s.says }) links =
     subst (λ (rs : List Row). AreLinks (record { rows = rs; says = s.says }) links) is are in
-    linked ts few s.says (link_in links) (λ n link has. (same.each n link).0 has) root 0 ts None (spot ts None ∷ [])
+    linked ts few s.says (reference_in links) (λ n link has. (same.each n link).0 has) root 0 ts None (spot ts None ∷ [])
     (stand_all ts) document outmost

@@ -1,9 +1,9 @@
--- Leafrefs that require an instance, and their links.
-use Rattle.std.proofs.Common.{◌≡◌, ◌≢◌, ℕ, zero, suc, ◌+◌, ◌<◌, true, List, [], ◌∷◌, length, Option, Some, None, refl, sym, ap, ◌∙◌, subst, arith}
+-- Leafrefs that refer to nodes, and their links.
+use Rattle.std.proofs.Common.{◌≡◌, ◌≢◌, ℕ, zero, suc, ◌+◌, ◌<◌, Bool, true, if◌then◌else◌, List, [], ◌∷◌, length, Option, Some, None, refl, sym, ap, ◌∙◌, subst, arith}
 use Rattle.std.specs.List.{slice_get}
 use Rattle.std.proofs.lemmas.Option.{same_Some}
 use Rattle.yv_properties.specs.Steps.{Step}
-use Rattle.yv_nodes.specs.Link.{Link, link_in}
+use Rattle.yv_nodes.specs.Link.{if_required, Link, link_in, reference_in}
 use Rattle.yv_nodes.specs.Rows.{Row}
 use Rattle.yv_leafrefs.specs.Schema.{Schema}
 use Rattle.yv_leafrefs.specs.Targets.{RefersTo}
@@ -38,17 +38,23 @@ module _ (rows : List Row) (own : ℕ) (hold : OnlyInnerHold rows) where
       let (cs, over, inner) = way_of ss (Some c) b leads in
       (c ∷ cs, (means, over), inner_more c cs (inner_first a s c ss cs b means over) inner)
 
-pub has_link : (s : Schema) (links : List (Option Link)) (n target : ℕ) → AreLinks s links → OnlyInnerHold s.rows → (refers : RefersTo s n target)
-    → refers.ref.is_required ≡ true → refers.ref.climbs ≢ Some 0 → (link : Link) × (link_in links n ≡ Some link) × (link.target ≡ target)
-has_link s links n target are hold refers required begins =
+pub has_reference : (s : Schema) (links : List (Option Link)) (n target : ℕ) → AreLinks s links → OnlyInnerHold s.rows → (refers : RefersTo s n target)
+    → refers.ref.climbs ≢ Some 0 → (link : Link) × (reference_in links n ≡ Some link) × (link.target ≡ target) × (link.is_required ≡ refers.ref.is_required)
+has_reference s links n target are hold refers begins =
     let (cs, over, inner) = way_of s.rows refers.row.label.home hold refers.ref.steps refers.start (Some target) refers.leads in
-    let link : Link = record { climbs = refers.ref.climbs; steps = cs; target = target } in
+    let link : Link = record { climbs = refers.ref.climbs; steps = cs; target = target; is_required = refers.ref.is_required } in
     let is : IsLinkOf s n link = record {
       refers = refers;
-      is_required = required;
       climbs = refl;
       begins = begins;
       way = over;
       inner = inner;
+      is_required = refl;
     } in
-    (link, (are.each n link).1 is, refl)
+    (link, (are.each n link).1 is, refl, refl)
+
+pub has_link : (s : Schema) (links : List (Option Link)) (n target : ℕ) → AreLinks s links → OnlyInnerHold s.rows → (refers : RefersTo s n target)
+    → refers.ref.is_required ≡ true → refers.ref.climbs ≢ Some 0 → (link : Link) × (link_in links n ≡ Some link) × (link.target ≡ target)
+has_link s links n target are hold refers required begins =
+    let (link, has, to, says) = has_reference s links n target are hold refers begins in
+    (link, ap if_required has ∙ ap (λ (b : Bool). if b then Some link else None) (says ∙ required), to)

@@ -1,5 +1,5 @@
 -- Only private clauses cite this: ways, found from their ends up.
-use Rattle.std.specs.Prelude.{◌≡◌, ◌↔◌, zero, suc, ℕ, ◌<◌, ◌==◌, ◌&&◌, not, Bool, true, if◌then◌else◌}
+use Rattle.std.specs.Prelude.{◌≡◌, ◌↔◌, zero, suc, ℕ, ◌<◌, ◌==◌, not, Bool, true, if◌then◌else◌}
 use Rattle.std.specs.Prelude.{List, [], ◌∷◌, length, reverse, Option, Some, None}
 use Rattle.std.specs.List.{slice_index_or}
 use Rattle.std.specs.Option.{option_map}
@@ -27,11 +27,11 @@ is_path (Some climbs) = not (climbs == 0)
 
 -- the link over these nodes of a leafref that says this and refers to the target
 abbrev pub link_over : Referral → (target : ℕ) → List ℕ → Link
-link_over ref target steps = record { climbs = ref.climbs; steps = steps; target = target }
+link_over ref target steps = record { climbs = ref.climbs; steps = steps; target = target; is_required = ref.is_required }
 
 -- its link, if it has one
 abbrev pub link_by : List (Option ℕ) → Referral → (target : ℕ) → Option Link
 link_by above ref target =
-    if ref.is_required && is_path ref.climbs
+    if is_path ref.climbs
     then option_map (λ up. link_over ref target (reverse up)) (upwards above (length ref.steps) (Some target))
     else None

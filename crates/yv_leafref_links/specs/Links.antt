@@ -1,10 +1,10 @@
--- Where the paths of leafrefs lead that require an instance (RFC 7950, sections 9.9.2 and 9.9.3).
+-- Where the paths of leafrefs lead (RFC 7950, sections 9.9.2 and 9.9.3).
 use Rattle.std.specs.Prelude.{◌≡◌, ◌≢◌, ◌↔◌, ℕ, ◌+◌, ◌<◌, ◌^◌, Bool, true, false, List, [], ◌∷◌, length, Option, Some, slice_get}
 use Rattle.yv_properties.specs.Kinds.{is_data}
 use Rattle.yv_properties.specs.Steps.{Step}
 use Rattle.yv_properties.specs.declared.kind.NodeKind.{NodeKind}
 use Rattle.yv_properties.specs.declared.kind.NodeKind.TheVariants as kind
-use Rattle.yv_nodes.specs.Link.{Link, link_in}
+use Rattle.yv_nodes.specs.Link.{Link, reference_in}
 use Rattle.yv_nodes.specs.Rows.{Row}
 use Rattle.yv_leafrefs.specs.Above.{IsDataChild}
 use Rattle.yv_leafrefs.specs.Schema.{Schema}
@@ -37,18 +37,18 @@ abbrev pub OnlyInnerHold : List Row → Type 0
 OnlyInnerHold rows = (p c home : ℕ) (name : List ℕ) (r : Row) → slice_get rows p ≡ Some r → is_data r.label.defined.kind ≡ true
     → IsDataChild rows (Some p) home name c → is_inner r.label.defined.kind ≡ true
 
--- this is the link of the leafref n: it requires an instance, refers to the target, and its path is absolute or begins with `../`, and
--- leads over these nodes, through containers and lists
+-- this is the link of the leafref n: it refers to the target, and its path is absolute or begins with `../`, and leads over these nodes,
+-- through containers and lists; whether it requires an instance is what the leafref says
 pub record IsLinkOf (s : Schema) (n : ℕ) (link : Link) : Type 0 where
   pub refers : RefersTo s n link.target
-  pub is_required : refers.ref.is_required ≡ true
   pub climbs : link.climbs ≡ refers.ref.climbs
   pub begins : link.climbs ≢ Some 0
   pub way : LeadsOver s.rows refers.row.label.home refers.ref.steps link.steps refers.start (Some link.target)
   pub inner : AreInner s.rows link.steps
+  pub is_required : link.is_required ≡ refers.ref.is_required
 
 -- these are the links of a schema's leafrefs, each at the number of its leafref, and None at other nodes; 32 bits tell the nodes apart
 pub record AreLinks (s : Schema) (links : List (Option Link)) : Type 0 where
   pub few : length s.rows < 2 ^ 32
   pub long : length links ≡ length s.rows
-  pub each : (n : ℕ) (link : Link) → (link_in links n ≡ Some link) ↔ IsLinkOf s n link
+  pub each : (n : ℕ) (link : Link) → (reference_in links n ≡ Some link) ↔ IsLinkOf s n link

@@ -50,7 +50,7 @@ pub(crate) fn link_to(
 ) -> Result<Option<Link>, AllocError>
     ensures { IfOk result (λ link. link ≡ link_by above.now leafref.now target.0) }
 {
-    if !leafref.is_required() || !is_path(leafref.climbs()) {
+    if !is_path(leafref.climbs()) {
         return Ok(None);
     }
     match way(alloc, above, target, leafref.steps().len())? {
@@ -59,6 +59,7 @@ pub(crate) fn link_to(
             climbs: leafref.climbs(),
             steps,
             target,
+            is_required: leafref.is_required(),
         })),
     }
 }

@@ -47,7 +47,7 @@ fn link_of(
     }
 }
 
-/// The links of the leafrefs among these nodes that require an instance. `of` gives for each node which of the leafrefs it is, if it is
+/// The links of the leafrefs among these nodes, whether they require an instance or not. `of` gives for each node which of the leafrefs it is, if it is
 /// one, and `resolved` what they refer to (RFC 7950, sections 9.9.2 and 9.9.3). It takes time and memory linear in the nodes and in the
 /// steps of the links, none of which has more steps than nodes are nested, and time n log n in the links. Err only if memory runs
 /// out.

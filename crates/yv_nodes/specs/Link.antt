@@ -1,16 +1,17 @@
 -- Where the paths of leafrefs lead (RFC 7950, section 9.9.2).
-use Rattle.std.specs.Prelude.{◌≡◌, ℕ, ◌+◌, ◌-◌, ◌==◌, ◌||◌, List, [], ◌∷◌, ◌⊎◌, Bool, false, Option, Some, None}
+use Rattle.std.specs.Prelude.{◌≡◌, ℕ, ◌+◌, ◌-◌, ◌==◌, ◌&&◌, ◌||◌, if◌then◌else◌, List, [], ◌∷◌, ◌⊎◌, Bool, false, Option, Some, None}
 use Rattle.std.specs.List.{slice_index_or}
 use Rattle.yv_properties.specs.declared.kind.NodeKind.{NodeKind}
 use Rattle.yv_properties.specs.declared.kind.NodeKind.TheVariants as kind
 use Rattle.yv_nodes.specs.Tree.{count, node, Forest, no_trees, tree}
 
 -- the path of a leafref: how many `../` it begins with, or None where it is absolute; the numbers of the data nodes on its way down, and
--- of the last of them, its target. Only a leafref that requires an instance has a link (section 9.9.3)
+-- of the last of them, its target; and whether the leafref requires an instance (section 9.9.3)
 pub record Link : Type 0 where
   pub climbs : Option ℕ
   pub steps : List ℕ
   pub target : ℕ
+  pub is_required : Bool
 
 -- what as many `../` climb to, of what is around a node from the closest on, or the top: each `../` leaves one data node
 abbrev pub climbed : {A : Type 0} → A → Option ℕ → List A → A
@@ -72,15 +73,23 @@ AreLinked links ts = AreLinkedBelow links (ground ts) (ground ts ∷ []) 0 ts
 
 -- ---- links in a list, each at the number of its leafref
 
--- none beyond the list
+-- where the path of a leafref leads: none beyond the list
+abbrev pub reference_in : List (Option Link) → ℕ → Option Link
+reference_in links n = slice_index_or links n None
+
+abbrev pub if_required : Option Link → Option Link
+if_required None = None
+if_required (Some link) = if link.is_required then Some link else None
+
+-- the link of a leafref that requires an instance: nothing is asked of a document about any other
 abbrev pub link_in : List (Option Link) → ℕ → Option Link
-link_in links n = slice_index_or links n None
+link_in links n = if_required (reference_in links n)
 
 abbrev pub leads_to : ℕ → Option Link → Bool
 leads_to n None = false
-leads_to n (Some link) = link.target == n
+leads_to n (Some link) = link.is_required && link.target == n
 
--- some link has this node as its target
+-- some link that requires an instance has this node as its target
 abbrev pub is_target : List (Option Link) → ℕ → Bool
 is_target [] n = false
 is_target (link ∷ links) n = leads_to n link || is_target links n

@@ -3,14 +3,14 @@ ghost use Rattle.std.specs.Prelude.{◌≡◌, ◌||◌, ℕ, IfOk, OnOk};
 ghost use Rattle.std.specs.BTreeSet.{contains};
 ghost use Rattle.std.specs.Option.{option_map};
 ghost use Rattle.std.specs.Ordering.{nat_cmp};
-ghost use Rattle.yv_nodes.specs.Link.{is_target, leads_to, link_in};
+ghost use Rattle.yv_nodes.specs.Link.{is_target, leads_to, link_in, reference_in};
 
 use crate::node::NodeId;
 use std::alloc::{AllocError, Global};
 use std::collections::BTreeSet;
 use std::marker::Model;
 
-/// The path of a leafref that requires an instance (RFC 7950, sections 9.9.2 and 9.9.3).
+/// The path of a leafref (RFC 7950, sections 9.9.2 and 9.9.3).
 #[derive(Drop)]
 pub struct Link {
     /// How many `../` it begins with, each of which leaves one data node; None where it is absolute.
@@ -19,6 +19,8 @@ pub struct Link {
     pub steps: Vec<NodeId>,
     /// The leaf or leaf-list to which it leads.
     pub target: NodeId,
+    /// Whether the leafref requires an instance: else a document may have any value of the target's type.
+    pub is_required: bool,
 }
 
 impl Model for Link {
@@ -27,10 +29,15 @@ impl Model for Link {
 
     ghost Value = { spec.Link };
 
-    ghost view = { λ l. record { climbs = l.climbs; steps = map (λ n. n.0) l.steps.items; target = l.target.0 } };
+    ghost view = { λ l. record {
+      climbs = l.climbs;
+      steps = map (λ n. n.0) l.steps.items;
+      target = l.target.0;
+      is_required = l.is_required;
+    } };
 }
 
-/// The links of a schema's leafrefs, and which nodes are targets.
+/// The links of a schema's leafrefs, and which nodes are targets of those that require an instance.
 #[derive(Drop)]
 pub struct Links {
     links: Vec<Option<Link>>,
@@ -71,9 +78,9 @@ impl Links {
         Ok(Links { links, targets })
     }
 
-    /// The link of a leafref; None where the node has none.
-    pub fn link(&self, node: NodeId) -> Option<&Link>
-        ensures { option_map (λ link. link.now) result ≡ link_in self.now node.0 }
+    /// The link of a leafref, whether it requires an instance or not; None where the node has none.
+    pub fn reference(&self, node: NodeId) -> Option<&Link>
+        ensures { option_map (λ link. link.now) result ≡ reference_in self.now node.0 }
     {
         match self.links.get(node.0 as usize) {
             Some(link) => link.as_ref(),
@@ -81,7 +88,15 @@ impl Links {
         }
     }
 
-    /// Whether some link has the node as its target. It takes time log n.
+    /// The link of a leafref that requires an instance; None where the node is no such leafref, or has none.
+    pub fn link(&self, node: NodeId) -> Option<&Link>
+        ensures { option_map (λ link. link.now) result ≡ link_in self.now node.0 }
+    {
+        let link = self.reference(node)?;
+        if link.is_required { Some(link) } else { None }
+    }
+
+    /// Whether some link that requires an instance has the node as its target. It takes time log n.
     pub fn is_target(&self, node: NodeId) -> bool
         ensures { result ≡ is_target self.now node.0 }
     {
@@ -102,8 +117,11 @@ fn targets_of(alloc: Global, links: &[Option<Link>]) -> Result<BTreeSet<u32>, Al
 fn add_target(link: &Option<Link>, targets: &mut BTreeSet<u32>) -> Result<(), AllocError>
     ensures { OnOk result ((n : ℕ) → contains nat_cmp targets.new n ≡ (leads_to n link.now || contains nat_cmp targets.old n)) }
 {
-    if let Some(link) = link {
-        targets.insert(link.target.0)?;
+    match link {
+        Some(link) if link.is_required => {
+            targets.insert(link.target.0)?;
+        }
+        _ => {}
     }
     Ok(())
 }

@@ -1,5 +1,5 @@
 //! A schema node, and its number.
-ghost use Rattle.std.specs.Prelude.{◌≡◌, Some, None, IfOk, not, map, string_bytes, if◌then◌else◌};
+ghost use Rattle.std.specs.Prelude.{◌≡◌, ◌≤◌, ◌||◌, [], length, Some, None, IfOk, not, map, string_bytes, unwrap_or, if◌then◌else◌};
 ghost use Rattle.std.specs.Option.{option_map};
 ghost use Rattle.std.specs.Rc.{rc_slice_items, rc_str_bytes};
 
@@ -8,7 +8,7 @@ use std::marker::Model;
 use std::rc::{RcSlice, RcStr};
 use yv_properties::{Definition, NodeKind, NodeStatus, PathPiece, PathStep, WrittenText};
 use yv_statement::{Code, Refusal};
-use yv_values::{PlainType, Value};
+use yv_values::{Defaults, PlainType, Value};
 
 /// The number of a schema node; the root, above the nodes at the top, has the last number of 32 bits.
 #[derive(Clone, Copy, Debug, PartialEq, Eq, PartialOrd, Ord)]
@@ -59,8 +59,9 @@ impl Model for Node {
 
 impl Node {
     ghost use Rattle.yv_values.specs.Types.{plain_of};
-    ghost use Rattle.yv_properties.specs.Defined.{default_of, is_empty, paths_in, written_of};
-    ghost use Rattle.yv_nodes.specs.Defaults.{defaults_of};
+    ghost use Rattle.yv_values.specs.Same.{has_same};
+    ghost use Rattle.yv_properties.specs.Defined.{defaults_said, is_empty, own_default, paths_in, written_of};
+    ghost use Rattle.yv_nodes.specs.Defaults.{defaults_of, width};
     ghost use Rattle.yv_nodes.specs.Refused.{refusal_of};
     ghost use Rattle.yv_nodes.specs.Member.{behind, row_with};
     ghost use Rattle.yv_nodes.specs.Typed.{typed_row};
@@ -301,30 +302,70 @@ impl Node {
         self.definition.uniques()
     }
 
-    /// The argument of its `default` statement, or that of the last of its refines with one, and the file that contains
-    /// it.
+    /// The arguments of its `default` statements, or those of the last of its refines with one, and the files that contain them, in
+    /// order: one at most where it is no leaf-list.
+    pub fn own_defaults(&self) -> &[WrittenText]
+        ensures { map written_of result.now ≡ self.now.label.defined.own_defaults }
+    {
+        self.definition.own_defaults()
+    }
+
+    /// The first of them.
     pub fn own_default(&self) -> Option<&WrittenText>
-        ensures { option_map (λ written. written_of written.now) result ≡ self.now.label.defined.own_default }
+        ensures { option_map (λ written. written_of written.now) result ≡ own_default self.now.label.defined }
     {
         self.definition.own_default()
     }
 
-    /// The default that is said of it, and the file in which it is written: its own, or else that of its type (RFC 7950,
-    /// sections 7.3.4 and 7.6.1).
-    pub fn default(&self) -> Option<&WrittenText>
-        ensures { option_map (λ written. written_of written.now) result ≡ default_of self.now.label.defined }
+    /// How many defaults are said of it: its own, or else that of its type, but not where entries are asked for (RFC 7950, sections
+    /// 7.3.4, 7.6.1 and 7.7.2).
+    pub fn count_defaults_said(&self) -> usize
+        ensures { result ≡ length (defaults_said self.now.label.defined) }
     {
-        self.definition.default()
+        self.definition.count_defaults_said()
     }
 
-    /// The values that its default gives a leaf, one at most (RFC 7950, section 7.6.1): none of a key and of a mandatory leaf.
-    pub fn defaults(&self) -> &[Value]
-        ensures { result.now ≡ defaults_of self.now.label }
+    /// Whether two of the values that these give it are the same.
+    pub fn repeats_default(&self) -> bool
+        ensures { result ≡ has_same self.now.label.defined.defaults }
     {
-        if self.standing.is_key || self.definition.is_mandatory() {
+        self.definition.repeats_default()
+    }
+
+    /// The values that its defaults give it, one at most where it is no leaf-list (RFC 7950, sections 7.6.1 and 7.7.2): none of a key
+    /// and of a mandatory leaf.
+    pub fn defaults(&self) -> &[Value]
+        ensures value { result.now ≡ defaults_of self.now.label }
+        ensures few { length result.now ≤ 1024 }
+    {
+        if self.has_no_defaults() {
             return &[];
         }
         self.definition.defaults()
+    }
+
+    /// The same values, one of which is found in time log n. None of a key and of a mandatory leaf.
+    pub fn default_values(&self) -> Option<&Defaults>
+        ensures { unwrap_or (option_map (λ values. values.now) result) [] ≡ defaults_of self.now.label }
+    {
+        if self.has_no_defaults() {
+            return None;
+        }
+        Some(self.definition.default_values())
+    }
+
+    /// How many these values are, and 1 where there are fewer.
+    pub fn width(&self) -> u64
+        ensures value { result ≡ width self.now.label }
+        ensures few { result ≤ 1024 }
+    {
+        (self.defaults().len() as u64).max(1)
+    }
+
+    fn has_no_defaults(&self) -> bool
+        ensures { result ≡ (self.now.label.is_key || self.now.label.defined.is_mandatory) }
+    {
+        self.standing.is_key || self.definition.is_mandatory()
     }
 
     /// The list of its types, over the memory in which it is kept: to be shared by other nodes.

@@ -22,7 +22,8 @@ use Rattle.yv_properties.specs.Defined.{Written}
 use Rattle.yv_expansion.specs.declared.item.Origin.{Origin}
 use Rattle.yv_expansion.specs.declared.item.Origin.TheVariants as origin
 use Rattle.yv_leaf_paths.specs.Referral.{climbs_of}
-use Rattle.yv_leaf_paths.proofs.Fitting.{begins_in_files, statement_fits}
+use Rattle.yv_fitting.proofs.Fitting.{statement_fits}
+use Rattle.yv_leaf_paths.proofs.Fitting.{begins_in_files}
 use Rattle.yv_leafref_types.specs.Referrals.{HasReferral, IsLeafrefAt, first_in, path_at, path_in, written_in}
 use Rattle.yv_leafref_types.specs.declared.referring.Referring.{Referring}
 use Rattle.yv_definitions.specs.Defined.{referring, referring_by}

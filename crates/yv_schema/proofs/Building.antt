@@ -13,7 +13,7 @@ use Rattle.yv_final_tree.specs.Final.{Final, IsFinal, spots_of}
 use Rattle.yv_final_tree.specs.Given.{HaveHomes, is_given}
 use Rattle.yv_final_tree.specs.Left.{AreLeft}
 use Rattle.yv_nodes.specs.declared.node.NodeId.{NodeId}
-use Rattle.yv_nodes.specs.Link.{AreLinked, Link, link_in}
+use Rattle.yv_nodes.specs.Link.{AreLinked, Link, reference_in}
 use Rattle.yv_nodes.specs.Numbers.{numbers_from, rows_from}
 use Rattle.yv_nodes.specs.Rows.{Module, Note, Row, blank_row}
 use Rattle.yv_nodes.specs.Tree.{Forest}
@@ -65,7 +65,7 @@ module _ (choice : Choice) (files : Files) (c : Context) (names : AreNames choic
       (λ k x at. nodes choice b.files b.truth b.final b.nodes k x own_final (left_is b c told.tells) at)
 
   pub numbered_in_order : AreOfModules → AreNodes → HaveRows → TopsStay → FormsStay → (modules : List Module) (nodes : List Row) (top : List NodeId) (links : List (Option Link)) (whole : Forest)
-      → IsTyped (leafrefs_of b) (stated_of b) whole → AreLinked (link_in links) whole → modules ≡ modules_of choice files → nodes ≡ rows_from 0 whole → top ≡ numbers_from 0 (stated_of b) → AreNumbered modules nodes top links
+      → IsTyped (leafrefs_of b) (stated_of b) whole → AreLinked (reference_in links) whole → modules ≡ modules_of choice files → nodes ≡ rows_from 0 whole → top ≡ numbers_from 0 (stated_of b) → AreNumbered modules nodes top links
   numbered_in_order of_modules left rows tops forms modules nodes top links whole is linked are rows_are top_is = record {
     trees = whole;
     formed = forms_resolved forms (leafrefs_of b) modules (stated_of b) whole is

@@ -17,4 +17,5 @@ pub mod Phases
 pub mod Resolving
 pub mod Typing
 pub mod Counting
+pub mod Interior
 pub mod RequiredLinks

@@ -346,7 +346,7 @@ module _ (choice : Choice) (files : Files) (limit : ℕ) (one : HasOneTruth) (be
       (λ f h. let e : phase_of f.code ≡ 10 = schema_phase choice files f h in omega (arith, e)) (typed truth (Some r) is p))
 
   -- files have one basis: whichever truth, types, final tree and nodes these are
-  one_basis : HaveOneTyping → HaveOneFinal → IsOneLeft → (p q : Basis) → p.files ≡ files → q.files ≡ files → IsBasis choice p → IsBasis choice q → p ≡ q
+  pub one_basis : HaveOneTyping → HaveOneFinal → IsOneLeft → (p q : Basis) → p.files ≡ files → q.files ≡ files → IsBasis choice p → IsBasis choice q → p ≡ q
   one_basis one_typing one_final one_left p q p_files q_files is_p is_q =
       let p_truth : IsTruth files choice p.truth = subst (λ (fs : Files). IsTruth fs choice p.truth) p_files is_p.truth in
       let q_truth : IsTruth files choice q.truth = subst (λ (fs : Files). IsTruth fs choice q.truth) q_files is_q.truth in

@@ -1,19 +1,33 @@
 -- Leafrefs of files that conform, and their links.
-use Rattle.std.proofs.Common.{◌≡◌, ◌≢◌, ℕ, true, List, Option, Some, None, sym, ap, ◌∙◌}
+use Rattle.std.proofs.Common.{inl, inr, ◌≡◌, ◌≢◌, ℕ, ◌<◌, true, List, length, Option, Some, None, refl, sym, ap, ◌∙◌, subst}
 use Rattle.std.specs.List.{slice_get}
 use Rattle.std.specs.Option.{option_and_then}
+use Rattle.std.proofs.lemmas.Option.{same_Some, slice_get_within}
+use Rattle.yv_statement.specs.Tree.{Tree}
+use Rattle.yv_statement.specs.Order.{IsLeast}
+use Rattle.yv_statement.specs.declared.refusal.Refusal.{Refusal}
+use Rattle.yv_statement.specs.declared.refusal.Code.TheVariants as code
+use Rattle.yv_conform.specs.Faults.{Bad}
+use Rattle.yv_conform.specs.Fits.{Fits}
 use Rattle.yv_selection.specs.Choice.{Choice}
 use Rattle.yv_rows.specs.Files.{Files}
 use Rattle.yv_expansion.specs.Tree.{Node}
-use Rattle.yv_nodes.specs.Link.{Link, link_in}
-use Rattle.yv_leafrefs.specs.Schema.{Referral}
-use Rattle.yv_leafrefs.specs.Targets.{RefersTo}
+use Rattle.yv_nodes.specs.Link.{Link, link_in, reference_in}
+use Rattle.yv_nodes.specs.Refused.{refusal_of}
+use Rattle.yv_nodes.specs.Rows.{Row}
+use Rattle.yv_nodes.specs.Tree.{Forest}
+use Rattle.yv_leafrefs.specs.Bad.{BadLeafrefs}
+use Rattle.yv_leafrefs.specs.Resolved.{IsTyped, refused, resolved}
+use Rattle.yv_leafrefs.specs.Schema.{Referral, Schema}
+use Rattle.yv_leafrefs.specs.Targets.{HasTypesOf, IsLeafref, RefersTo, along, own}
 use Rattle.yv_final_tree.specs.Kept.{origin_at}
-use Rattle.yv_schema.specs.Module.{Basis, leafrefs_of, nodes_in, said_of}
-use Rattle.yv_schema.specs.Schema.{AreReferences, IsBasis}
-use Rattle.yv_leafref_links.specs.Links.{OnlyInnerHold}
-use Rattle.yv_leafref_links.proofs.Required.{has_link}
+use Rattle.yv_schema.specs.Module.{Basis, leafrefs_of, nodes_in, said_of, stated_of}
+use Rattle.yv_schema.specs.Refuses.{Refuses, in_file}
+use Rattle.yv_schema.specs.Schema.{AreReferences, IsBasis, IsSchema}
+use Rattle.yv_leafref_links.specs.Links.{AreLinks}
+use Rattle.yv_leafref_links.proofs.Required.{has_link, has_reference}
 use Rattle.yv_referrals.proofs.Beginning.{Conform, Headed, Origins, begins, no_value}
+use Rattle.yv_schema.proofs.Interior.{NothingBelow, basis_inner}
 
 module _ (choice : Choice) (b : Basis) (is : IsBasis choice b) (fine : Conform b.files) (headed : Headed b.files) (origins : Origins) where
   at_node : (x : Option Node) (ref : Referral) → option_and_then (said_of b) x ≡ Some ref → ref.climbs ≢ Some 0
@@ -23,10 +37,60 @@ module _ (choice : Choice) (b : Basis) (is : IsBasis choice b) (fine : Conform b
   pub leafref_begins : (n : ℕ) (ref : Referral) → (leafrefs_of b).says n ≡ Some ref → ref.climbs ≢ Some 0
   leafref_begins n ref says = at_node (slice_get (nodes_in b) n) ref says
 
-pub all_linked : ((files : Files) → Headed files) → Origins → (choice : Choice) (files : Files) (links : List (Option Link)) → Conform files
-    → (are : AreReferences choice files links) → OnlyInnerHold (leafrefs_of are.basis).rows → (n target : ℕ)
-    → (refers : RefersTo (leafrefs_of are.basis) n target) → refers.ref.is_required ≡ true → (link : Link) × (link_in links n ≡ Some link) × (link.target ≡ target)
-all_linked headed origins choice files links fine are hold n target refers required =
-    let conform : Conform are.basis.files = λ k root at. fine k root (ap (λ (fs : Files). slice_get fs k) (sym are.of_files) ∙ at) in
-    has_link (leafrefs_of are.basis) links n target are.are hold refers required
-    (leafref_begins choice are.basis are.is_basis conform (headed are.basis.files) origins n refers.ref refers.is_leafref.says)
+-- a file of which nothing is refused conforms
+abbrev pub Spared : Type 0
+Spared = (t : Tree) → ((f : Refusal) → Bad t f → ⊥) → Fits t
+
+conform_of : Spared → (choice : Choice) (files : Files) (limit : ℕ) → IsLeast (Refuses choice files limit) None → Conform files
+conform_of spared choice files limit clear n root at =
+    spared root (λ f bad. clear (in_file n f) (inl (inl (n, slice_get_within files n root at, root, at, record { own = f; stands = bad; is = refl }))))
+
+-- what types a node has tells whether it refers to one
+types_refer : (s : Schema) {n e : ℕ} → HasTypesOf s n e → (((target : ℕ) → RefersTo s n target → ⊥) → ⊥) → (target : ℕ) × RefersTo s n target
+types_refer s (own none) found = absurd (found none)
+types_refer s (along {target = t} refers rest) found = (t, refers)
+
+refers_of : (s : Schema) (stated tree : Forest) → IsTyped s stated tree → ((f : Refusal) → BadLeafrefs s f → ⊥) → (n : ℕ) (row : Row) (ref : Referral)
+    → IsLeafref s n row ref → (target : ℕ) × RefersTo s n target
+refers_of s stated tree (resolved least is) clear n row ref leafref =
+    let within : n < length s.rows = slice_get_within s.rows n row leafref.at in
+    types_refer s (is.each n within)
+    (λ lost. clear (refusal_of code.BadPath row.label)
+    (n, within, row, leafref.at, inl (record { ref = ref; is_leafref = leafref; lost = lost }, refl)))
+refers_of s stated tree (refused {f = f} bad) clear n row ref leafref = absurd (clear f bad)
+
+module _ (headed : (files : Files) → Headed files) (origins : Origins) (spared : Spared) (below : NothingBelow) (choice : Choice) (files : Files) (limit : ℕ)
+    (clear : IsLeast (Refuses choice files limit) None) where
+  pub all_led : (links : List (Option Link)) (are : AreReferences choice files links) (n target : ℕ) (refers : RefersTo (leafrefs_of are.basis) n target)
+      → (link : Link) × (reference_in links n ≡ Some link) × (link.target ≡ target) × (link.is_required ≡ refers.ref.is_required)
+  all_led links are n target refers =
+      let fine : Conform files = conform_of spared choice files limit clear in
+      let conform : Conform are.basis.files = λ k root at. fine k root (ap (λ (fs : Files). slice_get fs k) (sym are.of_files) ∙ at) in
+      has_reference (leafrefs_of are.basis) links n target are.are (basis_inner are.basis choice are.is_basis conform (headed are.basis.files) below) refers
+      (leafref_begins choice are.basis are.is_basis conform (headed are.basis.files) origins n refers.ref refers.is_leafref.says)
+
+  pub all_linked : (links : List (Option Link)) (are : AreReferences choice files links) (n target : ℕ) (refers : RefersTo (leafrefs_of are.basis) n target)
+      → refers.ref.is_required ≡ true → (link : Link) × (link_in links n ≡ Some link) × (link.target ≡ target)
+  all_linked links are n target refers required =
+      let fine : Conform files = conform_of spared choice files limit clear in
+      let conform : Conform are.basis.files = λ k root at. fine k root (ap (λ (fs : Files). slice_get fs k) (sym are.of_files) ∙ at) in
+      has_link (leafrefs_of are.basis) links n target are.are (basis_inner are.basis choice are.is_basis conform (headed are.basis.files) below) refers required
+      (leafref_begins choice are.basis are.is_basis conform (headed are.basis.files) origins n refers.ref refers.is_leafref.says)
+
+  pub each_linked : ((p q : Basis) → p.files ≡ files → q.files ≡ files → IsBasis choice p → IsBasis choice q → p ≡ q) → (tree : Forest) (links : List (Option Link))
+      (schema : IsSchema choice files tree) → AreReferences choice files links → (n : ℕ) (row : Row) (ref : Referral) → IsLeafref (leafrefs_of schema.basis) n row ref
+      → (link : Link) × (reference_in links n ≡ Some link) × RefersTo (leafrefs_of schema.basis) n link.target × (link.is_required ≡ ref.is_required)
+  each_linked one tree links schema are n row ref leafref =
+      let s : Schema = leafrefs_of schema.basis in
+      let same : are.basis ≡ schema.basis = one are.basis schema.basis are.of_files schema.of_files are.is_basis schema.is_basis in
+      let its : AreReferences choice files links = record {
+        basis = schema.basis;
+        of_files = schema.of_files;
+        is_basis = schema.is_basis;
+        are = subst (λ (x : Basis). AreLinks (leafrefs_of x) links) same are.are;
+      } in
+      let (target, refers) = refers_of s (stated_of schema.basis) tree schema.is
+      (λ f bad. clear f (inr (inr (record { tree = tree; schema = schema; stands = inr (inr bad) })))) n row ref leafref in
+      let says : refers.ref ≡ ref = same_Some refers.ref ref (sym refers.is_leafref.says ∙ leafref.says) in
+      let (link, at, leads, required) = all_led links its n target refers in
+      (link, at, subst (RefersTo s n) (sym leads) refers, required ∙ ap (λ (r : Referral). r.is_required) says)

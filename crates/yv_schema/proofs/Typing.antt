@@ -3,7 +3,7 @@ use Rattle.std.proofs.Common.{◌≡◌, ◌⊎◌, ℕ, ◌+◌, List, [], All,
 use Rattle.yv_values.specs.Types.{Plain}
 use Rattle.yv_statement.specs.Order.{IsLeast}
 use Rattle.yv_nodes.specs.declared.node.NodeId.{NodeId}
-use Rattle.yv_nodes.specs.Link.{AreLinked, AreLinkedBelow, Ground, KindLinked, Link, ground, link_in}
+use Rattle.yv_nodes.specs.Link.{AreLinked, AreLinkedBelow, Ground, KindLinked, Link, ground, reference_in}
 use Rattle.yv_nodes.specs.Numbers.{numbers_from, rows_from}
 use Rattle.yv_nodes.specs.Rows.{Module, Note, Row}
 use Rattle.yv_nodes.specs.Tree.{count, Forest, node, no_trees, tree}
@@ -43,7 +43,7 @@ abbrev pub LinksStay : Type 0
 LinksStay = (types : ℕ → List Plain) (links : ℕ → Option Link) (ts : Forest) → AreLinked links ts → AreLinked links (typed_from types 0 ts)
 
 abbrev pub LinksLead : Type 0
-LinksLead = (s : Schema) (ts : Forest) (links : List (Option Link)) → s.rows ≡ rows_from 0 ts → AreLinks s links → AreLinked (link_in links) ts
+LinksLead = (s : Schema) (ts : Forest) (links : List (Option Link)) → s.rows ≡ rows_from 0 ts → AreLinks s links → AreLinked (reference_in links) ts
 
 pub count_resolved : (s : Schema) (stated top : Forest) → IsTyped s stated top → count top ≡ count stated
 count_resolved s stated top (resolved least is) = ap count is.is ∙ count_typed (λ n. types_at s.rows (is.origin n)) 0 stated
@@ -82,20 +82,20 @@ kind_none kind.Notification top up own Below all = tt
 kind_none kind.Input top up own Below all = tt
 kind_none kind.Output top up own Below all = tt
 
-none_below : (top : Ground) (up : List Ground) (first : ℕ) (ts : Forest) → AreLinkedBelow (link_in []) top up first ts
+none_below : (top : Ground) (up : List Ground) (first : ℕ) (ts : Forest) → AreLinkedBelow (reference_in []) top up first ts
 none_below top up first no_trees = tt
 none_below top up first (tree (node l kids) ts) = (
-  kind_none l.defined.kind top up (record { first = first + 1; trees = kids }) (λ us. AreLinkedBelow (link_in []) top us (first + 1) kids) (λ us. none_below top us (first + 1) kids),
+  kind_none l.defined.kind top up (record { first = first + 1; trees = kids }) (λ us. AreLinkedBelow (reference_in []) top us (first + 1) kids) (λ us. none_below top us (first + 1) kids),
   none_below top up (first + 1 + count kids) ts,
 )
 
-none_linked : (links : List (Option Link)) (ts : Forest) → links ≡ [] → AreLinked (link_in links) ts
-none_linked links ts none = subst (λ (ls : List (Option Link)). AreLinked (link_in ls) ts) (sym none) (none_below (ground ts) _ 0 ts)
+none_linked : (links : List (Option Link)) (ts : Forest) → links ≡ [] → AreLinked (reference_in links) ts
+none_linked links ts none = subst (λ (ls : List (Option Link)). AreLinked (reference_in ls) ts) (sym none) (none_below (ground ts) _ 0 ts)
 
 -- links lead where they are to in the resolved tree; there are none where something is wrong with leafrefs
 pub links_resolved : LinksLead → LinksStay → (s : Schema) (stated top : Forest) (links : List (Option Link)) → s.rows ≡ rows_from 0 stated → IsTyped s stated top
-    → (IsLeast (BadLeafrefs s) None × AreLinks s links) ⊎ (links ≡ []) → AreLinked (link_in links) top
+    → (IsLeast (BadLeafrefs s) None × AreLinks s links) ⊎ (links ≡ []) → AreLinked (reference_in links) top
 links_resolved lead stay s stated top links rows is (inr none) = none_linked links top none
 links_resolved lead stay s stated top links rows (resolved least is) (inl h) =
-    subst (AreLinked (link_in links)) (sym is.is) (stay (λ n. types_at s.rows (is.origin n)) (link_in links) stated (lead s stated links rows h.1))
+    subst (AreLinked (reference_in links)) (sym is.is) (stay (λ n. types_at s.rows (is.origin n)) (reference_in links) stated (lead s stated links rows h.1))
 links_resolved lead stay s stated top links rows (refused {f = f} bad) (inl h) = absurd (h.0 f bad)

@@ -5,7 +5,7 @@ use Rattle.yv_rows.specs.Files.{Files}
 use Rattle.yv_expansion.specs.declared.item.Origin.{Origin}
 use Rattle.yv_expansion.specs.declared.item.Origin.TheVariants as origin
 use Rattle.yv_final_tree.specs.Kept.{origin_at}
-use Rattle.yv_nodes.specs.Link.{AreLinked, link_in}
+use Rattle.yv_nodes.specs.Link.{AreLinked, reference_in}
 use Rattle.yv_nodes.specs.Numbers.{rows_from}
 use Rattle.yv_nodes.specs.Rows.{Row}
 use Rattle.yv_nodes.specs.Tree.{Forest}
@@ -45,5 +45,5 @@ pub record IsAnswered (b : Basis) (r : Resolved) : Type 0 where
   pub is : IsTyped (leafrefs_of b) (stated_of b) tree
   pub rows : r.nodes.rows ≡ rows_from 0 tree
   pub fault : IsLeast (BadLeafrefs (leafrefs_of b)) r.fault
-  pub linked : AreLinked (link_in r.links) tree
+  pub linked : AreLinked (reference_in r.links) tree
   pub links : r.fault ≡ None → AreLinks (leafrefs_of b) r.links

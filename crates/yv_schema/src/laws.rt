@@ -1,5 +1,5 @@
 //! Laws about the definitions only. These functions do nothing: the contract of each is the law.
-ghost use Rattle.std.specs.Prelude.{◌≡◌, ◌≤◌, ◌⊎◌, ℕ, List, Option, None, Some, slice_get, true};
+ghost use Rattle.std.specs.Prelude.{◌≡◌, ◌≤◌, ◌⊎◌, ℕ, List, Option, None, Some, true};
 ghost use Rattle.yv_statement.specs.Codes.{phase_of};
 ghost use Rattle.yv_statement.specs.Order.{IsLeast};
 ghost use Rattle.yv_statement.specs.declared.refusal.Refusal.{Refusal};
@@ -8,12 +8,10 @@ ghost use Rattle.yv_rows.specs.Files.{Files};
 ghost use Rattle.yv_schema.specs.Refuses.{Refuses, RefusesBeforeTypes};
 ghost use Rattle.yv_schema.specs.Schema.{AreNotes, AreReferences, IsSchema, TakeUnits};
 ghost use Rattle.yv_schema.specs.Module.{leafrefs_of};
-ghost use Rattle.yv_statement.specs.Tree.{Tree};
-ghost use Rattle.yv_conform.specs.Fits.{Fits};
-ghost use Rattle.yv_leafrefs.specs.Targets.{RefersTo};
-ghost use Rattle.yv_leafref_links.specs.Links.{OnlyInnerHold};
-ghost use Rattle.yv_nodes.specs.Link.{Link, link_in};
-ghost use Rattle.yv_nodes.specs.Rows.{Note};
+ghost use Rattle.yv_leafrefs.specs.Schema.{Referral};
+ghost use Rattle.yv_leafrefs.specs.Targets.{IsLeafref, RefersTo};
+ghost use Rattle.yv_nodes.specs.Link.{Link, link_in, reference_in};
+ghost use Rattle.yv_nodes.specs.Rows.{Note, Row};
 ghost use Rattle.yv_nodes.specs.Tree.{Forest, count};
 
 /// Where nothing is refused, files have one schema tree under a choice, their augments add to it in one way, and its leafrefs lead one
@@ -48,14 +46,46 @@ pub fn types_and_trees_come_late()
         → RefusesBeforeTypes choice files limit f ⊎ (9 ≤ phase_of f.code) }
 {}
 
-/// In a schema of files that conform a leafref that requires an instance has its link to what it refers to, where only containers and
-/// lists hold data nodes (RFC 7950, sections 9.9.2 and 9.9.3).
-pub fn required_leafrefs_have_links()
-    ensures { (choice : Choice) (files : Files) (links : List (Option Link)) → ((n : ℕ) (root : Tree) → slice_get files n ≡ Some root → Fits root)
-        → (are : AreReferences choice files links) → OnlyInnerHold (leafrefs_of are.basis).rows → (n target : ℕ)
-        → (refers : RefersTo (leafrefs_of are.basis) n target) → refers.ref.is_required ≡ true
-        → (link : Link) × (link_in links n ≡ Some link) × (link.target ≡ target) }
+/// Where nothing is refused, a leafref has its link to what it refers to, and the link says whether an instance is required (RFC 7950,
+/// sections 9.9.2 and 9.9.3).
+pub fn leafrefs_have_links()
+    ensures { (choice : Choice) (files : Files) (limit : ℕ) (links : List (Option Link)) → IsLeast (Refuses choice files limit) None
+        → (are : AreReferences choice files links) → (n target : ℕ) → (refers : RefersTo (leafrefs_of are.basis) n target)
+        → (link : Link) × (reference_in links n ≡ Some link) × (link.target ≡ target) × (link.is_required ≡ refers.ref.is_required) }
 {
+    yv_fitting::laws::what_is_not_refused_fits();
     yv_rows::laws::statements_have_their_rows();
+    yv_final_tree::laws::nothing_stands_below_a_leaf();
+    yv_leafref_types::laws::an_origin_is_a_leafref();
+}
+
+/// Where nothing is refused, a leafref that requires an instance has its link to what it refers to (RFC 7950, sections 9.9.2 and 9.9.3).
+pub fn required_leafrefs_have_links()
+    ensures { (choice : Choice) (files : Files) (limit : ℕ) (links : List (Option Link)) → IsLeast (Refuses choice files limit) None
+        → (are : AreReferences choice files links) → (n target : ℕ) → (refers : RefersTo (leafrefs_of are.basis) n target)
+        → refers.ref.is_required ≡ true → (link : Link) × (link_in links n ≡ Some link) × (link.target ≡ target) }
+{
+    yv_fitting::laws::what_is_not_refused_fits();
+    yv_rows::laws::statements_have_their_rows();
+    yv_final_tree::laws::nothing_stands_below_a_leaf();
+    yv_leafref_types::laws::an_origin_is_a_leafref();
+}
+
+/// Where nothing is refused, each leafref outside operations and notifications refers to a node, and its link leads there and says whether
+/// an instance is required.
+pub fn each_leafref_has_its_link()
+    ensures { (choice : Choice) (files : Files) (limit : ℕ) (tree : Forest) (links : List (Option Link))
+        → IsLeast (Refuses choice files limit) None → (schema : IsSchema choice files tree) → AreReferences choice files links
+        → (n : ℕ) (row : Row) (ref : Referral) → IsLeafref (leafrefs_of schema.basis) n row ref
+        → (link : Link) × (reference_in links n ≡ Some link) × RefersTo (leafrefs_of schema.basis) n link.target
+        × (link.is_required ≡ ref.is_required) }
+{
+    yv_fitting::laws::what_is_not_refused_fits();
+    yv_rows::laws::statements_have_their_rows();
+    yv_features::laws::an_expression_has_one_truth();
+    yv_definitions::laws::files_have_one_typing();
+    yv_final_tree::laws::files_have_one_final_tree();
+    yv_final_tree::laws::nothing_stands_below_a_leaf();
+    yv_final_tree::laws::what_is_left_is_one();
     yv_leafref_types::laws::an_origin_is_a_leafref();
 }

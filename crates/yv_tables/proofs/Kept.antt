@@ -13,7 +13,7 @@ use Rattle.yv_nodes.specs.Member.{data_home}
 use Rattle.yv_nodes.specs.Tree.{count, Forest, Label, labels, node, no_trees, tree}
 use Rattle.yv_nodes.specs.Places.{Place, places}
 use Rattle.yv_nodes.specs.Rows.{below, children_of, is_root, Module, Note, rank, root, Row, row_at, Rows, whole}
-use Rattle.yv_nodes.specs.Link.{AreLinked, Link, link_in}
+use Rattle.yv_nodes.specs.Link.{AreLinked, Link, reference_in}
 use Rattle.yv_nodes.specs.Numbers.{numbers_from, rows_below, rows_from, rows_of}
 use Rattle.yv_leaf_targets.specs.Named.{HaveLeafs}
 use Rattle.yv_leaf_targets.specs.Bad.{BadLeafs}
@@ -140,7 +140,7 @@ module _ (limit : ℕ) (modules : List Module) (all : Forest) (nodes : List Row)
   pub whole_made : (notes : List Note) (links : List (Option Link)) → whole (made_of nodes top limit modules notes links) ≡ all
   whole_made notes links = ap whole (sym (same notes links)) ∙ whole_rows limit modules notes links all
 
-  module _ (clear : (f : Refusal) → Doubled all f → ⊥) (leafs : HaveLeafs nodes) (notes : List Note) (links : List (Option Link)) (linked : AreLinked (link_in links) all) where
+  module _ (clear : (f : Refusal) → Doubled all f → ⊥) (leafs : HaveLeafs nodes) (notes : List Note) (links : List (Option Link)) (linked : AreLinked (reference_in links) all) where
     none_top : AreDistinct (labels (opened_trees all))
     none_top = distinct_in modules b.apart None all (opened_of modules [] all b.formed) (λ f p. clear f (inl (pair_repeated (opened all) f p)))
 

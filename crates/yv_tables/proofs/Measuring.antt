@@ -1,24 +1,14 @@
 -- What a schema measures, child by child.
-use Rattle.std.proofs.Common.{◌≡◌, ◌+◌, ◌<◌, ◌≤◌, ◌∙◌, max, cond, ap, arith, refl, Bool, true, false}
+use Rattle.std.proofs.Common.{◌≡◌, ◌+◌, ◌*◌, ◌<◌, ◌≤◌, ◌∙◌, max, ap, arith, refl, Bool, true, false}
 use Rattle.std.proofs.lemmas.Bool.Decides.{nat_tests}
 use Rattle.yv_properties.specs.Kinds.{is_operation}
 use Rattle.yv_nodes.specs.Tree.{count, Forest, Label, no_trees, node, tree}
 use Rattle.yv_nodes.specs.declared.node.NodeId.{NodeId}
 use Rattle.yv_nodes.specs.Rows.{Rows, is_root, rank}
 use Rattle.yv_tables.specs.Sound.{IsChild, IsSound}
-use Rattle.yv_tables.specs.Measures.{greatest, is_open, met, met_below, types_of, uniques_of}
+use Rattle.yv_tables.specs.Measures.{greatest, met, met_below, types_of, uniques_of}
 use Rattle.yv_tables.specs.InnerPassage.{beside, nothing, one_of, passage_of}
 use Rattle.yv_tables.specs.declared.measures.Passage.{Passage}
-
--- no more nodes are met than there are
-pub met_within : (ts : Forest) → met ts ≤ count ts
-met_within no_trees = omega arith
-met_within (tree (node l kids) ts) = by (is_operation l.defined.kind) (is_open l) (met_within kids) (met_within ts)
-  where
-    by : (b c : Bool) → met kids ≤ count kids → met ts ≤ count ts → cond b 0 (1 + cond c (met kids) 0) + met ts ≤ 1 + count kids + count ts
-    by true c h k = omega arith
-    by false true h k = omega arith
-    by false false h k = omega arith
 
 -- what is left to measure is one child and the others
 pub record IsSplit (left : Forest) (one : Passage) (kids others : Forest) : Type 0 where
@@ -49,6 +39,7 @@ is_split left l kids others e =
 -- what was measured so far and what is left make up the whole
 pub record IsMeasured (all : Passage) (left whole : Forest) : Type 0 where
   pub small : count left < 4294967296
+  pub few : all.met + 1024 * count left ≤ 1024 * count whole
   pub meets : all.met + met left ≡ met whole
   pub most : max all.most (greatest met_below left) ≡ greatest met_below whole
   pub uniques : max all.uniques (greatest uniques_of left) ≡ greatest uniques_of whole
@@ -57,20 +48,22 @@ pub record IsMeasured (all : Passage) (left whole : Forest) : Type 0 where
 pub measured_first : (left whole : Forest) → left ≡ whole → count whole < 4294967296 → IsMeasured nothing left whole
 measured_first left whole e small = record {
   small = omega (arith, ap count e, small);
+  few = omega (arith, ap count e);
   meets = omega (arith, ap met e);
   most = omega (arith, ap (greatest met_below) e);
   uniques = omega (arith, ap (greatest uniques_of) e);
   types = omega (arith, ap (greatest types_of) e);
 }
 
-pub measured_more : (all one more : Passage) (left whole kids others : Forest) → IsMeasured all left whole → IsSplit left one kids others → more ≡ beside all one → IsMeasured more others whole
-measured_more all one more left whole kids others h split is =
+pub measured_more : (all one more : Passage) (left whole kids others : Forest) → IsMeasured all left whole → IsSplit left one kids others → one.met ≤ 1024 + 1024 * count kids → more ≡ beside all one → IsMeasured more others whole
+measured_more all one more left whole kids others h split few is =
     let meets : more.met ≡ all.met + one.met = ap (λ (p : Passage). p.met) is in
     let most : more.most ≡ max all.most one.most = ap (λ (p : Passage). p.most) is in
     let uniques : more.uniques ≡ max all.uniques one.uniques = ap (λ (p : Passage). p.uniques) is in
     let types : more.types ≡ max all.types one.types = ap (λ (p : Passage). p.types) is in
     record {
       small = omega (arith, split.counted, h.small);
+      few = omega (arith, split.counted, h.few, few, meets);
       meets = omega (arith, split.meets, h.meets, meets);
       most = omega (arith, split.most, h.most, most);
       uniques = omega (arith, split.uniques, h.uniques, uniques);
@@ -90,3 +83,6 @@ pub child_rank : (s : Rows) (p c : NodeId) → IsSound s → IsChild s p c → r
 child_rank s p c sound child =
     let inner : is_root c ≡ false = grind (arith, nat_tests, sound.small, child.within) in
     rw inner refl
+
+pub few_measured : (all : Passage) (left whole : Forest) → IsMeasured all left whole → all.met ≤ 1024 * count whole
+few_measured all left whole h = omega (arith, h.few)

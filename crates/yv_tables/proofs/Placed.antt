@@ -11,7 +11,7 @@ use Rattle.yv_nodes.specs.declared.node.NodeId.{NodeId}
 use Rattle.yv_nodes.specs.Tree.{count, Label, node, Forest, labels, no_trees, tree}
 use Rattle.yv_nodes.specs.Places.{Place, places, places_below}
 use Rattle.yv_nodes.specs.Rows.{below, blank_row, children_of, is_root, Module, Note, rank, root, Row, row_at, Rows, whole}
-use Rattle.yv_nodes.specs.Link.{AreLinked, Link, link_in}
+use Rattle.yv_nodes.specs.Link.{AreLinked, Link, reference_in}
 use Rattle.yv_nodes.specs.Numbers.{numbers_from, rows_below, rows_from, rows_of}
 use Rattle.yv_tables.specs.Opened.{opened_from, opened_trees}
 use Rattle.yv_leaf_targets.specs.Named.{HaveLeafs}
@@ -242,12 +242,12 @@ module _ (limit : ℕ) (modules : List Module) (notes : List Note) (links : List
         ]
 
     pub sound_rows : count ts ≤ 4294967295 → count ts ≤ limit → HaveLeafs (rows_from 0 ts)
-        → All (IsNote (rows_of limit modules notes links ts)) notes → AreLinked (link_in links) ts → IsSound (rows_of limit modules notes links ts)
+        → All (IsNote (rows_of limit modules notes links ts)) notes → AreLinked (reference_in links) ts → IsSound (rows_of limit modules notes links ts)
     sound_rows small limited leafs given linked = record {
       leafs = leafs;
       members = subst MembersDiffer (sym (whole_rows limit modules notes links ts)) (record { top = top; below = inner });
       notes = given;
-      linked = subst (AreLinked (link_in links)) (sym (whole_rows limit modules notes links ts)) linked;
+      linked = subst (AreLinked (reference_in links)) (sym (whole_rows limit modules notes links ts)) linked;
       small = omega (arith, length_rows root 0 ts);
       limited = omega (arith, length_rows root 0 ts);
       rows = ap (rows_from 0) (sym (whole_rows limit modules notes links ts));

@@ -1,6 +1,7 @@
 -- Only private clauses cite this: what nodes measure, one after the other.
 use Rattle.std.specs.Prelude.{◌+◌, length, max, ◌||◌, if◌then◌else◌}
 use Rattle.yv_properties.specs.Kinds.{is_list, is_operation}
+use Rattle.yv_nodes.specs.Defaults.{width}
 use Rattle.yv_nodes.specs.Tree.{Label, Forest}
 use Rattle.yv_tables.specs.Measures.{greatest, is_container, is_open, met, met_below, types_of, uniques_of}
 use Rattle.yv_tables.specs.declared.measures.Passage.{Passage}
@@ -16,7 +17,7 @@ passage_of ts = record { met = met ts; most = greatest met_below ts; uniques = g
 abbrev pub one_of : Label → Passage → Passage
 one_of l inner =
     if is_operation l.defined.kind then nothing else record {
-      met = 1 + (if is_open l then inner.met else 0);
+      met = width l + (if is_open l then inner.met else 0);
       most = max (if is_container l.defined.kind || is_list l.defined.kind then inner.met else 0) inner.most;
       uniques = max (length l.defined.uniques) inner.uniques;
       types = max (length l.defined.types) inner.types;

@@ -3,6 +3,7 @@ use Rattle.std.specs.Prelude.{ℕ, ◌+◌, length, max, Bool, true, false, not,
 use Rattle.yv_properties.specs.declared.kind.NodeKind.{NodeKind}
 use Rattle.yv_properties.specs.declared.kind.NodeKind.TheVariants as kind
 use Rattle.yv_properties.specs.Kinds.{is_list, is_operation, is_passed}
+use Rattle.yv_nodes.specs.Defaults.{width}
 use Rattle.yv_nodes.specs.Tree.{Label, Forest, no_trees, tree, node}
 use Rattle.yv_tables.specs.declared.measures.Measures.{Measures}
 
@@ -14,11 +15,11 @@ is_container _ = false
 abbrev pub is_open : Label → Bool
 is_open l = is_passed l.defined.kind || is_container l.defined.kind && not l.defined.has_presence
 
--- how many nodes are met at one object, choices and cases too: a list and a presence container count, and what is below them
--- doesn't, and operations, notifications and what is in them count nothing
+-- how many nodes are met at one object, choices and cases too, where a node with several defaults counts as so many: a list and a
+-- presence container count, and what is below them doesn't, and operations, notifications and what is in them count nothing
 abbrev pub met : Forest → ℕ
 met no_trees = 0
-met (tree (node l kids) ts) = (if is_operation l.defined.kind then 0 else 1 + (if is_open l then met kids else 0)) + met ts
+met (tree (node l kids) ts) = (if is_operation l.defined.kind then 0 else width l + (if is_open l then met kids else 0)) + met ts
 
 -- the greatest of numbers of the nodes at any depth, but for operations, notifications and what is in them
 abbrev pub greatest : (Label → Forest → ℕ) → Forest → ℕ

@@ -2,7 +2,7 @@
 use Rattle.std.specs.Prelude.{◌≡◌, ◌≢◌, ◌<◌, ℕ, ◌==◌, List, [], ◌∷◌, All, false, Option, Some, slice_get}
 use Rattle.std.specs.List.{list_any}
 use Rattle.yv_nodes.specs.declared.node.NodeId.{NodeId}
-use Rattle.yv_nodes.specs.Link.{Link, AreLinked, link_in}
+use Rattle.yv_nodes.specs.Link.{Link, AreLinked, reference_in}
 use Rattle.yv_nodes.specs.Member.{data_home, member_name}
 use Rattle.yv_nodes.specs.Numbers.{numbers_from, rows_from}
 use Rattle.yv_nodes.specs.Rows.{Module, Note, Row, Rows}
@@ -44,7 +44,7 @@ pub record AreNumbered (modules : List Module) (nodes : List Row) (top : List No
   pub formed : AreFormed modules [] trees
   pub rows : nodes ≡ rows_from 0 trees
   pub top_is : top ≡ numbers_from 0 trees
-  pub linked : AreLinked (link_in links) trees
+  pub linked : AreLinked (reference_in links) trees
 
 -- what contracts see of a schema that has these
 abbrev pub made_of : List Row → List NodeId → (limit : ℕ) → List Module → List Note → List (Option Link) → Rows

@@ -3,7 +3,7 @@ use Rattle.std.specs.Prelude.{◌≡◌, ◌≢◌, ◌≤◌, ◌<◌, ℕ, Lis
 use Rattle.std.specs.Str.{bytes_eq}
 use Rattle.yv_properties.specs.Kinds.{is_data, is_passed}
 use Rattle.yv_nodes.specs.declared.node.NodeId.{NodeId}
-use Rattle.yv_nodes.specs.Link.{AreLinked, link_in}
+use Rattle.yv_nodes.specs.Link.{AreLinked, reference_in}
 use Rattle.yv_nodes.specs.Tree.{Forest, Label, labels, no_trees, node, tree}
 use Rattle.yv_nodes.specs.Places.{Place, places}
 use Rattle.yv_nodes.specs.Numbers.{numbers_from, rows_from}
@@ -82,4 +82,4 @@ pub record IsSound (s : Rows) : Type 0 where
   pub leafs : HaveLeafs s.nodes
   pub members : MembersDiffer (whole s)
   pub notes : All (IsNote s) s.augments
-  pub linked : AreLinked (link_in s.links) (whole s)
+  pub linked : AreLinked (reference_in s.links) (whole s)

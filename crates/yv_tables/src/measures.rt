@@ -1,5 +1,5 @@
 //! The numbers by which the steps of a validation are bounded.
-ghost use Rattle.std.specs.Prelude.{◌≡◌, ◌<◌, ◌≤◌, ◌+◌, ◌^◌, ◌||◌, length, if◌then◌else◌};
+ghost use Rattle.std.specs.Prelude.{◌≡◌, ◌<◌, ◌≤◌, ◌+◌, ◌*◌, ◌^◌, ◌||◌, length, if◌then◌else◌};
 ghost use Rattle.yv_properties.specs.Kinds.{is_list};
 ghost use Rattle.yv_nodes.specs.Tree.{count};
 ghost use Rattle.yv_nodes.specs.Rows.{below, rank, whole};
@@ -15,7 +15,8 @@ use yv_properties::NodeKind;
 #[derive(Clone, Copy, Debug, PartialEq, Eq)]
 pub struct Measures {
     /// The most nodes that are met at the object of the root, a container or a list: those below it at any depth, choices
-    /// and cases too, but of those below a list or a presence container only the node itself.
+    /// and cases too, but of those below a list or a presence container only the node itself. A leaf-list with several defaults counts
+    /// as so many.
     pub m: u64,
     /// The most `unique` statements of a list (RFC 7950, section 7.8.3).
     pub u: u64,
@@ -41,7 +42,7 @@ impl Schema {
     pub fn measures(&self) -> Measures
         ensures { result ≡ measures_of (whole self.now) }
     {
-        // Each node has a number of 32 bits, so that sums of nodes fit.
+        // Each node has a number of 32 bits and counts as 1,024 at most, so that sums fit.
         let _nodes = self.len();
         let passage = self.passage(Schema::ROOT);
         Measures {
@@ -55,7 +56,8 @@ impl Schema {
     fn passage(&self, parent: NodeId) -> Passage
         requires within { rank parent ≤ length self.now.nodes }
         requires small { count (below self.now parent) < 2 ^ 32 }
-        ensures { result ≡ passage_of (below self.now parent) }
+        ensures value { result ≡ passage_of (below self.now parent) }
+        ensures few { result.met ≤ 1024 * count (below self.now parent) }
     {
         let mut all = Passage::NONE;
         for child in self.children(parent) {
@@ -78,14 +80,15 @@ impl Passage {
 
 // What a node measures, where those below it measure so much.
 fn one_of(node: &Node, inner: Passage) -> Passage
-    requires { inner.met < 2 ^ 32 }
-    ensures { result ≡ one_of node.now.label inner }
+    requires { inner.met < 2 ^ 42 }
+    ensures value { result ≡ one_of node.now.label inner }
+    ensures few { result.met ≤ 1024 + inner.met }
 {
     if node.kind().is_operation() {
         return Passage::NONE;
     }
     Passage {
-        met: 1 + counted_if(is_open(node), inner.met),
+        met: node.width() + counted_if(is_open(node), inner.met),
         most: counted_if(is_parent(node.kind()), inner.met).max(inner.most),
         uniques: (node.uniques().len() as u64).max(inner.uniques),
         types: (node.types().len() as u64).max(inner.types),

@@ -66,7 +66,7 @@ impl Schema {
     ghost use Rattle.std.specs.Option.{option_map};
     ghost use Rattle.std.specs.Prelude.{ℕ, List, ◌∷◌, ◌++◌, Some, None, is_some, map, IfNone};
     ghost use Rattle.yv_leaf_targets.specs.Numbers.{default_case_at, key_leaf_at, unique_leaf_at};
-    ghost use Rattle.yv_nodes.specs.Link.{AreLinked, link_in};
+    ghost use Rattle.yv_nodes.specs.Link.{AreLinked, reference_in};
     ghost use Rattle.yv_nodes.specs.Tree.{count};
     ghost use Rattle.yv_nodes.specs.Rows.{AreTrees, row_at, children_of, rank, whole};
     ghost use Rattle.yv_tables.specs.Sound.{IsSound, IsChild, IsInside, IsNote, inside, is_known, named, object_trees};
@@ -174,21 +174,21 @@ impl Schema {
         self.notes.as_slice()
     }
 
-    /// Where the paths of the leafrefs lead that require an instance.
+    /// Where the paths of the leafrefs lead.
     pub fn links(&self) -> &Links
         ensures value { result.now ≡ self.now.links }
-        ensures linked { AreLinked (link_in result.now) (whole self.now) }
+        ensures linked { AreLinked (reference_in result.now) (whole self.now) }
         ensures sound { IsSound self.now }
     {
         &self.links
     }
 
-    /// Where the path of a leafref leads, where it requires an instance (RFC 7950, sections 9.9.2 and 9.9.3): None of other nodes, and
-    /// inside operations and notifications. Takes constant time.
+    /// Where the path of a leafref leads, and whether it requires an instance (RFC 7950, sections 9.9.2 and 9.9.3): None of other nodes,
+    /// and inside operations and notifications. Takes constant time.
     pub fn reference(&self, leafref: NodeId) -> Option<&Link>
-        ensures { option_map (λ link. link.now) result ≡ link_in self.now.links leafref.0 }
+        ensures { option_map (λ link. link.now) result ≡ reference_in self.now.links leafref.0 }
     {
-        self.links.link(leafref)
+        self.links.reference(leafref)
     }
 
     /// The data node that a JSON member of this name writes in an object of this node, or in that of the root: a child, or what

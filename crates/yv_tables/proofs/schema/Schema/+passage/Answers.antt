@@ -7,7 +7,7 @@ use Rattle.yv_nodes.specs.Rows.{Row, below, forest, rank, row_at}
 use Rattle.yv_tables.specs.Sound.{IsChild}
 use Rattle.yv_tables.specs.InnerPassage.{beside, one_of, passage_of}
 use Rattle.yv_tables.specs.declared.measures.Passage.{Passage}
-use Rattle.yv_tables.proofs.Measuring.{IsSplit, child_rank, is_split, measured_all, measured_first, measured_more, met_within}
+use Rattle.yv_tables.proofs.Measuring.{IsSplit, child_rank, is_split, few_measured, measured_all, measured_first, measured_more}
 use Rattle.yv_tables.proofs.schema.Schema.+passage.Goals as goal
 
 pub loop-child-init : goal.loop-child-init
@@ -41,7 +41,7 @@ one_of-one-requires t c =
     let kids : Forest = below s id in
     let split : IsSplit (forest s (drop i cs)) (one_of (row_at s id).label (passage_of kids)) kids (forest s (drop (i + 1) cs)) =
     is_split (forest s (drop i cs)) (row_at s id).label kids (forest s (drop (i + 1) cs)) (c.children-child-items.ensures.trees i d c.loop-child-test.true) in
-    omega (arith, ap (λ (p : Passage). p.met) c.passage-inner.ensures, met_within kids, split.counted, c.loop-child.invariant.small)
+    omega (arith, c.passage-inner.ensures.few, split.counted, c.loop-child.invariant.small)
 
 pub beside-all-requires : goal.beside-all-requires
 beside-all-requires t c =
@@ -53,9 +53,7 @@ beside-all-requires t c =
     let kids : Forest = below s id in
     let split : IsSplit (forest s (drop i cs)) (one_of (row_at s id).label (passage_of kids)) kids (forest s (drop (i + 1) cs)) =
     is_split (forest s (drop i cs)) (row_at s id).label kids (forest s (drop (i + 1) cs)) (c.children-child-items.ensures.trees i d c.loop-child-test.true) in
-    let one : c.one_of-one.result ≡ one_of (row_at s id).label (passage_of kids) =
-    c.one_of-one.ensures ∙ ap (λ (r : Row). one_of r.label c.passage-inner.result) c.node.ensures.value ∙ ap (one_of (row_at s id).label) c.passage-inner.ensures in
-    omega (arith, ap (λ (p : Passage). p.met) one, split.meets, c.loop-child.invariant.meets, c.requires.small, met_within (below s c.args.parent))
+    omega (arith, c.one_of-one.ensures.few, c.passage-inner.ensures.few, split.counted, c.loop-child.invariant.few, c.requires.small)
 
 pub loop-child-preserved : goal.loop-child-preserved
 loop-child-preserved t c =
@@ -68,13 +66,18 @@ loop-child-preserved t c =
     let split : IsSplit (forest s (drop i cs)) (one_of (row_at s id).label (passage_of kids)) kids (forest s (drop (i + 1) cs)) =
     is_split (forest s (drop i cs)) (row_at s id).label kids (forest s (drop (i + 1) cs)) (c.children-child-items.ensures.trees i d c.loop-child-test.true) in
     let one : c.one_of-one.result ≡ one_of (row_at s id).label (passage_of kids) =
-    c.one_of-one.ensures ∙ ap (λ (r : Row). one_of r.label c.passage-inner.result) c.node.ensures.value ∙ ap (one_of (row_at s id).label) c.passage-inner.ensures in
-    measured_more c.loop-child.all (one_of (row_at s id).label (passage_of kids)) c.beside-all.result (forest s (drop i cs)) (below s c.args.parent) kids (forest s (drop (i + 1) cs)) c.loop-child.invariant split
+    c.one_of-one.ensures.value ∙ ap (λ (r : Row). one_of r.label c.passage-inner.result) c.node.ensures.value ∙ ap (one_of (row_at s id).label) c.passage-inner.ensures.value in
+    measured_more c.loop-child.all (one_of (row_at s id).label (passage_of kids)) c.beside-all.result (forest s (drop i cs)) (below s c.args.parent) kids (forest s (drop (i + 1) cs)) c.loop-child.invariant split (omega (arith, ap (λ (p : Passage). p.met) one, c.one_of-one.ensures.few, c.passage-inner.ensures.few))
     (c.beside-all.ensures ∙ ap (beside c.loop-child.all) one)
 
-pub returns : goal.returns
-returns t c =
+pub returns-clause-value : goal.returns-clause-value
+returns-clause-value t c =
     let s = c.args.self.now in
     let cs = c.children-child-items.result.now in
     let none : forest s (drop c.loop-child.child-index cs) ≡ no_trees = ap (forest s) (drop_all c.loop-child.child-index cs (omega arith)) in
     measured_all c.loop-child.all (forest s (drop c.loop-child.child-index cs)) (below s c.args.parent) none c.loop-child.invariant
+
+pub returns-clause-few : goal.returns-clause-few
+returns-clause-few t c =
+    let s = c.args.self.now in
+    few_measured c.loop-child.all (forest s (drop c.loop-child.child-index c.children-child-items.result.now)) (below s c.args.parent) c.loop-child.invariant

@@ -1,0 +1,4 @@
+//! The numbered statements of files that conform.
+#![tactic(auto)]
+
+pub mod laws;
