@@ -1,0 +1,9 @@
+pub mod Giving
+pub mod Meaning
+pub mod Ordering
+pub mod Refining
+pub mod Rounding
+pub mod Sample
+pub mod Unique
+pub mod Leaving
+pub mod Nothing

@@ -1,0 +1,15 @@
+pub mod Order
+pub mod Shows
+pub mod Blocks
+pub mod Frames
+pub mod Comes
+pub mod Turning
+pub mod Laid
+pub mod Entering
+pub mod Refining
+pub mod Rounds
+pub mod Trees
+pub mod Expanding
+pub mod Telling
+pub mod Marks
+pub mod Starting

@@ -1,0 +1,93 @@
+//! Laws about the definitions only. These functions do nothing: the contract of each is the law.
+ghost use Rattle.std.specs.Prelude.{◌≡◌, ◌≤◌, ℕ, Bool, List, Option, false, length};
+ghost use Rattle.yv_rows.specs.Files.{Briefs, Files};
+ghost use Rattle.yv_rows.specs.Rows.{Row};
+ghost use Rattle.yv_expansion.specs.Tree.{Item};
+ghost use Rattle.yv_augments.specs.declared.label.Label.{Label};
+ghost use Rattle.yv_augmented.specs.Spots.{Whole};
+ghost use Rattle.yv_shown_tree.specs.Entering.{BlockKeeps, BlockShows, SpotsEnter};
+ghost use Rattle.yv_shown_tree.specs.Expanding.{ExpansionLies, PlacedIsTold};
+ghost use Rattle.yv_shown_tree.specs.Marks.{BlocksAreMarked};
+ghost use Rattle.yv_shown_tree.specs.Refining.{RefineChanges, RefineMisses};
+ghost use Rattle.yv_shown_tree.specs.Rounds.{RoundAdds, RoundMisses, RoundTakes, RoundWaits};
+ghost use Rattle.yv_shown_tree.specs.Shows.{AreLabels, Items};
+ghost use Rattle.yv_shown_tree.specs.Starting.{StartShows};
+ghost use Rattle.yv_shown_tree.specs.Telling.{ExpansionsHaveStatements, LabelsTell, PathsAgree};
+ghost use Rattle.yv_shown_tree.specs.Trees.{TreeShows};
+ghost use Rattle.yv_shown_tree.specs.Turning.{TurnAdds, TurnMisses};
+
+/// What an augment of a uses gives comes to stand, in its turn, behind what the node has to which its path leads; where the path leads to
+/// no such node nothing moves (RFC 7950, section 7.17).
+pub fn a_turn_adds_to_its_target()
+    ensures adds { (labels : List Label) (its : Items) (mark : ℕ → Bool) → AreLabels labels its → TurnAdds labels its mark }
+    ensures misses { (labels : List Label) (its : Items) (mark : ℕ → Bool) → AreLabels labels its → TurnMisses labels its mark }
+{}
+
+/// When the items of a block enter, with the turns of the augments of its uses, nothing else changes.
+pub fn a_block_leaves_the_rest()
+    ensures { (labels : List Label) → BlockKeeps labels }
+{}
+
+/// When the items of a block have entered they show what the block gives (RFC 7950, sections 7.12 to 7.17).
+pub fn a_block_shows_what_it_gives()
+    ensures { (labels : List Label) (its : Items) (mark : ℕ → Bool) → AreLabels labels its → ((x : ℕ) → x ≤ length labels → mark x ≡ false)
+        → BlockShows labels its mark }
+{}
+
+/// The items of an expansion lie in blocks as they are laid, one behind the other: a uses above its copies and what its augments give
+/// (RFC 7950, sections 7.12 to 7.17).
+pub fn an_expansion_lies_in_blocks()
+    ensures { (w : Whole) (labels : List Label) → ExpansionLies w labels }
+{}
+
+/// Items that lie in a block enter as the block does, and of a spot no more is asked than what is told of it.
+pub fn what_lies_in_a_block_enters_so()
+    ensures told { (w : Whole) (labels : List Label) → PlacedIsTold w labels }
+    ensures enters { (labels : List Label) → SpotsEnter labels }
+{}
+
+/// Each item of an expansion is made of a statement that is there. Labels tell of the items what the nodes do that they show. A path by
+/// numbers names the nodes that the path by steps does, where no more statements are than `yv_rows` reads (RFC 7950, section 6.5).
+pub fn what_is_told_of_items_is_so()
+    ensures statements { (files : Briefs) (rows : List Row) → ExpansionsHaveStatements files rows }
+    ensures labels { (w : Whole) (items : List Item) (its : Items) → LabelsTell w items its }
+    ensures paths { (files : Files) (augments : List ℕ) (count : ℕ) (items : List Item) (its : Items) → PathsAgree files augments count items its }
+{}
+
+/// In a block of an expansion an augment of a module gives all items of a group or none, so that the first of a name is the first also
+/// of those that stand before a limit.
+pub fn groups_of_blocks_have_one_mark()
+    ensures { (w : Whole) (items : List Item) → BlocksAreMarked w items }
+{}
+
+/// All of this together: what statements expand to, laid and placed, shows at the top what its block gives, where no augment of a module
+/// gives any of it.
+pub fn an_expansion_shows_what_it_gives()
+    ensures { (w : Whole) → StartShows w }
+{}
+
+/// A refine means the item that shows the node to which its path leads, and no item where its path leads to no node (RFC 7950,
+/// section 7.13.2).
+pub fn a_refine_means_the_node_of_its_path()
+    ensures changes { (labels : List Label) (its : Items) → AreLabels labels its → RefineChanges labels its }
+    ensures misses { (labels : List Label) (its : Items) → AreLabels labels its → RefineMisses labels its }
+{}
+
+/// What an augment of a module gives comes to stand, in its turn, behind what its target has, but before what later augments gave,
+/// in whichever round that is (RFC 7950, section 7.17).
+pub fn a_round_adds_to_its_target()
+    ensures { (labels : List Label) (its : Items) (giver_of : ℕ → Option ℕ) → AreLabels labels its → RoundAdds labels its giver_of }
+{}
+
+/// An augment of a module whose path leads nowhere waits on. One whose path leads to some end is applied; where that is no node to which
+/// it may add, nothing moves (RFC 7950, section 7.17).
+pub fn a_round_takes_what_leads_somewhere()
+    ensures waits { (labels : List Label) (its : Items) → AreLabels labels its → RoundWaits labels its }
+    ensures takes { (labels : List Label) (its : Items) → AreLabels labels its → RoundTakes labels its }
+    ensures misses { (labels : List Label) (its : Items) → AreLabels labels its → RoundMisses labels its }
+{}
+
+/// What the items at the top show, with all that stands below, is what the final tree by number shows.
+pub fn the_final_tree_shows_the_same()
+    ensures { (labels : List Label) (its : Items) → AreLabels labels its → TreeShows labels its }
+{}
