@@ -5,6 +5,7 @@ ghost use Rattle.std.specs.Option.{option_map};
 ghost use Rattle.yv_nodes.specs.Member.{behind};
 ghost use Rattle.yv_validate.specs.Line.{escaped, escaped_byte, hexadecimal, is_plain, item_text, line_text, path_text, place_text, places_text};
 ghost use Rattle.yv_references.specs.Place.{called};
+ghost use Rattle.yv_validate.specs.Part.{part_of};
 ghost use Rattle.yv_streams.specs.Stream.{has_failed, stream_failures, stream_inner, FailsOnceAtMost};
 ghost use Rattle.yv_fault_lines.specs.Paged.{Adds, held};
 ghost use Rattle.yv_fault_lines.specs.Lines.{ended_line, fault_lines, faults_text};
@@ -14,7 +15,7 @@ use crate::page::Page;
 use itoa::Buffer;
 use std::io::Write;
 use yv_streams::Counted;
-use yv_validate::{Fault, MemberName, Step};
+use yv_validate::{Fault, MemberName, Part, PathSteps};
 
 /// Writes the lines of faults and how many they are, and answers whether all was taken. It takes no memory, however much text that is.
 pub fn write_faults<W: Write>(writer: &mut Counted<W>, faults: &[Fault]) -> bool
@@ -67,7 +68,7 @@ fn put_whole_line<W: Write>(page: &mut Page, writer: &mut Counted<W>, fault: &Fa
 {
     page.put(writer, fault.kind.name().as_bytes());
     page.put(writer, b" ");
-    put_path(page, writer, fault.path.as_slice());
+    put_path(page, writer, &fault.path.steps());
     put_number(page, writer, fault.number);
     page.put(writer, b"\n");
 }
@@ -83,7 +84,7 @@ fn put_number<W: Write>(page: &mut Page, writer: &mut Counted<W>, number: u32)
     }
 }
 
-fn put_path<W: Write>(page: &mut Page, writer: &mut Counted<W>, path: &[Step])
+fn put_path<W: Write>(page: &mut Page, writer: &mut Counted<W>, path: &PathSteps<'_>)
     ensures { Adds (path_text path.now) (held (W.contents (stream_inner writer.old)) (has_failed writer.old) (stream_failures writer.old) page.old)
         (held (W.contents (stream_inner writer.new)) (has_failed writer.new) (stream_failures writer.new) page.new) }
 {
@@ -94,21 +95,23 @@ fn put_path<W: Write>(page: &mut Page, writer: &mut Counted<W>, path: &[Step])
     }
 }
 
-fn put_steps<W: Write>(page: &mut Page, writer: &mut Counted<W>, path: &[Step])
+// The calls nest as deep as the path is long.
+fn put_steps<W: Write>(page: &mut Page, writer: &mut Counted<W>, path: &PathSteps<'_>)
     ensures { Adds (places_text path.now) (held (W.contents (stream_inner writer.old)) (has_failed writer.old) (stream_failures writer.old) page.old)
         (held (W.contents (stream_inner writer.new)) (has_failed writer.new) (stream_failures writer.new) page.new) }
 {
-    for step in path {
-        put_step(page, writer, step);
+    if let Some((last, before)) = path.split_last() {
+        put_steps(page, writer, &before);
+        put_step(page, writer, &last);
     }
 }
 
-fn put_step<W: Write>(page: &mut Page, writer: &mut Counted<W>, step: &Step)
-    ensures { Adds (place_text step.now) (held (W.contents (stream_inner writer.old)) (has_failed writer.old) (stream_failures writer.old) page.old)
+fn put_step<W: Write>(page: &mut Page, writer: &mut Counted<W>, step: &Part<'_>)
+    ensures { Adds (place_text (part_of step.now)) (held (W.contents (stream_inner writer.old)) (has_failed writer.old) (stream_failures writer.old) page.old)
         (held (W.contents (stream_inner writer.new)) (has_failed writer.new) (stream_failures writer.new) page.new) }
 {
     page.put(writer, b"/");
-    put_name(page, writer, &step.parts());
+    put_name(page, writer, &step.name);
     put_item(page, writer, step.item);
 }
 

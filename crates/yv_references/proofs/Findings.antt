@@ -1,19 +1,18 @@
 -- What a walk finds, by one thing that is met after another.
-use Rattle.std.proofs.Common.{◌≡◌, ℕ, ◌+◌, ◌-◌, ◌⊎◌, inl, inr, List, [], ◌∷◌, ◌++◌, length, Bool, true, false, Option, refl, sym, ap, subst, ◌∙◌, append_assoc, append-nil, arith}
-use Rattle.std.specs.List.{flat_map, slice_set}
+use Rattle.std.proofs.Common.{◌≡◌, ℕ, ◌+◌, ◌-◌, ◌⊎◌, inl, inr, List, [], ◌∷◌, ◌++◌, length, Option, refl, sym, ap, subst, ◌∙◌, append_assoc, append-nil, arith}
+use Rattle.std.specs.List.{slice_set}
 use Rattle.std.proofs.Math.Seq.{set-append_seam}
 use Rattle.std.proofs.lemmas.Grind.{flat_map-append}
 use Rattle.serde_json.specs.Data.{Members, object}
 use Rattle.yv_values.specs.Values.{Val}
 use Rattle.yv_nodes.specs.Link.{is_target, Link, link_in}
 use Rattle.yv_nodes.specs.Rows.{Rows}
-use Rattle.yv_nodes.specs.Tree.{Forest, Label}
+use Rattle.yv_nodes.specs.Tree.{Forest}
 use Rattle.yv_nodes.specs.declared.node.NodeId.{NodeId}
-use Rattle.yv_references.specs.Findings.{ended, Findings, Finds, first_of, Gains, Indexes, IsKept, Kept, kept_if, kept_in, kept_of, met_in, Noted, notes_at, notes_in, only_kept, opened, Position, position_at, positions_at, positions_in, second_of, value_notes, with_last}
-use Rattle.yv_references.specs.InUse.{in_use, some_value, value_of}
+use Rattle.yv_references.specs.Findings.{ended, Findings, Finds, first_of, Gains, Indexes, IsKept, IsUsed, Kept, kept_at, kept_if, kept_in, met_in, Noted, notes_at, notes_in, only_used, opened, Position, position_at, positions_at, positions_in, second_of, Spreads, Used, used_at, used_if, used_in, Uses, value_notes, with_last}
+use Rattle.yv_references.specs.InUse.{in_use, value_of}
 use Rattle.yv_references.specs.Meetings.{entered, found_of, Meeting, stand, written, met, Node, Spot, Written}
 use Rattle.yv_references.specs.References.{number_of}
-use Rattle.yv_references.specs.Values.{Valued, valued, values_at, values_in}
 use Rattle.yv_references.proofs.Answered.{from_head, join_length, move, positions_length}
 
 kept_left : (xs ys : List Kept) (n : ℕ) (v : Val) (p : ℕ) → IsKept xs n v p → IsKept (xs ++ ys) n v p
@@ -29,6 +28,20 @@ kept_split : (xs ys : List Kept) (n : ℕ) (v : Val) (p : ℕ) → IsKept (xs ++
 kept_split [] ys n v p h = inr h
 kept_split (x ∷ xs) ys n v p (inl e) = inl (inl e)
 kept_split (x ∷ xs) ys n v p (inr h) = elim (kept_split xs ys n v p h) [ inl a ↦ inl (inr a) | inr b ↦ inr b ]
+
+used_left : (xs ys : List Used) (n p : ℕ) → IsUsed xs n p → IsUsed (xs ++ ys) n p
+used_left [] ys n p h = absurd h
+used_left (x ∷ xs) ys n p (inl e) = inl e
+used_left (x ∷ xs) ys n p (inr h) = inr (used_left xs ys n p h)
+
+used_right : (xs ys : List Used) (n p : ℕ) → IsUsed ys n p → IsUsed (xs ++ ys) n p
+used_right [] ys n p h = h
+used_right (x ∷ xs) ys n p h = inr (used_right xs ys n p h)
+
+used_split : (xs ys : List Used) (n p : ℕ) → IsUsed (xs ++ ys) n p → IsUsed xs n p ⊎ IsUsed ys n p
+used_split [] ys n p h = inr h
+used_split (x ∷ xs) ys n p (inl e) = inl (inl e)
+used_split (x ∷ xs) ys n p (inr h) = elim (used_split xs ys n p h) [ inl a ↦ inl (inr a) | inr b ↦ inr b ]
 
 gains_none : (is : Indexes) → Gains is is []
 gains_none is = record { each = λ n v p. (λ h. inl h, λ h. elim h [ inl a ↦ a | inr b ↦ absurd b ]) }
@@ -47,19 +60,34 @@ gains_more a b c xs ys g h = record {
   );
 }
 
-pub nothing_met : (s : Rows) (a : Findings) → Finds a a (met_in s [])
-nothing_met s a = record { indexes = gains_none a.indexes; positions = sym (append-nil a.positions); notes = sym (append-nil a.notes) }
+spreads_none : (us : Uses) → Spreads us us []
+spreads_none us = record { each = λ n p. (λ h. inl h, λ h. elim h [ inl a ↦ a | inr b ↦ absurd b ]) }
 
-kept_append : (is_target : ℕ → Bool) (xs ys : List Meeting) → kept_in is_target (xs ++ ys) ≡ kept_in is_target xs ++ kept_in is_target ys
-kept_append is_target xs ys =
-    ap (λ (vs : List Valued). flat_map (kept_of is_target) vs) (flat_map-append values_at xs ys) ∙ flat_map-append (kept_of is_target) (values_in xs) (values_in ys)
+spreads_more : (a b c : Uses) (xs ys : List Used) → Spreads a b xs → Spreads b c ys → Spreads a c (xs ++ ys)
+spreads_more a b c xs ys g h = record {
+  each = λ n p. (
+    λ k. elim ((h.each n p).0 k) [
+      | inl m ↦ elim ((g.each n p).0 m) [ inl o ↦ inl o | inr o ↦ inr (used_left xs ys n p o) ]
+      | inr m ↦ inr (used_right xs ys n p m)
+    ],
+    λ k. elim k [
+      | inl o ↦ (h.each n p).1 (inl ((g.each n p).1 (inl o)))
+      | inr m ↦ elim (used_split xs ys n p m) [ inl o ↦ (h.each n p).1 (inl ((g.each n p).1 (inr o))) | inr o ↦ (h.each n p).1 (inr o) ]
+    ],
+  );
+}
+
+pub nothing_met : (s : Rows) (a : Findings) → Finds a a (met_in s [])
+nothing_met s a = record { indexes = gains_none a.indexes; uses = spreads_none a.uses; positions = sym (append-nil a.positions); notes = sym (append-nil a.notes) }
 
 pub met_behind : (s : Rows) (a b c : Findings) (xs ys : List Meeting) → Finds a b (met_in s xs) → Finds b c (met_in s ys) → Finds a c (met_in s (xs ++ ys))
 met_behind s a b c xs ys g h =
     let links = link_in s.links in
     record {
-      indexes = subst (λ (ks : List Kept). Gains a.indexes c.indexes ks) (sym (kept_append (is_target s.links) xs ys))
+      indexes = subst (λ (ks : List Kept). Gains a.indexes c.indexes ks) (sym (flat_map-append (kept_at (is_target s.links)) xs ys))
           (gains_more a.indexes b.indexes c.indexes (kept_in (is_target s.links) xs) (kept_in (is_target s.links) ys) g.indexes h.indexes);
+      uses = subst (λ (us : List Used). Spreads a.uses c.uses us) (sym (flat_map-append (used_at (is_target s.links)) xs ys))
+          (spreads_more a.uses b.uses c.uses (used_in (is_target s.links) xs) (used_in (is_target s.links) ys) g.uses h.uses);
       positions = h.positions ∙ ap (λ x. x ++ positions_in ys) g.positions ∙ append_assoc a.positions (positions_in xs) (positions_in ys)
           ∙ ap (λ x. a.positions ++ x) (sym (flat_map-append positions_at xs ys));
       notes = h.notes ∙ ap (λ x. x ++ notes_in links ys) g.notes ∙ append_assoc a.notes (notes_in links xs) (notes_in links ys)
@@ -68,58 +96,38 @@ met_behind s a b c xs ys g h =
 
 -- ---- one thing that is met
 
-kept_nothing : (b : Bool) (n here : ℕ) → kept_if b n here [] ≡ []
-kept_nothing true n here = refl
-kept_nothing false n here = refl
-
-kept_first : (b : Bool) (n here : ℕ) (v : Val) (vs : List Val) → kept_if b n here (v ∷ []) ++ kept_if b n here vs ≡ kept_if b n here (v ∷ vs)
-kept_first true n here v vs = refl
-kept_first false n here v vs = refl
-
--- values of one node at one spot
-valued_kept : (is_target : ℕ → Bool) (n : NodeId) (l : Label) (spot : Spot) (vs : List Val)
-    → flat_map (kept_of is_target) (valued n l spot vs) ≡ kept_if (is_target n.0) n.0 (first_of spot.around) vs
-valued_kept is_target n l spot [] = sym (kept_nothing (is_target n.0) n.0 (first_of spot.around))
-valued_kept is_target n l spot (v ∷ vs) =
-    ap (λ (ks : List Kept). kept_if (is_target n.0) n.0 (first_of spot.around) (v ∷ []) ++ ks) (valued_kept is_target n l spot vs)
-    ∙ kept_first (is_target n.0) n.0 (first_of spot.around) v vs
-
-one_kept : (is_target : ℕ → Bool) (m : Meeting) (n : NodeId) (l : Label) (spot : Spot) (vs : List Val) → values_at m ≡ valued n l spot vs
-    → kept_in is_target (m ∷ []) ≡ kept_if (is_target n.0) n.0 (first_of spot.around) vs
-one_kept is_target m n l spot vs e =
-    ap (λ (xs : List Valued). flat_map (kept_of is_target) xs) (append-nil (values_at m) ∙ e) ∙ valued_kept is_target n l spot vs
-
 pub value_met : (s : Rows) (m : Written) (v : Option Val) → value_of m.label m.found ≡ v → met_in s (written m ∷ [])
     ≡ record {
-      kept = kept_if (is_target s.links m.node.0) m.node.0 (first_of m.spot.around) (some_value v);
+      kept = kept_if (is_target s.links m.node.0) m.node.0 (first_of m.spot.around) v;
+      used = [];
       positions = [];
       notes = value_notes (link_in s.links m.node.0) (first_of m.spot.around) m.node.0 (number_of m.before) v;
     }
 value_met s m v e =
     let here : ℕ = first_of m.spot.around in
     let link : Option Link = link_in s.links m.node.0 in
-    ap (λ (ks : List Kept). record { kept = ks; positions = []; notes = notes_in (link_in s.links) (written m ∷ []) })
-    (one_kept (is_target s.links) (written m) m.node m.label m.spot (some_value v) (ap (λ (x : Option Val). valued m.node m.label m.spot (some_value x)) e))
-    ∙ ap (λ (ns : List Noted). record { kept = kept_if (is_target s.links m.node.0) m.node.0 here (some_value v); positions = []; notes = ns })
+    ap (λ (ks : List Kept). record { kept = ks; used = []; positions = []; notes = notes_in (link_in s.links) (written m ∷ []) })
+    (append-nil (kept_at (is_target s.links) (written m)) ∙ ap (λ (x : Option Val). kept_if (is_target s.links m.node.0) m.node.0 here x) e)
+    ∙ ap (λ (ns : List Noted). record { kept = kept_if (is_target s.links m.node.0) m.node.0 here v; used = []; positions = []; notes = ns })
     (append-nil (notes_at (link_in s.links) (written m)) ∙ ap (λ (x : Option Val). value_notes link here m.node.0 (number_of m.before) x) e)
 
 pub default_met : (s : Rows) (m : Node) → met_in s (met m ∷ [])
-    ≡ only_kept (kept_if (is_target s.links m.node.0) m.node.0 (first_of m.spot.around) (in_use m.label.defined.kind m.label m.scope (found_of m)))
-default_met s m =
-    ap only_kept (one_kept (is_target s.links) (met m) m.node m.label m.spot (in_use m.label.defined.kind m.label m.scope (found_of m)) refl)
+    ≡ only_used (used_if (is_target s.links m.node.0) m.node.0 (first_of m.spot.around) (in_use m.label.defined.kind m.label m.scope (found_of m)))
+default_met s m = ap only_used (append-nil (used_at (is_target s.links) (met m)))
 
 -- ---- an object that is entered, walked over and left
 
 pub object_met : (s : Rows) (a b c d : Findings) (n : NodeId) (item : Option ℕ) (spot : Spot) (ts : Forest) (ms : Members) (inside : List Meeting)
-    → b.positions ≡ a.positions ++ opened (second_of spot.around) n.0 item ∷ [] → b.indexes ≡ a.indexes → b.notes ≡ a.notes
+    → b.positions ≡ a.positions ++ opened (second_of spot.around) n.0 item ∷ [] → b.indexes ≡ a.indexes → b.uses ≡ a.uses → b.notes ≡ a.notes
     → Finds b c (met_in s inside)
-    → d.positions ≡ ended c.positions (length a.positions) → d.indexes ≡ c.indexes → d.notes ≡ c.notes
+    → d.positions ≡ ended c.positions (length a.positions) → d.indexes ≡ c.indexes → d.uses ≡ c.uses → d.notes ≡ c.notes
     → Finds a d (met_in s (stand (record { node = n; item = item; spot = spot; last = length a.positions + entered inside; trees = ts; found = object ms }) ∷ inside))
-object_met s a b c d n item spot ts ms inside entering same_indexes same_notes h leaving last_indexes last_notes =
+object_met s a b c d n item spot ts ms inside entering same_indexes same_uses same_notes h leaving last_indexes last_uses last_notes =
     let k = length a.positions in
     let own : Position = opened (second_of spot.around) n.0 item in
     let ps : List Position = positions_in inside in
     let ks : List Kept = kept_in (is_target s.links) inside in
+    let us : List Used = used_in (is_target s.links) inside in
     let all : c.positions ≡ a.positions ++ own ∷ ps = h.positions ∙ ap (λ xs. xs ++ ps) entering ∙ move a.positions ps own in
     let many : length ps ≡ entered inside = positions_length inside in
     let size : length (a.positions ++ own ∷ ps) ≡ k + (1 + entered inside) = join_length a.positions (own ∷ ps) k (1 + entered inside) refl (omega (arith, many)) in
@@ -127,6 +135,7 @@ object_met s a b c d n item spot ts ms inside entering same_indexes same_notes h
     let here : position_at (a.positions ++ own ∷ ps) k ≡ own = from_head a.positions ps own k refl in
     record {
       indexes = subst (λ x. Gains x d.indexes ks) same_indexes (subst (λ x. Gains b.indexes x ks) (sym last_indexes) h.indexes);
+      uses = subst (λ x. Spreads x d.uses us) same_uses (subst (λ x. Spreads b.uses x us) (sym last_uses) h.uses);
       positions = leaving ∙ ap (λ (xs : List Position). ended xs k) all
           ∙ ap (λ (o : Position). slice_set (a.positions ++ own ∷ ps) k (with_last o (length (a.positions ++ own ∷ ps) - 1))) here
           ∙ ap (λ (j : ℕ). slice_set (a.positions ++ own ∷ ps) k (with_last own j)) last

@@ -4,7 +4,7 @@ pub mod Placed
 pub mod Answered
 pub mod Counted
 pub mod Marked
-pub mod Same
+pub mod Kept
 pub mod Judged
 pub mod Told
 pub mod Findings

@@ -246,7 +246,7 @@ values_here : (P : Valued → Type 0) (s : Rows) (spot : Spot) (m : Meeting) →
 values_here P s spot (stand m) p f = tt
 values_here P s spot (written m) p f = all_valued P m.node m.label m.spot _ (λ v e. f v (e ∙ p.0))
 values_here P s spot (ending m) p f = tt
-values_here P s spot (met m) p f = all_valued P m.node m.label m.spot _ (λ v e. f v (e ∙ p))
+values_here P s spot (met m) p f = all_valued P m.node m.label m.spot _ (λ v e. f v (e ∙ p.0))
 
 plain_placed : (s : Rows) (spot : Spot) (next : ℕ) (m : Meeting) → IsPlain s spot m → Placed spot next (m ∷ [])
 plain_placed s spot next m p b =

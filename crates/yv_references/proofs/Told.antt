@@ -1,5 +1,5 @@
 -- What is reported of a whole document.
-use Rattle.std.proofs.Common.{◌≡◌, ℕ, ◌+◌, List, ap, ◌∙◌}
+use Rattle.std.proofs.Common.{◌≡◌, ℕ, ◌+◌, List, ap, arith, ◌∙◌}
 use Rattle.std.specs.List.{sum_by}
 use Rattle.serde_json.specs.Data.{Members, object}
 use Rattle.yv_selection.specs.declared.kind.Kind.{Kind}
@@ -7,20 +7,20 @@ use Rattle.yv_values.specs.Count.{counted}
 use Rattle.yv_nodes.specs.Link.{is_target, link_in}
 use Rattle.yv_nodes.specs.Numbers.{rows_from}
 use Rattle.yv_nodes.specs.Rows.{Rows, whole}
-use Rattle.yv_references.specs.Findings.{Findings, HasMet, Kept, kept_in, Noted, Position, positions_in}
-use Rattle.yv_references.specs.InnerAnswers.{asked, judged}
+use Rattle.yv_references.specs.Findings.{Findings, HasMet, Noted, Position, positions_in}
+use Rattle.yv_references.specs.InnerAnswers.{asked, judged, Marks}
 use Rattle.yv_references.specs.Meetings.{all_met, Meeting}
 use Rattle.yv_references.specs.References.{all_references, lookups_at}
-use Rattle.yv_references.proofs.Answered.{all_answered}
+use Rattle.yv_references.proofs.Answered.{all_answered, marks_in}
 use Rattle.yv_references.proofs.Counted.{all_asked}
 use Rattle.yv_references.proofs.Marked.{are_targets}
 use Rattle.yv_references.proofs.Rowed.{all_rows}
 
 pub told : (k : Kind) (s : Rows) (ms : Members) (found : Findings) → s.nodes ≡ rows_from 0 (whole s) → HasMet k s ms found
-    → judged s (link_in s.links) (kept_in (is_target s.links) (all_met k s (object ms))) found.positions found.notes ≡ all_references k s (object ms)
+    → judged s (link_in s.links) (marks_in (is_target s.links) (all_met k s (object ms))) found.positions found.notes ≡ all_references k s (object ms)
 told k s ms found rows met =
     let all : List Meeting = all_met k s (object ms) in
-    let ks : List Kept = kept_in (is_target s.links) all in
+    let ks : Marks = marks_in (is_target s.links) all in
     ap (λ (ps : List Position). judged s (link_in s.links) ks ps found.notes) met.positions
     ∙ ap (λ (ns : List Noted). judged s (link_in s.links) ks (positions_in all) ns) met.notes
     ∙ all_answered k s (link_in s.links) (is_target s.links) ms (all_rows s rows) (are_targets s.links)
@@ -30,3 +30,7 @@ pub shown : (k : Kind) (s : Rows) (ms : Members) (found : Findings) (first now :
 shown k s ms found first now met e =
     e ∙ ap (λ (n : ℕ). counted (first + n))
     (ap (λ (ns : List Noted). asked (link_in s.links) ns) met.notes ∙ all_asked (link_in s.links) (all_met k s (object ms)))
+
+-- steps that were counted apart
+pub added : (first start own more now n : ℕ) → start ≡ 0 → counted own ≡ counted (start + n) → more ≡ own → now ≡ counted (first + more) → counted now ≡ counted (first + n)
+added first start own more now n e f g h = omega (arith, e, f, g, h)

@@ -24,12 +24,12 @@ IsUnwritten _ = Unit {0}
 abbrev pub AreUnwritten : List Meeting → Type 0
 AreUnwritten ms = AllByRecursion IsUnwritten ms
 
--- it is met at this spot, and enters no object; a value is one of the node of its number
+-- it is met at this spot, and enters no object; a node and a value are of the row of their number
 abbrev pub IsPlain : Rows → Spot → Meeting → Type 0
 IsPlain s spot (stand m) = is_entered m.found ≡ 0
 IsPlain s spot (written m) = (m.spot ≡ spot) × ((row_at s m.node).label ≡ m.label)
 IsPlain s spot (ending m) = Unit {0}
-IsPlain s spot (met m) = m.spot ≡ spot
+IsPlain s spot (met m) = (m.spot ≡ spot) × ((row_at s m.node).label ≡ m.label)
 
 -- an object that is entered, of the node n, with the number next
 abbrev pub entered_stand : NodeId → Option ℕ → Forest → Spot → ℕ → Members → List Meeting → Meeting
@@ -173,5 +173,5 @@ walk_holds k s P h scope_of spot next first (tree (node l kids) ts) ms rows =
     h.both spot next (node_met m l kids spot scope next ms below) _
     (if_holds s P spot next (is_operation l.defined.kind) (here ++ met own ∷ []) h
     (h.both spot next here (met own ∷ [])
-    (if_holds s P spot next left inward h (kind_holds s P l.defined.kind m l kids spot scope next (get_member l.member ms) below rows.0 inner)) (h.plain spot _ (met own) refl)))
+    (if_holds s P spot next left inward h (kind_holds s P l.defined.kind m l kids spot scope next (get_member l.member ms) below rows.0 inner)) (h.plain spot _ (met own) (refl, rows.0))))
     (walk_holds k s P h scope_of spot (next + entered (node_met m l kids spot scope next ms below)) (first + 1 + count kids) ts ms rows.2)

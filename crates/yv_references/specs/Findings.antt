@@ -1,5 +1,5 @@
--- What a walk keeps of what it meets, so that references can be looked up behind it: the values of targets, the objects that it entered, and
--- the values of leafrefs.
+-- What a walk keeps of what it meets, so that references can be looked up behind it: the values of targets, where their defaults are in use,
+-- the objects that it entered, and the values of leafrefs.
 use Rattle.std.specs.Prelude.{◌≡◌, ℕ, ◌-◌, ◌⊎◌, ◌↔◌, List, [], ◌∷◌, ◌++◌, length, Bool, Option, Some, None, if◌then◌else◌}
 use Rattle.std.specs.BTreeMap.{is_at}
 use Rattle.std.specs.List.{flat_map, slice_index_or, slice_set}
@@ -8,20 +8,25 @@ use Rattle.std.specs.Ordering.{nat_cmp}
 use Rattle.serde_json.specs.Data.{Data, object, Members}
 use Rattle.yv_selection.specs.declared.kind.Kind.{Kind}
 use Rattle.yv_values.specs.Pairs.{Keeps, Pair}
+use Rattle.yv_values.specs.Places.{IsPlace}
 use Rattle.yv_values.specs.Values.{Val}
 use Rattle.yv_nodes.specs.Link.{is_target, Link, link_in}
 use Rattle.yv_nodes.specs.Rows.{Rows}
-use Rattle.yv_references.specs.InUse.{value_of}
-use Rattle.yv_references.specs.Meetings.{all_met, Meeting, stand, written, Stand}
+use Rattle.yv_references.specs.InUse.{in_use, value_of}
+use Rattle.yv_references.specs.Meetings.{all_met, found_of, Meeting, stand, written, met, Stand}
 use Rattle.yv_references.specs.References.{number_of}
-use Rattle.yv_references.specs.Values.{Valued, values_in}
 
 -- ---- what is kept
 
--- a target's value, and the number of the object where it is or its default is in use
+-- a target's value, and the number of the object where it is
 pub record Kept : Type 0 where
   pub target : ℕ
   pub value : Val
+  pub place : ℕ
+
+-- a target, and the number of the object where its defaults are in use: all of them together
+pub record Used : Type 0 where
+  pub target : ℕ
   pub place : ℕ
 
 -- an object that was entered: the number of the one around it, its node, its number from 1 where it is an entry, and the number of the
@@ -41,6 +46,7 @@ pub record Noted : Type 0 where
 
 pub record Met : Type 0 where
   pub kept : List Kept
+  pub used : List Used
   pub positions : List Position
   pub notes : List Noted
 
@@ -55,19 +61,34 @@ abbrev pub second_of : List ℕ → ℕ
 second_of [] = 0
 second_of (n ∷ ns) = first_of ns
 
-abbrev pub kept_at : ℕ → ℕ → List Val → List Kept
-kept_at n here [] = []
-kept_at n here (v ∷ vs) = record { target = n; value = v; place = here } ∷ kept_at n here vs
+-- a value of a target
+abbrev pub kept_if : Bool → (n here : ℕ) → Option Val → List Kept
+kept_if is_target n here None = []
+kept_if is_target n here (Some v) = if is_target then record { target = n; value = v; place = here } ∷ [] else []
 
--- values of a target
-abbrev pub kept_if : Bool → ℕ → ℕ → List Val → List Kept
-kept_if is_target n here vs = if is_target then kept_at n here vs else []
-
-abbrev pub kept_of : (is_target : ℕ → Bool) → Valued → List Kept
-kept_of is_target v = kept_if (is_target v.node) v.node (first_of v.spot.around) (v.value ∷ [])
+abbrev pub kept_at : (is_target : ℕ → Bool) → Meeting → List Kept
+kept_at is_target (written m) = kept_if (is_target m.node.0) m.node.0 (first_of m.spot.around) (value_of m.label m.found)
+kept_at is_target _ = []
 
 abbrev pub kept_in : (is_target : ℕ → Bool) → List Meeting → List Kept
-kept_in is_target ms = flat_map (kept_of is_target) (values_in ms)
+kept_in is_target ms = flat_map (kept_at is_target) ms
+
+-- the defaults of a target, which are in use together
+abbrev pub use_if : Bool → (n here : ℕ) → List Used
+use_if is_target n here = if is_target then record { target = n; place = here } ∷ [] else []
+
+-- these defaults, if there are any
+abbrev pub used_if : Bool → (n here : ℕ) → List Val → List Used
+used_if is_target n here [] = []
+used_if is_target n here (v ∷ vs) = use_if is_target n here
+
+abbrev pub used_at : (is_target : ℕ → Bool) → Meeting → List Used
+used_at is_target (met m) =
+    used_if (is_target m.node.0) m.node.0 (first_of m.spot.around) (in_use m.label.defined.kind m.label m.scope (found_of m))
+used_at is_target _ = []
+
+abbrev pub used_in : (is_target : ℕ → Bool) → List Meeting → List Used
+used_in is_target ms = flat_map (used_at is_target) ms
 
 -- only an object is entered
 abbrev pub position_of : Stand → Data → List Position
@@ -95,14 +116,22 @@ abbrev pub notes_in : (ℕ → Option Link) → List Meeting → List Noted
 notes_in links ms = flat_map (notes_at links) ms
 
 abbrev pub met_in : Rows → List Meeting → Met
-met_in s ms = record { kept = kept_in (is_target s.links) ms; positions = positions_in ms; notes = notes_in (link_in s.links) ms }
+met_in s ms = record {
+  kept = kept_in (is_target s.links) ms;
+  used = used_in (is_target s.links) ms;
+  positions = positions_in ms;
+  notes = notes_in (link_in s.links) ms;
+}
 
--- values of targets alone, and those of leafrefs alone
+-- values of targets alone, defaults of targets alone, and values of leafrefs alone
 abbrev pub only_kept : List Kept → Met
-only_kept ks = record { kept = ks; positions = []; notes = [] }
+only_kept ks = record { kept = ks; used = []; positions = []; notes = [] }
+
+abbrev pub only_used : List Used → Met
+only_used us = record { kept = []; used = us; positions = []; notes = [] }
 
 abbrev pub only_notes : List Noted → Met
-only_notes ns = record { kept = []; positions = []; notes = ns }
+only_notes ns = record { kept = []; used = []; positions = []; notes = ns }
 
 -- ---- what has been found, as it grows
 
@@ -118,15 +147,28 @@ Indexes = List (ℕ × List Pair)
 abbrev pub index_of : Indexes → ℕ → List Pair
 index_of indexes n = pairs_in (lookup (is_at (nat_cmp n)) indexes)
 
--- the indexes, the objects that were entered, and the values of leafrefs
+-- the numbers of objects, where there are any
+abbrev pub places_in : Option (List ℕ) → List ℕ
+places_in None = []
+places_in (Some places) = places
+
+-- the objects in which the defaults of targets are in use, by the targets' numbers
+abbrev pub Uses : Type 0
+Uses = List (ℕ × List ℕ)
+
+abbrev pub places_of : Uses → ℕ → List ℕ
+places_of uses n = places_in (lookup (is_at (nat_cmp n)) uses)
+
+-- the indexes, where defaults are in use, the objects that were entered, and the values of leafrefs
 pub record Findings : Type 0 where
   pub indexes : Indexes
+  pub uses : Uses
   pub positions : List Position
   pub notes : List Noted
 
 -- nothing was found
 abbrev pub none_found : Findings
-none_found = record { indexes = []; positions = []; notes = [] }
+none_found = record { indexes = []; uses = []; positions = []; notes = [] }
 
 -- this value of this target was kept at this place
 abbrev pub IsKept : List Kept → ℕ → Val → ℕ → Type 0
@@ -137,9 +179,19 @@ IsKept (k ∷ ks) n v p = ((k.target ≡ n) × (k.value ≡ v) × (k.place ≡ p
 pub record Gains (old new : Indexes) (more : List Kept) : Type 0 where
   pub each : (n : ℕ) (v : Val) (p : ℕ) → Keeps (index_of new n) (v ∷ []) p ↔ (Keeps (index_of old n) (v ∷ []) p ⊎ IsKept more n v p)
 
+-- the defaults of this target are in use at this place
+abbrev pub IsUsed : List Used → ℕ → ℕ → Type 0
+IsUsed [] n p = ⊥
+IsUsed (u ∷ us) n p = ((u.target ≡ n) × (u.place ≡ p)) ⊎ IsUsed us n p
+
+-- the defaults are in use where they were, and at these places
+pub record Spreads (old new : Uses) (more : List Used) : Type 0 where
+  pub each : (n p : ℕ) → IsPlace (places_of new n) p ↔ (IsPlace (places_of old n) p ⊎ IsUsed more n p)
+
 -- these were met
 pub record Finds (old new : Findings) (more : Met) : Type 0 where
   pub indexes : Gains old.indexes new.indexes more.kept
+  pub uses : Spreads old.uses new.uses more.used
   pub positions : new.positions ≡ old.positions ++ more.positions
   pub notes : new.notes ≡ old.notes ++ more.notes
 

@@ -1,6 +1,6 @@
 -- Which rules hold where a node may be (RFC 7950, sections 7.6.5, 7.7.5 and 7.9.4): those of a case where it exists, and else all;
--- and the values that leafs have there, defaults in use among them (section 7.6.1).
-use Rattle.std.specs.Prelude.{ℕ, ◌==◌, ◌&&◌, Bool, true, false, not, List, [], ◌∷◌, Option, Some, None, slice_get, if◌then◌else◌}
+-- and the values that leafs and leaf-lists have there, defaults in use among them (sections 7.6.1 and 7.7.2).
+use Rattle.std.specs.Prelude.{ℕ, ◌==◌, ◌&&◌, Bool, true, false, not, List, [], ◌∷◌, Option, Some, None, if◌then◌else◌}
 use Rattle.serde_json.specs.Data.{Data, Members}
 use Rattle.yv_properties.specs.declared.kind.NodeKind.{NodeKind}
 use Rattle.yv_properties.specs.declared.kind.NodeKind.TheVariants as kind
@@ -13,7 +13,7 @@ use Rattle.yv_nodes.specs.Defaults.{defaults_of}
 use Rattle.yv_nodes.specs.Rows.{Rows}
 use Rattle.yv_nodes.specs.Tree.{Forest, Label, Tree}
 use Rattle.yv_leaf_targets.specs.Numbers.{default_case_at}
-use Rattle.yv_walk.specs.Standing.{any, any_but, standing, tree_standing}
+use Rattle.yv_walk.specs.Standing.{any, any_but, has_items, standing, tree_standing}
 use Rattle.yv_references.specs.declared.scope.Scope.{Scope}
 use Rattle.yv_references.specs.declared.scope.Scope.TheVariants.{Always, InCase, InDefault, Unasked}
 
@@ -31,7 +31,8 @@ enforces_beside n (InCase those) = any_but n those
 enforces_beside n InDefault = false
 enforces_beside n Unasked = false
 
--- defaults are in use: always, where a node of the case exists, or in the default case where no case of the choice exists (section 7.6.1)
+-- defaults are in use: always, where a node of the case exists, or in the default case where no case of the choice exists (sections 7.6.1
+-- and 7.7.2)
 abbrev pub uses_defaults : Scope → Bool
 uses_defaults Always = true
 uses_defaults (InCase those) = any those
@@ -64,21 +65,18 @@ case_scope s choice first cases ms at t =
 abbrev pub value_of : Label → Data → Option Val
 value_of l d = first_read l.defined.types l.module_name d
 
--- the default of a leaf: a key and a mandatory leaf have none
-abbrev pub default_value : Label → Option Val
-default_value l = slice_get (defaults_of l) 0
-
 -- one value or none
 abbrev pub some_value : Option Val → List Val
 some_value None = []
 some_value (Some v) = v ∷ []
 
--- the default of a leaf is in use where the leaf isn't written
-abbrev pub leaf_in_use : Label → Scope → Option Data → List Val
-leaf_in_use l scope None = if uses_defaults scope then some_value (default_value l) else []
-leaf_in_use l scope (Some d) = []
+-- a leaf isn't written, or a leaf-list has no items: only these have defaults (sections 7.6.1 and 7.7.2)
+abbrev pub is_empty_at : NodeKind → Option Data → Bool
+is_empty_at kind.Leaf None = true
+is_empty_at kind.LeafList None = true
+is_empty_at kind.LeafList (Some d) = not (has_items d)
+is_empty_at _ found = false
 
--- the defaults that are in use of a node for which this is written
+-- the defaults that are in use of a node for which this is written: all of a leaf-list together
 abbrev pub in_use : NodeKind → Label → Scope → Option Data → List Val
-in_use kind.Leaf l scope found = leaf_in_use l scope found
-in_use _ l scope found = []
+in_use k l scope found = if uses_defaults scope && is_empty_at k found then defaults_of l else []

@@ -1,12 +1,13 @@
 -- Only private clauses cite this: what is answered to each value of a leafref, by what a walk has kept.
 use Rattle.std.specs.Prelude.{◌≡◌, ℕ, zero, suc, ◌+◌, ◌-◌, ◌==◌, ◌&&◌, ◌||◌, nat_le, List, [], ◌∷◌, ◌++◌, Bool, true, false, Option, Some, None, if◌then◌else◌}
+use Rattle.yv_values.specs.Same.{is_among, same_value}
 use Rattle.yv_values.specs.Values.{Val}
+use Rattle.yv_nodes.specs.Defaults.{defaults_of}
 use Rattle.yv_nodes.specs.Link.{Link}
 use Rattle.yv_nodes.specs.Rows.{Rows, row_at}
-use Rattle.yv_references.specs.Findings.{Kept, Noted, Position, position_at}
+use Rattle.yv_references.specs.Findings.{Gains, Indexes, Kept, Noted, Position, position_at, Spreads, Used, Uses}
 use Rattle.yv_references.specs.Place.{Place, step_name}
 use Rattle.yv_references.specs.References.{path_unless}
-use Rattle.yv_references.specs.Same.{same_value}
 
 -- the target's value was kept between the two
 abbrev pub is_it : ℕ → Val → ℕ → ℕ → Kept → Bool
@@ -15,6 +16,27 @@ is_it n v first last k = (k.target == n) && same_value v k.value && nat_le first
 abbrev pub is_within : ℕ → Val → ℕ → ℕ → List Kept → Bool
 is_within n v first last [] = false
 is_within n v first last (k ∷ ks) = is_it n v first last k || is_within n v first last ks
+
+-- the target's defaults are in use between the two
+abbrev pub is_here : ℕ → ℕ → ℕ → Used → Bool
+is_here n first last u = (u.target == n) && nat_le first u.place && nat_le u.place last
+
+abbrev pub is_used : ℕ → ℕ → ℕ → List Used → Bool
+is_used n first last [] = false
+is_used n first last (u ∷ us) = is_here n first last u || is_used n first last us
+
+-- what was kept of targets, and where their defaults are in use
+pub record Marks : Type 0 where
+  pub kept : List Kept
+  pub used : List Used
+
+-- the defaults of a node
+abbrev pub defaults_at : Rows → ℕ → List Val
+defaults_at s n = defaults_of (row_at s (record { 0 = n })).label
+
+-- a value of the target between the two is the same, or a default of it that is in use there
+abbrev pub reaches : Rows → Marks → ℕ → Val → ℕ → ℕ → Bool
+reaches s m n v first last = is_within n v first last m.kept || (is_used n first last m.used && is_among v (defaults_at s n))
 
 -- so many objects further out
 abbrev pub further_out : List Position → (many : ℕ) → ℕ → ℕ
@@ -38,18 +60,22 @@ path_to s ps (suc most) n =
 abbrev pub path_of : Rows → List Position → Noted → List Place
 path_of s ps n = path_to s ps n.position n.position ++ place_at s n.node n.item ∷ []
 
-abbrev pub judge_by : Rows → List Kept → List Position → Noted → Option Link → List (List Place)
-judge_by s ks ps n None = []
-judge_by s ks ps n (Some link) =
+abbrev pub judge_by : Rows → Marks → List Position → Noted → Option Link → List (List Place)
+judge_by s m ps n None = []
+judge_by s m ps n (Some link) =
     let from = climbed_to ps link.climbs n.position in
-    path_unless (is_within link.target n.value from (position_at ps from).last ks) (path_of s ps n)
+    path_unless (reaches s m link.target n.value from (position_at ps from).last) (path_of s ps n)
 
-abbrev pub judge : Rows → (ℕ → Option Link) → List Kept → List Position → Noted → List (List Place)
-judge s links ks ps n = judge_by s ks ps n (links n.node)
+abbrev pub judge : Rows → (ℕ → Option Link) → Marks → List Position → Noted → List (List Place)
+judge s links m ps n = judge_by s m ps n (links n.node)
 
-abbrev pub judged : Rows → (ℕ → Option Link) → List Kept → List Position → List Noted → List (List Place)
-judged s links ks ps [] = []
-judged s links ks ps (n ∷ ns) = judge s links ks ps n ++ judged s links ks ps ns
+abbrev pub judged : Rows → (ℕ → Option Link) → Marks → List Position → List Noted → List (List Place)
+judged s links m ps [] = []
+judged s links m ps (n ∷ ns) = judge s links m ps n ++ judged s links m ps ns
+
+-- these indexes and these places, which the walk kept from the start on
+abbrev pub AreMarks : Indexes → Uses → Marks → Type 0
+AreMarks indexes uses m = Gains [] indexes m.kept × Spreads [] uses m.used
 
 -- each node that a link has as its target is one
 abbrev pub AreTargets : (ℕ → Option Link) → (ℕ → Bool) → Type 0

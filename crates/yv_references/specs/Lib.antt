@@ -1,5 +1,4 @@
 pub mod Place
-pub mod Same
 pub mod InUse
 pub mod Meetings
 pub mod Values

@@ -4,13 +4,13 @@ use Rattle.std.specs.List.{flat_map}
 use Rattle.std.specs.declared.alloc.Global.{Global}
 use Rattle.serde_json.specs.Data.{Data}
 use Rattle.yv_selection.specs.declared.kind.Kind.{Kind}
+use Rattle.yv_values.specs.Same.{is_among}
 use Rattle.yv_values.specs.Values.{Val}
 use Rattle.yv_nodes.specs.Link.{climbed, Link, link_in}
 use Rattle.yv_nodes.specs.Rows.{Rows}
 use Rattle.yv_references.specs.InUse.{value_of}
 use Rattle.yv_references.specs.Meetings.{all_met, at, Meeting, written, Spot, Written}
 use Rattle.yv_references.specs.Place.{Place}
-use Rattle.yv_references.specs.Same.{same_value}
 use Rattle.yv_references.specs.Values.{Valued, values_in}
 
 -- the number is one of these
@@ -25,11 +25,6 @@ is_reached target from v = (v.node == target) && is_in v.spot.around from
 -- of all values those that the path of a leafref at this spot reaches: those of its target in the object to which it climbs
 abbrev pub reached : List Valued → Link → Spot → List Val
 reached all link spot = map (λ v. v.value) (filter (is_reached link.target (climbed 0 link.climbs spot.around)) all)
-
--- some value of these is the same
-abbrev pub is_among : Val → List Val → Bool
-is_among v [] = false
-is_among v (w ∷ ws) = same_value v w || is_among v ws
 
 -- the number of an item from 1
 abbrev pub number_of : Option (List Data) → Option ℕ

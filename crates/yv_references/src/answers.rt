@@ -1,27 +1,28 @@
 //! The values of leafrefs that reach nothing.
-ghost use Rattle.std.specs.Prelude.{◌≡◌, ◌+◌, [], ◌∷◌, ◌++◌, List, IfOk, OnOk};
+ghost use Rattle.std.specs.Prelude.{◌≡◌, ◌+◌, [], ◌∷◌, ◌++◌, List, IfOk, OnErr, OnOk, option_map, unwrap_or, if◌then◌else◌};
 ghost use Rattle.std.specs.List.{sum_by};
 ghost use Rattle.serde_json.specs.Data.{Members, object};
 ghost use Rattle.yv_selection.specs.declared.kind.Kind.{Kind};
 ghost use Rattle.yv_values.specs.Count.{counted};
 ghost use Rattle.yv_nodes.specs.Link.{link_in};
-ghost use Rattle.yv_references.specs.Findings.{Gains, HasMet, Kept, position_at};
-ghost use Rattle.yv_references.specs.InnerAnswers.{asked, asked_once, climbed_to, further_out, judge, judged, path_to, place_at};
+ghost use Rattle.yv_references.specs.Findings.{HasMet, position_at, Spreads, Used};
+ghost use Rattle.yv_references.specs.InnerAnswers.{AreMarks, asked, asked_once, climbed_to, defaults_at, further_out, is_used, judge, judged, Marks, path_to, place_at};
 ghost use Rattle.yv_references.specs.Meetings.{all_met};
 ghost use Rattle.yv_references.specs.References.{all_references, lookups_at, paths_in};
 
 use crate::found::{Found, Note, Position};
 use crate::place::Step;
 use crate::targets::Targets;
+use crate::uses::Uses;
 use std::alloc::{AllocError, Global};
 use std::rc::RcStr;
 use yv_nodes::{Links, NodeId};
 use yv_tables::Schema;
-use yv_values::{Meter, Tuple};
+use yv_values::{Defaults, Meter, Tuple};
 
 /// The paths of the values of leafrefs that are the same as none that their own paths reach (RFC 7950, section 9.9), in the order in
 /// which a walk found them. Each value of a leafref that it found is looked up once, in time log n, which is one step; a path is made only
-/// for a value that is reported. It fails only if memory runs out.
+/// for a value that is reported. It fails only if memory runs out, and then the meter is as it was.
 pub fn answer(
     alloc: Global,
     schema: &Schema,
@@ -32,11 +33,13 @@ pub fn answer(
         → paths_in paths.items ≡ all_references k schema.now (object ms)) }
     ensures steps { OnOk result ((k : Kind) (ms : Members) → HasMet k schema.now ms found
         → counted meter.new ≡ counted (meter.old + sum_by (lookups_at (link_in schema.now.links)) (all_met k schema.now (object ms)))) }
+    ensures same { OnErr result (meter.new ≡ meter.old) }
 {
     let Found {
         alloc: _,
         positions,
         targets,
+        uses,
         notes,
     } = found;
     let answers = Answers {
@@ -45,9 +48,13 @@ pub fn answer(
         links: schema.links(),
         positions,
         targets,
+        uses,
     };
     let _nodes = schema.children(Schema::ROOT);
-    answers.all(notes, meter)
+    let mut steps = Meter::new();
+    let paths = answers.all(notes, &mut steps)?;
+    meter.visit_all(steps.steps());
+    Ok(paths)
 }
 
 /// What answers rest on.
@@ -58,12 +65,13 @@ struct Answers<'a> {
     links: &'a Links,
     positions: Vec<Position>,
     targets: Targets,
+    uses: Uses,
 }
 
 impl Answers<'_> {
     fn all(&self, notes: Vec<Note>, meter: &mut Meter) -> Result<Vec<Vec<Step>>, AllocError>
-        ensures told { IfOk result (λ paths. (ks : List Kept) → Gains [] self.now.targets ks
-            → paths_in paths.items ≡ judged self.now.schema.now (link_in self.now.links.now) ks self.now.positions.items notes.items) }
+        ensures told { IfOk result (λ paths. (m : Marks) → AreMarks self.now.targets self.now.uses m
+            → paths_in paths.items ≡ judged self.now.schema.now (link_in self.now.links.now) m self.now.positions.items notes.items) }
         ensures steps { OnOk result (counted meter.new ≡ counted (meter.old + asked (link_in self.now.links.now) notes.items)) }
     {
         let mut paths = Vec::new(self.alloc);
@@ -79,8 +87,8 @@ impl Answers<'_> {
         paths: &mut Vec<Vec<Step>>,
         meter: &mut Meter,
     ) -> Result<(), AllocError>
-        ensures told { OnOk result ((ks : List Kept) → Gains [] self.now.targets ks
-            → paths_in paths.new.items ≡ paths_in paths.old.items ++ judge self.now.schema.now (link_in self.now.links.now) ks self.now.positions.items note) }
+        ensures told { OnOk result ((m : Marks) → AreMarks self.now.targets self.now.uses m
+            → paths_in paths.new.items ≡ paths_in paths.old.items ++ judge self.now.schema.now (link_in self.now.links.now) m self.now.positions.items note) }
         ensures steps { OnOk result (counted meter.new ≡ counted (meter.old + asked_once (link_in self.now.links.now note.node))) }
     {
         let link = match self.links.link(note.node) {
@@ -93,17 +101,42 @@ impl Answers<'_> {
             item,
             value,
         } = note;
-        let from = self.climbed_to(link.climbs, position);
+        let first = self.climbed_to(link.climbs, position);
+        let last = self.last_of(first);
+        let defaults = self.defaults_in_use(link.target, first, last);
         let mut key = Tuple::new(self.alloc);
         key.push(value)?;
         if self
             .targets
-            .within(meter, link.target, &key, from, self.last_of(from))
+            .within_or_among(meter, link.target, &key, first, last, defaults)
         {
             return Ok(());
         }
         paths.push(self.path_of(position, node, item)?)?;
         Ok(())
+    }
+
+    // The defaults of a target, where they are in use in an object from the first to the last.
+    fn defaults_in_use(&self, target: NodeId, first: u64, last: u64) -> Option<&Defaults>
+        ensures { (us : List Used) → Spreads [] self.now.uses us → unwrap_or (option_map (λ d. d.now) result) []
+            ≡ (if is_used target.0 first last us then defaults_at self.now.schema.now target.0 else []) }
+    {
+        if self.uses.is_within(target, first, last) {
+            self.defaults_of(target)
+        } else {
+            None
+        }
+    }
+
+    // The defaults of a node. What the schema doesn't have, and no link leads to, has none.
+    fn defaults_of(&self, target: NodeId) -> Option<&Defaults>
+        ensures { unwrap_or (option_map (λ d. d.now) result) [] ≡ defaults_at self.now.schema.now target.0 }
+    {
+        if target.number() < self.schema.len() {
+            self.schema.node(target).default_values()
+        } else {
+            None
+        }
     }
 
     // The object that a path climbs to from another; the first `../` only leaves the leafref itself.

@@ -1,15 +1,13 @@
 //! What a walk finds of references and of their targets.
-ghost use Rattle.std.specs.Prelude.{◌≡◌, ◌<◌, [], ◌∷◌, ◌++◌, length, Some, IfOk, OnOk};
-ghost use Rattle.yv_nodes.specs.Rows.{row_at};
-ghost use Rattle.yv_references.specs.InUse.{default_value, some_value};
-ghost use Rattle.yv_references.specs.Findings.{ended, Finds, kept_if, none_found, only_kept, only_notes, opened, value_notes};
+ghost use Rattle.std.specs.Prelude.{◌≡◌, ◌<◌, [], ◌∷◌, ◌++◌, length, Some, IfOk, OnErr, OnOk};
+ghost use Rattle.yv_references.specs.Findings.{ended, Finds, kept_if, none_found, only_kept, only_notes, only_used, opened, use_if, value_notes};
 ghost use Rattle.yv_nodes.specs.Link.{is_target, link_in};
 
 use crate::targets::Targets;
+use crate::uses::Uses;
 use std::alloc::{AllocError, Global};
 use std::marker::Model;
 use yv_nodes::{Links, NodeId};
-use yv_tables::Schema;
 use yv_values::Value;
 
 /// An object that was entered.
@@ -54,12 +52,14 @@ impl Model for Note {
 }
 
 /// What a walk over a document finds: the objects that it enters, with numbers from 0 on in the order in which it enters them, the
-/// document first; the values of targets; and the values of leafrefs. Beside values it keeps a few numbers of each, and no path.
+/// document first; the values of targets, and where their defaults are in use; and the values of leafrefs. Beside values it keeps a few
+/// numbers of each, and no path. What fails for want of memory leaves it as it was.
 #[derive(Drop)]
 pub struct Found {
     pub(crate) alloc: Global,
     pub(crate) positions: Vec<Position>,
     pub(crate) targets: Targets,
+    pub(crate) uses: Uses,
     pub(crate) notes: Vec<Note>,
 }
 
@@ -68,7 +68,7 @@ impl Model for Found {
 
     ghost Value = { Findings };
 
-    ghost view = { λ f. record { indexes = f.targets; positions = f.positions.items; notes = f.notes.items } };
+    ghost view = { λ f. record { indexes = f.targets; uses = f.uses; positions = f.positions.items; notes = f.notes.items } };
 }
 
 impl Found {
@@ -80,6 +80,7 @@ impl Found {
             alloc,
             positions: Vec::new(alloc),
             targets: Targets::new(alloc),
+            uses: Uses::new(alloc),
             notes: Vec::new(alloc),
         }
     }
@@ -91,7 +92,9 @@ impl Found {
         ensures number { IfOk result (λ n. n ≡ length self.old.positions) }
         ensures positions { OnOk result (self.new.positions ≡ self.old.positions ++ opened parent node.0 item ∷ []) }
         ensures indexes { self.new.indexes ≡ self.old.indexes }
+        ensures uses { self.new.uses ≡ self.old.uses }
         ensures notes { self.new.notes ≡ self.old.notes }
+        ensures same { OnErr result (self.new ≡ self.old) }
     {
         let number = self.positions.len() as u64;
         self.positions.push(Position {
@@ -108,6 +111,7 @@ impl Found {
         requires { number < length self.old.positions }
         ensures positions { self.new.positions ≡ ended self.old.positions number }
         ensures indexes { self.new.indexes ≡ self.old.indexes }
+        ensures uses { self.new.uses ≡ self.old.uses }
         ensures notes { self.new.notes ≡ self.old.notes }
     {
         let last = self.positions.len() as u64 - 1;
@@ -122,7 +126,8 @@ impl Found {
         value: &Value,
         position: u64,
     ) -> Result<(), AllocError>
-        ensures { OnOk result (Finds self.old self.new (only_kept (kept_if (is_target links.now node.0) node.0 position (value.now ∷ [])))) }
+        ensures kept { OnOk result (Finds self.old self.new (only_kept (kept_if (is_target links.now node.0) node.0 position (Some value.now)))) }
+        ensures same { OnErr result (self.new ≡ self.old) }
     {
         if !links.is_target(node) {
             return Ok(());
@@ -130,23 +135,21 @@ impl Found {
         self.targets.keep(node, value.copy(self.alloc)?, position)
     }
 
-    /// Keeps the default of a leaf for the object with this number, in which it is in use, where the leaf is a target and has one. It takes
-    /// the time of a copy of the default, and keeps one copy for each target.
-    pub fn keep_default(
+    /// Keeps that the defaults of a node are in use in the object with this number, all of them together, where the node is a target. It
+    /// copies no value: the defaults are read in the schema where a reference is looked up.
+    pub fn use_defaults(
         &mut self,
-        schema: &Schema,
         links: &Links,
         node: NodeId,
         position: u64,
     ) -> Result<(), AllocError>
-        requires { node.0 < length schema.now.nodes }
-        ensures { OnOk result (Finds self.old self.new
-            (only_kept (kept_if (is_target links.now node.0) node.0 position (some_value (default_value (row_at schema.now node).label))))) }
+        ensures used { OnOk result (Finds self.old self.new (only_used (use_if (is_target links.now node.0) node.0 position))) }
+        ensures same { OnErr result (self.new ≡ self.old) }
     {
-        match schema.node(node).defaults().first() {
-            Some(default) => self.keep(links, node, default, position),
-            None => Ok(()),
+        if !links.is_target(node) {
+            return Ok(());
         }
+        self.uses.add(node, position)
     }
 
     /// Notes a value of a leafref in the object with this number, where the leafref has a link; with its number from 1, where it is an
@@ -159,7 +162,8 @@ impl Found {
         value: &Value,
         position: u64,
     ) -> Result<(), AllocError>
-        ensures { OnOk result (Finds self.old self.new (only_notes (value_notes (link_in links.now node.0) position node.0 item (Some value.now)))) }
+        ensures noted { OnOk result (Finds self.old self.new (only_notes (value_notes (link_in links.now node.0) position node.0 item (Some value.now)))) }
+        ensures same { OnErr result (self.new ≡ self.old) }
     {
         if links.link(node).is_none() {
             return Ok(());

@@ -6,8 +6,8 @@ ghost use Rattle.yv_nodes.specs.Link.{is_target, link_in};
 ghost use Rattle.yv_nodes.specs.Rows.{Rows};
 ghost use Rattle.yv_nodes.specs.Tree.{Forest};
 ghost use Rattle.yv_nodes.specs.declared.node.NodeId.{NodeId};
-ghost use Rattle.yv_references.specs.Findings.{ended, Findings, Finds, first_of, kept_if, met_in, only_kept, opened, positions_in, second_of, value_notes};
-ghost use Rattle.yv_references.specs.InUse.{in_use, some_value, value_of};
+ghost use Rattle.yv_references.specs.Findings.{ended, Findings, Finds, first_of, kept_if, met_in, only_used, opened, positions_in, second_of, used_if, value_notes};
+ghost use Rattle.yv_references.specs.InUse.{in_use, value_of};
 ghost use Rattle.yv_references.specs.Meetings.{entered, found_of, Meeting, met, Node, Spot, stand, Written, written};
 ghost use Rattle.yv_references.specs.References.{number_of};
 
@@ -31,7 +31,8 @@ pub fn met_behind()
 pub fn value_met()
     ensures { (s : Rows) (m : Written) (v : Option Val) → value_of m.label m.found ≡ v → met_in s (written m ∷ [])
         ≡ record {
-          kept = kept_if (is_target s.links m.node.0) m.node.0 (first_of m.spot.around) (some_value v);
+          kept = kept_if (is_target s.links m.node.0) m.node.0 (first_of m.spot.around) v;
+          used = [];
           positions = [];
           notes = value_notes (link_in s.links m.node.0) (first_of m.spot.around) m.node.0 (number_of m.before) v;
         } }
@@ -40,14 +41,14 @@ pub fn value_met()
 /// What is found of a node apart from what is below it: the defaults that are in use.
 pub fn default_met()
     ensures { (s : Rows) (m : Node) → met_in s (met m ∷ [])
-        ≡ only_kept (kept_if (is_target s.links m.node.0) m.node.0 (first_of m.spot.around) (in_use m.label.defined.kind m.label m.scope (found_of m))) }
+        ≡ only_used (used_if (is_target s.links m.node.0) m.node.0 (first_of m.spot.around) (in_use m.label.defined.kind m.label m.scope (found_of m))) }
 {}
 
 /// What is found of an object that is entered, walked over and left.
 pub fn object_met()
     ensures { (s : Rows) (a b c d : Findings) (n : NodeId) (item : Option ℕ) (spot : Spot) (ts : Forest) (ms : Members) (inside : List Meeting)
-        → b.positions ≡ a.positions ++ opened (second_of spot.around) n.0 item ∷ [] → b.indexes ≡ a.indexes → b.notes ≡ a.notes
+        → b.positions ≡ a.positions ++ opened (second_of spot.around) n.0 item ∷ [] → b.indexes ≡ a.indexes → b.uses ≡ a.uses → b.notes ≡ a.notes
         → Finds b c (met_in s inside)
-        → d.positions ≡ ended c.positions (length a.positions) → d.indexes ≡ c.indexes → d.notes ≡ c.notes
+        → d.positions ≡ ended c.positions (length a.positions) → d.indexes ≡ c.indexes → d.uses ≡ c.uses → d.notes ≡ c.notes
         → Finds a d (met_in s (stand (record { node = n; item = item; spot = spot; last = length a.positions + entered inside; trees = ts; found = object ms }) ∷ inside)) }
 {}

@@ -7,6 +7,7 @@ pub mod laws;
 mod place;
 mod scope;
 mod targets;
+mod uses;
 
 pub use answers::answer;
 pub use found::Found;

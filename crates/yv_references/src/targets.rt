@@ -1,7 +1,7 @@
 //! The values of targets, and where they occur.
-ghost use Rattle.std.specs.Prelude.{◌≡◌, ◌+◌, [], ◌∷◌, OnOk, IsTrue, ◌↔◌};
+ghost use Rattle.std.specs.Prelude.{◌≡◌, ◌+◌, ◌⊎◌, [], ◌∷◌, OnErr, OnOk, IsTrue, ◌↔◌, option_map, unwrap_or};
 ghost use Rattle.yv_values.specs.Count.{counted};
-ghost use Rattle.yv_values.specs.Pairs.{IsWithin};
+ghost use Rattle.yv_values.specs.Pairs.{IsAlone, IsWithin};
 ghost use Rattle.yv_values.specs.Values.{Val};
 ghost use Rattle.yv_references.specs.Findings.{Gains, index_of};
 
@@ -9,9 +9,9 @@ use std::alloc::{AllocError, Global};
 use std::collections::BTreeMap;
 use std::marker::Model;
 use yv_nodes::NodeId;
-use yv_values::{Index, Meter, Tuple, Value};
+use yv_values::{Defaults, Index, Meter, Tuple, Value};
 
-/// For each target an index of its values, each with the numbers of the objects where it occurs or is a default in use.
+/// For each target an index of its values, each with the numbers of the objects where it occurs.
 #[derive(Drop)]
 pub(crate) struct Targets {
     alloc: Global,
@@ -44,7 +44,8 @@ impl Targets {
         value: Value,
         place: u64,
     ) -> Result<(), AllocError>
-        ensures { OnOk result (Gains self.old self.new (record { target = target.0; value = value; place = place } ∷ [])) }
+        ensures kept { OnOk result (Gains self.old self.new (record { target = target.0; value = value; place = place } ∷ [])) }
+        ensures same { OnErr result (self.new ≡ self.old) }
     {
         let mut key = Tuple::new(self.alloc);
         key.push(value)?;
@@ -57,7 +58,8 @@ impl Targets {
     // Keeps the first value of a target.
     fn keep_first(&mut self, target: NodeId, key: Tuple, place: u64) -> Result<(), AllocError>
         requires { index_of self.old target.0 ≡ [] }
-        ensures { OnOk result ((v : Val) → key ≡ v ∷ [] → Gains self.old self.new (record { target = target.0; value = v; place = place } ∷ [])) }
+        ensures kept { OnOk result ((v : Val) → key ≡ v ∷ [] → Gains self.old self.new (record { target = target.0; value = v; place = place } ∷ [])) }
+        ensures same { OnErr result (self.new ≡ self.old) }
     {
         let mut index = Index::new(self.alloc);
         index.keep(key, place)?;
@@ -65,23 +67,26 @@ impl Targets {
         Ok(())
     }
 
-    /// Whether a value of a target was kept at a place from the first to the last, both included. It is one step.
-    pub(crate) fn within(
+    /// Whether a value of a target was kept at a place from the first to the last, both included, or is one of these others, the
+    /// target's defaults. It is one step.
+    pub(crate) fn within_or_among(
         &self,
         meter: &mut Meter,
         target: NodeId,
         key: &Tuple,
         first: u64,
         last: u64,
+        others: Option<&Defaults>,
     ) -> bool
-        ensures found { IsTrue result ↔ IsWithin (index_of self.now target.0) key.now first last }
+        ensures found { IsTrue result ↔
+            (IsWithin (index_of self.now target.0) key.now first last ⊎ IsAlone key.now (unwrap_or (option_map (λ o. o.now) others.entry) [])) }
         ensures steps { meter.new ≡ counted (meter.old + 1) }
     {
         match self.indexes.get(&target.0) {
-            Some(index) => index.within(meter, key, first, last),
+            Some(index) => index.within_or_among(meter, key, first, last, others),
             None => {
-                meter.visit();
-                false
+                let none = Index::new(self.alloc);
+                none.within_or_among(meter, key, first, last, others)
             }
         }
     }

@@ -18,6 +18,7 @@ use Rattle.yv_values.specs.Types.{Plain}
 use Rattle.yv_values.specs.Values.{Val}
 use Rattle.yv_nodes.specs.declared.node.NodeId.{NodeId}
 use Rattle.yv_leaf_targets.specs.Numbers.{unique_leaf_at}
+use Rattle.yv_nodes.specs.Defaults.{defaults_of, width}
 use Rattle.yv_nodes.specs.Link.{Link, link_in}
 use Rattle.yv_nodes.specs.Rows.{Rows, root, whole}
 use Rattle.yv_nodes.specs.Tree.{count, Label, Forest, Tree, no_trees, tree, node}
@@ -261,10 +262,17 @@ names_pay k false false l ns ms = refl
 
 -- ---- all nodes
 
-one_tree : (f : Meeting → ℕ) (op : Bool) (xs : List Meeting) (m : Meeting) (inner own : ℕ) → (op ≡ false → sum_by f xs ≤ inner + own)
-    → sum_by f (cond op [] (xs ++ m ∷ [])) ≤ cond op 0 (f m + inner) + own
-one_tree f true xs m inner own h = omega arith
-one_tree f false xs m inner own h = omega (arith, sum_by-append f xs (m ∷ []), sum_by-cons f m [], h refl)
+nothing_more : (n : ℕ) → n + 0 ≡ n
+nothing_more n = omega arith
+
+-- the visit of a node
+visit_costs : (q : Kind) (s : Rows) (m : Node) → cost q s (met m) ≡ width m.label
+visit_costs q s m = nothing_more (width m.label)
+
+one_tree : (f : Meeting → ℕ) (op : Bool) (xs : List Meeting) (m : Meeting) (visit inner own : ℕ) → f m ≡ visit → (op ≡ false → sum_by f xs ≤ inner + own)
+    → sum_by f (cond op [] (xs ++ m ∷ [])) ≤ cond op 0 (visit + inner) + own
+one_tree f true xs m visit inner own e h = omega arith
+one_tree f false xs m visit inner own e h = omega (arith, e, sum_by-append f xs (m ∷ []), sum_by-cons f m [], h refl)
 
 -- what is greatest of all is no less than what is here, at nodes that aren't operations, and than what is behind
 here_at_most : (b : Bool) (x y z k : ℕ) → max (cond b 0 (max x y)) z ≤ k → b ≡ false → x ≤ k
@@ -341,7 +349,7 @@ forest_pays q s m u w scope_of spot next first (tree (node l kids) ts) ms some h
       arith,
       sum_by-append (cost q s) (node_met n l kids spot scope next ms below)
           (meetings q s scope_of spot (next + entered (node_met n l kids spot scope next ms below)) (first + 1 + count kids) ts ms),
-      one_tree (cost q s) op (cond (is_left K scope found) [] kind_list) (met own) (cond (is_open l) (measured.met kids) 0) (shares k (own_names K l (members kids)) ms) own_pays,
+      one_tree (cost q s) op (cond (is_left K scope found) [] kind_list) (met own) (width l) (cond (is_open l) (measured.met kids) 0) (shares k (own_names K l (members kids)) ms) (visit_costs q s own) own_pays,
       forest_pays q s m u w scope_of spot (next + entered (node_met n l kids spot scope next ms below)) (first + 1 + count kids) ts ms some rest apart.2,
       shares_append k (own_names K l (members kids)) (members ts) ms,
     )
@@ -355,12 +363,15 @@ left_out : (f : Meeting → ℕ) (b : Bool) (xs : List Meeting) → b ≡ true �
 left_out f true xs e = refl
 left_out f false xs e = absurd (true≢false (sym e))
 
+wide : (n : ℕ) → 1 ≤ max 1 n
+wide n = omega arith
+
 nothing_taken : (q : Kind) (s : Rows) (scope_of : ℕ → Tree → Scope) (spot : Spot) (next first : ℕ) (ts : Forest) (ms : Members) → measured.met ts ≡ 0
     → sum_by (cost q s) (meetings q s scope_of spot next first ts ms) ≡ 0
 nothing_taken q s scope_of spot next first no_trees ms e = refl
 nothing_taken q s scope_of spot next first (tree (node l kids) ts) ms e =
     let b : Bool = is_operation l.defined.kind in
-    let only : (b ≡ true) × (measured.met ts ≡ 0) = only_operations b 1 (cond (is_open l) (measured.met kids) 0) (measured.met ts) (omega arith) e in
+    let only : (b ≡ true) × (measured.met ts ≡ 0) = only_operations b (width l) (cond (is_open l) (measured.met kids) 0) (measured.met ts) (wide (length (defaults_of l))) e in
     let n : NodeId = record { 0 = first } in
     let scope : Scope = scope_in q l.is_config (scope_of first (node l kids)) in
     let below : Below = record {

@@ -1,5 +1,5 @@
 -- What is met at a node, by its kind, and how a walk grows by it.
-use Rattle.std.proofs.Common.{◌≡◌, ℕ, ◌+◌, List, [], ◌∷◌, ◌++◌, Bool, true, false, cond, Option, Some, None, refl, sym, ap, ◌∙◌, subst}
+use Rattle.std.proofs.Common.{◌≡◌, ℕ, ◌+◌, List, [], ◌∷◌, ◌++◌, Bool, true, false, cond, ◌&&◌, Option, Some, None, refl, sym, ap, ◌∙◌, subst}
 use Rattle.std.proofs.lemmas.Bool.{true≢false}
 use Rattle.serde_json.specs.Data.{Data, Members}
 use Rattle.serde_json.specs.Find.{get_member}
@@ -7,20 +7,21 @@ use Rattle.yv_properties.specs.Kinds.{is_data, is_operation}
 use Rattle.yv_properties.specs.declared.kind.NodeKind.{NodeKind}
 use Rattle.yv_properties.specs.declared.kind.NodeKind.TheVariants as kind
 use Rattle.yv_selection.specs.declared.kind.Kind.{Kind}
+use Rattle.yv_values.specs.Values.{Val}
 use Rattle.yv_nodes.specs.declared.node.NodeId.{NodeId}
-use Rattle.yv_nodes.specs.Link.{is_target}
+use Rattle.yv_nodes.specs.Defaults.{defaults_of}
 use Rattle.yv_nodes.specs.Rows.{below, rank, Rows, row_at}
 use Rattle.yv_nodes.specs.Tree.{Forest, Label}
 use Rattle.yv_walk.specs.Standing.{count_standing}
 use Rattle.yv_references.specs.declared.scope.Scope.{Scope}
-use Rattle.yv_references.specs.Findings.{Findings, Finds, first_of, kept_if, only_kept}
-use Rattle.yv_references.specs.InUse.{in_use, is_asked, leaf_in_use}
+use Rattle.yv_references.specs.Findings.{Findings, Finds, first_of}
+use Rattle.yv_references.specs.InUse.{in_use, is_asked, is_empty_at, uses_defaults}
 use Rattle.yv_references.specs.Meetings.{Below, found_of, is_left, kind_met, Meeting, met, Node, Spot}
-use Rattle.yv_validate.specs.Faults.{choice_faults, kind_faults, leaf_faults, state_faults}
+use Rattle.yv_validate.specs.Faults.{array_faults, choice_faults, kind_faults, leaf_faults, state_faults}
 use Rattle.yv_validate.specs.Flaw.{Flaw}
-use Rattle.yv_validate.specs.InnerWalk.{below_from, cases_met, children_met, Closes, data_met, default_found, Grows, GrowsWith, inside_at, leaf_at, node_at, one_met, Told, Writes}
+use Rattle.yv_validate.specs.InnerWalk.{below_from, cases_met, children_met, Closes, data_met, defaults_found, empty_found, Grows, GrowsWith, inside_at, leaf_at, leaf_list_at, node_at, one_met, Told, Writes}
 use Rattle.yv_validate.proofs.Beneath.{choice_told, kind_same, quiet_faults}
-use Rattle.yv_validate.proofs.Grown.{asked_faults, Behind, closes, Defaults, entered_absent, entered_asked, grows_alone, grows_only, in_use_other, in_use_unasked, left_written, Quiet, quiet_node, unasked_faults, with_as}
+use Rattle.yv_validate.proofs.Grown.{asked_faults, Behind, closes, Defaults, entered_absent, entered_asked, grows_alone, grows_only, in_use_empty, in_use_items, in_use_other, in_use_unasked, in_use_written, left_written, Quiet, quiet_node, unasked_faults, with_as}
 
 -- ---- all that is met at a node
 
@@ -83,8 +84,11 @@ at_other k s scope n ms spot next plain none a b = of_other k s scope n ms spot 
 not_leaf : (K : NodeKind) → is_data K ≡ false → (K ≡ kind.Leaf → ⊥)
 not_leaf K none e = true≢false (sym (ap is_data e) ∙ none)
 
+not_leaf_list : (K : NodeKind) → is_data K ≡ false → (K ≡ kind.LeafList → ⊥)
+not_leaf_list K none e = true≢false (sym (ap is_data e) ∙ none)
+
 pub no_default : (K : NodeKind) (l : Label) (scope : Scope) (found : Option Data) → is_data K ≡ false → in_use K l scope found ≡ []
-no_default K l scope found none = in_use_other K l scope found (not_leaf K none)
+no_default K l scope found none = in_use_other K l scope found (not_leaf K none) (not_leaf_list K none)
 
 -- a case, or what isn't in documents: nothing is told of it
 pub other_closes : Defaults → Quiet → Behind → (k : Kind) (s : Rows) (scope : Scope) (n : NodeId) (ms : Members) (spot : Spot) (a b : Told) (xs : List Meeting) → is_data (row_at s n).label.defined.kind ≡ false
@@ -144,15 +148,15 @@ data_nothing k s scope n spot next is_one other =
 
 -- a data node of some kind for which some rule holds: its faults are those of the kind
 pub arm_closes : Defaults → Quiet → Behind → (k : Kind) (s : Rows) (scope : Scope) (n : NodeId) (ms : Members) (found : Option Data) (spot : Spot) (next : ℕ) (a b : Told) (K : NodeKind) → (row_at s n).label.defined.kind ≡ K
-    → is_asked scope ≡ true → (K ≡ kind.Leaf → ⊥) → Writes s n found ms
+    → is_asked scope ≡ true → (K ≡ kind.Leaf → ⊥) → (K ≡ kind.LeafList → ⊥) → Writes s n found ms
     → GrowsWith k s a b (kind_met K n (row_at s n).label (below s n) spot scope next found (inside_at k s n)) (kind_faults K (node_at s scope n ms spot) found)
     → Closes k s a b (data_met k s scope n found spot next) (node_at s scope n ms spot)
-arm_closes defaults quiet behind k s scope n ms found spot next a b K is asked other writes h =
+arm_closes defaults quiet behind k s scope n ms found spot next a b K is asked other another writes h =
     let m : Node = node_at s scope n ms spot in
     closes behind k s a b (data_met k s scope n found spot next) (kind_faults K m found) m b.found
     (with_as k s a b _ _ _ (data_asked k s scope n found spot next K is asked) h)
     (asked_faults k s m K found is asked writes)
-    (quiet_node defaults quiet s b.found m (ap (λ (x : NodeKind). in_use x m.label scope (found_of m)) is ∙ in_use_other K m.label scope (found_of m) other))
+    (quiet_node defaults quiet s b.found m (ap (λ (x : NodeKind). in_use x m.label scope (found_of m)) is ∙ in_use_other K m.label scope (found_of m) other another))
 
 -- and one for which none does
 pub state_closes : Defaults → Quiet → Behind → (k : Kind) (s : Rows) (scope : Scope) (n : NodeId) (ms : Members) (found : Option Data) (spot : Spot) (next : ℕ) (a b : Told) (xs : List Meeting)
@@ -171,7 +175,7 @@ state_closes defaults quiet behind k s scope n ms found spot next a b xs unasked
 -- one that isn't written
 pub absent_closes : Defaults → Behind → Quiet → (k : Kind) (s : Rows) (scope : Scope) (n : NodeId) (ms : Members) (spot : Spot) (a : Told) (faults : List Flaw) (found : Findings) → (row_at s n).label.defined.kind ≡ kind.Leaf
     → is_asked scope ≡ true → Writes s n None ms → faults ≡ a.faults ++ leaf_faults (node_at s scope n ms spot) None
-    → Finds a.found found (default_found s scope n (first_of spot.around))
+    → Finds a.found found (empty_found s scope n (first_of spot.around))
     → Closes k s a (record { faults = faults; found = found; steps = a.steps }) [] (node_at s scope n ms spot)
 absent_closes defaults behind quiet k s scope n ms spot a faults found is asked writes told used =
     let m : Node = node_at s scope n ms spot in
@@ -180,8 +184,9 @@ absent_closes defaults behind quiet k s scope n ms spot a faults found is asked 
     closes behind k s a (record { faults = faults; found = a.found; steps = a.steps }) [] (leaf_faults m None) m found
     (grows_only quiet k s a faults (leaf_faults m None) told) (asked_faults k s m kind.Leaf None is asked writes)
     (subst (λ x. Finds a.found found x)
-    (sym (defaults s m ∙ ap (λ (K : NodeKind). only_kept (kept_if (is_target s.links n.0) n.0 here (in_use K l scope (found_of m)))) is
-    ∙ ap (λ (o : Option Data). only_kept (kept_if (is_target s.links n.0) n.0 here (leaf_in_use l scope o))) writes)) used)
+    (sym (defaults s m ∙ ap (λ (K : NodeKind). defaults_found s n here (in_use K l scope (found_of m))) is
+    ∙ ap (λ (o : Option Data). defaults_found s n here (in_use kind.Leaf l scope o)) writes
+    ∙ ap (λ (vs : List Val). defaults_found s n here vs) (in_use_empty kind.Leaf l scope None refl))) used)
 
 -- one that is
 pub written_closes : Defaults → Quiet → Behind → (k : Kind) (s : Rows) (scope : Scope) (n : NodeId) (ms : Members) (d : Data) (spot : Spot) (next : ℕ) (a b : Told) → (row_at s n).label.defined.kind ≡ kind.Leaf
@@ -191,4 +196,32 @@ written_closes defaults quiet behind k s scope n ms d spot next a b is asked wri
     let m : Node = node_at s scope n ms spot in
     closes behind k s a b (leaf_at s n (Some d) spot next) [] m b.found (grows_alone k s a b _ h) (asked_faults k s m kind.Leaf (Some d) is asked writes)
     (quiet_node defaults quiet s b.found m
-    (ap (λ (K : NodeKind). in_use K m.label scope (found_of m)) is ∙ ap (λ (o : Option Data). leaf_in_use m.label scope o) writes))
+    (ap (λ (K : NodeKind). in_use K m.label scope (found_of m)) is ∙ ap (λ (o : Option Data). in_use kind.Leaf m.label scope o) writes ∙ in_use_written m.label scope d))
+
+-- ---- leaf-lists
+
+-- one that has items, or whose defaults aren't used
+pub items_close : Defaults → Quiet → Behind → (k : Kind) (s : Rows) (scope : Scope) (n : NodeId) (ms : Members) (found : Option Data) (spot : Spot) (next : ℕ) (a b : Told) → (row_at s n).label.defined.kind ≡ kind.LeafList
+    → is_asked scope ≡ true → Writes s n found ms → (uses_defaults scope && is_empty_at kind.LeafList found) ≡ false
+    → GrowsWith k s a b (leaf_list_at s n found spot next) (array_faults (node_at s scope n ms spot) found)
+    → Closes k s a b (leaf_list_at s n found spot next) (node_at s scope n ms spot)
+items_close defaults quiet behind k s scope n ms found spot next a b is asked writes unused h =
+    let m : Node = node_at s scope n ms spot in
+    closes behind k s a b (leaf_list_at s n found spot next) (array_faults m found) m b.found h (asked_faults k s m kind.LeafList found is asked writes)
+    (quiet_node defaults quiet s b.found m
+    (ap (λ (K : NodeKind). in_use K m.label scope (found_of m)) is ∙ ap (λ (o : Option Data). in_use kind.LeafList m.label scope o) writes ∙ in_use_items m.label scope found unused))
+
+-- one whose defaults are
+pub empty_closes : Defaults → Behind → (k : Kind) (s : Rows) (scope : Scope) (n : NodeId) (ms : Members) (found : Option Data) (spot : Spot) (next : ℕ) (a b : Told) (used : Findings) → (row_at s n).label.defined.kind ≡ kind.LeafList
+    → is_asked scope ≡ true → Writes s n found ms → (uses_defaults scope && is_empty_at kind.LeafList found) ≡ true
+    → GrowsWith k s a b (leaf_list_at s n found spot next) (array_faults (node_at s scope n ms spot) found)
+    → Finds b.found used (defaults_found s n (first_of spot.around) (defaults_of (row_at s n).label))
+    → Closes k s a (record { faults = b.faults; found = used; steps = b.steps }) (leaf_list_at s n found spot next) (node_at s scope n ms spot)
+empty_closes defaults behind k s scope n ms found spot next a b used is asked writes uses h finds =
+    let m : Node = node_at s scope n ms spot in
+    let here : ℕ = first_of spot.around in
+    closes behind k s a b (leaf_list_at s n found spot next) (array_faults m found) m used h (asked_faults k s m kind.LeafList found is asked writes)
+    (subst (λ x. Finds b.found used x)
+    (sym (defaults s m ∙ ap (λ (K : NodeKind). defaults_found s n here (in_use K m.label scope (found_of m))) is
+    ∙ ap (λ (o : Option Data). defaults_found s n here (in_use kind.LeafList m.label scope o)) writes
+    ∙ ap (λ (b : Bool). defaults_found s n here (cond b (defaults_of m.label) [])) uses)) finds)

@@ -22,22 +22,22 @@ use Rattle.yv_validate.proofs.Steps.{told_both}
 
 abbrev pub Enters : Type 0
 Enters = (s : Rows) (a b c d : Findings) (n : NodeId) (item : Option ℕ) (spot : Spot) (ts : Forest) (ms : Members) (inside : List Meeting)
-    → b.positions ≡ a.positions ++ opened (second_of spot.around) n.0 item ∷ [] → b.indexes ≡ a.indexes → b.notes ≡ a.notes
+    → b.positions ≡ a.positions ++ opened (second_of spot.around) n.0 item ∷ [] → b.indexes ≡ a.indexes → b.uses ≡ a.uses → b.notes ≡ a.notes
     → Finds b c (met_in s inside)
-    → d.positions ≡ ended c.positions (length a.positions) → d.indexes ≡ c.indexes → d.notes ≡ c.notes
+    → d.positions ≡ ended c.positions (length a.positions) → d.indexes ≡ c.indexes → d.uses ≡ c.uses → d.notes ≡ c.notes
     → Finds a d (met_in s (stand (record { node = n; item = item; spot = spot; last = length a.positions + entered inside; trees = ts; found = object ms }) ∷ inside))
 
 -- an object is entered, walked over and left
 pub object_grows : Enters → (k : Kind) (s : Rows) (n : NodeId) (item : Option ℕ) (path : List Place) (outer : List ℕ) (entry position numbered : ℕ) (ms : Members) (before : Told) (begun : Findings) (faults : List Flaw) (steps : ℕ) (walked : Told) (left : Findings)
     → first_of outer ≡ position → numbered ≡ next_of before
-    → begun.positions ≡ before.found.positions ++ opened position n.0 item ∷ [] → begun.indexes ≡ before.found.indexes → begun.notes ≡ before.found.notes
+    → begun.positions ≡ before.found.positions ++ opened position n.0 item ∷ [] → begun.indexes ≡ before.found.indexes → begun.uses ≡ before.found.uses → begun.notes ≡ before.found.notes
     → faults ≡ before.faults ++ unknowns path (below s n) ms → counted steps ≡ counted (before.steps + members_len ms)
     → Grows k s (record { faults = faults; found = begun; steps = steps }) walked
     (children_met k s Always n ms (record { path = path; around = numbered ∷ outer; entry = entry }) (length begun.positions))
-    → left.positions ≡ ended walked.found.positions numbered → left.indexes ≡ walked.found.indexes → left.notes ≡ walked.found.notes
+    → left.positions ≡ ended walked.found.positions numbered → left.indexes ≡ walked.found.indexes → left.uses ≡ walked.found.uses → left.notes ≡ walked.found.notes
     → Grows k s before (record { faults = walked.faults; found = left; steps = walked.steps })
     (object_met n item (below s n) (record { path = path; around = next_of before ∷ outer; entry = entry }) (next_of before) (object ms) (inside_at k s n))
-object_grows enters k s n item path outer entry position numbered ms before begun faults steps walked left around is positions indexes notes told taken inner left_positions left_indexes left_notes =
+object_grows enters k s n item path outer entry position numbered ms before begun faults steps walked left around is positions indexes uses notes told taken inner left_positions left_indexes left_uses left_notes =
     let next : ℕ = next_of before in
     let spot : Spot = record { path = path; around = next ∷ outer; entry = entry } in
     let inside : List Meeting = children_met k s Always n ms spot (next + 1) in
@@ -50,8 +50,8 @@ object_grows enters k s n item path outer entry position numbered ms before begu
     record {
       faults = told_both before.faults (unknowns path (below s n) ms) (flat_map (faults_at k s) inside) told grown.faults;
       found = enters s before.found begun walked.found left n item spot (below s n) ms inside
-          (positions ∙ ap (λ (m : ℕ). before.found.positions ++ opened m n.0 item ∷ []) (sym around)) indexes notes grown.found
-          (left_positions ∙ ap (λ (m : ℕ). ended walked.found.positions m) is) left_indexes left_notes;
+          (positions ∙ ap (λ (m : ℕ). before.found.positions ++ opened m n.0 item ∷ []) (sym around)) indexes uses notes grown.found
+          (left_positions ∙ ap (λ (m : ℕ). ended walked.found.positions m) is) left_indexes left_uses left_notes;
       steps = omega (arith, taken, grown.steps, sum_by-cons (work_at k s) (stand own) inside);
     }
 

@@ -11,13 +11,14 @@ use Rattle.yv_properties.specs.Kinds.{is_data}
 use Rattle.yv_selection.specs.declared.kind.Kind.{Kind}
 use Rattle.yv_values.specs.Count.{counted}
 use Rattle.yv_values.specs.Values.{Val}
+use Rattle.yv_nodes.specs.Defaults.{defaults_of, width}
 use Rattle.yv_nodes.specs.Link.{is_target}
 use Rattle.yv_nodes.specs.Rows.{root, Rows}
 use Rattle.yv_nodes.specs.Tree.{Label}
 use Rattle.yv_references.specs.declared.scope.Scope.{Scope}
 use Rattle.yv_references.specs.declared.scope.Scope.TheVariants.{Always, InCase, InDefault, Unasked}
-use Rattle.yv_references.specs.Findings.{Findings, Finds, first_of, kept_if, Kept, met_in, none_found, only_kept, positions_in}
-use Rattle.yv_references.specs.InUse.{in_use, is_asked}
+use Rattle.yv_references.specs.Findings.{Findings, Finds, first_of, met_in, none_found, only_used, positions_in, used_if}
+use Rattle.yv_references.specs.InUse.{in_use, is_asked, is_empty_at, uses_defaults}
 use Rattle.yv_references.specs.Meetings.{all_met, entered, found_of, is_left, Meeting, met, Node}
 use Rattle.yv_validate.specs.Faults.{faults_at, kind_faults, state_faults}
 use Rattle.yv_validate.specs.Flaw.{Flaw}
@@ -38,7 +39,7 @@ Counts = (ms : List Meeting) → length (positions_in ms) ≡ entered ms
 
 abbrev pub Defaults : Type 0
 Defaults = (s : Rows) (m : Node) → met_in s (met m ∷ [])
-    ≡ only_kept (kept_if (is_target s.links m.node.0) m.node.0 (first_of m.spot.around) (in_use m.label.defined.kind m.label m.scope (found_of m)))
+    ≡ only_used (used_if (is_target s.links m.node.0) m.node.0 (first_of m.spot.around) (in_use m.label.defined.kind m.label m.scope (found_of m)))
 
 -- ---- one part after the other
 
@@ -105,7 +106,7 @@ closes behind k s a b xs own m found p is used = record {
 }
 
 -- its visit was counted before
-pub visited : (k : Kind) (s : Rows) (a : Told) (steps : ℕ) (c : Told) (xs : List Meeting) (m : Node) → steps ≡ counted (a.steps + 1)
+pub visited : (k : Kind) (s : Rows) (a : Told) (steps : ℕ) (c : Told) (xs : List Meeting) (m : Node) → steps ≡ counted (a.steps + width m.label)
     → Closes k s (record { faults = a.faults; found = a.found; steps = steps }) c xs m → Grows k s a c (xs ++ met m ∷ [])
 visited k s a steps c xs m counts p = record {
   faults = p.faults;
@@ -115,10 +116,6 @@ visited k s a steps c xs m counts p = record {
 
 -- ---- what a node's own faults and defaults are
 
-no_kept : (b : Bool) (n here : ℕ) → kept_if b n here [] ≡ []
-no_kept true n here = refl
-no_kept false n here = refl
-
 -- no default is in use
 pub quiet_node : Defaults → Quiet → (s : Rows) (a : Findings) (m : Node) → in_use m.label.defined.kind m.label m.scope (found_of m) ≡ []
     → Finds a a (met_in s (met m ∷ []))
@@ -126,22 +123,47 @@ quiet_node defaults quiet s a m none =
     let n : ℕ = m.node.0 in
     let here : ℕ = first_of m.spot.around in
     subst (λ x. Finds a a x)
-    (sym (defaults s m ∙ ap (λ (vs : List Val). only_kept (kept_if (is_target s.links n) n here vs)) none
-    ∙ ap (λ (ks : List Kept). only_kept ks) (no_kept (is_target s.links n) n here))) (quiet s a)
+    (sym (defaults s m ∙ ap (λ (vs : List Val). only_used (used_if (is_target s.links n) n here vs)) none)) (quiet s a)
 
--- only leafs have defaults
-pub in_use_other : (K : NodeKind) (l : Label) (scope : Scope) (found : Option Data) → (K ≡ kind.Leaf → ⊥) → in_use K l scope found ≡ []
-in_use_other kind.Leaf l scope found h = absurd (h refl)
-in_use_other _ l scope found h = refl
+-- none are used of what isn't empty
+unused : (u : Bool) (vs : List Val) → cond (u && false) vs [] ≡ []
+unused true vs = refl
+unused false vs = refl
 
--- none of which are in use where no rule holds
+filled : (K : NodeKind) (l : Label) (scope : Scope) (found : Option Data) → is_empty_at K found ≡ false → in_use K l scope found ≡ []
+filled K l scope found e = ap (λ (b : Bool). cond (uses_defaults scope && b) (defaults_of l) []) e ∙ unused (uses_defaults scope) (defaults_of l)
+
+-- only leafs and leaf-lists have defaults
+other_filled : (K : NodeKind) (found : Option Data) → (K ≡ kind.Leaf → ⊥) → (K ≡ kind.LeafList → ⊥) → is_empty_at K found ≡ false
+other_filled kind.Leaf found h g = absurd (h refl)
+other_filled kind.LeafList found h g = absurd (g refl)
+other_filled _ found h g = refl
+
+pub in_use_other : (K : NodeKind) (l : Label) (scope : Scope) (found : Option Data) → (K ≡ kind.Leaf → ⊥) → (K ≡ kind.LeafList → ⊥) → in_use K l scope found ≡ []
+in_use_other K l scope found h g = filled K l scope found (other_filled K found h g)
+
+-- a leaf that is written has none in use
+pub in_use_written : (l : Label) (scope : Scope) (d : Data) → in_use kind.Leaf l scope (Some d) ≡ []
+in_use_written l scope d = filled kind.Leaf l scope (Some d) refl
+
+-- nor has a leaf-list with items
+pub in_use_items : (l : Label) (scope : Scope) (found : Option Data) → (uses_defaults scope && is_empty_at kind.LeafList found) ≡ false → in_use kind.LeafList l scope found ≡ []
+in_use_items l scope found e = ap (λ (b : Bool). cond b (defaults_of l) []) e
+
+-- those of what is empty
+used_by : (u : Bool) (vs : List Val) → cond (u && true) vs [] ≡ cond u vs []
+used_by true vs = refl
+used_by false vs = refl
+
+pub in_use_empty : (K : NodeKind) (l : Label) (scope : Scope) (found : Option Data) → is_empty_at K found ≡ true → in_use K l scope found ≡ cond (uses_defaults scope) (defaults_of l) []
+in_use_empty K l scope found e = ap (λ (b : Bool). cond (uses_defaults scope && b) (defaults_of l) []) e ∙ used_by (uses_defaults scope) (defaults_of l)
+
+-- none of them are in use where no rule holds
 pub in_use_unasked : (K : NodeKind) (l : Label) (scope : Scope) (found : Option Data) → is_asked scope ≡ false → in_use K l scope found ≡ []
-in_use_unasked kind.Leaf l Unasked None e = refl
-in_use_unasked kind.Leaf l Always None e = absurd (true≢false e)
-in_use_unasked kind.Leaf l (InCase those) None e = absurd (true≢false e)
-in_use_unasked kind.Leaf l InDefault None e = absurd (true≢false e)
-in_use_unasked kind.Leaf l scope (Some d) e = refl
-in_use_unasked _ l scope found e = refl
+in_use_unasked K l Unasked found e = refl
+in_use_unasked K l Always found e = absurd (true≢false e)
+in_use_unasked K l (InCase those) found e = absurd (true≢false e)
+in_use_unasked K l InDefault found e = absurd (true≢false e)
 
 -- the faults of a node for which some rule holds
 pub asked_faults : (k : Kind) (s : Rows) (m : Node) (K : NodeKind) (found : Option Data) → m.label.defined.kind ≡ K → is_asked m.scope ≡ true → found_of m ≡ found

@@ -13,7 +13,7 @@ use Rattle.yv_nodes.specs.Tree.{Label}
 use Rattle.yv_values.specs.Count.{counted}
 use Rattle.yv_values.specs.Values.{Val}
 use Rattle.yv_references.specs.Findings.{Findings, Finds, first_of, kept_if, Met, met_in, value_notes}
-use Rattle.yv_references.specs.InUse.{some_value, value_of}
+use Rattle.yv_references.specs.InUse.{value_of}
 use Rattle.yv_references.specs.Meetings.{at, Ending, ending, entered, entry_met, Meeting, object_met, Spot, written, Written}
 use Rattle.yv_references.specs.Place.{Place, step_name}
 use Rattle.yv_references.specs.References.{number_of}
@@ -44,7 +44,8 @@ many_before xs i lt = length-map (take i xs) view ∙ length-take-le i xs (omega
 
 abbrev pub Reads : Type 0
 Reads = (s : Rows) (m : Written) (v : Option Val) → value_of m.label m.found ≡ v → met_in s (written m ∷ []) ≡ record {
-  kept = kept_if (is_target s.links m.node.0) m.node.0 (first_of m.spot.around) (some_value v);
+  kept = kept_if (is_target s.links m.node.0) m.node.0 (first_of m.spot.around) v;
+  used = [];
   positions = [];
   notes = value_notes (link_in s.links m.node.0) (first_of m.spot.around) m.node.0 (number_of m.before) v;
 }

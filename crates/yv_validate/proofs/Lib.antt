@@ -1,5 +1,4 @@
 pub mod Apart
-pub mod Same
 pub mod Remembered
 pub mod Steps
 pub mod Grown
@@ -13,3 +12,4 @@ pub mod Reading
 pub mod Each
 pub mod Closed
 pub mod Bound
+pub mod Spelled

@@ -1,5 +1,5 @@
 -- What is noted, one node more at a time.
-use Rattle.std.proofs.Common.{◌≡◌, ℕ, ◌==◌, ◌<◌, Bool, true, false, cond, Option, Some, None, List, [], ◌∷◌, ◌++◌, map, length, get_or, drop, drop-cons, add-one, ◌+◌, refl, sym, ap, ◌∙◌, append_assoc, eqb-true}
+use Rattle.std.proofs.Common.{◌≡◌, ℕ, ◌==◌, ◌<◌, Bool, true, false, cond, Option, Some, None, List, [], ◌∷◌, ◌++◌, map, length, get_or, drop, drop-cons, add-one, arith, suc, ◌+◌, ◌-◌, refl, sym, ap, ◌∙◌, append_assoc, eqb-true}
 use Rattle.std.specs.List.{slice_get}
 use Rattle.std.specs.Bool.{one_answer}
 use Rattle.std.specs.Ordering.{nat_cmp, is_eq}
@@ -12,7 +12,7 @@ use Rattle.yv_values.specs.Reads.{or_else}
 use Rattle.yv_values.specs.Values.{Val}
 use Rattle.yv_nodes.specs.declared.node.NodeId.{NodeId}
 use Rattle.yv_nodes.specs.Rows.{Rows}
-use Rattle.yv_validate.specs.InnerNotes.{Gains, note_value, noted_at}
+use Rattle.yv_validate.specs.InnerNotes.{Gains, last_of, note_value, noted_at}
 use Rattle.yv_validate.specs.Values.{all_values, joined, leaf_at, tuple_of}
 use Rattle.yv_validate.specs.declared.notes.Notes.{Notes}
 
@@ -112,7 +112,22 @@ noted_more s old new number o w is wins u n =
     ap (note_value s n) (u.0 n ∙ ap (λ b. cond b (Some o) (get_by (nat_cmp n) old)) (is_eq_nat number n))
     ∙ chosen s (number == n) n o w (get_by (nat_cmp n) old) (λ e. is n (eqb-true number n e)) wins
 
--- the first of values, where there are some
-pub first_wins : (vs : List Val) → (length vs == 0) ≡ false → (x : Option Val) → or_else (slice_get vs 0) x ≡ slice_get vs 0
-first_wins [] some x = absurd (cc)
-first_wins (v ∷ vs) some x = refl
+-- the last of values, where there are some
+last_some : (o x : Option Val) (v : Val) → or_else (or_else o (Some v)) x ≡ or_else o (Some v)
+last_some (Some w) x v = refl
+last_some None x v = refl
+
+pub last_wins : (vs : List Val) → (length vs == 0) ≡ false → (x : Option Val) → or_else (last_of vs) x ≡ last_of vs
+last_wins [] some x = absurd (cc)
+last_wins (v ∷ vs) some x = last_some (last_of vs) x v
+
+-- it is the one with the last number
+pub last_is : (vs : List Val) → slice_get vs (length vs - 1) ≡ last_of vs
+last_is [] = refl
+last_is (v ∷ []) = refl
+last_is (v ∷ w ∷ ws) =
+    let far : suc (suc (length ws)) - 1 ≡ suc (length ws) = omega arith in
+    let near : suc (length ws) - 1 ≡ length ws = omega arith in
+    ap (λ i. slice_get (v ∷ w ∷ ws) i) far
+    ∙ ap (λ i. slice_get (w ∷ ws) i) (sym near)
+    ∙ last_is (w ∷ ws) ∙ sym (last_some (last_of ws) (Some v) w)

@@ -10,19 +10,20 @@ use Rattle.yv_properties.specs.declared.kind.NodeKind.TheVariants as kind
 use Rattle.yv_selection.specs.declared.kind.Kind.{Kind}
 use Rattle.yv_values.specs.Reads.{or_else}
 use Rattle.yv_values.specs.Values.{Val}
+use Rattle.yv_nodes.specs.Defaults.{defaults_of}
 use Rattle.yv_nodes.specs.Rows.{below as below_in, rank, Rows, row_at, tree_of}
 use Rattle.yv_nodes.specs.Tree.{count, Label, node, Tree, Forest, no_trees, tree}
 use Rattle.yv_nodes.specs.declared.node.NodeId.{NodeId}
 use Rattle.yv_references.specs.declared.scope.Scope.{Scope}
 use Rattle.yv_references.specs.declared.scope.Scope.TheVariants.{Always}
-use Rattle.yv_references.specs.InUse.{case_scope, default_value, in_use, scope_in, some_value, uses_defaults, value_of}
+use Rattle.yv_references.specs.InUse.{case_scope, in_use, scope_in, some_value, uses_defaults, value_of}
 use Rattle.yv_references.specs.Meetings.{Below, entered, entries_met, entry_met, found_of, in_container, in_entry, in_no_object, is_left, items_met, kind_met, leaf_met, Meeting, meetings, met, Node, node_met, object_met, Spot, written}
 use Rattle.yv_references.specs.Values.{Valued, valued, values_at, values_in}
-use Rattle.yv_validate.specs.InnerNotes.{Gains, GainsBy, noted_at, own_value}
+use Rattle.yv_validate.specs.InnerNotes.{default_value, Gains, GainsBy, last_of, noted_at, own_value}
 use Rattle.yv_validate.specs.InnerWalk.{data_met, inside_at, node_at, one_met, ones_met, scope_at, with_node}
 use Rattle.yv_validate.specs.Values.{is_own, value_if, value_in}
 use Rattle.yv_validate.specs.declared.notes.Notes.{Notes}
-use Rattle.yv_validate.proofs.Grown.{in_use_other}
+use Rattle.yv_validate.proofs.Grown.{in_use_written}
 use Rattle.yv_validate.proofs.Noted.{gains_as, gains_nothing, gains_on}
 
 -- the value of a leaf in an entry, of what is met
@@ -204,10 +205,24 @@ pub own_behind : (e n : ℕ) (xs : List Meeting) (m : Node) → in_use m.label.d
 own_behind e n xs m none =
     join_values e n xs (met m ∷ []) (own_of e n xs) None refl (own_node e n m ∙ ap (λ (vs : List Val). value_in e n (valued m.node m.label m.spot vs)) none)
 
-by_use : (e n : ℕ) (m : NodeId) (l : Label) (spot : Spot) (u : Bool) (v : Option Val) → is_leaf l.defined.kind ≡ true → spot.entry ≡ e
-    → value_in e n (valued m l spot (cond u (some_value v) [])) ≡ cond (m.0 == n) (cond u v None) None
-by_use e n m l spot true v leaf same = valued_here e n m l spot v leaf same
-by_use e n m l spot false v leaf same = sym (if_none (m.0 == n))
+-- the last of several values of a node
+last_noted : (b : Bool) (o : Option Val) (v : Val) → or_else (cond b o None) (cond b (Some v) None) ≡ cond b (or_else o (Some v)) None
+last_noted true o v = refl
+last_noted false o v = refl
+
+all_here : (e n : ℕ) (m : NodeId) (l : Label) (spot : Spot) (vs : List Val) → is_leaf l.defined.kind ≡ true → spot.entry ≡ e
+    → value_in e n (valued m l spot vs) ≡ cond (m.0 == n) (last_of vs) None
+all_here e n m l spot [] leaf same = sym (if_none (m.0 == n))
+all_here e n m l spot (v ∷ vs) leaf same =
+    ap (λ (o : Option Val). or_else o (value_if (is_leaf l.defined.kind && (m.0 == n) && (spot.entry == e)) v)) (all_here e n m l spot vs leaf same)
+    ∙ ap (λ (o : Option Val). or_else (cond (m.0 == n) (last_of vs) None) o)
+    (own_here (is_leaf l.defined.kind) (m.0 == n) (spot.entry == e) v leaf (ap (λ x. x == e) same ∙ same_number e))
+    ∙ last_noted (m.0 == n) (last_of vs) v
+
+by_use : (e n : ℕ) (m : NodeId) (l : Label) (spot : Spot) (u : Bool) (vs : List Val) → is_leaf l.defined.kind ≡ true → spot.entry ≡ e
+    → value_in e n (valued m l spot (cond (u && true) vs [])) ≡ cond (m.0 == n) (cond u (last_of vs) None) None
+by_use e n m l spot true vs leaf same = all_here e n m l spot vs leaf same
+by_use e n m l spot false vs leaf same = sym (if_none (m.0 == n))
 
 -- a leaf that isn't written
 pub own_default : (m : Node) (n : ℕ) → m.label.defined.kind ≡ kind.Leaf → found_of m ≡ None
@@ -216,14 +231,15 @@ own_default m n leaf none =
     own_node m.spot.entry n m
     ∙ ap (λ (o : Option Data). value_in m.spot.entry n (valued m.node m.label m.spot (in_use m.label.defined.kind m.label m.scope o))) none
     ∙ ap (λ (K : NodeKind). value_in m.spot.entry n (valued m.node m.label m.spot (in_use K m.label m.scope None))) leaf
-    ∙ by_use m.spot.entry n m.node m.label m.spot (uses_defaults m.scope) (default_value m.label) (ap is_leaf leaf) refl
+    ∙ by_use m.spot.entry n m.node m.label m.spot (uses_defaults m.scope) (defaults_of m.label) (ap is_leaf leaf) refl
 
 -- and one that is
 pub own_written : (m : Node) (d : Data) (n : ℕ) → m.label.defined.kind ≡ kind.Leaf → found_of m ≡ Some d
     → own_value m.spot (leaf_met m.node m.label m.spot (Some d) ++ met m ∷ []) n ≡ cond (m.node.0 == n) (value_of m.label d) None
 own_written m d n leaf some =
     own_behind m.spot.entry n (leaf_met m.node m.label m.spot (Some d)) m
-    (ap (λ (o : Option Data). in_use m.label.defined.kind m.label m.scope o) some ∙ ap (λ (K : NodeKind). in_use K m.label m.scope (Some d)) leaf)
+    (ap (λ (o : Option Data). in_use m.label.defined.kind m.label m.scope o) some ∙ ap (λ (K : NodeKind). in_use K m.label m.scope (Some d)) leaf
+    ∙ in_use_written m.label m.scope d)
     ∙ value_append m.spot.entry n (valued m.node m.label m.spot (some_value (value_of m.label d))) []
     ∙ valued_here m.spot.entry n m.node m.label m.spot (value_of m.label d) (ap is_leaf leaf) refl
 
@@ -259,23 +275,26 @@ quiet_kind e n k s kind.Notification m l kids spot scope next found is h lt = ab
 quiet_kind e n k s kind.Input m l kids spot scope next found is h lt = absurd h
 quiet_kind e n k s kind.Output m l kids spot scope next found is h lt = absurd h
 
-not_leaf : (K : NodeKind) → IsArray K → (K ≡ kind.Leaf → ⊥)
-not_leaf kind.LeafList h e = cc
-not_leaf kind.List h e = cc
-not_leaf kind.Anydata h e = cc
-not_leaf kind.Anyxml h e = cc
-not_leaf kind.Container h e = absurd h
-not_leaf kind.Leaf h e = absurd h
-not_leaf kind.Choice h e = absurd h
-not_leaf kind.Case h e = absurd h
-not_leaf kind.Rpc h e = absurd h
-not_leaf kind.Action h e = absurd h
-not_leaf kind.Notification h e = absurd h
-not_leaf kind.Input h e = absurd h
-not_leaf kind.Output h e = absurd h
+no_leaf : (K : NodeKind) → IsArray K → is_leaf K ≡ false
+no_leaf kind.LeafList h = refl
+no_leaf kind.List h = refl
+no_leaf kind.Anydata h = refl
+no_leaf kind.Anyxml h = refl
+no_leaf kind.Container h = absurd h
+no_leaf kind.Leaf h = absurd h
+no_leaf kind.Choice h = absurd h
+no_leaf kind.Case h = absurd h
+no_leaf kind.Rpc h = absurd h
+no_leaf kind.Action h = absurd h
+no_leaf kind.Notification h = absurd h
+no_leaf kind.Input h = absurd h
+no_leaf kind.Output h = absurd h
 
-pub in_use_array : (K : NodeKind) (l : Label) (scope : Scope) (found : Option Data) → IsArray K → in_use K l scope found ≡ []
-in_use_array K l scope found h = in_use_other K l scope found (not_leaf K h)
+-- what isn't a leaf has no value that counts in an entry
+other_behind : (e n : ℕ) (xs : List Meeting) (m : Node) → is_leaf m.label.defined.kind ≡ false → own_of e n (xs ++ met m ∷ []) ≡ own_of e n xs
+other_behind e n xs m other =
+    join_values e n xs (met m ∷ []) (own_of e n xs) None refl
+    (own_node e n m ∙ valued_other e n m.node m.label m.spot (in_use m.label.defined.kind m.label m.scope (found_of m)) other)
 
 -- nothing is noted of them
 pub gains_array : (k : Kind) (s : Rows) (x : Notes) (m : NodeId) (scope : Scope) (ms : Members) (K : NodeKind) (found : Option Data) → (row_at s m).label.defined.kind ≡ K → IsArray K
@@ -283,8 +302,7 @@ pub gains_array : (k : Kind) (s : Rows) (x : Notes) (m : NodeId) (scope : Scope)
 gains_array k s x m scope ms K found is h = λ spot next lt. gains_nothing s x _ (λ n.
     let l : Label = (row_at s m).label in
     let node : Node = node_at s scope m ms spot in
-    let none : in_use l.defined.kind l scope (found_of node) ≡ [] = ap (λ (x : NodeKind). in_use x l scope (found_of node)) is ∙ in_use_array K l scope (found_of node) h in
-    own_behind spot.entry n (data_met k s scope m found spot next) node none
+    other_behind spot.entry n (data_met k s scope m found spot next) node (ap is_leaf is ∙ no_leaf K h)
     ∙ cond_none spot.entry n (is_left l.defined.kind scope found) _
     (ap (λ (x : NodeKind). own_of spot.entry n (kind_met x m l (below_in s m) spot scope next found (inside_at k s m))) is
     ∙ quiet_kind spot.entry n k s K m l (below_in s m) spot scope next found is h lt))

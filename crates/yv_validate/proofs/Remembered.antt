@@ -5,7 +5,7 @@ use Rattle.yv_values.specs.Pairs.{Pair, Keeps, IsLeast, Adds, AddsIfNone}
 use Rattle.yv_values.specs.Values.{Val}
 use Rattle.yv_validate.specs.InnerMemory.{Remembers, Tells}
 use Rattle.yv_validate.specs.Repeats.{is_the, stands}
-use Rattle.yv_validate.proofs.Same.{same_values-Decides}
+use Rattle.yv_values.proofs.SameValues.{same_values-Decides}
 
 or_last : (a b c : Bool) → ((a || b) || c) ≡ (a || (b || c))
 or_last true b c = refl

@@ -1,18 +1,28 @@
 -- Only private clauses cite this: the values of leafs as the walk notes them.
-use Rattle.std.specs.Prelude.{◌≡◌, ℕ, ◌<◌, List, Option, Some, None}
+use Rattle.std.specs.Prelude.{◌≡◌, ℕ, ◌<◌, List, [], ◌∷◌, Option, Some, None}
 use Rattle.std.specs.Ordering.{nat_cmp}
 use Rattle.std.specs.BTreeMap.{get_by}
 use Rattle.serde_json.specs.Data.{Data}
 use Rattle.yv_nodes.specs.declared.node.NodeId.{NodeId}
 use Rattle.yv_values.specs.Reads.{or_else}
 use Rattle.yv_values.specs.Values.{Val}
+use Rattle.yv_nodes.specs.Defaults.{defaults_of}
 use Rattle.yv_nodes.specs.Rows.{Rows, below, rank, row_at}
-use Rattle.yv_references.specs.InUse.{default_value}
+use Rattle.yv_nodes.specs.Tree.{Label}
 use Rattle.yv_references.specs.Meetings.{Meeting, Spot}
 use Rattle.yv_references.specs.Values.{values_in}
 use Rattle.yv_selection.specs.declared.kind.Kind.{Kind}
 use Rattle.yv_validate.specs.Values.{entry_tuple, tuple_of, unique_leafs, value_in}
 use Rattle.yv_validate.specs.declared.notes.Notes.{Notes}
+
+-- the last of these values
+abbrev pub last_of : List Val → Option Val
+last_of [] = None
+last_of (v ∷ vs) = or_else (last_of vs) (Some v)
+
+-- the default of a leaf, which has one at most: a key and a mandatory leaf have none
+abbrev pub default_value : Label → Option Val
+default_value l = last_of (defaults_of l)
 
 -- what a note at this number says: nothing, that the default is in use, or a value
 abbrev pub note_value : Rows → ℕ → Option (Option Val) → Option Val

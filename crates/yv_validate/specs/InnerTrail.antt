@@ -2,7 +2,12 @@
 use Rattle.std.specs.Prelude.{◌<◌, List, [], ◌∷◌, ◌++◌, length}
 use Rattle.yv_nodes.specs.Rows.{Rows, row_at}
 use Rattle.yv_references.specs.Place.{Place, step_name}
+use Rattle.yv_validate.specs.Flaw.{Flaw}
 use Rattle.yv_validate.specs.declared.trail.Trail.{Trail, Root, Below'}
+
+-- faults in order
+pub record Flaws : Type 0 where
+  pub items : List Flaw
 
 -- the places on a way
 abbrev pub places : Rows → Trail → List Place

@@ -1,12 +1,13 @@
 -- Only private clauses cite this: what is met at one node of the schema, and at nodes one after the other, by their numbers; and what a
 -- walk gains by what it meets.
-use Rattle.std.specs.Prelude.{◌≡◌, ◌<◌, ℕ, ◌+◌, List, [], ◌∷◌, ◌++◌, length, map, true, Option, None, if◌then◌else◌}
+use Rattle.std.specs.Prelude.{◌≡◌, ◌<◌, ℕ, ◌+◌, List, [], ◌∷◌, ◌++◌, length, map, true, Option, if◌then◌else◌}
 use Rattle.std.specs.List.{flat_map, slice_index_or, sum_by}
 use Rattle.serde_json.specs.Data.{Data, Items, Members, no_members}
 use Rattle.yv_selection.specs.declared.kind.Kind.{Kind}
 use Rattle.yv_values.specs.Count.{counted}
 use Rattle.yv_values.specs.Values.{Val}
 use Rattle.yv_nodes.specs.declared.node.NodeId.{NodeId}
+use Rattle.yv_nodes.specs.Defaults.{defaults_of}
 use Rattle.yv_nodes.specs.Link.{is_target, link_in}
 use Rattle.yv_nodes.specs.Rows.{Rows, below, children_of, rank, row_at, tree_of}
 use Rattle.yv_nodes.specs.Tree.{Forest, Tree}
@@ -15,8 +16,8 @@ use Rattle.yv_walk.specs.Context.{IsContext, parent_of, unknown_names}
 use Rattle.yv_walk.specs.Standing.{stands_in}
 use Rattle.yv_walk.specs.declared.context.Context.{Context}
 use Rattle.yv_references.specs.declared.scope.Scope.{Scope}
-use Rattle.yv_references.specs.Findings.{Findings, Finds, kept_if, Met, met_in, only_kept, value_notes}
-use Rattle.yv_references.specs.InUse.{case_scope, leaf_in_use, scope_in, some_value}
+use Rattle.yv_references.specs.Findings.{Findings, Finds, kept_if, Met, met_in, only_used, used_if, value_notes}
+use Rattle.yv_references.specs.InUse.{case_scope, scope_in, uses_defaults}
 use Rattle.yv_references.specs.Meetings.{array_met, Below, container_met, entered, entries_met, is_left, items_met, kind_met, leaf_met, Meeting, meetings, met, Node, node_met, object_met, Spot, Written}
 use Rattle.yv_references.specs.Place.{Place, under}
 use Rattle.serde_json.specs.Find.{get_member}
@@ -186,14 +187,19 @@ plain_at s scope n way = node_at s scope n no_members (spot_at s way 0 [] 0)
 -- what is found of a value that was read, in the object of this number
 abbrev pub value_found : Rows → NodeId → ℕ → Option ℕ → Option Val → Met
 value_found s n position item v = record {
-  kept = kept_if (is_target s.links n.0) n.0 position (some_value v);
+  kept = kept_if (is_target s.links n.0) n.0 position v;
+  used = [];
   positions = [];
   notes = value_notes (link_in s.links n.0) position n.0 item v;
 }
 
--- what is found of a leaf that isn't written: its default, where that is in use
-abbrev pub default_found : Rows → Scope → NodeId → ℕ → Met
-default_found s scope n position = only_kept (kept_if (is_target s.links n.0) n.0 position (leaf_in_use (row_at s n).label scope None))
+-- what is found of defaults that are in use, in the object of this number
+abbrev pub defaults_found : Rows → NodeId → ℕ → List Val → Met
+defaults_found s n position vs = only_used (used_if (is_target s.links n.0) n.0 position vs)
+
+-- what is found of a leaf or leaf-list that is empty: all its defaults, where they are in use
+abbrev pub empty_found : Rows → Scope → NodeId → ℕ → Met
+empty_found s scope n position = defaults_found s n position (if uses_defaults scope then defaults_of (row_at s n).label else [])
 
 -- a value that is written for a leaf, or for an item behind these
 abbrev pub written_at : Rows → NodeId → Option (List Data) → Data → Spot → Written

@@ -5,7 +5,9 @@ pub mod Faults
 pub mod Work
 pub mod Size
 pub mod Line
+pub mod Part
 pub mod InnerTrail
+pub mod InnerPath
 pub mod InnerWalk
 pub mod InnerMemory
 pub mod InnerNotes

@@ -2,7 +2,7 @@
 use Rattle.std.specs.Prelude.{List, [], ◌∷◌, Bool, false, ◌||◌, Option, Some, None, unwrap_or, option_map}
 use Rattle.serde_json.specs.Data.{Data}
 use Rattle.yv_values.specs.Values.{Val}
-use Rattle.yv_references.specs.Same.{same_values}
+use Rattle.yv_values.specs.Same.{same_values}
 
 -- there is a tuple, and it is the same
 abbrev pub is_the : List Val → Option (List Val) → Bool

@@ -1,5 +1,6 @@
--- The steps of a validation: one for each member that is looked up, for each node that is met at an object, for each type that is tried,
--- for each tuple that is looked up among those before it, and for each value of a leafref that is looked up among those of its target.
+-- The steps of a validation: one for each member that is looked up, for each node that is met at an object, or one for each default of it
+-- where it has more, for each type that is tried, for each tuple that is looked up among those before it, and for each value of a leafref
+-- that is looked up among those of its target.
 use Rattle.std.specs.Prelude.{ℕ, ◌+◌, List, [], ◌∷◌, Option, Some, None}
 use Rattle.std.specs.List.{sum_by}
 use Rattle.serde_json.specs.Data.{Data, object}
@@ -7,6 +8,7 @@ use Rattle.yv_selection.specs.declared.kind.Kind.{Kind}
 use Rattle.yv_values.specs.Reads.{tried}
 use Rattle.yv_values.specs.Values.{Val}
 use Rattle.yv_nodes.specs.declared.node.NodeId.{NodeId}
+use Rattle.yv_nodes.specs.Defaults.{width}
 use Rattle.yv_nodes.specs.Link.{link_in}
 use Rattle.yv_nodes.specs.Rows.{Rows}
 use Rattle.yv_nodes.specs.Tree.{Label}
@@ -44,7 +46,7 @@ abbrev pub work_at : Kind → Rows → Meeting → ℕ
 work_at k s (stand m) = object_work m.found
 work_at k s (written m) = value_work m.label m.found + item_work m.label m.before m.found
 work_at k s (ending m) = end_work (leafs_of s m.node m.label) (tuple_at k s m) m.found
-work_at k s (met m) = 1
+work_at k s (met m) = width m.label
 
 -- the steps of a whole document
 abbrev pub work : Kind → Rows → Data → ℕ

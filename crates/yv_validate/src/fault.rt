@@ -1,8 +1,8 @@
 //! What a validation reports.
 ghost use Rattle.std.specs.Prelude.{◌≡◌};
 
+use crate::path::Path;
 use std::marker::Model;
-use yv_references::Step;
 
 /// What is wrong at a place of a document.
 #[derive(Clone, Copy, Debug, PartialEq, Eq)]
@@ -59,13 +59,15 @@ impl FaultKind {
     }
 }
 
-/// A fault: its kind, the steps to its place from the top, and the number of the schema statement that it
+/// A fault: its kind, the path to its place from the top, and the number of the schema statement that it
 /// is about, or 0 where it is about none.
 #[derive(Drop)]
 pub struct Fault {
     pub kind: FaultKind,
-    pub path: Vec<Step>,
+    pub path: Path,
     pub number: u32,
+    /// The number from 1 of the first entry or item that this one repeats, for `Duplicate` and `Unique`. No clause speaks of it.
+    pub earlier: Option<u32>,
 }
 
 impl Model for Fault {
@@ -73,7 +75,7 @@ impl Model for Fault {
 
     ghost Value = { Flaw };
 
-    ghost view = { λ f. record { kind = f.kind; path = f.path.items; number = f.number } };
+    ghost view = { λ f. record { kind = f.kind; path = f.path; number = f.number } };
 }
 
 /// The faults of a document, in their order, and how many members were looked up, nodes met, types tried, and tuples and references

@@ -3,10 +3,12 @@
 
 mod count;
 mod fault;
+mod faults;
 pub mod laws;
 mod memory;
 mod nodes;
 mod notes;
+mod path;
 mod progress;
 mod tell;
 mod text;
@@ -16,6 +18,7 @@ mod walk;
 
 pub use count::size;
 pub use fault::{Fault, FaultKind, Report};
+pub use path::{Part, Path, PathSteps};
 pub use text::{line, push_line};
 pub use walk::validate;
 pub use yv_references::{MemberName, Scope, Step};

@@ -1,5 +1,5 @@
 //! Items of arrays that stood before.
-ghost use Rattle.std.specs.Prelude.{◌≡◌, ◌+◌, ◌∷◌, [], IfOk, OnOk, option_map, if◌then◌else◌};
+ghost use Rattle.std.specs.Prelude.{◌≡◌, ◌+◌, ◌∷◌, [], IfOk, OnOk, is_some, option_map, if◌then◌else◌};
 ghost use Rattle.yv_values.specs.Count.{counted};
 ghost use Rattle.yv_validate.specs.InnerMemory.{Tells};
 ghost use Rattle.yv_validate.specs.Work.{tuple_work};
@@ -7,19 +7,19 @@ ghost use Rattle.yv_validate.specs.Work.{tuple_work};
 use std::alloc::{AllocError, Global};
 use yv_values::{Index, Meter, Tuple, Value};
 
-/// Whether a tuple stood before; it is kept, where there is one.
+/// The least place at which a tuple stood before; it is kept, where there is one.
 pub(crate) fn stood_before(
     tuple: Option<Tuple>,
     place: u64,
     kept: &mut Index,
     meter: &mut Meter,
-) -> Result<bool, AllocError>
-    ensures told { IfOk result (λ b. Tells kept.old kept.new tuple b) }
+) -> Result<Option<u64>, AllocError>
+    ensures told { IfOk result (λ o. Tells kept.old kept.new tuple (is_some o)) }
     ensures steps { OnOk result (counted meter.new ≡ counted (meter.old + tuple_work tuple)) }
 {
     match tuple {
-        None => Ok(false),
-        Some(key) => Ok(kept.keep_first(meter, key, place)?.is_some()),
+        None => Ok(None),
+        Some(key) => Ok(kept.keep_first(meter, key, place)?),
     }
 }
 

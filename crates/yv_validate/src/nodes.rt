@@ -1,22 +1,24 @@
 //! Nodes below which the walk doesn't go.
-ghost use Rattle.std.specs.Prelude.{◌≡◌, ◌==◌, ◌∷◌, [], ◌++◌, ◌+◌, ◌<◌, List, ℕ, Option, nat_lt, length, map, false, true, Some, None, IfOk, OnOk, option_map, unwrap_or, if◌then◌else◌};
+ghost use Rattle.std.specs.Prelude.{◌≡◌, ◌==◌, ◌&&◌, ◌∷◌, [], ◌++◌, ◌+◌, ◌<◌, List, ℕ, Option, nat_lt, length, map, false, true, Some, None, IfOk, OnOk, option_map, unwrap_or, if◌then◌else◌};
 ghost use Rattle.serde_json.specs.Data.{Members};
 ghost use Rattle.serde_json.specs.Events.{items_len};
 ghost use Rattle.serde_json.specs.View.{view, items_view};
-ghost use Rattle.yv_properties.specs.declared.kind.NodeKind.TheVariants.{Leaf};
+ghost use Rattle.yv_properties.specs.declared.kind.NodeKind.TheVariants.{Leaf, LeafList};
 ghost use Rattle.yv_values.specs.Count.{counted};
+ghost use Rattle.yv_nodes.specs.Defaults.{defaults_of, width};
 ghost use Rattle.yv_nodes.specs.Rows.{row_at};
 ghost use Rattle.yv_references.specs.Findings.{Finds};
-ghost use Rattle.yv_references.specs.InUse.{default_value, is_asked, uses_defaults, value_of};
+ghost use Rattle.yv_references.specs.InUse.{is_asked, is_empty_at, uses_defaults, value_of};
 ghost use Rattle.yv_references.specs.Meetings.{written};
 ghost use Rattle.yv_validate.specs.Faults.{anydata_faults, anyxml_faults, array_faults, choice_faults, count_faults, flaw_if, item_tuple, leaf_faults, misshapen as misshapen_faults};
 ghost use Rattle.yv_validate.specs.InnerMemory.{Remembers};
-ghost use Rattle.yv_validate.specs.InnerNotes.{Gains, GainsBy};
+ghost use Rattle.yv_validate.specs.InnerNotes.{default_value, Gains, GainsBy};
 ghost use Rattle.yv_validate.specs.InnerTrail.{places, IsWithin};
-ghost use Rattle.yv_validate.specs.InnerWalk.{ClosesAt, default_found, Grows, GrowsAt, GrowsWithAt, items_at, leaf_at, leaf_list_at, node_at, plain_at, spot_at, told, value_found, with_node, Writes, written_at};
+ghost use Rattle.yv_validate.specs.InnerWalk.{ClosesAt, defaults_found, empty_found, Grows, GrowsAt, GrowsWithAt, items_at, leaf_at, leaf_list_at, node_at, plain_at, spot_at, told, value_found, with_node, Writes, written_at};
 ghost use Rattle.yv_validate.specs.Work.{value_work};
 
-use crate::fault::{Fault, FaultKind};
+use crate::fault::FaultKind;
+use crate::faults::Faults;
 use crate::memory::{alone, stood_before};
 use crate::notes::Notes;
 use crate::progress::{Progress, meet};
@@ -24,9 +26,11 @@ use crate::trail::Trail;
 use crate::walk::Walk;
 use serde_json::Value;
 use std::alloc::AllocError;
-use yv_nodes::{Node, NodeId};
+use yv_nodes::NodeId;
+use yv_properties::NodeKind;
 use yv_references::{Found, Scope, laws};
-use yv_values::{Index, Value as Read, check_with};
+use yv_values::{Index, Meter, Value as Read, check_with};
+use yv_walk::is_there;
 
 /// How many items an array has.
 pub(crate) fn count_of(items: &Vec<Value>) -> usize
@@ -36,6 +40,14 @@ pub(crate) fn count_of(items: &Vec<Value>) -> usize
 }
 
 impl<'a> Walk<'a> {
+    /// The visit of a node at an object: one step, or one for each of its defaults where it has more.
+    pub(crate) fn visit(&self, id: NodeId, meter: &mut Meter)
+        requires { id.0 < length self.now.schema.now.nodes }
+        ensures { meter.new ≡ counted (meter.old + width (row_at self.now.schema.now id).label) }
+    {
+        meter.visit_all(self.schema.node(id).width());
+    }
+
     /// A leaf that was visited, written so or not.
     pub(crate) fn leaf(
         &self,
@@ -82,14 +94,27 @@ impl<'a> Walk<'a> {
         requires { id.0 < length self.now.schema.now.nodes }
         ensures notes { OnOk result (Gains self.now.schema.now notes.old notes.new
             (λ n. if id.0 == n then (if uses_defaults scope then default_value (row_at self.now.schema.now id).label else None) else None)) }
-        ensures found { OnOk result (Finds found.old found.new (default_found self.now.schema.now scope id position)) }
+        ensures found { OnOk result (Finds found.old found.new (empty_found self.now.schema.now scope id position)) }
     {
         laws::nothing_met();
         if !scope.uses_defaults() {
             return Ok(());
         }
         notes.keep_default(self.schema, id)?;
-        found.keep_default(self.schema, self.schema.links(), id, position)
+        self.use_defaults(id, position, found)
+    }
+
+    // Keeps for references that the defaults of a leaf or leaf-list are in use in the object with this number, where it has some.
+    fn use_defaults(&self, id: NodeId, position: u64, found: &mut Found) -> Result<(), AllocError>
+        requires { id.0 < length self.now.schema.now.nodes }
+        ensures { OnOk result (Finds found.old found.new
+            (defaults_found self.now.schema.now id position (defaults_of (row_at self.now.schema.now id).label))) }
+    {
+        laws::nothing_met();
+        if self.schema.node(id).defaults().is_empty() {
+            return Ok(());
+        }
+        found.use_defaults(self.schema.links(), id, position)
     }
 
     fn absent_leaf(
@@ -97,7 +122,7 @@ impl<'a> Walk<'a> {
         scope: Scope,
         id: NodeId,
         path: &Trail<'_>,
-        faults: &mut Vec<Fault>,
+        faults: &mut Faults,
     ) -> Result<(), AllocError>
         requires node { id.0 < length self.now.schema.now.nodes }
         requires way { IsWithin self.now.schema.now path.now }
@@ -175,7 +200,7 @@ impl<'a> Walk<'a> {
         id: NodeId,
         value: Option<&Value>,
         path: &Trail<'_>,
-        faults: &mut Vec<Fault>,
+        faults: &mut Faults,
     ) -> Result<(), AllocError>
         requires node { id.0 < length self.now.schema.now.nodes }
         requires way { IsWithin self.now.schema.now path.now }
@@ -197,7 +222,7 @@ impl<'a> Walk<'a> {
         id: NodeId,
         value: Option<&Value>,
         path: &Trail<'_>,
-        faults: &mut Vec<Fault>,
+        faults: &mut Faults,
     ) -> Result<(), AllocError>
         requires node { id.0 < length self.now.schema.now.nodes }
         requires way { IsWithin self.now.schema.now path.now }
@@ -218,7 +243,7 @@ impl<'a> Walk<'a> {
         id: NodeId,
         existing: usize,
         path: &Trail<'_>,
-        faults: &mut Vec<Fault>,
+        faults: &mut Faults,
     ) -> Result<(), AllocError>
         requires node { id.0 < length self.now.schema.now.nodes }
         requires way { IsWithin self.now.schema.now path.now }
@@ -243,7 +268,7 @@ impl<'a> Walk<'a> {
         id: NodeId,
         total: usize,
         path: &Trail<'_>,
-        faults: &mut Vec<Fault>,
+        faults: &mut Faults,
     ) -> Result<(), AllocError>
         requires node { id.0 < length self.now.schema.now.nodes }
         requires way { IsWithin self.now.schema.now path.now }
@@ -262,7 +287,7 @@ impl<'a> Walk<'a> {
         &self,
         id: NodeId,
         path: &Trail<'_>,
-        faults: &mut Vec<Fault>,
+        faults: &mut Faults,
     ) -> Result<(), AllocError>
         requires node { id.0 < length self.now.schema.now.nodes }
         requires way { IsWithin self.now.schema.now path.now }
@@ -277,7 +302,7 @@ impl<'a> Walk<'a> {
         is_wrong: bool,
         kind: FaultKind,
         here: &Trail<'_>,
-        faults: &mut Vec<Fault>,
+        faults: &mut Faults,
     ) -> Result<(), AllocError>
         requires { IsWithin self.now.schema.now here.now }
         ensures { OnOk result (faults.new.items ≡ faults.old.items ++ flaw_if is_wrong kind (places self.now.schema.now here.now)) }
@@ -288,8 +313,36 @@ impl<'a> Walk<'a> {
         Ok(())
     }
 
-    /// A leaf-list, written so or not.
+    /// A leaf-list that was visited, written so or not. Where it has no items, its defaults are in use.
     pub(crate) fn leaf_list(
+        &self,
+        scope: Scope,
+        id: NodeId,
+        value: Option<&Value>,
+        position: u64,
+        path: &Trail<'_>,
+        progress: &mut Progress<'a>,
+    ) -> Result<(), AllocError>
+        requires node { id.0 < length self.now.schema.now.nodes }
+        requires kind { (row_at self.now.schema.now id).label.defined.kind ≡ LeafList }
+        requires asked { is_asked scope ≡ true }
+        requires way { IsWithin self.now.schema.now path.now }
+        ensures grows { OnOk result ((ms : Members) → Writes self.now.schema.now id (option_map (λ v. view v.now) value.entry) ms
+            → ClosesAt self.now.kind self.now.schema.now path.now position (told progress.old) (told progress.new)
+            (leaf_list_at self.now.schema.now id (option_map (λ v. view v.now) value.entry)) (node_at self.now.schema.now scope id ms)) }
+    {
+        laws::nothing_met();
+        laws::met_behind();
+        laws::default_met();
+        self.array(scope, id, value, position, path, progress)?;
+        if takes_defaults(scope, value) {
+            return self.use_defaults(id, position, &mut progress.found);
+        }
+        Ok(())
+    }
+
+    // The items of a leaf-list, and what is wrong with their number.
+    fn array(
         &self,
         scope: Scope,
         id: NodeId,
@@ -368,16 +421,28 @@ impl<'a> Walk<'a> {
         let read = self.read(id, Some(place), item, position, progress)?;
         let is_read = read.is_some();
         let tuple = alone(self.alloc, node.config(), read)?;
-        let is_repeated = stood_before(tuple, place, kept, &mut progress.meter)?;
+        let first = stood_before(tuple, place, kept, &mut progress.meter)?;
         if !is_read {
             return self.tell(FaultKind::Value, &here, &mut progress.faults);
         }
-        self.tell_if(
-            is_repeated,
-            FaultKind::Duplicate,
-            &here,
-            &mut progress.faults,
-        )
+        self.tell_duplicate(first, &here, &mut progress.faults)
+    }
+}
+
+// Whether the defaults of a leaf-list are in use.
+fn takes_defaults(scope: Scope, value: Option<&Value>) -> bool
+    ensures { result ≡ (uses_defaults scope && is_empty_at LeafList (option_map (λ v. view v.now) value.entry)) }
+{
+    scope.uses_defaults() && has_no_items(value)
+}
+
+// Whether a leaf-list has no items: none are written, or an empty array is.
+fn has_no_items(value: Option<&Value>) -> bool
+    ensures { result ≡ is_empty_at LeafList (option_map (λ v. view v.now) value.entry) }
+{
+    match value {
+        Some(written) => !is_there(NodeKind::LeafList, written),
+        None => true,
     }
 }
 

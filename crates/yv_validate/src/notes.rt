@@ -1,9 +1,8 @@
 //! The values of leafs that were met.
 ghost use Rattle.std.specs.Prelude.{◌≡◌, ◌==◌, ◌<◌, ℕ, length, map, Some, None, IfOk, OnOk, if◌then◌else◌};
 ghost use Rattle.yv_nodes.specs.Rows.{Rows, row_at};
-ghost use Rattle.yv_validate.specs.InnerNotes.{Gains, noted_at};
+ghost use Rattle.yv_validate.specs.InnerNotes.{default_value, Gains, noted_at};
 ghost use Rattle.yv_validate.specs.Values.{all_values, tuple_of};
-ghost use Rattle.yv_references.specs.InUse.{default_value};
 
 use std::alloc::{AllocError, Global};
 use std::collections::BTreeMap;
@@ -89,13 +88,14 @@ impl Notes {
     }
 }
 
+#[tactic(auto, using(crate::proofs::Noted::last_is))]
 fn default_of(alloc: Global, schema: &Schema, id: NodeId) -> Result<Option<Value>, AllocError>
     ensures { IfOk result (λ v. v ≡ default_value (row_at schema.now id).label) }
 {
     if id.number() >= schema.len() {
         return Ok(None);
     }
-    match schema.node(id).defaults().first() {
+    match schema.node(id).defaults().last() {
         Some(default) => Ok(Some(default.copy(alloc)?)),
         None => Ok(None),
     }

@@ -1,9 +1,9 @@
 //! What grows in a walk.
-ghost use Rattle.std.specs.Prelude.{◌≡◌, [], OnOk};
+ghost use Rattle.std.specs.Prelude.{◌≡◌, [], IfOk, OnOk};
 ghost use Rattle.yv_references.specs.Findings.{Finds, none_found};
 ghost use Rattle.yv_validate.specs.InnerWalk.{value_found};
 
-use crate::fault::Fault;
+use crate::faults::Faults;
 use std::alloc::{AllocError, Global};
 use yv_nodes::NodeId;
 use yv_references::Found;
@@ -14,7 +14,7 @@ use yv_values::{Matchers, Meter, Value};
 /// patterns that it keeps.
 #[derive(Drop)]
 pub(crate) struct Progress<'a> {
-    pub(crate) faults: Vec<Fault>,
+    pub(crate) faults: Faults,
     pub(crate) found: Found,
     pub(crate) meter: Meter,
     pub(crate) matchers: Matchers<'a>,
@@ -22,17 +22,17 @@ pub(crate) struct Progress<'a> {
 
 impl<'a> Progress<'a> {
     /// Nothing.
-    pub(crate) fn new(alloc: Global) -> Progress<'a>
-        ensures faults { result.faults.items ≡ [] }
-        ensures found { result.found ≡ none_found }
-        ensures meter { result.meter ≡ 0 }
+    pub(crate) fn new(alloc: Global) -> Result<Progress<'a>, AllocError>
+        ensures faults { IfOk result (λ p. p.faults.items ≡ []) }
+        ensures found { IfOk result (λ p. p.found ≡ none_found) }
+        ensures meter { IfOk result (λ p. p.meter ≡ 0) }
     {
-        Progress {
-            faults: Vec::new(alloc),
+        Ok(Progress {
+            faults: Faults::new(alloc)?,
             found: Found::new(alloc),
             meter: Meter::new(),
             matchers: Matchers::new(alloc),
-        }
+        })
     }
 }
 

@@ -1,5 +1,5 @@
 //! Faults as they are reported, with the way to their place.
-ghost use Rattle.std.specs.Prelude.{◌≡◌, ◌&&◌, ◌∷◌, [], ◌++◌, map, OnOk};
+ghost use Rattle.std.specs.Prelude.{◌≡◌, ◌&&◌, ◌∷◌, [], ◌++◌, is_some, map, OnOk};
 ghost use Rattle.yv_validate.specs.InnerTrail.{places, IsWithin};
 ghost use Rattle.yv_references.specs.InUse.{enforces};
 ghost use Rattle.yv_validate.specs.Faults.{flaw, flaw_if, reference_faults};
@@ -7,25 +7,24 @@ ghost use Rattle.yv_references.specs.Place.{under};
 ghost use Rattle.yv_references.specs.References.{paths_in};
 
 use crate::fault::{Fault, FaultKind};
-use crate::trail::{Trail, steps_of};
+use crate::faults::Faults;
+use crate::path::Path;
+use crate::trail::Trail;
 use crate::walk::Walk;
 use std::alloc::AllocError;
-use std::rc::RcStr;
 use yv_nodes::Node;
 use yv_references::{Scope, Step};
 
 /// Reports the references that reach nothing, which are at these paths.
-pub(crate) fn tell_references(
-    paths: Vec<Vec<Step>>,
-    faults: &mut Vec<Fault>,
-) -> Result<(), AllocError>
+pub(crate) fn tell_references(paths: Vec<Vec<Step>>, faults: &mut Faults) -> Result<(), AllocError>
     ensures { OnOk result (faults.new.items ≡ faults.old.items ++ reference_faults (paths_in paths.items)) }
 {
     for path in paths {
         faults.push(Fault {
             kind: FaultKind::Reference,
-            path,
+            path: Path::own(path),
             number: 0,
+            earlier: None,
         })?;
     }
     Ok(())
@@ -37,17 +36,40 @@ impl Walk<'_> {
         &self,
         kind: FaultKind,
         trail: &Trail<'_>,
-        faults: &mut Vec<Fault>,
+        faults: &mut Faults,
     ) -> Result<(), AllocError>
         requires { IsWithin self.now.schema.now trail.now }
         ensures { OnOk result (faults.new.items ≡ faults.old.items ++ flaw kind (places self.now.schema.now trail.now) ∷ []) }
     {
+        let path = faults.path(self.alloc, self.schema, trail)?;
         faults.push(Fault {
             kind,
-            path: steps_of(self.alloc, self.schema, trail)?,
+            path,
             number: 0,
-        })?;
-        Ok(())
+            earlier: None,
+        })
+    }
+
+    /// Reports that an entry or an item repeats an earlier one, of this place, where there is one.
+    pub(crate) fn tell_duplicate(
+        &self,
+        first: Option<u64>,
+        trail: &Trail<'_>,
+        faults: &mut Faults,
+    ) -> Result<(), AllocError>
+        requires { IsWithin self.now.schema.now trail.now }
+        ensures { OnOk result (faults.new.items ≡ faults.old.items ++ flaw_if (is_some first) FaultKind.Duplicate (places self.now.schema.now trail.now)) }
+    {
+        let Some(place) = first else {
+            return Ok(());
+        };
+        let path = faults.path(self.alloc, self.schema, trail)?;
+        faults.push(Fault {
+            kind: FaultKind::Duplicate,
+            path,
+            number: 0,
+            earlier: u32::try_from(place).ok(),
+        })
     }
 
     /// Reports members of an object that name no node.
@@ -55,7 +77,7 @@ impl Walk<'_> {
         &self,
         names: &[&str],
         trail: &Trail<'_>,
-        faults: &mut Vec<Fault>,
+        faults: &mut Faults,
     ) -> Result<(), AllocError>
         requires { IsWithin self.now.schema.now trail.now }
         ensures { OnOk result (faults.new.items ≡ faults.old.items
@@ -71,20 +93,19 @@ impl Walk<'_> {
         &self,
         key: &str,
         trail: &Trail<'_>,
-        faults: &mut Vec<Fault>,
+        faults: &mut Faults,
     ) -> Result<(), AllocError>
         requires { IsWithin self.now.schema.now trail.now }
         ensures { OnOk result (faults.new.items ≡ faults.old.items
             ++ flaw FaultKind.Unknown (under (places self.now.schema.now trail.now) key.now) ∷ []) }
     {
-        let mut path = steps_of(self.alloc, self.schema, trail)?;
-        path.push(Step::named(RcStr::from_str(self.alloc, key)?, None))?;
+        let path = faults.path_under(self.alloc, self.schema, trail, key)?;
         faults.push(Fault {
             kind: FaultKind::Unknown,
             path,
             number: 0,
-        })?;
-        Ok(())
+            earlier: None,
+        })
     }
 
     /// Reports a node that is missing, where it must be there.
@@ -93,7 +114,7 @@ impl Walk<'_> {
         node: &Node,
         scope: Scope,
         trail: &Trail<'_>,
-        faults: &mut Vec<Fault>,
+        faults: &mut Faults,
     ) -> Result<(), AllocError>
         requires { IsWithin self.now.schema.now trail.now }
         ensures { OnOk result (faults.new.items ≡ faults.old.items

@@ -2,12 +2,15 @@
 ghost use Rattle.std.specs.Prelude.{◌≡◌, ◌++◌, ◌∷◌, [], ◌<◌, IfOk, OnErr, OnOk, codes, decimal, string_bytes, IsTrue};
 ghost use Rattle.std.specs.Option.{option_map};
 ghost use Rattle.yv_nodes.specs.Member.{behind};
+ghost use Rattle.yv_references.specs.Place.{called};
+ghost use Rattle.yv_validate.specs.Part.{part_of};
 ghost use Rattle.yv_validate.specs.Line.{is_plain, hexadecimal, escaped_byte, escaped, item_text, place_text, places_text, path_text, line_text};
 
 use crate::fault::Fault;
+use crate::path::{Part, PathSteps};
 use itoa::Buffer;
 use std::alloc::{AllocError, Global};
-use yv_references::{MemberName, Step};
+use yv_references::MemberName;
 
 /// A fault's line without its line feed: the name of its kind, a blank and its path, and after a blank the
 /// number where it isn't 0. A path is `/`, or for each step `/` and the member's name, with the number of an
@@ -18,7 +21,7 @@ pub fn line(alloc: Global, fault: &Fault) -> Result<String, AllocError>
     let mut text = String::new(alloc);
     text.push_str(fault.kind.name())?;
     text.push(' ')?;
-    push_path(&mut text, fault.path.as_slice())?;
+    push_path(&mut text, &fault.path.steps())?;
     if fault.number != 0 {
         text.push(' ')?;
         text.push_str(Buffer::new().format(fault.number))?;
@@ -35,35 +38,44 @@ pub fn push_line(text: &mut String, fault: &Fault) -> Result<(), AllocError>
     text.push_str(line.as_str())
 }
 
-fn push_path(text: &mut String, path: &[Step]) -> Result<(), AllocError>
+fn push_path(text: &mut String, path: &PathSteps<'_>) -> Result<(), AllocError>
     ensures { OnOk result (string_bytes text.new ≡ string_bytes text.old ++ path_text path.now) }
 {
     if path.is_empty() {
         text.push('/')?;
     }
-    for step in path {
-        push_step(text, step)?;
-    }
-    Ok(())
+    push_steps(text, path)
 }
 
-fn push_step(text: &mut String, step: &Step) -> Result<(), AllocError>
-    ensures { OnOk result (string_bytes text.new ≡ string_bytes text.old ++ place_text step.now) }
+fn push_steps(text: &mut String, path: &PathSteps<'_>) -> Result<(), AllocError>
+    ensures { OnOk result (string_bytes text.new ≡ string_bytes text.old ++ places_text path.now) }
+{
+    match path.split_last() {
+        None => Ok(()),
+        Some((last, before)) => {
+            push_steps(text, &before)?;
+            push_step(text, &last)
+        }
+    }
+}
+
+fn push_step(text: &mut String, step: &Part<'_>) -> Result<(), AllocError>
+    ensures { OnOk result (string_bytes text.new ≡ string_bytes text.old ++ place_text (part_of step.now)) }
 {
     text.push('/')?;
-    push_member(text, step)?;
+    push_member(text, &step.name)?;
     push_item(text, step.item)
 }
 
-fn push_member(text: &mut String, step: &Step) -> Result<(), AllocError>
-    ensures { OnOk result (string_bytes text.new ≡ string_bytes text.old ++ escaped step.now.member) }
+fn push_member(text: &mut String, name: &MemberName<'_>) -> Result<(), AllocError>
+    ensures { OnOk result (string_bytes text.new ≡ string_bytes text.old
+        ++ escaped (called name.now.is_choice (option_map (λ m. m.now) name.now.module) name.now.name.now)) }
 {
-    let name = step.parts();
     if !name.is_choice {
-        return push_qualified(text, &name);
+        return push_qualified(text, name);
     }
     text.push('(')?;
-    push_qualified(text, &name)?;
+    push_qualified(text, name)?;
     text.push(')')?;
     Ok(())
 }

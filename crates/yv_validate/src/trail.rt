@@ -1,10 +1,8 @@
 //! The way to a node, as the walk keeps it.
-ghost use Rattle.std.specs.Prelude.{◌≡◌, IfOk};
-ghost use Rattle.yv_validate.specs.InnerTrail.{places, IsWithin};
+ghost use Rattle.std.specs.Prelude.{◌≡◌};
+ghost use Rattle.yv_validate.specs.InnerPath.{is_entry};
 
-use std::alloc::{AllocError, Global};
 use yv_nodes::NodeId;
-use yv_references::Step;
 use yv_tables::Schema;
 
 /// The way from the top to a node: a chain on the stack, written out only where a fault is reported.
@@ -14,21 +12,30 @@ pub(crate) enum Trail<'a> {
     Below(&'a Trail<'a>, NodeId, Option<u64>),
 }
 
-/// The way as steps of its own.
-pub(crate) fn steps_of(
-    alloc: Global,
-    schema: &Schema,
-    trail: &Trail<'_>,
-) -> Result<Vec<Step>, AllocError>
-    requires { IsWithin schema.now trail.now }
-    ensures { IfOk result (λ v. v.items ≡ places schema.now trail.now) }
-{
-    match trail {
-        Trail::Root => Ok(Vec::new(alloc)),
-        Trail::Below(parent, id, item) => {
-            let mut steps = steps_of(alloc, schema, parent)?;
-            steps.push(Step::of(schema.node(*id), *item)?)?;
-            Ok(steps)
+impl Trail<'_> {
+    /// The node at its end.
+    pub(crate) fn node(&self) -> NodeId {
+        match self {
+            Trail::Root => Schema::ROOT,
+            Trail::Below(_, id, _) => *id,
+        }
+    }
+
+    /// Whether it ends in an entry or an item of an array.
+    pub(crate) fn is_entry(&self) -> bool
+        ensures { result ≡ is_entry self.now }
+    {
+        match self {
+            Trail::Root => false,
+            Trail::Below(_, _, item) => item.is_some(),
+        }
+    }
+
+    /// How many entries and items there are on it.
+    pub(crate) fn count(&self) -> u64 {
+        match self {
+            Trail::Root => 0,
+            Trail::Below(outer, _, item) => outer.count().saturating_add(item.is_some() as u64),
         }
     }
 }

@@ -1,5 +1,5 @@
 //! The tuples by which list entries differ.
-ghost use Rattle.std.specs.Prelude.{◌≡◌, ◌∷◌, [], ◌++◌, ◌+◌, ◌<◌, length, map, min, Some, IfOk, OnOk};
+ghost use Rattle.std.specs.Prelude.{◌≡◌, ◌∷◌, [], ◌++◌, ◌+◌, ◌<◌, length, map, min, Some, is_some, IfOk, OnOk};
 ghost use Rattle.serde_json.specs.Data.{Data};
 ghost use Rattle.serde_json.specs.View.{view};
 ghost use Rattle.yv_values.specs.Count.{counted};
@@ -10,9 +10,10 @@ ghost use Rattle.yv_validate.specs.Faults.{unique_faults, unique_if};
 ghost use Rattle.yv_validate.specs.Work.{uniques_work};
 
 use crate::fault::{Fault, FaultKind};
+use crate::faults::Faults;
 use crate::memory::stood_before;
 use crate::notes::Notes;
-use crate::trail::{Trail, steps_of};
+use crate::trail::Trail;
 use crate::walk::Walk;
 use serde_json::Value;
 use std::alloc::AllocError;
@@ -55,7 +56,7 @@ impl Walk<'_> {
         kept: &mut Vec<Index>,
         here: &Trail<'_>,
         meter: &mut Meter,
-        faults: &mut Vec<Fault>,
+        faults: &mut Faults,
     ) -> Result<(), AllocError>
         requires node { id.0 < length self.now.schema.now.nodes }
         requires way { IsWithin self.now.schema.now here.now }
@@ -71,31 +72,33 @@ impl Walk<'_> {
         let place = earlier.len() as u64 + 1;
         for (number, leafs) in self.schema.uniques(id).iter().enumerate() {
             let tuple = self.tuple(notes, leafs)?;
-            let is_repeated = stood_before(tuple, place, &mut kept[number], meter)?;
-            self.tell_unique(is_repeated, number, here, faults)?;
+            let first = stood_before(tuple, place, &mut kept[number], meter)?;
+            self.tell_unique(first, number, here, faults)?;
         }
         Ok(())
     }
 
-    // Tells that an entry has the values of an earlier one for the `unique` statement behind so many, where it has.
+    // Tells that an entry has the values of an earlier one, of this place, for the `unique` statement behind so many, where there is
+    // one.
     fn tell_unique(
         &self,
-        is_repeated: bool,
+        first: Option<u64>,
         before: usize,
         here: &Trail<'_>,
-        faults: &mut Vec<Fault>,
+        faults: &mut Faults,
     ) -> Result<(), AllocError>
         requires { IsWithin self.now.schema.now here.now }
-        ensures { OnOk result (faults.new.items ≡ faults.old.items ++ unique_if is_repeated (places self.now.schema.now here.now) (before + 1)) }
+        ensures { OnOk result (faults.new.items ≡ faults.old.items ++ unique_if (is_some first) (places self.now.schema.now here.now) (before + 1)) }
     {
-        if !is_repeated {
+        let Some(place) = first else {
             return Ok(());
-        }
+        };
+        let path = faults.path(self.alloc, self.schema, here)?;
         faults.push(Fault {
             kind: FaultKind::Unique,
-            path: steps_of(self.alloc, self.schema, here)?,
+            path,
             number: before.saturating_add(1).min(4294967295) as u32,
-        })?;
-        Ok(())
+            earlier: u32::try_from(place).ok(),
+        })
     }
 }

@@ -19,7 +19,8 @@ ghost use Rattle.yv_validate.specs.InnerWalk.{cases_met, children_met, ClosesAt,
 ghost use Rattle.yv_validate.specs.Size.{size};
 ghost use Rattle.yv_validate.specs.Work.{work};
 
-use crate::fault::{Fault, FaultKind, Report};
+use crate::fault::{FaultKind, Report};
+use crate::faults::Faults;
 use crate::laws::work_bound;
 use crate::memory::stood_before;
 use crate::nodes::count_of;
@@ -60,7 +61,7 @@ pub fn validate(
     ensures bound { IfOk result (λ r. r.steps ≤ (size (view document.now) + 1)
         * ((measures_of (whole schema.now)).m + (measures_of (whole schema.now)).u + (measures_of (whole schema.now)).w + 1)) }
 {
-    work_bound(schema, document, kind);
+    is_bounded(schema, document, kind);
     let walk = Walk {
         alloc,
         schema,
@@ -72,13 +73,24 @@ pub fn validate(
     }
 }
 
+// The law of the bound for this schema and document: each reading of a schema tells what the law asks of it.
+fn is_bounded(schema: &Schema, document: &Value, kind: Kind)
+    ensures { work kind schema.now (view document.now) ≤ (size (view document.now) + 1)
+        * ((measures_of (whole schema.now)).m + (measures_of (whole schema.now)).u + (measures_of (whole schema.now)).w + 1) }
+{
+    let _nodes = schema.children(Schema::ROOT);
+    let _document = document;
+    let _kind = kind;
+    work_bound();
+}
+
 impl<'a> Walk<'a> {
     // The faults of a document that is an object: what is wrong with its data, and behind it its references that reach nothing.
     fn document(&self, members: &Map<String, Value>) -> Result<Report, AllocError>
         ensures faults { IfOk result (λ r. r.faults.items ≡ all_faults self.now.kind self.now.schema.now (an_object (members_view members.now.entries))) }
         ensures steps { IfOk result (λ r. r.steps ≡ counted (work self.now.kind self.now.schema.now (an_object (members_view members.now.entries)))) }
     {
-        let mut progress = Progress::new(self.alloc);
+        let mut progress = Progress::new(self.alloc)?;
         let mut notes = Notes::new(self.alloc);
         let top = Trail::Root;
         self.object(
@@ -99,7 +111,7 @@ impl<'a> Walk<'a> {
         let paths = answer(self.alloc, self.schema, found, &mut meter)?;
         tell_references(paths, &mut faults)?;
         Ok(Report {
-            faults,
+            faults: faults.into_vec(),
             steps: meter.steps(),
         })
     }
@@ -109,9 +121,12 @@ impl<'a> Walk<'a> {
         ensures faults { IfOk result (λ r. r.faults.items ≡ flaw FaultKind.Shape [] ∷ []) }
         ensures steps { IfOk result (λ r. r.steps ≡ 0) }
     {
-        let mut faults = Vec::new(self.alloc);
+        let mut faults = Faults::new(self.alloc)?;
         self.tell(FaultKind::Shape, &Trail::Root, &mut faults)?;
-        Ok(Report { faults, steps: 0 })
+        Ok(Report {
+            faults: faults.into_vec(),
+            steps: 0,
+        })
     }
 
     // Looks up the members of an object, and tells those that name no node.
@@ -121,7 +136,7 @@ impl<'a> Walk<'a> {
         members: &'v Map<String, Value>,
         here: &Trail<'_>,
         meter: &mut Meter,
-        faults: &mut Vec<Fault>,
+        faults: &mut Faults,
     ) -> Result<Context<'v>, AllocError>
         requires node { rank parent ≤ length self.now.schema.now.nodes }
         requires object { is_object self.now.schema.now parent ≡ true }
@@ -278,7 +293,7 @@ impl<'a> Walk<'a> {
         if kind.is_operation() {
             return Ok(());
         }
-        progress.meter.visit();
+        self.visit(id, &mut progress.meter);
         laws::inner_stands();
         let scope = scope.narrowed(self.kind, node.config());
         if kind.is_data() {
@@ -510,13 +525,8 @@ impl<'a> Walk<'a> {
             let notes = self.entry(id, item, place, position, &here, progress)?;
             let leafs = self.schema.keys(id);
             let tuple = self.tuple(&notes, leafs)?;
-            let is_repeated = stood_before(tuple, place, &mut keys, &mut progress.meter)?;
-            self.tell_if(
-                is_repeated,
-                FaultKind::Duplicate,
-                &here,
-                &mut progress.faults,
-            )?;
+            let first = stood_before(tuple, place, &mut keys, &mut progress.meter)?;
+            self.tell_duplicate(first, &here, &mut progress.faults)?;
             self.end_uniques(
                 id,
                 earlier,

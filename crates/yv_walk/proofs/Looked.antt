@@ -26,3 +26,6 @@ capped k m r = omega arith
 -- one step more
 pub counted_more : (m more r all : ℕ) → more ≡ counted (m + 1) → counted (m + (1 + r)) ≡ all → counted (more + r) ≡ all
 counted_more m more r all e whole = ap (λ n. counted (n + r)) e ∙ capped 18446744073709551615 m r ∙ whole
+
+pub none_before : (n : ℕ) → 0 + n ≡ n
+none_before n = omega arith

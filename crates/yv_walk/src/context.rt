@@ -1,5 +1,5 @@
 //! One object of a document, its members looked up once.
-ghost use Rattle.std.specs.Prelude.{◌≡◌, ◌<◌, ◌≤◌, ◌+◌, ◌∷◌, [], ◌++◌, ◌&&◌, length, map, true, IfOk, OnOk};
+ghost use Rattle.std.specs.Prelude.{◌≡◌, ◌<◌, ◌≤◌, ◌+◌, ◌∷◌, [], ◌++◌, ◌&&◌, length, map, true, IfOk, OnErr, OnOk};
 ghost use Rattle.std.specs.Option.{option_map};
 ghost use Rattle.serde_json.specs.Data.{no_members};
 ghost use Rattle.serde_json.specs.Find.{get_member};
@@ -52,7 +52,8 @@ impl<'v> Context<'v> {
         }
     }
 
-    /// Looks up each member of an object of this node, or of the root's, once. The meter counts the members.
+    /// Looks up each member of an object of this node, or of the root's, once. The meter counts the members. It fails only if memory runs
+    /// out, and then the meter is as it was.
     pub fn read(
         alloc: Global,
         schema: &Schema,
@@ -65,14 +66,16 @@ impl<'v> Context<'v> {
         ensures parent { IfOk result (λ c. parent_of c ≡ parent) }
         ensures members { IfOk result (λ c. members_of c ≡ members_view members.now.entries) }
         ensures steps { OnOk result (counted meter.new ≡ counted (meter.old + members_len (members_view members.now.entries))) }
+        ensures same { OnErr result (meter.new ≡ meter.old) }
     {
         // each reading of a schema tells what holds of it: that its rows are those of its tree, and its nodes are found by their members
         let _children = schema.children(parent);
+        let mut lookups = Meter::new();
         let mut values = Written::new(alloc);
         let mut marks = Marks::new(alloc);
         let mut unknown = Vec::new(alloc);
         for (key, value) in members.iter() {
-            match schema.find(meter, parent, key.as_str()) {
+            match schema.find(&mut lookups, parent, key.as_str()) {
                 Some(id) => {
                     values.keep(id.number(), value)?;
                     mark_member(&mut marks, schema, id, value)?;
@@ -80,6 +83,7 @@ impl<'v> Context<'v> {
                 None => note(&mut unknown, key.as_str())?,
             }
         }
+        meter.visit_all(lookups.steps());
         Ok(Context {
             parent,
             members: Some(members),

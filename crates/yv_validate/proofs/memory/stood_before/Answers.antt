@@ -6,4 +6,4 @@ returns-in-None-clause-told c = rw c.in-None.is (tells_none c.args.kept.now)
 
 pub returns-in_ok-keep_first-in-Some-clause-told : goal.returns-in_ok-keep_first-in-Some-clause-told
 returns-in_ok-keep_first-in-Some-clause-told c =
-    rw (c.in-Some.is, c.is_some.ensures) (tells_some c.args.kept.now c.keep_first.new.self c.in-Some.key c.in_ok-keep_first-in-Some.field-0 c.args.place c.in_ok-keep_first-in-Some.ensures.least (rw c.in_ok-keep_first-in-Some.was at c.keep_first.ensures.kept))
+    rw c.in-Some.is (tells_some c.args.kept.now c.keep_first.new.self c.in-Some.key c.in_ok-keep_first-in-Some.field-0 c.args.place c.in_ok-keep_first-in-Some.ensures.least (rw c.in_ok-keep_first-in-Some.was at c.keep_first.ensures.kept))

@@ -8,6 +8,6 @@ loop-note-preserved c =
     let s = c.args.self.now.schema.now in
     let links = link_in c.args.self.now.links.now in
     let ps = c.args.self.now.positions.items in (
-      λ ks g. one_judged s links ks ps c.loop-note.yielded c.in-Some.note (paths_in c.loop-note.paths.items) (paths_in c.one.new.paths.items) (c.loop-note.invariant.0 ks g) (c.in_ok-one.ensures.told ks g),
+      λ m g. one_judged s links m ps c.loop-note.yielded c.in-Some.note (paths_in c.loop-note.paths.items) (paths_in c.one.new.paths.items) (c.loop-note.invariant.0 m g) (c.in_ok-one.ensures.told m g),
       one_asked links c.loop-note.yielded c.in-Some.note c.args.meter.now c.loop-note.meter c.one.new.meter c.loop-note.invariant.1 c.in_ok-one.ensures.steps,
     )

@@ -1,4 +1,4 @@
-use Rattle.std.proofs.Common.{◌≡◌, ◌<◌, ◌≤◌, ℕ, ◌+◌, ◌∷◌, ◌++◌, List, [], true, Bor, Option, Some, None, option_map, length, length-append, map, min, take, drop, slice_index_or, refl, sym, ap, ◌∙◌, subst, arith, cond}
+use Rattle.std.proofs.Common.{◌≡◌, ◌<◌, ◌≤◌, ℕ, ◌+◌, ◌∷◌, ◌++◌, List, [], true, Bor, Option, is_some, Some, None, option_map, length, length-append, map, min, take, drop, slice_index_or, refl, sym, ap, ◌∙◌, subst, arith, cond}
 use Rattle.std.proofs.lemmas.List.{drop_all}
 use Rattle.std.proofs.lemmas.Result.{on_ok_weaker}
 use Rattle.serde_json.specs.Data.{Data, Members, array, object}
@@ -33,7 +33,7 @@ use Rattle.yv_validate.specs.Work.{tuple_work, uniques_work}
 use Rattle.yv_validate.proofs.Beneath.{AreKids, ones_drop, ones_start, other_kind, rank_is, split_at}
 use Rattle.yv_validate.proofs.Closed.{arm_closes, at_case, at_choice, at_data, at_operation, at_other, choice_closes, data_absent, data_asked, data_left, data_nothing, no_default, other_closes, state_closes}
 use Rattle.yv_validate.proofs.Entered.{container_none, container_open, container_some, object_grows}
-use Rattle.yv_validate.proofs.Grown.{grows_alone, grows_as, grows_nothing, grows_only, grows_with, in_use_unasked, next_behind, not_fewer, turn, visited}
+use Rattle.yv_validate.proofs.Grown.{grows_alone, grows_as, grows_nothing, grows_only, grows_with, in_use_other, in_use_unasked, next_behind, not_fewer, turn, visited}
 use Rattle.yv_validate.proofs.Items.{end_told, ends, entries_split, entry_grows, many_before, one_more}
 use Rattle.yv_validate.proofs.Meeting.{choice_passes, meets_child, meets_object, scope_is}
 use Rattle.yv_validate.proofs.Noted.{noted_fresh, same_tuple}
@@ -224,11 +224,11 @@ object-returns-clause-grows t c =
     let walked : Told = told c.children.new.progress in
     λ outer entry around. object_grows c.object_met.ensures k s id c.args.item path outer entry c.args.position number ms (told c.args.progress.now) begun
     c.enter.new.faults.items c.enter.new.meter walked c.leave.new.self around c.in_ok-number.ensures.number
-    c.in_ok-number.ensures.positions c.in_ok-number.ensures.indexes c.in_ok-number.ensures.notes
+    c.in_ok-number.ensures.positions c.in_ok-number.ensures.indexes c.in_ok-number.ensures.uses c.in_ok-number.ensures.notes
     c.in_ok-context.ensures.faults c.in_ok-context.ensures.steps
     (subst (λ (ds : Members). Grows k s start walked (children_met k s Always id ds (record { path = path; around = number ∷ outer; entry = entry }) (length begun.positions)))
     c.in_ok-context.ensures.members (c.in_ok-children.ensures.grows outer entry))
-    c.leave.ensures.positions c.leave.ensures.indexes c.leave.ensures.notes
+    c.leave.ensures.positions c.leave.ensures.indexes c.leave.ensures.uses c.leave.ensures.notes
 
 pub object-returns-clause-notes : goal.object-returns-clause-notes
 object-returns-clause-notes t c =
@@ -256,8 +256,8 @@ entries-loop-index-preserved t c =
     let has = c.in_ok-notes.ensures.tuples in
     let keys : f leafs.keys d ≡ c.in_ok-tuple.tuple = sym (has.each leafs.keys)
     ∙ ap (tuple_in s c.in_ok-notes.notes) (sym c.keys-leafs.ensures) ∙ sym c.in_ok-tuple.ensures in
-    let stood = c.in_ok-is_repeated.ensures.told in
-    let b = c.in_ok-is_repeated.is_repeated in
+    let stood = c.in_ok-first.ensures.told in
+    let b = is_some c.in_ok-first.first in
     let repeated : b ≡ repeats (f leafs.keys) done d = stood.same (f leafs.keys) done d c.loop-index.invariant.keys keys in
     let earlier : map view (take i c.deref.result.now) ≡ done = ap (λ (ys : List Value). map view (take i ys)) c.deref.ensures.value in
     let first : rank id ≡ id.0 + 1 = rank_is s id c.node-node.ensures.sound c.requires.node in
@@ -268,9 +268,9 @@ entries-loop-index-preserved t c =
     let mid : Told = told c.entry.new.progress in
     let new : Told = record { faults = c.end_uniques.new.faults.items; found = c.entry.new.progress.found; steps = c.end_uniques.new.meter } in
     let here : ℕ → List Place = λ m. places s c.args.path.now ++ record { member = step_name l; item = Some m } ∷ [] in
-    let uniques : c.end_uniques.new.faults.items ≡ c.tell_if.new.faults.items ++ unique_faults f (here (i + 1)) 1 leafs.uniques done d =
-    subst (λ (ds : List Data). c.end_uniques.new.faults.items ≡ c.tell_if.new.faults.items ++ unique_faults f (here (i + 1)) 1 leafs.uniques ds d) earlier (c.in_ok-end_uniques.ensures.faults d has) in
-    let ended = end_told leafs f (here (i + 1)) done d mid.faults c.tell_if.new.faults.items c.end_uniques.new.faults.items b repeated c.in_ok-tell_if.ensures uniques in
+    let uniques : c.end_uniques.new.faults.items ≡ c.tell_duplicate.new.faults.items ++ unique_faults f (here (i + 1)) 1 leafs.uniques done d =
+    subst (λ (ds : List Data). c.end_uniques.new.faults.items ≡ c.tell_duplicate.new.faults.items ++ unique_faults f (here (i + 1)) 1 leafs.uniques ds d) earlier (c.in_ok-end_uniques.ensures.faults d has) in
+    let ended = end_told leafs f (here (i + 1)) done d mid.faults c.tell_duplicate.new.faults.items c.end_uniques.new.faults.items b repeated c.in_ok-tell_duplicate.ensures uniques in
     record {
       grows = λ outer entry y later.
           let spot : Spot = spot_at s c.args.path.now c.args.position outer entry in
@@ -281,7 +281,7 @@ entries-loop-index-preserved t c =
           (ends c.nothing_met.ensures k s id spot done d mid new.faults new.steps first
           (subst (λ (m : ℕ). new.faults ≡ mid.faults ++ end_faults leafs f (here m) done d) place ended)
           (steps_both mid.steps c.stood_before.new.meter new.steps (tuple_work (f leafs.keys d)) (uniques_work f leafs.uniques d)
-          (c.in_ok-is_repeated.ensures.steps ∙ ap (λ (o : Option (List Val)). min (mid.steps + tuple_work o) 18446744073709551615) (sym keys))
+          (c.in_ok-first.ensures.steps ∙ ap (λ (o : Option (List Val)). min (mid.steps + tuple_work o) 18446744073709551615) (sym keys))
           (c.in_ok-end_uniques.ensures.steps d has))) in
           turn c.met_behind.ensures k s start old new one
           (entries_at k s id (map view (take (i + 1) xs)) (items_view (drop (i + 1) xs)) spot (next_of old + entered one))
@@ -456,7 +456,7 @@ data-returns-in-Container-clause-grows t c =
     let asked = sym c.is_asked.ensures ∙ c.if-not-is_asked.false in
     on_ok_weaker c.container.result
     (λ h. λ ms writes outer entry. arm_closes c.default_met.ensures c.nothing_met.ensures c.met_behind.ensures k s c.args.scope id ms found
-    (spot_at s c.args.path.now c.args.position outer entry) (next_of old) old new kind.Container is asked (λ e. cc) writes (grows_alone k s old new _ (h outer entry)))
+    (spot_at s c.args.path.now c.args.position outer entry) (next_of old) old new kind.Container is asked (λ e. cc) (λ e. cc) writes (grows_alone k s old new _ (h outer entry)))
     c.container.ensures.grows
 
 pub data-returns-in-Container-clause-notes : goal.data-returns-in-Container-clause-notes
@@ -470,7 +470,7 @@ data-returns-in-Container-clause-notes t c =
     let asked = sym c.is_asked.ensures ∙ c.if-not-is_asked.false in
     on_ok_weaker c.container.result
     (λ h. λ ms writes. gains_behind s c.args.notes.now c.container.new.notes (data_met k s c.args.scope id found) (node_at s c.args.scope id ms)
-    (λ spot. ap (λ K. in_use K l c.args.scope (found_of (node_at s c.args.scope id ms spot))) is)
+    (λ spot. ap (λ K. in_use K l c.args.scope (found_of (node_at s c.args.scope id ms spot))) is ∙ in_use_other kind.Container l c.args.scope (found_of (node_at s c.args.scope id ms spot)) (λ e. cc) (λ e. cc))
     (gains_met s c.args.notes.now c.container.new.notes (container_at k s c.args.scope id found) (data_met k s c.args.scope id found)
     (λ spot next. data_asked k s c.args.scope id found spot next kind.Container is asked) h))
     c.container.ensures.notes
@@ -516,8 +516,9 @@ data-returns-in-LeafList-clause-grows t c =
     let is : (row_at s id).label.defined.kind ≡ kind.LeafList = sym (ap (λ r. r.label.defined.kind) c.node-node.ensures.value) ∙ sym c.kind.ensures ∙ c.in-LeafList.is in
     let asked = sym c.is_asked.ensures ∙ c.if-not-is_asked.false in
     on_ok_weaker c.leaf_list.result
-    (λ h. λ ms writes outer entry. arm_closes c.default_met.ensures c.nothing_met.ensures c.met_behind.ensures k s c.args.scope id ms found
-    (spot_at s c.args.path.now c.args.position outer entry) (next_of old) old new kind.LeafList is asked (λ e. cc) writes (h outer entry))
+    (λ h. λ ms writes outer entry.
+    let spot : Spot = spot_at s c.args.path.now c.args.position outer entry in
+    subst (λ (xs : List Meeting). Closes k s old new xs (node_at s c.args.scope id ms spot)) (data_asked k s c.args.scope id found spot (next_of old) kind.LeafList is asked) (h ms writes outer entry))
     c.leaf_list.ensures.grows
 
 pub data-returns-in-LeafList-clause-notes : goal.data-returns-in-LeafList-clause-notes
@@ -543,7 +544,7 @@ data-returns-in-List-clause-grows t c =
     let asked = sym c.is_asked.ensures ∙ c.if-not-is_asked.false in
     on_ok_weaker c.list.result
     (λ h. λ ms writes outer entry. arm_closes c.default_met.ensures c.nothing_met.ensures c.met_behind.ensures k s c.args.scope id ms found
-    (spot_at s c.args.path.now c.args.position outer entry) (next_of old) old new kind.List is asked (λ e. cc) writes (h outer entry))
+    (spot_at s c.args.path.now c.args.position outer entry) (next_of old) old new kind.List is asked (λ e. cc) (λ e. cc) writes (h outer entry))
     c.list.ensures.grows
 
 pub data-returns-in-List-clause-notes : goal.data-returns-in-List-clause-notes
@@ -568,7 +569,7 @@ data-returns-in-Anydata-clause-grows t c =
     let asked = sym c.is_asked.ensures ∙ c.if-not-is_asked.false in
     on_ok_weaker c.anydata.result
     (λ h. λ ms writes outer entry. arm_closes c.default_met.ensures c.nothing_met.ensures c.met_behind.ensures k s c.args.scope id ms found
-    (spot_at s c.args.path.now c.args.position outer entry) (next_of old) old _ kind.Anydata is asked (λ e. cc) writes (grows_only c.nothing_met.ensures k s old c.anydata.new.faults.items _ h))
+    (spot_at s c.args.path.now c.args.position outer entry) (next_of old) old _ kind.Anydata is asked (λ e. cc) (λ e. cc) writes (grows_only c.nothing_met.ensures k s old c.anydata.new.faults.items _ h))
     c.anydata.ensures
 
 pub data-returns-in-Anydata-clause-notes : goal.data-returns-in-Anydata-clause-notes
@@ -593,7 +594,7 @@ data-returns-in-Anyxml-clause-grows t c =
     let asked = sym c.is_asked.ensures ∙ c.if-not-is_asked.false in
     on_ok_weaker c.anyxml.result
     (λ h. λ ms writes outer entry. arm_closes c.default_met.ensures c.nothing_met.ensures c.met_behind.ensures k s c.args.scope id ms found
-    (spot_at s c.args.path.now c.args.position outer entry) (next_of old) old _ kind.Anyxml is asked (λ e. cc) writes (grows_only c.nothing_met.ensures k s old c.anyxml.new.faults.items _ h))
+    (spot_at s c.args.path.now c.args.position outer entry) (next_of old) old _ kind.Anyxml is asked (λ e. cc) (λ e. cc) writes (grows_only c.nothing_met.ensures k s old c.anyxml.new.faults.items _ h))
     c.anyxml.ensures
 
 pub data-returns-in-Anyxml-clause-notes : goal.data-returns-in-Anyxml-clause-notes
@@ -779,7 +780,7 @@ node-returns-then-is_data-clause-grows t c =
     let spot : Spot = spot_at s c.args.path.now c.args.position outer entry in
     subst (λ (y : Scope). Grows k s old new (one_met k s y id ms spot (next_of old))) scope
     (grows_as k s old new _ _ (at_data k s c.narrowed-scope.result id ms found spot (next_of old) plain one writes)
-    (visited k s old c.visit.new.self new _ (node_at s c.narrowed-scope.result id ms spot) c.visit.ensures (h ms writes outer entry))))
+    (visited k s old c.visit.new.meter new _ (node_at s c.narrowed-scope.result id ms spot) c.visit.ensures (h ms writes outer entry))))
     c.«data».ensures.grows
 
 pub node-returns-then-is_data-clause-notes : goal.node-returns-then-is_data-clause-notes
@@ -817,7 +818,7 @@ node-returns-in-Choice-clause-grows t c =
     let spot : Spot = spot_at s c.args.path.now c.args.position outer entry in
     subst (λ (y : Scope). Grows k s old new (one_met k s y id ms spot (next_of old))) scope
     (grows_as k s old new _ _ (at_choice k s c.narrowed-scope.result id ms spot (next_of old) as_kind)
-    (visited k s old c.visit.new.self new _ (node_at s c.narrowed-scope.result id ms spot) c.visit.ensures (h outer entry))))
+    (visited k s old c.visit.new.meter new _ (node_at s c.narrowed-scope.result id ms spot) c.visit.ensures (h outer entry))))
     c.choice.ensures.grows
 
 pub node-returns-in-Choice-clause-notes : goal.node-returns-in-Choice-clause-notes
@@ -854,7 +855,7 @@ node-returns-in-Case-clause-grows t c =
     let spot : Spot = spot_at s c.args.path.now c.args.position outer entry in
     subst (λ (y : Scope). Grows k s old new (one_met k s y id ms spot (next_of old))) scope
     (grows_as k s old new _ _ (at_case k s c.narrowed-scope.result id ms spot (next_of old) as_kind)
-    (visited k s old c.visit.new.self new _ (node_at s c.narrowed-scope.result id ms spot) c.visit.ensures (other_closes c.default_met.ensures c.nothing_met.ensures c.met_behind.ensures k s c.narrowed-scope.result id ms spot (record { faults = old.faults; found = old.found; steps = c.visit.new.self }) new _ (ap is_data as_kind) (λ e. cc) (h outer entry)))))
+    (visited k s old c.visit.new.meter new _ (node_at s c.narrowed-scope.result id ms spot) c.visit.ensures (other_closes c.default_met.ensures c.nothing_met.ensures c.met_behind.ensures k s c.narrowed-scope.result id ms spot (record { faults = old.faults; found = old.found; steps = c.visit.new.meter }) new _ (ap is_data as_kind) (λ e. cc) (h outer entry)))))
     c.children.ensures.grows
 
 pub node-returns-in-Case-clause-notes : goal.node-returns-in-Case-clause-notes
@@ -883,7 +884,7 @@ node-returns-in_default t c =
     let l = (row_at s id).label in
     let ms = members_of c.args.context.now in
     let old : Told = told c.args.progress.now in
-    let begun : Told = record { faults = old.faults; found = old.found; steps = c.visit.new.self } in
+    let begun : Told = record { faults = old.faults; found = old.found; steps = c.visit.new.meter } in
     let is : c.kind-kind.result ≡ l.defined.kind = c.kind-kind.ensures ∙ ap (λ r. r.label.defined.kind) c.node-node.ensures.value in
     let plain = sym (ap is_operation is) ∙ sym c.is_operation.ensures ∙ c.if-is_operation.false in
     let none = sym (ap is_data is) ∙ sym c.is_data.ensures ∙ c.if-is_data.false in
@@ -894,7 +895,7 @@ node-returns-in_default t c =
       grows = λ outer entry.
           let spot : Spot = spot_at s c.args.path.now c.args.position outer entry in
           grows_as k s old begun _ _ (at_other k s y id ms spot (next_of old) plain none no_choice no_case)
-          (visited k s old c.visit.new.self begun [] (node_at s y id ms spot) c.visit.ensures
+          (visited k s old c.visit.new.meter begun [] (node_at s y id ms spot) c.visit.ensures
           (other_closes c.default_met.ensures c.nothing_met.ensures c.met_behind.ensures k s y id ms spot begun begun [] none no_choice (grows_nothing c.nothing_met.ensures k s begun)));
       notes = gains_met s c.args.notes.now c.args.notes.now (with_node (λ spot next. []) (node_at s y id ms)) (one_met k s y id ms)
           (λ spot next. at_other k s y id ms spot next plain none no_choice no_case)

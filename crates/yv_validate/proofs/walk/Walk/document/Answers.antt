@@ -19,10 +19,11 @@ returns-clause-faults c =
     let k = c.args.self.now.kind in
     let s = c.args.self.now.schema.now in
     let ms = members_view c.args.members.now.entries in
-    let start = c.new-progress.ensures in
-    let grown = all_grown k s ms (told c.new-progress.result) (told c.object.new.progress) start.faults start.found start.meter (c.in_ok-object.ensures.grows [] 0 refl) in
+    let start = c.in_ok-progress.ensures in
+    let grown = all_grown k s ms (told c.in_ok-progress.progress) (told c.object.new.progress) start.faults start.found start.meter (c.in_ok-object.ensures.grows [] 0 refl) in
     let walked : List Flaw = flat_map (faults_at k s) (all_met k s (object ms)) in
-    c.in_ok-tell_references.ensures
+    c.into_vec.ensures
+    ∙ c.in_ok-tell_references.ensures
     ∙ ap (λ (fs : List Flaw). fs ++ reference_faults (paths_in c.in_ok-paths.paths.items)) grown.faults
     ∙ ap (λ (ps : List (List Place)). walked ++ reference_faults ps) (c.in_ok-paths.ensures.told k ms grown.found)
 
@@ -31,8 +32,8 @@ returns-clause-steps c =
     let k = c.args.self.now.kind in
     let s = c.args.self.now.schema.now in
     let ms = members_view c.args.members.now.entries in
-    let start = c.new-progress.ensures in
-    let grown = all_grown k s ms (told c.new-progress.result) (told c.object.new.progress) start.faults start.found start.meter (c.in_ok-object.ensures.grows [] 0 refl) in
+    let start = c.in_ok-progress.ensures in
+    let grown = all_grown k s ms (told c.in_ok-progress.progress) (told c.object.new.progress) start.faults start.found start.meter (c.in_ok-object.ensures.grows [] 0 refl) in
     omega (
       arith,
       grown.steps,

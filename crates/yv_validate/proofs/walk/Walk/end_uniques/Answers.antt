@@ -1,4 +1,4 @@
-use Rattle.std.proofs.Common.{◌≡◌, ◌+◌, ◌<◌, ◌≤◌, ◌++◌, List, Option, Bool, map, min, length, length-set, drop, get_or, refl, sym, ap, ◌∙◌, arith, append-nil}
+use Rattle.std.proofs.Common.{◌≡◌, ◌+◌, ◌<◌, ◌≤◌, ◌++◌, List, Option, Bool, is_some, map, min, length, length-set, drop, get_or, refl, sym, ap, ◌∙◌, arith, append-nil}
 use Rattle.std.proofs.lemmas.List.{drop_all, length-map}
 use Rattle.serde_json.specs.View.{view}
 use Rattle.yv_values.specs.Values.{Val}
@@ -43,8 +43,8 @@ loop-number-preserved c =
     let many : length us ≡ length rows = sym (ap length c.uniques-leafs-items.ensures) ∙ length-map rows _ in
     let lt : n < length us = omega (arith, many) in
     let stated : u ≡ get_or us n u = get_map _ rows n c.leafs-item.result c.loop-number-test.true c.leafs-item.is ∙ ap (λ (xs : List (List (Option NodeId))). get_or xs n u) c.uniques-leafs-items.ensures in
-    let told = c.in_ok-is_repeated.ensures.told in
-    let b = c.in_ok-is_repeated.is_repeated in
+    let told = c.in_ok-first.ensures.told in
+    let b = is_some c.in_ok-first.first in
     record {
       same = length-set c.loop-number.kept.items n c.stood_before.new.kept ∙ c.loop-number.invariant.same;
       each = λ d has.
@@ -58,7 +58,7 @@ loop-number-preserved c =
                 (c.in_ok-tell_unique.ensures ∙ ap (λ (x : Bool). c.loop-number.faults.items ++ unique_if x here (n + 1)) is) (unique_drop f here (n + 1) us n u before d lt stated) inv.faults;
             kept = some_step c.loop-number.kept.items f us before d n c.stood_before.new.kept u lt stated inv.kept (told.next (f u) before d old made);
             steps = steps_on c.loop-number.meter c.stood_before.new.meter (tuple_work (f u d)) _ (uniques_work f (drop (n + 1) us) d) _
-                (c.in_ok-is_repeated.ensures.steps ∙ ap (λ (t : Option (List Val)). min (c.loop-number.meter + tuple_work t) 18446744073709551615) (sym made))
+                (c.in_ok-first.ensures.steps ∙ ap (λ (t : Option (List Val)). min (c.loop-number.meter + tuple_work t) 18446744073709551615) (sym made))
                 (work_drop f us n u d lt stated) inv.steps;
           };
     }

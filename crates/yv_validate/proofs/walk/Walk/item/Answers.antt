@@ -31,20 +31,20 @@ returns-clause-grows c =
     let is : c.in_ok-read.read ≡ value_of l d = c.in_ok-read.ensures.value in
     let has : is_some (value_of l d) ≡ true = sym (ap is_some is) ∙ sym c.is_some-is_read.ensures ∙ c.if-not-is_read.false in
     let made : item_tuple l d ≡ c.in_ok-tuple.tuple = alone_is c.node-node.result.now (row_at s id) d c.config.result c.in_ok-read.read c.in_ok-tuple.tuple c.node-node.ensures.value c.config.ensures is c.in_ok-tuple.ensures in
-    let repeated : c.in_ok-is_repeated.is_repeated ≡ repeats (item_tuple l) before d = c.in_ok-is_repeated.ensures.told.same (item_tuple l) before d c.requires.kept made in
+    let repeated : (is_some c.in_ok-first.first) ≡ repeats (item_tuple l) before d = c.in_ok-first.ensures.told.same (item_tuple l) before d c.requires.kept made in
     let many : length c.args.earlier.now + 1 ≡ length before + 1 = ap (λ n. n + 1) (sym (length-map c.args.earlier.now view)) in
     let here : ℕ → List Place = λ n. places s c.args.path.now ++ record { member = step_name l; item = Some n } ∷ [] in
     let steps = steps_both old.steps c.read.new.progress.meter c.stood_before.new.meter (value_work l d) (tuple_work (item_tuple l d)) c.in_ok-read.ensures.steps
-    (c.in_ok-is_repeated.ensures.steps ∙ ap (λ (o : Option (List Val)). min (c.read.new.progress.meter + tuple_work o) 18446744073709551615) (sym made)) in
-    on_ok_weaker c.tell_if.result
+    (c.in_ok-first.ensures.steps ∙ ap (λ (o : Option (List Val)). min (c.read.new.progress.meter + tuple_work o) 18446744073709551615) (sym made)) in
+    on_ok_weaker c.tell_duplicate.result
     (λ h. λ outer entry.
     let spot = spot_at s c.args.path.now c.args.position outer entry in
-    writes c.value_met.ensures k s id spot (Some before) d old c.tell_if.new.faults.items c.read.new.progress.found c.stood_before.new.meter
-    (read_told (written_at s id (Some before) d spot) old.faults c.tell_if.new.faults.items c.in_ok-is_repeated.is_repeated has repeated
-    (h ∙ ap (λ (fs : List Flaw). fs ++ flaw_if c.in_ok-is_repeated.is_repeated Duplicate (here (length c.args.earlier.now + 1))) c.read.ensures.faults
-    ∙ ap (λ n. old.faults ++ flaw_if c.in_ok-is_repeated.is_repeated Duplicate (here n)) many))
+    writes c.value_met.ensures k s id spot (Some before) d old c.tell_duplicate.new.faults.items c.read.new.progress.found c.stood_before.new.meter
+    (read_told (written_at s id (Some before) d spot) old.faults c.tell_duplicate.new.faults.items (is_some c.in_ok-first.first) has repeated
+    (h ∙ ap (λ (fs : List Flaw). fs ++ flaw_if (is_some c.in_ok-first.first) Duplicate (here (length c.args.earlier.now + 1))) c.read.ensures.faults
+    ∙ ap (λ n. old.faults ++ flaw_if (is_some c.in_ok-first.first) Duplicate (here n)) many))
     (subst (λ n. Finds old.found c.read.new.progress.found (value_found s id c.args.position (Some n) (value_of l d))) many c.in_ok-read.ensures.found) steps)
-    c.tell_if.ensures
+    c.tell_duplicate.ensures
 
 pub returns-then-not-is_read-clause-grows : goal.returns-then-not-is_read-clause-grows
 returns-then-not-is_read-clause-grows c =
@@ -61,7 +61,7 @@ returns-then-not-is_read-clause-grows c =
     let many : length c.args.earlier.now + 1 ≡ length before + 1 = ap (λ n. n + 1) (sym (length-map c.args.earlier.now view)) in
     let here : ℕ → List Place = λ n. places s c.args.path.now ++ record { member = step_name l; item = Some n } ∷ [] in
     let steps = steps_both old.steps c.read.new.progress.meter c.stood_before.new.meter (value_work l d) (tuple_work (item_tuple l d)) c.in_ok-read.ensures.steps
-    (c.in_ok-is_repeated.ensures.steps ∙ ap (λ (o : Option (List Val)). min (c.read.new.progress.meter + tuple_work o) 18446744073709551615) (sym made)) in
+    (c.in_ok-first.ensures.steps ∙ ap (λ (o : Option (List Val)). min (c.read.new.progress.meter + tuple_work o) 18446744073709551615) (sym made)) in
     on_ok_weaker c.tell.result
     (λ h. λ outer entry.
     let spot = spot_at s c.args.path.now c.args.position outer entry in

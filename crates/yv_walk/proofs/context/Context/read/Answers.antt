@@ -13,7 +13,7 @@ use Rattle.yv_walk.specs.Written.{kept, value_at}
 use Rattle.yv_walk.proofs.Joins.{both_none}
 use Rattle.yv_walk.proofs.Keys.{ordered_keys}
 use Rattle.yv_walk.proofs.Kept.{AreHeld, held_at, holds_found, holds_none, holds_unknown}
-use Rattle.yv_walk.proofs.Looked.{counted_more, names_known, names_unknown}
+use Rattle.yv_walk.proofs.Looked.{counted_more, names_known, names_unknown, none_before}
 use Rattle.yv_walk.proofs.Naming.{are_named, are_unnamed, data_inside, found_in, held_row, is_held}
 use Rattle.yv_walk.proofs.Single.{next, nothing, unknown}
 use Rattle.yv_walk.proofs.context.Context.read.Goals as goal
@@ -32,7 +32,7 @@ loop-key-init c =
       held = subst (λ ms. AreHeld s p (value_at c.new-values.result) ms all) (sym same) (holds_none s p (value_at c.new-values.result) all c.new-values.ensures);
       marks = λ a stands pass. ap (λ x. both x (standing (rank a) (below s a) first)) (c.new-marks.ensures a.0) ∙ ap (standing (rank a) (below s a)) same;
       names = ap (λ (ks : List (List ℕ)). ks ++ unknown_names (object_trees s p) first) none ∙ ap (unknown_names (object_trees s p)) same;
-      steps = ap (λ ms. counted (c.args.meter.now + members_len ms)) same;
+      steps = ap (λ (n : ℕ). counted (n + members_len first)) c.new-lookups.ensures ∙ ap counted (none_before (members_len first)) ∙ ap (λ ms. counted (members_len ms)) same;
     }
 
 pub loop-key-preserved-in-Continue-branch-2 : goal.loop-key-preserved-in-Continue-branch-2
@@ -65,8 +65,8 @@ loop-key-preserved-in-Continue-branch-2 c =
           ∙ c.loop-key.invariant.marks a stands pass;
       names = names_known names (unknown_names ts all) ts key d rest (c.in-Some-find.ensures.known ∙ ap (is_known ts) text)
           (ap (λ ms. names ++ unknown_names ts ms) (sym step) ∙ c.loop-key.invariant.names);
-      steps = counted_more c.loop-key.meter c.find.new.meter (members_len rest) (counted (c.args.meter.now + members_len all)) c.in-Some-find.ensures.steps
-          (ap (λ ms. counted (c.loop-key.meter + members_len ms)) (sym step) ∙ c.loop-key.invariant.steps);
+      steps = counted_more c.loop-key.lookups c.find.new.meter (members_len rest) (counted (members_len all)) c.in-Some-find.ensures.steps
+          (ap (λ ms. counted (c.loop-key.lookups + members_len ms)) (sym step) ∙ c.loop-key.invariant.steps);
     }
 
 pub loop-key-preserved : goal.loop-key-preserved
@@ -96,8 +96,8 @@ loop-key-preserved c =
       names = names_unknown names (map (λ k. k.now) c.note.new.unknown.items) (unknown_names ts all) ts key d rest (c.in-None-find.ensures.known ∙ ap (is_known ts) text)
           (c.in_ok-note-in-None-find.ensures ∙ ap (λ k. names ++ k ∷ []) c.as_str-in-None-find.ensures.value)
           (ap (λ ms. names ++ unknown_names ts ms) (sym step) ∙ c.loop-key.invariant.names);
-      steps = counted_more c.loop-key.meter c.find.new.meter (members_len rest) (counted (c.args.meter.now + members_len all)) c.in-None-find.ensures.steps
-          (ap (λ ms. counted (c.loop-key.meter + members_len ms)) (sym step) ∙ c.loop-key.invariant.steps);
+      steps = counted_more c.loop-key.lookups c.find.new.meter (members_len rest) (counted (members_len all)) c.in-None-find.ensures.steps
+          (ap (λ ms. counted (c.loop-key.lookups + members_len ms)) (sym step) ∙ c.loop-key.invariant.steps);
     }
 
 pub returns-clause-context : goal.returns-clause-context

@@ -22,5 +22,5 @@ invariant-loop-key l =
           → both (mark_at l.marks a.0) (standing (rank a) (below l.schema a) (members_view l.key-iterator)) ≡ standing (rank a) (below l.schema a) (members_view l.members.entries);
       names : map (λ k. k.now) l.unknown.items ++ unknown_names (object_trees l.schema l.parent) (members_view l.key-iterator)
           ≡ unknown_names (object_trees l.schema l.parent) (members_view l.members.entries);
-      steps : counted (l.meter + members_len (members_view l.key-iterator)) ≡ counted (l.initial.meter + members_len (members_view l.members.entries));
+      steps : counted (l.lookups + members_len (members_view l.key-iterator)) ≡ counted (members_len (members_view l.members.entries));
     }

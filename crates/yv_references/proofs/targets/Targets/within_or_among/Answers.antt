@@ -1,15 +1,15 @@
 use Rattle.std.proofs.Common.{◌≡◌, ◌∙◌, ap, sym, []}
 use Rattle.yv_references.specs.Findings.{Indexes, index_of, pairs_in}
-use Rattle.yv_references.proofs.targets.Targets.within.Goals as goal
+use Rattle.yv_references.proofs.targets.Targets.within_or_among.Goals as goal
 
 pub returns-in-Some-clause-found : goal.returns-in-Some-clause-found
 returns-in-Some-clause-found c =
     let same : index_of c.args.self.now c.args.target.0 ≡ c.in-Some.index.now =
     ap (λ (es : Indexes). index_of es c.args.target.0) (sym c.self.view_is) ∙ ap pairs_in (sym c.in-Some.ensures.value) in
-    rw same c.within.ensures.found
+    rw same c.within_or_among.ensures.found
 
 pub returns-in-None-clause-found : goal.returns-in-None-clause-found
 returns-in-None-clause-found c =
     let same : index_of c.args.self.now c.args.target.0 ≡ [] =
     ap (λ (es : Indexes). index_of es c.args.target.0) (sym c.self.view_is) ∙ ap pairs_in (sym c.in-None.ensures.value) in
-    rw same (λ t. absurd (cc), λ h. absurd h.1)
+    rw same (rw c.new-none.ensures at c.within_or_among-in-None.ensures.found)
