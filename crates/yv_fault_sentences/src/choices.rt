@@ -13,6 +13,9 @@ use yv_walk::Context;
 /// How many members an object has whose cases are looked for.
 const MOST_MEMBERS: usize = 1000;
 
+/// How many cases of a choice are looked at.
+const MOST_CASES: usize = 1000;
+
 /// Adds that one of the cases of a choice must be there.
 pub(crate) fn push_missing_choice(
     alloc: Global,
@@ -68,7 +71,7 @@ fn standing(
     choice: Option<NodeId>,
 ) -> Result<Vec<NodeId>, AllocError> {
     let mut cases = Vec::new(alloc);
-    for case in children_at(schema, choice) {
+    for case in children_at(schema, choice).iter().take(MOST_CASES) {
         if is_standing(schema, context, *case) {
             cases.push(*case)?;
         }

@@ -4,11 +4,12 @@ ghost use Rattle.std.specs.Option.{option_map};
 ghost use Rattle.yv_nodes.specs.Member.{behind};
 ghost use Rattle.yv_validate.specs.Line.{escaped, escaped_byte, hexadecimal, item_text, place_text, places_text};
 ghost use Rattle.yv_references.specs.Place.{called};
+ghost use Rattle.yv_validate.specs.Part.{part_of, steps_of};
 ghost use Rattle.yv_fault_sentences.specs.Line.{Begins, number_text, shortened};
 
 use itoa::Buffer;
 use std::alloc::{AllocError, Global};
-use yv_validate::{Fault, MemberName, Step, line};
+use yv_validate::{Fault, MemberName, Part, line};
 
 /// The most bytes of the steps that are shown of a path, as the names are before they are escaped.
 const MOST_SHOWN: usize = 300;
@@ -20,16 +21,25 @@ const AROUND_NAMES: usize = 26;
 pub(crate) fn front(alloc: Global, fault: &Fault) -> Result<String, AllocError>
     ensures { IfOk result (λ text. Begins fault.now (string_bytes text)) }
 {
-    let left_out = left_out(fault.path.as_slice());
+    let path = fault.path.steps().to_vec(alloc)?;
+    front_of(alloc, fault, path.as_slice())
+}
+
+// The same, by the steps of the fault's path.
+fn front_of(alloc: Global, fault: &Fault, path: &[Part<'_>]) -> Result<String, AllocError>
+    requires { steps_of path.now ≡ fault.now.path }
+    ensures { IfOk result (λ text. Begins fault.now (string_bytes text)) }
+{
+    let left_out = left_out(path);
     if left_out == 0 {
         line(alloc, fault)
     } else {
-        shortened(alloc, fault, left_out)
+        shortened(alloc, fault, path, left_out)
     }
 }
 
 /// How many of the first steps of a path aren't shown.
-pub(crate) fn left_out(path: &[Step]) -> usize
+pub(crate) fn left_out(path: &[Part<'_>]) -> usize
     ensures { result ≤ length path.now }
 {
     let mut first = path.len();
@@ -46,25 +56,29 @@ pub(crate) fn left_out(path: &[Step]) -> usize
 }
 
 // About how many bytes are shown of a step.
-fn size_of(step: &Step) -> usize {
-    let parts = step.parts();
-    let module = match parts.module {
+fn size_of(step: &Part<'_>) -> usize {
+    let module = match step.name.module {
         Some(module) => module.len(),
         None => 0,
     };
     module
-        .saturating_add(parts.name.len())
+        .saturating_add(step.name.name.len())
         .saturating_add(AROUND_NAMES)
 }
 
 // The fault's line without so many of the first steps.
-fn shortened(alloc: Global, fault: &Fault, left_out: usize) -> Result<String, AllocError>
-    requires { left_out ≤ length fault.now.path }
-    ensures { IfOk result (λ text. string_bytes text ≡ shortened fault.now (drop left_out fault.now.path)) }
+fn shortened(
+    alloc: Global,
+    fault: &Fault,
+    path: &[Part<'_>],
+    left_out: usize,
+) -> Result<String, AllocError>
+    requires { left_out ≤ length path.now }
+    ensures { IfOk result (λ text. string_bytes text ≡ shortened fault.now (steps_of (drop left_out path.now))) }
 {
     let mut text = String::from_str(alloc, fault.kind.name())?;
     text.push_str(" ..")?;
-    push_steps(&mut text, &fault.path[left_out..])?;
+    push_steps(&mut text, &path[left_out..])?;
     push_number(&mut text, fault.number)?;
     Ok(text)
 }
@@ -80,8 +94,8 @@ fn push_number(text: &mut String, number: u32) -> Result<(), AllocError>
     Ok(())
 }
 
-fn push_steps(text: &mut String, path: &[Step]) -> Result<(), AllocError>
-    ensures { OnOk result (string_bytes text.new ≡ string_bytes text.old ++ places_text path.now) }
+fn push_steps(text: &mut String, path: &[Part<'_>]) -> Result<(), AllocError>
+    ensures { OnOk result (string_bytes text.new ≡ string_bytes text.old ++ places_text (steps_of path.now)) }
 {
     for step in path {
         push_step(text, step)?;
@@ -89,11 +103,11 @@ fn push_steps(text: &mut String, path: &[Step]) -> Result<(), AllocError>
     Ok(())
 }
 
-fn push_step(text: &mut String, step: &Step) -> Result<(), AllocError>
-    ensures { OnOk result (string_bytes text.new ≡ string_bytes text.old ++ place_text step.now) }
+fn push_step(text: &mut String, step: &Part<'_>) -> Result<(), AllocError>
+    ensures { OnOk result (string_bytes text.new ≡ string_bytes text.old ++ place_text (part_of step.now)) }
 {
     text.push_str("/")?;
-    push_name(text, &step.parts())?;
+    push_name(text, &step.name)?;
     push_item(text, step.item)
 }
 

@@ -5,8 +5,8 @@
 mod beside;
 mod choices;
 mod clear;
-mod earlier;
 mod front;
+mod listed;
 mod numbers;
 mod repeated;
 mod spot;

@@ -1,48 +1,42 @@
 //! What is said of entries and items that repeat earlier ones.
-use crate::earlier::{Budget, Columns};
-use crate::spot::{Spot, items_of, node_at};
+use crate::spot::{Spot, node_at};
 use crate::words::push_names;
 use itoa::Buffer;
-use std::alloc::{AllocError, Global};
+use std::alloc::AllocError;
 use yv_nodes::NodeId;
 use yv_properties::NodeKind;
 use yv_tables::Schema;
+use yv_validate::Fault;
 
 /// Adds which earlier entry has the keys of this one, or which earlier item its value.
 pub(crate) fn push_duplicate(
-    alloc: Global,
     text: &mut String,
-    budget: &mut Budget,
     schema: &Schema,
     spot: &Spot<'_>,
+    fault: &Fault,
 ) -> Result<(), AllocError> {
     match node_at(schema, spot.node) {
         Some(node) if !matches!(node.kind(), NodeKind::List) => {
-            let columns = Some(Columns::of_items(alloc));
-            push_earlier(text, budget, "item", &columns, spot)?;
+            push_earlier(text, "item", fault.earlier)?;
             text.push_str(" has the same value; remove one of them")
         }
         _ => {
-            let keys = keys_at(schema, spot.node);
-            push_entry_with(alloc, text, budget, schema, spot, keys)?;
+            push_earlier(text, "entry", fault.earlier)?;
             text.push_str(" has the same key; remove one of them, or change its key")
         }
     }
 }
 
-/// Adds which earlier entry has the values of this one for the `unique` statement of this number, from 1.
+/// Adds which earlier entry has the values of this one for a `unique` statement.
 pub(crate) fn push_unique(
-    alloc: Global,
     text: &mut String,
-    budget: &mut Budget,
     schema: &Schema,
     spot: &Spot<'_>,
-    number: u32,
+    fault: &Fault,
 ) -> Result<(), AllocError> {
-    let leafs = unique_at(schema, spot.node, number);
-    push_entry_with(alloc, text, budget, schema, spot, leafs)?;
+    push_earlier(text, "entry", fault.earlier)?;
     text.push_str(" has the same ")?;
-    push_names(text, schema, leafs)?;
+    push_names(text, schema, unique_at(schema, spot.node, fault.number))?;
     text.push_str("; change one of them")
 }
 
@@ -61,33 +55,8 @@ pub(crate) fn push_keys(
     push_names(text, schema, keys)
 }
 
-// Adds which earlier entry of a list has the values of this one in these leafs.
-fn push_entry_with(
-    alloc: Global,
-    text: &mut String,
-    budget: &mut Budget,
-    schema: &Schema,
-    spot: &Spot<'_>,
-    leafs: &[NodeId],
-) -> Result<(), AllocError> {
-    let list = spot.node.unwrap_or(Schema::ROOT);
-    let columns = Columns::of_leafs(alloc, schema, list, leafs)?;
-    push_earlier(text, budget, "entry", &columns, spot)
-}
-
 // Adds which earlier entry or item it is.
-fn push_earlier(
-    text: &mut String,
-    budget: &mut Budget,
-    word: &str,
-    columns: &Option<Columns>,
-    spot: &Spot<'_>,
-) -> Result<(), AllocError> {
-    let items = items_of(spot.written);
-    let earlier = match columns {
-        Some(columns) => columns.first_same(budget, items, spot.item.unwrap_or(0)),
-        None => None,
-    };
+fn push_earlier(text: &mut String, word: &str, earlier: Option<u32>) -> Result<(), AllocError> {
     match earlier {
         Some(number) => {
             text.push_str(word)?;

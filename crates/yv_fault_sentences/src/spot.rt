@@ -6,7 +6,7 @@ use serde_json::Value;
 use std::alloc::{AllocError, Global};
 use yv_nodes::{Node, NodeId};
 use yv_tables::Schema;
-use yv_validate::Step;
+use yv_validate::Part;
 use yv_values::Meter;
 
 /// A place that a path leads to.
@@ -44,7 +44,7 @@ impl<'d> Spot<'d> {
         alloc: Global,
         schema: &Schema,
         document: &'d Value,
-        path: &[Step],
+        path: &[Part<'_>],
     ) -> Result<Spot<'d>, AllocError> {
         let mut spot = Spot::top(document);
         for step in path {
@@ -54,7 +54,12 @@ impl<'d> Spot<'d> {
     }
 
     // The place that one step leads to from here.
-    fn below(&self, alloc: Global, schema: &Schema, step: &Step) -> Result<Spot<'d>, AllocError> {
+    fn below(
+        &self,
+        alloc: Global,
+        schema: &Schema,
+        step: &Part<'_>,
+    ) -> Result<Spot<'d>, AllocError> {
         let member = step.member(alloc)?;
         let written = member_of(self.value, member.as_str());
         Ok(Spot {

@@ -5,7 +5,6 @@ ghost use Rattle.yv_fault_sentences.specs.Told.{Tells, is_clear, more_line, more
 ghost use Rattle.yv_fault_sentences.specs.InnerAdds.{AddsSentences};
 
 use crate::clear::push_line;
-use crate::earlier::Budget;
 use crate::front::front;
 use crate::told::told;
 use itoa::Buffer;
@@ -19,8 +18,8 @@ const MOST_TOLD: usize = 20;
 
 /// A line for each of the first 20 faults of a document, which says what is wrong there and what to do, and one of how many more
 /// there are. Each begins as the fault's line; of a long path it has the last steps. However long names and paths are, the text
-/// has fewer than 30,000 bytes, and nothing that could drive a terminal. The time is bounded: no value is checked again, and the
-/// entries that are compared to find an earlier one are counted.
+/// has fewer than 30,000 bytes, and nothing that could drive a terminal. The time is bounded: no value is checked again, and no earlier
+/// entry is looked for.
 pub fn sentences(
     alloc: Global,
     schema: &Schema,
@@ -58,9 +57,8 @@ fn push_sentences(
 ) -> Result<(), AllocError>
     ensures { OnOk result (AddsSentences faults.now (string_bytes text.old) (string_bytes text.new)) }
 {
-    let mut budget = Budget::new();
     for fault in faults {
-        push_sentence(alloc, text, schema, document, &mut budget, fault)?;
+        push_sentence(alloc, text, schema, document, fault)?;
     }
     Ok(())
 }
@@ -71,12 +69,11 @@ fn push_sentence(
     text: &mut String,
     schema: &Schema,
     document: &Value,
-    budget: &mut Budget,
     fault: &Fault,
 ) -> Result<(), AllocError>
     ensures { OnOk result (AddsSentences (fault.now ∷ []) (string_bytes text.old) (string_bytes text.new)) }
 {
-    let whole = whole(alloc, schema, document, budget, fault)?;
+    let whole = whole(alloc, schema, document, fault)?;
     push_line(text, whole.as_str())
 }
 
@@ -85,14 +82,13 @@ fn whole(
     alloc: Global,
     schema: &Schema,
     document: &Value,
-    budget: &mut Budget,
     fault: &Fault,
 ) -> Result<String, AllocError>
     ensures { IfOk result (λ text. IsSentence fault.now (cleared_line (string_bytes text))) }
 {
     let mut text = front(alloc, fault)?;
     text.push_str(": ")?;
-    let told = told(alloc, schema, document, budget, fault)?;
+    let told = told(alloc, schema, document, fault)?;
     text.push_str(told.as_str())?;
     Ok(text)
 }

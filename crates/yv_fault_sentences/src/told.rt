@@ -1,6 +1,5 @@
 //! What is said of a fault.
 use crate::choices::{push_choice, push_missing_choice};
-use crate::earlier::Budget;
 use crate::front::left_out;
 use crate::repeated::{push_duplicate, push_keys, push_unique};
 use crate::spot::{Spot, items_of, node_at};
@@ -24,20 +23,19 @@ pub(crate) fn told(
     alloc: Global,
     schema: &Schema,
     document: &Value,
-    budget: &mut Budget,
     fault: &Fault,
 ) -> Result<String, AllocError> {
-    let path = fault.path.as_slice();
+    let path = fault.path.steps().to_vec(alloc)?;
     let mut text = String::new(alloc);
-    let spot = Spot::find(alloc, schema, document, path)?;
+    let spot = Spot::find(alloc, schema, document, path.as_slice())?;
     match path.last() {
         Some(step) => {
-            let name = step.parts();
-            if left_out(path) == path.len() {
+            let name = step.name;
+            if left_out(path.as_slice()) == path.len() {
                 push_quoted(&mut text, name.name)?;
                 text.push_str(": ")?;
             }
-            push_told(alloc, &mut text, budget, schema, &spot, &name, fault)?;
+            push_told(alloc, &mut text, schema, &spot, &name, fault)?;
         }
         None => text.push_str("the document needs to be an object in braces")?,
     }
@@ -48,7 +46,6 @@ pub(crate) fn told(
 fn push_told(
     alloc: Global,
     text: &mut String,
-    budget: &mut Budget,
     schema: &Schema,
     spot: &Spot<'_>,
     name: &MemberName<'_>,
@@ -57,14 +54,14 @@ fn push_told(
     match fault.kind {
         FaultKind::Unknown => push_unknown(alloc, text, schema, spot.around, name.name),
         FaultKind::Shape => push_shape(text, schema, spot),
-        FaultKind::Value => push_value(text, schema, spot),
+        FaultKind::Value => push_value(alloc, text, schema, spot),
         FaultKind::MissingKey => push_keys(text, schema, spot.around),
-        FaultKind::Duplicate => push_duplicate(alloc, text, budget, schema, spot),
-        FaultKind::Unique => push_unique(alloc, text, budget, schema, spot, fault.number),
+        FaultKind::Duplicate => push_duplicate(text, schema, spot, fault),
+        FaultKind::Unique => push_unique(text, schema, spot, fault),
         FaultKind::Mandatory if name.is_choice => {
             push_missing_choice(alloc, text, schema, spot, name)
         }
-        FaultKind::Mandatory => push_mandatory(text, schema, spot),
+        FaultKind::Mandatory => push_mandatory(alloc, text, schema, spot),
         FaultKind::Min => push_few(text, schema, spot),
         FaultKind::Max => push_many(text, schema, spot),
         FaultKind::Choice => push_choice(alloc, text, schema, spot, name),
@@ -90,20 +87,30 @@ fn push_shape(text: &mut String, schema: &Schema, spot: &Spot<'_>) -> Result<(),
 }
 
 // Adds what values a node has.
-fn push_value(text: &mut String, schema: &Schema, spot: &Spot<'_>) -> Result<(), AllocError> {
+fn push_value(
+    alloc: Global,
+    text: &mut String,
+    schema: &Schema,
+    spot: &Spot<'_>,
+) -> Result<(), AllocError> {
     match node_at(schema, spot.node) {
-        Some(node) => push_type(text, node, spot.value),
+        Some(node) => push_type(alloc, text, node, spot.value),
         None => text.push_str("its type has other values"),
     }
 }
 
 // Adds that a node must be there, and what values it has.
-fn push_mandatory(text: &mut String, schema: &Schema, spot: &Spot<'_>) -> Result<(), AllocError> {
+fn push_mandatory(
+    alloc: Global,
+    text: &mut String,
+    schema: &Schema,
+    spot: &Spot<'_>,
+) -> Result<(), AllocError> {
     text.push_str("it is missing, and the schema requires it")?;
     match node_at(schema, spot.node) {
         Some(node) if matches!(node.kind(), NodeKind::Leaf) => {
             text.push_str("; ")?;
-            push_type(text, node, None)
+            push_type(alloc, text, node, None)
         }
         _ => Ok(()),
     }

@@ -6,7 +6,7 @@ use yv_nodes::NodeId;
 use yv_tables::Schema;
 
 /// How many names are listed.
-const MOST_NAMES: usize = 8;
+pub(crate) const MOST_NAMES: usize = 8;
 
 /// Adds the names of the nodes of these numbers in quotes, of many the first 8.
 pub(crate) fn push_names(
@@ -24,8 +24,12 @@ pub(crate) fn push_names(
     Ok(())
 }
 
-// Adds what stands between the name of this place and the one before it.
-fn push_between(text: &mut String, place: usize, count: usize) -> Result<(), AllocError> {
+/// Adds what stands between the name of this place and the one before it.
+pub(crate) fn push_between(
+    text: &mut String,
+    place: usize,
+    count: usize,
+) -> Result<(), AllocError> {
     if place == 0 {
         Ok(())
     } else if place.saturating_add(1) == count {
