@@ -1,37 +1,22 @@
 //! Augments and refines.
 use crate::defaults::is_mandatory;
-use crate::meanings::Definitions;
-use crate::nodes::{Steps, Way, follow, node_above, nodes_below, root_of, say_no_node};
+use crate::nodes::{Steps, Way, follow, node_above, node_below, nodes_below, root_of, say_no_node};
 use crate::site::{Site, is_among};
 use crate::telling::Telling;
 use std::alloc::{AllocError, Global};
-use yv_rows::Kind;
 
-// The grouping of a `uses` in whose block a statement is.
-fn grouping_of<'r, 'a, 'b>(
-    groupings: &Definitions<'a>,
-    site: &Site<'r, 'a, 'b>,
-) -> Option<Site<'r, 'a, 'b>> {
-    let uses = site.parent()?;
-    if uses.is("uses") {
-        groupings.meaning(&uses, uses.argument())
-    } else {
-        None
+// The grouping of a `uses` in whose block a statement is, or the root of the module where its path begins.
+fn start_of<'s, 'a>(site: &Site<'s, 'a>) -> Option<Site<'s, 'a>> {
+    match site.parent() {
+        Some(uses) if uses.is("uses") => uses.meaning(),
+        _ => root_of(site, site.argument()),
     }
 }
 
 // Follows the path of an `augment` or a `refine`.
-fn way_of<'r, 'a, 'b>(
-    alloc: Global,
-    groupings: &Definitions<'a>,
-    site: &Site<'r, 'a, 'b>,
-) -> Result<Way<'r, 'a, 'b>, AllocError> {
-    let start = match grouping_of(groupings, site) {
-        Some(grouping) => Some(grouping),
-        None => root_of(site, site.argument()),
-    };
-    match start {
-        Some(start) => follow(alloc, groupings, &start, site.argument(), Steps::Schema),
+fn way_of<'s, 'a>(alloc: Global, site: &Site<'s, 'a>) -> Result<Way<'s, 'a>, AllocError> {
+    match start_of(site) {
+        Some(start) => follow(alloc, &start, site.argument(), Steps::Schema),
         None => Ok(Way::Unknown),
     }
 }
@@ -40,66 +25,104 @@ fn way_of<'r, 'a, 'b>(
 pub(crate) fn tell_refine_target<'a>(
     alloc: Global,
     telling: &mut Telling<'a>,
-    site: &Site<'_, 'a, '_>,
+    site: &Site<'_, 'a>,
 ) -> Result<(), AllocError> {
-    telling.subject("The path ", " does not lead to a node of the grouping.")?;
-    let groupings = Definitions::read(alloc, site.rows, Kind::Grouping)?;
-    match way_of(alloc, &groupings, site)? {
-        Way::Until(node, name) => {
-            say_no_node(alloc, telling, &groupings, &node, name, Steps::Schema)
-        }
+    telling.subject("The path ", " does not lead to a node of the grouping.");
+    match way_of(alloc, site)? {
+        Way::Until(node, name) => say_no_node(alloc, telling, &node, name, Steps::Schema),
         _ => Ok(()),
     }
 }
 
-// The properties that a `refine` may change only for some nodes, and these.
-static REFINED: &[(&str, &[&str])] = &[
-    ("default", &["leaf", "choice"]),
-    ("mandatory", &["leaf", "choice", "anydata", "anyxml"]),
-    ("presence", &["container"]),
-    ("min-elements", &["list", "leaf-list"]),
-    ("max-elements", &["list", "leaf-list"]),
+// A property that a `refine` may change, and the nodes that have it.
+struct Property {
+    keyword: &'static str,
+    nodes: &'static [&'static str],
+}
+
+static PROPERTIES: &[Property] = &[
+    Property {
+        keyword: "default",
+        nodes: &["leaf", "leaf-list", "choice"],
+    },
+    Property {
+        keyword: "mandatory",
+        nodes: &["leaf", "choice", "anydata", "anyxml"],
+    },
+    Property {
+        keyword: "presence",
+        nodes: &["container"],
+    },
+    Property {
+        keyword: "min-elements",
+        nodes: &["list", "leaf-list"],
+    },
+    Property {
+        keyword: "max-elements",
+        nodes: &["list", "leaf-list"],
+    },
 ];
 
 // Whether a node of this keyword may have a property.
-fn may_have(keyword: &str, property: &str) -> bool {
-    for (refined, keywords) in REFINED {
-        if *refined == property {
-            return is_among(keyword, keywords);
+fn may_have(keyword: &str, sought: &str) -> bool {
+    for property in PROPERTIES {
+        if property.keyword == sought {
+            return is_among(keyword, property.nodes);
         }
     }
     true
+}
+
+// The first property of a `refine` that a node of this keyword can't have.
+fn unfit_property<'s, 'a>(refine: &Site<'s, 'a>, keyword: &str) -> Option<Site<'s, 'a>> {
+    let mut after = refine.number;
+    for _ in 0..refine.entries.len() {
+        let property = refine.next_child(after)?;
+        if !may_have(keyword, property.keyword()) {
+            return Some(property);
+        }
+        after = property.number;
+    }
+    None
 }
 
 /// Adds which property a `refine` can't change.
 pub(crate) fn tell_refine<'a>(
     alloc: Global,
     telling: &mut Telling<'a>,
-    site: &Site<'_, 'a, '_>,
+    site: &Site<'_, 'a>,
 ) -> Result<(), AllocError> {
-    let groupings = Definitions::read(alloc, site.rows, Kind::Grouping)?;
-    let Way::To(node) = way_of(alloc, &groupings, site)? else {
-        return telling.subject("The node ", " does not have such a property.");
+    match way_of(alloc, site)? {
+        Way::To(node) => tell_property(telling, site, &node),
+        _ => telling.subject("The node ", " does not have such a property."),
+    }
+    Ok(())
+}
+
+fn tell_property<'a>(telling: &mut Telling<'a>, refine: &Site<'_, 'a>, node: &Site<'_, 'a>) {
+    telling.subject("The node ", " (");
+    telling.say(node.keyword());
+    if let Some(property) = unfit_property(refine, node.keyword()) {
+        telling.say(") has no `");
+        telling.say(property.keyword());
+        telling.say("`.");
+    } else if node.is("leaf-list") {
+        telling.say(") can't be refined like this.");
+    } else {
+        telling.say(") is no leaf-list, and so has only one default.");
+        say_second_default(telling, refine);
+    }
+}
+
+// Adds where a `refine` gives a second default.
+fn say_second_default<'a>(telling: &mut Telling<'a>, refine: &Site<'_, 'a>) {
+    let Some(first) = refine.child("default") else {
+        return;
     };
-    let mut defaults: usize = 0;
-    for child in site.children(alloc)?.iter() {
-        if !may_have(node.keyword(), child.keyword()) {
-            telling.subject("The node ", " (")?;
-            telling.say(node.keyword())?;
-            telling.say(") has no `")?;
-            telling.say(child.keyword())?;
-            return telling.say("`.");
-        }
-        if child.is("default") {
-            defaults = defaults.saturating_add(1);
-        }
+    if let Some(second) = refine.next_of("default", first.number) {
+        telling.point(" The first is at ", &first, ",");
+        telling.point(" and the second at ", &second, ": leave out one of them.");
     }
-    if defaults > 1 {
-        telling.subject("The node ", " (")?;
-        telling.say(node.keyword())?;
-        return telling.say(") has only one default.");
-    }
-    telling.subject("The node ", " does not have such a property.")
 }
 
 static TARGETS: &[&str] = &[
@@ -116,72 +139,94 @@ static TARGETS: &[&str] = &[
 pub(crate) fn tell_augment_target<'a>(
     alloc: Global,
     telling: &mut Telling<'a>,
-    site: &Site<'_, 'a, '_>,
+    site: &Site<'_, 'a>,
 ) -> Result<(), AllocError> {
     telling.subject(
         "The path ",
         " does not lead to a node that can be augmented.",
-    )?;
-    let groupings = Definitions::read(alloc, site.rows, Kind::Grouping)?;
-    match way_of(alloc, &groupings, site)? {
-        Way::Until(node, name) => {
-            if let Some(inner) = node_in_left_out_case(alloc, &groupings, &node, name)? {
-                telling.say(" The case of ")?;
-                telling.quote(inner.argument())?;
-                return telling.say(
-                    " is left out in the choice, and is a step of the path all the same: write the name twice.",
-                );
-            }
-            say_no_node(alloc, telling, &groupings, &node, name, Steps::Schema)
-        }
-        Way::To(node) if !is_among(node.keyword(), TARGETS) => telling.statement(
-            " It leads to the ",
-            &node,
-            "; a target is a container, list, choice, case, input, output or notification.",
-        ),
-        Way::To(node) if is_left_out_case(&node) => telling.say(
-            " It leads to a case that is left out, which can't be augmented: write the name of its node once more.",
-        ),
+    );
+    match way_of(alloc, site)? {
+        Way::Until(node, name) => return say_missing_step(alloc, telling, &node, name),
+        Way::To(node) => say_no_target(telling, &node),
         _ => telling.say(" Look at the prefixes of its steps."),
+    }
+    Ok(())
+}
+
+// Adds that a node has none of this name below it, or in which case there is one.
+fn say_missing_step<'a>(
+    alloc: Global,
+    telling: &mut Telling<'a>,
+    node: &Site<'_, 'a>,
+    name: &'a str,
+) -> Result<(), AllocError> {
+    if node.is("choice") {
+        if let Some(inner) = node_below(alloc, node, name, Steps::Data)? {
+            say_case(telling, &inner);
+            return Ok(());
+        }
+    }
+    say_no_node(alloc, telling, node, name, Steps::Schema)
+}
+
+// Adds the case of a node, which a path leaves out.
+fn say_case<'a>(telling: &mut Telling<'a>, node: &Site<'_, 'a>) {
+    match case_around(node) {
+        Some(case) => telling.statement(
+            " That node is in the ",
+            &case,
+            ", which is a step of the path, too.",
+        ),
+        None => telling.quote(
+            " The case of ",
+            node.argument(),
+            " is left out in the choice, and is a step of the path all the same: write the name twice.",
+        ),
+    }
+}
+
+// The `case` in whose block a node is.
+fn case_around<'s, 'a>(node: &Site<'s, 'a>) -> Option<Site<'s, 'a>> {
+    let parent = node.parent()?;
+    if parent.is("case") {
+        Some(parent)
+    } else {
+        None
+    }
+}
+
+// Adds why a node is no target.
+fn say_no_target<'a>(telling: &mut Telling<'a>, node: &Site<'_, 'a>) {
+    if !is_among(node.keyword(), TARGETS) {
+        telling.statement(
+            " It leads to the ",
+            node,
+            "; a target is a container, list, choice, case, input, output or notification.",
+        );
+    } else if is_left_out_case(node) {
+        telling.say(
+            " It leads to a case that is left out, which can't be augmented: write the name of its node once more.",
+        );
+    } else {
+        telling.say(" Look at the prefixes of its steps.");
     }
 }
 
 // Whether a node is in a choice without a case around it.
-fn is_left_out_case(node: &Site<'_, '_, '_>) -> bool {
+fn is_left_out_case(node: &Site<'_, '_>) -> bool {
     match node.parent() {
         Some(parent) => parent.is("choice") && !node.is("case"),
         None => false,
     }
 }
 
-// The node of this name, if the one of the step before it is a node in a choice without a case around it.
-fn node_in_left_out_case<'r, 'a, 'b>(
-    alloc: Global,
-    groupings: &Definitions<'a>,
-    node: &Site<'r, 'a, 'b>,
-    name: &str,
-) -> Result<Option<Site<'r, 'a, 'b>>, AllocError> {
-    if !node.is("choice") {
-        return Ok(None);
-    }
-    for inner in nodes_below(alloc, groupings, node, Steps::Data)?.iter() {
-        if inner.argument() == yv_rows::local(name) {
-            return Ok(Some(*inner));
-        }
-    }
-    Ok(None)
-}
-
 // The `augment` in whose block a node is, by way of groupings too.
-fn augment_around<'r, 'a, 'b>(
-    groupings: &Definitions<'a>,
-    node: &Site<'r, 'a, 'b>,
-) -> Option<Site<'r, 'a, 'b>> {
+fn augment_around<'s, 'a>(node: &Site<'s, 'a>) -> Option<Site<'s, 'a>> {
     let parent = node.parent()?;
     if parent.is("augment") {
         return Some(parent);
     }
-    match node_above(groupings, node) {
+    match node_above(node) {
         Some(above) if above.is("augment") => Some(above),
         _ => None,
     }
@@ -191,60 +236,72 @@ fn augment_around<'r, 'a, 'b>(
 pub(crate) fn tell_augment<'a>(
     alloc: Global,
     telling: &mut Telling<'a>,
-    site: &Site<'_, 'a, '_>,
+    site: &Site<'_, 'a>,
 ) -> Result<(), AllocError> {
-    let groupings = Definitions::read(alloc, site.rows, Kind::Grouping)?;
-    let augment = match augment_around(&groupings, site) {
-        Some(augment) => augment,
-        None => *site,
-    };
-    let Way::To(target) = way_of(alloc, &groupings, &augment)? else {
-        return telling.subject(
+    let augment = augment_around(site).unwrap_or(*site);
+    let Way::To(target) = way_of(alloc, &augment)? else {
+        telling.subject(
             "What the augment of ",
             " adds can't be added to its target.",
         );
+        return Ok(());
     };
-    for node in nodes_below(alloc, &groupings, &augment, Steps::Schema)?.iter() {
-        if !takes(target.keyword(), node.keyword()) {
-            return tell_unfit(telling, node, &target);
+    let nodes = nodes_below(alloc, &augment, Steps::Schema)?;
+    if let Some(node) = unfit(&nodes, target.keyword()) {
+        say_unfit(telling, &node, &target);
+    } else {
+        say_mandatory(telling, &nodes, &target);
+    }
+    Ok(())
+}
+
+// The first of these nodes that can't be in the block of a node of this keyword.
+fn unfit<'s, 'a>(nodes: &[Site<'s, 'a>], target: &str) -> Option<Site<'s, 'a>> {
+    for node in nodes {
+        if !takes(target, node.keyword()) {
+            return Some(*node);
         }
     }
-    for node in nodes_below(alloc, &groupings, &augment, Steps::Schema)?.iter() {
-        if is_mandatory(node) {
-            telling.subject(
-                "The augment of ",
-                " adds a mandatory node to another module: ",
-            )?;
-            telling.statement("the ", node, " at ")?;
-            telling.point(node)?;
-            return telling.statement(
-                " is mandatory, and the ",
-                &target,
-                " is not of this module.",
-            );
-        }
-    }
-    telling.subject(
-        "The augment of ",
-        " adds a mandatory node to another module.",
-    )
+    None
 }
 
 // Whether a node of one keyword may be in the block of one of the other.
 fn takes(target: &str, node: &str) -> bool {
-    match target {
-        "choice" => !is_among(node, &["action", "notification"]),
-        "container" | "list" => node != "case",
-        _ => !is_among(node, &["case", "action", "notification"]),
+    match node {
+        "case" => target == "choice",
+        "action" | "notification" => target == "container" || target == "list",
+        _ => true,
     }
 }
 
-fn tell_unfit<'a>(
-    telling: &mut Telling<'a>,
-    node: &Site<'_, 'a, '_>,
-    target: &Site<'_, 'a, '_>,
-) -> Result<(), AllocError> {
-    telling.subject("The augment of ", " is wrong: ")?;
-    telling.statement("the ", node, "")?;
-    telling.statement(" can't be in the ", target, ".")
+fn say_unfit<'a>(telling: &mut Telling<'a>, node: &Site<'_, 'a>, target: &Site<'_, 'a>) {
+    telling.subject("The augment of ", " is wrong: ");
+    telling.statement("the ", node, "");
+    telling.statement(" can't be in the ", target, ".");
+}
+
+// Adds that a mandatory node is added to another module, and which one it is.
+fn say_mandatory<'a>(telling: &mut Telling<'a>, nodes: &[Site<'_, 'a>], target: &Site<'_, 'a>) {
+    telling.subject(
+        "The augment of ",
+        " adds a mandatory node to another module",
+    );
+    match first_mandatory(nodes) {
+        Some(node) => {
+            telling.statement(": the ", &node, "");
+            telling.point(" at ", &node, " is mandatory, and");
+            telling.statement(" the ", target, " is not of this module.");
+        }
+        None => telling.say("."),
+    }
+}
+
+// The first of these nodes that says that it is mandatory.
+pub(crate) fn first_mandatory<'s, 'a>(nodes: &[Site<'s, 'a>]) -> Option<Site<'s, 'a>> {
+    for node in nodes {
+        if is_mandatory(node) {
+            return Some(*node);
+        }
+    }
+    None
 }

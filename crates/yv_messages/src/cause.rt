@@ -1,7 +1,7 @@
 //! The cause of a refusal at a statement.
 use crate::arguments::{tell_argument, tell_unsupported};
 use crate::augments::{tell_augment, tell_augment_target, tell_refine, tell_refine_target};
-use crate::circle::{tell_cycle, tell_imports};
+use crate::circle::{FEATURES, GROUPINGS, IDENTITIES, TYPEDEFS, tell_cycle, tell_imports};
 use crate::defaults::{tell_default, tell_mandatory};
 use crate::definitions::{
     tell_feature_name, tell_grouping_name, tell_identity_name, tell_second_module,
@@ -21,85 +21,115 @@ use crate::told::Bounds;
 use crate::types::tell_type;
 use crate::units::tell_units;
 use std::alloc::{AllocError, Global};
-use yv_rows::Kind;
+use yv_rows::Rows;
 use yv_statement::Code;
 
 /// Adds the cause of a refusal at a statement; nothing, if the sentence on its code says all.
 pub(crate) fn tell_cause<'a>(
     alloc: Global,
     telling: &mut Telling<'a>,
-    site: &Site<'_, 'a, '_>,
+    rows: &Rows<'a, '_>,
+    site: &Site<'_, 'a>,
     bounds: &Bounds<'_>,
     code: Code,
 ) -> Result<(), AllocError> {
+    match code.phase() {
+        1 | 2 => {
+            tell_form(telling, site, code);
+            Ok(())
+        }
+        3 => tell_module(alloc, telling, rows, site, code),
+        4..=6 => tell_name(alloc, telling, rows, site, code),
+        7 => tell_units(alloc, telling, rows, bounds, site.entries),
+        8 => tell_copy(alloc, telling, site, code),
+        9 => tell_restricted(alloc, telling, site, code),
+        _ => tell_node(alloc, telling, site, code),
+    }
+}
+
+// The same, of keywords and arguments.
+fn tell_form<'a>(telling: &mut Telling<'a>, site: &Site<'_, 'a>, code: Code) {
     match code {
         Code::Unsupported => tell_unsupported(telling, site),
         Code::UnknownStatement => tell_keyword(telling, site),
         Code::Cardinality => tell_cardinality(telling, site),
         Code::BadArgument => tell_argument(telling, site),
-        Code::TooManyNodes => tell_units(alloc, telling, site.rows, bounds.selection, bounds.limit),
-        _ if code.phase() < 7 => tell_name(alloc, telling, site, code),
-        _ if code.phase() < 10 => tell_definition(alloc, telling, site, code),
-        _ => tell_node(alloc, telling, site, code),
+        _ => {}
     }
 }
 
-// The same, of the modules and of names.
-fn tell_name<'a>(
+// The same, of modules.
+fn tell_module<'a>(
     alloc: Global,
     telling: &mut Telling<'a>,
-    site: &Site<'_, 'a, '_>,
+    rows: &Rows<'a, '_>,
+    site: &Site<'_, 'a>,
     code: Code,
 ) -> Result<(), AllocError> {
     match code {
         Code::DuplicateModule => tell_second_module(telling, site),
         Code::MissingModule => tell_missing(telling, site),
         Code::Revision => tell_revision(telling, site),
-        Code::ImportCycle => tell_imports(alloc, telling, site),
-        Code::UnknownPrefix => tell_prefix(alloc, telling, site),
         Code::Submodule => tell_submodule(telling, site),
-        Code::UnknownFeature => tell_feature_name(alloc, telling, site),
+        Code::ImportCycle => return tell_imports(alloc, telling, rows, site),
+        Code::UnknownPrefix => return tell_prefix(alloc, telling, site),
+        _ => {}
+    }
+    Ok(())
+}
+
+// The same, of names.
+fn tell_name<'a>(
+    alloc: Global,
+    telling: &mut Telling<'a>,
+    rows: &Rows<'a, '_>,
+    site: &Site<'_, 'a>,
+    code: Code,
+) -> Result<(), AllocError> {
+    match code {
+        Code::UnknownFeature => return tell_feature_name(alloc, telling, site),
         Code::UnknownIdentity => tell_identity_name(telling, site),
         Code::DuplicateName => tell_second_name(telling, site),
         Code::UnknownType => tell_type_name(telling, site),
         Code::UnknownGrouping => tell_grouping_name(telling, site),
-        _ => tell_circle(alloc, telling, site, code),
+        _ => return tell_circle(alloc, telling, rows, site, code),
     }
+    Ok(())
 }
 
 // The same, of definitions that lead to themselves.
 fn tell_circle<'a>(
     alloc: Global,
     telling: &mut Telling<'a>,
-    site: &Site<'_, 'a, '_>,
+    rows: &Rows<'a, '_>,
+    site: &Site<'_, 'a>,
     code: Code,
 ) -> Result<(), AllocError> {
     match code {
         Code::FeatureCycle => {
-            telling.subject("The feature ", " depends on itself.")?;
-            tell_cycle(alloc, telling, site, Kind::Feature)
+            telling.subject("The feature ", " depends on itself.");
+            tell_cycle(alloc, telling, rows, site, &FEATURES)
         }
         Code::IdentityCycle => {
-            telling.subject("The identity ", " is derived from itself.")?;
-            tell_cycle(alloc, telling, site, Kind::Identity)
+            telling.subject("The identity ", " is derived from itself.");
+            tell_cycle(alloc, telling, rows, site, &IDENTITIES)
         }
         Code::TypeCycle => {
-            telling.subject("The typedef ", " is derived from itself.")?;
-            tell_cycle(alloc, telling, site, Kind::Typedef)
+            telling.subject("The typedef ", " is derived from itself.");
+            tell_cycle(alloc, telling, rows, site, &TYPEDEFS)
         }
-        Code::GroupingCycle => {
-            telling.subject("The grouping ", " uses itself.")?;
-            tell_cycle(alloc, telling, site, Kind::Grouping)
+        _ => {
+            telling.subject("The grouping ", " uses itself.");
+            tell_cycle(alloc, telling, rows, site, &GROUPINGS)
         }
-        _ => Ok(()),
     }
 }
 
-// The same, of copies and of types.
-fn tell_definition<'a>(
+// The same, of refines and augments.
+fn tell_copy<'a>(
     alloc: Global,
     telling: &mut Telling<'a>,
-    site: &Site<'_, 'a, '_>,
+    site: &Site<'_, 'a>,
     code: Code,
 ) -> Result<(), AllocError> {
     match code {
@@ -107,31 +137,50 @@ fn tell_definition<'a>(
         Code::BadRefine => tell_refine(alloc, telling, site),
         Code::AugmentTarget => tell_augment_target(alloc, telling, site),
         Code::BadAugment => tell_augment(alloc, telling, site),
-        Code::BadRestriction => tell_restriction(alloc, telling, site),
-        Code::BadPattern => tell_pattern(telling, site.argument()),
-        Code::BadNumbering => tell_item(alloc, telling, site),
-        Code::BadType => tell_type(alloc, telling, site),
         _ => Ok(()),
     }
+}
+
+// The same, of types.
+fn tell_restricted<'a>(
+    alloc: Global,
+    telling: &mut Telling<'a>,
+    site: &Site<'_, 'a>,
+    code: Code,
+) -> Result<(), AllocError> {
+    match code {
+        Code::BadRestriction => return tell_restriction(alloc, telling, site),
+        Code::BadNumbering => return tell_item(alloc, telling, site),
+        Code::BadType => return tell_type(alloc, telling, site),
+        Code::BadPattern => tell_pattern(telling, site.argument()),
+        _ => {}
+    }
+    Ok(())
 }
 
 // The same, of the nodes of the schema.
 fn tell_node<'a>(
     alloc: Global,
     telling: &mut Telling<'a>,
-    site: &Site<'_, 'a, '_>,
+    site: &Site<'_, 'a>,
     code: Code,
 ) -> Result<(), AllocError> {
     match code {
         Code::DuplicateNode => tell_second_node(alloc, telling, site),
         Code::BadKey => tell_key(alloc, telling, site),
         Code::BadUnique => tell_unique(alloc, telling, site),
-        Code::BadConfig => tell_config(alloc, telling, site),
         Code::BadDefault => tell_default(alloc, telling, site),
         Code::BadMandatory => tell_mandatory(alloc, telling, site),
         Code::BadPath => tell_path(alloc, telling, site),
         Code::PathCycle => tell_path_cycle(alloc, telling, site),
-        Code::BadOperation => tell_operation(alloc, telling, site),
+        Code::BadConfig => {
+            tell_config(telling, site);
+            Ok(())
+        }
+        Code::BadOperation => {
+            tell_operation(telling, site);
+            Ok(())
+        }
         _ => Ok(()),
     }
 }

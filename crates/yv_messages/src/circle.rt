@@ -1,133 +1,138 @@
 //! The cycle that a refusal is about.
-use crate::meanings::Definitions;
-use crate::modules::words_of;
+use crate::meanings::words_of;
 use crate::site::Site;
 use crate::telling::Telling;
 use std::alloc::{AllocError, Global};
-use yv_rows::{Kind, Rows};
+use yv_rows::{Kind, Places, Rows, first_places, local};
 
 /// How many names of a cycle are listed.
 const MOST_TOLD: usize = 10;
 
-// How the statements of a cycle lead to each other.
+/// How the statements of a cycle lead to each other: by statements in them of a keyword.
+#[derive(Clone, Copy)]
+pub(crate) struct Links {
+    pub(crate) keyword: &'static str,
+    pub(crate) verb: &'static str,
+}
+
+pub(crate) const IMPORTS: Links = Links {
+    keyword: "import",
+    verb: " imports ",
+};
+
+pub(crate) const FEATURES: Links = Links {
+    keyword: "if-feature",
+    verb: " depends on ",
+};
+
+pub(crate) const IDENTITIES: Links = Links {
+    keyword: "base",
+    verb: " is derived from ",
+};
+
+pub(crate) const TYPEDEFS: Links = Links {
+    keyword: "type",
+    verb: " is derived from ",
+};
+
+pub(crate) const GROUPINGS: Links = Links {
+    keyword: "uses",
+    verb: " uses ",
+};
+
+// The features of the files, by module and name.
 #[derive(Drop)]
-enum Links<'a> {
-    Imports,
-    By(Kind, Definitions<'a>),
+struct Features<'r, 'a, 'b> {
+    rows: &'r Rows<'a, 'b>,
+    places: Places<'a>,
 }
 
-impl<'a> Links<'a> {
-    fn verb(&self) -> &'static str {
-        match self {
-            Links::Imports => " imports ",
-            Links::By(Kind::Feature, _) => " depends on ",
-            Links::By(Kind::Grouping, _) => " uses ",
-            Links::By(_, _) => " is derived from ",
-        }
+impl<'r, 'a, 'b> Features<'r, 'a, 'b> {
+    fn read(alloc: Global, rows: &'r Rows<'a, 'b>) -> Result<Features<'r, 'a, 'b>, AllocError> {
+        let places = first_places(alloc, Kind::Feature, rows)?;
+        Ok(Features { rows, places })
     }
 
-    // The statements to which one leads.
-    fn next<'r, 'b>(
-        &self,
-        alloc: Global,
-        site: &Site<'r, 'a, 'b>,
-    ) -> Result<Vec<Site<'r, 'a, 'b>>, AllocError> {
-        match self {
-            Links::Imports => imported(alloc, site),
-            Links::By(Kind::Feature, features) => { named_in(alloc, features, site, "if-feature") }
-            Links::By(Kind::Identity, identities) => named_in(alloc, identities, site, "base"),
-            Links::By(Kind::Grouping, groupings) => used_in(alloc, groupings, site, "uses"),
-            Links::By(_, typedefs) => used_in(alloc, typedefs, site, "type"),
-        }
+    // The number of the feature that a name means in a file.
+    fn meaning(&self, file: u32, name: &'a str) -> Option<usize> {
+        let block = self.rows.block_of(file as usize, name)?;
+        self.places.get(block, local(name))
     }
 }
 
-// The root of the module of a name.
-fn module_named<'r, 'a, 'b>(rows: &'r Rows<'a, 'b>, name: &'a str) -> Option<Site<'r, 'a, 'b>> {
-    let number = rows.named(name)?;
-    if rows.files().get(number)?.is_module {
-        Site::at(rows, number)
-    } else {
-        None
+// The statements in a statement: of a root those of its block, else those at any depth.
+fn inside<'s, 'a>(alloc: Global, site: &Site<'s, 'a>) -> Result<Vec<Site<'s, 'a>>, AllocError> {
+    if site.is_root() {
+        return site.children(alloc);
     }
-}
-
-// The modules that a module or one of its submodules imports.
-fn imported<'r, 'a, 'b>(
-    alloc: Global,
-    module: &Site<'r, 'a, 'b>,
-) -> Result<Vec<Site<'r, 'a, 'b>>, AllocError> {
-    let mut modules = Vec::new(alloc);
-    for child in module.children(alloc)?.iter() {
-        if child.is("import") {
-            if let Some(root) = module_named(child.rows, child.argument()) {
-                modules.push(root)?;
-            }
-        }
-    }
-    Ok(modules)
-}
-
-// The definitions that a statement's substatements of this keyword name.
-fn named_in<'r, 'a, 'b>(
-    alloc: Global,
-    definitions: &Definitions<'a>,
-    site: &Site<'r, 'a, 'b>,
-    keyword: &str,
-) -> Result<Vec<Site<'r, 'a, 'b>>, AllocError> {
     let mut sites = Vec::new(alloc);
-    for child in site.children(alloc)?.iter() {
-        if child.is(keyword) {
-            add_meanings(alloc, &mut sites, definitions, child)?;
-        }
-    }
-    Ok(sites)
-}
-
-fn add_meanings<'r, 'a, 'b>(
-    alloc: Global,
-    sites: &mut Vec<Site<'r, 'a, 'b>>,
-    definitions: &Definitions<'a>,
-    site: &Site<'r, 'a, 'b>,
-) -> Result<(), AllocError> {
-    for word in words_of(alloc, site.argument())?.iter() {
-        if let Some(definition) = definitions.meaning(site, word) {
-            sites.push(definition)?;
-        }
-    }
-    Ok(())
-}
-
-// The definitions that statements of this keyword in a statement name, at any depth.
-fn used_in<'r, 'a, 'b>(
-    alloc: Global,
-    definitions: &Definitions<'a>,
-    site: &Site<'r, 'a, 'b>,
-    keyword: &str,
-) -> Result<Vec<Site<'r, 'a, 'b>>, AllocError> {
-    let mut sites = Vec::new(alloc);
-    for number in site.number.saturating_add(1)..site.rows.entries().len() {
-        match Site::at(site.rows, number) {
-            Some(inner) if inner.scope >= site.number => {
-                if inner.is(keyword) {
-                    add_meanings(alloc, &mut sites, definitions, &inner)?;
-                }
-            }
+    for number in site.number.saturating_add(1)..site.entries.len() {
+        match Site::at(site.entries, number) {
+            Some(inner) if inner.entry.scope >= site.number => sites.push(inner)?,
             _ => break,
         }
     }
     Ok(sites)
 }
 
+// The statements to which one leads by those of this keyword in it.
+fn next_sites<'s, 'a>(
+    alloc: Global,
+    features: &Features<'_, 'a, '_>,
+    keyword: &str,
+    site: &Site<'s, 'a>,
+) -> Result<Vec<Site<'s, 'a>>, AllocError> {
+    let mut next = Vec::new(alloc);
+    for inner in inside(alloc, site)?.iter() {
+        if inner.is(keyword) {
+            add_meanings(alloc, features, inner, &mut next)?;
+        }
+    }
+    Ok(next)
+}
+
+// Adds what the argument of a statement means.
+fn add_meanings<'s, 'a>(
+    alloc: Global,
+    features: &Features<'_, 'a, '_>,
+    site: &Site<'s, 'a>,
+    sites: &mut Vec<Site<'s, 'a>>,
+) -> Result<(), AllocError> {
+    if let Some(meaning) = site.meaning() {
+        sites.push(meaning)?;
+    }
+    if site.is("if-feature") {
+        for word in words_of(alloc, site.argument())?.iter() {
+            add_feature(features, site, word, sites)?;
+        }
+    }
+    Ok(())
+}
+
+// Adds the feature that a name in a statement means.
+fn add_feature<'s, 'a>(
+    features: &Features<'_, 'a, '_>,
+    site: &Site<'s, 'a>,
+    name: &'a str,
+    sites: &mut Vec<Site<'s, 'a>>,
+) -> Result<(), AllocError> {
+    if let Some(number) = features.meaning(site.entry.file, name) {
+        if let Some(feature) = Site::at(site.entries, number) {
+            sites.push(feature)?;
+        }
+    }
+    Ok(())
+}
+
 // Statements that were reached, in the order in which they were, each with the number of the one that leads to it.
 #[derive(Drop)]
-struct Search<'r, 'a, 'b> {
-    found: Vec<Site<'r, 'a, 'b>>,
+struct Search<'s, 'a> {
+    found: Vec<Site<'s, 'a>>,
     from: Vec<Option<usize>>,
 }
 
-impl<'r, 'a, 'b> Search<'r, 'a, 'b> {
-    fn new(alloc: Global, count: usize) -> Result<Search<'r, 'a, 'b>, AllocError> {
+impl<'s, 'a> Search<'s, 'a> {
+    fn new(alloc: Global, count: usize) -> Result<Search<'s, 'a>, AllocError> {
         Ok(Search {
             found: Vec::new(alloc),
             from: vec![in alloc; None; count]?,
@@ -135,7 +140,7 @@ impl<'r, 'a, 'b> Search<'r, 'a, 'b> {
     }
 
     // Reaches a statement from another one, unless it was reached before.
-    fn reach(&mut self, site: &Site<'r, 'a, 'b>, from: usize) -> Result<(), AllocError> {
+    fn reach(&mut self, site: &Site<'s, 'a>, from: usize) -> Result<(), AllocError> {
         if let Some(None) = self.from.get(site.number) {
             self.found.push(*site)?;
             self.from[site.number] = Some(from);
@@ -143,7 +148,7 @@ impl<'r, 'a, 'b> Search<'r, 'a, 'b> {
         Ok(())
     }
 
-    fn reach_all(&mut self, sites: &[Site<'r, 'a, 'b>], from: usize) -> Result<(), AllocError> {
+    fn reach_all(&mut self, sites: &[Site<'s, 'a>], from: usize) -> Result<(), AllocError> {
         for site in sites {
             self.reach(site, from)?;
         }
@@ -168,106 +173,97 @@ impl<'r, 'a, 'b> Search<'r, 'a, 'b> {
     }
 }
 
-// The numbers of the statements on a way from this one back to itself, in the order of the way; none, if there is no way. Its first step
-// is to one of these.
-fn ring<'r, 'a, 'b>(
+// The statements that are reached from this one, up to itself, where it leads first to these. None, if it isn't reached again.
+fn searched<'s, 'a>(
     alloc: Global,
-    links: &Links<'a>,
-    start: &Site<'r, 'a, 'b>,
-    first: &[Site<'r, 'a, 'b>],
-) -> Result<Vec<usize>, AllocError> {
-    let count = start.rows.entries().len();
+    features: &Features<'_, 'a, '_>,
+    keyword: &str,
+    start: &Site<'s, 'a>,
+    first: &[Site<'s, 'a>],
+) -> Result<Option<Search<'s, 'a>>, AllocError> {
+    let count = start.entries.len();
     let mut search = Search::new(alloc, count)?;
     search.reach_all(first, start.number)?;
     for step in 0..count {
         let Some(site) = search.found.get(step).copied() else {
-            return Ok(Vec::new(alloc));
+            return Ok(None);
         };
         if site.number == start.number {
-            break;
+            return Ok(Some(search));
         }
-        let next = links.next(alloc, &site)?;
+        let next = next_sites(alloc, features, keyword, &site)?;
         search.reach_all(&next, site.number)?;
     }
-    let mut way = search.way_back(alloc, start.number)?;
-    way.reverse();
-    way.rotate_right(1.min(way.len()));
-    Ok(way)
+    Ok(None)
 }
 
-// Adds the names of a ring, and at its end the first once more.
-fn say_ring<'a>(
+// Adds the statements on a way from this one back to itself, if there is one whose first step is to one of these.
+fn say_cycle<'a>(
+    alloc: Global,
     telling: &mut Telling<'a>,
-    rows: &Rows<'a, '_>,
-    ring: &[usize],
-    verb: &'a str,
+    features: &Features<'_, 'a, '_>,
+    links: &Links,
+    start: &Site<'_, 'a>,
+    first: &[Site<'_, 'a>],
 ) -> Result<(), AllocError> {
-    telling.say(" The cycle: ")?;
-    for (place, number) in ring.iter().enumerate() {
-        if place >= MOST_TOLD {
-            break;
+    if let Some(search) = searched(alloc, features, links.keyword, start, first)? {
+        let mut way = search.way_back(alloc, start.number)?;
+        way.reverse();
+        say_ring(telling, start, &way, links.verb);
+    }
+    Ok(())
+}
+
+// Adds the names of a ring: first and last that of this statement, which is the last of the numbers.
+fn say_ring<'a>(telling: &mut Telling<'a>, start: &Site<'_, 'a>, ring: &[usize], verb: &'a str) {
+    telling.quote(" The cycle: ", start.argument(), verb);
+    for number in ring
+        .iter()
+        .take(ring.len().min(MOST_TOLD).saturating_sub(1))
+    {
+        if let Some(site) = Site::at(start.entries, *number) {
+            telling.quote("", site.argument(), verb);
         }
-        say_name(telling, rows, *number)?;
-        telling.say(verb)?;
     }
     if ring.len() > MOST_TOLD {
-        telling.count(ring.len().saturating_sub(MOST_TOLD) as u64)?;
-        telling.say(" more, and so on to ")?;
+        telling.count(
+            "",
+            ring.len().saturating_sub(MOST_TOLD) as u64,
+            " more, and so on to ",
+        );
     }
-    if let Some(first) = ring.first() {
-        say_name(telling, rows, *first)?;
-    }
-    telling.say(".")
-}
-
-fn say_name<'a>(
-    telling: &mut Telling<'a>,
-    rows: &Rows<'a, '_>,
-    number: usize,
-) -> Result<(), AllocError> {
-    match Site::at(rows, number) {
-        Some(site) => telling.quote(site.argument()),
-        None => Ok(()),
-    }
+    telling.quote("", start.argument(), ".");
 }
 
 /// Adds the cycle of modules that an import is part of: this module, the one that it imports, and so on.
 pub(crate) fn tell_imports<'a>(
     alloc: Global,
     telling: &mut Telling<'a>,
-    import: &Site<'_, 'a, '_>,
+    rows: &Rows<'a, '_>,
+    import: &Site<'_, 'a>,
 ) -> Result<(), AllocError> {
     telling.subject(
         "The module ",
         " imports this one, directly or through others.",
-    )?;
-    let rows = import.rows;
-    let Some(own) = Site::at(rows, rows.home(import.file as usize)) else {
-        return Ok(());
-    };
-    let Some(first) = module_named(rows, import.argument()) else {
-        return Ok(());
-    };
-    let ring = ring(alloc, &Links::Imports, &own, &[first])?;
-    if ring.is_empty() {
-        return Ok(());
+    );
+    let features = Features::read(alloc, rows)?;
+    match (import.module(), import.meaning()) {
+        (Some(own), Some(first)) => {
+            say_cycle(alloc, telling, &features, &IMPORTS, &own, &[first])
+        }
+        _ => Ok(()),
     }
-    say_ring(telling, rows, &ring, Links::Imports.verb())
 }
 
 /// Adds the cycle of definitions that one is part of.
 pub(crate) fn tell_cycle<'a>(
     alloc: Global,
     telling: &mut Telling<'a>,
-    site: &Site<'_, 'a, '_>,
-    kind: Kind,
+    rows: &Rows<'a, '_>,
+    site: &Site<'_, 'a>,
+    links: &Links,
 ) -> Result<(), AllocError> {
-    let definitions = Definitions::read(alloc, site.rows, kind)?;
-    let links = Links::By(kind, definitions);
-    let first = links.next(alloc, site)?;
-    let ring = ring(alloc, &links, site, &first)?;
-    if ring.is_empty() {
-        return Ok(());
-    }
-    say_ring(telling, site.rows, &ring, links.verb())
+    let features = Features::read(alloc, rows)?;
+    let first = next_sites(alloc, &features, links.keyword, site)?;
+    say_cycle(alloc, telling, &features, links, site, &first)
 }

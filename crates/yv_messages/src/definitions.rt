@@ -1,13 +1,10 @@
 //! Names that are defined twice, or not at all.
 use crate::guess::{Guess, nearest_definition, nearest_word, say_guess};
 use crate::likeness::Likeness;
-use crate::meanings::Definitions;
-use crate::modules::words_of;
+use crate::meanings::{definition, words_of};
 use crate::site::{Site, is_among};
 use crate::telling::Telling;
 use std::alloc::{AllocError, Global};
-use yv_rows::{Kind, Rows};
-use yv_statement::Code;
 
 static BUILT_IN_TYPES: &[&str] = &[
     "binary",
@@ -57,39 +54,25 @@ fn other_name(written: &str) -> Option<&'static str> {
     None
 }
 
-static DATA_NODES: &[&str] = &[
-    "container",
-    "leaf",
-    "leaf-list",
-    "list",
-    "choice",
-    "case",
-    "anydata",
-    "anyxml",
-    "rpc",
-    "action",
-    "notification",
-];
-
-// Whether a statement gives another one's name a second time.
-fn is_namesake(code: Code, one: &Site<'_, '_, '_>, other: &Site<'_, '_, '_>) -> bool {
-    let is_kin = match code {
-        Code::DuplicateModule => one.is_root(),
-        Code::DuplicateName => one.keyword() == other.keyword(),
-        _ => is_among(one.keyword(), DATA_NODES),
+// Whether a statement gives another one's name a second time: of a file or of a definition of the same kind.
+fn is_namesake(one: &Site<'_, '_>, other: &Site<'_, '_>) -> bool {
+    let are_kin = if other.is_root() {
+        one.is_root()
+    } else {
+        one.keyword() == other.keyword() && is_visible(one, other)
     };
-    is_kin && one.argument() == other.argument() && one.number != other.number
+    are_kin && one.argument() == other.argument() && one.number != other.number
 }
 
 // Whether a statement is in the block of another one, or in a block around that.
-fn is_visible(one: &Site<'_, '_, '_>, other: &Site<'_, '_, '_>) -> bool {
-    let mut block = other.scope;
+fn is_visible(one: &Site<'_, '_>, other: &Site<'_, '_>) -> bool {
+    let mut block = other.entry.scope;
     for _ in 0..MOST_DEPTH {
-        if block == one.scope {
+        if block == one.entry.scope {
             return true;
         }
-        match Site::at(other.rows, block) {
-            Some(around) if !around.is_root() => block = around.scope,
+        match Site::at(other.entries, block) {
+            Some(around) if !around.is_root() => block = around.entry.scope,
             _ => return false,
         }
     }
@@ -100,11 +83,10 @@ fn is_visible(one: &Site<'_, '_, '_>, other: &Site<'_, '_, '_>) -> bool {
 const MOST_DEPTH: usize = 64;
 
 // The other statement of the name that a refusal says is there twice.
-fn other_of_name<'r, 'a, 'b>(code: Code, site: &Site<'r, 'a, 'b>) -> Option<Site<'r, 'a, 'b>> {
-    for number in 0..site.rows.entries().len() {
-        let one = Site::at(site.rows, number)?;
-        let is_other = is_namesake(code, &one, site);
-        if is_other && (code == Code::DuplicateModule || is_visible(&one, site)) {
+fn other_of_name<'s, 'a>(site: &Site<'s, 'a>) -> Option<Site<'s, 'a>> {
+    for number in 0..site.entries.len() {
+        let one = Site::at(site.entries, number)?;
+        if is_namesake(&one, site) {
             return Some(one);
         }
     }
@@ -112,163 +94,137 @@ fn other_of_name<'r, 'a, 'b>(code: Code, site: &Site<'r, 'a, 'b>) -> Option<Site
 }
 
 // Adds where the other statement is, and shows its line.
-fn say_other<'a>(telling: &mut Telling<'a>, other: &Site<'_, 'a, '_>) -> Result<(), AllocError> {
-    telling.say(" The other one is at ")?;
-    telling.point(other)?;
-    telling.say(":")?;
-    telling.show(other)
+fn say_other<'a>(telling: &mut Telling<'a>, site: &Site<'_, 'a>) {
+    if let Some(other) = other_of_name(site) {
+        telling.point(" The other one is at ", &other, ":");
+        telling.show(&other);
+    }
 }
 
 /// Adds that a file's name is taken.
-pub(crate) fn tell_second_module<'a>(
-    telling: &mut Telling<'a>,
-    site: &Site<'_, 'a, '_>,
-) -> Result<(), AllocError> {
-    telling.subject("Another file defines ", " already.")?;
-    match other_of_name(Code::DuplicateModule, site) {
-        Some(other) => say_other(telling, &other),
-        None => Ok(()),
-    }
+pub(crate) fn tell_second_module<'a>(telling: &mut Telling<'a>, site: &Site<'_, 'a>) {
+    telling.subject("Another file defines ", " already.");
+    say_other(telling, site);
 }
 
 /// Adds that the name of a definition is taken.
-pub(crate) fn tell_second_name<'a>(
-    telling: &mut Telling<'a>,
-    site: &Site<'_, 'a, '_>,
-) -> Result<(), AllocError> {
+pub(crate) fn tell_second_name<'a>(telling: &mut Telling<'a>, site: &Site<'_, 'a>) {
     if site.is("typedef") && is_among(site.argument(), BUILT_IN_TYPES) {
-        return telling.subject("", " is the name of a built-in type; choose another one.");
-    }
-    telling.say("The ")?;
-    telling.say(site.keyword())?;
-    telling.subject(" ", " is defined in this scope already.")?;
-    match other_of_name(Code::DuplicateName, site) {
-        Some(other) => say_other(telling, &other),
-        None => Ok(()),
+        telling.subject("", " is the name of a built-in type; choose another one.");
+    } else {
+        telling.say("The ");
+        telling.say(site.keyword());
+        telling.subject(" ", " is defined in this scope already.");
+        say_other(telling, site);
     }
 }
 
-// The prefix by which a file names a module: no text for its own.
-fn prefix_for<'a>(rows: &Rows<'a, '_>, file: u32, module: usize) -> Option<&'a str> {
-    if rows.home(file as usize) == module {
+/// The prefix by which the file of a statement names the module of another one: no text for its own.
+pub(crate) fn prefix_for<'a>(site: &Site<'_, 'a>, other: &Site<'_, 'a>) -> Option<&'a str> {
+    let module = other.module()?;
+    if site.module()?.number == module.number {
         return Some("");
     }
-    for entry in rows.entries() {
-        if entry.file == file && entry.statement.keyword() == "prefix" {
-            let name = entry.statement.argument().unwrap_or("");
-            if rows.module_of(file as usize, name) == Some(module) {
-                return Some(name);
-            }
+    for entry in site.entries {
+        if entry.file == site.entry.file
+            && entry.keyword == "prefix"
+            && entry.meaning == Some(module.number)
+        {
+            return entry.argument;
         }
     }
     None
 }
 
 // Adds how the name of a definition is written in a file, or why it can't be used there.
-fn say_spelling<'a>(
-    telling: &mut Telling<'a>,
-    site: &Site<'_, 'a, '_>,
-    definition: &Site<'_, 'a, '_>,
-) -> Result<(), AllocError> {
-    let module = site.rows.home(definition.file as usize);
-    if definition.scope >= site.rows.files().len() {
-        telling.say(" The one at ")?;
-        telling.point(definition)?;
-        return telling.say(
+fn say_spelling<'a>(telling: &mut Telling<'a>, site: &Site<'_, 'a>, definition: &Site<'_, 'a>) {
+    if !is_at_top(definition) {
+        telling.point(
+            " The one at ",
+            definition,
             " is seen only in its own block: move it to a block around this statement.",
         );
+        return;
     }
-    match prefix_for(site.rows, site.file, module) {
+    match prefix_for(site, definition) {
         Some(prefix) => {
-            telling.say(" Write ")?;
-            telling.quote_prefixed(prefix, definition.argument())?;
-            telling.say(": it is defined at ")?;
-            telling.point(definition)?;
-            telling.say(".")
+            telling.quote_prefixed(" Write ", prefix, definition.argument(), "");
+            telling.point(": it is defined at ", definition, ".");
         }
-        None => {
-            telling.say(" It is defined at ")?;
-            telling.point(definition)?;
-            telling.say(": import that module.")
-        }
+        None => telling.point(" It is defined at ", definition, ": import that module."),
+    }
+}
+
+// Whether a statement is in no block but that of a file.
+fn is_at_top(site: &Site<'_, '_>) -> bool {
+    match site.parent() {
+        Some(parent) => parent.is_root(),
+        None => true,
     }
 }
 
 // Adds what may be meant by a name: a definition of the same name that isn't seen, or one with a name that is like it.
-fn say_meant<'a>(
-    telling: &mut Telling<'a>,
-    site: &Site<'_, 'a, '_>,
-    guess: Option<Guess<'a>>,
-) -> Result<(), AllocError> {
-    let Some(guess) = guess else {
-        return Ok(());
-    };
-    let definition = match guess.number {
-        Some(number) => Site::at(site.rows, number),
-        None => None,
-    };
-    match definition {
-        Some(definition) if guess.likeness == Likeness::Same => {
-            say_spelling(telling, site, &definition)
+fn say_meant<'a>(telling: &mut Telling<'a>, site: &Site<'_, 'a>, guess: Option<Guess<'a>>) {
+    match definition_of(site, guess) {
+        Some((guess, definition)) if guess.likeness == Likeness::Same => {
+            say_spelling(telling, site, &definition);
         }
-        Some(definition) => {
-            let module = site.rows.home(definition.file as usize);
-            let prefix = prefix_for(site.rows, site.file, module).unwrap_or("");
-            telling.say(" Did you mean ")?;
-            telling.quote_prefixed(prefix, guess.name)?;
-            telling.say(", which is defined at ")?;
-            telling.point(&definition)?;
-            telling.say("?")
+        Some((guess, definition)) => {
+            let prefix = prefix_for(site, &definition).unwrap_or("");
+            telling.quote_prefixed(" Did you mean ", prefix, guess.name, "");
+            telling.point(", which is defined at ", &definition, "?");
         }
-        None => say_guess(telling, Some(guess)),
+        None => say_guess(telling, guess),
     }
+}
+
+// A guess with the statement that defines it, if there is one.
+fn definition_of<'s, 'a>(
+    site: &Site<'s, 'a>,
+    guess: Option<Guess<'a>>,
+) -> Option<(Guess<'a>, Site<'s, 'a>)> {
+    let guess = guess?;
+    Some((guess, Site::at(site.entries, guess.number?)?))
 }
 
 /// Adds that a type is not defined, and what may be meant.
-pub(crate) fn tell_type_name<'a>(
-    telling: &mut Telling<'a>,
-    site: &Site<'_, 'a, '_>,
-) -> Result<(), AllocError> {
-    telling.subject("The type ", " is not defined here.")?;
+pub(crate) fn tell_type_name<'a>(telling: &mut Telling<'a>, site: &Site<'_, 'a>) {
+    telling.subject("The type ", " is not defined here.");
     if let Some(meant) = other_name(site.argument()) {
-        telling.say(" Did you mean ")?;
-        telling.quote(meant)?;
-        return telling.say("?");
+        telling.quote(" Did you mean ", meant, "?");
+        return;
     }
     let built_in = nearest_word(site.argument(), BUILT_IN_TYPES);
-    let typedef = nearest_definition(site.rows, "typedef", site.argument());
-    say_meant(telling, site, Guess::nearer(built_in, typedef))
+    let typedef = nearest_definition(site.entries, "typedef", site.argument());
+    say_meant(telling, site, Guess::nearer(built_in, typedef));
 }
 
 /// Adds that a grouping is not defined, and what may be meant.
-pub(crate) fn tell_grouping_name<'a>(
-    telling: &mut Telling<'a>,
-    site: &Site<'_, 'a, '_>,
-) -> Result<(), AllocError> {
-    telling.subject("The grouping ", " is not defined here.")?;
-    let guess = nearest_definition(site.rows, "grouping", site.argument());
-    say_meant(telling, site, guess)
+pub(crate) fn tell_grouping_name<'a>(telling: &mut Telling<'a>, site: &Site<'_, 'a>) {
+    telling.subject("The grouping ", " is not defined here.");
+    say_nearest(telling, site, "grouping", site.argument());
 }
 
 /// Adds that an identity is not defined, and what may be meant.
-pub(crate) fn tell_identity_name<'a>(
-    telling: &mut Telling<'a>,
-    site: &Site<'_, 'a, '_>,
-) -> Result<(), AllocError> {
-    telling.subject("The identity ", " is not defined.")?;
-    let guess = nearest_definition(site.rows, "identity", site.argument());
-    say_meant(telling, site, guess)
+pub(crate) fn tell_identity_name<'a>(telling: &mut Telling<'a>, site: &Site<'_, 'a>) {
+    telling.subject("The identity ", " is not defined.");
+    say_nearest(telling, site, "identity", site.argument());
+}
+
+// Adds what may be meant by the name of a definition of this keyword.
+fn say_nearest<'a>(telling: &mut Telling<'a>, site: &Site<'_, 'a>, keyword: &str, name: &'a str) {
+    say_meant(
+        telling,
+        site,
+        nearest_definition(site.entries, keyword, name),
+    );
 }
 
 // The first name of an expression that is not that of a feature.
-fn unknown_feature<'a>(
-    alloc: Global,
-    site: &Site<'_, 'a, '_>,
-) -> Result<Option<&'a str>, AllocError> {
-    let features = Definitions::read(alloc, site.rows, Kind::Feature)?;
+fn unknown_feature<'a>(alloc: Global, site: &Site<'_, 'a>) -> Result<Option<&'a str>, AllocError> {
     for word in words_of(alloc, site.argument())?.iter() {
         let is_name = !is_among(word, &["and", "or", "not"]);
-        if is_name && features.meaning(site, word).is_none() {
+        if is_name && definition(site, "feature", word).is_none() {
             return Ok(Some(*word));
         }
     }
@@ -279,24 +235,15 @@ fn unknown_feature<'a>(
 pub(crate) fn tell_feature_name<'a>(
     alloc: Global,
     telling: &mut Telling<'a>,
-    site: &Site<'_, 'a, '_>,
+    site: &Site<'_, 'a>,
 ) -> Result<(), AllocError> {
-    let unknown = unknown_feature(alloc, site)?;
-    match unknown {
-        Some(name) if name != site.argument() => {
-            telling.say("The feature ")?;
-            telling.quote(name)?;
-            telling.subject(" in ", " is not defined.")?;
-            say_meant(
-                telling,
-                site,
-                nearest_definition(site.rows, "feature", name),
-            )
-        }
-        _ => {
-            telling.subject("The feature ", " is not defined.")?;
-            let guess = nearest_definition(site.rows, "feature", site.argument());
-            say_meant(telling, site, guess)
-        }
+    let unknown = unknown_feature(alloc, site)?.unwrap_or(site.argument());
+    if unknown == site.argument() {
+        telling.subject("The feature ", " is not defined.");
+    } else {
+        telling.quote("The feature ", unknown, "");
+        telling.subject(" in ", " is not defined.");
     }
+    say_nearest(telling, site, "feature", unknown);
+    Ok(())
 }

@@ -1,9 +1,9 @@
 //! What may have been meant by a name that means nothing.
+use crate::entry::Entry;
 use crate::likeness::{Likeness, compared};
 use crate::site::Site;
 use crate::telling::Telling;
-use std::alloc::AllocError;
-use yv_rows::{Rows, local};
+use yv_rows::local;
 
 /// A name that is like one that was written. Of several the first that is most alike is kept.
 #[derive(Clone, Copy)]
@@ -45,7 +45,7 @@ pub(crate) fn nearest_word(written: &str, words: &[&'static str]) -> Option<Gues
 }
 
 /// The statement whose argument is most like a name that was written.
-pub(crate) fn nearest_site<'a>(written: &str, sites: &[Site<'_, 'a, '_>]) -> Option<Guess<'a>> {
+pub(crate) fn nearest_site<'a>(written: &str, sites: &[Site<'_, 'a>]) -> Option<Guess<'a>> {
     let mut nearest = None;
     for site in sites {
         nearest = Guess::nearer(nearest, Guess::of(written, site.name(), Some(site.number)));
@@ -55,14 +55,14 @@ pub(crate) fn nearest_site<'a>(written: &str, sites: &[Site<'_, 'a, '_>]) -> Opt
 
 /// The definition of this keyword whose name is most like one that was written.
 pub(crate) fn nearest_definition<'a>(
-    rows: &Rows<'a, '_>,
+    entries: &[Entry<'a>],
     keyword: &str,
     written: &str,
 ) -> Option<Guess<'a>> {
     let mut nearest = None;
-    for (number, entry) in rows.entries().iter().enumerate() {
-        if entry.statement.keyword() == keyword {
-            let name = entry.statement.argument().unwrap_or("");
+    for (number, entry) in entries.iter().enumerate() {
+        if entry.keyword == keyword {
+            let name = entry.argument.unwrap_or("");
             nearest = Guess::nearer(nearest, Guess::of(local(written), name, Some(number)));
         }
     }
@@ -70,16 +70,11 @@ pub(crate) fn nearest_definition<'a>(
 }
 
 /// Adds a guess, if there is one.
-pub(crate) fn say_guess<'a>(
-    telling: &mut Telling<'a>,
-    guess: Option<Guess<'a>>,
-) -> Result<(), AllocError> {
+pub(crate) fn say_guess<'a>(telling: &mut Telling<'a>, guess: Option<Guess<'a>>) {
     match guess {
         Some(guess) if guess.likeness != Likeness::Same => {
-            telling.say(" Did you mean ")?;
-            telling.quote(guess.name)?;
-            telling.say("?")
+            telling.quote(" Did you mean ", guess.name, "?");
         }
-        _ => Ok(()),
+        _ => {}
     }
 }

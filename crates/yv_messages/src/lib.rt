@@ -8,6 +8,7 @@ mod cause;
 mod circle;
 mod defaults;
 mod definitions;
+mod entry;
 mod explain;
 mod guess;
 mod json;

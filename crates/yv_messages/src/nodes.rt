@@ -1,10 +1,10 @@
 //! The nodes of the schema that statements define.
-use crate::guess::nearest_site;
-use crate::meanings::Definitions;
-use crate::site::{Site, is_among};
+use crate::guess::{nearest_site, say_guess};
+use crate::meanings::module_of;
+use crate::site::{Site, all_sites, is_among, next_site};
 use crate::telling::Telling;
 use std::alloc::{AllocError, Global};
-use yv_rows::{Rows, local};
+use yv_rows::local;
 
 /// How many blocks are searched for the nodes of one.
 const MOST_BLOCKS: usize = 256;
@@ -12,7 +12,8 @@ const MOST_BLOCKS: usize = 256;
 /// How many nodes of one are looked at.
 const MOST_NODES: usize = 10_000;
 
-static SCHEMA_NODES: &[&str] = &[
+/// The keywords of nodes that have a name of their own.
+pub(crate) static DATA_NODES: &[&str] = &[
     "container",
     "leaf",
     "leaf-list",
@@ -24,9 +25,12 @@ static SCHEMA_NODES: &[&str] = &[
     "rpc",
     "action",
     "notification",
-    "input",
-    "output",
 ];
+
+// Whether a statement defines a node of the schema.
+fn is_node(site: &Site<'_, '_>) -> bool {
+    site.is("input") || site.is("output") || is_among(site.keyword(), DATA_NODES)
+}
 
 /// Which steps a path has: also to choices and cases, or only to data nodes.
 #[derive(Clone, Copy, PartialEq, Eq)]
@@ -36,20 +40,17 @@ pub(crate) enum Steps {
 }
 
 // The `augment` statements whose path ends with the name of a node.
-fn augments_of<'r, 'a, 'b>(
+fn augments_of<'s, 'a>(
     alloc: Global,
-    node: &Site<'r, 'a, 'b>,
-) -> Result<Vec<Site<'r, 'a, 'b>>, AllocError> {
+    node: &Site<'s, 'a>,
+) -> Result<Vec<Site<'s, 'a>>, AllocError> {
     let mut augments = Vec::new(alloc);
     if node.is_root() || node.is("grouping") {
         return Ok(augments);
     }
-    for number in 0..node.rows.entries().len() {
-        match Site::at(node.rows, number) {
-            Some(site) if site.is("augment") && last_step(site.argument()) == node.argument() => {
-                augments.push(site)?;
-            }
-            _ => {}
+    for augment in all_sites(alloc, node.entries, "augment")?.iter() {
+        if last_step(augment.argument()) == node.argument() {
+            augments.push(*augment)?;
         }
     }
     Ok(augments)
@@ -64,12 +65,11 @@ pub(crate) fn last_step(path: &str) -> &str {
 }
 
 /// The nodes below a node or at the top of a module, those of groupings, and of augments of its name, too.
-pub(crate) fn nodes_below<'r, 'a, 'b>(
+pub(crate) fn nodes_below<'s, 'a>(
     alloc: Global,
-    groupings: &Definitions<'a>,
-    node: &Site<'r, 'a, 'b>,
+    node: &Site<'s, 'a>,
     steps: Steps,
-) -> Result<Vec<Site<'r, 'a, 'b>>, AllocError> {
+) -> Result<Vec<Site<'s, 'a>>, AllocError> {
     let mut nodes = Vec::new(alloc);
     let mut blocks = augments_of(alloc, node)?;
     blocks.push(*node)?;
@@ -78,51 +78,46 @@ pub(crate) fn nodes_below<'r, 'a, 'b>(
             break;
         };
         for child in block.children(alloc)?.iter() {
-            add_node(groupings, &mut nodes, &mut blocks, child, steps)?;
+            add_node(&mut nodes, &mut blocks, child, steps)?;
         }
     }
     Ok(nodes)
 }
 
 // Adds a statement of a block that is a node, or where more nodes are.
-fn add_node<'r, 'a, 'b>(
-    groupings: &Definitions<'a>,
-    nodes: &mut Vec<Site<'r, 'a, 'b>>,
-    blocks: &mut Vec<Site<'r, 'a, 'b>>,
-    child: &Site<'r, 'a, 'b>,
+fn add_node<'s, 'a>(
+    nodes: &mut Vec<Site<'s, 'a>>,
+    blocks: &mut Vec<Site<'s, 'a>>,
+    child: &Site<'s, 'a>,
     steps: Steps,
 ) -> Result<(), AllocError> {
-    let is_choice = child.is("choice") || child.is("case");
-    if is_choice && steps == Steps::Data {
-        blocks.push(*child)?;
-        return Ok(());
-    }
-    if child.is("uses") {
-        if let Some(grouping) = groupings.meaning(child, child.argument()) {
-            blocks.push(grouping)?;
-        }
-        return Ok(());
-    }
-    if is_among(child.keyword(), SCHEMA_NODES) && nodes.len() < MOST_NODES {
+    if let Some(block) = block_at(child, steps) {
+        blocks.push(block)?;
+    } else if is_node(child) && nodes.len() < MOST_NODES {
         nodes.push(*child)?;
     }
     Ok(())
 }
 
+// The block whose nodes are those of the block in which this statement is.
+fn block_at<'s, 'a>(child: &Site<'s, 'a>, steps: Steps) -> Option<Site<'s, 'a>> {
+    match child.keyword() {
+        "uses" => child.meaning(),
+        "choice" | "case" if steps == Steps::Data => Some(*child),
+        _ => None,
+    }
+}
+
 /// The name of a node: `input` and `output` have that of their keyword.
-pub(crate) fn node_name<'a>(node: &Site<'_, 'a, '_>) -> &'a str {
-    if node.is("input") || node.is("output") {
-        node.keyword()
-    } else {
-        node.argument()
+pub(crate) fn node_name<'a>(node: &Site<'_, 'a>) -> &'a str {
+    match node.keyword() {
+        "input" | "output" => node.keyword(),
+        _ => node.argument(),
     }
 }
 
 /// The first of these nodes with this name.
-pub(crate) fn named<'r, 'a, 'b>(
-    nodes: &[Site<'r, 'a, 'b>],
-    name: &str,
-) -> Option<Site<'r, 'a, 'b>> {
+pub(crate) fn named<'s, 'a>(nodes: &[Site<'s, 'a>], name: &str) -> Option<Site<'s, 'a>> {
     for node in nodes {
         if node_name(node) == name {
             return Some(*node);
@@ -131,21 +126,13 @@ pub(crate) fn named<'r, 'a, 'b>(
     None
 }
 
-/// A node as a sentence speaks of it.
-pub(crate) fn say_node<'a>(
-    telling: &mut Telling<'a>,
-    node: &Site<'_, 'a, '_>,
-) -> Result<(), AllocError> {
-    telling.statement("", node, "")
-}
-
 /// How far a path was followed.
 #[derive(Clone, Copy)]
-pub(crate) enum Way<'r, 'a, 'b> {
+pub(crate) enum Way<'s, 'a> {
     /// To this node.
-    To(Site<'r, 'a, 'b>),
+    To(Site<'s, 'a>),
     /// To this node, which has none of this name below it.
-    Until(Site<'r, 'a, 'b>, &'a str),
+    Until(Site<'s, 'a>, &'a str),
     /// Above the top of the module.
     Above,
     Unknown,
@@ -155,13 +142,12 @@ pub(crate) enum Way<'r, 'a, 'b> {
 const MOST_STEPS: usize = 64;
 
 /// Follows the names of a path from a node.
-pub(crate) fn follow<'r, 'a, 'b>(
+pub(crate) fn follow<'s, 'a>(
     alloc: Global,
-    groupings: &Definitions<'a>,
-    start: &Site<'r, 'a, 'b>,
+    start: &Site<'s, 'a>,
     path: &'a str,
     steps: Steps,
-) -> Result<Way<'r, 'a, 'b>, AllocError> {
+) -> Result<Way<'s, 'a>, AllocError> {
     let mut at = *start;
     for (place, step) in path.split('/').enumerate() {
         if step.is_empty() {
@@ -170,8 +156,7 @@ pub(crate) fn follow<'r, 'a, 'b>(
         if place > MOST_STEPS {
             return Ok(Way::Unknown);
         }
-        let nodes = nodes_below(alloc, groupings, &at, steps)?;
-        match named(&nodes, local(step)) {
+        match node_below(alloc, &at, step, steps)? {
             Some(node) => at = node,
             None => return Ok(Way::Until(at, step)),
         }
@@ -179,14 +164,22 @@ pub(crate) fn follow<'r, 'a, 'b>(
     Ok(Way::To(at))
 }
 
+/// The node of a name below another one.
+pub(crate) fn node_below<'s, 'a>(
+    alloc: Global,
+    node: &Site<'s, 'a>,
+    name: &str,
+    steps: Steps,
+) -> Result<Option<Site<'s, 'a>>, AllocError> {
+    let nodes = nodes_below(alloc, node, steps)?;
+    Ok(named(&nodes, local(name)))
+}
+
 /// The root of the module of a path that begins with `/`.
-pub(crate) fn root_of<'r, 'a, 'b>(
-    site: &Site<'r, 'a, 'b>,
-    path: &'a str,
-) -> Option<Site<'r, 'a, 'b>> {
+pub(crate) fn root_of<'s, 'a>(site: &Site<'s, 'a>, path: &str) -> Option<Site<'s, 'a>> {
     for step in path.split('/') {
         if !step.is_empty() {
-            return Site::at(site.rows, site.rows.block_of(site.file as usize, step)?);
+            return module_of(site, step);
         }
     }
     None
@@ -196,53 +189,37 @@ pub(crate) fn root_of<'r, 'a, 'b>(
 pub(crate) fn say_no_node<'a>(
     alloc: Global,
     telling: &mut Telling<'a>,
-    groupings: &Definitions<'a>,
-    node: &Site<'_, 'a, '_>,
+    node: &Site<'_, 'a>,
     name: &'a str,
     steps: Steps,
 ) -> Result<(), AllocError> {
-    telling.say(" There is no node ")?;
-    telling.quote(name)?;
-    telling.statement(" in ", node, ".")?;
-    let nodes = nodes_below(alloc, groupings, node, steps)?;
-    match nearest_site(local(name), &nodes) {
-        Some(guess) => {
-            telling.say(" Did you mean ")?;
-            telling.quote(guess.name)?;
-            telling.say("?")
-        }
-        None => Ok(()),
-    }
+    telling.quote(" There is no node ", name, "");
+    telling.statement(" in ", node, ".");
+    let nodes = nodes_below(alloc, node, steps)?;
+    say_guess(telling, nearest_site(local(name), &nodes));
+    Ok(())
 }
 
-// The first `uses` of a grouping.
-fn first_uses<'r, 'a, 'b>(
-    groupings: &Definitions<'a>,
-    grouping: &Site<'r, 'a, 'b>,
-) -> Option<Site<'r, 'a, 'b>> {
-    let rows: &'r Rows<'a, 'b> = grouping.rows;
-    for number in 0..rows.entries().len() {
-        let site = Site::at(rows, number)?;
-        if site.is("uses") && site.name() == grouping.argument() {
-            match groupings.meaning(&site, site.argument()) {
-                Some(meant) if meant.number == grouping.number => return Some(site),
-                _ => {}
-            }
+/// The next `uses` of a grouping, from a statement on.
+pub(crate) fn next_uses<'s, 'a>(grouping: &Site<'s, 'a>, from: usize) -> Option<Site<'s, 'a>> {
+    let mut from = from;
+    for _ in 0..grouping.entries.len() {
+        let uses = next_site(grouping.entries, "uses", from)?;
+        if uses.means(grouping.number) {
+            return Some(uses);
         }
+        from = uses.number.saturating_add(1);
     }
     None
 }
 
 /// The data node above a node: of one in a grouping that above its first `uses`. None for a node at the top of a module.
-pub(crate) fn node_above<'r, 'a, 'b>(
-    groupings: &Definitions<'a>,
-    node: &Site<'r, 'a, 'b>,
-) -> Option<Site<'r, 'a, 'b>> {
+pub(crate) fn node_above<'s, 'a>(node: &Site<'s, 'a>) -> Option<Site<'s, 'a>> {
     let mut at = node.parent()?;
     for _ in 0..MOST_STEPS {
         match at.keyword() {
             "choice" | "case" => at = at.parent()?,
-            "grouping" => at = first_uses(groupings, &at)?.parent()?,
+            "grouping" => at = next_uses(&at, 0)?.parent()?,
             "module" | "submodule" => return None,
             _ => return Some(at),
         }
@@ -251,16 +228,13 @@ pub(crate) fn node_above<'r, 'a, 'b>(
 }
 
 /// Whether a node is state: the nearest `config` above it, or its own, is false.
-pub(crate) fn state_above<'r, 'a, 'b>(
-    groupings: &Definitions<'a>,
-    node: &Site<'r, 'a, 'b>,
-) -> Option<Site<'r, 'a, 'b>> {
+pub(crate) fn state_above<'s, 'a>(node: &Site<'s, 'a>) -> Option<Site<'s, 'a>> {
     let mut at = *node;
     for _ in 0..MOST_STEPS {
         match at.child("config") {
             Some(config) if config.argument() == "false" => return Some(at),
             Some(_) => return None,
-            None => at = node_above(groupings, &at)?,
+            None => at = node_above(&at)?,
         }
     }
     None

@@ -1,21 +1,13 @@
 //! Names and numbers of enumerations and bits.
-use crate::guess::{Guess, say_guess};
-use crate::meanings::{Definitions, chain};
+use crate::guess::say_guess;
+use crate::meanings::chain;
 use crate::site::Site;
 use crate::telling::Telling;
+use crate::values::nearest_name;
 use std::alloc::{AllocError, Global};
-use std::collections::BTreeMap;
-use yv_rows::Kind;
-
-// An item with its number.
-#[derive(Clone, Copy)]
-struct Item<'r, 'a, 'b> {
-    site: Site<'r, 'a, 'b>,
-    number: i64,
-}
 
 // The number that an item says.
-fn stated(site: &Site<'_, '_, '_>) -> Option<i64> {
+fn stated(site: &Site<'_, '_>) -> Option<i64> {
     let value = match site.child("value") {
         Some(value) => value,
         None => site.child("position")?,
@@ -23,103 +15,101 @@ fn stated(site: &Site<'_, '_, '_>) -> Option<i64> {
     value.argument().parse::<i64>().ok()
 }
 
-// Items by their numbers, with the highest of these.
-#[derive(Drop)]
-struct Items<'r, 'a, 'b> {
-    by_number: BTreeMap<i64, Item<'r, 'a, 'b>>,
-    by_name: BTreeMap<&'a [u8], Item<'r, 'a, 'b>>,
-    highest: Option<i64>,
+// The number of an item, if the highest of those before it is this.
+fn number_after(site: &Site<'_, '_>, highest: Option<i64>) -> i64 {
+    match (stated(site), highest) {
+        (Some(number), _) => number,
+        (None, Some(highest)) => highest.saturating_add(1),
+        (None, None) => 0,
+    }
 }
 
-impl<'r, 'a, 'b> Items<'r, 'a, 'b> {
-    fn new(alloc: Global) -> Items<'r, 'a, 'b> {
-        Items {
-            by_number: BTreeMap::new(alloc),
-            by_name: BTreeMap::new(alloc),
-            highest: None,
+// The items of a type.
+fn items_of<'s, 'a>(
+    alloc: Global,
+    parent: &Site<'s, 'a>,
+    keyword: &str,
+) -> Result<Vec<Site<'s, 'a>>, AllocError> {
+    let mut items = Vec::new(alloc);
+    for child in parent.children(alloc)?.iter() {
+        if child.is(keyword) {
+            items.push(*child)?;
         }
     }
+    Ok(items)
+}
 
-    // The number of the next item.
-    fn number_of(&self, site: &Site<'_, '_, '_>) -> i64 {
-        match (stated(site), self.highest) {
-            (Some(number), _) => number,
-            (None, Some(highest)) => highest.saturating_add(1),
-            (None, None) => 0,
+// The item of this name before a statement.
+fn item_named<'s, 'a>(items: &[Site<'s, 'a>], name: &str, end: usize) -> Option<Site<'s, 'a>> {
+    for item in items {
+        if item.number < end && item.argument() == name {
+            return Some(*item);
         }
     }
+    None
+}
 
-    fn add(&mut self, site: &Site<'r, 'a, 'b>) -> Result<(), AllocError> {
-        let number = self.number_of(site);
-        let item = Item {
-            site: *site,
-            number,
-        };
-        self.by_number.insert(number, item)?;
-        self.by_name.insert(site.argument().as_bytes(), item)?;
-        self.highest = match self.highest {
-            Some(highest) => Some(highest.max(number)),
-            None => Some(number),
-        };
-        Ok(())
-    }
-
-    // The items of a type before one of them.
-    fn before(
-        alloc: Global,
-        parent: &Site<'r, 'a, 'b>,
-        end: &Site<'_, '_, '_>,
-    ) -> Result<Items<'r, 'a, 'b>, AllocError> {
-        let mut items = Items::new(alloc);
-        for child in parent.children(alloc)?.iter() {
-            if child.number >= end.number {
-                break;
-            }
-            if child.is(end.keyword()) {
-                items.add(child)?;
-            }
+// The highest number of items before a statement.
+fn highest_before(items: &[Site<'_, '_>], end: usize) -> Option<i64> {
+    let mut highest: Option<i64> = None;
+    for item in items {
+        if item.number < end {
+            let number = number_after(item, highest);
+            highest = Some(match highest {
+                Some(highest) => highest.max(number),
+                None => number,
+            });
         }
-        Ok(items)
     }
+    highest
+}
 
-    // The item whose name is most like one that was written.
-    fn nearest(&self, written: &str) -> Option<Guess<'a>> {
-        let mut nearest = None;
-        for item in self.by_name.values() {
-            let name = item.site.argument();
-            nearest = Guess::nearer(nearest, Guess::of(written, name, None));
+// The item that has this number before a statement.
+fn item_numbered<'s, 'a>(items: &[Site<'s, 'a>], number: i64, end: usize) -> Option<Site<'s, 'a>> {
+    let mut highest: Option<i64> = None;
+    for item in items {
+        let own = number_after(item, highest);
+        if item.number < end && own == number {
+            return Some(*item);
         }
-        nearest
+        highest = Some(match highest {
+            Some(highest) => highest.max(own),
+            None => own,
+        });
     }
+    None
 }
 
 /// Adds what is wrong with an item of an enumeration or of bits.
 pub(crate) fn tell_item<'a>(
     alloc: Global,
     telling: &mut Telling<'a>,
-    site: &Site<'_, 'a, '_>,
+    site: &Site<'_, 'a>,
 ) -> Result<(), AllocError> {
-    telling.say("The ")?;
-    telling.say(site.keyword())?;
-    telling.subject(" ", "")?;
+    telling.say("The ");
+    telling.say(site.keyword());
+    telling.subject(" ", "");
     let Some(parent) = site.parent() else {
-        return telling.say(" is wrong.");
+        telling.say(" is wrong.");
+        return Ok(());
     };
-    let typedefs = Definitions::read(alloc, site.rows, Kind::Typedef)?;
-    let chain = chain(alloc, &typedefs, &parent)?;
-    match first_with_items(&chain, site.keyword()) {
-        Some(base) => say_in_base(alloc, telling, &base, site),
-        None => say_in_type(alloc, telling, &parent, site),
+    let chain = chain(alloc, &parent)?;
+    match base_with(&chain, site.keyword(), parent.number) {
+        Some(base) => say_in_base(
+            telling,
+            &base,
+            &items_of(alloc, &base, site.keyword())?,
+            site,
+        ),
+        None => say_in_type(telling, &items_of(alloc, &parent, site.keyword())?, site),
     }
+    Ok(())
 }
 
-// The nearest type from which one is derived that has items.
-fn first_with_items<'r, 'a, 'b>(
-    chain: &[Site<'r, 'a, 'b>],
-    keyword: &str,
-) -> Option<Site<'r, 'a, 'b>> {
-    for site in chain.iter().skip(1) {
-        if site.child(keyword).is_some() {
+// The nearest type with items in a chain of types, except this one.
+fn base_with<'s, 'a>(chain: &[Site<'s, 'a>], keyword: &str, except: usize) -> Option<Site<'s, 'a>> {
+    for site in chain {
+        if site.number != except && site.child(keyword).is_some() {
             return Some(*site);
         }
     }
@@ -127,55 +117,51 @@ fn first_with_items<'r, 'a, 'b>(
 }
 
 // Adds what is wrong with an item among those before it.
-fn say_in_type<'a>(
-    alloc: Global,
-    telling: &mut Telling<'a>,
-    parent: &Site<'_, 'a, '_>,
-    site: &Site<'_, 'a, '_>,
-) -> Result<(), AllocError> {
-    let items = Items::before(alloc, parent, site)?;
-    if let Some(other) = items.by_name.get(&site.argument().as_bytes()) {
-        telling.say(" is there already, at ")?;
-        telling.point(&other.site)?;
-        return telling.say(".");
+fn say_in_type<'a>(telling: &mut Telling<'a>, items: &[Site<'_, 'a>], site: &Site<'_, 'a>) {
+    if let Some(other) = item_named(items, site.argument(), site.number) {
+        telling.point(" is there already, at ", &other, ".");
+        return;
     }
-    match items.by_number.get(&items.number_of(site)) {
+    let number = number_after(site, highest_before(items, site.number));
+    match item_numbered(items, number, site.number) {
         Some(other) => {
-            telling.say(" can't have a number that is taken: ")?;
-            telling.quote(other.site.argument())?;
-            telling.say(" at ")?;
-            telling.point(&other.site)?;
-            telling.say(" has it already.")
+            telling.quote(" can't have a number that is taken: ", other.argument(), "");
+            telling.point(" at ", &other, " has it already.");
         }
         None => telling.say(" has no number left: the highest is taken, so state one."),
     }
 }
 
+// The number of an item of a type.
+fn number_of(items: &[Site<'_, '_>], item: &Site<'_, '_>) -> i64 {
+    number_after(item, highest_before(items, item.number))
+}
+
 // Adds what is wrong with an item of a type that restricts another one.
 fn say_in_base<'a>(
-    alloc: Global,
     telling: &mut Telling<'a>,
-    base: &Site<'_, 'a, '_>,
-    site: &Site<'_, 'a, '_>,
-) -> Result<(), AllocError> {
-    let mut items = Items::new(alloc);
-    for child in base.children(alloc)?.iter() {
-        if child.is(site.keyword()) {
-            items.add(child)?;
-        }
-    }
-    match items.by_name.get(&site.argument().as_bytes()) {
-        Some(other) if stated(site).is_some() && stated(site) != Some(other.number) => {
-            telling.say(" has another number in the type that is restricted, at ")?;
-            telling.point(&other.site)?;
-            telling.say(".")
-        }
+    base: &Site<'_, 'a>,
+    items: &[Site<'_, 'a>],
+    site: &Site<'_, 'a>,
+) {
+    match item_named(items, site.argument(), usize::MAX) {
+        Some(other) if is_other_number(stated(site), number_of(items, &other)) => telling.point(
+            " has another number in the type that is restricted, at ",
+            &other,
+            ".",
+        ),
         Some(_) => telling.say(" is there twice."),
         None => {
-            telling.say(" is not one of the type that is restricted, at ")?;
-            telling.point(base)?;
-            telling.say(".")?;
-            say_guess(telling, items.nearest(site.argument()))
+            telling.point(" is not one of the type that is restricted, at ", base, ".");
+            say_guess(telling, nearest_name(items, site.argument()));
         }
+    }
+}
+
+// Whether an item says another number than this.
+fn is_other_number(stated: Option<i64>, number: i64) -> bool {
+    match stated {
+        Some(other) => other != number,
+        None => false,
     }
 }

@@ -1,6 +1,5 @@
 //! What of a pattern is not in the dialect of regular expressions.
 use crate::telling::Telling;
-use std::alloc::AllocError;
 
 // Something that other dialects have, and what to write here.
 struct Foreign {
@@ -168,28 +167,29 @@ fn count_of(text: &[u8], sought: u8) -> usize {
 }
 
 /// Adds what of a pattern is not supported, and what to write.
-pub(crate) fn tell_pattern<'a>(telling: &mut Telling<'a>, text: &'a str) -> Result<(), AllocError> {
+pub(crate) fn tell_pattern<'a>(telling: &mut Telling<'a>, text: &'a str) {
     telling.subject(
         "The pattern ",
         " is not a regular expression that yangcheck supports.",
-    )?;
+    );
     if let Some((place, foreign)) = first_foreign(text.as_bytes()) {
-        telling.say(" The reason is ")?;
-        telling.quote(foreign.text)?;
-        telling.say(" at character ")?;
-        telling.count(place.saturating_add(1) as u64)?;
-        telling.say(".")?;
-        return telling.say(foreign.advice);
+        telling.quote(" The reason is ", foreign.text, "");
+        telling.count(" at character ", place.saturating_add(1) as u64, ".");
+        telling.say(foreign.advice);
+    } else {
+        telling.say(advice_on(text.as_bytes()));
     }
-    let opened = count_of(text.as_bytes(), b'(');
-    let closed = count_of(text.as_bytes(), b')');
+}
+
+// What to look for in a pattern in which nothing is of another dialect.
+fn advice_on(text: &[u8]) -> &'static str {
+    let opened = count_of(text, b'(');
+    let closed = count_of(text, b')');
     if opened > closed {
-        return telling.say(" A `(` is not closed.");
+        " A `(` is not closed."
+    } else if opened < closed {
+        " A `)` closes nothing."
+    } else {
+        " Look for a quantifier with nothing before it, a count above 1000, a range whose ends are exchanged, or a character that needs a backslash."
     }
-    if opened < closed {
-        return telling.say(" A `)` closes nothing.");
-    }
-    telling.say(
-        " Look for a quantifier with nothing before it, a count above 1000, a range whose ends are exchanged, or a character that needs a backslash.",
-    )
 }

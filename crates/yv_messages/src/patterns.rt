@@ -22,6 +22,28 @@ fn is_unbuilt_text(alloc: Global, patterns: &mut Patterns, text: &str) -> Result
     }
 }
 
+// Whether a text is a pattern of the dialect.
+fn is_of_dialect(alloc: Global, text: &str) -> Result<bool, AllocError>
+    ensures { IfOk result (λ is. is ≡ true → IsOfDialect text.now) }
+{
+    match Patterns::new(alloc).read(alloc, text) {
+        Ok(_) | Err(Stop::PatternBuild) => Ok(true),
+        Err(Stop::Fault(_)) => Ok(false),
+        Err(Stop::NoMemory) => Err(AllocError),
+    }
+}
+
+// Whether a statement is a pattern of the dialect.
+fn is_pattern(alloc: Global, statement: &Statement<'_>) -> Result<bool, AllocError>
+    ensures keyword { IfOk result (λ is. is ≡ true → bytes_eq statement.now.head.keyword (codes "pattern") ≡ true) }
+    ensures dialect { IfOk result (λ is. is ≡ true → IsOfDialect (name_at statement.now.head)) }
+{
+    if statement.keyword() != "pattern" {
+        return Ok(false);
+    }
+    is_of_dialect(alloc, name_of(statement))
+}
+
 // Whether a statement is a pattern that isn't built in the room that is left.
 fn is_unbuilt(
     alloc: Global,
@@ -48,6 +70,21 @@ pub(crate) fn first_unbuilt<'r, 'a, 'b>(
     let mut patterns = Patterns::new(alloc);
     for entry in rows.entries() {
         if is_unbuilt(alloc, &mut patterns, entry.statement)? {
+            return Ok(Some(entry));
+        }
+    }
+    Ok(None)
+}
+
+/// The first statement of the files that is a pattern of the dialect.
+pub(crate) fn first_pattern<'r, 'a, 'b>(
+    alloc: Global,
+    rows: &'r Rows<'a, 'b>,
+) -> Result<Option<&'r Entry<'a, 'b>>, AllocError>
+    ensures { IfOk result (λ found. IfSome found (λ e. IsPatternAmong (rows_in rows.now) (row e.now))) }
+{
+    for entry in rows.entries() {
+        if is_pattern(alloc, entry.statement)? {
             return Ok(Some(entry));
         }
     }

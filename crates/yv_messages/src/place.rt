@@ -1,5 +1,6 @@
 //! The line of a file at a place, for a reader of standard error.
 ghost use Rattle.std.specs.Prelude.{◌≡◌, ◌≢◌, ◌≤◌, ◌<◌, ◌+◌, ◌-◌, ◌++◌, ℕ, length, replicate, slice_index, IfOk, OnOk, string_bytes};
+ghost use Rattle.yv_messages.specs.Quoted.{Extends};
 ghost use Rattle.yv_messages.specs.Excerpt.{begins_character, shown_byte, shown as shown_bytes, ShowsPlace};
 
 use std::alloc::{AllocError, Global};
@@ -76,7 +77,8 @@ fn shown_char(byte: u8) -> char
 
 /// Adds one character of ASCII for each character that begins in these bytes.
 pub fn push_shown(text: &mut String, bytes: &[u8]) -> Result<(), AllocError>
-    ensures { OnOk result (string_bytes text.new ≡ string_bytes text.old ++ shown_bytes bytes.now) }
+    ensures grows { Extends (string_bytes text.old) (string_bytes text.new) }
+    ensures shown { OnOk result (string_bytes text.new ≡ string_bytes text.old ++ shown_bytes bytes.now) }
 {
     for byte in bytes {
         if begins(*byte) {

@@ -1,7 +1,7 @@
 //! Names of strangers, as a terminal may show them.
-ghost use Rattle.std.specs.Prelude.{◌≡◌, ◌++◌, OnOk, string_bytes};
+ghost use Rattle.std.specs.Prelude.{◌≡◌, ◌++◌, ◌∷◌, [], OnOk, OnErr, string_bytes};
 ghost use Rattle.yv_messages.specs.Excerpt.{shown};
-ghost use Rattle.yv_messages.specs.Quoted.{front, quoted};
+ghost use Rattle.yv_messages.specs.Quoted.{Extends, dots, front, quoted};
 
 use crate::place::push_shown;
 use std::alloc::AllocError;
@@ -20,16 +20,37 @@ fn front(name: &[u8]) -> &[u8]
     }
 }
 
-/// Adds a name in quotes. Of a longer one the first 72 bytes and two dots are shown, and what could drive a terminal is
-/// shown as dots.
-pub fn push_quoted(text: &mut String, name: &str) -> Result<(), AllocError>
-    ensures { OnOk result (string_bytes text.new ≡ string_bytes text.old ++ quoted name.now) }
+// What is shown of the rest of a name.
+fn dots(name: &str) -> &'static str
+    ensures { result.now ≡ dots name.now }
 {
-    text.push('"')?;
+    if name.len() > MOST_SHOWN { ".." } else { "" }
+}
+
+// Adds what is shown of a name, and the quote behind it.
+fn push_rest(text: &mut String, name: &str) -> Result<(), AllocError>
+    ensures rest { OnOk result (string_bytes text.new ≡ string_bytes text.old ++ (shown (front name.now) ++ (dots name.now ++ 34 ∷ []))) }
+    ensures grows { Extends (string_bytes text.old) (string_bytes text.new) }
+{
     push_shown(text, front(name.as_bytes()))?;
-    if name.len() > MOST_SHOWN {
-        text.push_str("..")?;
-    }
-    text.push('"')?;
+    text.push_str(dots(name))?;
+    text.push_str("\"")?;
     Ok(())
+}
+
+/// Adds a name in quotes. Of a longer one the first 72 bytes and two dots are shown, and what could drive a terminal is
+/// shown as dots. If memory runs out, the text is as it was.
+pub fn push_quoted(text: &mut String, name: &str) -> Result<(), AllocError>
+    ensures quoted { OnOk result (string_bytes text.new ≡ string_bytes text.old ++ quoted name.now) }
+    ensures same { OnErr result (string_bytes text.new ≡ string_bytes text.old) }
+{
+    let start = text.len();
+    text.push_str("\"")?;
+    match push_rest(text, name) {
+        Ok(()) => Ok(()),
+        Err(error) => {
+            text.truncate(start);
+            Err(error)
+        }
+    }
 }

@@ -1,10 +1,9 @@
 //! Ranges, lengths and patterns.
-use crate::meanings::{Definitions, chain};
+use crate::meanings::chain;
 use crate::site::Site;
 use crate::telling::Telling;
 use std::alloc::{AllocError, Global};
 use yv_numbers::{Integer, integer_of, is_at_most, scaled_of};
-use yv_rows::Kind;
 
 // A bound as it is written, and as a number.
 #[derive(Clone, Copy)]
@@ -22,7 +21,7 @@ struct Part<'a> {
 
 // What the bounds of a part are read by: the digits after the point, and what `min` and `max` mean.
 #[derive(Clone, Copy)]
-struct Reading<'a> {
+pub(crate) struct Reading<'a> {
     digits: Option<u32>,
     least: Bound<'a>,
     greatest: Bound<'a>,
@@ -71,19 +70,33 @@ impl<'a> Reading<'a> {
     }
 
     fn part(&self, written: &'a str) -> Option<Part<'a>> {
-        match written.split_once("..") {
-            Some((low, high)) => Some(Part {
-                low: self.bound_in(low)?,
-                high: self.bound_in(high)?,
-            }),
-            None => {
-                let only = self.bound_in(written)?;
-                Some(Part {
-                    low: only,
-                    high: only,
-                })
+        let (low, high) = written.split_once("..").unwrap_or((written, written));
+        let low = self.bound_in(low)?;
+        let high = self.bound_in(high)?;
+        Some(Part { low, high })
+    }
+
+    /// Whether a number is in a part of a restriction that is read like this.
+    pub(crate) fn is_in(&self, restriction: &'a str, number: Integer) -> bool {
+        for written in restriction.split('|') {
+            if let Some(part) = self.part(written) {
+                if part.has(number) {
+                    return true;
+                }
             }
         }
+        false
+    }
+
+    /// Whether a number is between the least and the greatest.
+    pub(crate) fn is_within(&self, number: Integer) -> bool {
+        is_at_most(self.least.number, number) && is_at_most(number, self.greatest.number)
+    }
+}
+
+impl Part<'_> {
+    fn has(&self, number: Integer) -> bool {
+        is_at_most(self.low.number, number) && is_at_most(number, self.high.number)
     }
 }
 
@@ -92,46 +105,40 @@ fn is_below(one: Integer, other: Integer) -> bool {
     !is_at_most(other, one)
 }
 
-// The digits after the point of a decimal64.
-fn digits_of(first: &Site<'_, '_, '_>) -> Option<u32> {
-    match first.child("fraction-digits") {
-        Some(digits) => digits.argument().parse::<u32>().ok(),
-        None => None,
-    }
+/// The digits after the point of a decimal64.
+pub(crate) fn digits_of(first: &Site<'_, '_>) -> Option<u32> {
+    first
+        .child("fraction-digits")?
+        .argument()
+        .parse::<u32>()
+        .ok()
+}
+
+/// How a restriction of the built-in type of this chain of types is read.
+pub(crate) fn widest_of<'a>(chain: &[Site<'_, 'a>]) -> Option<Reading<'a>> {
+    let first = chain.last()?;
+    widest(first.argument(), digits_of(first))
 }
 
 // How a restriction of a type is read: by the nearest restriction of a type that it is derived from, or by its built-in type.
-fn reading_for<'a>(
-    alloc: Global,
-    site: &Site<'_, 'a, '_>,
-) -> Result<Option<Reading<'a>>, AllocError> {
+fn reading_for<'a>(alloc: Global, site: &Site<'_, 'a>) -> Result<Option<Reading<'a>>, AllocError> {
     let Some(restricted) = site.parent() else {
         return Ok(None);
     };
-    let typedefs = Definitions::read(alloc, site.rows, Kind::Typedef)?;
-    let chain = chain(alloc, &typedefs, &restricted)?;
-    let Some(first) = chain.last() else {
+    let chain = chain(alloc, &restricted)?;
+    let Some(mut reading) = widest_of(&chain) else {
         return Ok(None);
     };
-    let digits = if site.is("range") {
-        digits_of(first)
-    } else {
-        None
-    };
-    let mut reading = match widest(first.argument(), digits) {
-        Some(reading) => reading,
-        None => return Ok(None),
-    };
-    for derived in chain.iter().skip(1).rev() {
-        if let Some(restriction) = derived.child(site.keyword()) {
-            narrow(&mut reading, restriction.argument());
+    for derived in chain.iter().rev() {
+        if derived.number != restricted.number {
+            reading = narrowed(reading, derived.child(site.keyword()));
         }
     }
     Ok(Some(reading))
 }
 
 // How a restriction of a built-in type is read.
-fn widest(built_in: &str, digits: Option<u32>) -> Option<Reading<'static>> {
+fn widest<'a>(built_in: &str, digits: Option<u32>) -> Option<Reading<'a>> {
     if digits.is_some() {
         return Some(Reading {
             digits,
@@ -153,109 +160,113 @@ fn widest(built_in: &str, digits: Option<u32>) -> Option<Reading<'static>> {
     })
 }
 
-// Takes the least and the greatest number of a restriction.
-fn narrow<'a>(reading: &mut Reading<'a>, text: &'a str) {
+// The same within a restriction: by its least and its greatest number.
+fn narrowed<'a>(reading: Reading<'a>, restriction: Option<Site<'_, 'a>>) -> Reading<'a> {
+    let Some(restriction) = restriction else {
+        return reading;
+    };
+    let mut narrow = reading;
     let mut is_first = true;
-    let mut least = reading.least;
-    let mut greatest = reading.greatest;
-    for written in text.split('|') {
+    for written in restriction.argument().split('|') {
         if let Some(part) = reading.part(written) {
             if is_first {
-                least = part.low;
-                is_first = false;
+                narrow.least = part.low;
             }
-            greatest = part.high;
+            narrow.greatest = part.high;
+            is_first = false;
         }
     }
-    reading.least = least;
-    reading.greatest = greatest;
+    narrow
 }
 
 /// Adds what is wrong with a `range` or a `length`.
 pub(crate) fn tell_restriction<'a>(
     alloc: Global,
     telling: &mut Telling<'a>,
-    site: &Site<'_, 'a, '_>,
+    site: &Site<'_, 'a>,
 ) -> Result<(), AllocError> {
-    telling.say("The ")?;
-    telling.say(site.keyword())?;
-    telling.subject(" ", " is wrong.")?;
-    match reading_for(alloc, site)? {
-        Some(reading) => say_parts(telling, site, &reading),
-        None => Ok(()),
+    telling.say("The ");
+    telling.say(site.keyword());
+    telling.subject(" ", " is wrong.");
+    if let Some(reading) = reading_for(alloc, site)? {
+        say_parts(telling, site, &reading);
+    }
+    Ok(())
+}
+
+// What is wrong with a part of a restriction.
+#[derive(Clone, Copy)]
+enum Fault<'a> {
+    Unread(&'a str),
+    /// A bound, how it stands to another one, and this.
+    Order(Bound<'a>, &'static str, Bound<'a>),
+}
+
+impl<'a> Reading<'a> {
+    // What is wrong with a part that comes after one that ends with this bound.
+    fn fault(&self, written: &'a str, before: Option<Bound<'a>>) -> Option<Fault<'a>> {
+        let Some(part) = self.part(written) else {
+            return Some(Fault::Unread(written.trim()));
+        };
+        let (low, high) = (part.low, part.high);
+        if is_below(high.number, low.number) {
+            return Some(Fault::Order(low, " is above ", high));
+        }
+        if is_below(self.greatest.number, high.number) {
+            return Some(Fault::Order(high, ABOVE, self.greatest));
+        }
+        if is_below(low.number, self.least.number) {
+            return Some(Fault::Order(low, BELOW, self.least));
+        }
+        match before {
+            Some(end) if is_at_most(low.number, end.number) => {
+                Some(Fault::Order(low, OVERLAPPING, end))
+            }
+            _ => None,
+        }
     }
 }
+
+const ABOVE: &str = " is above the greatest that is allowed, ";
+
+const BELOW: &str = " is below the least that is allowed, ";
+
+const OVERLAPPING: &str = " has to be above the part before it, which ends with ";
 
 // Adds which part of a restriction is wrong.
-fn say_parts<'a>(
-    telling: &mut Telling<'a>,
-    site: &Site<'_, 'a, '_>,
-    reading: &Reading<'a>,
-) -> Result<(), AllocError> {
+fn say_parts<'a>(telling: &mut Telling<'a>, site: &Site<'_, 'a>, reading: &Reading<'a>) {
     let mut before: Option<Bound<'a>> = None;
     for written in site.argument().split('|') {
-        let Some(part) = reading.part(written) else {
-            return say_unread(telling, written.trim(), reading);
+        if let Some(fault) = reading.fault(written, before) {
+            say_fault(telling, reading, fault);
+            return;
+        }
+        before = match reading.part(written) {
+            Some(part) => Some(part.high),
+            None => None,
         };
-        if is_below(part.high.number, part.low.number) {
-            return say_order(telling, part.low, " is above ", part.high);
-        }
-        if is_below(reading.greatest.number, part.high.number) {
-            return say_order(
-                telling,
-                part.high,
-                " is above the greatest that is allowed, ",
-                reading.greatest,
-            );
-        }
-        if is_below(part.low.number, reading.least.number) {
-            return say_order(
-                telling,
-                part.low,
-                " is below the least that is allowed, ",
-                reading.least,
-            );
-        }
-        if let Some(before) = before {
-            if is_at_most(part.low.number, before.number) {
-                return say_order(
-                    telling,
-                    part.low,
-                    " has to be above the part before it, which ends with ",
-                    before,
-                );
-            }
-        }
-        before = Some(part.high);
     }
-    telling.say(" A part of it is between two parts of the type that is restricted.")
+    telling.say(" A part of it is between two parts of the type that is restricted.");
 }
 
-// Adds how two bounds stand to each other.
-fn say_order<'a>(
-    telling: &mut Telling<'a>,
-    one: Bound<'a>,
-    words: &'a str,
-    other: Bound<'a>,
-) -> Result<(), AllocError> {
-    telling.say(" The bound ")?;
-    telling.quote(one.text)?;
-    telling.say(words)?;
-    telling.quote(other.text)?;
-    telling.say(".")
-}
-
-// Adds that a part can't be read.
-fn say_unread<'a>(
-    telling: &mut Telling<'a>,
-    written: &'a str,
-    reading: &Reading<'a>,
-) -> Result<(), AllocError> {
-    telling.say(" The part ")?;
-    telling.quote(written)?;
-    telling.say(if reading.digits.is_some() {
-        " is neither a number with at most as many digits after the point as `fraction-digits` says, nor two of them with `..` between."
-    } else {
-        " is neither a whole number nor two of them with `..` between."
-    })
+fn say_fault<'a>(telling: &mut Telling<'a>, reading: &Reading<'a>, fault: Fault<'a>) {
+    match fault {
+        Fault::Unread(written) => {
+            telling.quote(" The part ", written, "");
+            telling.say(if reading.digits.is_some() {
+                " is neither a number with at most as many digits after the point as `fraction-digits` says, nor two of them with `..` between."
+            } else {
+                " is neither a whole number nor two of them with `..` between."
+            });
+            telling.say(if written.is_ascii() {
+                ""
+            } else {
+                " It has a character outside ASCII; quotes are `\"` and `'`."
+            });
+        }
+        Fault::Order(one, words, other) => {
+            telling.quote(" The bound ", one.text, words);
+            telling.quote("", other.text, ".");
+        }
+    }
 }

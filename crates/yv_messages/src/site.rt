@@ -1,83 +1,97 @@
 //! A statement of the files, and the statements around it and in it.
+use crate::entry::Entry;
 use std::alloc::{AllocError, Global};
-use yv_rows::{Rows, local, name_of};
-use yv_statement::Statement;
+use yv_rows::local;
 
 /// A numbered statement of the files.
 #[derive(Clone, Copy)]
-pub(crate) struct Site<'r, 'a, 'b> {
-    pub(crate) rows: &'r Rows<'a, 'b>,
+pub(crate) struct Site<'s, 'a> {
+    pub(crate) entries: &'s [Entry<'a>],
     pub(crate) number: usize,
-    pub(crate) file: u32,
-    /// The number of the statement in whose block it is.
-    pub(crate) scope: usize,
-    pub(crate) statement: &'a Statement<'b>,
+    pub(crate) entry: &'s Entry<'a>,
 }
 
-impl<'r, 'a, 'b> Site<'r, 'a, 'b> {
+impl<'s, 'a> Site<'s, 'a> {
     /// The statement of this number.
-    pub(crate) fn at(rows: &'r Rows<'a, 'b>, number: usize) -> Option<Site<'r, 'a, 'b>> {
-        let entry = rows.entries().get(number)?;
+    pub(crate) fn at(entries: &'s [Entry<'a>], number: usize) -> Option<Site<'s, 'a>> {
+        let entry = entries.get(number)?;
         Some(Site {
-            rows,
+            entries,
             number,
-            file: entry.file,
-            scope: entry.scope,
-            statement: entry.statement,
+            entry,
         })
     }
 
     pub(crate) fn keyword(&self) -> &'a str {
-        self.statement.keyword()
+        self.entry.keyword
     }
 
     /// The argument; no text, if there is none.
     pub(crate) fn argument(&self) -> &'a str {
-        name_of(self.statement)
+        match self.entry.argument {
+            Some(argument) => argument,
+            None => "",
+        }
     }
 
     /// The argument without a prefix.
     pub(crate) fn name(&self) -> &'a str {
-        local(name_of(self.statement))
-    }
-
-    /// The keyword as words of a sentence.
-    pub(crate) fn plain_keyword(&self) -> &'a str {
-        self.statement.keyword()
+        local(self.argument())
     }
 
     pub(crate) fn is(&self, keyword: &str) -> bool {
-        self.statement.keyword() == keyword
+        self.entry.keyword == keyword
     }
 
     pub(crate) fn is_root(&self) -> bool {
-        self.number < self.rows.files().len()
+        self.entry.is_root
+    }
+
+    /// The statement that the argument means.
+    pub(crate) fn meaning(&self) -> Option<Site<'s, 'a>> {
+        Site::at(self.entries, self.entry.meaning?)
+    }
+
+    /// Whether the argument means the statement of this number.
+    pub(crate) fn means(&self, number: usize) -> bool {
+        match self.entry.meaning {
+            Some(meaning) => meaning == number,
+            None => false,
+        }
+    }
+
+    /// The root of its file.
+    pub(crate) fn root(&self) -> Option<Site<'s, 'a>> {
+        Site::at(self.entries, self.entry.file as usize)
+    }
+
+    /// The root of the module to which its file belongs.
+    pub(crate) fn module(&self) -> Option<Site<'s, 'a>> {
+        self.root()?.meaning()
     }
 
     /// The statement in whose block it is, in its own file.
-    pub(crate) fn parent(&self) -> Option<Site<'r, 'a, 'b>> {
+    pub(crate) fn parent(&self) -> Option<Site<'s, 'a>> {
         if self.is_root() {
             return None;
         }
-        let is_at_top = self.scope < self.rows.files().len();
-        let number = if is_at_top {
-            self.file as usize
+        let around = Site::at(self.entries, self.entry.scope)?;
+        if around.is_root() {
+            self.root()
         } else {
-            self.scope
-        };
-        Site::at(self.rows, number)
+            Some(around)
+        }
     }
 
     /// The next statement of its block after this number.
-    pub(crate) fn next_child(&self, after: usize) -> Option<Site<'r, 'a, 'b>> {
-        let files = self.rows.files().len();
-        let first = after.max(self.number).saturating_add(1).max(files);
-        for number in first..self.rows.entries().len() {
-            let child = Site::at(self.rows, number)?;
-            if child.scope == self.number {
+    pub(crate) fn next_child(&self, after: usize) -> Option<Site<'s, 'a>> {
+        let first = after.max(self.number).saturating_add(1);
+        for number in first..self.entries.len() {
+            let child = Site::at(self.entries, number)?;
+            if child.entry.scope == self.number {
                 return Some(child);
             }
-            if child.scope < self.number && !self.is_root() {
+            if child.entry.scope < self.number && !self.is_root() {
                 return None;
             }
         }
@@ -85,10 +99,10 @@ impl<'r, 'a, 'b> Site<'r, 'a, 'b> {
     }
 
     /// The statements of its block, in order.
-    pub(crate) fn children(&self, alloc: Global) -> Result<Vec<Site<'r, 'a, 'b>>, AllocError> {
+    pub(crate) fn children(&self, alloc: Global) -> Result<Vec<Site<'s, 'a>>, AllocError> {
         let mut children = Vec::new(alloc);
         let mut after = self.number;
-        for _ in 0..self.rows.entries().len() {
+        for _ in 0..self.entries.len() {
             let Some(child) = self.next_child(after) else {
                 break;
             };
@@ -98,10 +112,10 @@ impl<'r, 'a, 'b> Site<'r, 'a, 'b> {
         Ok(children)
     }
 
-    /// The first statement of its block with this keyword.
-    pub(crate) fn child(&self, keyword: &str) -> Option<Site<'r, 'a, 'b>> {
-        let mut after = self.number;
-        for _ in 0..self.rows.entries().len() {
+    /// The next statement of its block after this number with this keyword.
+    pub(crate) fn next_of(&self, keyword: &str, after: usize) -> Option<Site<'s, 'a>> {
+        let mut after = after;
+        for _ in 0..self.entries.len() {
             let child = self.next_child(after)?;
             if child.is(keyword) {
                 return Some(child);
@@ -111,12 +125,17 @@ impl<'r, 'a, 'b> Site<'r, 'a, 'b> {
         None
     }
 
+    /// The first statement of its block with this keyword.
+    pub(crate) fn child(&self, keyword: &str) -> Option<Site<'s, 'a>> {
+        self.next_of(keyword, self.number)
+    }
+
     /// The first statement of its block with this keyword and this argument.
-    pub(crate) fn child_named(&self, keyword: &str, name: &str) -> Option<Site<'r, 'a, 'b>> {
+    pub(crate) fn child_named(&self, keyword: &str, name: &str) -> Option<Site<'s, 'a>> {
         let mut after = self.number;
-        for _ in 0..self.rows.entries().len() {
-            let child = self.next_child(after)?;
-            if child.is(keyword) && child.argument() == name {
+        for _ in 0..self.entries.len() {
+            let child = self.next_of(keyword, after)?;
+            if child.argument() == name {
                 return Some(child);
             }
             after = child.number;
@@ -131,6 +150,37 @@ impl<'r, 'a, 'b> Site<'r, 'a, 'b> {
             None => false,
         }
     }
+}
+
+/// The first statement of this keyword from this number on.
+pub(crate) fn next_site<'s, 'a>(
+    entries: &'s [Entry<'a>],
+    keyword: &str,
+    from: usize,
+) -> Option<Site<'s, 'a>> {
+    for number in from..entries.len() {
+        let site = Site::at(entries, number)?;
+        if site.is(keyword) {
+            return Some(site);
+        }
+    }
+    None
+}
+
+/// All statements of this keyword.
+pub(crate) fn all_sites<'s, 'a>(
+    alloc: Global,
+    entries: &'s [Entry<'a>],
+    keyword: &str,
+) -> Result<Vec<Site<'s, 'a>>, AllocError> {
+    let mut sites = Vec::new(alloc);
+    for number in 0..entries.len() {
+        match Site::at(entries, number) {
+            Some(site) if site.is(keyword) => sites.push(site)?,
+            _ => {}
+        }
+    }
+    Ok(sites)
 }
 
 /// Whether a word is one of these.

@@ -2,12 +2,10 @@
 use crate::guess::{Guess, nearest_word, say_guess};
 use crate::site::{Site, is_among};
 use crate::telling::Telling;
-use std::alloc::AllocError;
-use yv_statement::Statement;
 
-static FILES: &[&str] = &["module", "submodule"];
+const FILES: &[&str] = &["module", "submodule"];
 
-static SCOPES: &[&str] = &[
+const SCOPES: &[&str] = &[
     "module",
     "submodule",
     "container",
@@ -20,7 +18,7 @@ static SCOPES: &[&str] = &[
     "notification",
 ];
 
-static NODES: &[&str] = &[
+const NODES: &[&str] = &[
     "module",
     "submodule",
     "container",
@@ -34,7 +32,7 @@ static NODES: &[&str] = &[
     "notification",
 ];
 
-static BLOCKS: &[&str] = &[
+const BLOCKS: &[&str] = &[
     "module",
     "submodule",
     "container",
@@ -47,7 +45,7 @@ static BLOCKS: &[&str] = &[
     "notification",
 ];
 
-static CONFIGURED: &[&str] = &[
+const CONFIGURED: &[&str] = &[
     "container",
     "leaf",
     "leaf-list",
@@ -58,7 +56,7 @@ static CONFIGURED: &[&str] = &[
     "refine",
 ];
 
-static CONDITIONED: &[&str] = &[
+const CONDITIONED: &[&str] = &[
     "container",
     "leaf",
     "leaf-list",
@@ -79,13 +77,13 @@ static CONDITIONED: &[&str] = &[
     "bit",
 ];
 
-static COUNTED: &[&str] = &["leaf-list", "list", "refine"];
+const COUNTED: &[&str] = &["leaf-list", "list", "refine"];
 
-static RESTRICTIONS: &[&str] = &["range", "length", "pattern"];
+const RESTRICTIONS: &[&str] = &["range", "length", "pattern"];
 
-static TYPE: &[&str] = &["type"];
+const TYPE: &[&str] = &["type"];
 
-static DESCRIBED: &[&str] = &[
+const DESCRIBED: &[&str] = &[
     "module",
     "submodule",
     "import",
@@ -117,7 +115,7 @@ static DESCRIBED: &[&str] = &[
     "pattern",
 ];
 
-static STATUS: &[&str] = &[
+const STATUS: &[&str] = &[
     "typedef",
     "container",
     "leaf",
@@ -211,36 +209,83 @@ static KEYWORDS: &[&str] = &[
     "deviate",
 ];
 
-/// The keyword of YANG that is most like one that was written.
-pub(crate) fn nearest_keyword(written: &str) -> Option<Guess<'static>> {
-    nearest_word(written, KEYWORDS)
+// Statements of these keywords, and those of which they may be substatements (RFC 7950, sections 7 and 9).
+struct Place {
+    keywords: &'static [&'static str],
+    parents: &'static [&'static str],
 }
 
-// The statements of which one of this keyword may be a substatement (RFC 7950, sections 7 and 9).
-fn parents_of(keyword: &str) -> &'static [&'static str] {
-    match keyword {
-        "yang-version"
-        | "organization"
-        | "contact"
-        | "import"
-        | "include"
-        | "revision"
-        | "identity"
-        | "feature"
-        | "extension"
-        | "rpc" => FILES,
-        "namespace" => &["module"],
-        "prefix" => &["module", "import", "belongs-to"],
-        "belongs-to" => &["submodule"],
-        "revision-date" => &["import", "include"],
-        "typedef" | "grouping" => SCOPES,
-        "container" | "leaf" | "leaf-list" | "list" | "choice" | "anydata" | "anyxml" => NODES,
-        "uses" => BLOCKS,
-        "case" => &["choice", "augment"],
-        "augment" => &["module", "submodule", "uses"],
-        "refine" => &["uses"],
-        "action" => &["container", "list", "grouping", "augment"],
-        "notification" => &[
+static PLACES: &[Place] = &[
+    Place {
+        keywords: &[
+            "yang-version",
+            "organization",
+            "contact",
+            "import",
+            "include",
+            "revision",
+            "identity",
+            "feature",
+            "extension",
+            "rpc",
+        ],
+        parents: FILES,
+    },
+    Place {
+        keywords: &["namespace"],
+        parents: &["module"],
+    },
+    Place {
+        keywords: &["prefix"],
+        parents: &["module", "import", "belongs-to"],
+    },
+    Place {
+        keywords: &["belongs-to"],
+        parents: &["submodule"],
+    },
+    Place {
+        keywords: &["revision-date"],
+        parents: &["import", "include"],
+    },
+    Place {
+        keywords: &["typedef", "grouping"],
+        parents: SCOPES,
+    },
+    Place {
+        keywords: &[
+            "container",
+            "leaf",
+            "leaf-list",
+            "list",
+            "choice",
+            "anydata",
+            "anyxml",
+        ],
+        parents: NODES,
+    },
+    Place {
+        keywords: &["uses"],
+        parents: BLOCKS,
+    },
+    Place {
+        keywords: &["case"],
+        parents: &["choice", "augment"],
+    },
+    Place {
+        keywords: &["augment"],
+        parents: &["module", "submodule", "uses"],
+    },
+    Place {
+        keywords: &["refine"],
+        parents: &["uses"],
+    },
+    Place {
+        keywords: &["action"],
+        parents: &["container", "list", "grouping", "augment"],
+    },
+    Place {
+        keywords: &["notification"],
+        parents: &[
             "module",
             "submodule",
             "container",
@@ -248,181 +293,272 @@ fn parents_of(keyword: &str) -> &'static [&'static str] {
             "grouping",
             "augment",
         ],
-        "input" | "output" => &["rpc", "action"],
-        "type" => &["leaf", "leaf-list", "typedef", "type"],
-        "units" => &["leaf", "leaf-list", "typedef"],
-        "default" => &["leaf", "typedef", "choice", "refine"],
-        "config" => CONFIGURED,
-        "mandatory" => &["leaf", "choice", "anydata", "anyxml", "refine"],
-        "presence" => &["container", "refine"],
-        "key" | "unique" => &["list"],
-        "min-elements" | "max-elements" => COUNTED,
-        "ordered-by" => &["leaf-list", "list"],
-        "if-feature" => CONDITIONED,
-        "status" => STATUS,
-        "description" | "reference" => DESCRIBED,
-        "base" => &["identity", "type"],
-        "range"
-        | "length"
-        | "pattern"
-        | "enum"
-        | "bit"
-        | "path"
-        | "fraction-digits"
-        | "require-instance" => TYPE,
-        "value" => &["enum"],
-        "position" => &["bit"],
-        "modifier" => &["pattern"],
-        "error-message" | "error-app-tag" => RESTRICTIONS,
-        "argument" => &["extension"],
-        "yin-element" => &["argument"],
-        _ => &[],
-    }
-}
+    },
+    Place {
+        keywords: &["input", "output"],
+        parents: &["rpc", "action"],
+    },
+    Place {
+        keywords: &["type"],
+        parents: &["leaf", "leaf-list", "typedef", "type"],
+    },
+    Place {
+        keywords: &["units"],
+        parents: &["leaf", "leaf-list", "typedef"],
+    },
+    Place {
+        keywords: &["default"],
+        parents: &["leaf", "leaf-list", "typedef", "choice", "refine"],
+    },
+    Place {
+        keywords: &["config"],
+        parents: CONFIGURED,
+    },
+    Place {
+        keywords: &["mandatory"],
+        parents: &["leaf", "choice", "anydata", "anyxml", "refine"],
+    },
+    Place {
+        keywords: &["presence"],
+        parents: &["container", "refine"],
+    },
+    Place {
+        keywords: &["key", "unique"],
+        parents: &["list"],
+    },
+    Place {
+        keywords: &["min-elements", "max-elements"],
+        parents: COUNTED,
+    },
+    Place {
+        keywords: &["ordered-by"],
+        parents: &["leaf-list", "list"],
+    },
+    Place {
+        keywords: &["if-feature"],
+        parents: CONDITIONED,
+    },
+    Place {
+        keywords: &["status"],
+        parents: STATUS,
+    },
+    Place {
+        keywords: &["description", "reference"],
+        parents: DESCRIBED,
+    },
+    Place {
+        keywords: &["base"],
+        parents: &["identity", "type"],
+    },
+    Place {
+        keywords: &[
+            "range",
+            "length",
+            "pattern",
+            "enum",
+            "bit",
+            "path",
+            "fraction-digits",
+            "require-instance",
+        ],
+        parents: TYPE,
+    },
+    Place {
+        keywords: &["value"],
+        parents: &["enum"],
+    },
+    Place {
+        keywords: &["position"],
+        parents: &["bit"],
+    },
+    Place {
+        keywords: &["modifier"],
+        parents: &["pattern"],
+    },
+    Place {
+        keywords: &["error-message", "error-app-tag"],
+        parents: RESTRICTIONS,
+    },
+    Place {
+        keywords: &["argument"],
+        parents: &["extension"],
+    },
+    Place {
+        keywords: &["yin-element"],
+        parents: &["argument"],
+    },
+];
 
-// The substatements that a statement of this keyword needs.
-fn needed_in(keyword: &str) -> &'static [&'static str] {
-    match keyword {
-        "module" => &["namespace", "prefix"],
-        "submodule" => &["belongs-to"],
-        "belongs-to" | "import" => &["prefix"],
-        "leaf" | "leaf-list" | "typedef" => &["type"],
-        _ => &[],
-    }
-}
-
-fn has_child(statement: &Statement<'_>, keyword: &str) -> bool {
-    for child in statement.children() {
-        if child.keyword() == keyword {
-            return true;
+// The statements of which one of this keyword may be a substatement.
+fn parents_of(keyword: &str) -> &'static [&'static str] {
+    for place in PLACES {
+        if is_among(keyword, place.keywords) {
+            return place.parents;
         }
     }
-    false
+    &[]
+}
+
+// Statements of these keywords, and a substatement that they need.
+struct Need {
+    keywords: &'static [&'static str],
+    needed: &'static str,
+}
+
+static NEEDS: &[Need] = &[
+    Need {
+        keywords: &["module"],
+        needed: "namespace",
+    },
+    Need {
+        keywords: &["module", "belongs-to", "import"],
+        needed: "prefix",
+    },
+    Need {
+        keywords: &["submodule"],
+        needed: "belongs-to",
+    },
+    Need {
+        keywords: &["leaf", "leaf-list", "typedef"],
+        needed: "type",
+    },
+];
+
+// The next statement after this number that is right in the block of one, in its own file.
+fn next_inner<'s, 'a>(site: &Site<'s, 'a>, after: usize) -> Option<Site<'s, 'a>> {
+    for number in after.saturating_add(1)..site.entries.len() {
+        let inner = Site::at(site.entries, number)?;
+        if is_inner(&inner, site.number) {
+            return Some(inner);
+        }
+    }
+    None
+}
+
+// Whether a statement is right in the block of the one of this number, in its own file.
+fn is_inner(inner: &Site<'_, '_>, number: usize) -> bool {
+    match inner.parent() {
+        Some(parent) => parent.number == number,
+        None => false,
+    }
+}
+
+// The first statement of this keyword in a block.
+fn first_inner<'s, 'a>(site: &Site<'s, 'a>, keyword: &str) -> Option<Site<'s, 'a>> {
+    let mut after = site.number;
+    for _ in 0..site.entries.len() {
+        let inner = next_inner(site, after)?;
+        if inner.is(keyword) {
+            return Some(inner);
+        }
+        after = inner.number;
+    }
+    None
 }
 
 // The first substatement that a statement needs and lacks.
-fn lacking(statement: &Statement<'_>) -> Option<&'static str> {
-    for keyword in needed_in(statement.keyword()) {
-        if !has_child(statement, keyword) {
-            return Some(*keyword);
+fn lacking(site: &Site<'_, '_>) -> Option<&'static str> {
+    for need in NEEDS {
+        if is_among(site.keyword(), need.keywords) && first_inner(site, need.needed).is_none() {
+            return Some(need.needed);
         }
     }
     None
 }
 
 // The first of a block's statements whose keyword means nothing, and is like one that is needed.
-fn misspelt<'r, 'a, 'b>(site: &Site<'r, 'a, 'b>, needed: &str) -> Option<Site<'r, 'a, 'b>> {
+fn misspelt<'s, 'a>(site: &Site<'s, 'a>, needed: &str) -> Option<Site<'s, 'a>> {
     let mut after = site.number;
-    for _ in site.statement.children() {
-        let child = site.next_child(after)?;
-        let is_alike = Guess::of(child.keyword(), needed, None).is_some();
-        if is_alike && !is_among(child.keyword(), KEYWORDS) {
-            return Some(child);
+    for _ in 0..site.entries.len() {
+        let inner = next_inner(site, after)?;
+        if is_misspelt(inner.keyword(), needed) {
+            return Some(inner);
         }
-        after = child.number;
+        after = inner.number;
     }
     None
+}
+
+// Whether a keyword means nothing, and is like one that is needed.
+fn is_misspelt(keyword: &str, needed: &str) -> bool {
+    Guess::of(keyword, needed, None).is_some() && !is_among(keyword, KEYWORDS)
 }
 
 // The first statement of the same keyword in the same block, if this is a later one.
-fn first_of_keyword<'r, 'a, 'b>(
-    site: &Site<'_, '_, '_>,
-    parent: &Site<'r, 'a, 'b>,
-) -> Option<Site<'r, 'a, 'b>> {
-    let mut after = parent.number;
-    for _ in parent.statement.children() {
-        let child = parent.next_child(after)?;
-        if child.number >= site.number {
-            return None;
-        }
-        if child.is(site.keyword()) && child.file == site.file {
-            return Some(child);
-        }
-        after = child.number;
+fn first_of_keyword<'s, 'a>(site: &Site<'s, 'a>, parent: &Site<'s, 'a>) -> Option<Site<'s, 'a>> {
+    let first = first_inner(parent, site.keyword())?;
+    if first.number < site.number {
+        Some(first)
+    } else {
+        None
     }
-    None
 }
 
 // Adds the statements in which a statement may be.
-fn say_parents(telling: &mut Telling<'_>, keyword: &str) -> Result<(), AllocError> {
+fn say_parents(telling: &mut Telling<'_>, keyword: &str) {
     let parents = parents_of(keyword);
-    let last = parents.len().saturating_sub(1);
     for (place, parent) in parents.iter().enumerate() {
-        telling.say(match place {
-            0 => " It can be in ",
-            _ if place == last => " or ",
-            _ => ", ",
-        })?;
-        telling.say(parent)?;
+        telling.say(link(place, parents.len()));
+        telling.say(parent);
     }
-    telling.say(if parents.is_empty() { "" } else { "." })
+    telling.say(if parents.is_empty() { "" } else { "." });
+}
+
+// What is said before a parent, of so many.
+fn link(place: usize, count: usize) -> &'static str {
+    if place == 0 {
+        " It can be in "
+    } else if place.saturating_add(1) == count {
+        " or "
+    } else {
+        ", "
+    }
 }
 
 // Adds that a statement is not where it may be.
-fn tell_misplaced<'a>(
-    telling: &mut Telling<'a>,
-    site: &Site<'_, 'a, '_>,
-    parent: &Site<'_, 'a, '_>,
-) -> Result<(), AllocError> {
-    telling.subject("", " can't be in ")?;
-    telling.statement("", parent, ".")?;
-    say_parents(telling, site.keyword())
+fn tell_misplaced<'a>(telling: &mut Telling<'a>, site: &Site<'_, 'a>, parent: &Site<'_, 'a>) {
+    telling.subject("", " can't be in ");
+    telling.statement("", parent, ".");
+    say_parents(telling, site.keyword());
 }
 
 // Adds that a statement may be there only once.
-fn tell_doubled<'a>(
-    telling: &mut Telling<'a>,
-    site: &Site<'_, 'a, '_>,
-    parent: &Site<'_, 'a, '_>,
-) -> Result<(), AllocError> {
-    telling.subject("", " is here a second time: ")?;
-    telling.statement("", parent, " can have only one.")?;
+fn tell_doubled<'a>(telling: &mut Telling<'a>, site: &Site<'_, 'a>, parent: &Site<'_, 'a>) {
+    telling.subject("", " is here a second time: ");
+    telling.statement("", parent, " can have only one.");
     if let Some(first) = first_of_keyword(site, parent) {
-        telling.say(" The first is at ")?;
-        telling.point(&first)?;
-        telling.say(".")?;
+        telling.point(" The first is at ", &first, ".");
     }
-    Ok(())
 }
 
 // Adds which substatement is missing, and whether one seems to be meant for it.
-fn tell_lacking<'a>(
-    telling: &mut Telling<'a>,
-    site: &Site<'_, 'a, '_>,
-    needed: &'a str,
-) -> Result<(), AllocError> {
-    telling.subject("", " needs the substatement `")?;
-    telling.say(needed)?;
-    telling.say("`.")?;
-    let Some(child) = misspelt(site, needed) else {
-        return Ok(());
-    };
-    telling.say(" Is it meant by ")?;
-    telling.quote(child.keyword())?;
-    telling.say(" at ")?;
-    telling.point(&child)?;
-    telling.say("?")
+fn tell_lacking<'a>(telling: &mut Telling<'a>, site: &Site<'_, 'a>, needed: &'a str) {
+    telling.subject("", " needs the substatement `");
+    telling.say(needed);
+    telling.say("`.");
+    if let Some(child) = misspelt(site, needed) {
+        telling.quote(" Is it meant by ", child.keyword(), "");
+        telling.point(" at ", &child, "?");
+    }
 }
 
 /// Adds why a statement may not be where it is, or what it lacks.
-pub(crate) fn tell_cardinality<'a>(
-    telling: &mut Telling<'a>,
-    site: &Site<'_, 'a, '_>,
-) -> Result<(), AllocError> {
+pub(crate) fn tell_cardinality<'a>(telling: &mut Telling<'a>, site: &Site<'_, 'a>) {
     let Some(parent) = site.parent() else {
-        return tell_root(telling, site);
+        tell_root(telling, site);
+        return;
     };
     if !is_among(parent.keyword(), parents_of(site.keyword())) {
-        return tell_misplaced(telling, site, &parent);
-    }
-    match lacking(site.statement) {
-        Some(needed) => tell_lacking(telling, site, needed),
-        None => tell_doubled(telling, site, &parent),
+        tell_misplaced(telling, site, &parent);
+    } else if let Some(needed) = lacking(site) {
+        tell_lacking(telling, site, needed);
+    } else {
+        tell_doubled(telling, site, &parent);
     }
 }
 
-fn tell_root<'a>(telling: &mut Telling<'a>, site: &Site<'_, 'a, '_>) -> Result<(), AllocError> {
-    match lacking(site.statement) {
+fn tell_root<'a>(telling: &mut Telling<'a>, site: &Site<'_, 'a>) {
+    match lacking(site) {
         Some(needed) if is_among(site.keyword(), FILES) => tell_lacking(telling, site, needed),
         _ => telling.subject(
             "",
@@ -432,13 +568,10 @@ fn tell_root<'a>(telling: &mut Telling<'a>, site: &Site<'_, 'a, '_>) -> Result<(
 }
 
 /// Adds what may be meant by a keyword that YANG doesn't have.
-pub(crate) fn tell_keyword<'a>(
-    telling: &mut Telling<'a>,
-    site: &Site<'_, 'a, '_>,
-) -> Result<(), AllocError> {
+pub(crate) fn tell_keyword<'a>(telling: &mut Telling<'a>, site: &Site<'_, 'a>) {
     telling.subject(
         "YANG 1.1 has no statement ",
         "; the name of an extension's statement has a prefix.",
-    )?;
-    say_guess(telling, nearest_keyword(site.keyword()))
+    );
+    say_guess(telling, nearest_word(site.keyword(), KEYWORDS));
 }

@@ -13,18 +13,23 @@ use yv_streams::Input;
 enum Piece<'w> {
     Text(&'w str),
     Name(&'w str),
+    /// A prefix and a name.
     Prefixed(&'w str, &'w str),
+    /// A keyword and a name.
+    Statement(&'w str, &'w str),
     Number(u64),
     Line(u32, u64),
     Excerpt(u32, u64),
 }
 
-/// What is said of a refusal: pieces, and between them the word that the refusal is about.
+/// What is said of a refusal: pieces, and between them the word that the refusal is about. Pieces are added whether or not there was
+/// memory for those before; `outcome` says in the end whether there was for all.
 #[derive(Drop)]
 pub(crate) struct Telling<'w> {
     before: Vec<Piece<'w>>,
     after: Vec<Piece<'w>>,
     has_subject: bool,
+    outcome: Result<(), AllocError>,
 }
 
 impl<'w> Telling<'w> {
@@ -34,10 +39,11 @@ impl<'w> Telling<'w> {
             before: Vec::new(alloc),
             after: Vec::new(alloc),
             has_subject: false,
+            outcome: Ok(()),
         }
     }
 
-    fn push(&mut self, piece: Piece<'w>) -> Result<(), AllocError> {
+    fn keep(&mut self, piece: Piece<'w>) -> Result<(), AllocError> {
         if self.has_subject {
             self.after.push(piece)?;
         } else {
@@ -46,70 +52,85 @@ impl<'w> Telling<'w> {
         Ok(())
     }
 
-    /// Adds words of our own.
-    pub(crate) fn say(&mut self, text: &'w str) -> Result<(), AllocError> {
-        self.push(Piece::Text(text))
-    }
-
-    /// Adds a word of the files, in quotes.
-    pub(crate) fn quote(&mut self, name: &'w str) -> Result<(), AllocError> {
-        self.push(Piece::Name(name))
-    }
-
-    /// Adds a name with a prefix, in quotes; without one, if the prefix is no text.
-    pub(crate) fn quote_prefixed(
-        &mut self,
-        prefix: &'w str,
-        name: &'w str,
-    ) -> Result<(), AllocError> {
-        if prefix.is_empty() {
-            self.quote(name)
-        } else {
-            self.push(Piece::Prefixed(prefix, name))
+    fn push(&mut self, piece: Piece<'w>) {
+        if let Err(error) = self.keep(piece) {
+            self.outcome = Err(error);
         }
     }
 
-    /// Adds a number.
-    pub(crate) fn count(&mut self, number: u64) -> Result<(), AllocError> {
-        self.push(Piece::Number(number))
+    /// Adds words of our own.
+    pub(crate) fn say(&mut self, text: &'w str) {
+        self.push(Piece::Text(text));
     }
 
-    /// Adds the file and the line of a statement.
-    pub(crate) fn point(&mut self, site: &Site<'_, '_, '_>) -> Result<(), AllocError> {
-        self.push(Piece::Line(site.file, site.statement.line()))
+    /// Adds a word of the files in quotes, with these words before and after it.
+    pub(crate) fn quote(&mut self, before: &'w str, name: &'w str, after: &'w str) {
+        self.push(Piece::Text(before));
+        self.push(Piece::Name(name));
+        self.push(Piece::Text(after));
+    }
+
+    /// The same of a name with a prefix; without one, if the prefix is no text.
+    pub(crate) fn quote_prefixed(
+        &mut self,
+        before: &'w str,
+        prefix: &'w str,
+        name: &'w str,
+        after: &'w str,
+    ) {
+        self.push(Piece::Text(before));
+        self.push(if prefix.is_empty() {
+            Piece::Name(name)
+        } else {
+            Piece::Prefixed(prefix, name)
+        });
+        self.push(Piece::Text(after));
+    }
+
+    /// Adds a number, with these words before and after it.
+    pub(crate) fn count(&mut self, before: &'w str, number: u64, after: &'w str) {
+        self.push(Piece::Text(before));
+        self.push(Piece::Number(number));
+        self.push(Piece::Text(after));
+    }
+
+    /// Adds the file and the line of a statement, with these words before and after them.
+    pub(crate) fn point(&mut self, before: &'w str, site: &Site<'_, '_>, after: &'w str) {
+        self.push(Piece::Text(before));
+        self.push(Piece::Line(site.entry.file, site.entry.line));
+        self.push(Piece::Text(after));
     }
 
     /// Adds the line of a statement with a caret under it, below what was said so far.
-    pub(crate) fn show(&mut self, site: &Site<'_, '_, '_>) -> Result<(), AllocError> {
-        self.push(Piece::Excerpt(site.file, site.statement.offset()))
+    pub(crate) fn show(&mut self, site: &Site<'_, '_>) {
+        self.push(Piece::Excerpt(site.entry.file, site.entry.offset));
     }
 
     /// Adds the word that the refusal is about, with these words before and after it.
-    pub(crate) fn subject(&mut self, before: &'w str, after: &'w str) -> Result<(), AllocError> {
-        self.say(before)?;
+    pub(crate) fn subject(&mut self, before: &'w str, after: &'w str) {
+        self.push(Piece::Text(before));
         self.has_subject = true;
-        self.say(after)
+        self.push(Piece::Text(after));
     }
 
     /// Adds a statement as its keyword and its name, with these words before and after it.
-    pub(crate) fn statement(
-        &mut self,
-        before: &'w str,
-        site: &Site<'_, 'w, '_>,
-        after: &'w str,
-    ) -> Result<(), AllocError> {
-        self.say(before)?;
-        self.say(site.plain_keyword())?;
-        if let Some(argument) = site.statement.argument() {
-            self.say(" ")?;
-            self.quote(argument)?;
-        }
-        self.say(after)
+    pub(crate) fn statement(&mut self, before: &'w str, site: &Site<'_, 'w>, after: &'w str) {
+        self.push(Piece::Text(before));
+        self.push(match site.entry.argument {
+            Some(argument) => Piece::Statement(site.keyword(), argument),
+            None => Piece::Text(site.keyword()),
+        });
+        self.push(Piece::Text(after));
     }
 
     /// Whether nothing was said.
     pub(crate) fn is_empty(&self) -> bool {
-        self.before.is_empty() && self.after.is_empty() && !self.has_subject
+        self.before.is_empty() && !self.has_subject
+    }
+
+    /// Whether there was memory for all that was said.
+    pub(crate) fn outcome(&self) -> Result<(), AllocError> {
+        self.outcome
     }
 }
 
@@ -126,6 +147,7 @@ fn push_piece(
         Piece::Text(words) => text.push_str(words),
         Piece::Name(name) => push_quoted(text, name),
         Piece::Prefixed(prefix, name) => push_prefixed(text, prefix, name),
+        Piece::Statement(keyword, name) => push_statement(text, keyword, name),
         Piece::Number(number) => push_number(alloc, text, *number),
         Piece::Line(file, line) => push_line(alloc, text, inputs, *file, *line),
         Piece::Excerpt(file, offset) => push_excerpt(alloc, text, inputs, *file, *offset),
@@ -141,6 +163,15 @@ fn push_prefixed(text: &mut String, prefix: &str, name: &str) -> Result<(), Allo
     text.push_str(":")?;
     push_shown(text, name.as_bytes())?;
     text.push_str("\"")
+}
+
+// Adds a keyword and a name in quotes.
+fn push_statement(text: &mut String, keyword: &str, name: &str) -> Result<(), AllocError>
+    ensures { OnOk result (Extends (string_bytes text.old) (string_bytes text.new)) }
+{
+    text.push_str(keyword)?;
+    text.push_str(" ")?;
+    push_quoted(text, name)
 }
 
 /// Adds a number with a comma before each three digits.

@@ -1,5 +1,5 @@
 //! What is said of a refusal.
-ghost use Rattle.std.specs.Prelude.{◌≡◌, IfSome, OnOk, option_map, string_bytes};
+ghost use Rattle.std.specs.Prelude.{◌≡◌, IfOk, IfSome, OnOk, OnErr, option_map, string_bytes};
 ghost use Rattle.std.specs.List.{find};
 ghost use Rattle.yv_rows.specs.Rows.{row};
 ghost use Rattle.yv_rows.specs.Lent.{rows_in};
@@ -7,6 +7,7 @@ ghost use Rattle.yv_messages.specs.Quoted.{Extends, Quotes};
 ghost use Rattle.yv_messages.specs.Subject.{Names, is_at, subject};
 
 use crate::cause::tell_cause;
+use crate::entry::entries;
 use crate::sentences::sentence_of;
 use crate::site::Site;
 use crate::telling::{Telling, push_around, push_plain};
@@ -61,14 +62,16 @@ fn telling_of<'a>(
     bounds: &Bounds<'_>,
     refusal: &Refusal,
 ) -> Result<Telling<'a>, AllocError> {
+    let entries = entries(alloc, rows)?;
     let mut telling = Telling::new(alloc);
-    if let Some(site) = Site::at(rows, number_at(rows, refusal)) {
-        tell_cause(alloc, &mut telling, &site, bounds, refusal.code)?;
+    if let Some(site) = Site::at(&entries, number_at(rows, refusal)) {
+        tell_cause(alloc, &mut telling, rows, &site, bounds, refusal.code)?;
     }
     if telling.is_empty() {
         let sentence = sentence_of(refusal.code);
-        telling.subject(sentence.before, sentence.after)?;
+        telling.subject(sentence.before, sentence.after);
     }
+    telling.outcome()?;
     Ok(telling)
 }
 
@@ -99,8 +102,36 @@ fn push_about(
     }
 }
 
+// What is said of a refusal.
+fn sentence(
+    alloc: Global,
+    inputs: &[Input],
+    rows: &Rows<'_, '_>,
+    bounds: &Bounds<'_>,
+    refusal: &Refusal,
+) -> Result<String, AllocError>
+    ensures { IfOk result (λ s. Names (rows_in rows.now) refusal.now (string_bytes s)) }
+{
+    let mut text = String::new(alloc);
+    let Some(entry) = statement_at(rows, refusal) else {
+        push_meaning(&mut text, refusal.code)?;
+        return Ok(text);
+    };
+    let telling = telling_of(alloc, rows, bounds, refusal)?;
+    push_about(
+        alloc,
+        &mut text,
+        inputs,
+        &telling,
+        refusal.code,
+        entry.statement,
+    )?;
+    Ok(text)
+}
+
 /// Adds what is said of a refusal: a sentence that names the word at fault, if there is a statement at its place, and
-/// else one that fits every refusal of its code. The sentence tells the cause as far as it is found.
+/// else one that fits every refusal of its code. The sentence tells the cause as far as it is found. If memory runs out, the text is as
+/// it was.
 pub fn push_sentence(
     alloc: Global,
     text: &mut String,
@@ -111,11 +142,9 @@ pub fn push_sentence(
 ) -> Result<(), AllocError>
     ensures grows { OnOk result (Extends (string_bytes text.old) (string_bytes text.new)) }
     ensures names { OnOk result (Names (rows_in rows.now) refusal.now (string_bytes text.new)) }
+    ensures same { OnErr result (string_bytes text.new ≡ string_bytes text.old) }
 {
-    let Some(entry) = statement_at(rows, refusal) else {
-        return push_meaning(text, refusal.code);
-    };
-    let telling = telling_of(alloc, rows, bounds, refusal)?;
-    push_about(alloc, text, inputs, &telling, refusal.code, entry.statement)?;
+    let sentence = sentence(alloc, inputs, rows, bounds, refusal)?;
+    text.push_str(sentence.as_str())?;
     Ok(())
 }

@@ -1,41 +1,80 @@
 //! What types need and what they can't have.
-use crate::meanings::{Definitions, chain};
+use crate::meanings::chain;
 use crate::site::{Site, is_among};
 use crate::telling::Telling;
 use std::alloc::{AllocError, Global};
-use yv_rows::Kind;
 
-static NUMBERS: &[&str] = &[
-    "int8", "int16", "int32", "int64", "uint8", "uint16", "uint32", "uint64",
-];
-
-/// The substatements that a built-in type can have, as far as they restrict its values.
-pub(crate) fn allowed_in(built_in: &str) -> &'static [&'static str] {
-    match built_in {
-        "string" => &["length", "pattern"],
-        "binary" => &["length"],
-        "decimal64" => &["fraction-digits", "range"],
-        "enumeration" => &["enum"],
-        "bits" => &["bit"],
-        "leafref" => &["path", "require-instance"],
-        "identityref" => &["base"],
-        "union" => &["type"],
-        _ if is_among(built_in, NUMBERS) => &["range"],
-        _ => &[],
-    }
+// Built-in types, the substatements that they can have as far as these restrict values, and the one that a use of them needs.
+struct BuiltIn {
+    names: &'static [&'static str],
+    allowed: &'static [&'static str],
+    needed: Option<&'static str>,
 }
 
-// The substatement that a use of a built-in type needs.
-fn needed_in(built_in: &str) -> Option<&'static str> {
-    match built_in {
-        "decimal64" => Some("fraction-digits"),
-        "enumeration" => Some("enum"),
-        "bits" => Some("bit"),
-        "leafref" => Some("path"),
-        "identityref" => Some("base"),
-        "union" => Some("type"),
-        _ => None,
+static BUILT_IN: &[BuiltIn] = &[
+    BuiltIn {
+        names: &["string"],
+        allowed: &["length", "pattern"],
+        needed: None,
+    },
+    BuiltIn {
+        names: &["binary"],
+        allowed: &["length"],
+        needed: None,
+    },
+    BuiltIn {
+        names: &[
+            "int8", "int16", "int32", "int64", "uint8", "uint16", "uint32", "uint64",
+        ],
+        allowed: &["range"],
+        needed: None,
+    },
+    BuiltIn {
+        names: &["decimal64"],
+        allowed: &["fraction-digits", "range"],
+        needed: Some("fraction-digits"),
+    },
+    BuiltIn {
+        names: &["enumeration"],
+        allowed: &["enum"],
+        needed: Some("enum"),
+    },
+    BuiltIn {
+        names: &["bits"],
+        allowed: &["bit"],
+        needed: Some("bit"),
+    },
+    BuiltIn {
+        names: &["leafref"],
+        allowed: &["path", "require-instance"],
+        needed: Some("path"),
+    },
+    BuiltIn {
+        names: &["identityref"],
+        allowed: &["base"],
+        needed: Some("base"),
+    },
+    BuiltIn {
+        names: &["union"],
+        allowed: &["type"],
+        needed: Some("type"),
+    },
+];
+
+static OTHER: BuiltIn = BuiltIn {
+    names: &[],
+    allowed: &[],
+    needed: None,
+};
+
+// What a built-in type of this name can have and needs.
+fn built_in_of(name: &str) -> &'static BuiltIn {
+    for built_in in BUILT_IN {
+        if is_among(name, built_in.names) {
+            return built_in;
+        }
     }
+    &OTHER
 }
 
 // What only the built-in type itself can have.
@@ -55,73 +94,83 @@ static RESTRICTIONS: &[&str] = &[
 ];
 
 // Adds the substatements that a built-in type can have.
-fn say_allowed<'a>(telling: &mut Telling<'a>, built_in: &'a str) -> Result<(), AllocError> {
-    telling.say(" The type ")?;
-    telling.quote(built_in)?;
-    let allowed = allowed_in(built_in);
-    if allowed.is_empty() {
-        return telling.say(" can't be restricted.");
-    }
+fn say_allowed<'a>(telling: &mut Telling<'a>, built_in: &'a str) {
+    let allowed = built_in_of(built_in).allowed;
+    telling.quote(" The type ", built_in, "");
     for (place, word) in allowed.iter().enumerate() {
-        telling.say(if place == 0 { " can have `" } else { "` and `" })?;
-        telling.say(word)?;
+        telling.say(if place == 0 { " can have `" } else { "` and `" });
+        telling.say(word);
     }
-    telling.say("`.")
+    telling.say(if allowed.is_empty() {
+        " can't be restricted."
+    } else {
+        "`."
+    });
+}
+
+// Whether a substatement of a type restricts its values, and this built-in type can't have it.
+fn is_foreign(child: &Site<'_, '_>, built_in: &str) -> bool {
+    is_among(child.keyword(), RESTRICTIONS)
+        && !is_among(child.keyword(), built_in_of(built_in).allowed)
+}
+
+// The first substatement of a type that it can't have, where it is derived from this built-in type.
+fn misfit<'s, 'a>(site: &Site<'s, 'a>, built_in: &str, is_first: bool) -> Option<Site<'s, 'a>> {
+    let mut after = site.number;
+    for _ in 0..site.entries.len() {
+        let child = site.next_child(after)?;
+        let is_second = !is_first && is_among(child.keyword(), FIRST_ONLY);
+        if is_second || is_foreign(&child, built_in) {
+            return Some(child);
+        }
+        after = child.number;
+    }
+    None
 }
 
 /// Adds what is wrong with a type.
 pub(crate) fn tell_type<'a>(
     alloc: Global,
     telling: &mut Telling<'a>,
-    site: &Site<'_, 'a, '_>,
+    site: &Site<'_, 'a>,
 ) -> Result<(), AllocError> {
-    let typedefs = Definitions::read(alloc, site.rows, Kind::Typedef)?;
-    let chain = chain(alloc, &typedefs, site)?;
-    let built_in = match chain.last() {
-        Some(last) => last.argument(),
-        None => "",
-    };
+    let chain = chain(alloc, site)?;
     let is_first = chain.len() < 2;
-    for child in site.children(alloc)?.iter() {
-        if is_among(child.keyword(), RESTRICTIONS)
-            && !is_among(child.keyword(), allowed_in(built_in))
-        {
-            telling.subject("The type ", " can't have the `")?;
-            telling.say(child.keyword())?;
-            telling.say("` at ")?;
-            telling.point(child)?;
-            telling.say(".")?;
-            return say_allowed(telling, built_in);
-        }
-        if !is_first && is_among(child.keyword(), FIRST_ONLY) {
-            telling.subject("The typedef ", " can't be given another `")?;
-            telling.say(child.keyword())?;
-            telling.say("`, as its own type has one.")?;
-            return Ok(());
+    if let Some(last) = chain.last() {
+        match misfit(site, last.argument(), is_first) {
+            Some(child) => say_misfit(telling, &child, last.argument()),
+            None => say_need(telling, site, last.argument(), is_first),
         }
     }
-    tell_need(telling, site, built_in, is_first)
+    Ok(())
+}
+
+// Adds that a type can't have a substatement.
+fn say_misfit<'a>(telling: &mut Telling<'a>, child: &Site<'_, 'a>, built_in: &'a str) {
+    if is_foreign(child, built_in) {
+        telling.subject("The type ", " can't have the `");
+        telling.say(child.keyword());
+        telling.point("` at ", child, ".");
+        say_allowed(telling, built_in);
+    } else {
+        telling.subject("The typedef ", " can't be given another `");
+        telling.say(child.keyword());
+        telling.say("`, as its own type has one.");
+    }
 }
 
 // Adds what a type needs, or that it can't be a member of a union.
-fn tell_need<'a>(
-    telling: &mut Telling<'a>,
-    site: &Site<'_, 'a, '_>,
-    built_in: &'a str,
-    is_first: bool,
-) -> Result<(), AllocError> {
-    match needed_in(built_in) {
+fn say_need<'a>(telling: &mut Telling<'a>, site: &Site<'_, 'a>, built_in: &'a str, is_first: bool) {
+    match built_in_of(built_in).needed {
         Some(needed) if is_first && site.child(needed).is_none() => {
-            telling.subject("The type ", " needs the substatement `")?;
-            telling.say(needed)?;
-            telling.say("`.")
+            telling.subject("The type ", " needs the substatement `");
+            telling.say(needed);
+            telling.say("`.");
         }
-        _ if built_in == "leafref" => {
-            telling.subject(
-                "The type ",
-                " is a leafref, which can't be a member of a union here.",
-            )
-        }
+        _ if built_in == "leafref" => telling.subject(
+            "The type ",
+            " is a leafref, which can't be a member of a union here.",
+        ),
         _ => telling.subject(
             "The type ",
             " has a substatement that it can't have, or lacks one that it needs.",

@@ -1,16 +1,17 @@
 //! What helps a person to fix a pattern that the library of regular expressions doesn't build.
 ghost use Rattle.std.specs.Prelude.{◌≡◌, length, map, min, string_bytes, IfOk, IfSome};
+ghost use Rattle.yv_rows.specs.Rows.{row};
 ghost use Rattle.yv_rows.specs.Lent.{rows_in};
 ghost use Rattle.yv_streams.specs.Files.{file_of};
 ghost use Rattle.yv_messages.specs.Excerpt.{ShowsPlace};
-ghost use Rattle.yv_messages.specs.Unbuilt.{TellsAmong, TellsOf, TellsPattern, unbuilt_line};
+ghost use Rattle.yv_messages.specs.Unbuilt.{IsPatternAmong, TellsAmong, TellsOf, TellsPattern, unbuilt_line};
 
-use crate::patterns::first_unbuilt;
+use crate::patterns::{first_pattern, first_unbuilt};
 use crate::place::{excerpt, push_shown};
 use crate::quoted::push_quoted;
 use std::alloc::{AllocError, Global};
 use yv_files::Texts;
-use yv_rows::{Rows, name_of};
+use yv_rows::{Entry, Rows, name_of};
 use yv_statement::{Statement, Stop};
 use yv_streams::Input;
 
@@ -48,7 +49,20 @@ fn told(alloc: Global, input: &Input, statement: &Statement<'_>) -> Result<Strin
     Ok(text)
 }
 
-// What is said of the first pattern that isn't built among the statements of the files.
+// The first pattern that isn't built in the order of the files; the first pattern, if all are built in this order.
+fn pattern_to_tell<'r, 'a, 'b>(
+    alloc: Global,
+    rows: &'r Rows<'a, 'b>,
+) -> Result<Option<&'r Entry<'a, 'b>>, AllocError>
+    ensures { IfOk result (λ found. IfSome found (λ e. IsPatternAmong (rows_in rows.now) (row e.now))) }
+{
+    if let Some(entry) = first_unbuilt(alloc, rows)? {
+        return Ok(Some(entry));
+    }
+    first_pattern(alloc, rows)
+}
+
+// What is said of a pattern that isn't built among the statements of the files.
 fn told_among(
     alloc: Global,
     inputs: &[Input],
@@ -56,7 +70,7 @@ fn told_among(
 ) -> Result<Option<String>, AllocError>
     ensures { IfOk result (λ found. IfSome found (λ s. TellsAmong (map file_of inputs.now) (rows_in rows.now) (string_bytes s))) }
 {
-    let Some(entry) = first_unbuilt(alloc, rows)? else {
+    let Some(entry) = pattern_to_tell(alloc, rows)? else {
         return Ok(None);
     };
     match inputs.get(entry.file as usize) {
@@ -67,7 +81,8 @@ fn told_among(
 
 /// The message on the first pattern of the files that the library of regular expressions doesn't build: the file and the line,
 /// that line with a caret under the statement, and below it the pattern with the reason. The patterns are read in the order of the files,
-/// each in the room that those before it leave. None if all are built, or if the files can't be read.
+/// each in the room that those before it leave; if all are built like this, it is about the first. None if there is no pattern of the
+/// dialect, or if the files can't be read.
 pub fn unbuilt_pattern(alloc: Global, inputs: &[Input]) -> Result<Option<String>, AllocError>
     ensures { IfOk result (λ found. IfSome found (λ s. TellsPattern (map file_of inputs.now) (string_bytes s))) }
 {

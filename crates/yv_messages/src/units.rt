@@ -1,9 +1,11 @@
 //! How many nodes and uses modules expand to.
+use crate::entry::Entry;
 use crate::site::Site;
 use crate::telling::Telling;
+use crate::told::Bounds;
 use std::alloc::{AllocError, Global};
 use yv_names::names;
-use yv_rows::{Entry, Rows};
+use yv_rows::{Entry as Row, Rows};
 use yv_selection::Selection;
 use yv_statement::Stop;
 use yv_units::Units;
@@ -25,7 +27,7 @@ fn marks(
 }
 
 // Whether a numbered statement stands at the top of a file that is marked: behind the roots, in the block of one.
-fn is_counted(marks: &[bool], number: usize, entry: &Entry<'_, '_>) -> bool {
+fn is_counted(marks: &[bool], number: usize, entry: &Row<'_, '_>) -> bool {
     let is_top = number >= marks.len() && entry.scope < marks.len();
     is_top && marks.get(entry.file as usize).copied().unwrap_or(false)
 }
@@ -78,34 +80,34 @@ pub(crate) fn tell_units<'a>(
     alloc: Global,
     telling: &mut Telling<'a>,
     rows: &Rows<'a, '_>,
-    selection: &Selection,
-    limit: u32,
+    bounds: &Bounds<'_>,
+    entries: &[Entry<'a>],
 ) -> Result<(), AllocError> {
-    telling.say("The modules expand to more nodes and uses than the limit.")?;
-    let Some(count) = count_of(alloc, rows, selection)? else {
-        return Ok(());
-    };
-    telling.say(" They expand to ")?;
-    say_many(telling, count.total)?;
-    telling.say(", and the limit is ")?;
-    telling.count(limit as u64)?;
-    telling.say(if count.total > HIGHEST_LIMIT {
-        "; the highest that --max-nodes takes is 1,000,000."
-    } else {
-        "; --max-nodes sets another one."
-    })?;
-    if let Some(largest) = Site::at(rows, count.largest) {
-        telling.statement(" Most are in the ", &largest, " at ")?;
-        telling.point(&largest)?;
-        telling.say(": ")?;
-        say_many(telling, count.most)?;
-        telling.say(".")?;
+    telling.say("The modules expand to more nodes and uses than the limit.");
+    if let Some(count) = count_of(alloc, rows, bounds.selection)? {
+        say_count(telling, &count, bounds.limit);
+        if let Some(largest) = Site::at(entries, count.largest) {
+            telling.statement(" Most are in the ", &largest, "");
+            telling.point(" at ", &largest, "");
+            telling.count(": ", count.most, or_more(count.most));
+            telling.say(".");
+        }
     }
     Ok(())
 }
 
-// Adds a number that may be one of many more.
-fn say_many(telling: &mut Telling<'_>, number: u64) -> Result<(), AllocError> {
-    telling.count(number)?;
-    telling.say(if number == u64::MAX { " or more" } else { "" })
+// Adds how many there are, and the limit.
+fn say_count(telling: &mut Telling<'_>, count: &Count, limit: u32) {
+    telling.count(" They expand to ", count.total, or_more(count.total));
+    telling.count(", and the limit is ", limit as u64, "");
+    telling.say(if count.total > HIGHEST_LIMIT {
+        "; the highest that --max-nodes takes is 1,000,000."
+    } else {
+        "; --max-nodes sets another one."
+    });
+}
+
+// What is said behind a number that may be one of many more.
+fn or_more(number: u64) -> &'static str {
+    if number == u64::MAX { " or more" } else { "" }
 }

@@ -25,7 +25,9 @@ fn syntax_hint(rest: &[u8]) -> &'static str {
         Some(b'{') => " This brace has no statement before it.",
         Some(b';') => " This `;` ends nothing: it has no statement before it.",
         Some(b'+') => " A `+` joins quoted texts only.",
-        Some(_) => " Look for a missing `;`, brace or quote before it.",
+        Some(_) => {
+            " Look for a missing `;`, brace or quote before it; an argument of several words is in quotes."
+        }
     }
 }
 

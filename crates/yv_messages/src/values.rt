@@ -1,145 +1,261 @@
 //! What values a type has.
+use crate::definitions::prefix_for;
 use crate::guess::{Guess, say_guess};
-use crate::meanings::Definitions;
-use crate::site::Site;
+use crate::restrictions::{digits_of, widest_of};
+use crate::site::{Site, all_sites, is_among};
 use crate::telling::Telling;
 use std::alloc::{AllocError, Global};
-use yv_rows::Kind;
+use yv_numbers::{Integer, based_integer_of, scaled_of};
 
 /// How many names of a type are listed.
-const MOST_NAMES: u64 = 8;
+const MOST_NAMES: usize = 8;
 
-// Names of a type: how many there were, and the one that is most like what was written.
-#[derive(Drop)]
-struct Names<'a> {
-    count: u64,
-    nearest: Option<Guess<'a>>,
+// Adds names of a type, the first of them and the one that is most like what was written.
+fn say_names<'a>(telling: &mut Telling<'a>, names: &[Site<'_, 'a>], default: &Site<'_, 'a>) {
+    for (place, name) in names.iter().enumerate().take(MOST_NAMES) {
+        telling.quote_prefixed(
+            if place == 0 { "" } else { ", " },
+            prefix_for(default, name).unwrap_or(""),
+            name.argument(),
+            "",
+        );
+    }
+    say_rest(telling, names.len());
+    say_guess(telling, nearest_name(names, default.name()));
 }
 
-impl<'a> Names<'a> {
-    fn new() -> Names<'a> {
-        Names {
-            count: 0,
-            nearest: None,
-        }
-    }
-
-    // Adds a name, if it is one of the first.
-    fn say(
-        &mut self,
-        telling: &mut Telling<'a>,
-        name: &'a str,
-        written: &str,
-    ) -> Result<(), AllocError> {
-        self.nearest = Guess::nearer(self.nearest, Guess::of(written, name, None));
-        if self.count < MOST_NAMES {
-            telling.say(if self.count == 0 { "" } else { ", " })?;
-            telling.quote(name)?;
-        }
-        self.count = self.count.saturating_add(1);
-        Ok(())
-    }
-
-    // Adds how many more there are, and a guess.
-    fn end(&self, telling: &mut Telling<'a>) -> Result<(), AllocError> {
-        if self.count > MOST_NAMES {
-            telling.say(" and ")?;
-            telling.count(self.count.saturating_sub(MOST_NAMES))?;
-            telling.say(" more")?;
-        }
-        telling.say(".")?;
-        say_guess(telling, self.nearest)
+// Adds how many of so many names are not listed.
+fn say_rest(telling: &mut Telling<'_>, count: usize) {
+    if count > MOST_NAMES {
+        telling.count(" and ", count.saturating_sub(MOST_NAMES) as u64, " more.");
+    } else {
+        telling.say(if count == 0 { "none." } else { "." });
     }
 }
 
-// Adds the restrictions of these keywords along a chain of types.
+/// The argument of a statement that is most like what was written.
+pub(crate) fn nearest_name<'a>(sites: &[Site<'_, 'a>], written: &str) -> Option<Guess<'a>> {
+    let mut nearest = None;
+    for site in sites {
+        nearest = Guess::nearer(nearest, Guess::of(written, site.argument(), None));
+    }
+    nearest
+}
+
+// Adds the restrictions along a chain of types.
 fn say_restrictions<'a>(
     alloc: Global,
     telling: &mut Telling<'a>,
-    chain: &[Site<'_, 'a, '_>],
+    chain: &[Site<'_, 'a>],
 ) -> Result<(), AllocError> {
     for site in chain {
         for child in site.children(alloc)?.iter() {
-            if child.is("range") || child.is("length") || child.is("pattern") {
-                telling.say(", with the ")?;
-                telling.say(child.keyword())?;
-                telling.say(" ")?;
-                telling.quote(child.argument())?;
+            if is_among(child.keyword(), &["range", "length", "pattern"]) {
+                telling.say(", with the ");
+                telling.say(child.keyword());
+                telling.quote(" ", child.argument(), "");
             }
         }
     }
-    telling.say(".")
+    telling.say(".");
+    Ok(())
 }
 
-// Adds the items of the nearest type that has some.
-fn say_items<'a>(
+// The items of the nearest type that has some.
+fn items_of<'s, 'a>(
     alloc: Global,
-    telling: &mut Telling<'a>,
-    chain: &[Site<'_, 'a, '_>],
+    chain: &[Site<'s, 'a>],
     keyword: &str,
-    written: &str,
-) -> Result<(), AllocError> {
-    for site in chain {
-        if site.child(keyword).is_none() {
-            continue;
-        }
-        let mut names = Names::new();
+) -> Result<Vec<Site<'s, 'a>>, AllocError> {
+    let mut items = Vec::new(alloc);
+    if let Some(site) = nearest_with(chain, keyword) {
         for child in site.children(alloc)?.iter() {
             if child.is(keyword) {
-                names.say(telling, child.argument(), written)?;
+                items.push(*child)?;
             }
         }
-        return names.end(telling);
     }
-    telling.say("none.")
+    Ok(items)
 }
 
-// Adds the identities whose base is the one of a type.
-fn say_identities<'a>(
+/// The nearest of these types that has a substatement of this keyword.
+pub(crate) fn nearest_with<'s, 'a>(chain: &[Site<'s, 'a>], keyword: &str) -> Option<Site<'s, 'a>> {
+    for site in chain {
+        if site.child(keyword).is_some() {
+            return Some(*site);
+        }
+    }
+    None
+}
+
+/// How many times identities that are derived from those found so far are looked for.
+const MOST_ROUNDS: usize = 64;
+
+// The identities that are derived from the base of a type, also by way of others.
+fn identities_of<'s, 'a>(
     alloc: Global,
-    telling: &mut Telling<'a>,
-    first: &Site<'_, 'a, '_>,
-    written: &str,
+    first: &Site<'s, 'a>,
+) -> Result<Vec<Site<'s, 'a>>, AllocError> {
+    let mut found = Vec::new(alloc);
+    if let Some(root) = base_of(first) {
+        let bases = all_sites(alloc, first.entries, "base")?;
+        let mut marks = vec![in alloc; false; first.entries.len()]?;
+        mark(&mut marks, root.number);
+        for _ in 0..MOST_ROUNDS {
+            add_derived(&bases, &mut marks, &mut found)?;
+        }
+    }
+    Ok(found)
+}
+
+// The identity that is the base of a type.
+fn base_of<'s, 'a>(site: &Site<'s, 'a>) -> Option<Site<'s, 'a>> {
+    site.child("base")?.meaning()
+}
+
+fn mark(marks: &mut [bool], number: usize) {
+    if number < marks.len() {
+        marks[number] = true;
+    }
+}
+
+fn is_marked(marks: &[bool], number: usize) -> bool {
+    number < marks.len() && marks[number]
+}
+
+// Adds the identities of which a base is marked, and that are not, and marks them.
+fn add_derived<'s, 'a>(
+    bases: &[Site<'s, 'a>],
+    marks: &mut [bool],
+    found: &mut Vec<Site<'s, 'a>>,
 ) -> Result<(), AllocError> {
-    let identities = Definitions::read(alloc, first.rows, Kind::Identity)?;
-    let mut names = Names::new();
-    let Some(base) = first.child("base") else {
-        return telling.say("those of its base.");
+    for base in bases {
+        if let Some(identity) = derived_by(base, marks) {
+            mark(marks, identity.number);
+            found.push(identity)?;
+        }
+    }
+    Ok(())
+}
+
+// The identity in which this base stands, if the base is marked, and the identity isn't.
+fn derived_by<'s, 'a>(base: &Site<'s, 'a>, marks: &[bool]) -> Option<Site<'s, 'a>> {
+    let identity = base.parent()?;
+    if identity.is("identity")
+        && is_marked(marks, base.entry.meaning?)
+        && !is_marked(marks, identity.number)
+    {
+        Some(identity)
+    } else {
+        None
+    }
+}
+
+// The number that a default is, of a type of numbers.
+fn number_of(chain: &[Site<'_, '_>], text: &str) -> Option<Integer> {
+    let first = chain.last()?;
+    if first.argument() == "decimal64" {
+        scaled_of(digits_of(first)?, text.as_bytes())
+    } else {
+        based_integer_of(text.as_bytes())
+    }
+}
+
+// Whether a type is one of whole numbers or decimals.
+fn has_numbers(chain: &[Site<'_, '_>]) -> bool {
+    match chain.last() {
+        Some(first) => is_among(first.argument(), NUMBERS),
+        None => false,
+    }
+}
+
+static NUMBERS: &[&str] = &[
+    "int8",
+    "int16",
+    "int32",
+    "int64",
+    "uint8",
+    "uint16",
+    "uint32",
+    "uint64",
+    "decimal64",
+];
+
+/// How long texts are that are compared as numbers.
+const MOST_DIGITS: usize = 64;
+
+/// Whether two defaults of a type are the same value, as far as their texts show.
+pub(crate) fn are_same(chain: &[Site<'_, '_>], one: &str, other: &str) -> bool {
+    one == other || (has_numbers(chain) && are_same_number(chain, one, other))
+}
+
+fn are_same_number(chain: &[Site<'_, '_>], one: &str, other: &str) -> bool {
+    if one.len() > MOST_DIGITS || other.len() > MOST_DIGITS {
+        return false;
+    }
+    match (number_of(chain, one), number_of(chain, other)) {
+        (Some(number), Some(second)) => number == second,
+        _ => false,
+    }
+}
+
+/// Whether a default is surely not a value of a type. Patterns, lengths, identities and unions are not looked at.
+pub(crate) fn is_no_value(chain: &[Site<'_, '_>], text: &str) -> bool {
+    let Some(first) = chain.last() else {
+        return false;
     };
-    let Some(root) = identities.meaning(&base, base.argument()) else {
-        return telling.say("those of its base.");
+    match first.argument() {
+        "boolean" => text != "true" && text != "false",
+        "empty" => true,
+        "enumeration" => !has_item(chain, "enum", text),
+        "bits" => !are_items(chain, text),
+        _ if has_numbers(chain) => !is_in_ranges(chain, text),
+        _ => false,
+    }
+}
+
+// Whether the nearest type that has items has this one.
+fn has_item(chain: &[Site<'_, '_>], keyword: &str, name: &str) -> bool {
+    match nearest_with(chain, keyword) {
+        Some(site) => site.child_named(keyword, name).is_some(),
+        None => true,
+    }
+}
+
+/// How many bits of a default are looked at.
+const MOST_WORDS: usize = 8;
+
+// Whether the first words of a text are bits of a type.
+fn are_items(chain: &[Site<'_, '_>], text: &str) -> bool {
+    for word in text.split(' ').take(MOST_WORDS) {
+        if !word.is_empty() && !has_item(chain, "bit", word) {
+            return false;
+        }
+    }
+    true
+}
+
+// Whether a text is a number within a type's limits and within each `range`.
+fn is_in_ranges(chain: &[Site<'_, '_>], text: &str) -> bool {
+    let (Some(number), Some(reading)) = (number_of(chain, text), widest_of(chain)) else {
+        return false;
     };
-    for number in 0..first.rows.entries().len() {
-        let Some(site) = Site::at(first.rows, number) else {
-            break;
-        };
-        if site.is("base") && is_derived(&identities, &site, root.number) {
-            if let Some(identity) = site.parent() {
-                names.say(telling, identity.argument(), written)?;
+    for site in chain {
+        if let Some(range) = site.child("range") {
+            if !reading.is_in(range.argument(), number) {
+                return false;
             }
         }
     }
-    names.end(telling)
-}
-
-// Whether a `base` of an identity means this identity.
-fn is_derived<'a>(identities: &Definitions<'a>, base: &Site<'_, 'a, '_>, root: usize) -> bool {
-    let is_of_identity = match base.parent() {
-        Some(parent) => parent.is("identity"),
-        None => false,
-    };
-    match identities.meaning(base, base.argument()) {
-        Some(meant) => is_of_identity && meant.number == root,
-        None => false,
-    }
+    reading.is_within(number)
 }
 
 /// Adds what values a type has; the chain leads from it to its built-in type.
 pub(crate) fn say_values<'a>(
     alloc: Global,
     telling: &mut Telling<'a>,
-    chain: &[Site<'_, 'a, '_>],
-    written: &str,
+    chain: &[Site<'_, 'a>],
+    default: &Site<'_, 'a>,
 ) -> Result<(), AllocError> {
     let Some(first) = chain.last() else {
         return Ok(());
@@ -148,22 +264,22 @@ pub(crate) fn say_values<'a>(
         "boolean" => telling.say(" Its values are `true` and `false`."),
         "empty" => telling.say(" The type \"empty\" has no default."),
         "enumeration" => {
-            telling.say(" Its values are ")?;
-            say_items(alloc, telling, chain, "enum", written)
+            telling.say(" Its values are ");
+            say_names(telling, &items_of(alloc, chain, "enum")?, default);
         }
         "bits" => {
-            telling.say(" Its bits are ")?;
-            say_items(alloc, telling, chain, "bit", written)
+            telling.say(" Its bits are ");
+            say_names(telling, &items_of(alloc, chain, "bit")?, default);
         }
         "identityref" => {
-            telling.say(" Its identities are ")?;
-            say_identities(alloc, telling, first, written)
+            telling.say(" Its identities are ");
+            say_names(telling, &identities_of(alloc, first)?, default);
         }
         "union" => telling.say(" None of the types of its union has this value."),
         built_in => {
-            telling.say(" Its type is ")?;
-            telling.quote(built_in)?;
-            say_restrictions(alloc, telling, chain)
+            telling.quote(" Its type is ", built_in, "");
+            return say_restrictions(alloc, telling, chain);
         }
     }
+    Ok(())
 }

@@ -25,5 +25,5 @@ returns c =
     c.in_ok-line.ensures
     (c.in_ok-text.ensures ∙ ap (unbuilt_line (file_of c.args.input.now)) c.line.ensures)
     (c.in_ok-push_str.ensures.bytes ∙ ap (λ t. text ++ t) c.as_str.ensures.value)
-    (c.in_ok-push_quoted.ensures ∙ ap (λ n. string_bytes c.push_str.new.self ++ quoted n) c.name_of.ensures)
+    (c.in_ok-push_quoted.ensures.quoted ∙ ap (λ n. string_bytes c.push_str.new.self ++ quoted n) c.name_of.ensures)
     c.in_ok-push_str-2.ensures.bytes
