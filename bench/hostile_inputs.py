@@ -331,6 +331,41 @@ def products_inputs():
     yield validated("json-mandatory-missing-in-all-entries", lambda: (state(mandatory), empty(1_000)))
 
 
+# Defaults of leaf-lists, which are in use together.
+
+def defaults_of(count):
+    return numbered(count, "default {n};")
+
+
+def many_defaults(count, name="l"):
+    return f"leaf-list {name}{{type int32;{defaults_of(count)}}}"
+
+
+def referring(path, name="r"):
+    """A leaf-list of leafrefs."""
+    return f'leaf-list {name}{{config false;type leafref{{path "{path}";}}}}'
+
+
+def targets(count, each_of):
+    """Leaf-lists with defaults, and a leafref to each of them."""
+    refer = numbered(count, 'leaf r{n}{{type leafref{{path "/ex:l{n}";}}}}')
+    return "".join(many_defaults(each_of, f"l{n}") for n in range(count)) + refer
+
+
+def defaults_inputs():
+    yield validated("copies-of-a-thousand-defaults", lambda: (grouping(many_defaults(1_024)) + copies(100_000), "{}"))
+    yield compiled("defaults-of-one-leaf-list", lambda: many_defaults(270_000))
+    refined = "uses g{{refine l{{" + defaults_of(1_024) + "}}}}"
+    yield compiled("refines-of-a-thousand-defaults", lambda: grouping(many_defaults(1_024)) + copies(300, refined))
+    inner = "list e{config false;" + many_defaults(1_024) + "}"
+    yield document("entries-of-a-thousand-defaults", inner + 'leaf r{config false;type leafref{path "/ex:e/ex:l";}}',
+                   lambda: empty(2_000_000)[:-1] + ',"ex:r":7}')
+    yield document("references-among-a-thousand-defaults", many_defaults(1_024) + referring("/ex:l", "e"),
+                   lambda: listed(["1023"] * 2_000_000))
+    yield validated("references-to-many-leaf-lists-with-defaults",
+                    lambda: (targets(300, 1_000), "{" + ",".join(f'"ex:r{n}":{n}' for n in range(300)) + "}"))
+
+
 # Documents: JSON, values, and faults.
 
 ANYDATA = "anydata d;"
@@ -396,4 +431,5 @@ def inputs():
     yield from types_inputs()
     yield from entries_inputs()
     yield from products_inputs()
+    yield from defaults_inputs()
     yield from json_inputs()
