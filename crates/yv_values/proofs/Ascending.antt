@@ -4,6 +4,8 @@ use Rattle.std.proofs.lemmas.Bool.{leb-true}
 use Rattle.std.specs.Bool.{Decides}
 use Rattle.std.specs.List.{insert}
 use Rattle.std.specs.List.Sorted.{IsNonDecreasing}
+use Rattle.std.proofs.lemmas.List.{get_or_default}
+use Rattle.std.proofs.lemmas.List.Sorted.{IsNonDecreasingBy-insert}
 use Rattle.std.proofs.lemmas.Bool.Decides.{Decides-like, Decides-ltb, nat_tests}
 use Rattle.yv_values.specs.Places.{IsPlace, AddsPlace, IsLeastPlace, HasBetween}
 
@@ -41,6 +43,13 @@ insert_joins (x ∷ xs) (suc i) p q (inr e) = inr (insert_joins xs i p q (inr e)
 
 pub inserted : (xs : List ℕ) (i p : ℕ) → AddsPlace xs (insert xs i p) p
 inserted xs i p q = (insert_splits xs i p q, insert_joins xs i p q)
+
+-- a place behind those that are below it
+pub inserted_order : (xs : List ℕ) (i p : ℕ) → IsNonDecreasing xs → i ≤ length xs → ((k : ℕ) → k < i → get_or xs k 0 < p) → ((k : ℕ) → i ≤ k → k < length xs → p ≤ get_or xs k 0) → IsNonDecreasing (insert xs i p)
+inserted_order xs i p up bound below above =
+    IsNonDecreasingBy-insert (λ q. q) xs i p up bound
+    (λ k d h. let low = below k h in let read = get_or_default xs k d 0 (omega (arith, h, bound)) in omega (arith, low, read))
+    (λ k d le h. let high = above k le h in let read = get_or_default xs k d 0 h in omega (arith, high, read))
 
 pub first_is_least : (xs : List ℕ) → 0 < length xs → IsNonDecreasing xs → IsLeastPlace xs (get_or xs 0 0)
 first_is_least xs h up =

@@ -1,27 +1,28 @@
 -- Keys with their places, as an index finds and adds them.
-use Rattle.std.proofs.Common.{◌≡◌, ℕ, ◌<◌, ◌⊎◌, ◌++◌, Bool, true, false, cond, List, [], ◌∷◌, length, map, Vec, Option, Some, None, Result, Ok, Err, OnOk, OnErr, Ordering, refl, sym, ◌∙◌, subst, inl, inr, arith}
+use Rattle.std.proofs.Common.{◌≡◌, ℕ, ◌+◌, ◌<◌, ◌⊎◌, ◌++◌, Bool, true, false, cond, List, [], ◌∷◌, length, Option, Some, None, IsSome, is_some, unwrap_or, Result, Ok, Err, OnOk, OnErr, if◌then◌else◌, Ordering, refl, sym, ◌∙◌, ap, subst, inl, inr, arith}
 use Rattle.std.specs.Bool.{Decides}
 use Rattle.std.specs.BTreeMap.{insert_entry}
 use Rattle.std.specs.Cmp.Lexicographic.{slice_cmp}
-use Rattle.std.specs.Map.{lookup, set_value}
+use Rattle.std.specs.Map.{keys_of, lookup, set_value}
 use Rattle.std.specs.Ordering.{is_eq, match_ordering}
 use Rattle.std.proofs.lemmas.Map.Steps.{set_value_same}
-use Rattle.std.specs.declared.alloc.Global.{Global}
 use Rattle.std.specs.declared.cmp.Ordering.TheVariants.{Less, Equal, Greater}
-use Rattle.yv_values.specs.declared.value.Atom.{Atom}
+use Rattle.yv_values.specs.declared.key.Key.{Key}
 use Rattle.yv_values.specs.contracts.value.AtomOrd.TheImpl.{cmp-value}
-use Rattle.yv_values.specs.InnerPlaces.{key_of, pairs_at, pairs_of, AreApart}
+use Rattle.yv_values.specs.InnerKeys.{atoms_of, key_of}
+use Rattle.yv_values.specs.InnerPlaces.{pairs_at, pairs_of, AreApart}
 use Rattle.yv_values.specs.Pairs.{Pair, Keeps, IsLeast, IsWithin, Adds}
 use Rattle.yv_values.specs.Places.{IsPlace, AddsPlace, IsLeastPlace, HasBetween}
-use Rattle.yv_values.specs.Values.{Val, value_of}
+use Rattle.yv_values.specs.Values.{Val}
 use Rattle.yv_values.proofs.Same.{same_keys}
 
-abbrev pub Key : Type 0
-Key = Vec Atom Global
+-- the order of keys
+abbrev pub order : Key → Key → Ordering
+order x y = slice_cmp cmp-value.it (atoms_of x) (atoms_of y)
 
 -- the test by which a map finds this key
-abbrev pub finds : List Atom → Key → Bool
-finds key other = is_eq (slice_cmp cmp-value.it key other.items)
+abbrev pub finds : Key → Key → Bool
+finds key other = is_eq (order key other)
 
 at_split : (key : List Val) (ps : List ℕ) (rest : List Pair) (k : List Val) (p : ℕ) → Keeps (pairs_at key ps ++ rest) k p → ((key ≡ k) × IsPlace ps p) ⊎ Keeps rest k p
 at_split key [] rest k p h = inr h
@@ -87,25 +88,25 @@ placed P Less x y z f g h = g
 placed P Equal x y z f g h = absurd (cc)
 placed P Greater x y z f g h = h
 
-module _ (key : List Atom) where
-  differs : (other : Key) → finds key other ≡ false → key_of other ≡ map value_of key → ⊥
-  differs other f e = let t : true ≡ false = sym ((same_keys key other.items).1 (sym e)) ∙ f in cc
+module _ (key : Key) where
+  differs : (other : Key) → finds key other ≡ false → key_of other ≡ key_of key → ⊥
+  differs other f e = let t : true ≡ false = sym ((same_keys (atoms_of key) (atoms_of other)).1 (sym e)) ∙ f in cc
 
   -- the places of the key that is found are kept at it
-  pub found_keeps : (es : List (Key × List ℕ)) (ps : List ℕ) (p : ℕ) → lookup (finds key) es ≡ Some ps → IsPlace ps p → Keeps (pairs_of es) (map value_of key) p
+  pub found_keeps : (es : List (Key × List ℕ)) (ps : List ℕ) (p : ℕ) → lookup (finds key) es ≡ Some ps → IsPlace ps p → Keeps (pairs_of es) (key_of key) p
   found_keeps [] ps p f h = absurd (cc)
   found_keeps (e ∷ es) ps p f h = elim (if_found (finds key e.0) e.1 ps (lookup (finds key) es) f) [
-    | inl t ↦ at_join (key_of e.0) e.1 (pairs_of es) _ p (inl (sym ((same_keys key e.0.items).0 t.0), subst (λ (xs : List ℕ). IsPlace xs p) (sym t.1) h))
+    | inl t ↦ at_join (key_of e.0) e.1 (pairs_of es) _ p (inl (sym ((same_keys (atoms_of key) (atoms_of e.0)).0 t.0), subst (λ (xs : List ℕ). IsPlace xs p) (sym t.1) h))
     | inr g ↦ at_join (key_of e.0) e.1 (pairs_of es) _ p (inr (found_keeps es ps p g.1 h))
   ]
 
   -- and no others
-  pub keeps_found : (es : List (Key × List ℕ)) (ps : List ℕ) (p : ℕ) → AreApart es → lookup (finds key) es ≡ Some ps → Keeps (pairs_of es) (map value_of key) p → IsPlace ps p
+  pub keeps_found : (es : List (Key × List ℕ)) (ps : List ℕ) (p : ℕ) → AreApart es → lookup (finds key) es ≡ Some ps → Keeps (pairs_of es) (key_of key) p → IsPlace ps p
   keeps_found [] ps p a f h = absurd (cc)
   keeps_found (e ∷ es) ps p a f h = elim (if_found (finds key e.0) e.1 ps (lookup (finds key) es) f) [
     | inl t ↦ elim (at_split (key_of e.0) e.1 (pairs_of es) _ p h) [
       | inl here ↦ subst (λ (xs : List ℕ). IsPlace xs p) t.1 here.1
-      | inr later ↦ absurd (a.1 p (subst (λ (k : List Val). Keeps (pairs_of es) k p) ((same_keys key e.0.items).0 t.0) later))
+      | inr later ↦ absurd (a.1 p (subst (λ (k : List Val). Keeps (pairs_of es) k p) ((same_keys (atoms_of key) (atoms_of e.0)).0 t.0) later))
     ]
     | inr g ↦ elim (at_split (key_of e.0) e.1 (pairs_of es) _ p h) [
       | inl here ↦ absurd (differs e.0 g.0 here.0)
@@ -113,40 +114,40 @@ module _ (key : List Atom) where
     ]
   ]
 
-  pub none_kept : (es : List (Key × List ℕ)) (p : ℕ) → lookup (finds key) es ≡ None → Keeps (pairs_of es) (map value_of key) p → ⊥
+  pub none_kept : (es : List (Key × List ℕ)) (p : ℕ) → lookup (finds key) es ≡ None → Keeps (pairs_of es) (key_of key) p → ⊥
   none_kept [] p f h = elim h [ ]
   none_kept (e ∷ es) p f h =
       let g = if_none (finds key e.0) e.1 (lookup (finds key) es) f in
       elim (at_split (key_of e.0) e.1 (pairs_of es) _ p h) [ inl here ↦ differs e.0 g.0 here.0 | inr later ↦ none_kept es p g.1 later ]
 
-  pub least_found : (es : List (Key × List ℕ)) (ps : List ℕ) (p : ℕ) → AreApart es → lookup (finds key) es ≡ Some ps → IsLeastPlace ps p → IsLeast (pairs_of es) (map value_of key) (Some p)
+  pub least_found : (es : List (Key × List ℕ)) (ps : List ℕ) (p : ℕ) → AreApart es → lookup (finds key) es ≡ Some ps → IsLeastPlace ps p → IsLeast (pairs_of es) (key_of key) (Some p)
   least_found es ps p a f h = (found_keeps es ps p f h.0, λ q g. h.1 q (keeps_found es ps q a f g))
 
   -- a key of which nothing is kept isn't found
-  pub not_found : (es : List (Key × List ℕ)) → AreApart es → ((p : ℕ) → Keeps (pairs_of es) (map value_of key) p → ⊥) → lookup (finds key) es ≡ None
+  pub not_found : (es : List (Key × List ℕ)) → AreApart es → ((p : ℕ) → Keeps (pairs_of es) (key_of key) p → ⊥) → lookup (finds key) es ≡ None
   not_found [] a none = refl
   not_found (e ∷ es) a none = by (finds key e.0) refl (λ h. not_found es a.2 h)
     where
-      by : (b : Bool) → finds key e.0 ≡ b → (((p : ℕ) → Keeps (pairs_of es) (map value_of key) p → ⊥) → lookup (finds key) es ≡ None) → cond b (Some e.1) (lookup (finds key) es) ≡ None
+      by : (b : Bool) → finds key e.0 ≡ b → (((p : ℕ) → Keeps (pairs_of es) (key_of key) p → ⊥) → lookup (finds key) es ≡ None) → cond b (Some e.1) (lookup (finds key) es) ≡ None
       by true t later =
           let one = place_of e.1 a.0 in
-          absurd (none one.0 (at_join (key_of e.0) e.1 (pairs_of es) _ one.0 (inl (sym ((same_keys key e.0.items).0 t), one.1))))
+          absurd (none one.0 (at_join (key_of e.0) e.1 (pairs_of es) _ one.0 (inl (sym ((same_keys (atoms_of key) (atoms_of e.0)).0 t), one.1))))
       by false t later = later (λ p h. none p (at_join (key_of e.0) e.1 (pairs_of es) _ p (inr h)))
 
-  pub within_found : (es : List (Key × List ℕ)) (ps : List ℕ) (b : Bool) (first last : ℕ) → AreApart es → lookup (finds key) es ≡ Some ps → Decides b (HasBetween ps first last) → Decides b (IsWithin (pairs_of es) (map value_of key) first last)
+  pub within_found : (es : List (Key × List ℕ)) (ps : List ℕ) (b : Bool) (first last : ℕ) → AreApart es → lookup (finds key) es ≡ Some ps → Decides b (HasBetween ps first last) → Decides b (IsWithin (pairs_of es) (key_of key) first last)
   within_found es ps b first last a f d = (
     λ t. (let h = d.0 t in (h.0, found_keeps es ps h.0 f h.1, h.2, h.3)),
     λ h. d.1 (h.0, keeps_found es ps h.0 a f h.1, h.2, h.3),
   )
 
   -- one place more at the key that is found
-  pub set_adds : (es : List (Key × List ℕ)) (ps new : List ℕ) (p : ℕ) → lookup (finds key) es ≡ Some ps → AddsPlace ps new p → Adds (pairs_of es) (pairs_of (set_value (finds key) es new)) (map value_of key) p
+  pub set_adds : (es : List (Key × List ℕ)) (ps new : List ℕ) (p : ℕ) → lookup (finds key) es ≡ Some ps → AddsPlace ps new p → Adds (pairs_of es) (pairs_of (set_value (finds key) es new)) (key_of key) p
   set_adds [] ps new p f h = absurd (cc)
   set_adds (e ∷ es) ps new p f h = elim (if_found (finds key e.0) e.1 ps (lookup (finds key) es) f) [
     | inl t ↦ rw t.0 (
-        subst (λ (k : List Val). Adds (pairs_of (e ∷ es)) (pairs_at (key_of e.0) new ++ pairs_of es) k p) (sym ((same_keys key e.0.items).0 t.0)) (adds_here (key_of e.0) e.1 new (pairs_of es) p (subst (λ (xs : List ℕ). AddsPlace xs new p) (sym t.1) h))
+        subst (λ (k : List Val). Adds (pairs_of (e ∷ es)) (pairs_at (key_of e.0) new ++ pairs_of es) k p) (sym ((same_keys (atoms_of key) (atoms_of e.0)).0 t.0)) (adds_here (key_of e.0) e.1 new (pairs_of es) p (subst (λ (xs : List ℕ). AddsPlace xs new p) (sym t.1) h))
         )
-    | inr g ↦ rw g.0 (adds_later (key_of e.0) e.1 (pairs_of es) (pairs_of (set_value (finds key) es new)) (map value_of key) p (set_adds es ps new p g.1 h))
+    | inr g ↦ rw g.0 (adds_later (key_of e.0) e.1 (pairs_of es) (pairs_of (set_value (finds key) es new)) (key_of key) p (set_adds es ps new p g.1 h))
   ]
 
   pub set_apart : (es : List (Key × List ℕ)) (ps new : List ℕ) (p : ℕ) → AreApart es → lookup (finds key) es ≡ Some ps → AddsPlace ps new p → AreApart (set_value (finds key) es new)
@@ -161,24 +162,37 @@ module _ (key : List Atom) where
   ]
 
 module _ (key : Key) (p : ℕ) where
-  pub insert_adds : (es : List (Key × List ℕ)) → lookup (finds key.items) es ≡ None → Adds (pairs_of es) (pairs_of (insert_entry (λ x y. slice_cmp cmp-value.it x.items y.items) es key (p ∷ []))) (key_of key) p
+  pub insert_adds : (es : List (Key × List ℕ)) → lookup (finds key) es ≡ None → Adds (pairs_of es) (pairs_of (insert_entry order es key (p ∷ []))) (key_of key) p
   insert_adds [] f = adds_here (key_of key) [] (p ∷ []) [] p (one_place p)
   insert_adds (e ∷ es) f =
-      let g = if_none (finds key.items e.0) e.1 (lookup (finds key.items) es) f in
-      placed (λ (xs : List (Key × List ℕ)). Adds (pairs_of (e ∷ es)) (pairs_of xs) (key_of key) p) (slice_cmp cmp-value.it key.items e.0.items) _ _ _ g.0
+      let g = if_none (finds key e.0) e.1 (lookup (finds key) es) f in
+      placed (λ (xs : List (Key × List ℕ)). Adds (pairs_of (e ∷ es)) (pairs_of xs) (key_of key) p) (order key e.0) _ _ _ g.0
       (adds_here (key_of key) [] (p ∷ []) (pairs_of (e ∷ es)) p (one_place p))
       (adds_later (key_of e.0) e.1 (pairs_of es) _ (key_of key) p (insert_adds es g.1))
 
-  pub insert_apart : (es : List (Key × List ℕ)) → AreApart es → lookup (finds key.items) es ≡ None → AreApart (insert_entry (λ x y. slice_cmp cmp-value.it x.items y.items) es key (p ∷ []))
+  pub insert_apart : (es : List (Key × List ℕ)) → AreApart es → lookup (finds key) es ≡ None → AreApart (insert_entry order es key (p ∷ []))
   insert_apart [] a f = (omega arith, λ r kept. kept, tt)
   insert_apart (e ∷ es) a f =
-      let g = if_none (finds key.items e.0) e.1 (lookup (finds key.items) es) f in
-      placed AreApart (slice_cmp cmp-value.it key.items e.0.items) _ _ _ g.0
-      (omega arith, λ r kept. none_kept key.items (e ∷ es) r f kept, a)
-      (a.0, λ r kept. elim ((insert_adds es g.1 (key_of e.0) r).0 kept) [ inl k ↦ a.1 r k | inr s ↦ differs key.items e.0 g.0 s.0 ], insert_apart es a.2 g.1)
+      let g = if_none (finds key e.0) e.1 (lookup (finds key) es) f in
+      placed AreApart (order key e.0) _ _ _ g.0
+      (omega arith, λ r kept. none_kept key (e ∷ es) r f kept, a)
+      (a.0, λ r kept. elim ((insert_adds es g.1 (key_of e.0) r).0 kept) [ inl k ↦ a.1 r k | inr s ↦ differs key e.0 g.0 s.0 ], insert_apart es a.2 g.1)
+
+-- an insert that leaves the keys as they are writes at the key that is found
+module _ (key : Key) (new : List ℕ) where
+  pub insert_sets : (es : List (Key × List ℕ)) → keys_of (insert_entry order es key new) ≡ keys_of es → insert_entry order es key new ≡ set_value (finds key) es new
+  insert_sets [] h = absurd (cc)
+  insert_sets (e ∷ es) h = by (order key e.0) h (λ g. insert_sets es g)
+    where
+      by : (o : Ordering) → keys_of (match_ordering o ((key, new) ∷ e ∷ es) ((e.0, new) ∷ es) (e ∷ insert_entry order es key new)) ≡ keys_of (e ∷ es)
+          → (keys_of (insert_entry order es key new) ≡ keys_of es → insert_entry order es key new ≡ set_value (finds key) es new)
+          → match_ordering o ((key, new) ∷ e ∷ es) ((e.0, new) ∷ es) (e ∷ insert_entry order es key new) ≡ cond (is_eq o) ((e.0, new) ∷ es) (e ∷ set_value (finds key) es new)
+      by Less g later = let longer = ap (λ (ks : List Key). length ks) g in absurd (omega (arith, longer))
+      by Equal g later = refl
+      by Greater g later = let same : keys_of (insert_entry order es key new) ≡ keys_of es = cc in ap (λ xs. e ∷ xs) (later same)
 
 -- after `add` at the key that is found, whether it had memory or not
-module _ {X E : Type 0} (r : Result X E) (key : List Atom) (es : List (Key × List ℕ)) (ps new : List ℕ) (p : ℕ) (f : lookup (finds key) es ≡ Some ps) where
+module _ {X E : Type 0} (r : Result X E) (key : Key) (es : List (Key × List ℕ)) (ps new : List ℕ) (p : ℕ) (f : lookup (finds key) es ≡ Some ps) where
   pub apart_after : AreApart es → OnOk r (AddsPlace ps new p) → OnErr r (new ≡ ps) → AreApart (set_value (finds key) es new)
   apart_after a = by r
     where
@@ -186,16 +200,29 @@ module _ {X E : Type 0} (r : Result X E) (key : List Atom) (es : List (Key × Li
       by (Ok x) added same = set_apart key es ps new p a f added
       by (Err e) added same = rw (same, set_value_same (finds key) es ps f) a
 
-  pub adds_after : OnOk r (AddsPlace ps new p) → OnOk r (Adds (pairs_of es) (pairs_of (set_value (finds key) es new)) (map value_of key) p)
-  adds_after = by r
-    where
-      by : (s : Result X E) → OnOk s (AddsPlace ps new p) → OnOk s (Adds (pairs_of es) (pairs_of (set_value (finds key) es new)) (map value_of key) p)
-      by (Ok x) added = set_adds key es ps new p f added
-      by (Err e) added = tt
+-- where it had none, nothing changed
+pub same_after : {X E : Type 0} (r : Result X E) (key : Key) (es : List (Key × List ℕ)) (ps new : List ℕ) (old : List Pair) → lookup (finds key) es ≡ Some ps → new ≡ ps → pairs_of es ≡ old → OnErr r (pairs_of (set_value (finds key) es new) ≡ old)
+same_after (Ok x) key es ps new old f same is = tt
+same_after (Err e) key es ps new old f same is = ap pairs_of (ap (set_value (finds key) es) same ∙ set_value_same (finds key) es ps f) ∙ is
 
-  pub same_after : OnErr r (new ≡ ps) → OnErr r (pairs_of (set_value (finds key) es new) ≡ pairs_of es)
-  same_after = by r
-    where
-      by : (s : Result X E) → OnErr s (new ≡ ps) → OnErr s (pairs_of (set_value (finds key) es new) ≡ pairs_of es)
-      by (Ok x) same = tt
-      by (Err e) same = rw (same, set_value_same (finds key) es ps f) refl
+-- after one look-up that puts a place at the key, where it has none
+module _ (key : Key) (p : ℕ) (es new : List (Key × List ℕ)) (apart : AreApart es) where
+  stays : (ps : List ℕ) → lookup (finds key) es ≡ Some ps → new ≡ insert_entry order es key ps → keys_of new ≡ keys_of es → new ≡ es
+  stays ps f is same = is ∙ insert_sets key ps es (ap keys_of (sym is) ∙ same) ∙ set_value_same (finds key) es ps f
+
+  pub looked_up_apart : (o : Option (List ℕ)) → o ≡ lookup (finds key) es → new ≡ insert_entry order es key (unwrap_or o (p ∷ [])) → (IsSome o → keys_of new ≡ keys_of es) → AreApart new
+  looked_up_apart None f is same = subst AreApart (sym is) (insert_apart key p es apart (sym f))
+  looked_up_apart (Some ps) f is same = subst AreApart (sym (stays ps (sym f) is (same refl))) apart
+
+  -- where there are as many entries as before, the key was known
+  pub looked_up_known : (o : Option (List ℕ)) (q : ℕ) → o ≡ lookup (finds key) es → new ≡ insert_entry order es key (unwrap_or o (p ∷ [])) → (IsSome o → keys_of new ≡ keys_of es)
+      → length new ≡ length es + (if is_some o then 0 else 1) → length new ≡ length es → IsLeastPlace (unwrap_or o (p ∷ [])) q
+      → IsLeast (pairs_of es) (key_of key) (Some q) × (pairs_of new ≡ pairs_of es)
+  looked_up_known None q f is same len known least = absurd (omega (arith, len, known))
+  looked_up_known (Some ps) q f is same len known least = (least_found key es ps q apart (sym f) least, ap pairs_of (stays ps (sym f) is (same refl)))
+
+  pub looked_up_new : (o : Option (List ℕ)) → o ≡ lookup (finds key) es → new ≡ insert_entry order es key (unwrap_or o (p ∷ []))
+      → length new ≡ length es + (if is_some o then 0 else 1) → (length new ≡ length es → ⊥)
+      → IsLeast (pairs_of es) (key_of key) None × Adds (pairs_of es) (pairs_of new) (key_of key) p
+  looked_up_new None f is len other = (λ q k. none_kept key es q (sym f) k, subst (λ (xs : List (Key × List ℕ)). Adds (pairs_of es) (pairs_of xs) (key_of key) p) (sym is) (insert_adds key p es (sym f)))
+  looked_up_new (Some ps) f is len other = absurd (other (omega (arith, len)))

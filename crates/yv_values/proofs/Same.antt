@@ -1,12 +1,12 @@
 -- The comparison of atoms tells whether they are the same value.
-use Rattle.std.proofs.Common.{◌≡◌, ◌<◌, ◌≤◌, Bool, true, false, ◌&&◌, List, [], ◌∷◌, length, get_or, refl, sym, ◌∙◌, ap, string_bytes, map, pos, negsuc, Ordering, subst, eqb, arith}
+use Rattle.std.proofs.Common.{◌≡◌, ◌<◌, ◌≤◌, Bool, true, false, ◌&&◌, List, [], ◌∷◌, length, get_or, refl, sym, ◌∙◌, ap, map, pos, negsuc, Ordering, subst, eqb, arith}
 use Rattle.std.specs.Bool.{Decides}
 use mathlib.Core.Bool.{beq}
 use Rattle.std.specs.Cmp.Lexicographic.{pointwise, slice_cmp}
 use Rattle.std.specs.Ordering.{is_eq, ordering_then}
 use Rattle.std.specs.declared.cmp.Ordering.TheVariants.{Less, Equal, Greater}
 use Rattle.std.specs.declared.alloc.Global.{Global}
-use Rattle.std.specs.Rc.{rc_str_bytes}
+use Rattle.std.specs.Rc.{rc_str_bytes, rc_slice_items}
 use Rattle.std.specs.declared.rc.RcStr.{RcStr}
 use Rattle.std.proofs.lemmas.Slice.Eq.{bytes_eq-Decides}
 use Rattle.std.proofs.lemmas.Bool.Decides.{Decides-eqb}
@@ -50,12 +50,13 @@ same_texts (x ∷ xs) (y ∷ ys) =
 
 pub same_atoms : (a b : Atom) → Decides (eq-value.it a b) (value_of a ≡ value_of b)
 same_atoms (atom.Whole x) (atom.Whole y) = along _ (same_integers x y) (λ e. ap whole e) (λ e. cc)
-same_atoms (atom.Decimal d x) (atom.Decimal e y) = along _ (both _ _ (Decides-eqb d e) (same_integers x y)) (λ p. let f = p.0 in let g = p.1 in cc) (λ p. (cc, cc))
-same_atoms (atom.Text x) (atom.Text y) = along _ (bytes_eq-Decides (string_bytes x) (string_bytes y)) (λ e. ap text e) (λ e. cc)
+same_atoms (atom.Decimal d x) (atom.Decimal e y) = along _ (both _ _ (Decides-eqb d e) (Decides-eqb x y)) (λ p. let f = p.0 in let g = p.1 in cc) (λ p. (cc, cc))
+same_atoms (atom.DecimalBelow d x) (atom.DecimalBelow e y) = along _ (both _ _ (Decides-eqb d e) (Decides-eqb x y)) (λ p. let f = p.0 in let g = p.1 in cc) (λ p. (cc, cc))
+same_atoms (atom.Text x) (atom.Text y) = along _ (bytes_eq-Decides (rc_str_bytes x) (rc_str_bytes y)) (λ e. ap text e) (λ e. cc)
 same_atoms (atom.Boolean x) (atom.Boolean y) = same_bools x y
 same_atoms (atom.Name x) (atom.Name y) = along _ (bytes_eq-Decides (rc_str_bytes x) (rc_str_bytes y)) (λ e. ap name e) (λ e. cc)
-same_atoms (atom.Bits x) (atom.Bits y) = along _ (same_texts x.items y.items) (λ e. ap bits e) (λ e. cc)
-same_atoms (atom.Binary x) (atom.Binary y) = along _ (bytes_eq-Decides x.items y.items) (λ e. ap binary e) (λ e. cc)
+same_atoms (atom.Bits x) (atom.Bits y) = along _ (same_texts (rc_slice_items x) (rc_slice_items y)) (λ e. ap bits e) (λ e. cc)
+same_atoms (atom.Binary x) (atom.Binary y) = along _ (bytes_eq-Decides (rc_slice_items x) (rc_slice_items y)) (λ e. ap binary e) (λ e. cc)
 same_atoms (atom.Identity x m) (atom.Identity y n) =
     along _ (both _ _ (bytes_eq-Decides (rc_str_bytes x) (rc_str_bytes y)) (bytes_eq-Decides (rc_str_bytes m) (rc_str_bytes n))) (λ p. let f = p.0 in let g = p.1 in cc) (λ p. (cc, cc))
 same_atoms atom.Empty atom.Empty = (λ _. refl, λ _. refl)

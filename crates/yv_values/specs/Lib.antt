@@ -2,6 +2,7 @@ pub mod Count
 pub mod Identities
 pub mod InnerBits
 pub mod InnerDefaults
+pub mod InnerKeys
 pub mod InnerNames
 pub mod InnerPatterns
 pub mod InnerPlaces

@@ -1,9 +1,10 @@
 -- What a value is (RFC 7950, section 9): its kind and content. Two values are the same where they are one of these.
-use Rattle.std.specs.Prelude.{ℕ, ℤ, List, Bool, string_bytes, map}
-use Rattle.std.specs.Rc.{rc_str_bytes}
+use Rattle.std.specs.Prelude.{ℕ, ℤ, List, Bool, map}
+use Rattle.std.specs.Rc.{rc_str_bytes, rc_slice_items}
 use Rattle.std.specs.declared.rc.RcStr.{RcStr}
 use Rattle.std.specs.declared.alloc.Global.{Global}
 use Rattle.yv_numbers.specs.Numbers.{integer}
+use Rattle.yv_numbers.specs.declared.integer.Integer.TheVariants.{Natural, Below}
 use Rattle.yv_values.specs.declared.value.Atom.{Atom}
 use Rattle.yv_values.specs.declared.value.Atom.TheVariants as atom
 
@@ -27,11 +28,12 @@ texts ss = map (λ s. rc_str_bytes s) ss
 -- the value that the program keeps
 abbrev pub value_of : Atom → Val
 value_of (atom.Whole n) = whole (integer n)
-value_of (atom.Decimal d n) = decimal d (integer n)
-value_of (atom.Text s) = text (string_bytes s)
+value_of (atom.Decimal d n) = decimal d (integer (Natural n))
+value_of (atom.DecimalBelow d n) = decimal d (integer (Below n))
+value_of (atom.Text s) = text (rc_str_bytes s)
 value_of (atom.Boolean b) = boolean b
 value_of (atom.Name s) = name (rc_str_bytes s)
-value_of (atom.Bits ss) = bits (texts ss.items)
-value_of (atom.Binary v) = binary v.items
+value_of (atom.Bits ss) = bits (texts (rc_slice_items ss))
+value_of (atom.Binary v) = binary (rc_slice_items v)
 value_of (atom.Identity s m) = identity (rc_str_bytes m) (rc_str_bytes s)
 value_of atom.Empty = empty

@@ -8,6 +8,7 @@ use crate::value::Value;
 use base64::DecodeAllocError;
 use base64::engine::general_purpose::STANDARD;
 use std::alloc::{AllocError, Global};
+use std::rc::RcSlice;
 use yv_numbers::{Integer, Intervals};
 
 /// The octets that the text writes in padded standard base64, where there are so many.
@@ -20,7 +21,7 @@ pub fn binary_in(
 {
     match STANDARD.decode(alloc, text.as_bytes()) {
         Ok(octets) if lengths.holds(Integer::Natural(octets.len() as u64)) => {
-            Ok(Some(Value::binary(octets)))
+            Ok(Some(Value::binary(RcSlice::from_vec(octets)?)))
         }
         Ok(_) => Ok(None),
         Err(DecodeAllocError::OutOfMemory) => Err(AllocError),

@@ -10,7 +10,7 @@ use crate::name::is_same;
 use crate::names::Names;
 use crate::value::Value;
 use std::alloc::{AllocError, Global};
-use std::rc::RcStr;
+use std::rc::{RcSlice, RcStr};
 
 /// The set of bits that the text names, where it is a value of the type.
 pub fn bits_in(alloc: Global, names: &Names, text: &str) -> Result<Option<Value>, AllocError>
@@ -52,7 +52,7 @@ fn bits_of(
     ensures { IfOk result (λ found. found ≡ bits_of names.now text.now (map (λ w. w.now) words.now)) }
 {
     if is_trimmed(text.as_bytes()) && are_named(names, words) && are_distinct(words) {
-        Ok(Some(Value::bits(chosen(alloc, names, words)?)))
+        Ok(Some(Value::bits(RcSlice::from_vec(chosen(alloc, names, words)?)?)))
     } else {
         Ok(None)
     }

@@ -1,12 +1,13 @@
 //! Indexes: which keys were kept, and where.
-ghost use Rattle.std.specs.Prelude.{◌≡◌, ℕ, ◌+◌, ◌≤◌, ◌⊎◌, [], is_ok, IfOk, OnOk, OnErr, IsTrue, ◌↔◌, if◌then◌else◌, unwrap_or, option_map};
+ghost use Rattle.std.specs.Prelude.{◌≡◌, true, false, ℕ, ◌+◌, ◌≤◌, ◌⊎◌, [], is_ok, IfOk, OnOk, OnErr, IsTrue, ◌↔◌, if◌then◌else◌, unwrap_or, option_map};
 ghost use Rattle.yv_values.specs.Count.{counted};
 ghost use Rattle.yv_values.specs.Pairs.{Keeps, IsLeast, Adds, AddsIfNone, IsAlone, IsWithin};
 
 use crate::defaults::Defaults;
+use crate::key::Key;
 use crate::meter::Meter;
 use crate::places::Places;
-use crate::value::{Atom, Tuple};
+use crate::value::Tuple;
 use std::alloc::{AllocError, Global};
 use std::collections::BTreeMap;
 use std::marker::Model;
@@ -16,7 +17,7 @@ use std::marker::Model;
 #[derive(Drop)]
 pub struct Index {
     alloc: Global,
-    places: BTreeMap<Vec<Atom>, Places>,
+    places: BTreeMap<Key, Places>,
 }
 
 impl Model for Index {
@@ -48,10 +49,10 @@ impl Index {
         ensures kept { OnOk result (Adds self.old self.new key place) }
         ensures same { OnErr result (self.new ≡ self.old) }
     {
-        match self.places.get_mut(key.atoms()) {
-            Some(places) => places.add(place),
-            None => self.keep_new(key, place),
+        if self.add(&key, place)? {
+            return Ok(());
         }
+        self.keep_new(key, place)
     }
 
     /// The least place that was kept with the same key; where there is none the pair is kept. It is one step.
@@ -97,35 +98,41 @@ impl Index {
         self.is_within(key, first, last) || is_among(key, others)
     }
 
-    // The least place that was kept with the same key; where there is none the pair is kept. It counts no step.
+    // The least place that was kept with the same key; where there is none the pair is kept. It counts no step, and takes one search.
     pub(crate) fn find_or_keep(&mut self, key: Tuple, place: u64) -> Result<Option<u64>, AllocError>
         ensures least { IfOk result (λ found. IsLeast self.old key found) }
         ensures kept { AddsIfNone result self.old self.new key place }
     {
-        let found = self.least(&key);
-        if found.is_none() {
-            self.keep_new(key, place)?;
+        let count = self.places.len();
+        let first = Places::one(self.alloc, place);
+        let least = self.places.entry(key.into_key())?.or_insert(first).least();
+        if self.places.len() == count {
+            return Ok(Some(least));
         }
-        Ok(found)
+        Ok(None)
     }
 
     // The same as `within`, and counts no step.
     pub(crate) fn is_within(&self, key: &Tuple, first: u64, last: u64) -> bool
         ensures { IsTrue result ↔ IsWithin self.now key.now first last }
     {
-        match self.places.get(key.atoms()) {
+        match self.places.get(key.as_key()) {
             Some(places) => places.is_within(first, last),
             None => false,
         }
     }
 
-    fn least(&self, key: &Tuple) -> Option<u64>
-        ensures { IsLeast self.now key.now result }
+    // Adds a place to those of a key, where there are some, and says whether there are.
+    fn add(&mut self, key: &Tuple, place: u64) -> Result<bool, AllocError>
+        ensures added { IfOk result (λ known. known ≡ true → Adds self.old self.new key.now place) }
+        ensures none { IfOk result (λ known. known ≡ false → (self.new ≡ self.old) × ((p : ℕ) → Keeps self.old key.now p → ⊥)) }
+        ensures same { OnErr result (self.new ≡ self.old) }
     {
-        match self.places.get(key.atoms()) {
-            Some(places) => Some(places.least()),
-            None => None,
+        match self.places.get_mut(key.as_key()) {
+            Some(places) => places.add(place)?,
+            None => return Ok(false),
         }
+        Ok(true)
     }
 
     // Keeps a key that wasn't kept before.
@@ -134,8 +141,8 @@ impl Index {
         ensures kept { OnOk result (Adds self.old self.new key place) }
         ensures same { OnErr result (self.new ≡ self.old) }
     {
-        let places = Places::new(self.alloc, place)?;
-        self.places.insert(key.into_atoms(), places)?;
+        let places = Places::one(self.alloc, place);
+        self.places.insert(key.into_key(), places)?;
         Ok(())
     }
 }

@@ -9,6 +9,7 @@ mod default_text;
 mod defaults;
 mod identity;
 mod index;
+mod key;
 pub mod laws;
 mod members;
 mod meter;

@@ -1,25 +1,36 @@
 //! Places where something was kept.
 ghost use Rattle.std.specs.Prelude.{◌≡◌, ℕ, ◌≤◌, ◌<◌, [], ◌∷◌, IfOk, OnOk, OnErr, IsTrue, ◌↔◌, length, slice_index};
+ghost use Rattle.std.specs.List.Sorted.{IsNonDecreasing};
 ghost use Rattle.yv_values.specs.Places.{AddsPlace, IsLeastPlace, HasBetween};
 
 use std::alloc::{AllocError, Global};
 use std::marker::Model;
 
-/// One place or more where something was kept, in ascending order. Eight bytes each.
+/// One place or more where something was kept, in ascending order. One takes no memory of its own, since most keys are kept at one
+/// place; of more each takes eight bytes.
 #[derive(Drop)]
 pub struct Places {
-    places: Vec<u64>,
+    alloc: Global,
+    kept: Kept,
+}
+
+// One place, or a list of them.
+#[derive(Drop)]
+pub(crate) enum Kept {
+    One(u64),
+    Many(Box<Vec<u64>>),
 }
 
 impl Model for Places {
     ghost use Rattle.std.specs.Prelude.{ℕ, ◌<◌, List, length};
     ghost use Rattle.std.specs.List.Sorted.{IsNonDecreasing};
+    ghost use Rattle.yv_values.specs.InnerPlaces.{places_of};
 
     ghost Value = { List ℕ };
 
-    ghost view = { λ p. p.places.items };
+    ghost view = { λ p. places_of p.kept };
 
-    ghost invariant = { λ p. (0 < length p.places.items) × IsNonDecreasing p.places.items };
+    ghost invariant = { λ p. (0 < length (places_of p.kept)) × IsNonDecreasing (places_of p.kept) };
 }
 
 impl Places {
@@ -27,9 +38,17 @@ impl Places {
     pub fn new(alloc: Global, place: u64) -> Result<Places, AllocError>
         ensures { IfOk result (λ places. places ≡ place ∷ []) }
     {
-        let mut places = Vec::new(alloc);
-        places.push(place)?;
-        Ok(Places { places })
+        Ok(Places::one(alloc, place))
+    }
+
+    // One place; no memory is asked for.
+    pub(crate) fn one(alloc: Global, place: u64) -> Places
+        ensures { result ≡ place ∷ [] }
+    {
+        Places {
+            alloc,
+            kept: Kept::One(place),
+        }
     }
 
     /// Adds a place; it costs least where the places come in ascending order.
@@ -37,31 +56,76 @@ impl Places {
         ensures added { OnOk result (AddsPlace self.old self.new place) }
         ensures same { OnErr result (self.new ≡ self.old) }
     {
-        let at = self.count_below(place);
-        self.places.insert(at, place)?;
-        Ok(())
+        match &mut self.kept {
+            Kept::One(first) => {
+                let both = two(self.alloc, *first, place)?;
+                self.kept = Kept::Many(Box::new(self.alloc, both)?);
+                Ok(())
+            }
+            Kept::Many(places) => add_to(places, place),
+        }
     }
 
     pub(crate) fn least(&self) -> u64
         ensures { IsLeastPlace self.now result }
     {
-        self.places[0]
+        self.as_slice()[0]
     }
 
     /// Whether one of the places lies from the first to the last, both included.
     pub fn is_within(&self, first: u64, last: u64) -> bool
         ensures { IsTrue result ↔ HasBetween self.now first last }
     {
-        let at = self.count_below(first);
-        at < self.places.len() && self.places[at] <= last
+        let places = self.as_slice();
+        let at = count_below(places, first);
+        at < places.len() && places[at] <= last
     }
 
-    // How many places are below this one.
-    fn count_below(&self, place: u64) -> usize
-        ensures bound { result ≤ length self.now }
-        ensures below { (k : ℕ) → k < result → slice_index self.now k < place }
-        ensures above { (k : ℕ) → result ≤ k → k < length self.now → place ≤ slice_index self.now k }
+    // They, in ascending order.
+    fn as_slice(&self) -> &[u64]
+        ensures value { result.now ≡ self.now }
+        ensures some { 0 < length result.now }
+        ensures order { IsNonDecreasing result.now }
     {
-        self.places.partition_point(|other| *other < place)
+        match &self.kept {
+            Kept::One(place) => std::slice::from_ref(place),
+            Kept::Many(places) => places.as_slice(),
+        }
     }
+}
+
+// Two places, in ascending order.
+fn two(alloc: Global, first: u64, place: u64) -> Result<Vec<u64>, AllocError>
+    ensures added { IfOk result (λ both. AddsPlace (first ∷ []) both.items place) }
+    ensures some { IfOk result (λ both. 0 < length both.items) }
+    ensures order { IfOk result (λ both. IsNonDecreasing both.items) }
+{
+    let mut both = Vec::new(alloc);
+    both.push(first)?;
+    add_to(&mut both, place)?;
+    Ok(both)
+}
+
+// Adds a place to others.
+fn add_to(places: &mut Vec<u64>, place: u64) -> Result<(), AllocError>
+    requires some { 0 < length places.old.items }
+    requires order { IsNonDecreasing places.old.items }
+    ensures added { OnOk result (AddsPlace places.old.items places.new.items place) }
+    ensures same { OnErr result (places.new.items ≡ places.old.items) }
+    ensures some { 0 < length places.new.items }
+    ensures order { IsNonDecreasing places.new.items }
+{
+    let at = count_below(places.as_slice(), place);
+    places.insert(at, place)?;
+    Ok(())
+}
+
+// How many of these places are below this one.
+fn count_below(places: &[u64], place: u64) -> usize
+    requires { IsNonDecreasing places.now }
+    ensures bound { result ≤ length places.now }
+    ensures below { (k : ℕ) → k < result → slice_index places.now k < place }
+    ensures above { (k : ℕ) → result ≤ k → k < length places.now → place ≤ slice_index places.now k }
+{
+    places.partition_point(|other| *other < place)
 }

@@ -6,6 +6,7 @@ ghost use Rattle.yv_values.specs.Texts.{text_in};
 use crate::plain::TextType;
 use crate::value::Value;
 use std::alloc::{AllocError, Global};
+use std::rc::RcStr;
 use yv_numbers::Integer;
 use yv_pattern::Matchers;
 use yv_statement::is_legal_text;
@@ -23,7 +24,7 @@ pub fn text_in<'t>(
         && is_legal_text(text)
         && plain.patterns.pass(alloc, matchers, text)?
     {
-        Ok(Some(Value::text(String::from_str(alloc, text)?)))
+        Ok(Some(Value::text(RcStr::from_str(alloc, text)?)))
     } else {
         Ok(None)
     }

@@ -1,22 +1,26 @@
 //! Values, and tuples of them.
 ghost use Rattle.std.specs.Prelude.{◌≡◌, [], ◌∷◌, ◌++◌, IfOk, is_ok, IsTrue, ◌↔◌, if◌then◌else◌};
 
+use crate::key::Key;
 use std::alloc::{AllocError, Global};
 use std::marker::Model;
-use std::rc::RcStr;
+use std::rc::{RcSlice, RcStr};
 use yv_numbers::Integer;
 
-/// What a value holds. Its order serves to find keys again, and means nothing besides. Names of a type are texts that the type keeps, so
-/// that a value takes no more of memory where they are long.
+/// What a value holds, in 24 bytes. Its order serves to find keys again, and means nothing besides. Texts and lists are shared by the
+/// copies of a value, and names are texts that the type keeps, so that neither costs more where they are long.
 #[derive(PartialEq, Eq, PartialOrd, Ord, Drop)]
 pub(crate) enum Atom {
     Whole(Integer),
-    Decimal(u32, Integer),
-    Text(String),
+    /// A decimal from zero on: its digits behind the point, and the number.
+    Decimal(u32, u64),
+    /// A decimal below zero: its digits behind the point, and n where the number is -1 - n.
+    DecimalBelow(u32, u64),
+    Text(RcStr),
     Boolean(bool),
     Name(RcStr),
-    Bits(Vec<RcStr>),
-    Binary(Vec<u8>),
+    Bits(RcSlice<RcStr>),
+    Binary(RcSlice<u8>),
     /// Its name and its module, in this order, since names differ sooner.
     Identity(RcStr, RcStr),
     Empty,
@@ -38,10 +42,9 @@ impl Model for Value {
 
 impl Value {
     ghost use Rattle.yv_numbers.specs.Numbers.{integer};
-    ghost use Rattle.yv_values.specs.Values.{whole, decimal, boolean, name, bits, binary, identity, empty};
+    ghost use Rattle.yv_values.specs.Values.{whole, decimal, boolean, name, bits, binary, identity, empty, texts};
     ghost use Rattle.yv_values.specs.Values as spec;
-    ghost use Rattle.std.specs.Prelude.{string_bytes};
-    ghost use Rattle.std.specs.Rc.{rc_str_bytes};
+    ghost use Rattle.std.specs.Rc.{rc_str_bytes, rc_slice_items};
 
     pub(crate) fn whole(number: Integer) -> Value
         ensures { result ≡ whole (integer number) }
@@ -54,9 +57,11 @@ impl Value {
     pub(crate) fn decimal(digits: u32, number: Integer) -> Value
         ensures { result ≡ decimal digits (integer number) }
     {
-        Value {
-            atom: Atom::Decimal(digits, number),
-        }
+        let atom = match number {
+            Integer::Natural(scaled) => Atom::Decimal(digits, scaled),
+            Integer::Below(scaled) => Atom::DecimalBelow(digits, scaled),
+        };
+        Value { atom }
     }
 
     pub(crate) fn boolean(truth: bool) -> Value
@@ -75,24 +80,24 @@ impl Value {
         }
     }
 
-    pub(crate) fn text(text: String) -> Value
-        ensures { result ≡ spec.text (string_bytes text) }
+    pub(crate) fn text(text: RcStr) -> Value
+        ensures { result ≡ spec.text (rc_str_bytes text) }
     {
         Value {
             atom: Atom::Text(text),
         }
     }
 
-    pub(crate) fn binary(octets: Vec<u8>) -> Value
-        ensures { result ≡ binary octets.items }
+    pub(crate) fn binary(octets: RcSlice<u8>) -> Value
+        ensures { result ≡ binary (rc_slice_items octets) }
     {
         Value {
             atom: Atom::Binary(octets),
         }
     }
 
-    pub(crate) fn bits(names: Vec<RcStr>) -> Value
-        ensures { result ≡ bits (texts names.items) }
+    pub(crate) fn bits(names: RcSlice<RcStr>) -> Value
+        ensures { result ≡ bits (texts (rc_slice_items names)) }
     {
         Value {
             atom: Atom::Bits(names),
@@ -113,12 +118,12 @@ impl Value {
         Value { atom: Atom::Empty }
     }
 
-    /// The same value once more.
-    pub fn copy(&self, alloc: Global) -> Result<Value, AllocError>
+    /// The same value once more, over the same texts and lists: it takes no memory, however long they are.
+    pub fn copy(&self, _alloc: Global) -> Result<Value, AllocError>
         ensures { IfOk result (λ copy. copy ≡ self.now) }
     {
         Ok(Value {
-            atom: self.atom.copy(alloc)?,
+            atom: self.atom.copy()?,
         })
     }
 }
@@ -126,61 +131,51 @@ impl Value {
 impl Atom {
     ghost use Rattle.yv_values.specs.Values.{value_of};
 
-    fn copy(&self, alloc: Global) -> Result<Atom, AllocError>
+    fn copy(&self) -> Result<Atom, AllocError>
         ensures { IfOk result (λ copy. value_of copy ≡ value_of self.now) }
     {
         match self {
             Atom::Whole(number) => Ok(Atom::Whole(*number)),
             Atom::Decimal(digits, number) => Ok(Atom::Decimal(*digits, *number)),
-            Atom::Text(text) => Ok(Atom::Text(String::from_str(alloc, text.as_str())?)),
+            Atom::DecimalBelow(digits, number) => Ok(Atom::DecimalBelow(*digits, *number)),
+            Atom::Text(text) => Ok(Atom::Text(text.clone()?)),
             Atom::Boolean(truth) => Ok(Atom::Boolean(*truth)),
             Atom::Name(name) => Ok(Atom::Name(name.clone()?)),
-            Atom::Bits(names) => Ok(Atom::Bits(all_copied(alloc, names)?)),
-            Atom::Binary(octets) => Ok(Atom::Binary(Vec::from_slice(alloc, octets)?)),
+            Atom::Bits(names) => Ok(Atom::Bits(names.clone()?)),
+            Atom::Binary(octets) => Ok(Atom::Binary(octets.clone()?)),
             Atom::Identity(name, module) => Ok(Atom::Identity(name.clone()?, module.clone()?)),
             Atom::Empty => Ok(Atom::Empty),
         }
     }
 }
 
-ghost use Rattle.yv_values.specs.Values.{texts};
-
-// The same list once more, over the same texts.
-fn all_copied(alloc: Global, names: &[RcStr]) -> Result<Vec<RcStr>, AllocError>
-    ensures { IfOk result (λ copy. texts copy.items ≡ texts names.now) }
-{
-    let mut copy = Vec::new(alloc);
-    for name in names {
-        copy.push(name.clone()?)?;
-    }
-    Ok(copy)
-}
-
 /// Values in a row, as a key of an `Index`.
 #[derive(Drop)]
 pub struct Tuple {
-    atoms: Vec<Atom>,
+    alloc: Global,
+    key: Key,
 }
 
 impl Model for Tuple {
-    ghost use Rattle.std.specs.Prelude.{List, map};
-    ghost use Rattle.yv_values.specs.Values.{Val, value_of};
+    ghost use Rattle.std.specs.Prelude.{List};
+    ghost use Rattle.yv_values.specs.InnerKeys.{key_of};
+    ghost use Rattle.yv_values.specs.Values.{Val};
 
     ghost Value = { List Val };
 
-    ghost view = { λ t. map value_of t.atoms.items };
+    ghost view = { λ t. key_of t.key };
 }
 
 impl Tuple {
-    ghost use Rattle.std.specs.Prelude.{map};
-    ghost use Rattle.yv_values.specs.Values.{value_of};
+    ghost use Rattle.yv_values.specs.InnerKeys.{key_of};
 
     /// A tuple of no values.
     pub fn new(alloc: Global) -> Tuple
         ensures { result ≡ [] }
     {
         Tuple {
-            atoms: Vec::new(alloc),
+            alloc,
+            key: Key::Nothing,
         }
     }
 
@@ -188,7 +183,7 @@ impl Tuple {
     pub fn push(&mut self, value: Value) -> Result<(), AllocError>
         ensures { self.new ≡ (if is_ok result then self.old ++ value ∷ [] else self.old) }
     {
-        self.atoms.push(value.atom)?;
+        self.key.push(self.alloc, value.atom)?;
         Ok(())
     }
 
@@ -196,21 +191,21 @@ impl Tuple {
     pub(crate) fn is_alone(&self, value: &Value) -> bool
         ensures { IsTrue result ↔ (self.now ≡ value.now ∷ []) }
     {
-        match self.atoms.as_slice() {
+        match self.key.as_slice() {
             [atom] => *atom == value.atom,
             _ => false,
         }
     }
 
-    pub(crate) fn atoms(&self) -> &[Atom]
-        ensures { map value_of result.now ≡ self.now }
+    pub(crate) fn as_key(&self) -> &Key
+        ensures { key_of result.now ≡ self.now }
     {
-        self.atoms.as_slice()
+        &self.key
     }
 
-    pub(crate) fn into_atoms(self) -> Vec<Atom>
-        ensures { map value_of result.items ≡ self }
+    pub(crate) fn into_key(self) -> Key
+        ensures { key_of result ≡ self }
     {
-        self.atoms
+        self.key
     }
 }

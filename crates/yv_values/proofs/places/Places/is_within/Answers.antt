@@ -1,18 +1,18 @@
-use Rattle.std.proofs.Common.{List, ℕ, length, ap, arith}
-use Rattle.std.proofs.lemmas.List.{get_or_read}
+use Rattle.std.proofs.Common.{length, get_or, refl, arith}
 use Rattle.yv_values.proofs.Ascending.{within_here, none_within, decided_past}
 use Rattle.yv_values.proofs.places.Places.is_within.Goals as goal
 
-pub returns-then-at-len : goal.returns-then-at-len
-returns-then-at-len c =
-    let xs = c.self.inside.places.items in
+pub returns-then-at-places : goal.returns-then-at-places
+returns-then-at-places c =
+    let xs = c.as_slice-places.result.now in
     let i = c.count_below-at.result in
     let h = c.count_below-at.ensures in
-    let as_long = ap (λ (ys : List ℕ). length ys) c.self.view_is in
-    rw (← c.self.view_is) (within_here xs i c.args.first c.args.last c.self.invariant.1 (rw c.self.view_is h.below) c.index.result.now (omega arith) (rw c.self.view_is (h.above i (omega arith) (omega (arith, as_long)))) (get_or_read xs i _ (omega arith) c.index.ensures 0))
+    let inside = c.if-at-places.true in
+    rw (← c.as_slice-places.ensures.value) (within_here xs i c.args.first c.args.last c.as_slice-places.ensures.order h.below (get_or xs i 0) (omega (arith, inside)) (h.above i (omega arith) (omega (arith, inside))) refl)
 
-pub returns-else-at-len : goal.returns-else-at-len
-returns-else-at-len c =
-    let xs = c.self.inside.places.items in
+pub returns-else-at-places : goal.returns-else-at-places
+returns-else-at-places c =
+    let xs = c.as_slice-places.result.now in
     let i = c.count_below-at.result in
-    rw (← c.self.view_is) (decided_past i c.len.result _ (omega arith) (none_within xs i c.args.first c.args.last c.self.invariant.1 (rw c.self.view_is c.count_below-at.ensures.below) (omega arith)))
+    let past = c.if-at-places.false in
+    rw (← c.as_slice-places.ensures.value) (decided_past i (length xs) _ (omega (arith, past)) (none_within xs i c.args.first c.args.last c.as_slice-places.ensures.order c.count_below-at.ensures.below (omega (arith, past))))

@@ -1,0 +1,11 @@
+use Rattle.yv_values.proofs.Ascending.{inserted, inserted_order}
+use Rattle.yv_values.proofs.places.add_to.Goals as goal
+
+pub returns-clause-added : goal.returns-clause-added
+returns-clause-added c = rw c.in_ok-insert.ensures.items (inserted c.args.places.now.items c.count_below-at.result c.args.place)
+
+pub returns-clause-order : goal.returns-clause-order
+returns-clause-order c =
+    let h = c.count_below-at.ensures in
+    let same = c.as_slice.ensures.value in
+    rw c.in_ok-insert.ensures.items (inserted_order c.args.places.now.items c.count_below-at.result c.args.place c.requires.order (rw (← same) h.bound) (rw (← same) h.below) (rw (← same) h.above))
