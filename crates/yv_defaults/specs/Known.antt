@@ -13,9 +13,13 @@ use Rattle.yv_defaults.specs.declared.known.Defaults.{Defaults}
 abbrev pub text_in : Sparse WrittenText → ℕ → Option Written
 text_in said d = option_map written_of (at said d)
 
+-- the typedef that says the default of the numbered type
+abbrev pub typedef_in : Defaults → ℕ → Option ℕ
+typedef_in defaults k = at defaults.found k
+
 -- the default of the numbered type
 abbrev pub found_in : Defaults → ℕ → Option Written
-found_in defaults k = option_and_then (text_in defaults.said) (at defaults.found k)
+found_in defaults k = option_and_then (text_in defaults.said) (typedef_in defaults k)
 
 -- these are the defaults of the types of these files; how, only the readers ask
 pub record AreDefaults (files : Files) (defaults : Defaults) : Type 0 where

@@ -28,7 +28,7 @@ pub struct Defaults {
 
 impl Defaults {
     ghost use Rattle.yv_defaults.specs.Defaults.{HasDefault};
-    ghost use Rattle.yv_defaults.specs.Known.{AreDefaults, found_in};
+    ghost use Rattle.yv_defaults.specs.Known.{AreDefaults, found_in, typedef_in};
 
     /// Reads the defaults of these statements, the names and the bases being theirs, in time linear in statements: no way
     /// along typedefs is gone twice.
@@ -64,5 +64,13 @@ impl Defaults {
     {
         let typedef = *self.found.get(number)?;
         self.said.get(typedef)
+    }
+
+    /// The number of the typedef that says this default. Types with the same one have the same default.
+    pub fn typedef(&self, number: usize) -> Option<usize>
+        ensures number { result ≡ typedef_in self.now number }
+        ensures same { (j : ℕ) → typedef_in self.now j ≡ result → found_in self.now j ≡ found_in self.now number }
+    {
+        self.found.get(number).copied()
     }
 }

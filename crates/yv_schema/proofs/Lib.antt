@@ -16,6 +16,7 @@ pub mod Building
 pub mod Phases
 pub mod Resolving
 pub mod Typing
+pub mod Unlinked
 pub mod Counting
 pub mod Interior
 pub mod RequiredLinks

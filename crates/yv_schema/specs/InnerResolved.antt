@@ -1,11 +1,11 @@
 -- Only private clauses cite this: what comes of resolving the leafrefs of a schema tree.
-use Rattle.std.specs.Prelude.{◌≡◌, ℕ, ◌+◌, List, map, min, Option, None}
+use Rattle.std.specs.Prelude.{◌≡◌, ℕ, zero, suc, ◌+◌, List, [], ◌∷◌, map, min, Option, None}
 use Rattle.yv_statement.specs.Order.{IsLeast}
 use Rattle.yv_rows.specs.Files.{Files}
 use Rattle.yv_expansion.specs.declared.item.Origin.{Origin}
 use Rattle.yv_expansion.specs.declared.item.Origin.TheVariants as origin
 use Rattle.yv_final_tree.specs.Kept.{origin_at}
-use Rattle.yv_nodes.specs.Link.{AreLinked, reference_in}
+use Rattle.yv_nodes.specs.Link.{AreLinked, Link, reference_in}
 use Rattle.yv_nodes.specs.Numbers.{rows_from}
 use Rattle.yv_nodes.specs.Rows.{Row}
 use Rattle.yv_nodes.specs.Tree.{Forest}
@@ -31,6 +31,11 @@ origins_of b = map (λ x. origin_at b.final.items x.origin) (nodes_in b)
 -- rows, and what is said of them where copies of a node share it
 abbrev pub schema_by : List Row → (of : List (Option ℕ)) → (leafrefs : List Referral) → Schema
 schema_by rows of leafrefs = record { rows = rows; says = said_by of leafrefs }
+
+-- those of so many nodes without links
+abbrev pub no_links : ℕ → List (Option Link)
+no_links zero = []
+no_links (suc n) = None ∷ no_links n
 
 -- these are the rows of the tree that is stated of a basis with these files, of which the context tells
 pub record AreStated (files : Files) (c : Context) (rows : List Row) : Type 0 where

@@ -1,5 +1,5 @@
 //! The leafrefs of a schema tree, resolved.
-ghost use Rattle.std.specs.Prelude.{◌≡◌, ◌≢◌, [], None, map, length, IfOk};
+ghost use Rattle.std.specs.Prelude.{◌≡◌, ◌≢◌, ◌<◌, ◌^◌, [], None, map, length, IfOk};
 ghost use Rattle.yv_rows.specs.Lent.{lent_in, rows_in};
 ghost use Rattle.yv_final_tree.specs.Kept.{origin_at};
 ghost use Rattle.yv_nodes.specs.Numbers.{rows_from};
@@ -8,7 +8,7 @@ ghost use Rattle.yv_leafrefs.specs.Known.{AreLeafrefs};
 ghost use Rattle.yv_leafref_links.specs.Links.{AreLinks};
 ghost use Rattle.yv_schema.specs.Module.{Basis, stated_of};
 ghost use Rattle.yv_schema.specs.InnerContext.{Tells};
-ghost use Rattle.yv_schema.specs.InnerResolved.{AreStated, IsAnswered, schema_by, statement_number};
+ghost use Rattle.yv_schema.specs.InnerResolved.{AreStated, IsAnswered, no_links, schema_by, statement_number};
 
 use crate::context::Context;
 use std::alloc::{AllocError, Global};
@@ -71,8 +71,26 @@ fn statement_numbers(
     Ok(numbers)
 }
 
+// Nodes none of which is a leafref stay as they are, and have no links.
+fn without_leafrefs(alloc: Global, nodes: Nodes) -> Result<Resolved, AllocError>
+    ensures nodes { IfOk result (λ r. r.nodes ≡ nodes) }
+    ensures links { IfOk result (λ r. r.links ≡ no_links (length nodes.rows)) }
+    ensures fault { IfOk result (λ r. r.fault ≡ None) }
+    ensures few { IfOk result (λ r. length nodes.rows < 2 ^ 32) }
+{
+    let mut links = Vec::with_capacity(alloc, nodes.len() as usize)?;
+    for _ in 0..nodes.len() {
+        links.push(None)?;
+    }
+    Ok(Resolved {
+        nodes,
+        links: Links::new(alloc, links)?,
+        fault: None,
+    })
+}
+
 /// Resolves the leafrefs among the nodes of a tree as it is stated (RFC 7950, section 9.9): where something is wrong with one, the nodes
-/// stay as they are.
+/// stay as they are. Where there are none, it takes no more time than to see that.
 pub(crate) fn resolve<'a>(
     alloc: Global,
     rows: &Rows<'a, '_>,
@@ -92,8 +110,12 @@ pub(crate) fn resolve<'a>(
     types_leave_links();
     let mut nodes = nodes;
     let origins = origins(alloc, context.tree)?;
-    let statements = statement_numbers(alloc, rows, &origins)?;
     let said = referrals(alloc, rows, context.definitions(), &origins)?;
+    if said.leafrefs.as_slice().is_empty() {
+        let stated = without_leafrefs(alloc, nodes)?;
+        return Ok(stated);
+    }
+    let statements = statement_numbers(alloc, rows, &origins)?;
     let leafrefs = Leafrefs::read(alloc, &nodes, &statements, &said.of, &said.leafrefs)?;
     let fault = leafrefs.fault();
     let links = links_unless(alloc, fault, &nodes, &said, &leafrefs)?;

@@ -1,5 +1,7 @@
 mod Joining
+mod Numbering
 mod Placing
+mod Shared
 mod Single
 mod Stepping
 mod Telling

@@ -1,5 +1,5 @@
 -- Inner definitions, which only private clauses and the tables cite: plain types by number.
-use Rattle.std.specs.Prelude.{◌≡◌, ℕ, List, [], ◌∷◌, ◌++◌, Option, Some, None, map, slice_get}
+use Rattle.std.specs.Prelude.{◌≡◌, ◌<◌, ◌⊎◌, ℕ, List, [], ◌∷◌, ◌++◌, Option, Some, None, map, slice_get}
 use Rattle.std.specs.Option.{option_and_then, option_map}
 use Rattle.std.specs.Rc.{rc_slice_items}
 use Rattle.yv_selection.specs.Choice.{Choice}
@@ -17,7 +17,27 @@ use Rattle.yv_types.specs.declared.table.Shared.{Shared}
 abbrev pub plains : Shared → List Plain
 plains shared = map plain_of (rc_slice_items shared.types)
 
+-- the number of a list, and its plain types
+abbrev pub entry_of : Shared → ℕ × List Plain
+entry_of shared = (shared.list, plains shared)
+
 -- those at a place, if there are some
+abbrev pub entry_at : List (Option Shared) → ℕ → Option (ℕ × List Plain)
+entry_at spaces k = option_and_then (option_map entry_of) (slice_get spaces k)
+
+-- lists of one number have the same plain types
+abbrev pub AreNumbered : List (Option Shared) → Type 0
+AreNumbered spaces = (j k : ℕ) (x y : ℕ × List Plain) → entry_at spaces j ≡ Some x → entry_at spaces k ≡ Some y → x.0 ≡ y.0 → x.1 ≡ y.1
+
+-- their numbers are below this one
+abbrev pub AreBelow : List (Option Shared) → ℕ → Type 0
+AreBelow spaces next = (k : ℕ) (x : ℕ × List Plain) → entry_at spaces k ≡ Some x → x.0 < next
+
+-- a list has this number, or it is one of those that are there
+abbrev pub IsNewOrThere : List (Option Shared) → ℕ → Option Shared → Type 0
+IsNewOrThere spaces next space = (x : ℕ × List Plain) → option_map entry_of space ≡ Some x → (x.0 ≡ next) ⊎ ((k : ℕ) × (entry_at spaces k ≡ Some x))
+
+-- the plain types at a place, if there are some
 abbrev pub plains_at : List (Option Shared) → ℕ → Option (List Plain)
 plains_at spaces k = option_and_then (option_map plains) (slice_get spaces k)
 

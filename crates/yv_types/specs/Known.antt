@@ -1,6 +1,6 @@
 -- What is known of types that were read.
 use Rattle.std.specs.Prelude.{◌≡◌, ℕ, List, Option, Some, None, codes}
-use Rattle.std.specs.Option.{option_and_then}
+use Rattle.std.specs.Option.{option_and_then, option_map}
 use Rattle.yv_selection.specs.Choice.{Choice}
 use Rattle.yv_rows.specs.Files.{Files}
 use Rattle.yv_rows.specs.Listed.{rows_of}
@@ -11,14 +11,14 @@ use Rattle.yv_assigned_types.specs.Types.{Truth}
 use Rattle.yv_assigned_types.specs.Known.{AreLists}
 use Rattle.yv_properties.specs.Defined.{Written}
 use Rattle.yv_defaults.specs.Defaults.{HasDefault}
-use Rattle.yv_defaults.specs.Known.{AreDefaults, found_in}
+use Rattle.yv_defaults.specs.Known.{AreDefaults, found_in, typedef_in}
 use Rattle.yv_leafref_types.specs.Known.{AreLeafrefTypes}
 use Rattle.yv_leafref_types.specs.Known.{found_in as leafref_in}
 use Rattle.yv_leafref_types.specs.Referrals.{HasReferral}
 use Rattle.yv_leafref_types.specs.declared.referring.Referring.{Referring}
 use Rattle.yv_types.specs.InnerPlaces.{placed_in}
 use Rattle.yv_values.specs.Types.{Plain}
-use Rattle.yv_types.specs.InnerTables.{AreSpaces, plains_at}
+use Rattle.yv_types.specs.InnerTables.{AreSpaces, entry_at, plains_at}
 use Rattle.yv_types.specs.Spaces.{Space}
 use Rattle.yv_types.specs.declared.layers.Layers.{Layers}
 use Rattle.yv_types.specs.declared.known.Types.{Types}
@@ -51,6 +51,15 @@ IsTold files choice truth (Some k) (Some ps) = Space files truth choice k ps
 -- the default that is told of the type statement at an offset of a file
 abbrev pub default_at : Types → ℕ → ℕ → Option Written
 default_at types file offset = option_and_then (found_in types.defaults) (placed_in types.places file offset)
+
+-- the number of the list of plain types of the numbered type, and that of the typedef that says its default
+abbrev pub sharing_of : Types → ℕ → Option (ℕ × ℕ)
+sharing_of types k =
+    option_and_then (λ (e : ℕ × List Plain). option_map (λ typedef. (e.0, typedef)) (typedef_in types.defaults k)) (entry_at types.spaces.items k)
+
+-- those of the type statement at an offset of a file
+abbrev pub sharing_at : Types → ℕ → ℕ → Option (ℕ × ℕ)
+sharing_at types file offset = option_and_then (sharing_of types) (placed_in types.places file offset)
 
 -- this is the default of the type of this number by its typedefs; none, where there is no type
 abbrev pub IsDefault : Files → Option ℕ → Option Written → Type 0

@@ -10,7 +10,7 @@ ghost use Rattle.yv_assigned_types.specs.Types.{Truth};
 ghost use Rattle.yv_values.specs.Types.{Plain, plain_of};
 ghost use Rattle.yv_types.specs.Spaces.{Space};
 ghost use Rattle.yv_properties.specs.Defined.{written_of};
-ghost use Rattle.yv_types.specs.Known.{AreTypes, default_at, referring_at, space_at};
+ghost use Rattle.yv_types.specs.InnerTables.{AreNumbered};
 
 use crate::places::Places;
 use crate::table::{Shared, get, list_at};
@@ -28,9 +28,12 @@ pub struct Types {
     pub(crate) defaults: Defaults,
     pub(crate) leafrefs: LeafrefTypes,
     pub(crate) places: Places,
+    ghost numbered: { AreNumbered spaces.items },
 }
 
 impl Types {
+    ghost use Rattle.yv_types.specs.Known.{AreTypes, default_at, referring_at, sharing_at, space_at};
+
     /// The plain types of the first type statement at an offset (bytes) of a file, typedefs followed and unions opened in
     /// order (RFC 7950, section 9.12): no types for a leafref, whose values are its target's. None where there is no type, and for types
     /// that lead to instance-identifier and unions with such a member. Takes time log n.
@@ -74,6 +77,20 @@ impl Types {
     {
         let number = self.places.get(file, offset)?;
         self.defaults.of(number)
+    }
+
+    /// Numbers of the list of plain types of the first type statement at an offset (bytes) of a file, and of the typedef that says its
+    /// default. Type statements with the same numbers have the same plain types and the same default. None where there is no list or no
+    /// default.
+    pub fn sharing_at(&self, file: u32, offset: u64) -> Option<(usize, usize)>
+        ensures numbers { result ≡ sharing_at self.now file offset }
+        ensures same { (f o : ℕ) (numbers : ℕ × ℕ) → result ≡ Some numbers → sharing_at self.now f o ≡ Some numbers
+            → (space_at self.now f o ≡ space_at self.now file offset) × (default_at self.now f o ≡ default_at self.now file offset) }
+    {
+        let number = self.places.get(file, offset)?;
+        let list = get(&self.spaces, number)?.list;
+        let typedef = self.defaults.typedef(number)?;
+        Some((list, typedef))
     }
 
     /// What the first type statement at an offset (bytes) of a file says as a leafref, by itself or along its typedefs

@@ -1,5 +1,5 @@
 //! The plain types of one type.
-ghost use Rattle.std.specs.Prelude.{◌≡◌, ℕ, [], Some, map, slice_get, IfOk};
+ghost use Rattle.std.specs.Prelude.{◌≡◌, ℕ, [], Some, map, slice_get, IfOk, IfSome};
 ghost use Rattle.std.specs.Option.{option_map};
 ghost use Rattle.yv_selection.specs.Choice.{Choice};
 ghost use Rattle.yv_rows.specs.Files.{Files, brief_of};
@@ -12,7 +12,7 @@ ghost use Rattle.yv_values.specs.Types.{plain_of};
 ghost use Rattle.yv_bases.specs.InnerTables.{items_at};
 ghost use Rattle.yv_identityref.specs.Known.{AreIdentities};
 ghost use Rattle.yv_types.specs.Known.{AreLayers};
-ghost use Rattle.yv_types.specs.InnerTables.{AreKnown, FollowsNone, IsBare, IsListed, IsSpace, plains};
+ghost use Rattle.yv_types.specs.InnerTables.{AreKnown, FollowsNone, IsBare, IsListed, IsNewOrThere, IsSpace, plains};
 
 use crate::layers::Layers;
 use crate::table::{Shared, joined, list_at, one};
@@ -43,15 +43,16 @@ fn is_kind(name: &str, entry: &Entry<'_, '_>) -> bool
     entry.statement.keyword() == "type" && name_of(entry.statement) == name
 }
 
-// No types.
-fn nothing(alloc: Global) -> Result<Shared, AllocError>
-    ensures { IfOk result (λ s. plains s ≡ []) }
+// No types: a list with this number.
+fn nothing(alloc: Global, list: usize) -> Result<Shared, AllocError>
+    ensures types { IfOk result (λ s. plains s ≡ []) }
+    ensures number { IfOk result (λ s. s.list ≡ list) }
 {
     let types = RcSlice::from_vec(Vec::new(alloc))?;
-    Ok(Shared { types })
+    Ok(Shared { types, list })
 }
 
-// The types of a type that names a built-in type without facets or names.
+// The types of a type that names a built-in type without facets or names: a list with this number.
 fn built_in(
     alloc: Global,
     linked: &Linked<'_, '_>,
@@ -59,6 +60,7 @@ fn built_in(
     spaces: &[Option<Shared>],
     members: &[usize],
     number: usize,
+    list: usize,
     entry: &Entry<'_, '_>,
 ) -> Result<Option<Shared>, AllocError>
     ensures space { AreIdentities linked.now identities.old → IfOk result (λ s. (files : Files) (choice : Choice) → AreLinked files choice linked.now
@@ -67,16 +69,17 @@ fn built_in(
         → AreKnown files (truth_in linked.now) choice (RestsOn (map brief_of files) (rows_of files) number) spaces.now
         → IsSpace files (truth_in linked.now) choice number (option_map plains s)) }
     ensures keeps { AreIdentities linked.now identities.old → AreIdentities linked.now identities.new }
+    ensures number { IfOk result (λ s. IfSome s (λ shared. shared.list ≡ list)) }
 {
     if is_kind("leafref", entry) {
-        return Ok(Some(nothing(alloc)?));
+        return Ok(Some(nothing(alloc, list)?));
     }
     if is_kind("identityref", entry) {
         let values = identities.of(alloc, linked, number)?;
-        return Ok(Some(one(alloc, PlainType::Identity(values))?));
+        return Ok(Some(one(alloc, PlainType::Identity(values), list)?));
     }
     if is_kind("union", entry) {
-        joined(alloc, spaces, members)
+        joined(alloc, spaces, members, list)
     } else {
         Ok(None)
     }
@@ -93,7 +96,8 @@ fn members_of(inside: &[Vec<usize>], number: usize) -> &[usize]
 }
 
 impl Layers<'_> {
-    /// The plain types of the numbered type, the table having those of the types on which it rests.
+    /// The plain types of the numbered type, the table having those of the types on which it rests. A list that isn't in the table has
+    /// this number.
     pub(crate) fn types_at(
         &self,
         alloc: Global,
@@ -102,6 +106,7 @@ impl Layers<'_> {
         inside: &[Vec<usize>],
         spaces: &[Option<Shared>],
         number: usize,
+        list: usize,
     ) -> Result<Option<Shared>, AllocError>
         ensures space { AreIdentities linked.now identities.old → IfOk result (λ s. (files : Files) (choice : Choice) → AreLinked files choice linked.now
             → AreLayers files (truth_in linked.now) self.now
@@ -109,19 +114,22 @@ impl Layers<'_> {
             → AreKnown files (truth_in linked.now) choice (RestsOn (map brief_of files) (rows_of files) number) spaces.now
             → IsSpace files (truth_in linked.now) choice number (option_map plains s)) }
         ensures keeps { AreIdentities linked.now identities.old → AreIdentities linked.now identities.new }
+        ensures number { IfOk result (IsNewOrThere spaces.now list) }
     {
         if let Some(plain) = self.faceted.plain(number) {
-            return Ok(Some(one(alloc, plain.copy()?)?));
+            return Ok(Some(one(alloc, plain.copy()?, list)?));
         }
         if let Some(names) = self.lists.names(number) {
-            return Ok(Some(one(alloc, listed(names)?)?));
+            return Ok(Some(one(alloc, listed(names)?, list)?));
         }
         if let Some(followed) = self.bases.follows(number) {
             return list_at(spaces, followed);
         }
         let members = members_of(inside, number);
         match linked.rows().entries().get(number) {
-            Some(entry) => built_in(alloc, linked, identities, spaces, members, number, entry),
+            Some(entry) => built_in(
+                alloc, linked, identities, spaces, members, number, list, entry,
+            ),
             None => Ok(None),
         }
     }

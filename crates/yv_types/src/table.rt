@@ -1,8 +1,8 @@
 //! Plain types by number.
-ghost use Rattle.std.specs.Prelude.{◌≡◌, ◌≢◌, ◌<◌, ◌∷◌, ◌++◌, ℕ, [], None, length, map, take, IfOk, OnOk};
+ghost use Rattle.std.specs.Prelude.{◌≡◌, ◌≢◌, ◌<◌, ◌⊎◌, ◌∷◌, ◌++◌, ℕ, [], None, length, map, take, IfOk, IfSome, OnOk};
 ghost use Rattle.std.specs.Option.{option_map, option_copied};
 ghost use Rattle.yv_values.specs.Types.{plain_of};
-ghost use Rattle.yv_types.specs.InnerTables.{joined_from, plains, plains_at};
+ghost use Rattle.yv_types.specs.InnerTables.{entry_at, entry_of, joined_from, plains, plains_at};
 
 use std::alloc::{AllocError, Global};
 use std::rc::RcSlice;
@@ -12,22 +12,26 @@ use yv_values::PlainType;
 #[derive(Drop)]
 pub(crate) struct Shared {
     pub types: RcSlice<PlainType>,
+    /// A number of this list, which no other list has.
+    pub list: usize,
 }
 
 impl Shared {
     /// The same types once more, over the same list.
     pub(crate) fn copy(&self) -> Result<Shared, AllocError>
-        ensures { IfOk result (λ copy. plains copy ≡ plains self.now) }
+        ensures { IfOk result (λ copy. entry_of copy ≡ entry_of self.now) }
     {
         Ok(Shared {
             types: self.types.clone()?,
+            list: self.list,
         })
     }
 }
 
 /// So many places, none with types.
 pub(crate) fn no_spaces(alloc: Global, count: usize) -> Result<Vec<Option<Shared>>, AllocError>
-    ensures { IfOk result (λ spaces. (length spaces.items ≡ count) × ((k : ℕ) → plains_at spaces.items k ≡ None)) }
+    ensures { IfOk result (λ spaces. (length spaces.items ≡ count) × ((k : ℕ) → plains_at spaces.items k ≡ None)
+        × ((k : ℕ) → entry_at spaces.items k ≡ None)) }
 {
     let mut spaces = Vec::new(alloc);
     for _ in 0..count {
@@ -38,14 +42,16 @@ pub(crate) fn no_spaces(alloc: Global, count: usize) -> Result<Vec<Option<Shared
 
 /// The types at a place.
 pub(crate) fn get(spaces: &[Option<Shared>], place: usize) -> Option<&Shared>
-    ensures { option_map plains (option_copied result) ≡ plains_at spaces.now place }
+    ensures types { option_map plains (option_copied result) ≡ plains_at spaces.now place }
+    ensures entry { option_map entry_of (option_copied result) ≡ entry_at spaces.now place }
 {
     spaces.get(place)?.as_ref()
 }
 
 /// The types at a place once more.
 pub(crate) fn list_at(spaces: &[Option<Shared>], place: usize) -> Result<Option<Shared>, AllocError>
-    ensures { IfOk result (λ s. option_map plains s ≡ plains_at spaces.now place) }
+    ensures types { IfOk result (λ s. option_map plains s ≡ plains_at spaces.now place) }
+    ensures entry { IfOk result (λ s. option_map entry_of s ≡ entry_at spaces.now place) }
 {
     match get(spaces, place) {
         Some(space) => Ok(Some(space.copy()?)),
@@ -58,20 +64,23 @@ pub(crate) fn put(spaces: &mut Vec<Option<Shared>>, place: usize, space: Option<
     ensures each { length spaces.new.items ≡ length spaces.old.items }
     ensures here { place < length spaces.old.items → plains_at spaces.new.items place ≡ option_map plains space }
     ensures elsewhere { (k : ℕ) → k ≢ place → plains_at spaces.new.items k ≡ plains_at spaces.old.items k }
+    ensures entries { (k : ℕ) → (entry_at spaces.new.items k ≡ entry_at spaces.old.items k)
+        ⊎ (entry_at spaces.new.items k ≡ option_map entry_of space) }
 {
     if place < spaces.len() {
         spaces[place] = space;
     }
 }
 
-/// A list of one type.
-pub(crate) fn one(alloc: Global, plain: PlainType) -> Result<Shared, AllocError>
-    ensures { IfOk result (λ list. plains list ≡ plain_of plain ∷ []) }
+/// A list of one type, with this number.
+pub(crate) fn one(alloc: Global, plain: PlainType, list: usize) -> Result<Shared, AllocError>
+    ensures types { IfOk result (λ shared. plains shared ≡ plain_of plain ∷ []) }
+    ensures number { IfOk result (λ shared. shared.list ≡ list) }
 {
     let mut all = Vec::new(alloc);
     all.push(plain)?;
     let types = RcSlice::from_vec(all)?;
-    Ok(Shared { types })
+    Ok(Shared { types, list })
 }
 
 // Puts copies of types behind others.
@@ -84,13 +93,15 @@ fn extend(all: &mut Vec<PlainType>, types: &[PlainType]) -> Result<(), AllocErro
     Ok(())
 }
 
-/// The types of members, one after the other, if each has some.
+/// The types of members, one after the other, if each has some: a list with this number.
 pub(crate) fn joined(
     alloc: Global,
     spaces: &[Option<Shared>],
     members: &[usize],
+    list: usize,
 ) -> Result<Option<Shared>, AllocError>
-    ensures { IfOk result (λ list. option_map plains list ≡ joined_from spaces.now [] members.now) }
+    ensures types { IfOk result (λ shared. option_map plains shared ≡ joined_from spaces.now [] members.now) }
+    ensures number { IfOk result (λ shared. IfSome shared (λ s. s.list ≡ list)) }
 {
     let mut all = Vec::new(alloc);
     for member in members {
@@ -100,5 +111,5 @@ pub(crate) fn joined(
         extend(&mut all, &space.types)?;
     }
     let types = RcSlice::from_vec(all)?;
-    Ok(Some(Shared { types }))
+    Ok(Some(Shared { types, list }))
 }

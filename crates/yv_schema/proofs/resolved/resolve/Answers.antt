@@ -1,4 +1,4 @@
-use Rattle.std.proofs.Common.{◌≡◌, ◌⊎◌, ℕ, List, Option, None, length, map, refl, sym, ap, ap₂, ◌∙◌, subst}
+use Rattle.std.proofs.Common.{◌≡◌, ◌<◌, ◌^◌, ◌⊎◌, ℕ, [], List, Option, None, length, map, refl, sym, ap, ap₂, ◌∙◌, subst}
 use Rattle.std.specs.List.{slice_get}
 use Rattle.std.specs.Option.{option_and_then}
 use Rattle.yv_rows.specs.Files.{Files}
@@ -7,15 +7,21 @@ use Rattle.yv_rows.specs.Listed.{rows_of, statements_of}
 use Rattle.yv_expansion.specs.declared.item.Origin.{Origin}
 use Rattle.yv_definitions.specs.Kinds.{Typing}
 use Rattle.yv_definitions.specs.Known.{files_in, typing_in}
-use Rattle.yv_nodes.specs.Rows.{Row}
 use Rattle.yv_leafrefs.specs.Above.{AreBehind}
 use Rattle.yv_leafrefs.specs.Known.{AreLeafrefs}
 use Rattle.yv_leafrefs.specs.Schema.{AreAlike, Referral, Schema, said_by}
 use Rattle.yv_referrals.specs.Said.{said}
 use Rattle.yv_schema.specs.InnerResolved.{origins_of, schema_by, statement_number}
 use Rattle.yv_schema.specs.Module.{leafrefs_of, stated_of}
+use Rattle.yv_statement.specs.Order.{IsLeast}
+use Rattle.yv_statement.specs.declared.refusal.Refusal.{Refusal}
+use Rattle.yv_nodes.specs.Rows.{Bounded, Row}
+use Rattle.yv_leafrefs.specs.Bad.{BadLeafrefs}
+use Rattle.yv_leafref_links.specs.Links.{AreLinks}
+use Rattle.yv_schema.specs.declared.resolved.Resolved.{Resolved}
 use Rattle.yv_schema.proofs.Resolving.{are_alike, are_named, count_statements, links_are, origins_told}
 use Rattle.yv_schema.proofs.Typing.{links_resolved}
+use Rattle.yv_schema.proofs.Unlinked.{linkless, no_items, nothing_wrong, said_nowhere, stays}
 use Rattle.yv_schema.proofs.resolved.resolve.Goals as goal
 
 pub read-requires-clause-behind : goal.read-requires-clause-behind
@@ -30,7 +36,7 @@ read-requires-clause-named c =
     let many : count ≡ length (statements_of b.files) =
     ap (λ (fs : Files). length (rows_of fs)) (sym c.requires.of_files) ∙ count_statements b.files (c.statements_have_their_rows.ensures b.files) in
     let numbers : c.in_ok-statements.statements.items ≡ map (statement_number count) (origins_of b) =
-    c.in_ok-statements.ensures ∙ ap (map (statement_number count)) (c.deref.ensures.value ∙ origins) in
+    c.in_ok-statements.ensures ∙ ap (map (statement_number count)) (c.deref-2.ensures.value ∙ origins) in
     rw (c.deref-3.ensures.value) (are_named b count c.args.nodes.rows c.in_ok-statements.statements.items many c.requires.are numbers)
 
 pub links_unless-requires-clause-behind : goal.links_unless-requires-clause-behind
@@ -44,12 +50,12 @@ returns-clause-answered c = λ b tells files are.
     let leafrefs = c.in_ok-said.said.leafrefs.items in
     let s : Schema = schema_by rows of leafrefs in
     let read = rw (c.deref-4.ensures.value, c.deref-5.ensures.value) at c.in_ok-leafrefs.ensures in
-    let origins : c.deref-2.result.now ≡ origins_of b = c.deref-2.ensures.value ∙ c.in_ok-origins.ensures ∙ origins_told b c.args.context.now tells in
+    let origins : c.deref.result.now ≡ origins_of b = c.deref.ensures.value ∙ c.in_ok-origins.ensures ∙ origins_told b c.args.context.now tells in
     let typing : typing_in c.definitions.result.now ≡ b.typing = ap typing_in c.definitions.ensures ∙ tells.typing in
     let of_files : files_in c.definitions.result.now ≡ b.files = ap files_in c.definitions.ensures ∙ tells.files in
     let told : (n : ℕ) → said_by of leafrefs n ≡ option_and_then (said b.typing b.files) (slice_get (origins_of b) n) =
     λ n. c.in_ok-said.ensures.said n
-    ∙ ap₂ (λ (t : Typing) (fs : Files). option_and_then (said t fs) (slice_get c.deref-2.result.now n)) typing of_files
+    ∙ ap₂ (λ (t : Typing) (fs : Files). option_and_then (said t fs) (slice_get c.deref.result.now n)) typing of_files
     ∙ ap (λ (os : List Origin). option_and_then (said b.typing b.files) (slice_get os n)) origins in
     let alike : AreAlike s (leafrefs_of b) = are_alike b rows of leafrefs are told in
     let known : AreLeafrefs (leafrefs_of b) c.in_ok-leafrefs.leafrefs = c.alike_schemas_have_the_same_leafrefs.ensures s (leafrefs_of b) c.in_ok-leafrefs.leafrefs alike read in
@@ -64,4 +70,32 @@ returns-clause-answered c = λ b tells files are.
       fault = least;
       linked = links_resolved c.links_lead.ensures c.types_leave_links.ensures (leafrefs_of b) (stated_of b) typed.0 links refl typed.1 made;
       links = λ none. c.alike_schemas_have_the_same_links.ensures s (leafrefs_of b) links alike (c.in_ok-links.ensures.some none);
+    }
+
+pub returns-then-is_empty-clause-answered : goal.returns-then-is_empty-clause-answered
+returns-then-is_empty-clause-answered c = λ b tells files are.
+    let rows = c.args.nodes.rows in
+    let of = c.in_ok-said.said.of.items in
+    let leafrefs = c.in_ok-said.said.leafrefs.items in
+    let s : Schema = schema_by rows of leafrefs in
+    let origins : c.deref.result.now ≡ origins_of b = c.deref.ensures.value ∙ c.in_ok-origins.ensures ∙ origins_told b c.args.context.now tells in
+    let typing : typing_in c.definitions.result.now ≡ b.typing = ap typing_in c.definitions.ensures ∙ tells.typing in
+    let of_files : files_in c.definitions.result.now ≡ b.files = ap files_in c.definitions.ensures ∙ tells.files in
+    let told : (n : ℕ) → said_by of leafrefs n ≡ option_and_then (said b.typing b.files) (slice_get (origins_of b) n) =
+    λ n. c.in_ok-said.ensures.said n
+    ∙ ap₂ (λ (t : Typing) (fs : Files). option_and_then (said t fs) (slice_get c.deref.result.now n)) typing of_files
+    ∙ ap (λ (os : List Origin). option_and_then (said b.typing b.files) (slice_get os n)) origins in
+    let alike : AreAlike s (leafrefs_of b) = are_alike b rows of leafrefs are told in
+    let none : leafrefs ≡ [] = sym c.as_slice.ensures.value ∙ no_items c.as_slice.result.now (sym c.is_empty.ensures ∙ c.if-is_empty.true) in
+    let silent : (n : ℕ) → (leafrefs_of b).says n ≡ None = λ n. sym (alike.says n) ∙ said_nowhere of leafrefs none n in
+    let r : Resolved = c.in_ok-stated.stated in
+    let few : length (leafrefs_of b).rows < 2 ^ 32 = subst (λ (rs : List Row). length rs < 2 ^ 32) are c.in_ok-stated.ensures.few in
+    let links : AreLinks (leafrefs_of b) r.links = linkless (leafrefs_of b) (length rows) r.links silent few (ap length are) c.in_ok-stated.ensures.links in
+    record {
+      tree = stated_of b;
+      is = stays (leafrefs_of b) (stated_of b) silent refl;
+      rows = ap (λ (ns : Bounded). ns.rows) c.in_ok-stated.ensures.nodes ∙ are;
+      fault = subst (λ (f : Option Refusal). IsLeast (BadLeafrefs (leafrefs_of b)) f) (sym c.in_ok-stated.ensures.fault) (nothing_wrong (leafrefs_of b) silent);
+      linked = c.links_lead.ensures (leafrefs_of b) (stated_of b) r.links refl links;
+      links = λ fault. links;
     }

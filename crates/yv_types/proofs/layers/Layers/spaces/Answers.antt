@@ -1,4 +1,4 @@
-use Rattle.std.proofs.Common.{◌≡◌, ◌<◌, ℕ, List, inl, inr, length, map, ap, refl, sym, ◌∙◌, subst, arith}
+use Rattle.std.proofs.Common.{◌≡◌, ◌<◌, ℕ, List, Option, inl, inr, length, map, ap, refl, sym, ◌∙◌, subst, arith}
 use Rattle.std.specs.List.{Contains, slice_index}
 use Rattle.std.specs.Option.{option_map}
 use Rattle.std.proofs.lemmas.Bool.{cases_eq}
@@ -13,7 +13,9 @@ use Rattle.yv_assigned_types.specs.Types.{Truth}
 use Rattle.yv_link.specs.Linked.{AreLinked, truth_in}
 use Rattle.yv_types.specs.Spaces.{Space}
 use Rattle.yv_types.specs.Known.{AreLayers}
-use Rattle.yv_types.specs.InnerTables.{AreKnown, IsSpace, plains, plains_at}
+use Rattle.yv_types.specs.InnerTables.{AreKnown, IsNewOrThere, IsSpace, plains, plains_at}
+use Rattle.yv_types.specs.declared.table.Shared.{Shared}
+use Rattle.yv_types.proofs.Numbering.{below_more, numbered_more}
 use Rattle.yv_types.proofs.Walking.{item_in, walk_more}
 use Rattle.yv_types.proofs.layers.Layers.spaces.Goals as goal
 
@@ -37,9 +39,13 @@ loop-number-preserved c =
     let count = c.in_ok-inside.ensures.0 in
     let within : n < length c.loop-number.spaces.items = let w = slice_get_within (rows_of files) n type.0 type.1 in omega (arith, w, rows, count, c.loop-number.invariant.each) in
     c.put.ensures.here within in
+    let from : IsNewOrThere c.loop-number.spaces.items c.loop-number.list c.in_ok-space.space = subst (λ (xs : List (Option Shared)). IsNewOrThere xs c.loop-number.list c.in_ok-space.space) c.deref-in-loop-number.ensures.value c.in_ok-space.ensures.number in
     record {
       kept = c.types_at.ensures.keeps c.loop-number.invariant.kept;
       each = c.put.ensures.each ∙ c.loop-number.invariant.each;
+      counted = omega (arith, c.loop-number.invariant.counted);
+      numbered = numbered_more c.loop-number.spaces.items c.put.new.spaces.items c.loop-number.list c.in_ok-space.space c.loop-number.invariant.numbered c.loop-number.invariant.below from c.put.ensures.entries;
+      below = below_more c.loop-number.spaces.items c.put.new.spaces.items c.loop-number.list c.in_ok-space.space c.loop-number.invariant.below from c.put.ensures.entries;
       told = λ files choice linked layers. walk_more (IsSpace files truth choice) order i n (plains_at c.loop-number.spaces.items) (plains_at c.put.new.spaces.items) c.loop-number-test.true refl
           (subst (IsSpace files truth choice n) (sym (here files choice linked layers)) (step files choice linked layers)) c.put.ensures.elsewhere (c.loop-number.invariant.told files choice linked layers);
       sound = λ files choice linked layers k ps e. elim (cases_eq k n) [
@@ -48,8 +54,8 @@ loop-number-preserved c =
       ];
     }
 
-pub returns : goal.returns
-returns c = λ files choice linked layers.
+pub returns-clause-made : goal.returns-clause-made
+returns-clause-made c = λ files choice linked layers.
     let order : List ℕ = c.order-number-items.result.now in
     let i : ℕ = c.loop-number.number-index in
     let behind : IsOrderOfTypes (map brief_of files) (rows_of files) order = c.order-number-items.ensures files layers.based in

@@ -7,13 +7,16 @@ use Rattle.yv_identityref.specs.Known.{AreIdentities}
 use Rattle.yv_values.specs.Types.{Plain}
 use Rattle.yv_types.specs.Spaces.{Space}
 use Rattle.yv_types.specs.Known.{AreLayers}
-use Rattle.yv_types.specs.InnerTables.{AreKnown, plains_at}
+use Rattle.yv_types.specs.InnerTables.{AreBelow, AreKnown, AreNumbered, plains_at}
 use Rattle.yv_types.proofs.layers.Layers.spaces.Given as goal
 
 abbrev pub invariant-loop-number : goal.invariant-loop-number
 invariant-loop-number l = record {
   kept : AreIdentities l.linked l.identities;
   each : length l.spaces.items ≡ length l.inside.items;
+  counted : l.list ≡ l.number-index;
+  numbered : AreNumbered l.spaces.items;
+  below : AreBelow l.spaces.items l.list;
   told : (files : Files) (choice : Choice) → AreLinked files choice l.linked → AreLayers files (truth_in l.linked) l.self
       → AreKnown files (truth_in l.linked) choice (Contains (take l.number-index l.number-items)) l.spaces.items;
   sound : (files : Files) (choice : Choice) → AreLinked files choice l.linked → AreLayers files (truth_in l.linked) l.self

@@ -19,7 +19,7 @@ use Rattle.yv_types.proofs.layers.Layers.types_at.Goals as goal
 pub returns-in-Some-clause-space : goal.returns-in-Some-clause-space
 returns-in-Some-clause-space c = λ kept files choice linked layers inside known.
     has_some files (truth_in c.args.linked.now) choice c.args.number (Some (plains c.in_ok-one.field-0)) (plain_of c.in-Some.plain.now ∷ [])
-    (ap Some (c.in_ok-one.ensures ∙ ap (λ p. p ∷ []) c.in_ok-copy.ensures))
+    (ap Some (c.in_ok-one.ensures.types ∙ ap (λ p. p ∷ []) c.in_ok-copy.ensures))
     (faceted ((c.in-Some.ensures files layers.faceted (plain_of c.in-Some.plain.now)).0 refl))
 
 pub returns-in-Some-names-clause-space : goal.returns-in-Some-names-clause-space
@@ -27,7 +27,7 @@ returns-in-Some-names-clause-space c = λ kept files choice linked layers inside
     let told : Told = told_of c.in-Some-names.names.now in
     let is : IsListed told (plain_of c.in_ok-listed.field-0) = c.in_ok-listed.ensures in
     has_some files (truth_in c.args.linked.now) choice c.args.number (Some (plains c.in_ok-one-2.field-0)) (of_kind told.kind is.0 ∷ [])
-    (ap Some (c.in_ok-one-2.ensures ∙ ap (λ p. p ∷ []) is.1))
+    (ap Some (c.in_ok-one-2.ensures.types ∙ ap (λ p. p ∷ []) is.1))
     (listed told is.0 ((c.in-Some-names.ensures files (truth_in c.args.linked.now) layers.listed told).0 refl) is.2 is.3)
 
 pub returns-in-Some-follows-clause-space : goal.returns-in-Some-follows-clause-space
@@ -41,7 +41,7 @@ returns-in-Some-follows-clause-space c = λ kept. if_ok _ _ c.list_at.result
     let f : Follows (map brief_of files) (rows_of files) k j = (follows j).0 refl in
     has_followed files truth choice k bare j f (λ i g. sym (same_Some j i ((follows i).1 g))) (option_map plains s)
     (subst (IsSpace files truth choice j) (sym e) (known j (inl f))))
-    c.list_at.ensures
+    c.list_at.ensures.types
 
 pub returns-in-Some-get-clause-space : goal.returns-in-Some-get-clause-space
 returns-in-Some-get-clause-space c = λ kept. if_ok _ _ c.built_in.result
