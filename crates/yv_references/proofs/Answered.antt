@@ -16,7 +16,8 @@ use Rattle.yv_nodes.specs.Tree.{Forest, Label}
 use Rattle.yv_nodes.specs.declared.node.NodeId.{NodeId}
 use Rattle.yv_references.specs.declared.scope.Scope.TheVariants.{Always}
 use Rattle.yv_references.specs.InUse.{is_empty_at, some_value, uses_defaults, value_of}
-use Rattle.yv_references.specs.InnerAnswers.{AreTargets, climbed_to, defaults_at, further_out, is_here, is_it, is_used, is_within, judge, judged, Marks, path_of, path_to, place_at, reaches}
+use Rattle.yv_references.specs.InnerAnswers.{AreTargets, climbed_to, defaults_at, further_out, is_here, is_it, is_used, is_within, judge, judged, location_of, Marks, objects_of, path_of, place_at, reaches}
+use Rattle.yv_references.specs.InnerLocations.{Location, location_at, path_in}
 use Rattle.yv_references.specs.Place.{Place, step_name}
 use Rattle.yv_references.specs.Meetings.{all_met, at, entered, entered_at, found_of, is_entered, Meeting, meetings, stand, written, ending, met, Node, Spot, Stand, top, Written}
 use Rattle.yv_references.specs.Values.{Valued, valued, values_at, values_in}
@@ -30,17 +31,17 @@ use Rattle.yv_references.proofs.Walked.{AreUnwritten, Closed, entered_stand, IsP
 
 abbrev pub Reads : List Position → ℕ → List Position → Type 0
 Reads ps next [] = Unit {0}
-Reads ps next (x ∷ xs) = (position_at ps next ≡ x) × Reads ps (next + 1) xs
+Reads ps next (x ∷ xs) = (position_at ps next ≡ x) × (next < length ps) × Reads ps (next + 1) xs
 
 reads_first : (ps : List Position) (next : ℕ) (xs ys : List Position) → Reads ps next (xs ++ ys) → Reads ps next xs
 reads_first ps next [] ys h = tt
-reads_first ps next (x ∷ xs) ys h = (h.0, reads_first ps (next + 1) xs ys h.1)
+reads_first ps next (x ∷ xs) ys h = (h.0, h.1, reads_first ps (next + 1) xs ys h.2)
 
 reads_rest : (ps : List Position) (next a : ℕ) (xs ys : List Position) → length xs ≡ a → Reads ps next (xs ++ ys) → Reads ps (next + a) ys
 reads_rest ps next a [] ys e h = let same : next ≡ next + a = omega (arith, e) in subst (λ k. Reads ps k ys) same h
 reads_rest ps next a (x ∷ xs) ys e h =
     let same : next + 1 + length xs ≡ next + a = omega (arith, e) in
-    subst (λ k. Reads ps k ys) same (reads_rest ps (next + 1) (length xs) xs ys refl h.1)
+    subst (λ k. Reads ps k ys) same (reads_rest ps (next + 1) (length xs) xs ys refl h.2)
 
 pub join_length : (xs ys : List Position) (a b : ℕ) → length xs ≡ a → length ys ≡ b → length (xs ++ ys) ≡ a + b
 join_length [] ys a b e f = omega (arith, e, f)
@@ -60,6 +61,7 @@ reads_behind : (xs ys : List Position) (a : ℕ) → length xs ≡ a → Reads (
 reads_behind xs [] a e = tt
 reads_behind xs (y ∷ ys) a e = (
   from_head xs ys y a e,
+  (let size : length (xs ++ y ∷ ys) ≡ a + suc (length ys) = join_length xs (y ∷ ys) a (suc (length ys)) e refl in omega (arith, size)),
   subst (λ zs. Reads zs (a + 1) ys) (move xs ys y) (reads_behind (xs ++ y ∷ []) ys (a + 1) (join_length xs (y ∷ []) a 1 e (omega arith))),
 )
 
@@ -102,7 +104,7 @@ IsChain q around = (i : ℕ) → further_out q.positions i (first_of around) ≡
 
 -- the object with this number is at this path
 abbrev pub IsAt : Asked → ℕ → List Place → Type 0
-IsAt q here path = (most : ℕ) → here ≤ most → path_to q.rows q.positions most here ≡ path
+IsAt q here path = (most : ℕ) → here ≤ most → path_in (objects_of q.rows q.positions) most here ≡ path
 
 -- the object with this number is around a value exactly where its interval says so
 abbrev pub IsGood : Asked → ℕ → Type 0
@@ -149,15 +151,37 @@ plain_fit q spot next (met m) p reads ends lt ready = (tt, tt)
 not_zero : (here next : ℕ) → here < next → (next == 0) ≡ false
 not_zero here next lt = grind (arith, nat_tests, lt)
 
-path_below : (q : Asked) (here next : ℕ) (n : NodeId) (last : ℕ) (i : Option ℕ) (l : Label) (path : List Place) (most : ℕ) → here < next
+not_over : (m n : ℕ) → n < m → nat_le m n ≡ false
+not_over m n lt = grind (arith, nat_tests, lt)
+
+inside : (a b : Bool) → a ≡ false → b ≡ false → (a || b) ≡ false
+inside true b e f = e
+inside false b e f = f
+
+objects_length : (s : Rows) (ps : List Position) → length (objects_of s ps) ≡ length ps
+objects_length s [] = refl
+objects_length s (p ∷ ps) = ap suc (objects_length s ps)
+
+objects_at : (s : Rows) (ps : List Position) (k : ℕ) → k < length ps
+    → location_at (objects_of s ps) k ≡ location_of s (position_at ps k).parent (position_at ps k).node (position_at ps k).item
+objects_at s [] k lt = absurd (omega (arith, lt))
+objects_at s (p ∷ ps) zero lt = refl
+objects_at s (p ∷ ps) (suc k) lt = objects_at s ps k (omega (arith, lt))
+
+path_below : (q : Asked) (here next : ℕ) (n : NodeId) (last : ℕ) (i : Option ℕ) (l : Label) (path : List Place) (most : ℕ) → here < next → next < length q.positions
     → position_at q.positions next ≡ record { parent = here; node = n.0; item = i; last = last } → (row_at q.rows n).label ≡ l → IsAt q here path → next ≤ most
-    → path_to q.rows q.positions most next ≡ path ++ record { member = step_name l; item = i } ∷ []
-path_below q here next n last i l path zero lt e f at le = absurd (omega (arith, lt, le))
-path_below q here next n last i l path (suc most) lt e f at le =
-    rw (not_zero here next lt)
-    (ap (λ (p : Position). path_to q.rows q.positions most p.parent ++ place_at q.rows p.node p.item ∷ []) e
+    → path_in (objects_of q.rows q.positions) most next ≡ path ++ record { member = step_name l; item = i } ∷ []
+path_below q here next n last i l path zero lt within e f at le = absurd (omega (arith, lt, le))
+path_below q here next n last i l path (suc most) lt within e f at le =
+    let os : List Location = objects_of q.rows q.positions in
+    let own : Location = location_at os next in
+    ap (λ (b : Bool). cond b [] (path_in os most own.outer ++ own.place ∷ []))
+    (inside (next == 0) (nat_le (length os) next) (not_zero here next lt)
+    (not_over (length os) next (let same : length os ≡ length q.positions = objects_length q.rows q.positions in omega (arith, same, within))))
+    ∙ ap (λ (o : Location). path_in os most o.outer ++ o.place ∷ [])
+    (objects_at q.rows q.positions next within ∙ ap (λ (p : Position). location_of q.rows p.parent p.node p.item) e)
     ∙ ap (λ ps. ps ++ place_at q.rows n.0 i ∷ []) (at most (omega (arith, lt, le)))
-    ∙ ap (λ (x : Label). path ++ record { member = step_name x; item = i } ∷ []) f)
+    ∙ ap (λ (x : Label). path ++ record { member = step_name x; item = i } ∷ []) f
 
 chain_below : (q : Asked) (next : ℕ) (outer : List ℕ) → (position_at q.positions next).parent ≡ first_of outer → IsChain q outer → IsChain q (next ∷ outer)
 chain_below q next outer e h zero = refl
@@ -173,9 +197,9 @@ object_fit : (q : Asked) (spot : Spot) (next entry : ℕ) (n : NodeId) (l : Labe
     → Fits q spot next (entered_stand n i kids (record { path = at spot l i; around = next ∷ spot.around; entry = entry }) next ms xs ∷ xs)
 object_fit q spot next entry n l i kids ms xs is f reads ends lt ready = (
   tt,
-  f reads.1 ends.1 (omega arith) (record {
+  f reads.2 ends.1 (omega arith) (record {
     chain = chain_below q next spot.around (ap (λ (p : Position). p.parent) reads.0) ready.chain;
-    path = λ most le. path_below q (first_of spot.around) next n (next + entered xs) i l spot.path most lt reads.0 is ready.path le;
+    path = λ most le. path_below q (first_of spot.around) next n (next + entered xs) i l spot.path most lt reads.1 reads.0 is ready.path le;
     good = good_below q next (next + entered xs) spot.around (ap (λ (p : Position). p.last) reads.0) ends.0 ready.good;
   }),
 )
@@ -491,7 +515,7 @@ chain_top : (q : Asked) → (position_at q.positions 0).parent ≡ 0 → (i : �
 chain_top q e zero = refl
 chain_top q e (suc i) = ap (λ n. further_out q.positions i n) e ∙ outermost q.positions i e
 
-path_top : (q : Asked) (most : ℕ) → path_to q.rows q.positions most 0 ≡ []
+path_top : (q : Asked) (most : ℕ) → path_in (objects_of q.rows q.positions) most 0 ≡ []
 path_top q zero = refl
 path_top q (suc most) = refl
 
@@ -518,4 +542,4 @@ all_answered k s links is_target ms rows targets =
     } in
     answers q links is_target all
     (record { targets = targets; labels = (tt, walk_holds k s _ (labelled s) (λ m t. Always) top 1 0 (whole s) ms rows); top = good })
-    (tt, walk_holds k s (Fits q) (fits q) (λ m t. Always) top 1 0 (whole s) ms rows reads.1 p.parted (omega arith) ready)
+    (tt, walk_holds k s (Fits q) (fits q) (λ m t. Always) top 1 0 (whole s) ms rows reads.2 p.parted (omega arith) ready)

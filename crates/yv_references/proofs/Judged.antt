@@ -1,7 +1,6 @@
 -- The indexes answer what the list of what was kept does.
-use Rattle.std.proofs.Common.{◌≡◌, ℕ, ◌+◌, ◌≤◌, ◌⊎◌, ◌↔◌, inl, inr, IsTrue, List, [], ◌∷◌, ◌++◌, Bool, true, false, ◌&&◌, ◌||◌, ◌==◌, nat_le, Option, Some, None, Vec, cond, refl, sym, ap, subst, ◌∙◌, append_assoc, append-nil, arith}
+use Rattle.std.proofs.Common.{◌≡◌, ℕ, ◌+◌, ◌≤◌, ◌⊎◌, ◌↔◌, inl, inr, IsTrue, List, [], ◌∷◌, ◌++◌, Bool, true, false, ◌&&◌, ◌||◌, ◌==◌, nat_le, Option, Some, None, cond, refl, sym, ap, subst, ◌∙◌, append_assoc, append-nil, arith}
 use Rattle.std.specs.Bool.{Decides}
-use Rattle.std.specs.declared.alloc.Global.{Global}
 use Rattle.std.proofs.lemmas.Bool.Decides.{nat_tests, Decides-eqb}
 use Rattle.yv_values.specs.Count.{counted}
 use Rattle.yv_values.specs.Pairs.{IsAlone, IsWithin, Keeps}
@@ -9,10 +8,11 @@ use Rattle.yv_values.specs.Places.{HasBetween, IsPlace}
 use Rattle.yv_values.specs.Values.{Val}
 use Rattle.yv_nodes.specs.Rows.{Rows}
 use Rattle.yv_references.specs.Findings.{Gains, index_of, Indexes, IsKept, IsUsed, Kept, Noted, places_of, Position, position_at, Spreads, Used, Uses}
-use Rattle.yv_references.specs.InnerAnswers.{AreMarks, asked, asked_once, climbed_to, defaults_at, is_here, is_it, is_used, is_within, judge, judged, Marks, path_of, reaches}
+use Rattle.yv_references.specs.InnerAnswers.{AreMarks, asked, asked_once, climbed_to, defaults_at, is_here, is_it, is_used, is_within, judge, judged, location_of, Marks, objects_of, path_of, paths_of, reaches}
+use Rattle.yv_references.specs.InnerLocations.{Location, value_path}
 use Rattle.yv_nodes.specs.Link.{Link}
 use Rattle.yv_references.specs.Place.{Place}
-use Rattle.yv_references.specs.References.{paths_in, path_unless}
+use Rattle.yv_references.specs.References.{path_unless}
 use Rattle.yv_values.specs.Same.{is_among, same_value}
 use Rattle.yv_values.proofs.Alone.{among_alone}
 use Rattle.yv_values.proofs.SameValues.{same_value-Decides}
@@ -128,14 +128,15 @@ judge_is s links m ps n link from last b e f h a =
 pub found : (s : Rows) (ps : List Position) (n : Noted) (b : Bool) (told old : List (List Place)) → told ≡ path_unless b (path_of s ps n) → b ≡ true → old ≡ old ++ told
 found s ps n b told old e f = sym (ap (λ fs. old ++ fs) (e ∙ ap (λ c. path_unless c (path_of s ps n)) f) ∙ append-nil old)
 
-map_more : (paths : List (Vec Place Global)) (path : Vec Place Global) → paths_in (paths ++ path ∷ []) ≡ paths_in paths ++ path.items ∷ []
-map_more [] path = refl
-map_more (p ∷ ps) path = ap (λ qs. p.items ∷ qs) (map_more ps path)
+map_more : (s : Rows) (ps : List Position) (vs : List Location) (v : Location) → paths_of s ps (vs ++ v ∷ []) ≡ paths_of s ps vs ++ value_path (objects_of s ps) v ∷ []
+map_more s ps [] v = refl
+map_more s ps (w ∷ ws) v = ap (λ qs. value_path (objects_of s ps) w ∷ qs) (map_more s ps ws v)
 
-pub misses : (s : Rows) (ps : List Position) (n : Noted) (b : Bool) (told : List (List Place)) (old new : List (Vec Place Global)) (path : Vec Place Global)
-    → told ≡ path_unless b (path_of s ps n) → b ≡ false → path.items ≡ path_of s ps n → new ≡ old ++ path ∷ [] → paths_in new ≡ paths_in old ++ told
-misses s ps n b told old new path e f g h =
-    ap paths_in h ∙ map_more old path ∙ ap (λ q. paths_in old ++ q ∷ []) g ∙ ap (λ c. paths_in old ++ path_unless c (path_of s ps n)) (sym f) ∙ ap (λ t. paths_in old ++ t) (sym e)
+pub misses : (s : Rows) (ps : List Position) (n : Noted) (b : Bool) (told : List (List Place)) (old new : List Location) (v : Location)
+    → told ≡ path_unless b (path_of s ps n) → b ≡ false → v ≡ location_of s n.position n.node n.item → new ≡ old ++ v ∷ [] → paths_of s ps new ≡ paths_of s ps old ++ told
+misses s ps n b told old new v e f g h =
+    ap (paths_of s ps) h ∙ map_more s ps old v ∙ ap (λ (w : Location). paths_of s ps old ++ value_path (objects_of s ps) w ∷ []) g
+    ∙ ap (λ c. paths_of s ps old ++ path_unless c (path_of s ps n)) (sym f) ∙ ap (λ t. paths_of s ps old ++ t) (sym e)
 
 -- ---- all notes
 

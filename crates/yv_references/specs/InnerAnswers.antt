@@ -1,11 +1,12 @@
 -- Only private clauses cite this: what is answered to each value of a leafref, by what a walk has kept.
-use Rattle.std.specs.Prelude.{◌≡◌, ℕ, zero, suc, ◌+◌, ◌-◌, ◌==◌, ◌&&◌, ◌||◌, nat_le, List, [], ◌∷◌, ◌++◌, Bool, true, false, Option, Some, None, if◌then◌else◌}
+use Rattle.std.specs.Prelude.{◌≡◌, ℕ, zero, suc, ◌+◌, ◌-◌, ◌==◌, ◌&&◌, ◌||◌, nat_le, List, [], ◌∷◌, ◌++◌, map, Bool, true, false, Option, Some, None, if◌then◌else◌}
 use Rattle.yv_values.specs.Same.{is_among, same_value}
 use Rattle.yv_values.specs.Values.{Val}
 use Rattle.yv_nodes.specs.Defaults.{defaults_of}
 use Rattle.yv_nodes.specs.Link.{Link}
 use Rattle.yv_nodes.specs.Rows.{Rows, row_at}
 use Rattle.yv_references.specs.Findings.{Gains, Indexes, Kept, Noted, Position, position_at, Spreads, Used, Uses}
+use Rattle.yv_references.specs.InnerLocations.{Location, value_path}
 use Rattle.yv_references.specs.Place.{Place, step_name}
 use Rattle.yv_references.specs.References.{path_unless}
 
@@ -51,14 +52,20 @@ climbed_to ps (Some k) n = further_out ps (k - 1) n
 abbrev pub place_at : Rows → ℕ → Option ℕ → Place
 place_at s n number = record { member = step_name (row_at s (record { 0 = n })).label; item = number }
 
--- the path of an object, by those around it; `most` is at least as many as there are
-abbrev pub path_to : Rows → List Position → (most : ℕ) → ℕ → List Place
-path_to s ps zero n = []
-path_to s ps (suc most) n =
-    if n == 0 then [] else path_to s ps most (position_at ps n).parent ++ place_at s (position_at ps n).node (position_at ps n).item ∷ []
+-- where a node is in the object of this number
+abbrev pub location_of : Rows → (outer n : ℕ) → Option ℕ → Location
+location_of s outer n number = record { outer = outer; place = place_at s n number }
+
+-- where the objects are that were entered
+abbrev pub objects_of : Rows → List Position → List Location
+objects_of s ps = map (λ p. location_of s p.parent p.node p.item) ps
+
+-- the paths of values in them
+abbrev pub paths_of : Rows → List Position → List Location → List (List Place)
+paths_of s ps vs = map (value_path (objects_of s ps)) vs
 
 abbrev pub path_of : Rows → List Position → Noted → List Place
-path_of s ps n = path_to s ps n.position n.position ++ place_at s n.node n.item ∷ []
+path_of s ps n = value_path (objects_of s ps) (location_of s n.position n.node n.item)
 
 abbrev pub judge_by : Rows → Marks → List Position → Noted → Option Link → List (List Place)
 judge_by s m ps n None = []

@@ -4,4 +4,7 @@ pub mod Meetings
 pub mod Values
 pub mod References
 pub mod Findings
+pub mod InnerLocations
+pub mod InnerSteps
+pub mod InnerNames
 pub mod InnerAnswers

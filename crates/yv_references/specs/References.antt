@@ -1,7 +1,6 @@
 -- The references of a document that reach nothing (RFC 7950, sections 9.9 and 9.9.3).
-use Rattle.std.specs.Prelude.{ℕ, ◌+◌, ◌==◌, ◌&&◌, ◌||◌, List, [], ◌∷◌, length, map, filter, Bool, false, Option, Some, option_map, Vec, if◌then◌else◌}
+use Rattle.std.specs.Prelude.{ℕ, ◌+◌, ◌==◌, ◌&&◌, ◌||◌, List, [], ◌∷◌, length, map, filter, Bool, false, Option, Some, option_map, if◌then◌else◌}
 use Rattle.std.specs.List.{flat_map}
-use Rattle.std.specs.declared.alloc.Global.{Global}
 use Rattle.serde_json.specs.Data.{Data}
 use Rattle.yv_selection.specs.declared.kind.Kind.{Kind}
 use Rattle.yv_values.specs.Same.{is_among}
@@ -54,7 +53,3 @@ value_lookups _ _ = 0
 abbrev pub lookups_at : (ℕ → Option Link) → Meeting → ℕ
 lookups_at links (written m) = value_lookups (links m.node.0) (value_of m.label m.found)
 lookups_at links _ = 0
-
--- paths as the program tells them
-abbrev pub paths_in : List (Vec Place Global) → List (List Place)
-paths_in paths = map (λ path. path.items) paths

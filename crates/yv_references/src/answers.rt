@@ -1,21 +1,22 @@
 //! The values of leafrefs that reach nothing.
-ghost use Rattle.std.specs.Prelude.{◌≡◌, ◌+◌, [], ◌∷◌, ◌++◌, List, IfOk, OnErr, OnOk, option_map, unwrap_or, if◌then◌else◌};
+ghost use Rattle.std.specs.Prelude.{◌≡◌, ◌+◌, [], ◌++◌, List, IfOk, OnErr, OnOk, option_map, unwrap_or, if◌then◌else◌};
 ghost use Rattle.std.specs.List.{sum_by};
 ghost use Rattle.serde_json.specs.Data.{Members, object};
 ghost use Rattle.yv_selection.specs.declared.kind.Kind.{Kind};
 ghost use Rattle.yv_values.specs.Count.{counted};
 ghost use Rattle.yv_nodes.specs.Link.{link_in};
 ghost use Rattle.yv_references.specs.Findings.{HasMet, position_at, Spreads, Used};
-ghost use Rattle.yv_references.specs.InnerAnswers.{AreMarks, asked, asked_once, climbed_to, defaults_at, further_out, is_used, judge, judged, Marks, path_to, place_at};
+ghost use Rattle.yv_references.specs.InnerAnswers.{AreMarks, asked, asked_once, climbed_to, defaults_at, further_out, is_used, judge, judged, location_of, Marks, objects_of, paths_of};
+ghost use Rattle.yv_references.specs.InnerNames.{AreNames};
 ghost use Rattle.yv_references.specs.Meetings.{all_met};
-ghost use Rattle.yv_references.specs.References.{all_references, lookups_at, paths_in};
+ghost use Rattle.yv_references.specs.References.{all_references, lookups_at};
 
 use crate::found::{Found, Note, Position};
-use crate::place::Step;
+use crate::names::Names;
+use crate::paths::{Location, Locations, ValuePath, share};
 use crate::targets::Targets;
 use crate::uses::Uses;
 use std::alloc::{AllocError, Global};
-use std::rc::RcStr;
 use yv_nodes::{Links, NodeId};
 use yv_tables::Schema;
 use yv_values::{Defaults, Meter, Tuple};
@@ -28,9 +29,9 @@ pub fn answer(
     schema: &Schema,
     found: Found,
     meter: &mut Meter,
-) -> Result<Vec<Vec<Step>>, AllocError>
+) -> Result<Vec<ValuePath>, AllocError>
     ensures told { IfOk result (λ paths. (k : Kind) (ms : Members) → HasMet k schema.now ms found
-        → paths_in paths.items ≡ all_references k schema.now (object ms)) }
+        → paths.items ≡ all_references k schema.now (object ms)) }
     ensures steps { OnOk result ((k : Kind) (ms : Members) → HasMet k schema.now ms found
         → counted meter.new ≡ counted (meter.old + sum_by (lookups_at (link_in schema.now.links)) (all_met k schema.now (object ms)))) }
     ensures same { OnErr result (meter.new ≡ meter.old) }
@@ -69,27 +70,33 @@ struct Answers<'a> {
 }
 
 impl Answers<'_> {
-    fn all(&self, notes: Vec<Note>, meter: &mut Meter) -> Result<Vec<Vec<Step>>, AllocError>
+    fn all(&self, notes: Vec<Note>, meter: &mut Meter) -> Result<Vec<ValuePath>, AllocError>
         ensures told { IfOk result (λ paths. (m : Marks) → AreMarks self.now.targets self.now.uses m
-            → paths_in paths.items ≡ judged self.now.schema.now (link_in self.now.links.now) m self.now.positions.items notes.items) }
+            → paths.items ≡ judged self.now.schema.now (link_in self.now.links.now) m self.now.positions.items notes.items) }
         ensures steps { OnOk result (counted meter.new ≡ counted (meter.old + asked (link_in self.now.links.now) notes.items)) }
     {
-        let mut paths = Vec::new(self.alloc);
+        let mut names = Names::new(self.alloc);
+        let mut values = Vec::new(self.alloc);
         for note in notes {
-            self.one(note, &mut paths, meter)?;
+            self.one(note, &mut names, &mut values, meter)?;
         }
-        Ok(paths)
+        self.paths_to(&mut names, values)
     }
 
     fn one(
         &self,
         note: Note,
-        paths: &mut Vec<Vec<Step>>,
+        names: &mut Names,
+        values: &mut Vec<Location>,
         meter: &mut Meter,
     ) -> Result<(), AllocError>
+        requires { AreNames self.now.schema.now names.old }
         ensures told { OnOk result ((m : Marks) → AreMarks self.now.targets self.now.uses m
-            → paths_in paths.new.items ≡ paths_in paths.old.items ++ judge self.now.schema.now (link_in self.now.links.now) m self.now.positions.items note) }
+            → paths_of self.now.schema.now self.now.positions.items values.new.items
+            ≡ paths_of self.now.schema.now self.now.positions.items values.old.items
+            ++ judge self.now.schema.now (link_in self.now.links.now) m self.now.positions.items note) }
         ensures steps { OnOk result (counted meter.new ≡ counted (meter.old + asked_once (link_in self.now.links.now note.node))) }
+        ensures names { OnOk result (AreNames self.now.schema.now names.new) }
     {
         let link = match self.links.link(note.node) {
             Some(link) => link,
@@ -112,7 +119,7 @@ impl Answers<'_> {
         {
             return Ok(());
         }
-        paths.push(self.path_of(position, node, item)?)?;
+        values.push(self.location(names, position, node, item)?)?;
         Ok(())
     }
 
@@ -177,50 +184,49 @@ impl Answers<'_> {
         }
     }
 
-    fn path_of(
+    // The paths to values in the objects that were entered.
+    fn paths_to(
         &self,
-        position: u64,
-        node: NodeId,
-        item: Option<u64>,
-    ) -> Result<Vec<Step>, AllocError>
-        ensures { IfOk result (λ path. path.items
-            ≡ path_to self.now.schema.now self.now.positions.items position position ++ place_at self.now.schema.now node.0 item ∷ []) }
+        names: &mut Names,
+        values: Vec<Location>,
+    ) -> Result<Vec<ValuePath>, AllocError>
+        requires { AreNames self.now.schema.now names.old }
+        ensures { IfOk result (λ paths. paths.items ≡ paths_of self.now.schema.now self.now.positions.items values.items) }
     {
-        let mut path = self.path_to(position, position)?;
-        path.push(self.step(node, item)?)?;
-        Ok(path)
-    }
-
-    // The path of an object, which stands in at most so many others.
-    fn path_to(&self, most: u64, position: u64) -> Result<Vec<Step>, AllocError>
-        ensures { IfOk result (λ path. path.items ≡ path_to self.now.schema.now self.now.positions.items most position) }
-    {
-        if most == 0 || position == 0 {
+        if values.is_empty() {
             return Ok(Vec::new(self.alloc));
         }
-        let mut path = self.path_to(most - 1, self.parent_of(position))?;
-        path.push(self.step_at(position)?)?;
-        Ok(path)
+        let objects = self.objects(names)?;
+        share(self.alloc, Locations { objects, values })
     }
 
-    fn step_at(&self, position: u64) -> Result<Step, AllocError>
-        ensures { IfOk result (λ step. step ≡ place_at self.now.schema.now
-            (position_at self.now.positions.items position).node (position_at self.now.positions.items position).item) }
+    // Where the objects are that were entered.
+    fn objects(&self, names: &mut Names) -> Result<Vec<Location>, AllocError>
+        requires { AreNames self.now.schema.now names.old }
+        ensures { IfOk result (λ objects. objects.items ≡ objects_of self.now.schema.now self.now.positions.items) }
     {
-        match self.positions.get(position as usize) {
-            Some(found) => self.step(found.node, found.item),
-            None => self.step(NodeId(0), None),
+        let mut objects = Vec::new(self.alloc);
+        for object in &self.positions {
+            objects.push(self.location(names, object.parent, object.node, object.item)?)?;
         }
+        Ok(objects)
     }
 
-    // A node as a step. What the schema doesn't have, and no walk notes, has no name.
-    fn step(&self, node: NodeId, item: Option<u64>) -> Result<Step, AllocError>
-        ensures { IfOk result (λ step. step ≡ place_at self.now.schema.now node.0 item) }
+    fn location(
+        &self,
+        names: &mut Names,
+        outer: u64,
+        node: NodeId,
+        item: Option<u64>,
+    ) -> Result<Location, AllocError>
+        requires { AreNames self.now.schema.now names.old }
+        ensures names { OnOk result (AreNames self.now.schema.now names.new) }
+        ensures location { IfOk result (λ location. location ≡ location_of self.now.schema.now outer node.0 item) }
     {
-        if node.number() < self.schema.len() {
-            Step::of(self.schema.node(node), item)
-        } else {
-            Ok(Step::named(RcStr::from_str(self.alloc, "")?, item))
-        }
+        Ok(Location {
+            outer,
+            name: names.name_of(self.schema, node)?,
+            item,
+        })
     }
 }

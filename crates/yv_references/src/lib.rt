@@ -4,6 +4,8 @@
 mod answers;
 mod found;
 pub mod laws;
+mod names;
+mod paths;
 mod place;
 mod scope;
 mod targets;
@@ -11,5 +13,6 @@ mod uses;
 
 pub use answers::answer;
 pub use found::Found;
+pub use paths::{LastStep, ValuePath, ValueSteps};
 pub use place::{MemberName, Step};
 pub use scope::Scope;

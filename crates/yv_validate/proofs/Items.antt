@@ -18,11 +18,11 @@ use Rattle.yv_references.specs.Meetings.{at, Ending, ending, entered, entry_met,
 use Rattle.yv_references.specs.Place.{Place, step_name}
 use Rattle.yv_references.specs.References.{number_of}
 use Rattle.yv_validate.specs.declared.fault.FaultKind.TheVariants.{Duplicate, Value as Unread}
-use Rattle.yv_validate.specs.Faults.{end_faults, faults_at, flaw, flaw_if, is_repeated, Leafs, leafs_of, unique_faults, value_faults}
+use Rattle.yv_validate.specs.Faults.{end_faults, faults_at, flaw, Leafs, leafs_of, repeated_item, repeat_faults, unique_faults, value_faults}
 use Rattle.yv_validate.specs.Flaw.{Flaw}
 use Rattle.yv_validate.specs.InnerNotes.{list_tuple}
 use Rattle.yv_validate.specs.InnerWalk.{entries_at, Grows, inside_at, items_at, Told, value_found, written_at}
-use Rattle.yv_validate.specs.Repeats.{repeats}
+use Rattle.yv_validate.specs.Repeats.{repeated}
 use Rattle.yv_validate.specs.Values.{entry_tuple}
 use Rattle.yv_validate.specs.Work.{end_work, item_work, value_work, work_at}
 use Rattle.yv_validate.proofs.Grown.{Behind, grows_both, Quiet}
@@ -64,19 +64,19 @@ writes reads k s n spot before d a faults found steps told kept taken =
       steps = omega (arith, taken, sum_by-cons (work_at k s) (written m) []);
     }
 
-pub read_told : (m : Written) (old new : List Flaw) (b : Bool) → is_some (value_of m.label m.found) ≡ true → b ≡ is_repeated m.label m.before m.found
-    → new ≡ old ++ flaw_if b Duplicate (at m.spot m.label (number_of m.before)) → new ≡ old ++ value_faults m
-read_told m old new b has is told =
+pub read_told : (m : Written) (old new : List Flaw) (first : Option ℕ) → is_some (value_of m.label m.found) ≡ true → first ≡ repeated_item m.label m.before m.found
+    → new ≡ old ++ repeat_faults first Duplicate (at m.spot m.label (number_of m.before)) 0 → new ≡ old ++ value_faults m
+read_told m old new first has is told =
     let here : List Place = at m.spot m.label (number_of m.before) in
-    told ∙ ap (λ (fs : List Flaw). old ++ fs) (ap (λ (x : Bool). flaw_if x Duplicate here) is
-    ∙ sym (ap (λ (x : Bool). cond x (flaw_if (is_repeated m.label m.before m.found) Duplicate here) (flaw Unread here ∷ [])) has))
+    told ∙ ap (λ (fs : List Flaw). old ++ fs) (ap (λ (o : Option ℕ). repeat_faults o Duplicate here 0) is
+    ∙ sym (ap (λ (x : Bool). cond x (repeat_faults (repeated_item m.label m.before m.found) Duplicate here 0) (flaw Unread here ∷ [])) has))
 
 pub unread_told : (m : Written) (old new : List Flaw) → is_some (value_of m.label m.found) ≡ false
     → new ≡ old ++ flaw Unread (at m.spot m.label (number_of m.before)) ∷ [] → new ≡ old ++ value_faults m
 unread_told m old new none told =
     let here : List Place = at m.spot m.label (number_of m.before) in
     told ∙ ap (λ (fs : List Flaw). old ++ fs)
-    (sym (ap (λ (x : Bool). cond x (flaw_if (is_repeated m.label m.before m.found) Duplicate here) (flaw Unread here ∷ [])) none))
+    (sym (ap (λ (x : Bool). cond x (repeat_faults (repeated_item m.label m.before m.found) Duplicate here 0) (flaw Unread here ∷ [])) none))
 
 -- the first of the items that are left
 pub items_split : (s : Rows) (n : NodeId) (spot : Spot) (next : ℕ) (xs : List Value) (i : ℕ) (x : Value) → i < length xs → x ≡ get_or xs i x
@@ -129,8 +129,8 @@ entries_split k s n spot next xs i x lt is =
     ∙ ap (λ (ds : List Data). here ++ entries_at k s n ds (items_view (drop (i + 1) xs)) spot (next + entered here)) (sym (one_more xs i x lt is))
 
 -- what is told at the end of an entry: its keys, and the `unique` statements
-pub end_told : (leafs : Leafs) (tuple : List (Option NodeId) → Data → Option (List Val)) (here : List Place) (before : List Data) (d : Data) (old mid new : List Flaw) (b : Bool) → b ≡ repeats (tuple leafs.keys) before d
-    → mid ≡ old ++ flaw_if b Duplicate here → new ≡ mid ++ unique_faults tuple here 1 leafs.uniques before d → new ≡ old ++ end_faults leafs tuple here before d
-end_told leafs tuple here before d old mid new b repeated told uniques =
-    told_both old (flaw_if (repeats (tuple leafs.keys) before d) Duplicate here) (unique_faults tuple here 1 leafs.uniques before d)
-    (told ∙ ap (λ (x : Bool). old ++ flaw_if x Duplicate here) repeated) uniques
+pub end_told : (leafs : Leafs) (tuple : List (Option NodeId) → Data → Option (List Val)) (here : List Place) (before : List Data) (d : Data) (old mid new : List Flaw) (first : Option ℕ) → first ≡ repeated (tuple leafs.keys) before d
+    → mid ≡ old ++ repeat_faults first Duplicate here 0 → new ≡ mid ++ unique_faults tuple here 1 leafs.uniques before d → new ≡ old ++ end_faults leafs tuple here before d
+end_told leafs tuple here before d old mid new first is told uniques =
+    told_both old (repeat_faults (repeated (tuple leafs.keys) before d) Duplicate here 0) (unique_faults tuple here 1 leafs.uniques before d)
+    (told ∙ ap (λ (o : Option ℕ). old ++ repeat_faults o Duplicate here 0) is) uniques

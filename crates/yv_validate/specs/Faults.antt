@@ -21,14 +21,20 @@ use Rattle.yv_references.specs.References.{all_references, number_of}
 use Rattle.yv_validate.specs.declared.fault.FaultKind.{FaultKind}
 use Rattle.yv_validate.specs.declared.fault.FaultKind.TheVariants.{Unknown, Shape, Value, MissingKey, Duplicate, Unique, Mandatory, Min, Max, Choice, Reference, State}
 use Rattle.yv_validate.specs.Flaw.{Flaw}
-use Rattle.yv_validate.specs.Repeats.{repeats}
+use Rattle.yv_validate.specs.Repeats.{repeated}
 use Rattle.yv_validate.specs.Values.{entry_tuple, key_leafs, unique_leafs}
 
 abbrev pub flaw : FaultKind → List Place → Flaw
-flaw kind path = record { kind = kind; path = path; number = 0 }
+flaw kind path = record { kind = kind; path = path; number = 0; earlier = None }
 
 abbrev pub flaw_if : Bool → FaultKind → List Place → List Flaw
 flaw_if b kind path = if b then flaw kind path ∷ [] else []
+
+-- an entry or item that repeats an earlier one of this number, where there is one: a fault tells numbers of 32 bits
+abbrev pub repeat_faults : Option ℕ → FaultKind → List Place → (number : ℕ) → List Flaw
+repeat_faults None kind here number = []
+repeat_faults (Some first) kind here number =
+    record { kind = kind; path = here; number = number; earlier = Some (min first 4294967295) } ∷ []
 
 -- ---- an object
 
@@ -43,27 +49,27 @@ object_faults m _ = flaw Shape m.spot.path ∷ []
 abbrev pub item_tuple : Label → Data → Option (List Val)
 item_tuple l d = if l.is_config then option_map (λ v. v ∷ []) (value_of l d) else None
 
--- an item has the value of one before it
-abbrev pub is_repeated : Label → Option (List Data) → Data → Bool
-is_repeated l None d = false
-is_repeated l (Some before) d = repeats (item_tuple l) before d
+-- an item has the value of one before it, the first of which has this number
+abbrev pub repeated_item : Label → Option (List Data) → Data → Option ℕ
+repeated_item l None d = None
+repeated_item l (Some before) d = repeated (item_tuple l) before d
 
 abbrev pub value_faults : Written → List Flaw
 value_faults m =
     let here : List Place = at m.spot m.label (number_of m.before) in
-    if is_some (value_of m.label m.found) then flaw_if (is_repeated m.label m.before m.found) Duplicate here else flaw Value here ∷ []
+    if is_some (value_of m.label m.found) then repeat_faults (repeated_item m.label m.before m.found) Duplicate here 0 else flaw Value here ∷ []
 
 -- ---- the end of an entry
 
--- a `unique` statement that is repeated, by its number from 1: a fault tells numbers of 32 bits
-abbrev pub unique_if : Bool → List Place → ℕ → List Flaw
-unique_if b here n = if b then record { kind = Unique; path = here; number = min n 4294967295 } ∷ [] else []
+-- a `unique` statement that is repeated, by its number from 1, and the first entry that it repeats
+abbrev pub unique_if : Option ℕ → List Place → ℕ → List Flaw
+unique_if first here n = repeat_faults first Unique here (min n 4294967295)
 
 -- the `unique` statements, the first of which has this number, whose values an entry repeats (section 7.8.3)
 abbrev pub unique_faults : (List (Option NodeId) → Data → Option (List Val)) → List Place → ℕ → List (List (Option NodeId)) → List Data → Data → List Flaw
 unique_faults tuple here from [] before d = []
 unique_faults tuple here from (leafs ∷ rest) before d =
-    unique_if (repeats (tuple leafs) before d) here from ++ unique_faults tuple here (from + 1) rest before d
+    unique_if (repeated (tuple leafs) before d) here from ++ unique_faults tuple here (from + 1) rest before d
 
 -- the leafs that make entries of a list differ
 pub record Leafs : Type 0 where
@@ -76,7 +82,7 @@ leafs_of s n l = record { keys = key_leafs s n l; uniques = unique_leafs s n l }
 -- after an entry: whether its keys are those of one before (section 7.8.2), and then the `unique` statements
 abbrev pub end_faults : Leafs → (List (Option NodeId) → Data → Option (List Val)) → List Place → List Data → Data → List Flaw
 end_faults leafs tuple here before d =
-    flaw_if (repeats (tuple leafs.keys) before d) Duplicate here ++ unique_faults tuple here 1 leafs.uniques before d
+    repeat_faults (repeated (tuple leafs.keys) before d) Duplicate here 0 ++ unique_faults tuple here 1 leafs.uniques before d
 
 -- the values of these leafs in an entry, where each has one
 abbrev pub tuple_at : Kind → Rows → Ending → List (Option NodeId) → Data → Option (List Val)

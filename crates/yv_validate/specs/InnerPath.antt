@@ -2,11 +2,12 @@
 -- innermost first.
 use Rattle.std.specs.Prelude.{ℕ, List, [], ◌∷◌, ◌++◌, map, Bool, true, false, Option, Some, None, is_some}
 use Rattle.yv_nodes.specs.Rows.{Rows, row_at}
+use Rattle.yv_references.specs.InnerSteps.{left_steps as value_steps}
 use Rattle.yv_references.specs.Place.{Place, step_name}
 use Rattle.yv_validate.specs.Part.{part_of}
 use Rattle.yv_validate.specs.declared.path.Entries.{Entries, Outside, Within'}
 use Rattle.yv_validate.specs.declared.path.Kept.{Kept}
-use Rattle.yv_validate.specs.declared.path.Kept.TheVariants.{Shared, Own}
+use Rattle.yv_validate.specs.declared.path.Kept.TheVariants.{Shared, Value}
 use Rattle.yv_validate.specs.declared.path.Left.{Left}
 use Rattle.yv_validate.specs.declared.path.Left.TheVariants as left
 use Rattle.yv_validate.specs.declared.path.Part.{Part}
@@ -43,11 +44,11 @@ spelled (name ∷ names) ns item =
 
 abbrev pub kept_steps : Kept → List Place
 kept_steps (Shared way entries item) = spelled (way_names way.value) (numbers entries.value) item
-kept_steps (Own steps) = steps.items
+kept_steps (Value path) = path
 
 abbrev pub left_steps : Left → List Place
 left_steps (left.Shared way entries item) = spelled (way_names way.now) (numbers entries.now) item
-left_steps (left.Own steps) = steps.now
+left_steps (left.Value steps) = value_steps steps
 
 -- ---- a way as the walk keeps it
 

@@ -66,7 +66,7 @@ pub struct Fault {
     pub kind: FaultKind,
     pub path: Path,
     pub number: u32,
-    /// The number from 1 of the first entry or item that this one repeats, for `Duplicate` and `Unique`. No clause speaks of it.
+    /// The number from 1 of the first entry or item that this one repeats, for `Duplicate` and `Unique`.
     pub earlier: Option<u32>,
 }
 
@@ -75,7 +75,7 @@ impl Model for Fault {
 
     ghost Value = { Flaw };
 
-    ghost view = { λ f. record { kind = f.kind; path = f.path; number = f.number } };
+    ghost view = { λ f. record { kind = f.kind; path = f.path; number = f.number; earlier = f.earlier } };
 }
 
 /// The faults of a document, in their order, and how many members were looked up, nodes met, types tried, and tuples and references

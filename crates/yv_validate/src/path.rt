@@ -2,13 +2,14 @@
 ghost use Rattle.std.specs.Prelude.{◌≡◌, ◌==◌, [], ◌∷◌, ◌++◌, length, IfOk, MatchOption, string_bytes};
 ghost use Rattle.std.specs.Option.{option_map};
 ghost use Rattle.yv_nodes.specs.Member.{behind};
+ghost use Rattle.yv_references.specs.InnerSteps.{left_steps};
 ghost use Rattle.yv_validate.specs.InnerPath.{first_if, numbers, rest_if, spelled, way_names};
 ghost use Rattle.yv_validate.specs.Part.{part_of, steps_of};
 
 use std::alloc::{AllocError, Global};
 use std::marker::Model;
 use std::rc::Rc;
-use yv_references::{MemberName, Step};
+use yv_references::{MemberName, Step, ValuePath, ValueSteps};
 
 /// The way to a node, or to a member that names none: what its steps are called. The ways below one share it.
 #[derive(Drop)]
@@ -33,8 +34,8 @@ pub(crate) enum Entries {
 enum Kept {
     // By its way, the entries around its place, and the number of that, where it is an entry or an item itself.
     Shared(Rc<Way>, Rc<Entries>, Option<u64>),
-    // By steps of its own.
-    Own(Vec<Step>),
+    // That of a value.
+    Value(ValuePath),
 }
 
 /// The path to a place of a document from the top. Paths share what is around their places, so that one takes as much memory where it
@@ -64,12 +65,12 @@ impl Path {
         }
     }
 
-    /// The path of these steps.
-    pub(crate) fn own(steps: Vec<Step>) -> Path
-        ensures { result ≡ steps.items }
+    /// The path to a value.
+    pub(crate) fn to_value(path: ValuePath) -> Path
+        ensures { result ≡ path }
     {
         Path {
-            kept: Kept::Own(steps),
+            kept: Kept::Value(path),
         }
     }
 
@@ -81,8 +82,8 @@ impl Path {
             Kept::Shared(way, entries, item) => PathSteps {
                 left: Left::Shared(way.as_ref(), entries.as_ref(), *item),
             },
-            Kept::Own(steps) => PathSteps {
-                left: Left::Own(steps.as_slice()),
+            Kept::Value(path) => PathSteps {
+                left: Left::Value(path.steps()),
             },
         }
     }
@@ -92,7 +93,7 @@ impl Path {
 #[derive(Clone, Copy)]
 enum Left<'p> {
     Shared(&'p Way, &'p Entries, Option<u64>),
-    Own(&'p [Step]),
+    Value(ValueSteps<'p>),
 }
 
 /// A step of a path: what the member is called, and its number from 1 where it is an entry or an item of an array.
@@ -145,7 +146,7 @@ impl<'p> PathSteps<'p> {
     {
         match self.left {
             Left::Shared(way, _, _) => matches!(way, Way::Start),
-            Left::Own(steps) => steps.is_empty(),
+            Left::Value(steps) => steps.split_last().is_none(),
         }
     }
 
@@ -155,7 +156,7 @@ impl<'p> PathSteps<'p> {
     {
         match self.left {
             Left::Shared(way, entries, item) => last_of(way, entries, item),
-            Left::Own(steps) => last_among(steps),
+            Left::Value(steps) => last_among(&steps),
         }
     }
 
@@ -222,20 +223,16 @@ fn around<'p>(way: &'p Way, is_entry: bool, entries: &'p Entries) -> PathSteps<'
     }
 }
 
-fn last_among<'p>(steps: &'p [Step]) -> Option<(Part<'p>, PathSteps<'p>)>
-    ensures { MatchOption result (steps.now ≡ []) (λ r. steps.now ≡ r.1 ++ part_of r.0 ∷ []) }
+fn last_among<'p>(steps: &ValueSteps<'p>) -> Option<(Part<'p>, PathSteps<'p>)>
+    ensures { MatchOption result (left_steps steps.now ≡ []) (λ r. left_steps steps.now ≡ r.1 ++ part_of r.0 ∷ []) }
 {
-    match steps.split_last() {
-        None => None,
-        Some((last, before)) => {
-            let part = Part {
-                name: last.parts(),
-                item: last.item,
-            };
-            let before = PathSteps {
-                left: Left::Own(before),
-            };
-            Some((part, before))
-        }
-    }
+    let last = steps.split_last()?;
+    let part = Part {
+        name: last.name,
+        item: last.item,
+    };
+    let before = PathSteps {
+        left: Left::Value(last.before),
+    };
+    Some((part, before))
 }

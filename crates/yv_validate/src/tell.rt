@@ -1,10 +1,9 @@
 //! Faults as they are reported, with the way to their place.
-ghost use Rattle.std.specs.Prelude.{◌≡◌, ◌&&◌, ◌∷◌, [], ◌++◌, is_some, map, OnOk};
+ghost use Rattle.std.specs.Prelude.{◌≡◌, ◌&&◌, ◌∷◌, [], ◌++◌, map, OnOk};
 ghost use Rattle.yv_validate.specs.InnerTrail.{places, IsWithin};
 ghost use Rattle.yv_references.specs.InUse.{enforces};
-ghost use Rattle.yv_validate.specs.Faults.{flaw, flaw_if, reference_faults};
+ghost use Rattle.yv_validate.specs.Faults.{flaw, flaw_if, reference_faults, repeat_faults};
 ghost use Rattle.yv_references.specs.Place.{under};
-ghost use Rattle.yv_references.specs.References.{paths_in};
 
 use crate::fault::{Fault, FaultKind};
 use crate::faults::Faults;
@@ -13,16 +12,16 @@ use crate::trail::Trail;
 use crate::walk::Walk;
 use std::alloc::AllocError;
 use yv_nodes::Node;
-use yv_references::{Scope, Step};
+use yv_references::{Scope, ValuePath};
 
 /// Reports the references that reach nothing, which are at these paths.
-pub(crate) fn tell_references(paths: Vec<Vec<Step>>, faults: &mut Faults) -> Result<(), AllocError>
-    ensures { OnOk result (faults.new.items ≡ faults.old.items ++ reference_faults (paths_in paths.items)) }
+pub(crate) fn tell_references(paths: Vec<ValuePath>, faults: &mut Faults) -> Result<(), AllocError>
+    ensures { OnOk result (faults.new.items ≡ faults.old.items ++ reference_faults paths.items) }
 {
     for path in paths {
         faults.push(Fault {
             kind: FaultKind::Reference,
-            path: Path::own(path),
+            path: Path::to_value(path),
             number: 0,
             earlier: None,
         })?;
@@ -58,7 +57,7 @@ impl Walk<'_> {
         faults: &mut Faults,
     ) -> Result<(), AllocError>
         requires { IsWithin self.now.schema.now trail.now }
-        ensures { OnOk result (faults.new.items ≡ faults.old.items ++ flaw_if (is_some first) FaultKind.Duplicate (places self.now.schema.now trail.now)) }
+        ensures { OnOk result (faults.new.items ≡ faults.old.items ++ repeat_faults first FaultKind.Duplicate (places self.now.schema.now trail.now) 0) }
     {
         let Some(place) = first else {
             return Ok(());
@@ -68,7 +67,7 @@ impl Walk<'_> {
             kind: FaultKind::Duplicate,
             path,
             number: 0,
-            earlier: u32::try_from(place).ok(),
+            earlier: Some(place.min(4294967295) as u32),
         })
     }
 

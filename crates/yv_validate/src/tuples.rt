@@ -1,5 +1,5 @@
 //! The tuples by which list entries differ.
-ghost use Rattle.std.specs.Prelude.{◌≡◌, ◌∷◌, [], ◌++◌, ◌+◌, ◌<◌, length, map, min, Some, is_some, IfOk, OnOk};
+ghost use Rattle.std.specs.Prelude.{◌≡◌, ◌∷◌, [], ◌++◌, ◌+◌, ◌<◌, length, map, min, Some, IfOk, OnOk};
 ghost use Rattle.serde_json.specs.Data.{Data};
 ghost use Rattle.serde_json.specs.View.{view};
 ghost use Rattle.yv_values.specs.Count.{counted};
@@ -88,7 +88,7 @@ impl Walk<'_> {
         faults: &mut Faults,
     ) -> Result<(), AllocError>
         requires { IsWithin self.now.schema.now here.now }
-        ensures { OnOk result (faults.new.items ≡ faults.old.items ++ unique_if (is_some first) (places self.now.schema.now here.now) (before + 1)) }
+        ensures { OnOk result (faults.new.items ≡ faults.old.items ++ unique_if first (places self.now.schema.now here.now) (before + 1)) }
     {
         let Some(place) = first else {
             return Ok(());
@@ -98,7 +98,7 @@ impl Walk<'_> {
             kind: FaultKind::Unique,
             path,
             number: before.saturating_add(1).min(4294967295) as u32,
-            earlier: u32::try_from(place).ok(),
+            earlier: Some(place.min(4294967295) as u32),
         })
     }
 }

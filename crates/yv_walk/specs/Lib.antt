@@ -1,5 +1,6 @@
 pub mod Standing
 pub mod Marked
+pub mod InnerMarks
 pub mod Named
 pub mod Written
 pub mod Context

@@ -1,7 +1,8 @@
 //! The data nodes that exist in each choice and case of an object.
-ghost use Rattle.std.specs.Prelude.{◌≡◌, ◌<◌, ◌≤◌, ℕ, length, OnOk, true};
+ghost use Rattle.std.specs.Prelude.{◌≡◌, ◌==◌, ◌<◌, ◌≤◌, ℕ, length, OnErr, OnOk, true};
 ghost use Rattle.yv_nodes.specs.declared.node.NodeId.{NodeId};
 ghost use Rattle.yv_nodes.specs.Rows.{below, rank};
+ghost use Rattle.yv_walk.specs.InnerMarks.{has_room, HasRoomAround};
 ghost use Rattle.yv_walk.specs.Marked.{joined, mark_at};
 ghost use Rattle.yv_walk.specs.Standing.{holds, passes};
 ghost use Rattle.yv_walk.specs.declared.standing.Standing.TheVariants.{Nothing};
@@ -38,19 +39,65 @@ impl Marks {
         }
     }
 
-    /// Marks the choices and cases that contain a node that exists.
+    /// Marks the choices and cases that contain a node that exists. It fails only if memory runs out, and then each mark is as before.
     pub fn mark(&mut self, schema: &Schema, id: NodeId) -> Result<(), AllocError>
         requires { id.0 < length schema.now.nodes }
-        ensures { OnOk result ((a : NodeId) → a.0 < length schema.now.nodes → passes schema.now a ≡ true
+        ensures marked { OnOk result ((a : NodeId) → a.0 < length schema.now.nodes → passes schema.now a ≡ true
             → mark_at self.new a.0 ≡ joined (holds (rank a) (below schema.now a) id) (mark_at self.old a.0) id) }
+        ensures same { OnErr result ((n : ℕ) → mark_at self.new n ≡ mark_at self.old n) }
+    {
+        self.make_room(schema, id)?;
+        self.mark_all(schema, id);
+        Ok(())
+    }
+
+    // Makes room for the marks of the choices and cases that contain a node, so that none of them can fail.
+    fn make_room(&mut self, schema: &Schema, id: NodeId) -> Result<(), AllocError>
+        requires { id.0 < length schema.now.nodes }
+        ensures same { (n : ℕ) → mark_at self.new n ≡ mark_at self.old n }
+        ensures room { OnOk result (HasRoomAround schema.now self.new id) }
     {
         let mut here = schema.node(id).parent();
         while is_passed(schema, here) {
-            let more = self.standing(here.number()).and(Standing::Only(id));
-            self.rows.insert(here.number(), more)?;
+            self.make_room_at(here.number())?;
             here = schema.node(here).parent();
         }
         Ok(())
+    }
+
+    fn make_room_at(&mut self, number: u32) -> Result<(), AllocError>
+        ensures same { (n : ℕ) → mark_at self.new n ≡ mark_at self.old n }
+        ensures kept { (n : ℕ) → has_room self.old n ≡ true → has_room self.new n ≡ true }
+        ensures room { OnOk result (has_room self.new number ≡ true) }
+    {
+        if !self.rows.contains_key(&number) {
+            self.rows.insert(number, Standing::Nothing)?;
+        }
+        Ok(())
+    }
+
+    // Marks the choices and cases that contain a node, where there is room.
+    fn mark_all(&mut self, schema: &Schema, id: NodeId)
+        requires node { id.0 < length schema.now.nodes }
+        requires room { HasRoomAround schema.now self.old id }
+        ensures { (a : NodeId) → a.0 < length schema.now.nodes → passes schema.now a ≡ true
+            → mark_at self.new a.0 ≡ joined (holds (rank a) (below schema.now a) id) (mark_at self.old a.0) id }
+    {
+        let mut here = schema.node(id).parent();
+        while is_passed(schema, here) {
+            self.mark_one(here.number(), id);
+            here = schema.node(here).parent();
+        }
+    }
+
+    fn mark_one(&mut self, number: u32, id: NodeId)
+        requires { has_room self.old number ≡ true }
+        ensures marked { (n : ℕ) → mark_at self.new n ≡ joined (number == n) (mark_at self.old n) id }
+        ensures kept { (n : ℕ) → has_room self.old n ≡ true → has_room self.new n ≡ true }
+    {
+        if let Some(mark) = self.rows.get_mut(&number) {
+            *mark = mark.and(Standing::Only(id));
+        }
     }
 }
 

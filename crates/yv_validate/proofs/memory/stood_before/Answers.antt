@@ -2,7 +2,7 @@ use Rattle.yv_validate.proofs.Remembered.{tells_none, tells_some}
 use Rattle.yv_validate.proofs.memory.stood_before.Goals as goal
 
 pub returns-in-None-clause-told : goal.returns-in-None-clause-told
-returns-in-None-clause-told c = rw c.in-None.is (tells_none c.args.kept.now)
+returns-in-None-clause-told c = rw c.in-None.is (tells_none c.args.kept.now c.args.place)
 
 pub returns-in_ok-keep_first-in-Some-clause-told : goal.returns-in_ok-keep_first-in-Some-clause-told
 returns-in_ok-keep_first-in-Some-clause-told c =

@@ -32,8 +32,8 @@ returns-clause-told c = λ m g.
     let key : c.push.new.self ≡ n.value ∷ [] = c.in_ok-push.ensures ∙ ap (λ (vs : List Val). vs ++ n.value ∷ []) c.new-key.ensures in
     let linked : links n.node ≡ Some link = sym c.in-Some.ensures ∙ ap Some (sym c.link-2.view_is) in
     rw (← c.note.view_is)
-    (misses s ps n c.within_or_among.result _ c.args.paths.now.items c.push-2.new.self.items c.in_ok-path_of.field-0
+    (misses s ps n c.within_or_among.result _ c.args.values.now.items c.push-2.new.self.items c.in_ok-location.field-0
     (judge_is s links m ps n link c.climbed_to-first.result c.last_of-last.result c.within_or_among.result linked c.climbed_to-first.ensures c.last_of-last.ensures
     (reaches_is s c.args.self.now.targets c.args.self.now.uses m link.target n.value c.climbed_to-first.result c.last_of-last.result _ c.within_or_among.result g
     (c.defaults_in_use-defaults.ensures m.used g.1) (rw key at c.within_or_among.ensures.found)))
-    c.if-within_or_among.false c.in_ok-path_of.ensures c.in_ok-push-2.ensures.items)
+    c.if-within_or_among.false c.in_ok-location.ensures.location c.in_ok-push-2.ensures.items)

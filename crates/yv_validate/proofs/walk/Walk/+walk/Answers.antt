@@ -27,7 +27,7 @@ use Rattle.yv_validate.specs.InnerMemory.{Remembers, RemembersEach}
 use Rattle.yv_validate.specs.InnerNotes.{GainsBy, list_tuple, noted_at, tuple_in}
 use Rattle.yv_validate.specs.InnerTrail.{places}
 use Rattle.yv_validate.specs.InnerWalk.{cases_met, children_met, Closes, container_at, data_met, entries_at, Grows, GrowsWith, inside_at, leaf_at, list_at, next_of, node_at, object_at, one_met, ones_met, plain_at, scope_at, spot_at, Told, told, with_node}
-use Rattle.yv_validate.specs.Repeats.{repeats}
+use Rattle.yv_validate.specs.Repeats.{repeated}
 use Rattle.yv_validate.specs.Values.{leaf_in}
 use Rattle.yv_validate.specs.Work.{tuple_work, uniques_work}
 use Rattle.yv_validate.proofs.Beneath.{AreKids, ones_drop, ones_start, other_kind, rank_is, split_at}
@@ -257,8 +257,8 @@ entries-loop-index-preserved t c =
     let keys : f leafs.keys d ≡ c.in_ok-tuple.tuple = sym (has.each leafs.keys)
     ∙ ap (tuple_in s c.in_ok-notes.notes) (sym c.keys-leafs.ensures) ∙ sym c.in_ok-tuple.ensures in
     let stood = c.in_ok-first.ensures.told in
-    let b = is_some c.in_ok-first.first in
-    let repeated : b ≡ repeats (f leafs.keys) done d = stood.same (f leafs.keys) done d c.loop-index.invariant.keys keys in
+    let which = c.in_ok-first.first in
+    let same : which ≡ repeated (f leafs.keys) done d = stood.same (f leafs.keys) done d c.loop-index.invariant.keys keys in
     let earlier : map view (take i c.deref.result.now) ≡ done = ap (λ (ys : List Value). map view (take i ys)) c.deref.ensures.value in
     let first : rank id ≡ id.0 + 1 = rank_is s id c.node-node.ensures.sound c.requires.node in
     let many : length done ≡ i = many_before xs i lt in
@@ -270,7 +270,7 @@ entries-loop-index-preserved t c =
     let here : ℕ → List Place = λ m. places s c.args.path.now ++ record { member = step_name l; item = Some m } ∷ [] in
     let uniques : c.end_uniques.new.faults.items ≡ c.tell_duplicate.new.faults.items ++ unique_faults f (here (i + 1)) 1 leafs.uniques done d =
     subst (λ (ds : List Data). c.end_uniques.new.faults.items ≡ c.tell_duplicate.new.faults.items ++ unique_faults f (here (i + 1)) 1 leafs.uniques ds d) earlier (c.in_ok-end_uniques.ensures.faults d has) in
-    let ended = end_told leafs f (here (i + 1)) done d mid.faults c.tell_duplicate.new.faults.items c.end_uniques.new.faults.items b repeated c.in_ok-tell_duplicate.ensures uniques in
+    let ended = end_told leafs f (here (i + 1)) done d mid.faults c.tell_duplicate.new.faults.items c.end_uniques.new.faults.items which same c.in_ok-tell_duplicate.ensures uniques in
     record {
       grows = λ outer entry y later.
           let spot : Spot = spot_at s c.args.path.now c.args.position outer entry in
@@ -289,7 +289,7 @@ entries-loop-index-preserved t c =
           grows (entries_split k s id spot (next_of old) xs i x lt is) (c.loop-index.invariant.grows outer entry) y
           (subst (λ (m : ℕ). Grows k s new y (entries_at k s id (map view (take (i + 1) xs)) (items_view (drop (i + 1) xs)) spot m))
           (next_behind c.counted.ensures k s old new one grows) later);
-      keys = subst (Remembers c.stood_before.new.kept (f leafs.keys)) (sym (one_more xs i x lt is)) (stood.next (f leafs.keys) done d c.loop-index.invariant.keys keys);
+      keys = subst (Remembers c.stood_before.new.kept (f leafs.keys)) (sym (one_more xs i x lt is)) (stood.next (f leafs.keys) done d (sym place) c.loop-index.invariant.keys keys);
       uniques = subst (RemembersEach c.end_uniques.new.kept.items f leafs.uniques) (ap (λ (ds : List Data). ds ++ d ∷ []) earlier ∙ sym (one_more xs i x lt is)) (c.in_ok-end_uniques.ensures.kept d has);
     }
 

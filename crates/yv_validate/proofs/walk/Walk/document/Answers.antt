@@ -5,7 +5,7 @@ use Rattle.serde_json.specs.View.{members_view}
 use Rattle.yv_nodes.specs.Link.{link_in}
 use Rattle.yv_references.specs.Meetings.{all_met}
 use Rattle.yv_references.specs.Place.{Place}
-use Rattle.yv_references.specs.References.{lookups_at, paths_in}
+use Rattle.yv_references.specs.References.{lookups_at}
 use Rattle.yv_validate.specs.Faults.{faults_at, reference_faults}
 use Rattle.yv_validate.specs.Flaw.{Flaw}
 use Rattle.yv_validate.specs.InnerWalk.{told}
@@ -24,7 +24,7 @@ returns-clause-faults c =
     let walked : List Flaw = flat_map (faults_at k s) (all_met k s (object ms)) in
     c.into_vec.ensures
     ∙ c.in_ok-tell_references.ensures
-    ∙ ap (λ (fs : List Flaw). fs ++ reference_faults (paths_in c.in_ok-paths.paths.items)) grown.faults
+    ∙ ap (λ (fs : List Flaw). fs ++ reference_faults c.in_ok-paths.paths.items) grown.faults
     ∙ ap (λ (ps : List (List Place)). walked ++ reference_faults ps) (c.in_ok-paths.ensures.told k ms grown.found)
 
 pub returns-clause-steps : goal.returns-clause-steps

@@ -1,4 +1,4 @@
-use Rattle.std.proofs.Common.{◌≡◌, ◌+◌, ◌<◌, ◌≤◌, ◌++◌, List, Option, Bool, is_some, map, min, length, length-set, drop, get_or, refl, sym, ap, ◌∙◌, arith, append-nil}
+use Rattle.std.proofs.Common.{◌≡◌, ℕ, ◌+◌, ◌<◌, ◌≤◌, ◌++◌, List, Option, map, min, length, length-set, drop, get_or, refl, sym, ap, ◌∙◌, arith, append-nil}
 use Rattle.std.proofs.lemmas.List.{drop_all, length-map}
 use Rattle.serde_json.specs.View.{view}
 use Rattle.yv_values.specs.Values.{Val}
@@ -7,7 +7,7 @@ use Rattle.yv_validate.specs.Faults.{unique_faults, unique_if}
 use Rattle.yv_validate.specs.InnerMemory.{Remembers}
 use Rattle.yv_validate.specs.InnerNotes.{list_tuple, tuple_in, uniques_at}
 use Rattle.yv_validate.specs.InnerTrail.{places}
-use Rattle.yv_validate.specs.Repeats.{repeats}
+use Rattle.yv_validate.specs.Repeats.{repeated}
 use Rattle.yv_validate.specs.Work.{tuple_work, uniques_work}
 use Rattle.yv_validate.proofs.Each.{all_done, at_turn, get_map, none_done, some_step, unique_drop, work_drop}
 use Rattle.yv_validate.proofs.Noted.{named_leafs}
@@ -44,7 +44,8 @@ loop-number-preserved c =
     let lt : n < length us = omega (arith, many) in
     let stated : u ≡ get_or us n u = get_map _ rows n c.leafs-item.result c.loop-number-test.true c.leafs-item.is ∙ ap (λ (xs : List (List (Option NodeId))). get_or xs n u) c.uniques-leafs-items.ensures in
     let told = c.in_ok-first.ensures.told in
-    let b = is_some c.in_ok-first.first in
+    let first = c.in_ok-first.first in
+    let place : length before + 1 ≡ length c.args.earlier.now + 1 = ap (λ m. m + 1) (length-map c.args.earlier.now view) in
     record {
       same = length-set c.loop-number.kept.items n c.stood_before.new.kept ∙ c.loop-number.invariant.same;
       each = λ d has.
@@ -52,11 +53,11 @@ loop-number-preserved c =
           let old : Remembers c.index_mut.result.now (f u) before = at_turn c.loop-number.kept.items f us before d n c.index_mut.result.now u lt c.index_mut.ensures.value stated inv.kept in
           let made : f u d ≡ c.in_ok-tuple.tuple =
           sym (has.each u) ∙ ap (λ (xs : List NodeId). tuple_in s c.args.notes.now (named_leafs xs)) (sym c.deref.ensures.value) ∙ sym c.in_ok-tuple.ensures in
-          let is : b ≡ repeats (f u) before d = told.same (f u) before d old made in
+          let is : first ≡ repeated (f u) before d = told.same (f u) before d old made in
           record {
-            faults = joins c.loop-number.faults.items (unique_if (repeats (f u) before d) here (n + 1)) (unique_faults f here (n + 1 + 1) (drop (n + 1) us) before d)
-                (c.in_ok-tell_unique.ensures ∙ ap (λ (x : Bool). c.loop-number.faults.items ++ unique_if x here (n + 1)) is) (unique_drop f here (n + 1) us n u before d lt stated) inv.faults;
-            kept = some_step c.loop-number.kept.items f us before d n c.stood_before.new.kept u lt stated inv.kept (told.next (f u) before d old made);
+            faults = joins c.loop-number.faults.items (unique_if (repeated (f u) before d) here (n + 1)) (unique_faults f here (n + 1 + 1) (drop (n + 1) us) before d)
+                (c.in_ok-tell_unique.ensures ∙ ap (λ (o : Option ℕ). c.loop-number.faults.items ++ unique_if o here (n + 1)) is) (unique_drop f here (n + 1) us n u before d lt stated) inv.faults;
+            kept = some_step c.loop-number.kept.items f us before d n c.stood_before.new.kept u lt stated inv.kept (told.next (f u) before d place old made);
             steps = steps_on c.loop-number.meter c.stood_before.new.meter (tuple_work (f u d)) _ (uniques_work f (drop (n + 1) us) d) _
                 (c.in_ok-first.ensures.steps ∙ ap (λ (t : Option (List Val)). min (c.loop-number.meter + tuple_work t) 18446744073709551615) (sym made))
                 (work_drop f us n u d lt stated) inv.steps;

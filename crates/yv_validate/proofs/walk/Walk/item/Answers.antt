@@ -8,11 +8,11 @@ use Rattle.yv_references.specs.Findings.{Finds}
 use Rattle.yv_references.specs.InUse.{value_of}
 use Rattle.yv_references.specs.Place.{Place, step_name}
 use Rattle.yv_validate.specs.declared.fault.FaultKind.TheVariants.{Duplicate, Value as Unread}
-use Rattle.yv_validate.specs.Faults.{flaw, flaw_if, item_tuple}
+use Rattle.yv_validate.specs.Faults.{flaw, item_tuple, repeat_faults}
 use Rattle.yv_validate.specs.Flaw.{Flaw}
 use Rattle.yv_validate.specs.InnerTrail.{places}
 use Rattle.yv_validate.specs.InnerWalk.{spot_at, Told, told, value_found, written_at}
-use Rattle.yv_validate.specs.Repeats.{repeats}
+use Rattle.yv_validate.specs.Repeats.{repeated}
 use Rattle.yv_validate.specs.Work.{tuple_work, value_work}
 use Rattle.yv_validate.proofs.Items.{read_told, unread_told, writes}
 use Rattle.yv_validate.proofs.Reading.{alone_is}
@@ -31,7 +31,7 @@ returns-clause-grows c =
     let is : c.in_ok-read.read ≡ value_of l d = c.in_ok-read.ensures.value in
     let has : is_some (value_of l d) ≡ true = sym (ap is_some is) ∙ sym c.is_some-is_read.ensures ∙ c.if-not-is_read.false in
     let made : item_tuple l d ≡ c.in_ok-tuple.tuple = alone_is c.node-node.result.now (row_at s id) d c.config.result c.in_ok-read.read c.in_ok-tuple.tuple c.node-node.ensures.value c.config.ensures is c.in_ok-tuple.ensures in
-    let repeated : (is_some c.in_ok-first.first) ≡ repeats (item_tuple l) before d = c.in_ok-first.ensures.told.same (item_tuple l) before d c.requires.kept made in
+    let first : c.in_ok-first.first ≡ repeated (item_tuple l) before d = c.in_ok-first.ensures.told.same (item_tuple l) before d c.requires.kept made in
     let many : length c.args.earlier.now + 1 ≡ length before + 1 = ap (λ n. n + 1) (sym (length-map c.args.earlier.now view)) in
     let here : ℕ → List Place = λ n. places s c.args.path.now ++ record { member = step_name l; item = Some n } ∷ [] in
     let steps = steps_both old.steps c.read.new.progress.meter c.stood_before.new.meter (value_work l d) (tuple_work (item_tuple l d)) c.in_ok-read.ensures.steps
@@ -40,9 +40,9 @@ returns-clause-grows c =
     (λ h. λ outer entry.
     let spot = spot_at s c.args.path.now c.args.position outer entry in
     writes c.value_met.ensures k s id spot (Some before) d old c.tell_duplicate.new.faults.items c.read.new.progress.found c.stood_before.new.meter
-    (read_told (written_at s id (Some before) d spot) old.faults c.tell_duplicate.new.faults.items (is_some c.in_ok-first.first) has repeated
-    (h ∙ ap (λ (fs : List Flaw). fs ++ flaw_if (is_some c.in_ok-first.first) Duplicate (here (length c.args.earlier.now + 1))) c.read.ensures.faults
-    ∙ ap (λ n. old.faults ++ flaw_if (is_some c.in_ok-first.first) Duplicate (here n)) many))
+    (read_told (written_at s id (Some before) d spot) old.faults c.tell_duplicate.new.faults.items c.in_ok-first.first has first
+    (h ∙ ap (λ (fs : List Flaw). fs ++ repeat_faults c.in_ok-first.first Duplicate (here (length c.args.earlier.now + 1)) 0) c.read.ensures.faults
+    ∙ ap (λ n. old.faults ++ repeat_faults c.in_ok-first.first Duplicate (here n) 0) many))
     (subst (λ n. Finds old.found c.read.new.progress.found (value_found s id c.args.position (Some n) (value_of l d))) many c.in_ok-read.ensures.found) steps)
     c.tell_duplicate.ensures
 
@@ -71,3 +71,21 @@ returns-then-not-is_read-clause-grows c =
     ∙ ap (λ n. old.faults ++ flaw Unread (here n) ∷ []) many))
     (subst (λ n. Finds old.found c.read.new.progress.found (value_found s id c.args.position (Some n) (value_of l d))) many c.in_ok-read.ensures.found) steps)
     c.tell.ensures
+
+pub returns-clause-kept : goal.returns-clause-kept
+returns-clause-kept c =
+    let l = (row_at c.args.self.now.schema.now c.args.id).label in
+    let before = map view c.args.earlier.now in
+    let d = view c.args.item.now in
+    let made : item_tuple l d ≡ c.in_ok-tuple.tuple = alone_is c.node-node.result.now (row_at c.args.self.now.schema.now c.args.id) d c.config.result c.in_ok-read.read c.in_ok-tuple.tuple c.node-node.ensures.value c.config.ensures c.in_ok-read.ensures.value c.in_ok-tuple.ensures in
+    let place : length before + 1 ≡ length c.args.earlier.now + 1 = ap (λ n. n + 1) (length-map c.args.earlier.now view) in
+    on_ok_weaker c.tell_duplicate.result (λ h. c.in_ok-first.ensures.told.next (item_tuple l) before d place c.requires.kept made) c.tell_duplicate.ensures
+
+pub returns-then-not-is_read-clause-kept : goal.returns-then-not-is_read-clause-kept
+returns-then-not-is_read-clause-kept c =
+    let l = (row_at c.args.self.now.schema.now c.args.id).label in
+    let before = map view c.args.earlier.now in
+    let d = view c.args.item.now in
+    let made : item_tuple l d ≡ c.in_ok-tuple.tuple = alone_is c.node-node.result.now (row_at c.args.self.now.schema.now c.args.id) d c.config.result c.in_ok-read.read c.in_ok-tuple.tuple c.node-node.ensures.value c.config.ensures c.in_ok-read.ensures.value c.in_ok-tuple.ensures in
+    let place : length before + 1 ≡ length c.args.earlier.now + 1 = ap (λ n. n + 1) (length-map c.args.earlier.now view) in
+    on_ok_weaker c.tell.result (λ h. c.in_ok-first.ensures.told.next (item_tuple l) before d place c.requires.kept made) c.tell.ensures

@@ -38,7 +38,7 @@ returns-in-Some-clause-grows c =
     (λ g. λ outer entry.
     let spot = spot_at s c.args.path.now c.args.position outer entry in
     writes c.value_met.ensures k s id spot None d old c.read.new.progress.faults.items c.read.new.progress.found c.read.new.progress.meter
-    (read_told (written_at s id None d spot) old.faults c.read.new.progress.faults.items false (sym (ap is_some is)) refl
+    (read_told (written_at s id None d spot) old.faults c.read.new.progress.faults.items None (sym (ap is_some is)) refl
     (c.read.ensures.faults ∙ sym (append-nil old.faults)))
     c.in_ok-read.ensures.found (c.in_ok-read.ensures.steps ∙ plus_none old.steps (value_work l d)))
     c.keep.ensures
