@@ -1,2 +1,3 @@
+pub mod NoteLemmas
 pub mod DocumentLemmas
 pub mod OneOutput

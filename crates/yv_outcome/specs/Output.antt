@@ -3,7 +3,6 @@ use Rattle.std.specs.Prelude.{◌≡◌, ℕ, List, [], ◌∷◌, ◌++◌, tak
 use Rattle.std.specs.declared.option.Option.{Option}
 use Rattle.std.specs.declared.option.Option.TheVariants.{Some, None}
 use Rattle.std.specs.Fmt.{decimal}
-use Rattle.std.specs.Io.KnownBytes.{Appends}
 use Rattle.yv_statement.specs.Codes.{name_of}
 use Rattle.yv_statement.specs.declared.refusal.Refusal.{Refusal}
 use Rattle.yv_nodes.specs.Tree.{Forest, count as node_count}
@@ -17,7 +16,6 @@ use Rattle.yv_fault_lines.specs.Lines.{ended_line, faults_text}
 use Rattle.yv_outcome.specs.Compiles.{Compiled, RefusedAt, Built, FilesCompile, GiveSchema}
 use Rattle.yv_outcome.specs.Document.{Reading, TooLarge, NotJson, Reads, reading}
 use Rattle.yv_streams.specs.Files.{File}
-use Rattle.yv_outcome.specs.Status.{status_of}
 use Rattle.yv_outcome.specs.declared.print.Body.{Body}
 use Rattle.yv_outcome.specs.declared.print.Body.TheVariants.{Text, Faults}
 use Rattle.yv_outcome.specs.declared.print.Output.{Output}
@@ -76,9 +74,12 @@ schema_printed Compiles k s given = count_printed (whole s)
 schema_printed (Draws name) k s given = diagram_printed s name
 schema_printed (Checks f) k s given = data_printed k s given
 
+abbrev pub refusal_printed : List File → Refusal → Printed
+refusal_printed files r = record { text = refusal_line files r; verdict = Refused }
+
 -- a refusal's line, or what is said of the schema
 abbrev pub compiled_printed : Task → List File → Compiled → List ℕ → Printed
-compiled_printed task files (RefusedAt r) given = record { text = refusal_line files r; verdict = Refused }
+compiled_printed task files (RefusedAt r) given = refusal_printed files r
 compiled_printed task files (Built s) given = schema_printed task.asked task.kind s given
 
 -- what a run prints that is to do this task with these files, where the document's bytes are `given`
@@ -98,36 +99,6 @@ WantsData task files = ReadsData task.asked × GiveSchema task.choice task.limit
 -- the bytes that a reader gives, up to one more than a document may have, where they are known
 abbrev pub Gives : Option (List ℕ) → List ℕ → Type 0
 Gives known given = IfSome known (λ xs. given ≡ take 16777217 xs)
-
--- it prints this for some bytes, which are those that the reader gives where they are known
-pub record PrintsFor (known : Option (List ℕ)) (task : Task) (files : List File) (p : Printed) : Type 0 where
-  pub given : List ℕ
-  pub gives : Gives known given
-  pub output : IsOutput task files given p
-
--- the whole output was appended to what the writer holds, and the status fits it
-pub record WritesAll (known : Option (List ℕ)) (task : Task) (files : List File) (status : Status) (old new : Option (List ℕ)) : Type 0 where
-  pub printed : Printed
-  pub prints : PrintsFor known task files printed
-  pub appended : Appends old new printed.text
-  pub fits : status ≡ status_of printed.verdict
-
--- the first bytes of the output were
-pub record WritesFront (known : Option (List ℕ)) (task : Task) (files : List File) (old new : Option (List ℕ)) : Type 0 where
-  pub printed : Printed
-  pub prints : PrintsFor known task files printed
-  pub count : ℕ
-  pub appended : Appends old new (take count printed.text)
-
--- nothing stopped the run
-abbrev pub IsFinished : Status → Type 0
-IsFinished ended.Clean = Unit {0}
-IsFinished ended.Refused = Unit {0}
-IsFinished ended.BadInput = Unit {0}
-IsFinished ended.NoMemory = ⊥
-IsFinished ended.PatternBuild = ⊥
-IsFinished ended.ReadFault = ⊥
-IsFinished ended.WriteFault = ⊥
 
 -- want of memory, a pattern's build or the reader stopped the run
 abbrev pub IsStopped : Status → Type 0

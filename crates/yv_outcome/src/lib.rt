@@ -5,9 +5,11 @@
 mod document;
 pub mod laws;
 mod modules;
+mod notes;
 mod print;
 mod status;
 
 pub use document::{Document, read_document};
+pub use notes::diagram_note;
 pub use print::{Body, Checked, Output, of_count, of_data, of_diagram, of_refusal};
 pub use status::{Status, Verdict};

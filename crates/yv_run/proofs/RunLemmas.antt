@@ -1,79 +1,30 @@
 -- What a run leaves, by what was to be written.
-use Rattle.std.proofs.Common.{◌≡◌, ℕ, List, [], take, refl, sym, IfSome, IfOk, Result, Ok, Err, slice_get, zero-le}
+use Rattle.std.proofs.Common.{◌≡◌, ◌⊎◌, inl, inr, sym, ℕ, List, [], take, refl, subst, IfOk, IsSomeAnd, Result, Ok, Err, zero-le}
 use Rattle.std.specs.declared.option.Option.{Option}
 use Rattle.std.specs.declared.option.Option.TheVariants.{None, Some}
+use Rattle.std.specs.Option.{option_map}
+use Rattle.std.proofs.KnownBytes.{Consumes-nil}
 use Rattle.yv_statement.specs.declared.refusal.Refusal.{Refusal}
 use Rattle.yv_job.specs.Jobs.{Asked, Compiles, Draws, Checks, Task}
 use Rattle.yv_selection.specs.declared.kind.Kind.{Kind}
-use Rattle.yv_nodes.specs.Rows.{Rows}
-use Rattle.yv_outcome.specs.declared.print.Output.{Output}
-use Rattle.yv_outcome.specs.declared.status.Verdict.TheVariants.{Refused}
-use Rattle.yv_outcome.specs.Compiles.{FilesCompile, RefusedAt, Built}
+use Rattle.yv_nodes.specs.Rows.{Rows, whole}
+use Rattle.yv_validate.specs.Flaw.{Flaw}
 use Rattle.yv_streams.specs.Files.{File}
 use Rattle.yv_streams.specs.Stream.{TakesAtMost}
-use Rattle.yv_run.specs.InnerRun.{ReadsOf, SaysOf}
-use Rattle.std.specs.Io.KnownBytes.{Consumes}
-use Rattle.std.proofs.KnownBytes.{Consumes-nil}
-use Rattle.yv_run.specs.Reads.{ReadsAndPrints, schema_read}
-use Rattle.yv_outcome.specs.Told.{NotesGiven}
-use Rattle.yv_run.specs.Notes.{IsNote, NotesAsked, NotesDocument, on_refusal, on_schema}
-use Rattle.yv_messages.specs.Excerpt.{Explains}
-use Rattle.yv_messages.specs.Explained.{Speaks, bytes_at}
-use Rattle.yv_outcome.specs.Output.{Printed, Gives, PrintsFor, refusal_line, printed_of, schema_printed}
+use Rattle.yv_outcome.specs.Compiles.{FilesCompile, RefusedAt, Built}
+use Rattle.yv_outcome.specs.Document.{Reading, reading}
+use Rattle.yv_outcome.specs.Output.{Gives, IsStopped, Printed, ReadsData, count_printed, diagram_printed, refusal_printed}
+use Rattle.yv_outcome.specs.Told.{NotesData, NotesDiagram, NotesReading, faults_in}
+use Rattle.yv_outcome.specs.declared.status.Status.{Status}
+use Rattle.yv_run.specs.InnerRun.{HasNote, RunsData, RunsSchema}
+use Rattle.yv_run.specs.Notes.{RunsWithNote, TellsRefusal}
+use Rattle.yv_run.specs.Runs.{Runs, Writes}
+use Rattle.yv_run.specs.declared.running.Ended.{Ended}
 
 -- some bytes are what a reader gives
 some_given : (known : Option (List ℕ)) → (given : List ℕ) × Gives known given
 some_given None = ([], tt)
 some_given (Some xs) = (take 16777217 xs, refl)
-
--- a refusal is printed whatever the document is
-pub prints_refusal : (known : Option (List ℕ)) (task : Task) (files : List File) (r : Refusal) (p : Printed) → FilesCompile task.choice task.limit files (RefusedAt r)
-    → p ≡ record { text = refusal_line files r; verdict = Refused } → PrintsFor known task files p
-prints_refusal known task files r p compiles is =
-    let d = some_given known in
-    record { given = d.0; gives = d.1; output = (RefusedAt r, compiles, sym is) }
-
--- what is said of a schema is said of some bytes: the number of nodes and a diagram of any
-says_given : (known : Option (List ℕ)) (asked : Asked) (k : Kind) (s : Rows) (o : Output) → SaysOf known asked k s o
-    → (given : List ℕ) × Gives known given × (schema_printed asked k s given ≡ printed_of o)
-says_given known Compiles k s o says =
-    let d = some_given known in
-    (d.0, d.1, sym says)
-says_given known (Draws name) k s o says =
-    let d = some_given known in
-    (d.0, d.1, sym says)
-says_given known (Checks f) k s o says = (says.given, says.gives, sym says.printed)
-
--- where the files give a schema, what is said of it is printed
-pub prints_says : (known : Option (List ℕ)) (task : Task) (files : List File) (s : Rows) (o : Output) → FilesCompile task.choice task.limit files (Built s)
-    → SaysOf known task.asked task.kind s o → PrintsFor known task files (printed_of o)
-prints_says known task files s o compiles says =
-    let d = says_given known task.asked task.kind s o says in
-    record { given = d.0; gives = d.1; output = (Built s, compiles, d.2) }
-
--- for a refusal nothing is read
-pub reads_none : (known : Option (List ℕ)) (task : Task) (files : List File) (r : Refusal) (p : Printed) → FilesCompile task.choice task.limit files (RefusedAt r)
-    → p ≡ record { text = refusal_line files r; verdict = Refused } → ReadsAndPrints known known task files p
-reads_none known task files r p compiles is =
-    let d = some_given known in
-    record { given = d.0; gives = d.1; compiled = RefusedAt r; compiles = compiles; printed = sym is; consumed = Consumes-nil known }
-
--- for what is said of a schema that is read which was asked for
-reads_given : (old new : Option (List ℕ)) (asked : Asked) (k : Kind) (s : Rows) (o : Output) → SaysOf old asked k s o → ReadsOf old new asked k s o
-    → (given : List ℕ) × Gives old given × (schema_printed asked k s given ≡ printed_of o) × Consumes old new (schema_read asked given)
-reads_given old new Compiles k s o says reads =
-    let d = some_given old in
-    (d.0, d.1, sym says, reads)
-reads_given old new (Draws name) k s o says reads =
-    let d = some_given old in
-    (d.0, d.1, sym says, reads)
-reads_given old new (Checks f) k s o says reads = (reads.given, reads.gives, sym reads.printed, reads.consumed)
-
-pub reads_said : (old new : Option (List ℕ)) (task : Task) (files : List File) (s : Rows) (o : Output) → FilesCompile task.choice task.limit files (Built s)
-    → SaysOf old task.asked task.kind s o → ReadsOf old new task.asked task.kind s o → ReadsAndPrints old new task files (printed_of o)
-reads_said old new task files s o compiles says reads =
-    let d = reads_given old new task.asked task.kind s o says reads in
-    record { given = d.0; gives = d.1; compiled = Built s; compiles = compiles; printed = d.2; consumed = d.3 }
 
 -- both facts on what is answered
 pub both : {A E : Type 0} (P Q S : A → Type 0) (r : Result A E) → ((a : A) → P a → Q a → S a) → IfOk r P → IfOk r Q → IfOk r S
@@ -84,22 +35,67 @@ both P Q S (Err e) f p q = tt
 pub takes_none : (limit : ℕ) (known : Option (List ℕ)) → TakesAtMost limit known known
 takes_none limit known = record { taken = []; consumed = Consumes-nil known; few = zero-le }
 
-module _ {A : Type 0} (bytes_of : A → List ℕ) (known : Option (List ℕ)) (task : Task) (files : List File) where
-  -- a note on a document is one on what the run found
-  pub notes_document : (s : Rows) → FilesCompile task.choice task.limit files (Built s) → (o : Option A) → IfSome o (λ t. NotesAsked known task.asked task.kind s (bytes_of t))
-      → IfSome o (λ t. IsNote known task files (bytes_of t))
-  notes_document s compiles None noted = tt
-  notes_document s compiles (Some t) noted = on_schema s compiles noted
+module _ (old new : Option (List ℕ)) (ended : Ended) where
+  -- a refusal is written whatever the document is
+  pub runs_refused : (known : Option (List ℕ)) (task : Task) (files : List File) (r : Refusal) → FilesCompile task.choice task.limit files (RefusedAt r)
+      → Writes (refusal_printed files r) ended.status old new → HasNote (λ note. IsSomeAnd note (TellsRefusal files r)) ended
+      → RunsWithNote task files ended known known old new
+  runs_refused known task files r compiles writes noted =
+      let d = some_given known in
+      record {
+        runs = record { given = d.0; gives = d.1; compiled = RefusedAt r; compiles = compiles; consumed = Consumes-nil known; writes = writes };
+        noted = noted;
+      }
 
-  -- and so is one on a refusal
-  pub notes_refusal : (o : Option A) (r : Refusal) → FilesCompile task.choice task.limit files (RefusedAt r)
-      → IfSome o (λ s. Explains (bytes_at (slice_get files r.file)) r (bytes_of s)) → IfSome o (λ s. Speaks files r (bytes_of s))
-      → IfSome o (λ s. IsNote known task files (bytes_of s))
-  notes_refusal None r compiles place speaks = tt
-  notes_refusal (Some s) r compiles place speaks = on_refusal r compiles place speaks
+  -- and what was asked of a schema is written, where the files give one
+  pub runs_built : (unread rest : Option (List ℕ)) (task : Task) (files : List File) (s : Rows) → FilesCompile task.choice task.limit files (Built s)
+      → RunsSchema task.asked task.kind s ended unread rest old new → RunsWithNote task files ended unread rest old new
+  runs_built unread rest task files s compiles runs = record {
+    runs = record { given = runs.given; gives = runs.gives; compiled = Built s; compiles = compiles; consumed = runs.consumed; writes = runs.writes };
+    noted = runs.noted;
+  }
 
--- what is said of the bytes that were given is said of the document
-pub notes_given : {A : Type 0} (bytes_of : A → List ℕ) (known : Option (List ℕ)) (k : Kind) (s : Rows) (given : List ℕ) → Gives known given → (o : Option A)
-    → IfSome o (λ t. NotesGiven k s given (bytes_of t)) → IfSome o (λ t. NotesDocument known k s (bytes_of t))
-notes_given bytes_of known k s given gives None notes = tt
-notes_given bytes_of known k s given gives (Some t) notes = record { given = given; gives = gives; notes = notes }
+  -- the number of nodes is that of any document
+  pub runs_count : (known : Option (List ℕ)) (asked : Asked) (k : Kind) (s : Rows) → asked ≡ Compiles → Writes (count_printed (whole s)) ended.status old new
+      → HasNote (λ note. note ≡ None) ended → RunsSchema asked k s ended known known old new
+  runs_count known asked k s is writes noted =
+      let d = some_given known in
+      let runs : RunsSchema Compiles k s ended known known old new =
+      record { given = d.0; gives = d.1; consumed = Consumes-nil known; writes = writes; noted = noted } in
+      subst (λ (a : Asked). RunsSchema a k s ended known known old new) (sym is) runs
+
+  -- and so is a diagram
+  pub runs_diagram : (known : Option (List ℕ)) (asked : Asked) (name : List ℕ) (k : Kind) (s : Rows) → asked ≡ Draws name
+      → Writes (diagram_printed s name) ended.status old new → HasNote (NotesDiagram s name) ended → RunsSchema asked k s ended known known old new
+  runs_diagram known asked name k s is writes noted =
+      let d = some_given known in
+      let runs : RunsSchema (Draws name) k s ended known known old new =
+      record { given = d.0; gives = d.1; consumed = Consumes-nil known; writes = writes; noted = noted } in
+      subst (λ (a : Asked). RunsSchema a k s ended known known old new) (sym is) runs
+
+  -- what is said of a document is said where one is read
+  pub runs_document : (unread rest : Option (List ℕ)) (asked : Asked) (k : Kind) (s : Rows) → ReadsData asked → RunsData k s ended unread rest old new
+      → RunsSchema asked k s ended unread rest old new
+  runs_document unread rest Compiles k s reads runs = absurd reads
+  runs_document unread rest (Draws name) k s reads runs = absurd reads
+  runs_document unread rest (Checks file) k s reads runs =
+      record { given = runs.given; gives = runs.gives; consumed = runs.consumed; writes = runs.writes; noted = runs.noted }
+
+-- a run without its note
+pub without_note : (task : Task) (files : List File) (ended : Ended) (unread rest old new : Option (List ℕ)) → IsStopped ended.status ⊎ RunsWithNote task files ended unread rest old new
+    → IsStopped ended.status ⊎ Runs task files ended.status unread rest old new
+without_note task files ended unread rest old new (inl stopped) = inl stopped
+without_note task files ended unread rest old new (inr run) = inr run.runs
+
+-- what was written of one thing was written of what is the same
+pub writes_same : (status : Status) (old new : Option (List ℕ)) (p q : Printed) → p ≡ q → Writes p status old new → Writes q status old new
+writes_same status old new p q e writes = subst (λ (x : Printed). Writes x status old new) e writes
+
+-- the note on what was found of some bytes is the one on these
+pub notes_data : {A E : Type 0} (bytes_of : A → List ℕ) (k : Kind) (s : Rows) (given : List ℕ) (found : Reading) (fs : List Flaw) (r : Result (Option A) E)
+    → found ≡ reading given → fs ≡ faults_in k s (reading given) → IfOk r (λ o. NotesReading found fs given (option_map bytes_of o))
+    → IfOk r (λ o. NotesData k s given (option_map bytes_of o))
+notes_data bytes_of k s given found fs r is same noted =
+    let whole : IfOk r (λ o. NotesReading found (faults_in k s (reading given)) given (option_map bytes_of o)) =
+    subst (λ (xs : List Flaw). IfOk r (λ o. NotesReading found xs given (option_map bytes_of o))) same noted in
+    subst (λ (x : Reading). IfOk r (λ o. NotesReading x (faults_in k s (reading given)) given (option_map bytes_of o))) is whole

@@ -1,3 +1,3 @@
 pub mod InnerRun
 pub mod Notes
-pub mod Reads
+pub mod Runs

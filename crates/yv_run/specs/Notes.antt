@@ -1,5 +1,6 @@
--- What helps a person to mend what a run found.
-use Rattle.std.specs.Prelude.{◌≡◌, ℕ, List, slice_get}
+-- The note with which a run helps a person.
+use Rattle.std.specs.Prelude.{◌≡◌, ℕ, List, slice_get, IfOk, IsSomeAnd, string_bytes}
+use Rattle.std.specs.Option.{option_map}
 use Rattle.std.specs.declared.option.Option.{Option}
 use Rattle.std.specs.declared.option.Option.TheVariants.{None}
 use Rattle.yv_statement.specs.declared.refusal.Refusal.{Refusal}
@@ -9,25 +10,28 @@ use Rattle.yv_selection.specs.declared.kind.Kind.{Kind}
 use Rattle.yv_streams.specs.Files.{File}
 use Rattle.yv_messages.specs.Excerpt.{Explains}
 use Rattle.yv_messages.specs.Explained.{Speaks, bytes_at}
-use Rattle.yv_outcome.specs.Compiles.{Built, FilesCompile, RefusedAt}
-use Rattle.yv_outcome.specs.Output.{Gives}
-use Rattle.yv_tree.specs.Diagram.{diagram_of}
-use Rattle.yv_outcome.specs.Told.{NotesGiven}
+use Rattle.yv_outcome.specs.Compiles.{Compiled, Built, RefusedAt}
+use Rattle.yv_outcome.specs.Told.{NotesData, NotesDiagram}
+use Rattle.yv_run.specs.Runs.{Runs}
+use Rattle.yv_run.specs.declared.running.Ended.{Ended}
 
--- the text says what the bytes that the reader gives are, or what is wrong with them as a document of this kind
-pub record NotesDocument (known : Option (List ℕ)) (k : Kind) (s : Rows) (text : List ℕ) : Type 0 where
-  pub given : List ℕ
-  pub gives : Gives known given
-  pub notes : NotesGiven k s given text
+-- the text says why the files are refused
+pub record TellsRefusal (files : List File) (r : Refusal) (text : List ℕ) : Type 0 where
+  pub place : Explains (bytes_at (slice_get files r.file)) r text
+  pub speaks : Speaks files r text
 
--- the text is a note on what was asked: a diagram that there is none, or a document
-abbrev pub NotesAsked : Option (List ℕ) → Asked → Kind → Rows → List ℕ → Type 0
-NotesAsked known Compiles k s text = ⊥
-NotesAsked known (Draws name) k s text = diagram_of s name ≡ None
-NotesAsked known (Checks f) k s text = NotesDocument known k s text
+-- the note on what was asked of a schema: none on the number of nodes
+abbrev pub NotesSchema : Asked → Kind → Rows → (given : List ℕ) → (note : Option (List ℕ)) → Type 0
+NotesSchema Compiles k s given note = note ≡ None
+NotesSchema (Draws name) k s given note = NotesDiagram s name note
+NotesSchema (Checks f) k s given note = NotesData k s given note
 
--- the text says why the files are refused, or is a note on what was asked of their schema
-pub data IsNote (known : Option (List ℕ)) (task : Task) (files : List File) (text : List ℕ) : Type 0 where
-  on_refusal : (r : Refusal) → FilesCompile task.choice task.limit files (RefusedAt r) → Explains (bytes_at (slice_get files r.file)) r text
-      → Speaks files r text → IsNote known task files text
-  on_schema : (s : Rows) → FilesCompile task.choice task.limit files (Built s) → NotesAsked known task.asked task.kind s text → IsNote known task files text
+-- the note on what files come to: why they are refused, or the one on what was asked of their schema
+abbrev pub NotesCompiled : Task → List File → Compiled → (given : List ℕ) → (note : Option (List ℕ)) → Type 0
+NotesCompiled task files (RefusedAt r) given note = IsSomeAnd note (TellsRefusal files r)
+NotesCompiled task files (Built s) given note = NotesSchema task.asked task.kind s given note
+
+-- a run, and the note on what it wrote, unless there was no memory for the note
+pub record RunsWithNote (task : Task) (files : List File) (ended : Ended) (unread rest old new : Option (List ℕ)) : Type 0 where
+  pub runs : Runs task files ended.status unread rest old new
+  pub noted : IfOk ended.note (λ note. NotesCompiled task files runs.compiled runs.given (option_map string_bytes note))

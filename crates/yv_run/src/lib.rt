@@ -2,8 +2,10 @@
 //! what helps a person to fix a file that is refused.
 #![tactic(auto)]
 
+mod answers;
 mod compiling;
 mod running;
+mod writing;
 
 pub use running::{Ended, run, run_with_note};
 pub use yv_job::{Command, Job, JobFault, read_job};
