@@ -1,11 +1,13 @@
 -- What clap's kinds of error come to.
-use Rattle.std.proofs.Common.{◌≡◌, ◌⊎◌, inl, inr, List}
-use Rattle.clap.specs.Words.{Text, fault_of, IsAmong}
+use Rattle.std.proofs.Common.{◌≡◌, ◌⊎◌, ◌∙◌, inl, inr, ℕ, List, Option, ap, sym, subst, codes, string_bytes}
+use Rattle.clap.specs.Words.{Text, Row, first_of, fault_of, IsAmong}
 use Rattle.clap.specs.declared.error.kind.ErrorKind.{ErrorKind}
 use Rattle.clap.specs.declared.error.kind.ErrorKind.TheVariants as kind
-use Rattle.yv_job.specs.Asks.{AreUnderstood}
+use Rattle.yv_job.specs.Asks.{AreUnderstood, IsLimit, IsKindFor, IsSupportFor}
 use Rattle.yv_job.specs.CommandLine.{yangcheck_app}
-use Rattle.yv_job.specs.Faults.{IfUsage, AreRefused}
+use Rattle.yv_job.specs.Faults.{IfUsage, AreRefused, IsReason, of_limit, of_kind, of_support, value_line}
+use Rattle.yv_selection.specs.Choice.{Entry}
+use Rattle.yv_selection.specs.declared.kind.Kind.{Kind}
 use Rattle.yv_job.specs.Matched.{IsFaultFor}
 use Rattle.yv_job.specs.declared.job.JobFault.{JobFault}
 use Rattle.yv_job.specs.declared.job.JobFault.TheVariants.{Usage, Help, NoMemory}
@@ -19,3 +21,19 @@ usage_is_not_help words k (Usage text) h i = elim h [
 ]
 usage_is_not_help words k (Help text) h i = tt
 usage_is_not_help words k NoMemory h i = tt
+
+-- what is said of a value that is not what its option takes
+pub limit_line : (name : Text) (rows : List Row) (value : Option Text) (line : Text) → value ≡ first_of (codes "max-nodes") rows → ((n : ℕ) → IsLimit value n → ⊥)
+    → line ≡ value_line (codes "max-nodes") (codes "a number from 1 to 1000000") value → IsReason name rows line
+limit_line name rows value line same unfit is =
+    of_limit (λ n h. unfit n (subst (λ v. IsLimit v n) (sym same) h)) (is ∙ ap (value_line (codes "max-nodes") (codes "a number from 1 to 1000000")) same)
+
+pub kind_line : (name : Text) (rows : List Row) (value : Option Text) (line : Text) → value ≡ first_of (codes "kind") rows → ((k : Kind) → IsKindFor value k → ⊥)
+    → line ≡ value_line (codes "kind") (codes "data or config") value → IsReason name rows line
+kind_line name rows value line same unfit is =
+    of_kind (λ k h. unfit k (subst (λ v. IsKindFor v k) (sym same) h)) (is ∙ ap (value_line (codes "kind") (codes "data or config")) same)
+
+pub support_line : (name : Text) (rows : List Row) (value : Option Text) (line : Text) → value ≡ first_of (codes "support") rows → ((es : List Entry) → IsSupportFor value es → ⊥)
+    → line ≡ value_line (codes "support") (codes "MODULE:FEATURE,FEATURE/MODULE:") value → IsReason name rows line
+support_line name rows value line same unfit is =
+    of_support (λ es h. unfit es (subst (λ v. IsSupportFor v es) (sym same) h)) (is ∙ ap (value_line (codes "support") (codes "MODULE:FEATURE,FEATURE/MODULE:")) same)

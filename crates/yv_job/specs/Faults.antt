@@ -1,11 +1,15 @@
 -- When words give no job.
-use Rattle.std.specs.Prelude.{◌⊎◌, ◌++◌, ◌≡◌, List, [], ◌∷◌, codes, string_bytes}
-use Rattle.clap.specs.Words.{Text, fault_of, IsAmong}
+use Rattle.std.specs.Prelude.{◌⊎◌, ◌++◌, ◌≡◌, ℕ, List, [], ◌∷◌, Option, Some, None, length, codes, string_bytes}
+use Rattle.std.specs.Option.{unwrap_or}
+use Rattle.std.specs.Fmt.{decimal}
+use Rattle.clap.specs.Words.{Text, Row, fault_of, all_of, first_of, IsAmong}
 use Rattle.clap.specs.declared.error.kind.ErrorKind.{ErrorKind}
 use Rattle.clap.specs.declared.error.kind.ErrorKind.TheVariants as kind
-use Rattle.yv_job.specs.Asks.{WordsAsk}
+use Rattle.yv_job.specs.Asks.{WordsAsk, IsAsked, IsFiles, IsLimit, IsSupportFor, IsImportsFor, IsKindFor}
 use Rattle.yv_job.specs.CommandLine.{yangcheck_app}
-use Rattle.yv_job.specs.Jobs.{Task}
+use Rattle.yv_job.specs.Jobs.{Task, Asked}
+use Rattle.yv_selection.specs.Choice.{Entry}
+use Rattle.yv_selection.specs.declared.kind.Kind.{Kind}
 use Rattle.yv_job.specs.declared.job.JobFault.{JobFault}
 use Rattle.yv_job.specs.declared.job.JobFault.TheVariants.{Usage, Help, NoMemory}
 
@@ -25,9 +29,43 @@ OnHelp NoMemory P = Unit {0}
 abbrev pub AskForNothing : List Text → Type 0
 AskForNothing words = (t : Task) → WordsAsk words t → ⊥
 
--- what the program itself says of words that clap understands
+-- the first line of what the program itself says of words that clap understands
 abbrev pub own_usage : Text
 own_usage = codes "yangcheck: usage" ++ 10 ∷ []
+
+-- what an option takes, and the value in quotes that it was given
+abbrev pub value_line : Text → Text → Option Text → Text
+value_line id wanted value =
+    codes "--" ++ (id ++ (codes " takes " ++ (wanted ++ (codes ", not \"" ++ (unwrap_or value [] ++ (codes "\"" ++ 10 ∷ []))))))
+
+-- how many files were given, and how many a command takes
+abbrev pub files_line : Option (List Text) → Text
+files_line files = decimal (length (unwrap_or files [])) ++ (codes " files were given; a command takes 1 to 256" ++ 10 ∷ [])
+
+abbrev pub command_line : Text
+command_line = codes "no command was given, or not what it needs" ++ 10 ∷ []
+
+-- why the command of this name, with these values of its arguments, asks for no task: the line tells of one that is wrong
+pub data IsReason (name : Text) (rows : List Row) (line : Text) : Type 0 where
+  of_limit : ((n : ℕ) → IsLimit (first_of (codes "max-nodes") rows) n → ⊥)
+      → line ≡ value_line (codes "max-nodes") (codes "a number from 1 to 1000000") (first_of (codes "max-nodes") rows)
+      → IsReason name rows line
+  of_kind : ((k : Kind) → IsKindFor (first_of (codes "kind") rows) k → ⊥)
+      → line ≡ value_line (codes "kind") (codes "data or config") (first_of (codes "kind") rows)
+      → IsReason name rows line
+  of_support : ((es : List Entry) → IsSupportFor (first_of (codes "support") rows) es → ⊥)
+      → line ≡ value_line (codes "support") (codes "MODULE:FEATURE,FEATURE/MODULE:") (first_of (codes "support") rows)
+      → IsReason name rows line
+  of_imports : ((ns : List Text) → IsImportsFor (first_of (codes "import-only") rows) ns → ⊥)
+      → line ≡ value_line (codes "import-only") (codes "MODULE,MODULE") (first_of (codes "import-only") rows)
+      → IsReason name rows line
+  of_files : ((fs : List Text) → IsFiles rows fs → ⊥) → line ≡ files_line (all_of (codes "file") rows) → IsReason name rows line
+  of_command : ((a : Asked) → IsAsked name rows a → ⊥) → line ≡ command_line → IsReason name rows line
+
+-- the text is the first line, and the reason why the command that was found asks for no task
+abbrev pub TellsReason : Option (Text × List Row) → Text → Type 0
+TellsReason None text = text ≡ own_usage ++ command_line
+TellsReason (Some p) text = (line : Text) × IsReason p.0 p.1 line × (text ≡ own_usage ++ line)
 
 -- clap answers help, or the version
 abbrev pub IsHelp : ErrorKind → Type 0

@@ -7,6 +7,7 @@ mod laws;
 mod matches;
 mod names;
 mod options;
+mod reasons;
 mod syntax;
 mod words;
 

@@ -1,14 +1,16 @@
 //! A job from what clap matched.
-ghost use Rattle.std.specs.Prelude.{◌≡◌, ◌≤◌, ℕ, List, length, IfSome, IfOk, MatchOption, map, option_map, string_bytes};
+ghost use Rattle.std.specs.Prelude.{◌≡◌, ◌≤◌, ℕ, List, length, IfSome, IfOk, IfErr, MatchOption, map, option_map, string_bytes};
 ghost use Rattle.clap.specs.Words.{subcommand_rows_of, found_of, rows_of, all_of, first_of};
 ghost use Rattle.yv_job.specs.Asks.{AsksIn, Asks, IsChoice, IsAsked, IsFiles};
 ghost use Rattle.yv_job.specs.Jobs.{Asked, task_of, asked_of, HasFiles, HasLimit};
 ghost use Rattle.yv_selection.specs.Choice.{Choice, choice_of};
+ghost use Rattle.yv_job.specs.Faults.{IsReason, TellsReason};
 ghost use Rattle.yv_job.specs.Matched.{AsksForNothing};
 
 use crate::job::{Command, Job};
 use crate::names::copied;
 use crate::options::{imports_for, kind_for, limit_of, support_for};
+use crate::reasons::{COMMAND, IMPORTS, KINDS, NODES, SUPPORT, files_line, usage, value_line};
 use clap::ArgMatches;
 use std::alloc::{AllocError, Global};
 use yv_selection::Selection;
@@ -72,47 +74,66 @@ fn files_of(alloc: Global, below: &ArgMatches<'_>) -> Result<Option<Vec<String>>
     }
 }
 
-fn selection_of(alloc: Global, below: &ArgMatches<'_>) -> Result<Option<Selection>, AllocError>
-    ensures { let rows = rows_of (found_of below.now) in
-        IfOk result (λ o. MatchOption o ((c : Choice) → IsChoice rows c → ⊥)
-        (λ s. IsChoice rows (choice_of s))) }
+// The selection that the options ask for, or the line about the one that is wrong.
+fn selection_of(
+    alloc: Global,
+    below: &ArgMatches<'_>,
+) -> Result<Result<Selection, String>, AllocError>
+    ensures choice { let rows = rows_of (found_of below.now) in
+        IfOk result (λ r. IfOk r (λ s. IsChoice rows (choice_of s))) }
+    ensures nothing { let rows = rows_of (found_of below.now) in
+        IfOk result (λ r. IfErr r (λ _. (c : Choice) → IsChoice rows c → ⊥)) }
+    ensures reason { let rows = rows_of (found_of below.now) in
+        IfOk result (λ r. IfErr r (λ line. (name : List ℕ) → IsReason name rows (string_bytes line))) }
 {
-    let Some(support) = support_for(alloc, first(below, "support"))? else {
-        return Ok(None);
+    let written = first(below, "support");
+    let Some(support) = support_for(alloc, written)? else {
+        return Ok(Err(value_line(alloc, "support", SUPPORT, written)?));
     };
-    let Some(import_only) = imports_for(alloc, first(below, "import-only"))? else {
-        return Ok(None);
+    let names = first(below, "import-only");
+    let Some(import_only) = imports_for(alloc, names)? else {
+        return Ok(Err(value_line(alloc, "import-only", IMPORTS, names)?));
     };
-    Ok(Some(Selection {
+    Ok(Ok(Selection {
         support,
         import_only,
     }))
 }
 
-// The job that the command of this name asks for.
-fn job_for(alloc: Global, name: &str, below: &ArgMatches<'_>) -> Result<Option<Job>, AllocError>
+// The job that the command of this name asks for, or a line about what is wrong.
+fn job_for(
+    alloc: Global,
+    name: &str,
+    below: &ArgMatches<'_>,
+) -> Result<Result<Job, String>, AllocError>
     ensures job { let rows = rows_of (found_of below.now) in
-        IfOk result (λ o. MatchOption o (AsksForNothing (Some (name.now, rows)))
-        (λ j. Asks name.now rows (task_of j))) }
-    ensures files { IfOk result (λ o. IfSome o HasFiles) }
-    ensures limit { IfOk result (λ o. IfSome o HasLimit) }
+        IfOk result (λ r. IfOk r (λ j. Asks name.now rows (task_of j))) }
+    ensures nothing { let rows = rows_of (found_of below.now) in
+        IfOk result (λ r. IfErr r (λ _. AsksForNothing (Some (name.now, rows)))) }
+    ensures reason { let rows = rows_of (found_of below.now) in
+        IfOk result (λ r. IfErr r (λ line. IsReason name.now rows (string_bytes line))) }
+    ensures files { IfOk result (λ r. IfOk r HasFiles) }
+    ensures limit { IfOk result (λ r. IfOk r HasLimit) }
 {
-    let Some(limit) = limit_of(first(below, "max-nodes")) else {
-        return Ok(None);
+    let nodes = first(below, "max-nodes");
+    let Some(limit) = limit_of(nodes) else {
+        return Ok(Err(value_line(alloc, "max-nodes", NODES, nodes)?));
     };
-    let Some(kind) = kind_for(first(below, "kind")) else {
-        return Ok(None);
+    let word = first(below, "kind");
+    let Some(kind) = kind_for(word) else {
+        return Ok(Err(value_line(alloc, "kind", KINDS, word)?));
     };
     let Some(command) = command_of(alloc, name, below)? else {
-        return Ok(None);
+        return Ok(Err(String::from_str(alloc, COMMAND)?));
     };
     let Some(files) = files_of(alloc, below)? else {
-        return Ok(None);
+        return Ok(Err(files_line(alloc, all(below, "file"))?));
     };
-    let Some(selection) = selection_of(alloc, below)? else {
-        return Ok(None);
+    let selection = match selection_of(alloc, below)? {
+        Ok(selection) => selection,
+        Err(line) => return Ok(Err(line)),
     };
-    Ok(Some(Job {
+    Ok(Ok(Job {
         command,
         files,
         limit,
@@ -121,15 +142,22 @@ fn job_for(alloc: Global, name: &str, below: &ArgMatches<'_>) -> Result<Option<J
     }))
 }
 
-/// The job that the matches ask for.
-pub fn job_of(alloc: Global, matches: &ArgMatches<'_>) -> Result<Option<Job>, AllocError>
+/// The job that the matches ask for, or the text of a usage error.
+pub fn job_of(alloc: Global, matches: &ArgMatches<'_>) -> Result<Result<Job, String>, AllocError>
     ensures job { let found = subcommand_rows_of matches.now in
-        IfOk result (λ o. MatchOption o (AsksForNothing found) (λ j. AsksIn found (task_of j))) }
-    ensures files { IfOk result (λ o. IfSome o HasFiles) }
-    ensures limit { IfOk result (λ o. IfSome o HasLimit) }
+        IfOk result (λ r. IfOk r (λ j. AsksIn found (task_of j))) }
+    ensures nothing { let found = subcommand_rows_of matches.now in
+        IfOk result (λ r. IfErr r (λ _. AsksForNothing found)) }
+    ensures reason { let found = subcommand_rows_of matches.now in
+        IfOk result (λ r. IfErr r (λ text. TellsReason found (string_bytes text))) }
+    ensures files { IfOk result (λ r. IfOk r HasFiles) }
+    ensures limit { IfOk result (λ r. IfOk r HasLimit) }
 {
     match matches.subcommand() {
-        Some((name, below)) => job_for(alloc, name, below),
-        None => Ok(None),
+        Some((name, below)) => match job_for(alloc, name, below)? {
+            Ok(job) => Ok(Ok(job)),
+            Err(line) => Ok(Err(usage(alloc, line.as_str())?)),
+        },
+        None => Ok(Err(usage(alloc, COMMAND)?)),
     }
 }

@@ -3,7 +3,7 @@ ghost use Rattle.std.specs.Prelude.{◌≡◌, ◌⊎◌, [], map, string_bytes,
 ghost use Rattle.clap.specs.Words.{fault_of, subcommand_of, subcommand_rows_of, HasKind, kind_of};
 ghost use Rattle.yv_job.specs.Asks.{WordsAsk, AreUnderstood};
 ghost use Rattle.yv_job.specs.CommandLine.{yangcheck_app};
-ghost use Rattle.yv_job.specs.Faults.{IfUsage, OnHelp, AskForNothing, AskForHelp, AreRefused, own_usage};
+ghost use Rattle.yv_job.specs.Faults.{IfUsage, OnHelp, AskForNothing, AskForHelp, AreRefused, TellsReason};
 ghost use Rattle.yv_job.specs.Jobs.{task_of, HasFiles, HasLimit};
 ghost use Rattle.yv_job.specs.Matched.{IsFaultFor};
 
@@ -13,8 +13,6 @@ use crate::syntax::command_line;
 use clap::error::ErrorKind;
 use clap::{ArgMatches, Error};
 use std::alloc::Global;
-
-const OWN_USAGE: &str = "yangcheck: usage\n";
 
 fn matched<'a>(alloc: Global, words: &'a [String]) -> Result<ArgMatches<'a>, Error>
     ensures ok { IfOk result (λ m. (fault_of yangcheck_app (map string_bytes words.now) ≡ [])
@@ -47,15 +45,16 @@ pub fn read_job(alloc: Global, words: &[String]) -> Result<Job, JobFault>
     ensures usage { IfErr result (λ f. IfUsage f (λ _.
         AskForNothing (map string_bytes words.now))) }
     ensures own_text { IfErr result (λ f. IfUsage f (λ text.
-        AreUnderstood (map string_bytes words.now) → text ≡ own_usage)) }
+        AreUnderstood (map string_bytes words.now)
+        → TellsReason (subcommand_of yangcheck_app (map string_bytes words.now)) text)) }
     ensures not_help { IfErr result (λ f. IfUsage f (λ _.
         AreUnderstood (map string_bytes words.now) ⊎ AreRefused (map string_bytes words.now))) }
     ensures help { IfErr result (λ f. OnHelp f (AskForHelp (map string_bytes words.now))) }
 {
     match matched(alloc, words) {
         Ok(matches) => match job_of(alloc, &matches)? {
-            Some(job) => Ok(job),
-            None => Err(JobFault::Usage(String::from_str(alloc, OWN_USAGE)?)),
+            Ok(job) => Ok(job),
+            Err(text) => Err(JobFault::Usage(text)),
         },
         Err(error) => Err(refused(alloc, &error)),
     }
