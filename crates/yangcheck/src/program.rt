@@ -4,6 +4,7 @@ ghost use Rattle.yv_outcome.specs.Status.{exit_of};
 ghost use Rattle.yv_job.specs.Jobs.{HasFiles, HasLimit};
 ghost use Rattle.yv_streams.specs.Files.{file_of};
 
+use crate::noting::Noting;
 use std::alloc::{AllocError, Global};
 use std::fmt::Display;
 use std::fs::File;
@@ -90,7 +91,7 @@ fn explained<R: Eprint>(rt: &R, ended: &Ended) -> u8
     ensures { result ≡ exit_of ended.now.status }
 {
     let exit = told(rt, ended.status);
-    if let Some(note) = &ended.note {
+    if let Ok(Some(note)) = &ended.note {
         let _ = rt.eprint(note.as_str());
     }
     exit
@@ -111,7 +112,7 @@ fn done<R: Files + io::Input + Print + AllocGlobal>(rt: &R, job: &Job) -> Ended
 fn without_memory() -> Ended {
     Ended {
         status: Status::NoMemory,
-        note: None,
+        note: Ok(None),
     }
 }
 
@@ -119,7 +120,7 @@ fn without_memory() -> Ended {
 fn unread<R: AllocGlobal, D: Display + Drop>(rt: &R, name: &str, reason: D) -> Ended {
     Ended {
         status: Status::ReadFault,
-        note: unread_note(rt.alloc(), name, reason).ok(),
+        note: unread_note(rt.alloc(), name, reason).map(Some),
     }
 }
 
@@ -136,8 +137,13 @@ fn unread_note<D: Display + Drop>(
     Ok(note)
 }
 
-// What is said of a file that was opened, and whose reading fails.
-const UNREADABLE: &str = "it was opened, but reading it failed; is it a directory?";
+// A run that is stopped by a file that was opened, and whose reading failed.
+fn unreadable<R: AllocGlobal, D>(rt: &R, name: &str, reader: &Noting<D>) -> Ended {
+    match reader.failure() {
+        Some(error) => unread(rt, name, error),
+        None => unread(rt, name, "reading it failed"),
+    }
+}
 
 // Runs the job over its files, and over the document where it names one.
 fn ran<R: Files + io::Input + Print + AllocGlobal>(rt: &R, job: &Job, inputs: &[Input]) -> Ended
@@ -147,39 +153,36 @@ fn ran<R: Files + io::Input + Print + AllocGlobal>(rt: &R, job: &Job, inputs: &[
 {
     match &job.command {
         Command::Validate(file) if file.as_str() == "-" => {
-            over_document(rt, "standard input", run_over(rt, job, inputs, rt.reader()))
+            run_over(rt, job, inputs, "standard input", rt.reader())
         }
         Command::Validate(file) => match File::open(rt, file.as_str()) {
-            Ok(data) => over_document(rt, file.as_str(), run_over(rt, job, inputs, data)),
+            Ok(data) => run_over(rt, job, inputs, file.as_str(), data),
             Err(error) => unread(rt, file.as_str(), error),
         },
-        Command::Compile | Command::Tree(_) => run_over(rt, job, inputs, io::empty()),
+        Command::Compile | Command::Tree(_) => run_over(rt, job, inputs, "", io::empty()),
     }
 }
 
-// A run over a document of this name, which is told where its reading failed.
-fn over_document<R: AllocGlobal>(rt: &R, name: &str, ended: Ended) -> Ended {
-    if ended.status == Status::ReadFault {
-        unread(rt, name, UNREADABLE)
-    } else {
-        ended
-    }
-}
-
-// Runs the job over its files and what the reader gives.
+// Runs the job over its files and what the reader of this name gives.
 fn run_over<R: Print + AllocGlobal, D: Read + Drop>(
     rt: &R,
     job: &Job,
     inputs: &[Input],
+    name: &str,
     data: D,
 ) -> Ended
     requires files { HasFiles job.now }
     requires limit { HasLimit job.now }
     requires each { length inputs.now ≡ length job.now.files.items }
 {
-    let mut reader = Counted::new(data);
+    let mut reader = Counted::new(Noting::new(data));
     let mut writer = Counted::new(io::writer(rt));
-    run_with_note(rt.alloc(), job, inputs, &mut reader, &mut writer)
+    let ended = run_with_note(rt.alloc(), job, inputs, &mut reader, &mut writer);
+    if ended.status == Status::ReadFault {
+        unreadable(rt, name, &reader.into_inner())
+    } else {
+        ended
+    }
 }
 
 // The job's files, read in order, under the names that the job gives them.
@@ -203,10 +206,10 @@ fn opened<R: Files + AllocGlobal>(rt: &R, name: &str) -> Result<Input, Ended>
 {
     match File::open(rt, name) {
         Ok(file) => {
-            let mut reader = Counted::new(file);
+            let mut reader = Counted::new(Noting::new(file));
             match read_input(rt.alloc(), name, &mut reader) {
                 Ok(input) => Ok(input),
-                Err(InputFault::Read) => Err(unread(rt, name, UNREADABLE)),
+                Err(InputFault::Read) => Err(unreadable(rt, name, &reader.into_inner())),
                 Err(InputFault::NoMemory) => Err(without_memory()),
             }
         }
