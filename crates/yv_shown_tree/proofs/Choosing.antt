@@ -11,6 +11,7 @@ use Rattle.yv_units.specs.Weigh as weigh
 use Rattle.yv_whole_expansion.specs.Expands.{is_at, is_augment, those}
 use Rattle.yv_augmented.specs.Giving.{giving, giving_from, giving_places, gives, is_giving, is_in, item_places, ordinal, place_before}
 use Rattle.yv_augmented.specs.Giving as augmented
+use Rattle.yv_augmented.specs.Refining.{is_refine, refines_in}
 use Rattle.yv_augmented.specs.Untargeted.{augments_in}
 use Rattle.yv_shown_tree.proofs.Finding.{there_first, there_later}
 use Rattle.yv_shown_tree.proofs.Framing.{nothing_stands}
@@ -179,46 +180,46 @@ ordinal_is rows u xs a ys e =
     ap (place_before (giving_places rows) a) (ap (slice_get (giving_places rows)) same ∙ r.2)
     ∙ (ap (λ (m : ℕ). length (numbers_from u 0 (take m (giving_places rows)))) same ∙ r.3)
 
--- the augments of a block that isn't that of an augment are the augments among its statements
-same_augments : (rows : List Row) (u : ℕ) (n : ℕ) (rs : List Row) → ((i : ℕ) → slice_get rows (n + i) ≡ slice_get rs i) → ((r : Row) → slice_get rows u ≡ Some r → is_augment r ≡ false)
-    → numbers_from u n (map (λ r. if is_augment r then Some r.scope else None) rs) ≡ filter (is_at is_augment rows) (weigh.numbers_from (stands_in u) n rs)
-same_augments rows u n [] told no_augment = refl
-same_augments rows u n (r ∷ rs) told no_augment =
-    by (is_augment r) refl (r.scope == u) refl (r.scope == n) refl
-    (same_augments rows u (n + 1) rs (λ i. ap (slice_get rows) (let e : n + 1 + i ≡ n + suc i = omega arith in e) ∙ told (suc i)) no_augment)
+-- the statements of a block that pass a test are those among its statements, where the statement of the block itself doesn't pass
+same_tested : (test : Row → Bool) (rows : List Row) (u : ℕ) (n : ℕ) (rs : List Row) → ((i : ℕ) → slice_get rows (n + i) ≡ slice_get rs i) → ((r : Row) → slice_get rows u ≡ Some r → test r ≡ false)
+    → numbers_from u n (map (λ r. if test r then Some r.scope else None) rs) ≡ filter (is_at test rows) (weigh.numbers_from (stands_in u) n rs)
+same_tested test rows u n [] told no_test = refl
+same_tested test rows u n (r ∷ rs) told no_test =
+    by (test r) refl (r.scope == u) refl (r.scope == n) refl
+    (same_tested test rows u (n + 1) rs (λ i. ap (slice_get rows) (let e : n + 1 + i ≡ n + suc i = omega arith in e) ∙ told (suc i)) no_test)
   where
     row : slice_get rows n ≡ Some r
     row = ap (slice_get rows) (let e : n ≡ n + 0 = omega arith in e) ∙ told 0
 
-    is : is_at is_augment rows n ≡ is_augment r
-    is = ap (λ o. unwrap_or (option_map is_augment o) false) row
+    is : is_at test rows n ≡ test r
+    is = ap (λ o. unwrap_or (option_map test o) false) row
 
     theirs : List ℕ
-    theirs = numbers_from u (n + 1) (map (λ r. if is_augment r then Some r.scope else None) rs)
+    theirs = numbers_from u (n + 1) (map (λ r. if test r then Some r.scope else None) rs)
 
     mine : List ℕ
     mine = weigh.numbers_from (stands_in u) (n + 1) rs
 
-    kept : (b : Bool) → is_at is_augment rows n ≡ b → filter (is_at is_augment rows) (n ∷ mine) ≡ cond b (n ∷ filter (is_at is_augment rows) mine) (filter (is_at is_augment rows) mine)
-    kept b e = ap (λ (b : Bool). cond b (n ∷ filter (is_at is_augment rows) mine) (filter (is_at is_augment rows) mine)) e
+    kept : (b : Bool) → is_at test rows n ≡ b → filter (is_at test rows) (n ∷ mine) ≡ cond b (n ∷ filter (is_at test rows) mine) (filter (is_at test rows) mine)
+    kept b e = ap (λ (b : Bool). cond b (n ∷ filter (is_at test rows) mine) (filter (is_at test rows) mine)) e
 
-    left : (a b : Bool) → is_augment r ≡ a → (r.scope == u) ≡ b
-        → (if is_place u (if is_augment r then Some r.scope else None) then n ∷ theirs else theirs) ≡ (if a && b then n ∷ theirs else theirs)
+    left : (a b : Bool) → test r ≡ a → (r.scope == u) ≡ b
+        → (if is_place u (if test r then Some r.scope else None) then n ∷ theirs else theirs) ≡ (if a && b then n ∷ theirs else theirs)
     left true b e f = ap (λ (x : Bool). if is_place u (if x then Some r.scope else None) then n ∷ theirs else theirs) e ∙ ap (λ (x : Bool). if x then n ∷ theirs else theirs) f
     left false b e f = ap (λ (x : Bool). if is_place u (if x then Some r.scope else None) then n ∷ theirs else theirs) e
 
     right : (b d : Bool) → (r.scope == u) ≡ b → (r.scope == n) ≡ d
-        → filter (is_at is_augment rows) (if stands_in u n r then n ∷ mine else mine) ≡ filter (is_at is_augment rows) (if b && not d then n ∷ mine else mine)
+        → filter (is_at test rows) (if stands_in u n r then n ∷ mine else mine) ≡ filter (is_at test rows) (if b && not d then n ∷ mine else mine)
     right b d e f =
-        ap (λ (x : Bool). filter (is_at is_augment rows) (if x && not (r.scope == n) then n ∷ mine else mine)) e
-        ∙ ap (λ (x : Bool). filter (is_at is_augment rows) (if b && not x then n ∷ mine else mine)) f
+        ap (λ (x : Bool). filter (is_at test rows) (if x && not (r.scope == n) then n ∷ mine else mine)) e
+        ∙ ap (λ (x : Bool). filter (is_at test rows) (if b && not x then n ∷ mine else mine)) f
 
-    by : (a : Bool) → is_augment r ≡ a → (b : Bool) → (r.scope == u) ≡ b → (d : Bool) → (r.scope == n) ≡ d
-        → numbers_from u (n + 1) (map (λ r. if is_augment r then Some r.scope else None) rs) ≡ filter (is_at is_augment rows) (weigh.numbers_from (stands_in u) (n + 1) rs)
-        → numbers_from u n (map (λ r. if is_augment r then Some r.scope else None) (r ∷ rs)) ≡ filter (is_at is_augment rows) (weigh.numbers_from (stands_in u) n (r ∷ rs))
+    by : (a : Bool) → test r ≡ a → (b : Bool) → (r.scope == u) ≡ b → (d : Bool) → (r.scope == n) ≡ d
+        → numbers_from u (n + 1) (map (λ r. if test r then Some r.scope else None) rs) ≡ filter (is_at test rows) (weigh.numbers_from (stands_in u) (n + 1) rs)
+        → numbers_from u n (map (λ r. if test r then Some r.scope else None) (r ∷ rs)) ≡ filter (is_at test rows) (weigh.numbers_from (stands_in u) n (r ∷ rs))
     by true e true f true g rest =
         (let su : r.scope ≡ u = eqb-true r.scope u f in let sn : r.scope ≡ n = eqb-true r.scope n g in let same : u ≡ n = omega (arith, su, sn) in
-        absurd (false≢true (sym (no_augment r (ap (slice_get rows) same ∙ row)) ∙ e)))
+        absurd (false≢true (sym (no_test r (ap (slice_get rows) same ∙ row)) ∙ e)))
     by true e true f false g rest = left true true e f ∙ (ap (λ l. n ∷ l) rest ∙ (sym (kept true (is ∙ e)) ∙ sym (right true false f g)))
     by true e false f d g rest = left true false e f ∙ (rest ∙ sym (right false d f g))
     by false e true f false g rest = left false true e f ∙ (rest ∙ (sym (kept false (is ∙ e)) ∙ sym (right true false f g)))
@@ -226,4 +227,7 @@ same_augments rows u n (r ∷ rs) told no_augment =
     by false e false f d g rest = left false false e f ∙ (rest ∙ sym (right false d f g))
 
 pub augments_are : (rows : List Row) (u : ℕ) → ((r : Row) → slice_get rows u ≡ Some r → is_augment r ≡ false) → augments_in rows u ≡ those is_augment rows (block_of rows u)
-augments_are rows u no_augment = same_augments rows u 0 rows (λ i. ap (slice_get rows) (let e : 0 + i ≡ i = omega arith in e)) no_augment
+augments_are rows u no_augment = same_tested is_augment rows u 0 rows (λ i. ap (slice_get rows) (let e : 0 + i ≡ i = omega arith in e)) no_augment
+
+pub refines_are : (rows : List Row) (u : ℕ) → ((r : Row) → slice_get rows u ≡ Some r → is_refine r ≡ false) → refines_in rows u ≡ those is_refine rows (block_of rows u)
+refines_are rows u no_refine = same_tested is_refine rows u 0 rows (λ i. ap (slice_get rows) (let e : 0 + i ≡ i = omega arith in e)) no_refine

@@ -28,7 +28,7 @@ module _ (w : Whole) (labels : List Label) (each : length labels ≡ w.items) (r
     nothing = λ r at none_is. refl;
   }
 
-  no_uses : (k : ℕ) (r : Row) → slice_get w.rows k ≡ Some r → ((d : ℕ) → RefersTo w.files w.rows k d → ⊥) → refers.is_uses r ≡ false
+  pub no_uses : (k : ℕ) (r : Row) → slice_get w.rows k ≡ Some r → ((d : ℕ) → RefersTo w.files w.rows k d → ⊥) → refers.is_uses r ≡ false
   no_uses k r at none_meant = by (refers.is_uses r) refl
     where
       by : (b : Bool) → refers.is_uses r ≡ b → refers.is_uses r ≡ false

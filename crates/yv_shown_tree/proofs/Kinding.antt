@@ -1,5 +1,5 @@
 -- What keywords say of items.
-use Rattle.std.proofs.Common.{◌⊎◌, inl, inr, ◌≡◌, ℕ, ◌&&◌, ◌||◌, not, Bool, true, false, List, [], ◌∷◌, refl, sym, ◌∙◌, ap, subst, codes, Option, Some, None}
+use Rattle.std.proofs.Common.{◌⊎◌, inl, inr, ◌≡◌, ℕ, ◌&&◌, ◌||◌, not, Bool, true, false, if◌then◌else◌, List, [], ◌∷◌, refl, sym, ◌∙◌, ap, subst, codes, Option, Some, None}
 use Rattle.std.specs.List.{slice_get}
 use Rattle.std.specs.Option.{unwrap_or}
 use Rattle.std.specs.Str.{bytes_eq}
@@ -15,11 +15,16 @@ use Rattle.yv_rows.specs.declared.kind.Kind.TheVariants.{Prefix, Include, Typede
 use Rattle.yv_names.specs.BuiltIn.{is_among, is_built_in}
 use Rattle.yv_names.specs.Refers.{RefersTo, is_type, is_uses, names_one}
 use Rattle.yv_units.specs.Units.{nodes, operations}
-use Rattle.yv_whole_expansion.specs.Expands.{is_augment, is_input, is_item, is_operation, is_output}
+use Rattle.yv_units.specs.Weigh.{block_of}
+use Rattle.yv_expansion.specs.declared.item.Origin.TheVariants.{Input, Output}
+use Rattle.yv_whole_expansion.specs.Expands.{input_of, is_at, is_augment, is_input, is_item, is_operation, is_output, output_of, part}
 use Rattle.yv_augments.specs.declared.label.Kind.{Kind}
 use Rattle.yv_augments.specs.declared.label.Kind.TheVariants as kind
 use Rattle.yv_augmented.specs.Kinds.{kind_by}
 use Rattle.yv_augmented.specs.Kinds as kinds
+use Rattle.yv_augmented.specs.Refining.{is_refine}
+use Rattle.yv_shown_tree.specs.Telling.{name_at, name_of}
+use Rattle.yv_shown_tree.proofs.Choosing.{first_passes, row_at}
 
 -- what holds of each of these words
 abbrev Each : (List ℕ → Type 0) → List (List ℕ) → Type 0
@@ -38,7 +43,7 @@ either_is : (a b : Bool) → (a || b) ≡ true → (a ≡ true) ⊎ (b ≡ true)
 either_is true b h = inl refl
 either_is false b h = inr h
 
-right_is : (a b : Bool) → b ≡ true → (a || b) ≡ true
+pub right_is : (a b : Bool) → b ≡ true → (a || b) ≡ true
 right_is true b h = refl
 right_is false b h = h
 
@@ -127,6 +132,40 @@ other_word r u v h other = ap (λ word. bytes_eq word v) ((bytes_eq-Decides r.he
 
 pub uses_no_augment : (r : Row) → is_uses r ≡ true → is_augment r ≡ false
 uses_no_augment r h = other_word r (codes "uses") (codes "augment") h refl
+
+pub uses_no_refine : (r : Row) → is_uses r ≡ true → is_refine r ≡ false
+uses_no_refine r h = other_word r (codes "uses") (codes "refine") h refl
+
+if_true : {A : Type 0} (b : Bool) (x y : A) → b ≡ true → (if b then x else y) ≡ x
+if_true true x y is = refl
+if_true false x y is = absurd (false≢true is)
+
+-- the input and the output of an operation are so by kind and name, written or not
+pub input_is : (rows : List Row) (k : ℕ) → (kinds.kind_of rows (part (Input k) (input_of rows k)) ≡ kind.Input) × (name_of rows (part (Input k) (input_of rows k)) ≡ codes "input")
+input_is rows k = by (input_of rows k) refl
+  where
+    by : (o : Option ℕ) → input_of rows k ≡ o → (kinds.kind_of rows (part (Input k) o) ≡ kind.Input) × (name_of rows (part (Input k) o) ≡ codes "input")
+    by None is = (refl, refl)
+    by (Some j) is =
+        let row = row_at is_input rows j (first_passes (is_at is_input rows) (block_of rows k) j is) in
+        let word : row.0.head.keyword ≡ codes "input" = (bytes_eq-Decides row.0.head.keyword (codes "input")).0 row.2 in (
+          ap kinds.kind_at row.1 ∙ (ap (λ w. unwrap_or (kind_by w) kind.Uses) word ∙ ap (λ o. unwrap_or o kind.Uses) input_kind),
+          ap name_at row.1 ∙ (if_true (has_word (codes "input") row.0.head || has_word (codes "output") row.0.head) row.0.head.keyword _
+              (ap (λ (b : Bool). b || has_word (codes "output") row.0.head) row.2) ∙ word),
+        )
+
+pub output_is : (rows : List Row) (k : ℕ) → (kinds.kind_of rows (part (Output k) (output_of rows k)) ≡ kind.Output) × (name_of rows (part (Output k) (output_of rows k)) ≡ codes "output")
+output_is rows k = by (output_of rows k) refl
+  where
+    by : (o : Option ℕ) → output_of rows k ≡ o → (kinds.kind_of rows (part (Output k) o) ≡ kind.Output) × (name_of rows (part (Output k) o) ≡ codes "output")
+    by None is = (refl, refl)
+    by (Some j) is =
+        let row = row_at is_output rows j (first_passes (is_at is_output rows) (block_of rows k) j is) in
+        let word : row.0.head.keyword ≡ codes "output" = (bytes_eq-Decides row.0.head.keyword (codes "output")).0 row.2 in (
+          ap kinds.kind_at row.1 ∙ (ap (λ w. unwrap_or (kind_by w) kind.Uses) word ∙ ap (λ o. unwrap_or o kind.Uses) output_kind),
+          ap name_at row.1 ∙ (if_true (has_word (codes "input") row.0.head || has_word (codes "output") row.0.head) row.0.head.keyword _
+              (right_is (has_word (codes "input") row.0.head) (has_word (codes "output") row.0.head) row.2) ∙ word),
+        )
 
 -- an item that refers to a definition is a uses, and that is no augment
 pub refers_uses : (files : Briefs) (rows : List Row) (k d : ℕ) (r : Row) → slice_get rows k ≡ Some r → is_item r ≡ true → RefersTo files rows k d

@@ -10,7 +10,7 @@ use Rattle.yv_shown_tree.specs.Laid.{AllLie, Lie, Spot, paths_of, placed_on, tur
 
 module _ (labels : List Label) where
   -- one list behind another
-  placed_append : (i j : ℕ) (xs ys : List Spot) (st : State) → i + length xs ≡ j → placed_on labels i (xs ++ ys) st ≡ placed_on labels i xs (placed_on labels j ys st)
+  pub placed_append : (i j : ℕ) (xs ys : List Spot) (st : State) → i + length xs ≡ j → placed_on labels i (xs ++ ys) st ≡ placed_on labels i xs (placed_on labels j ys st)
   placed_append i j [] ys st e = ap (λ (n : ℕ). placed_on labels n ys st) (let same : i ≡ j = omega (arith, e) in same)
   placed_append i j (x ∷ xs) ys st e =
       ap (λ s. entered i x.group (turns labels x s)) (placed_append (i + 1) j xs ys st (omega (arith, e)))

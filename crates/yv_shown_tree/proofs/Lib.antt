@@ -1,3 +1,5 @@
+pub mod Alike
+pub mod Beginning
 pub mod Cases
 pub mod Changing
 pub mod Choosing
@@ -5,6 +7,7 @@ pub mod Counter
 pub mod Expanding
 pub mod Finding
 pub mod Framing
+pub mod Given
 pub mod Inserting
 pub mod Joining
 pub mod Keeping
@@ -12,12 +15,15 @@ pub mod Kinding
 pub mod Laying
 pub mod Least
 pub mod Lying
+pub mod Making
 pub mod Marking
 pub mod Marks
 pub mod Placing
+pub mod Refined
 pub mod Rounds
 pub mod Showing
 pub mod Smallest
+pub mod Staging
 pub mod Standing
 pub mod Starting
 pub mod Statements
@@ -27,3 +33,4 @@ pub mod Turns
 pub mod Using
 pub mod Waiting
 pub mod Walking
+pub mod WholeRounds

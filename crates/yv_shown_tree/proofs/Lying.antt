@@ -69,7 +69,7 @@ module _ (w : Whole) (labels : List Label) where
     pub lie : AllLie labels augments (map (told w) new)
     pub paths_are : paths_of augments ≡ paths
 
-  pub empty_lies : (l : Laid) (g n c : ℕ) → l.copies ≡ c → Lies l [] g n n c c
+  abbrev pub empty_lies : (l : Laid) (g n c : ℕ) → l.copies ≡ c → Lies l [] g n n c c
   empty_lies l g n c same = record {
     new = [];
     laid = ap (λ s. laid_as s l.copies) (sym (append-nil l.spots)) ∙ ap (laid_as (l.spots ++ [])) same;
@@ -78,7 +78,7 @@ module _ (w : Whole) (labels : List Label) where
     lie = refl;
   }
 
-  lies_then : (l : Laid) (xs ys : List Item) (g n mid hi c d e : ℕ) (p : Lies l xs g n mid c d) → Lies (laid_as (l.spots ++ p.new) d) ys g mid hi d e → Lies l (xs ++ ys) g n hi c e
+  abbrev pub lies_then : (l : Laid) (xs ys : List Item) (g n mid hi c d e : ℕ) (p : Lies l xs g n mid c d) → Lies (laid_as (l.spots ++ p.new) d) ys g mid hi d e → Lies l (xs ++ ys) g n hi c e
   lies_then l xs ys g n mid hi c d e p q = record {
     new = p.new ++ q.new;
     laid = laid_append w xs ys l ∙ (ap (laid_from w ys) p.laid ∙ (q.laid ∙ ap (λ s. laid_as s e) (append_assoc l.spots p.new q.new)));
@@ -88,12 +88,21 @@ module _ (w : Whole) (labels : List Label) where
         (lie_then labels g p.block q.block (map (told w) p.new) (map (told w) q.new) p.lie q.lie);
   }
 
+  pub no_copies : (l : Laid) (x : Item) (c : ℕ) → l.copies ≡ c → is_uses (spot_of w l.spots l.copies x).label.kind ≡ false → l.copies + copies_of w.rows (spot_of w l.spots l.copies x) ≡ c
+  no_copies l x c copies no_uses = (let none : copies_of w.rows (spot_of w l.spots l.copies x) ≡ 0 =
+      ap (λ (b : Bool). if b then length (giving w.rows (spot_of w l.spots l.copies x).statement) else 0) no_uses in omega (arith, none, copies))
+
+  pub own_copies : (l : Laid) (x : Item) (c own : ℕ) → l.copies ≡ c → is_uses (spot_of w l.spots l.copies x).label.kind ≡ true
+      → own ≡ c + length (giving w.rows (spot_of w l.spots l.copies x).statement) → l.copies + copies_of w.rows (spot_of w l.spots l.copies x) ≡ own
+  own_copies l x c own copies of_uses own_is = (let all : copies_of w.rows (spot_of w l.spots l.copies x) ≡ length (giving w.rows (spot_of w l.spots l.copies x).statement) =
+      ap (λ (b : Bool). if b then length (giving w.rows (spot_of w l.spots l.copies x).statement) else 0) of_uses in omega (arith, all, copies, own_is))
+
   -- an item that is no uses, above others
-  item_lies : (l : Laid) (x : Item) (below : List Item) (g n hi c e : ℕ) → length l.spots ≡ n → l.copies ≡ c → is_uses (spot_of w l.spots l.copies x).label.kind ≡ false
+  abbrev pub item_lies : (l : Laid) (x : Item) (below : List Item) (g n hi c e : ℕ) → length l.spots ≡ n → l.copies ≡ c → is_uses (spot_of w l.spots l.copies x).label.kind ≡ false
       → (spot_of w l.spots l.copies x).group ≡ g → Lies (laid_as (l.spots ++ spot_of w l.spots l.copies x ∷ []) c) below (n + 1) (n + 1) hi c e → Lies l (x ∷ below) g n hi c e
-  item_lies l x below g n hi c e long copies no_uses at q = record {
+  item_lies l x below g n hi c e long copies no_uses at q = (let s : Spot = spot_of w l.spots l.copies x in record {
     new = s ∷ q.new;
-    laid = ap (λ (m : ℕ). laid_from w below (laid_as (l.spots ++ s ∷ []) m)) same ∙ (q.laid ∙ ap (λ z. laid_as z e) (append_assoc l.spots (s ∷ []) q.new));
+    laid = ap (λ (m : ℕ). laid_from w below (laid_as (l.spots ++ s ∷ []) m)) (no_copies l x c copies no_uses) ∙ (q.laid ∙ ap (λ z. laid_as z e) (append_assoc l.spots (s ∷ []) q.new));
     long = (let a = q.long in omega (arith, a));
     block = block.item hi e q.block block.nothing;
     lie = (
@@ -107,24 +116,17 @@ module _ (w : Whole) (labels : List Label) where
       refl,
       (let a = q.long in let b = map_length (told w) q.new in omega (arith, a, b)),
     );
-  }
-    where
-      s : Spot
-      s = spot_of w l.spots l.copies x
-
-      same : l.copies + copies_of w.rows (spot_of w l.spots l.copies x) ≡ c
-      same = (let none : copies_of w.rows (spot_of w l.spots l.copies x) ≡ 0 =
-          ap (λ (b : Bool). if b then length (giving w.rows (spot_of w l.spots l.copies x).statement) else 0) no_uses in omega (arith, none, copies))
+  })
 
   -- a uses, above what it copies and what its augments give
-  pub uses_lies : (l : Laid) (x : Item) (first others : List Item) (g n mid hi c own d e : ℕ) → length l.spots ≡ n → l.copies ≡ c → is_uses (spot_of w l.spots l.copies x).label.kind ≡ true
+  abbrev pub uses_lies : (l : Laid) (x : Item) (first others : List Item) (g n mid hi c own d e : ℕ) → length l.spots ≡ n → l.copies ≡ c → is_uses (spot_of w l.spots l.copies x).label.kind ≡ true
       → (spot_of w l.spots l.copies x).group ≡ g → own ≡ c + length (giving w.rows (spot_of w l.spots l.copies x).statement)
       → (p : Lies (laid_as (l.spots ++ spot_of w l.spots l.copies x ∷ []) own) first g (n + 1) mid own d)
       → AllLies (laid_as ((l.spots ++ spot_of w l.spots l.copies x ∷ []) ++ p.new) d) others mid hi d e c own
       (map (path_in w (spot_of w l.spots l.copies x).home) (giving w.rows (spot_of w l.spots l.copies x).statement)) → Lies l (x ∷ (first ++ others)) g n hi c e
-  uses_lies l x first others g n mid hi c own d e long copies of_uses at own_is p q = record {
+  uses_lies l x first others g n mid hi c own d e long copies of_uses at own_is p q = (let s : Spot = spot_of w l.spots l.copies x in record {
     new = s ∷ (p.new ++ q.new);
-    laid = ap (λ (m : ℕ). laid_from w (first ++ others) (laid_as (l.spots ++ s ∷ []) m)) same
+    laid = ap (λ (m : ℕ). laid_from w (first ++ others) (laid_as (l.spots ++ s ∷ []) m)) (own_copies l x c own copies of_uses own_is)
         ∙ (laid_append w first others (laid_as (l.spots ++ s ∷ []) own)
         ∙ (ap (laid_from w others) p.laid ∙ (q.laid ∙ ap (λ z. laid_as z e) (append_assoc (l.spots ++ s ∷ []) p.new q.new ∙ append_assoc l.spots (s ∷ []) (p.new ++ q.new)))));
     long = (let a = p.long in let b = q.long in let f = length-append p.new q.new in omega (arith, a, b, f));
@@ -145,14 +147,7 @@ module _ (w : Whole) (labels : List Label) where
       (let a = p.long in let b = map_length (told w) p.new in omega (arith, a, b)),
       (let a = q.long in let b = map_length (told w) q.new in omega (arith, a, b)),
     );
-  }
-    where
-      s : Spot
-      s = spot_of w l.spots l.copies x
-
-      same : l.copies + copies_of w.rows (spot_of w l.spots l.copies x) ≡ own
-      same = (let all : copies_of w.rows (spot_of w l.spots l.copies x) ≡ length (giving w.rows (spot_of w l.spots l.copies x).statement) =
-          ap (λ (b : Bool). if b then length (giving w.rows (spot_of w l.spots l.copies x).statement) else 0) of_uses in omega (arith, all, copies, own_is))
+  })
 
   -- Each statement gives a part of the items: whatever they are laid behind, those of the part lie in a block of the group in which the
   -- statement puts them. A statement that is no item gives none.
@@ -170,7 +165,7 @@ module _ (w : Whole) (labels : List Label) where
     one_part : {k : ℕ} {ks : List ℕ} {t u : Tree} → Part k t → Parts ks u → Parts (k ∷ ks) (joined t u)
 
   -- the spot above stays where it is
-  spot_stays : (spots more : List Spot) (parent : Option ℕ) (n : ℕ) → length spots ≡ n → ((p : ℕ) → parent ≡ Some p → p < n) → spot_at (spots ++ more) parent ≡ spot_at spots parent
+  pub spot_stays : (spots more : List Spot) (parent : Option ℕ) (n : ℕ) → length spots ≡ n → ((p : ℕ) → parent ≡ Some p → p < n) → spot_at (spots ++ more) parent ≡ spot_at spots parent
   spot_stays spots more None n long below = refl
   spot_stays spots more (Some p) n long below = still_at spots more p (let l = below p refl in omega (arith, l, long))
 
@@ -199,7 +194,7 @@ module _ (w : Whole) (labels : List Label) where
       (l : Laid) (p n hi c : ℕ) (s : Spot) → length l.spots ≡ n → l.copies ≡ c → n + count t ≡ hi → p < n → slice_get l.spots p ≡ Some s → is_uses s.label.kind ≡ false
       → (e : ℕ) × Lies l (listed (Some p) n t) (p + 1) n hi c e
 
-  group_of_node : (r : Option Row) (p : ℕ) (o : Option Spot) (s : Spot) → o ≡ Some s → is_uses s.label.kind ≡ false → group_below w r (Some p) o ≡ p + 1
+  pub group_of_node : (r : Option Row) (p : ℕ) (o : Option Spot) (s : Spot) → o ≡ Some s → is_uses s.label.kind ≡ false → group_below w r (Some p) o ≡ p + 1
   group_of_node r p o s at no_uses = ap (group_below w r (Some p)) at ∙ ap (λ (b : Bool). if b then used_group w s r else p + 1) no_uses
 
   pub below_lies : {ks : List ℕ} {t : Tree} → Parts ks t → BelowLies t
@@ -232,7 +227,7 @@ module _ (w : Whole) (labels : List Label) where
   }
 
   -- an operation's input and output
-  part_no_uses : (unwritten : Origin) (test : Row → Bool) (block : List ℕ) → is_uses (kind_of w.rows unwritten) ≡ false → ((r : Row) → test r ≡ true → is_uses (kind_at (Some r)) ≡ false)
+  pub part_no_uses : (unwritten : Origin) (test : Row → Bool) (block : List ℕ) → is_uses (kind_of w.rows unwritten) ≡ false → ((r : Row) → test r ≡ true → is_uses (kind_at (Some r)) ≡ false)
       → is_uses (kind_of w.rows (part unwritten (first_of test w.rows block))) ≡ false
   part_no_uses unwritten test block own written = by (first_of test w.rows block) refl
     where
@@ -242,7 +237,7 @@ module _ (w : Whole) (labels : List Label) where
           (let row = row_at test w.rows j (first_passes (is_at test w.rows) block j is) in
           ap (λ o. is_uses (kind_at o)) row.1 ∙ written row.0 row.2)
 
-  two_lie : (o q : Origin) (t u : Tree) → BelowLies t → BelowLies u → is_uses (kind_of w.rows o) ≡ false → is_uses (kind_of w.rows q) ≡ false → BelowLies (item o t (item q u none))
+  pub two_lie : (o q : Origin) (t u : Tree) → BelowLies t → BelowLies u → is_uses (kind_of w.rows o) ≡ false → is_uses (kind_of w.rows q) ≡ false → BelowLies (item o t (item q u none))
   two_lie o q t u T U no_o no_q l p n hi c s long copies ends less at no_uses =
       let mid : ℕ = n + count (item o t none) in
       let a = own_lies o t T no_o l (Some p) (p + 1) n mid c long copies refl (group_of_node (slice_get w.rows (number_of o)) p (slice_get l.spots p) s at no_uses) in

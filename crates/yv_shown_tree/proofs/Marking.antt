@@ -29,7 +29,7 @@ set_cases groups g x v = by (cases_eq x g) (cases_lt g (length groups))
         inr (get_or_past (set groups g v) x [] (omega (arith, same, l, long)) ∙ sym (get_or_past groups x [] (omega (arith, same, l)))))
 
 module _ (given_is mark : ℕ → Bool) (labels : List Label) (below : (x : ℕ) → x ≤ length labels → mark x ≡ false) where
-  entered_marks : (g i : ℕ) (st : State) → given_is i ≡ mark g → HasMarks given_is mark st → HasMarks given_is mark (entered i g st)
+  pub entered_marks : (g i : ℕ) (st : State) → given_is i ≡ mark g → HasMarks given_is mark st → HasMarks given_is mark (entered i g st)
   entered_marks g i st is has x j there = by (set_cases st.groups g x (members_of st.groups g ++ i ∷ []))
     where
       by : ((x ≡ g) × (members_of (entered i g st).groups x ≡ members_of st.groups g ++ i ∷ [])) ⊎ (members_of (entered i g st).groups x ≡ members_of st.groups x) → given_is j ≡ mark x

@@ -27,13 +27,13 @@ past_front (x ∷ xs) ys j = ap (slice_get (x ∷ (xs ++ ys))) (let e : length (
 
 module _ (labels : List Label) (given mark : ℕ → Bool) (most : ℕ) (copies_mark : (k : ℕ) → most ≤ k → mark (group_of_augment labels k) ≡ false) where
   -- what is told of spots from a number on
-  abbrev Told : ℕ → List Spot → Type 0
+  abbrev pub Told : ℕ → List Spot → Type 0
   Told lo spots = (j : ℕ) (s : Spot) → slice_get spots j ≡ Some s → given (lo + j) ≡ mark s.group
 
-  told_first : (lo n : ℕ) (low rest : List Spot) → Told lo (low ++ rest) → Told lo low
+  pub told_first : (lo n : ℕ) (low rest : List Spot) → Told lo (low ++ rest) → Told lo low
   told_first lo n low rest told j s at = told j s (still_at low rest j (slice_get_within low j s at) ∙ at)
 
-  told_rest : (lo mid : ℕ) (low rest : List Spot) → lo + length low ≡ mid → Told lo (low ++ rest) → Told mid rest
+  pub told_rest : (lo mid : ℕ) (low rest : List Spot) → lo + length low ≡ mid → Told lo (low ++ rest) → Told mid rest
   told_rest lo mid low rest long told j s at =
       ap given (let e : mid + j ≡ lo + (length low + j) = omega (arith, long) in e) ∙ told (length low + j) s (past_front low rest j ∙ at)
 
@@ -44,7 +44,7 @@ module _ (labels : List Label) (given mark : ℕ → Bool) (most : ℕ) (copies_
   told_here lo g s spots group told = ap given (let e : lo ≡ lo + 0 = omega arith in e) ∙ (told 0 s refl ∙ ap mark group)
 
   mutual
-    lie_marked : (g : ℕ) {lo hi c e : ℕ} (b : Block lo hi c e) (spots : List Spot) → Lie labels g b spots → most ≤ c → Told lo spots → Marked labels given mark g b
+    pub lie_marked : (g : ℕ) {lo hi c e : ℕ} (b : Block lo hi c e) (spots : List Spot) → Lie labels g b spots → most ≤ c → Told lo spots → Marked labels given mark g b
     lie_marked g block.nothing spots is few told = tt
     lie_marked g {lo = lo} (block.item mid d below behind) spots (s, low, rest, is, group, of_no, L, R, long) few told =
         let all : Told lo (s ∷ (low ++ rest)) = subst (Told lo) is told in

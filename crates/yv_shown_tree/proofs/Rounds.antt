@@ -1,5 +1,5 @@
 -- The turn of an augment of a module.
-use Rattle.std.proofs.Common.{inl, inr, ◌≡◌, ◌≢◌, ℕ, ◌+◌, ◌<◌, ◌≤◌, ◌&&◌, ◌||◌, nat_lt, Bool, true, false, if◌then◌else◌, List, [], ◌∷◌, ◌++◌, length, refl, sym, ◌∙◌, ap, subst, arith, Option, Some, None}
+use Rattle.std.proofs.Common.{◌⊎◌, inl, inr, ◌≡◌, ◌≢◌, ℕ, ◌+◌, ◌<◌, ◌≤◌, ◌&&◌, ◌||◌, nat_lt, Bool, true, false, if◌then◌else◌, List, [], ◌∷◌, ◌++◌, length, refl, sym, ◌∙◌, ap, subst, arith, Option, Some, None}
 use Rattle.std.specs.List.{Contains}
 use Rattle.std.specs.Option.{is_some, option_and_then, option_map}
 use Rattle.std.proofs.lemmas.Bool.{cases_lt, false≢true, lt-ltb, ltb-true, ltb-false}
@@ -86,7 +86,9 @@ module _ (labels : List Label) (its : Items) (are : AreLabels labels its) (giver
       target_is i is may = (let x = are.within i is in ap (λ (b : Bool). if b then Some i else None) (ap is_target_by x.1 ∙ (ap may_be_target x.2 ∙ may)))
 
       moves : Hit labels its are st.groups (length labels) false names t.whole.items t.whole.owns node below (inserted a b below) there
-          → Shows its (turn labels k 0 (length labels) names st).groups 0 0 (length labels) there
+          → (s : Shows its (turn labels k 0 (length labels) names st).groups 0 0 (length labels) there)
+          × ((x : ℕ) → s.owns x ≡ true → (t.whole.owns x ≡ true) ⊎ (t.block.owns x ≡ true))
+          × ((i : ℕ) × (t.whole.owns i ≡ true) × ((turn labels k 0 (length labels) names st).groups ≡ moved (group_of_augment labels k) (i + 1) st.groups))
       moves h =
           let own : ℕ = group_of_augment labels k in
           let i : ℕ = h.item in
@@ -108,30 +110,35 @@ module _ (labels : List Label) (its : Items) (are : AreLabels labels its) (giver
           K h.orders.ascend (λ x o. not_so (h.low x) (λ p. false≢true (sym (t.apart x o) ∙ h.within x p)))
           (λ i j p q late. before t.givers a i j (t.own i (t.block.orders.only i p).0).1 late)
           (λ y j p q early. behind t.givers a y j (t.own y (t.block.orders.only y p).0).1 (t.not_theirs (i + 1) j (omega (arith, iu)) (h.orders.only j q)) early) in
-          subst (λ gs. Shows its gs 0 0 (length labels) there)
-          (sym (same_turn names i h.walks (target_is i h.is_node (ap (λ (y : Node). may_be_target y.kind) (sym h.is) ∙ may)))) (record {
-            items = t.whole.items;
-            owns = either t.whole.owns t.block.owns;
-            bounds = λ j o. elim (or_cases (t.whole.owns j) (t.block.owns j) o) [
-              | inl p ↦ t.whole.bounds j p
-              | inr p ↦ (let w = t.block.bounds j p in let u = w.1 in (omega arith, omega (arith, u, items)))
-            ];
-            orders = record {
-              ascend = t.whole.orders.ascend;
-              all = λ j w. t.whole.orders.all j (subst (λ ms. Contains ms j) at_g w.0, w.1);
-              only = λ j p. (let w = t.whole.orders.only j p in (subst (λ ms. Contains ms j) (sym at_g) w.0, w.1));
-            };
-            stand = h.exchange new t.block.owns x.items not_in (λ y o other. elsewhere y (t.whole.bounds y o).1 other)
-                (record {
-                  ascend = x.ascend;
-                  all = λ y p. elim (Contains-append_cases (members_of st.groups (i + 1)) (members_of st.groups own) y (subst (λ ms. Contains ms y) at_i p)) [
-                    | inl q ↦ x.into_first y (h.orders.all y q)
-                    | inr q ↦ x.into_second y (t.block.orders.all y (q, (t.own y q).0))
-                  ];
-                  only = λ y p. subst (λ ms. Contains ms y) (sym at_i) (elim (x.from y p) [
-                    | inl q ↦ Contains-append_left (members_of st.groups (i + 1)) (members_of st.groups own) y (h.orders.only y q)
-                    | inr q ↦ Contains-append_right (members_of st.groups (i + 1)) (members_of st.groups own) y (t.block.orders.only y q).0
-                  ]);
-                })
-                x.stand;
-          })
+          subst (λ gs. (s : Shows its gs 0 0 (length labels) there) × ((x : ℕ) → s.owns x ≡ true → (t.whole.owns x ≡ true) ⊎ (t.block.owns x ≡ true))
+          × ((i : ℕ) × (t.whole.owns i ≡ true) × (gs ≡ moved (group_of_augment labels k) (i + 1) st.groups)))
+          (sym (same_turn names i h.walks (target_is i h.is_node (ap (λ (y : Node). may_be_target y.kind) (sym h.is) ∙ may)))) (
+            record {
+              items = t.whole.items;
+              owns = either t.whole.owns t.block.owns;
+              bounds = λ j o. elim (or_cases (t.whole.owns j) (t.block.owns j) o) [
+                | inl p ↦ t.whole.bounds j p
+                | inr p ↦ (let w = t.block.bounds j p in let u = w.1 in (omega arith, omega (arith, u, items)))
+              ];
+              orders = record {
+                ascend = t.whole.orders.ascend;
+                all = λ j w. t.whole.orders.all j (subst (λ ms. Contains ms j) at_g w.0, w.1);
+                only = λ j p. (let w = t.whole.orders.only j p in (subst (λ ms. Contains ms j) (sym at_g) w.0, w.1));
+              };
+              stand = h.exchange new t.block.owns x.items not_in (λ y o other. elsewhere y (t.whole.bounds y o).1 other)
+                  (record {
+                    ascend = x.ascend;
+                    all = λ y p. elim (Contains-append_cases (members_of st.groups (i + 1)) (members_of st.groups own) y (subst (λ ms. Contains ms y) at_i p)) [
+                      | inl q ↦ x.into_first y (h.orders.all y q)
+                      | inr q ↦ x.into_second y (t.block.orders.all y (q, (t.own y q).0))
+                    ];
+                    only = λ y p. subst (λ ms. Contains ms y) (sym at_i) (elim (x.from y p) [
+                      | inl q ↦ Contains-append_left (members_of st.groups (i + 1)) (members_of st.groups own) y (h.orders.only y q)
+                      | inr q ↦ Contains-append_right (members_of st.groups (i + 1)) (members_of st.groups own) y (t.block.orders.only y q).0
+                    ]);
+                  })
+                  x.stand;
+            },
+            λ x o. or_cases (t.whole.owns x) (t.block.owns x) o,
+            (i, h.has, refl),
+          )

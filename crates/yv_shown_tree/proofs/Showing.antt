@@ -353,7 +353,7 @@ module _ (labels : List Label) (its : Items) (mark : ℕ → Bool) (below_mark :
         waiting = λ j a b. f1.ends j (inl b) ∙ m.waiting j a (omega (arith, b, de));
       }
 
-  may_all : (g lo hi c f mid end own d e : ℕ) (st st1 : State) → lo + 1 ≤ mid → mid ≤ end → end ≤ hi → c ≤ own → own ≤ d → d ≤ e → e ≤ f → MayEnter labels g lo hi c f st
+  pub may_all : (g lo hi c f mid end own d e : ℕ) (st st1 : State) → lo + 1 ≤ mid → mid ≤ end → end ≤ hi → c ≤ own → own ≤ d → d ≤ e → e ≤ f → MayEnter labels g lo hi c f st
       → Frame labels g end hi e f st st1 → StandFrom end st1 → MayAll labels mid end d e c own st1
   may_all g lo hi c f mid end own d e st st1 lm me eh co od de ef m f1 from1 =
       let long1 = f1.groups in let many1 = f1.augments in
@@ -372,7 +372,7 @@ module _ (labels : List Label) (its : Items) (mark : ℕ → Bool) (below_mark :
         waiting = λ j w. (let a = w.0 in let b = w.1 in f1.ends j (inl b) ∙ m.waiting j (omega (arith, a, co, od)) (omega (arith, b, ef)));
       }
 
-  may_copies : (g lo hi c f mid end own d e : ℕ) (st st1 st2 : State) → lo + 1 ≤ mid → mid ≤ end → end ≤ hi → c ≤ own → own ≤ d → d ≤ e → e ≤ f → MayEnter labels g lo hi c f st
+  pub may_copies : (g lo hi c f mid end own d e : ℕ) (st st1 st2 : State) → lo + 1 ≤ mid → mid ≤ end → end ≤ hi → c ≤ own → own ≤ d → d ≤ e → e ≤ f → MayEnter labels g lo hi c f st
       → Frame labels g end hi e f st st1 → AllKept labels g mid end d e c own st1 st2 → MayEnter labels g (lo + 1) mid own d st2
   may_copies g lo hi c f mid end own d e st st1 st2 lm me eh co od de ef m f1 all =
       let long1 = f1.groups in let many1 = f1.augments in
@@ -392,7 +392,7 @@ module _ (labels : List Label) (its : Items) (mark : ℕ → Bool) (below_mark :
         waiting = λ j a b. all.gap_ends j b ∙ (f1.ends j (inl (omega (arith, b, de))) ∙ m.waiting j (omega (arith, a, co)) (omega (arith, b, de, ef)));
       }
 
-  may_others : (lo hi c e k own mid d : ℕ) (st : State) → c ≤ d → MayAll labels lo hi c e k own st → MayAll labels mid hi d e (k + 1) own st
+  pub may_others : (lo hi c e k own mid d : ℕ) (st : State) → c ≤ d → MayAll labels lo hi c e k own st → MayAll labels mid hi d e (k + 1) own st
   may_others lo hi c e k own mid d st cd m = (let oc = m.inner in record {
     room = m.room;
     items = m.items;
@@ -403,7 +403,7 @@ module _ (labels : List Label) (its : Items) (mark : ℕ → Bool) (below_mark :
     waiting = λ j w. (let a = w.0 in m.waiting j (omega (arith, a, cd), w.1));
   })
 
-  may_block : (g lo hi c e k own mid d : ℕ) (st st1 : State) → mid ≤ hi → c ≤ d → d ≤ e → k + 1 ≤ own → MayAll labels lo hi c e k own st
+  pub may_block : (g lo hi c e k own mid d : ℕ) (st st1 : State) → mid ≤ hi → c ≤ d → d ≤ e → k + 1 ≤ own → MayAll labels lo hi c e k own st
       → AllKept labels g mid hi d e (k + 1) own st st1 → MayEnter labels (group_of_augment labels k) lo mid c d st1
   may_block g lo hi c e k own mid d st st1 mh cd de ko m rest =
       let room = m.room in let items = m.items in let many = m.copies in let oc = m.inner in

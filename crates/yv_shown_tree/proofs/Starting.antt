@@ -11,16 +11,18 @@ use Rattle.yv_augments.specs.Groups.{group_of_augment, members_of}
 use Rattle.yv_augments.specs.Placed.{nothing}
 use Rattle.yv_augments.specs.Turns.{State}
 use Rattle.yv_augmented.specs.Grafted.{placed, placed_from}
+use Rattle.yv_expanded_tree.specs.Nodes.{Forest}
 use Rattle.yv_augmented.specs.Spots.{Laid, Whole, labels_of, laid, laid_from}
 use Rattle.yv_augmented.specs.declared.spot.Spot.{Spot as LaidSpot}
 use Rattle.yv_shown_tree.specs.Blocks.{run}
-use Rattle.yv_shown_tree.specs.Comes.{Marked}
+use Rattle.yv_shown_tree.specs.Comes.{Comes, Marked}
 use Rattle.yv_shown_tree.specs.Expanding.{told}
 use Rattle.yv_shown_tree.specs.Frames.{MayEnter}
 use Rattle.yv_shown_tree.specs.Laid.{Spot}
 use Rattle.yv_shown_tree.specs.Marks.{mark_of}
-use Rattle.yv_shown_tree.specs.Shows.{Shows}
+use Rattle.yv_shown_tree.specs.Shows.{Items, Shows}
 use Rattle.yv_shown_tree.specs.Starting.{ShowsBlock, StartShows}
+use Rattle.yv_shown_tree.specs.Telling.{AreItems}
 use Rattle.yv_shown_tree.proofs.Expanding.{parts}
 use Rattle.yv_shown_tree.proofs.Finding.{not_none}
 use Rattle.yv_shown_tree.proofs.Framing.{nothing_stands}
@@ -32,17 +34,17 @@ use Rattle.yv_shown_tree.proofs.Telling.{labels_tell, laid_many}
 use Rattle.yv_shown_tree.proofs.Turns.{block_shows_all}
 
 -- in nothing there is nothing
-none_there : (items copies x : ℕ) → members_of (nothing items copies).groups x ≡ []
+pub none_there : (items copies x : ℕ) → members_of (nothing items copies).groups x ≡ []
 none_there items copies x = elim (cases_lt x (items + 1 + copies)) [
   | inl l ↦ get_or-replicate (items + 1 + copies) x [] [] l
   | inr l ↦ get_or_past (replicate (items + 1 + copies) []) x [] (let e : length (nothing items copies).groups ≡ items + 1 + copies = length-replicate (items + 1 + copies) [] in omega (arith, l, e))
 ]
 
-none_applied : (items copies k : ℕ) → k < copies → get_or (nothing items copies).ends k None ≡ None
+pub none_applied : (items copies k : ℕ) → k < copies → get_or (nothing items copies).ends k None ≡ None
 none_applied items copies k l = get_or-replicate copies k None None l
 
 -- what lies in a block may enter nothing
-may_enter : (labels : List Label) (hi c e : ℕ) → hi ≤ length labels → MayEnter labels 0 0 hi c e (nothing (length labels) e)
+pub may_enter : (labels : List Label) (hi c e : ℕ) → hi ≤ length labels → MayEnter labels 0 0 hi c e (nothing (length labels) e)
 may_enter labels hi c e within = record {
   room = (let a : length (nothing (length labels) e).groups ≡ length labels + 1 + e = length-replicate (length labels + 1 + e) [] in let b : length (nothing (length labels) e).ends ≡ e = length-replicate e None in omega (arith, a, b));
   items = within;
@@ -54,7 +56,7 @@ may_enter labels hi c e within = record {
   waiting = λ k low high. none_applied (length labels) e k high;
 }
 
-count_listed : (parent : Option ℕ) (n : ℕ) (t : Tree) → length (listed parent n t) ≡ count t
+pub count_listed : (parent : Option ℕ) (n : ℕ) (t : Tree) → length (listed parent n t) ≡ count t
 count_listed parent n none = refl
 count_listed parent n (item o below behind) =
     let a = count_listed (Some n) (n + 1) below in
@@ -62,9 +64,39 @@ count_listed parent n (item o below behind) =
     let e = length-append (listed (Some n) (n + 1) below) (listed parent (n + 1 + count below) behind) in
     omega (arith, a, b, e)
 
-laid_is : (w : Whole) (items : List Item) → laid w items ≡ laid_from w items (record { spots = []; copies = length w.augments })
+pub laid_is : (w : Whole) (items : List Item) → laid w items ≡ laid_from w items (record { spots = []; copies = length w.augments })
 unfolding laid
 laid_is w items = refl
+
+-- what lies in a block from the first item on shows what the block gives
+module _ (w : Whole) (items : List Item) (n e : ℕ) (all : length items ≡ w.items) (F : Lies w (labels_of (laid w items).spots) (record { spots = []; copies = length w.augments }) items 0 0 n (length w.augments) e)
+    (each : length (labels_of (laid w items).spots) ≡ w.items) (within : n ≤ length (labels_of (laid w items).spots)) where
+  abbrev labels : List Label
+  labels = labels_of (laid w items).spots
+
+  pub whole_is : laid w items ≡ laid_as w (labels_of (laid w items).spots) F.new e
+  whole_is = laid_is w items ∙ F.laid
+
+  placed_so : placed w (laid w items) ≡ run labels 0 F.block (nothing (length labels) e)
+  placed_so =
+      ap (λ (l : Laid). placed_from w labels l.copies 0 l.spots) whole_is
+      ∙ (placed_is_told w labels e 0 F.new ∙ placed_is labels 0 F.block (map (told w) F.new) (nothing (length labels) e) F.lie)
+
+  below : (y : ℕ) → y ≤ length labels → mark_of w y ≡ false
+  below y le = ap (λ (b : Bool). is_some (if b then slice_get w.augments (y - w.items - 1) else None)) (le-ltb w.items y (omega (arith, le, each)))
+
+  in_place : (j : ℕ) (s : Spot) → slice_get (map (told w) F.new) j ≡ Some s → slice_get (map (told w) (laid w items).spots) (0 + j) ≡ Some s
+  in_place j s at =
+      ap (λ (l : Laid). slice_get (map (told w) l.spots) (0 + j)) whole_is ∙ (ap (slice_get (map (told w) F.new)) (let h : 0 + j ≡ j = omega arith in h) ∙ at)
+
+  pub lies_show : (its : Items) (f : Forest) → AreItems w items its → Comes labels its _ _ _ _ F.block f → Shows its (placed w (laid w items)).groups 0 0 n f
+  lies_show its f are comes =
+      subst (λ (st : State). Shows its st.groups 0 0 n f) (sym placed_so)
+      (block_shows_all labels its (mark_of w) (labels_tell w items its are) below 0 (nothing (length labels) e) comes
+      (subst (λ given. Marked labels given (mark_of w) 0 F.block) (sym (fun_ext are.given))
+      (blocks_are_marked w items 0 0 n (length w.augments) e F.block (map (told w) F.new) all (omega arith) in_place F.lie))
+      (may_enter labels n (length w.augments) e within) (λ y low high. none_there (length labels) e y)
+      (λ y i h. absurd (nothing_stands i (subst (λ l. Contains l i) (none_there (length labels) e y) h))))
 
 pub start_shows : (w : Whole) → StartShows w
 start_shows w numbers t E refer many tops =
@@ -73,36 +105,9 @@ start_shows w numbers t E refer many tops =
     let each : length labels ≡ w.items = map_length (λ (s : LaidSpot). s.label) (laid w items).spots ∙ (laid_many w items ∙ (count_listed None 0 t ∙ sym many)) in
     let x = all_lie w labels (parts w labels each refer E) (record { spots = []; copies = length w.augments }) None 0 0 (count t) (length w.augments) refl refl (omega arith)
     (λ p is. absurd (not_none is)) (λ k r there at. tops k r there at) in
-    shown items (count_listed None 0 t ∙ sym many) x.0 x.1 each (omega (arith, each, many))
-  where
-    shown : (items : List Item) → length items ≡ w.items → (e : ℕ)
-        → Lies w (labels_of (laid w items).spots) (record { spots = []; copies = length w.augments }) items 0 0 (count t) (length w.augments) e
-        → length (labels_of (laid w items).spots) ≡ w.items → count t ≤ length (labels_of (laid w items).spots) → ShowsBlock w items (count t)
-    shown items all e F each within = record {
-      copies = e;
+    let F = x.1 in
+    record {
+      copies = x.0;
       block = F.block;
-      shows = λ its f are comes. subst (λ (st : State). Shows its st.groups 0 0 (count t) f) (sym placed_so)
-          (block_shows_all labels its (mark_of w) (labels_tell w items its are) below 0 (nothing (length labels) e) comes
-          (subst (λ given. Marked labels given (mark_of w) 0 F.block) (sym (fun_ext are.given))
-          (blocks_are_marked w items 0 0 (count t) (length w.augments) e F.block (map (told w) F.new) all (omega arith) in_place F.lie))
-          (may_enter labels (count t) (length w.augments) e within) (λ y low high. none_there (length labels) e y)
-          (λ y i h. absurd (nothing_stands i (subst (λ l. Contains l i) (none_there (length labels) e y) h))));
+      shows = lies_show w items (count t) x.0 (count_listed None 0 t ∙ sym many) F each (omega (arith, each, many));
     }
-      where
-        labels : List Label
-        labels = labels_of (laid w items).spots
-
-        whole : laid w items ≡ laid_as w labels F.new e
-        whole = laid_is w items ∙ F.laid
-
-        placed_so : placed w (laid w items) ≡ run labels 0 F.block (nothing (length labels) e)
-        placed_so =
-            ap (λ (l : Laid). placed_from w labels l.copies 0 l.spots) whole
-            ∙ (placed_is_told w labels e 0 F.new ∙ placed_is labels 0 F.block (map (told w) F.new) (nothing (length labels) e) F.lie)
-
-        below : (y : ℕ) → y ≤ length labels → mark_of w y ≡ false
-        below y le = ap (λ (b : Bool). is_some (if b then slice_get w.augments (y - w.items - 1) else None)) (le-ltb w.items y (omega (arith, le, each)))
-
-        in_place : (j : ℕ) (s : Spot) → slice_get (map (told w) F.new) j ≡ Some s → slice_get (map (told w) (laid w items).spots) (0 + j) ≡ Some s
-        in_place j s at =
-            ap (λ (l : Laid). slice_get (map (told w) l.spots) (0 + j)) whole ∙ (ap (slice_get (map (told w) F.new)) (let h : 0 + j ≡ j = omega arith in h) ∙ at)

@@ -1,11 +1,12 @@
 -- Each item of an expansion is made of a statement that is there.
 use Rattle.std.proofs.Common.{◌≡◌, ℕ, zero, suc, ◌+◌, ◌<◌, Bool, List, [], ◌∷◌, ◌++◌, length, refl, subst, Option, Some, None}
+use Rattle.std.specs.List.{slice_get}
 use Rattle.std.proofs.lemmas.Option.{same_Some, slice_get_within}
 use Rattle.yv_rows.specs.Files.{Briefs}
 use Rattle.yv_rows.specs.Rows.{Row}
 use Rattle.yv_units.specs.Weigh.{block_of}
 use Rattle.yv_expansion.specs.Origin.{number_of}
-use Rattle.yv_expansion.specs.Tree.{Item, Tree, count, item, joined, listed, none}
+use Rattle.yv_expansion.specs.Tree.{Item, Tree, all_of, count, item, joined, listed, none}
 use Rattle.yv_expansion.specs.declared.item.Origin.{Origin}
 use Rattle.yv_expansion.specs.declared.item.Origin.TheVariants.{Input, Output}
 use Rattle.yv_whole_expansion.specs.Expands.{Expands, first_of, is_at, is_input, is_output, part}
@@ -51,6 +52,15 @@ module _ (files : Briefs) (rows : List Row) where
   listed_there parent n (item o below behind) (here, B, T) zero x at = subst (λ (y : Item). number_of y.origin < length rows) (same_Some (record { origin = o; parent = parent }) x at) here
   listed_there parent n (item o below behind) (here, B, T) (suc i) x at =
       in_either (listed (Some n) (n + 1) below) (listed parent (n + 1 + count below) behind) (listed_there (Some n) (n + 1) below B) (listed_there parent (n + 1 + count below) behind T) i x at
+
+-- the items of the trees of files, and of the blocks of augments behind them, have theirs too
+pub all_listed_there : (files : Briefs) (rows : List Row) (trees added : List Tree) → ((n : ℕ) (t : Tree) → slice_get trees n ≡ Some t → (numbers : List ℕ) × Expands files rows numbers t)
+    → ((n : ℕ) (t : Tree) → slice_get added n ≡ Some t → (numbers : List ℕ) × Expands files rows numbers t) → HaveStatements rows (listed None 0 (joined (all_of trees) (all_of added)))
+all_listed_there files rows trees added T A = listed_there files rows None 0 (joined (all_of trees) (all_of added)) (there_joined files rows (all_of trees) (all_of added) (all_of_there trees T) (all_of_there added A))
+  where
+    all_of_there : (trees : List Tree) → ((n : ℕ) (t : Tree) → slice_get trees n ≡ Some t → (numbers : List ℕ) × Expands files rows numbers t) → AllThere files rows (all_of trees)
+    all_of_there [] T = tt
+    all_of_there (t ∷ ts) T = there_joined files rows t (all_of ts) (all_there files rows (T 0 t refl).1) (all_of_there ts (λ n u at. T (suc n) u at))
 
 pub have_statements : (files : Briefs) (rows : List Row) (numbers : List ℕ) (t : Tree) (parent : Option ℕ) (n : ℕ) → Expands files rows numbers t → HaveStatements rows (listed parent n t)
 have_statements files rows numbers t parent n E = listed_there files rows parent n t (all_there files rows E)

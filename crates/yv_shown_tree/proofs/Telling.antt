@@ -62,7 +62,7 @@ spots_tell w (y ∷ xs) l n (suc i) s x long at of =
     spots_tell w xs (one_more w y l) (n + 1) i s x (let e = length-append l.spots (spot_of w l.spots l.copies y ∷ []) in omega (arith, e, long))
     (ap (slice_get (laid_from w xs (one_more w y l)).spots) (let e : n + 1 + i ≡ n + suc i = omega arith in e) ∙ at) of
 
-there_is : {A : Type 0} (xs : List A) (i : ℕ) → i < length xs → (x : A) × (slice_get xs i ≡ Some x)
+pub there_is : {A : Type 0} (xs : List A) (i : ℕ) → i < length xs → (x : A) × (slice_get xs i ≡ Some x)
 there_is [] i l = absurd (omega (arith, l))
 there_is (x ∷ xs) zero l = (x, refl)
 there_is (x ∷ xs) (suc i) l = there_is xs i (omega (arith, l))

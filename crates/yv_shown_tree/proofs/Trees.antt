@@ -115,7 +115,7 @@ module _ (given : ℕ → Bool) (labels : List Label) (marks : (i : ℕ) → giv
       not_again j there same = (let a = count_more j x xs in let b = if_eq x j same in let c = once j in let d = counted j xs there in omega (arith, a, b, c, d))
 
   -- lists in order with the same members are the same
-  one_order : (xs ys : List ℕ) → Ascend given xs → Ascend given ys → ((i : ℕ) → Contains xs i → Contains ys i) → ((i : ℕ) → Contains ys i → Contains xs i) → xs ≡ ys
+  pub one_order : (xs ys : List ℕ) → Ascend given xs → Ascend given ys → ((i : ℕ) → Contains xs i → Contains ys i) → ((i : ℕ) → Contains ys i → Contains xs i) → xs ≡ ys
   one_order [] [] a b there back = refl
   one_order [] (y ∷ ys) a b there back = absurd (nothing_stands y (back y (there_first y ys)))
   one_order (x ∷ xs) [] a b there back = absurd (nothing_stands x (there x (there_first x xs)))

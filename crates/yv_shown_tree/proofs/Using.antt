@@ -39,14 +39,14 @@ module _ (w : Whole) (labels : List Label) (each : length labels ≡ w.items) wh
       ap (λ x. joined x u) (P.nothing r.0 r.1 r.2) ∙ none_given rest (λ j h. all j (there_later k j ks h))
 
   -- an item is one for both
-  no_item : (r : Row) → augmented_giving.is_item r ≡ false → is_item r ≡ false
+  pub no_item : (r : Row) → augmented_giving.is_item r ≡ false → is_item r ≡ false
   no_item r h = by (is_item r) refl
     where
       by : (b : Bool) → is_item r ≡ b → is_item r ≡ false
       by false is = is
       by true is = (let kd = item_kind r is in absurd (false≢true (sym h ∙ ap is_some kd.1)))
 
-  group_of_used : (r : Option Row) (p : ℕ) (o : Option Spot) (s : Spot) → o ≡ Some s → is_uses s.label.kind ≡ true → group_below w r (Some p) o ≡ used_group w s r
+  pub group_of_used : (r : Option Row) (p : ℕ) (o : Option Spot) (s : Spot) → o ≡ Some s → is_uses s.label.kind ≡ true → group_below w r (Some p) o ≡ used_group w s r
   group_of_used r p o s at of_uses = ap (group_below w r (Some p)) at ∙ ap (λ (b : Bool). if b then used_group w s r else p + 1) of_uses
 
   module _ (s : Spot) (of_uses : is_uses s.label.kind ≡ true) (p : ℕ) where

@@ -13,3 +13,7 @@ pub mod Expanding
 pub mod Telling
 pub mod Marks
 pub mod Starting
+pub mod RefinedBlocks
+pub mod Giving
+pub mod Beginning
+pub mod WholeRounds

@@ -1,8 +1,8 @@
 -- What the turn of a module's augment makes of what is shown (RFC 7950, section 7.17).
-use Rattle.std.specs.Prelude.{◌≡◌, ◌≢◌, ℕ, ◌+◌, ◌<◌, ◌≤◌, true, false, List, ◌∷◌, length, Option, Some, None, is_some, slice_index_or}
+use Rattle.std.specs.Prelude.{◌≡◌, ◌≢◌, ℕ, ◌+◌, ◌<◌, ◌≤◌, ◌⊎◌, true, false, List, ◌∷◌, length, Option, Some, None, is_some, slice_index_or}
 use Rattle.std.specs.List.{Contains}
 use Rattle.yv_augments.specs.declared.label.Label.{Label}
-use Rattle.yv_augments.specs.Groups.{group_of_augment, members_of}
+use Rattle.yv_augments.specs.Groups.{group_of_augment, members_of, moved}
 use Rattle.yv_augments.specs.Turns.{State, is_applied, turn}
 use Rattle.yv_expanded_tree.specs.Nodes.{Forest, Node, inserted}
 use Rattle.yv_expanded_tree.specs.Paths.{End, Leads, LeadsNowhere, Step}
@@ -29,12 +29,16 @@ pub record IsRoundTurn (labels : List Label) (its : Items) (giver_of : ℕ → O
   pub not_theirs : (x i : ℕ) → x ≤ length labels → Contains (members_of st.groups x) i → giver_of i ≢ Some a
   pub apart : (x : ℕ) → block.owns x ≡ true → whole.owns x ≡ false
 
--- where its path hits a node, what it gives is inserted there
+-- Where its path hits a node, what it gives is inserted there. Of what then stands all stood there before, or in the block; and what moved
+-- stands below an item that stood there before.
 abbrev pub RoundAdds : List Label → Items → (giver_of : ℕ → Option ℕ) → Type 0
 RoundAdds labels its giver_of =
     (lo hi k a : ℕ) (names : List ℕ) (ss : List Step) (st : State) (m b below there : Forest) (target : Node)
-    → IsRoundTurn labels its giver_of lo hi k a st m b → Agree labels its names ss → Hits ss m target below (inserted a b below) there
-    → Shows its (turn labels k 0 (length labels) names st).groups 0 0 (length labels) there
+    (t : IsRoundTurn labels its giver_of lo hi k a st m b) → Agree labels its names ss → Hits ss m target below (inserted a b below) there
+    → (s : Shows its (turn labels k 0 (length labels) names st).groups 0 0 (length labels) there)
+    × ((x : ℕ) → s.owns x ≡ true → (t.whole.owns x ≡ true) ⊎ (t.block.owns x ≡ true))
+    × ((i : ℕ) × (t.whole.owns i ≡ true)
+    × ((turn labels k 0 (length labels) names st).groups ≡ moved (group_of_augment labels k) (i + 1) st.groups))
 
 -- an augment of a module at place k wasn't applied, where this is shown by all that stands
 pub record AwaitsTurn (labels : List Label) (its : Items) (k : ℕ) (st : State) (m : Forest) : Type 0 where

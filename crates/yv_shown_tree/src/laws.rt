@@ -5,9 +5,12 @@ ghost use Rattle.yv_rows.specs.Rows.{Row};
 ghost use Rattle.yv_expansion.specs.Tree.{Item};
 ghost use Rattle.yv_augments.specs.declared.label.Label.{Label};
 ghost use Rattle.yv_augmented.specs.Spots.{Whole};
+ghost use Rattle.yv_shown_tree.specs.Beginning.{BeginningShows};
 ghost use Rattle.yv_shown_tree.specs.Entering.{BlockKeeps, BlockShows, SpotsEnter};
 ghost use Rattle.yv_shown_tree.specs.Expanding.{ExpansionLies, PlacedIsTold};
+ghost use Rattle.yv_shown_tree.specs.Giving.{StatementsShow};
 ghost use Rattle.yv_shown_tree.specs.Marks.{BlocksAreMarked};
+ghost use Rattle.yv_shown_tree.specs.RefinedBlocks.{BlockIsMissed, BlockIsRefined};
 ghost use Rattle.yv_shown_tree.specs.Refining.{RefineChanges, RefineMisses};
 ghost use Rattle.yv_shown_tree.specs.Rounds.{RoundAdds, RoundMisses, RoundTakes, RoundWaits};
 ghost use Rattle.yv_shown_tree.specs.Shows.{AreLabels, Items};
@@ -15,6 +18,7 @@ ghost use Rattle.yv_shown_tree.specs.Starting.{StartShows};
 ghost use Rattle.yv_shown_tree.specs.Telling.{ExpansionsHaveStatements, LabelsTell, PathsAgree};
 ghost use Rattle.yv_shown_tree.specs.Trees.{TreeShows};
 ghost use Rattle.yv_shown_tree.specs.Turning.{TurnAdds, TurnMisses};
+ghost use Rattle.yv_shown_tree.specs.WholeRounds.{RoundsShow};
 
 /// What an augment of a uses gives comes to stand, in its turn, behind what the node has to which its path leads; where the path leads to
 /// no such node nothing moves (RFC 7950, section 7.17).
@@ -66,6 +70,13 @@ pub fn an_expansion_shows_what_it_gives()
     ensures { (w : Whole) → StartShows w }
 {}
 
+/// Before any augment of a module has its turn, the top shows what the modules give, and the group of each of their augments what its block
+/// gives (RFC 7950, section 7.17).
+pub fn modules_and_their_augments_begin_apart()
+    ensures { (labels : List Label) (its : Items) (mark : ℕ → Bool) → AreLabels labels its → ((x : ℕ) → x ≤ length labels → mark x ≡ false)
+        → BeginningShows labels its mark }
+{}
+
 /// A refine means the item that shows the node to which its path leads, and no item where its path leads to no node (RFC 7950,
 /// section 7.13.2).
 pub fn a_refine_means_the_node_of_its_path()
@@ -73,10 +84,33 @@ pub fn a_refine_means_the_node_of_its_path()
     ensures misses { (labels : List Label) (its : Items) → AreLabels labels its → RefineMisses labels its }
 {}
 
+/// Statements of one module show what they give, when their items are laid and have entered: a uses shows the copies of what stands in its
+/// grouping, changed by its refines, with what its augments add (RFC 7950, sections 7.12 to 7.17).
+pub fn statements_show_what_they_give()
+    ensures { (files : Files) (augments : List ℕ) → StatementsShow files augments }
+{
+    yv_rows::laws::a_name_means_one_thing();
+}
+
+/// When a refine means an item of a block, and that item has it, the block gives the nodes with it. Where the refine's path leads to no
+/// node, it means no item (RFC 7950, section 7.13.2).
+pub fn a_refined_block_gives_refined_nodes()
+    ensures changes { (labels : List Label) (its : Items) (mark : ℕ → Bool) → AreLabels labels its → ((x : ℕ) → x ≤ length labels → mark x ≡ false)
+        → BlockIsRefined labels its mark }
+    ensures misses { (labels : List Label) (its : Items) (mark : ℕ → Bool) → AreLabels labels its → ((x : ℕ) → x ≤ length labels → mark x ≡ false)
+        → BlockIsMissed labels its mark }
+{}
+
 /// What an augment of a module gives comes to stand, in its turn, behind what its target has, but before what later augments gave,
 /// in whichever round that is (RFC 7950, section 7.17).
 pub fn a_round_adds_to_its_target()
     ensures { (labels : List Label) (its : Items) (giver_of : ℕ → Option ℕ) → AreLabels labels its → RoundAdds labels its giver_of }
+{}
+
+/// When the rounds are over, in which augments of modules have their turns, the items show what the rounds make of the nodes that were shown
+/// before (RFC 7950, section 7.17).
+pub fn rounds_show_what_they_make()
+    ensures { (labels : List Label) (its : Items) (giver_of : ℕ → Option ℕ) → AreLabels labels its → RoundsShow labels its giver_of }
 {}
 
 /// An augment of a module whose path leads nowhere waits on. One whose path leads to some end is applied; where that is no node to which

@@ -1,0 +1,326 @@
+-- The rounds of the augments of modules make of what is shown what they make of nodes.
+use Rattle.std.proofs.Common.{◌⊎◌, inl, inr, ◌≡◌, ◌≢◌, ℕ, zero, suc, ◌+◌, ◌<◌, ◌≤◌, ◌&&◌, ◌||◌, not, Bool, true, false, if◌then◌else◌, List, [], ◌∷◌, ◌++◌, length, set, length-set, get_or, refl, sym, ◌∙◌, ap, subst, arith, Option, Some, None}
+use Rattle.std.specs.List.{Contains, slice_get}
+use Rattle.std.proofs.lemmas.Bool.{cases_eq, false≢true}
+use Rattle.std.proofs.lemmas.List.{get_or-set_other}
+use Rattle.std.proofs.lemmas.List.Elements.{Contains-append_cases}
+use Rattle.std.proofs.lemmas.Option.{same_Some}
+use Rattle.yv_augments.specs.declared.end.End.{End}
+use Rattle.yv_augments.specs.declared.end.End.TheVariants as end_is
+use Rattle.yv_augments.specs.declared.label.Label.{Label}
+use Rattle.yv_augments.specs.Groups.{Groups, group_of_augment, members_of, moved}
+use Rattle.yv_augments.specs.Paths.{ended}
+use Rattle.yv_augments.specs.Rounds.{AreApplied, is_any, round, rounds}
+use Rattle.yv_augments.specs.Turns.{State, is_applied, is_some, is_taken, settled, target, turn}
+use Rattle.yv_expanded_tree.specs.Nodes.{Forest, Node, inserted}
+use Rattle.yv_expanded_tree.specs.Paths.{Leads, Step}
+use Rattle.yv_shown_tree.specs.Rounds.{AreGivers, AwaitsTurn, IsRoundTurn}
+use Rattle.yv_shown_tree.specs.Comes.{Hits}
+use Rattle.yv_shown_tree.specs.Shows.{Agree, AreLabels, Items, Shows, Stand}
+use Rattle.yv_shown_tree.specs.WholeRounds.{AreBetween, ArePlaces, AreWaiting, RoundOn, RoundsOn, RoundsShow}
+use Rattle.yv_shown_tree.specs.WholeRounds.AreWaiting.{no_places, applied, waits as waiting_here}
+use Rattle.yv_shown_tree.specs.WholeRounds.RoundOn.{none_left, adds, untargeted, waits}
+use Rattle.yv_shown_tree.specs.WholeRounds.RoundsOn.{no_more as last_round, one_more}
+use Rattle.yv_shown_tree.proofs.Finding.{not_none}
+use Rattle.yv_shown_tree.proofs.Framing.{moved_long, moved_other, moved_to, nothing_stands}
+use Rattle.yv_shown_tree.proofs.Rounds.{round_adds}
+use Rattle.yv_shown_tree.proofs.Standing.{or_left, or_right, shows_on}
+use Rattle.yv_shown_tree.proofs.Waiting.{round_misses, round_takes, round_waits}
+use Rattle.yv_shown_tree.proofs.Walking.{not_so}
+
+module _ (labels : List Label) where
+  -- a turn leaves where other augments' paths ended
+  turn_ends : (k start limit j : ℕ) (names : List ℕ) (st : State) → j ≢ k → get_or (turn labels k start limit names st).ends j None ≡ get_or st.ends j None
+  turn_ends k start limit j names st other = by (is_applied st k) (ended labels st.groups limit names (end_is.Start start))
+    where
+      by : (b : Bool) (o : Option End) → get_or (if b then st else settled labels k o st).ends j None ≡ get_or st.ends j None
+      by true o = refl
+      by false None = refl
+      by false (Some e) = get_or-set_other st.ends k j (Some e) None other
+
+  turn_long : (k start limit : ℕ) (names : List ℕ) (st : State) → length (turn labels k start limit names st).ends ≡ length st.ends
+  turn_long k start limit names st = by (is_applied st k) (ended labels st.groups limit names (end_is.Start start))
+    where
+      by : (b : Bool) (o : Option End) → length (if b then st else settled labels k o st).ends ≡ length st.ends
+      by true o = refl
+      by false None = refl
+      by false (Some e) = length-set st.ends k (Some e)
+
+  -- an augment that was applied has no more turns
+  applied_still : (k start limit : ℕ) (names : List ℕ) (st : State) → is_applied st k ≡ true → turn labels k start limit names st ≡ st
+  applied_still k start limit names st is = ap (λ (b : Bool). if b then st else settled labels k (ended labels st.groups limit names (end_is.Start start)) st) is
+
+  -- one that is applied by its turn is taken
+  taken_so : (k start limit : ℕ) (names : List ℕ) (st : State) → is_applied st k ≡ false → is_applied (turn labels k start limit names st) k ≡ true
+      → is_taken labels k start limit names st ≡ true
+  taken_so k start limit names st isnt is = by (ended labels st.groups limit names (end_is.Start start)) refl
+    where
+      by : (o : Option End) → ended labels st.groups limit names (end_is.Start start) ≡ o → (not (is_applied st k) && is_some (ended labels st.groups limit names (end_is.Start start))) ≡ true
+      by (Some e) at = ap (λ (b : Bool). not b && is_some (ended labels st.groups limit names (end_is.Start start))) isnt ∙ ap is_some at
+      by None at =
+          absurd (false≢true (sym isnt ∙ (ap (λ (s : State). is_applied s k)
+          (sym (ap (λ (b : Bool). if b then st else settled labels k (ended labels st.groups limit names (end_is.Start start)) st) isnt ∙ ap (λ o. settled labels k o st) at)) ∙ is)))
+
+  other_waits : (k start limit j : ℕ) (names : List ℕ) (st : State) → j ≢ k → is_applied (turn labels k start limit names st) j ≡ is_applied st j
+  other_waits k start limit j names st other = ap is_some (turn_ends k start limit j names st other)
+
+  waiting_then : (k start limit : ℕ) (names : List ℕ) (st : State) (j : ℕ) (paths : List (List ℕ)) (ws : List ℕ) → k < j → AreWaiting st j paths ws
+      → AreWaiting (turn labels k start limit names st) j paths ws
+  waiting_then k start limit names st j _ _ l no_places = no_places
+  waiting_then k start limit names st j _ _ l (applied {others = others} {waiting = ws} is rest) =
+      applied (other_waits k start limit j names st (λ e. omega (arith, e, l)) ∙ is) (waiting_then k start limit names st (j + 1) others ws (omega (arith, l)) rest)
+  waiting_then k start limit names st j _ _ l (waiting_here {others = others} {waiting = ws} is rest) =
+      waiting_here (other_waits k start limit j names st (λ e. omega (arith, e, l)) ∙ is) (waiting_then k start limit names st (j + 1) others ws (omega (arith, l)) rest)
+
+module _ (labels : List Label) (its : Items) (are : AreLabels labels its) (giver_of : ℕ → Option ℕ) (givers : AreGivers its giver_of) (number : ℕ → ℕ) (path : ℕ → List Step)
+    (block : ℕ → Option Forest) (first last : ℕ → ℕ) (paths : List (List ℕ)) (places : ArePlaces labels its number path first last paths) where
+  abbrev Between : State → Forest → Type 0
+  Between st m = AreBetween labels its giver_of number block first last (length paths) st m
+
+  awaits : (k : ℕ) (st : State) (m : Forest) → k < length paths → is_applied st k ≡ false → (b : Between st m) → AwaitsTurn labels its k st m
+  awaits k st m l isnt b =
+      let many = b.copies in
+      record { copies = omega (arith, l, many); waits = not_applied (get_or st.ends k None) isnt; whole = b.whole; within = b.within }
+    where
+      not_applied : (o : Option End) → is_some o ≡ false → o ≡ None
+      not_applied None e = refl
+      not_applied (Some x) e = absurd (false≢true (sym e))
+
+  -- what holds between turns holds when one of another augment moved nothing
+  still_between : (k : ℕ) (names : List ℕ) (st : State) (m : Forest) → is_applied (turn labels k 0 (length labels) names st) k ≡ true
+      → (turn labels k 0 (length labels) names st).groups ≡ st.groups → Between st m → Between (turn labels k 0 (length labels) names st) m
+  still_between k names st m done same b =
+      let ends = turn_long labels k 0 (length labels) names st in
+      let room = b.room in let copies = b.copies in let long = ap (λ (g : Groups). length g) same in
+      let was : (j : ℕ) → is_applied (turn labels k 0 (length labels) names st) j ≡ false → is_applied st j ≡ false =
+      λ j isnt. sym (other_waits labels k 0 (length labels) j names st (λ e. false≢true (sym isnt ∙ (ap (is_applied (turn labels k 0 (length labels) names st)) e ∙ done)))) ∙ isnt in
+      record {
+        room = omega (arith, room, ends, long);
+        copies = omega (arith, copies, ends);
+        whole = shows_same same b.whole;
+        within = λ i there. b.within i (subst (λ gs. Contains (members_of gs 0) i) same there);
+        blocks = λ j f l isnt gives. subst (λ gs. Shows its gs (group_of_augment labels j) (first j) (last j) f) (sym same) (b.blocks j f l (was j isnt) gives);
+        own = λ j i l isnt there. b.own j i l (was j isnt) (subst (λ gs. Contains (members_of gs (group_of_augment labels j)) i) same there);
+        not_theirs = λ j x i l isnt le there. b.not_theirs j x i l (was j isnt) le (subst (λ gs. Contains (members_of gs x) i) same there);
+        away = λ j x l isnt o. b.away j x l (was j isnt) o;
+      }
+    where
+      shows_same : {old new : Groups} {f : Forest} → new ≡ old → (s : Shows its old 0 0 (length labels) f) → Shows its new 0 0 (length labels) f
+      shows_same {old = old} {new = new} {f = f} same s = record {
+        items = s.items;
+        owns = s.owns;
+        bounds = s.bounds;
+        orders = record {
+          ascend = s.orders.ascend;
+          all = λ i w. s.orders.all i (subst (λ gs. Contains (members_of gs 0) i) same w.0, w.1);
+          only = λ i h. (let w = s.orders.only i h in (subst (λ gs. Contains (members_of gs 0) i) (sym same) w.0, w.1));
+        };
+        stand = subst (λ gs. Stand its gs s.owns s.items f) (sym same) s.stand;
+      }
+
+  -- when one has added what its block gives
+  added_between : (k : ℕ) (names : List ℕ) (st : State) (m b below there : Forest) (target : Node) → k < length paths → slice_get paths k ≡ Some names → is_applied st k ≡ false
+      → block k ≡ Some b → Hits (path k) m target below (inserted (number k) b below) there → Between st m
+      → Between (turn labels k 0 (length labels) names st) there
+  added_between k names st m b below there target l at isnt gives hits between =
+      let t : IsRoundTurn labels its giver_of (first k) (last k) k (number k) st m b = turn_of in
+      let x = round_adds labels its are giver_of (first k) (last k) k (number k) names (path k) st m b below there target t (places.agree k names at) hits in
+      let done = round_takes labels its are k names (path k) st m there _ (awaits k st m l isnt between) (places.agree k names at) hits.0 in
+      let ends = turn_long labels k 0 (length labels) names st in
+      let room = between.room in let copies = between.copies in
+      let i : ℕ = x.2.0 in
+      let same = x.2.2 in
+      let long = ap (λ (g : Groups). length g) same ∙ moved_long labels (group_of_augment labels k) (i + 1) st.groups in
+      let iu = (between.whole.bounds i x.2.1).1 in
+      let was : (j : ℕ) → is_applied (turn labels k 0 (length labels) names st) j ≡ false → (j ≢ k) × (is_applied st j ≡ false) =
+      λ j now. (let other : j ≢ k = λ e. false≢true (sym now ∙ (ap (is_applied (turn labels k 0 (length labels) names st)) e ∙ done)) in
+      (other, sym (other_waits labels k 0 (length labels) j names st other) ∙ now)) in
+      let elsewhere : (y : ℕ) → y ≢ group_of_augment labels k → y ≢ i + 1 → members_of (turn labels k 0 (length labels) names st).groups y ≡ members_of st.groups y =
+      λ y p q. ap (λ gs. members_of gs y) same ∙ moved_other labels (group_of_augment labels k) (i + 1) y st.groups p q in
+      record {
+        room = omega (arith, room, ends, long);
+        copies = omega (arith, copies, ends);
+        whole = x.0;
+        within = λ y h. between.within y (subst (λ ms. Contains ms y) (elsewhere 0 (λ e. omega (arith, e)) (λ e. omega (arith, e))) h);
+        blocks = λ j f lj now is.
+            (let w = was j now in
+            let up = places.items j lj in
+            shows_on st.groups (turn labels k 0 (length labels) names st).groups (group_of_augment labels j) (first j) (last j)
+            (λ y u h. elsewhere (y + 1) (λ e. omega (arith, e, h, up))
+            (λ e. elim (between.away j i lj w.1 x.2.1) [ inl p ↦ omega (arith, p, e, u) | inr p ↦ omega (arith, p, e, h) ]))
+            (λ y u h there. subst (λ ms. Contains ms y) (at_group j w.0) there) (λ y u h there. subst (λ ms. Contains ms y) (sym (at_group j w.0)) there)
+            (between.blocks j f lj w.1 is));
+        own = λ j y lj now there. (let w = was j now in between.own j y lj w.1 (subst (λ ms. Contains ms y) (at_group j w.0) there));
+        not_theirs = λ j y z lj now le there. (let w = was j now in by j y z lj w.0 w.1 le (cases_eq y (i + 1)) there);
+        away = λ j y lj now o. (let w = was j now in elim (x.1 y o) [
+          | inl p ↦ between.away j y lj w.1 p
+          | inr p ↦ (let s = t.block.bounds y p in places.apart k j y (λ e. w.0 (sym e)) s.0 s.1)
+        ]);
+      }
+    where
+      turn_of : IsRoundTurn labels its giver_of (first k) (last k) k (number k) st m b
+      turn_of =
+          let many = between.copies in
+          let B = between.blocks k b l isnt gives in
+          record {
+            givers = givers;
+            room = between.room;
+            copies = omega (arith, l, many);
+            waits = (awaits k st m l isnt between).waits;
+            whole = between.whole;
+            block = B;
+            within = between.within;
+            own = λ i h. between.own k i l isnt h;
+            items = places.items k l;
+            not_theirs = λ x i le h. between.not_theirs k x i l isnt le h;
+            apart = λ x o. not_so (between.whole.owns x) (λ p. (let s = B.bounds x o in let u = s.0 in let v = s.1 in
+                elim (between.away k x l isnt p) [ inl q ↦ omega (arith, q, u) | inr q ↦ omega (arith, q, v) ]));
+          }
+
+      hit : (s : Shows its (turn labels k 0 (length labels) names st).groups 0 0 (length labels) there) × ((x : ℕ) → s.owns x ≡ true → (turn_of.whole.owns x ≡ true) ⊎ (turn_of.block.owns x ≡ true))
+          × ((i : ℕ) × (turn_of.whole.owns i ≡ true) × ((turn labels k 0 (length labels) names st).groups ≡ moved (group_of_augment labels k) (i + 1) st.groups))
+      hit = round_adds labels its are giver_of (first k) (last k) k (number k) names (path k) st m b below there target turn_of (places.agree k names at) hits
+
+      at_group : (j : ℕ) → j ≢ k → members_of (turn labels k 0 (length labels) names st).groups (group_of_augment labels j) ≡ members_of st.groups (group_of_augment labels j)
+      at_group j other =
+          let iu = (between.whole.bounds hit.2.0 hit.2.1).1 in
+          ap (λ gs. members_of gs (group_of_augment labels j)) hit.2.2
+          ∙ moved_other labels (group_of_augment labels k) (hit.2.0 + 1) (group_of_augment labels j) st.groups (λ e. other (omega (arith, e))) (λ e. omega (arith, e, iu))
+
+      by : (j y z : ℕ) → j < length paths → j ≢ k → is_applied st j ≡ false → y ≤ length labels → (y ≡ hit.2.0 + 1) ⊎ (y ≢ hit.2.0 + 1)
+          → Contains (members_of (turn labels k 0 (length labels) names st).groups y) z → giver_of z ≢ Some (number j)
+      by j y z lj other waits_j le (inr isnt_i) there =
+          between.not_theirs j y z lj waits_j le
+          (subst (λ ms. Contains ms z) (ap (λ gs. members_of gs y) hit.2.2 ∙ moved_other labels (group_of_augment labels k) (hit.2.0 + 1) y st.groups (λ e. omega (arith, e, le)) isnt_i) there)
+      by j y z lj other waits_j le (inl is_i) there =
+          let iu = (between.whole.bounds hit.2.0 hit.2.1).1 in
+          let room = between.room in
+          let now : members_of (turn labels k 0 (length labels) names st).groups y ≡ members_of st.groups (hit.2.0 + 1) ++ members_of st.groups (group_of_augment labels k) =
+          ap (λ gs. members_of gs y) hit.2.2 ∙ (ap (λ (n : ℕ). members_of (moved (group_of_augment labels k) (hit.2.0 + 1) st.groups) n) is_i
+          ∙ moved_to labels (group_of_augment labels k) (hit.2.0 + 1) st.groups (λ e. omega (arith, e, iu)) (omega (arith, iu, room))) in
+          elim (Contains-append_cases (members_of st.groups (hit.2.0 + 1)) (members_of st.groups (group_of_augment labels k)) z (subst (λ ms. Contains ms z) now there)) [
+            | inl p ↦ between.not_theirs j (hit.2.0 + 1) z lj waits_j (omega (arith, iu)) p
+            | inr p ↦ (λ e. places.numbers j k other (sym (same_Some (number k) (number j) (sym (between.own k z l isnt p).1 ∙ e))))
+          ]
+
+  -- one round
+  record Went (k : ℕ) (rest : List (List ℕ)) (st : State) (waiting still : List ℕ) (after : Forest) : Type 0 where
+    between : Between (round labels k rest st) after
+    waiting_now : AreWaiting (round labels k rest st) k rest still
+    fewer : length still ≤ length waiting
+    none_went : length still ≡ length waiting → round labels k rest st ≡ st
+    some_went : length still < length waiting → is_any labels k rest st ≡ true
+
+  -- the turns of those behind leave an augment as it is
+  round_keeps : (k : ℕ) (rest : List (List ℕ)) (st : State) (j : ℕ) → j < k → is_applied (round labels k rest st) j ≡ is_applied st j
+  round_keeps k [] st j l = refl
+  round_keeps k (names ∷ others) st j l =
+      round_keeps (k + 1) others (turn labels k 0 (length labels) names st) j (omega (arith, l)) ∙ other_waits labels k 0 (length labels) j names st (λ e. omega (arith, e, l))
+
+  -- the first augment had a turn that changed nothing
+  same_then : (k : ℕ) (names : List ℕ) (others : List (List ℕ)) (st : State) → turn labels k 0 (length labels) names st ≡ st
+      → round labels k (names ∷ others) st ≡ round labels (k + 1) others st
+  same_then k names others st same = ap (round labels (k + 1) others) same
+
+  any_then : (k : ℕ) (names : List ℕ) (others : List (List ℕ)) (st : State) → turn labels k 0 (length labels) names st ≡ st → is_any labels (k + 1) others st ≡ true
+      → is_any labels k (names ∷ others) st ≡ true
+  any_then k names others st same any =
+      or_right (is_taken labels k 0 (length labels) names st) (is_any labels (k + 1) others (turn labels k 0 (length labels) names st)) (ap (is_any labels (k + 1) others) same ∙ any)
+
+  -- the first augment was applied
+  done_then : (k : ℕ) (names : List ℕ) (others : List (List ℕ)) (st : State) (waiting still : List ℕ) (after : Forest) → is_applied st k ≡ false
+      → is_applied (turn labels k 0 (length labels) names st) k ≡ true → Went (k + 1) others (turn labels k 0 (length labels) names st) waiting still after
+      → Went k (names ∷ others) st (k ∷ waiting) still after
+  done_then k names others st waiting still after isnt done w =
+      let few = w.fewer in
+      record {
+        between = w.between;
+        waiting_now = applied (round_keeps (k + 1) others (turn labels k 0 (length labels) names st) k (omega arith) ∙ done) w.waiting_now;
+        fewer = omega (arith, few);
+        none_went = λ e. absurd (omega (arith, e, few));
+        some_went = λ l. or_left (is_taken labels k 0 (length labels) names st) (is_any labels (k + 1) others (turn labels k 0 (length labels) names st)) (taken_so labels k 0 (length labels) names st isnt done);
+      }
+
+  -- those behind the first augment went on, from where its turn left them
+  abbrev Later : (k : ℕ) → List (List ℕ) → Forest → Type 0
+  Later k others after =
+      (st : State) (m : Forest) (waiting still : List ℕ) → AreWaiting st (k + 1) others waiting → Between st m → RoundOn number path block waiting m still after
+      → Went (k + 1) others st waiting still after
+
+  first_went : (k : ℕ) (names : List ℕ) (others : List (List ℕ)) (after : Forest) → slice_get paths k ≡ Some names → k < length paths → Later k others after
+      → (st : State) (m : Forest) {waiting still : List ℕ} → AreWaiting st k (names ∷ others) waiting → Between st m → RoundOn number path block waiting m still after
+      → Went k (names ∷ others) st waiting still after
+  first_went k names others after here l later st m {still = still} (applied {waiting = waiting} is more) b R =
+      let same = applied_still labels k 0 (length labels) names st is in
+      let w = later st m waiting still more b R in
+      let few = w.fewer in
+      record {
+        between = subst (λ s. Between s after) (sym (same_then k names others st same)) w.between;
+        waiting_now = subst (λ s. AreWaiting s k (names ∷ others) still) (sym (same_then k names others st same)) (applied (round_keeps (k + 1) others st k (omega arith) ∙ is) w.waiting_now);
+        fewer = few;
+        none_went = λ e. same_then k names others st same ∙ w.none_went e;
+        some_went = λ l. any_then k names others st same (w.some_went l);
+      }
+  first_went k names others after here l later st m (waiting_here {waiting = waiting} isnt more) b (adds {still = still} {b = f} {below = below} {there = there} {target = aim} gives hits R) =
+      let done = round_takes labels its are k names (path k) st m there _ (awaits k st m l isnt b) (places.agree k names here) hits.0 in
+      done_then k names others st waiting still after isnt done
+      (later (turn labels k 0 (length labels) names st) there waiting still (waiting_then labels k 0 (length labels) names st (k + 1) others waiting (omega arith) more)
+      (added_between k names st m f below there aim l here isnt gives hits b) R)
+  first_went k names others after here l later st m (waiting_here {waiting = waiting} isnt more) b (untargeted {still = still} {there = there} {e = e} leads misses R) =
+      let waits_now = awaits k st m l isnt b in
+      let done = round_takes labels its are k names (path k) st m there e waits_now (places.agree k names here) leads in
+      let same = round_misses labels its are k names (path k) st m waits_now (places.agree k names here) misses in
+      done_then k names others st waiting still after isnt done
+      (later (turn labels k 0 (length labels) names st) m waiting still (waiting_then labels k 0 (length labels) names st (k + 1) others waiting (omega arith) more)
+      (still_between k names st m done same b) R)
+  first_went k names others after here l later st m (waiting_here {waiting = waiting} isnt more) b (waits {still = still} nowhere R) =
+      let w = later st m waiting still more b R in
+      let few = w.fewer in
+      record {
+        between = subst (λ s. Between s after) (sym (same_then k names others st same)) w.between;
+        waiting_now = subst (λ s. AreWaiting s k (names ∷ others) (k ∷ still)) (sym (same_then k names others st same)) (waiting_here (round_keeps (k + 1) others st k (omega arith) ∙ isnt) w.waiting_now);
+        fewer = omega (arith, few);
+        none_went = λ e. same_then k names others st same ∙ w.none_went (omega (arith, e));
+        some_went = λ l. any_then k names others st same (w.some_went (omega (arith, l)));
+      }
+    where
+      same : turn labels k 0 (length labels) names st ≡ st
+      same =
+          let s = places.steps k names here in
+          subst (λ z. turn labels k 0 (length labels) z st ≡ st) (sym s.2)
+          (round_waits labels its are k s.0 s.1 (path k) st m (awaits k st m l isnt b) (subst (λ z. Agree labels its z (path k)) s.2 (places.agree k names here)) nowhere)
+
+  none_went_on : (k : ℕ) (st : State) (m after : Forest) {waiting still : List ℕ} → AreWaiting st k [] waiting → Between st m → RoundOn number path block waiting m still after
+      → Went k [] st waiting still after
+  none_went_on k st m after no_places b none_left =
+      record { between = b; waiting_now = no_places; fewer = omega arith; none_went = λ e. refl; some_went = λ l. absurd (omega (arith, l)) }
+
+  went : (k : ℕ) (rest : List (List ℕ)) → ((j : ℕ) (names : List ℕ) → slice_get rest j ≡ Some names → slice_get paths (k + j) ≡ Some names) → k + length rest ≡ length paths
+      → (after : Forest) (st : State) (m : Forest) (waiting still : List ℕ) → AreWaiting st k rest waiting → Between st m → RoundOn number path block waiting m still after
+      → Went k rest st waiting still after
+  went k [] at long after st m waiting still ws b R = none_went_on k st m after ws b R
+  went k (names ∷ others) at long after st m waiting still ws b R =
+      first_went k names others after (ap (slice_get paths) (let e : k ≡ k + 0 = omega arith in e) ∙ at 0 names refl) (omega (arith, long))
+      (went (k + 1) others (λ j n is. ap (slice_get paths) (let e : k + 1 + j ≡ k + suc j = omega arith in e) ∙ at (suc j) n is) (omega (arith, long)) after) st m ws b R
+
+  rounds_same : (count : ℕ) (st : State) → round labels 0 paths st ≡ st → rounds labels 0 paths count st ≡ st
+  rounds_same zero st same = refl
+  rounds_same (suc n) st same = ap (rounds labels 0 paths n) same ∙ rounds_same n st same
+
+  rounds_go : (count : ℕ) (st : State) (m after : Forest) {waiting : List ℕ} → AreWaiting st 0 paths waiting → Between st m → RoundsOn number path block waiting m after
+      → is_any labels 0 paths (rounds labels 0 paths count st) ≡ false → Shows its (rounds labels 0 paths count st).groups 0 0 (length labels) after
+  rounds_go count st m after {waiting = waiting} ws b (last_round R) over =
+      let w = went 0 paths (λ j n is. ap (slice_get paths) (let e : 0 + j ≡ j = omega arith in e) ∙ is) (omega arith) m st m waiting waiting ws b R in
+      subst (λ (s : State). Shows its s.groups 0 0 (length labels) m) (sym (rounds_same count st (w.none_went refl))) b.whole
+  rounds_go zero st m after {waiting = waiting} ws b (one_more {still = still} {there = there} R less more) over =
+      let w = went 0 paths (λ j n is. ap (slice_get paths) (let e : 0 + j ≡ j = omega arith in e) ∙ is) (omega arith) there st m waiting still ws b R in
+      absurd (false≢true (sym over ∙ w.some_went less))
+  rounds_go (suc n) st m after {waiting = waiting} ws b (one_more {still = still} {there = there} R less more) over =
+      let w = went 0 paths (λ j n is. ap (slice_get paths) (let e : 0 + j ≡ j = omega arith in e) ∙ is) (omega arith) there st m waiting still ws b R in
+      rounds_go n (round labels 0 paths st) there after w.waiting_now w.between more over
+
+pub rounds_show : (labels : List Label) (its : Items) (giver_of : ℕ → Option ℕ) → AreLabels labels its → RoundsShow labels its giver_of
+rounds_show labels its giver_of are number path block first last paths st new waiting m after givers places b ws R over =
+    subst (λ (s : State). Shows its s.groups 0 0 (length labels) after) (sym over.is)
+    (rounds_go labels its are giver_of givers number path block first last paths places over.count st m after ws b R
+    (subst (λ s. is_any labels 0 paths s ≡ false) over.is over.last))
