@@ -8,7 +8,8 @@ A case is a section with a heading. Its blocks are files, named after the langua
     ```hex ex.yang          the bytes of a file in hexadecimal
     ```sh prepare           a shell script that makes files; it runs where the program runs
     ```text stdin           standard input
-    ```console              the command, standard output, and the exit status if it isn't 0, as in `[1]`
+    ```console              the command, standard output, and the exit status if it isn't 0, as in `[1]`;
+                            `escaped`: each <U+XXXX> in a word of the command is the character with that number
     ```text stderr          standard error; without this block it isn't compared
 
 A case without a console block compiles a `yang body` with one marked line: `list e {  // <- BadKey` is refused there as BadKey.
@@ -71,11 +72,13 @@ def content(block, text, marks):
     return text.encode()
 
 
-def read_console(case, block):
+def read_console(case, block, marks):
     """Reads the command of a console block and what must come of it."""
     words = shlex.split(block.lines[0]) if block.lines else []
     if words[:2] != PROMPT.split():
         raise BadCase(f"a console block begins with `{PROMPT}`")
+    if "escaped" in marks:
+        words = [unescaped(word) for word in words]
     case.console, case.words, case.wanted = block, words[2:], block.lines[1:]
 
 
@@ -97,7 +100,7 @@ def read_block(case, block):
     name, marks = named(block.label)
     how = block.language, name
     if how == ("console", ""):
-        read_console(case, block)
+        read_console(case, block, marks)
     elif how == ("yang", "body"):
         read_body(case, block, marks)
     elif how == ("sh", "prepare"):
