@@ -421,6 +421,8 @@ def json_inputs():
     yield validated("json-all-faults-at-once", lambda: all_faults(180_000))
     yield validated("json-output-of-long-paths", lambda: long_paths(10_000, 20_000))
     yield document("wrong-values-sixty-deep", nest(60, "container c{", VALUES), lambda: below(60, ['""'] * 1_000_000))
+    dangling = 'leaf t{type int32;}' + nest(60, "container c{", 'leaf-list e{config false;type leafref{path "/ex:t";}}')
+    yield document("dangling-leafrefs-sixty-deep", dangling, lambda: below(60, ["1"] * 1_000_000))
     yield document("unknown-members-hundred-deep", deep_containers(100, ""),
                    lambda: '{"ex:c":' + nest(99, '{"c":', "{" + members(300_000) + "}") + "}")
 
