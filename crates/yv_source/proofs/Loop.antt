@@ -1,8 +1,10 @@
 -- The reader's loop, over plain values.
-use Rattle.std.proofs.Common.{◌≡◌, ℕ, ◌+◌, ◌*◌, ◌<◌, ◌≤◌, ◌==◌, ◌&&◌, Bool, true, false, cond, List, [], ◌∷◌, ◌++◌, length, take, drop, Option, Some, None, refl, sym, ◌∙◌, ap, subst, arith, append_assoc, length-append, length-drop, Result, Ok, Err}
+use Rattle.std.proofs.Common.{◌≡◌, ℕ, zero, suc, get_or, ◌+◌, ◌*◌, ◌<◌, ◌≤◌, ◌==◌, ◌&&◌, Bool, true, false, cond, List, [], ◌∷◌, ◌++◌, length, take, drop, Option, Some, None, refl, sym, ◌∙◌, ap, subst, arith, append_assoc, length-append, length-drop, Result, Ok, Err}
 use Rattle.std.specs.Prelude.{IsUtf8, IsCharBoundary, IfSome, reverse}
 use Rattle.std.proofs.Math.Seq.{take-append_seam, drop-append_seam}
-use Rattle.std.proofs.lemmas.List.{take-append-drop, length-take}
+use Rattle.std.proofs.lemmas.List.{take-append-drop, length-take, drop_more}
+use Rattle.std.specs.Prelude.{count_by}
+use Rattle.std.specs.List.{list_all}
 use Rattle.std.proofs.lemmas.List.Sums.{count_by-le-length}
 use Rattle.std.proofs.lemmas.Str.{IsCharBoundary-past_char, IsUtf8-drop}
 use Rattle.std.proofs.lemmas.Bool.{eqb-true}
@@ -12,11 +14,11 @@ use Rattle.yv_statement.specs.declared.refusal.Code.{Code}
 use Rattle.yv_statement.specs.declared.refusal.Code.TheVariants as code
 use Rattle.yv_statement.specs.declared.refusal.Stop.{Stop}
 use Rattle.yv_statement.specs.declared.refusal.Stop.TheVariants.{Fault}
-use Rattle.yv_source.specs.Pieces.{Piece, Blank, LineComment, BlockComment, Word, Single, Double, Semicolon, Open, Close, Plus, slice, Before, Apart, MayStand}
-use Rattle.yv_source.specs.Place.{mark_len, line_of, columns, column_of}
+use Rattle.yv_source.specs.Pieces.{Piece, Blank, LineComment, BlockComment, Word, Single, Double, Semicolon, Open, Close, Plus, slice, is_blank, Before, Apart, Unquoted, Quoted, past_gap, MayStand}
+use Rattle.yv_source.specs.Place.{mark_len, line_of, columns, column_past, column_of}
 use Rattle.yv_source.specs.Outcome.{Outcome, ComesTo, BadToken, BadSyntax, TooDeep, BadEscape, Spelled}
 use Rattle.yv_source.specs.Answer.{refusal_in, IsRefusalOf}
-use Rattle.yv_source.specs.Inner.Place.{place_of, passed}
+use Rattle.yv_source.specs.Inner.Place.{place_of, passed, IsPastGap}
 use Rattle.yv_source.specs.Inner.Machine.{Step, Next, Wrong, Deep}
 use Rattle.yv_source.specs.Inner.Scan.{before_of, ahead_in}
 use Rattle.yv_source.specs.Inner.Turn.{opener, inner, length_of, past_found, turn}
@@ -33,9 +35,10 @@ use Rattle.yv_source.specs.declared.scan.Before.TheVariants as left
 use Rattle.yv_source.specs.declared.scan.Ahead.{Ahead}
 use Rattle.yv_source.specs.declared.scan.Ahead.TheVariants as ahead
 use Rattle.yv_source.specs.declared.scan.Found.{Found}
+use Rattle.yv_source.specs.declared.scan.Found.TheVariants as found
 use Rattle.yv_source.proofs.Keyword.{and_first, and_second}
 use Rattle.yv_source.proofs.Meaning.{MeansAhead, means}
-use Rattle.yv_source.proofs.Reading.{ReadsTo, spelling, spelled_by, HasMark, columns_most}
+use Rattle.yv_source.proofs.Reading.{ReadsTo, spelling, spelled_by, HasMark, columns_most, count-cons}
 use Rattle.yv_source.proofs.Turns.{Looks, looks}
 use Rattle.yv_source.proofs.Outcomes as outcomes
 
@@ -243,3 +246,62 @@ pub starts : (text : List ℕ) (start : ℕ) (stack : List Tree) → IsUtf8 text
 starts text start stack u start_is stack_is =
     let P : ℕ × List Tree → Type 0 = λ x. Reads text (first_place x.0) None left.Apart (reverse x.1) Between in
     subst P (λ i. (sym start_is i, sym stack_is i)) (record { reads = begins_text text u; bound = tt })
+
+-- ---- blanks in a row
+passed_none : (p : Place) → passed p [] ≡ p
+passed_none p = let a : p.at + 0 ≡ p.at = omega arith in let l : p.line + 0 ≡ p.line = omega arith in λ i. record { at = a i; line = l i; column = p.column }
+
+pub passed_on : (p : Place) (x : ℕ) (ys : List ℕ) → passed (passed p (x ∷ [])) ys ≡ passed p (x ∷ ys)
+passed_on p x ys =
+    let a : p.at + length (x ∷ []) + length ys ≡ p.at + length (x ∷ ys) = omega arith in
+    let l : p.line + count_by (λ b. b == 10) (x ∷ []) + count_by (λ b. b == 10) ys ≡ p.line + count_by (λ b. b == 10) (x ∷ ys) =
+    omega (arith, count-cons x ys, count-cons x [])
+    in
+    λ i. record { at = a i; line = l i; column = columns (column_past p.column x) ys }
+
+blank_ahead : (before : Before) (x : ℕ) (rest : List ℕ) → is_blank x ≡ true → ahead.Piece found.Blank ≡ ahead_in before (x ∷ rest)
+blank_ahead before x rest e = rw e refl
+
+stays_apart : (left : Left) → (before_of left ≡ Unquoted → ⊥) → before_of left ≡ past_gap (before_of left)
+stays_apart left.Apart n = refl
+stays_apart left.Unquoted n = absurd (n refl)
+stays_apart left.Quoted n = refl
+
+pub blanks_read : (n : ℕ) {text bytes : List ℕ} {place : Place} {bad : Option ℕ} {left : Left} {stack : List Tree} {phase : Phase} → bytes ≡ text → Reads text place bad left stack phase → (before_of left ≡ Unquoted → ⊥) → n ≤ length (drop place.at bytes) → list_all is_blank (take n (drop place.at bytes)) ≡ true → Reads text (passed place (take n (drop place.at bytes))) bad left stack phase
+blanks_read zero {text} {bytes} {place} {bad} {left} {stack} {phase} same so_far apart le h =
+    let P : Place → Type 0 = λ p. Reads text p bad left stack phase in
+    subst P (sym (passed_none place)) so_far
+blanks_read (suc n) {text} {bytes} {place} {bad} {left} {stack} {phase} same so_far apart le h =
+    let x : ℕ = get_or bytes place.at 0 in
+    let more : List ℕ = drop (place.at + 1) bytes in
+    let lt : place.at < length bytes = omega (arith, le, length-drop place.at bytes) in
+    let cut : drop place.at bytes ≡ x ∷ more = drop_more bytes place.at 0 lt in
+    let H : List ℕ → Type 0 = λ l. (suc n ≤ length l) × (list_all is_blank (take (suc n) l) ≡ true) in
+    let hs = subst H cut (le, h) in
+    let here : is_blank x ≡ true = and_first (is_blank x) (list_all is_blank (take n more)) hs.1 in
+    let others : list_all is_blank (take n more) ≡ true = and_second (is_blank x) (list_all is_blank (take n more)) hs.1 in
+    let one = read_on same so_far (blank_ahead (before_of left) x more here ∙ ap (ahead_in (before_of left)) (sym cut)) refl
+    (passed place (x ∷ [])) bad left stack phase (ap (λ l. passed place (take 1 l)) (sym cut)) refl (bad_bound same so_far) (stays_apart left apart) refl
+    in
+    let room : n ≤ length more = omega (arith, hs.0) in
+    let all = blanks_read n same one apart room others in
+    let P : Place → Type 0 = λ p. Reads text p bad left stack phase in
+    subst P (passed_on place x (take n more) ∙ ap (λ l. passed place (take (suc n) l)) (sym cut)) all
+
+apart_not : Apart ≡ Unquoted → ⊥
+apart_not h = cc
+
+quoted_not : Quoted ≡ Unquoted → ⊥
+quoted_not h = cc
+
+-- behind the blanks, where there may be more than one
+pub gap_read : (left : Left) {text bytes : List ℕ} {place : Place} {bad : Option ℕ} {stack : List Tree} {phase : Phase} → bytes ≡ text → Reads text place bad left stack phase → (q : Place) → IsPastGap (before_of left) place (drop place.at bytes) q → Reads text q bad left stack phase × (place.at ≤ q.at)
+gap_read left.Unquoted {text} {bytes} {place} {bad} {stack} {phase} same so_far q e =
+    let P : Place → Type 0 = λ p. Reads text p bad left.Unquoted stack phase × (place.at ≤ p.at) in
+    subst P (sym e) (so_far, omega arith)
+gap_read left.Apart {text} {bytes} {place} {bad} {stack} {phase} same so_far q (n, le, h, e) =
+    let P : Place → Type 0 = λ p. Reads text p bad left.Apart stack phase × (place.at ≤ p.at) in
+    subst P (sym e) (blanks_read n same so_far apart_not le h, omega arith)
+gap_read left.Quoted {text} {bytes} {place} {bad} {stack} {phase} same so_far q (n, le, h, e) =
+    let P : Place → Type 0 = λ p. Reads text p bad left.Quoted stack phase × (place.at ≤ p.at) in
+    subst P (sym e) (blanks_read n same so_far quoted_not le h, omega arith)

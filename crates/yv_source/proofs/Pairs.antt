@@ -1,5 +1,5 @@
 -- The first bad backslash pair, and the newer files in which it counts.
-use Rattle.std.proofs.Common.{◌≡◌, ℕ, ◌+◌, ◌-◌, Bool, true, false, cond, ◌==◌, ◌&&◌, ◌||◌, List, [], ◌∷◌, ◌++◌, length, Option, Some, None, refl, sym, ◌∙◌, ap, subst, inl, inr, arith, append_assoc, length-append}
+use Rattle.std.proofs.Common.{◌≡◌, ℕ, suc, ◌+◌, ◌-◌, ◌<◌, ◌≤◌, drop, add-zero, Bool, true, false, cond, ◌==◌, ◌&&◌, ◌||◌, List, [], ◌∷◌, ◌++◌, length, Option, Some, None, refl, sym, ◌∙◌, ap, subst, inl, inr, arith, append_assoc, length-append}
 use Rattle.std.proofs.lemmas.Bool.{eqb-true, or_cases, cases_Bool}
 use Rattle.std.proofs.lemmas.Slice.Eq.{bytes_eq-Decides}
 use Rattle.std.specs.Prelude.{bytes_eq}
@@ -10,6 +10,10 @@ use Rattle.yv_source.specs.Escapes.{inside_double, HasNoBadPair, HasBadPair, IsN
 use Rattle.yv_source.specs.Inner.Pairs.{bad_pair, placed, bad_on, is_newer_text, is_newer}
 use Rattle.yv_source.proofs.Accepts.{append_nil}
 use Rattle.yv_source.proofs.Keyword.{false_true, and_first, and_second}
+use Rattle.std.proofs.lemmas.List.{drop-drop, drop_all, length-drop}
+use Rattle.yv_source.specs.Pieces.{begins, until}
+use Rattle.yv_source.proofs.Built.{length-until}
+use Rattle.yv_source.proofs.Until.{stopped}
 
 abbrev pub IsFirstBad : Option ℕ → List Token → Type 0
 IsFirstBad None ts = HasNoBadPair ts
@@ -199,3 +203,74 @@ newer_test (Then h c o) (inr r) = or_second (bytes_eq h.keyword yang_version && 
 
 pub not_newer : {A : Type 0} (f : Forest) → is_newer (trees f) ≡ false → IsNewer f → A
 not_newer f e h = absurd (false_true (sym e ∙ newer_test f h))
+
+-- ---- the search for the first bad pair
+abbrev skipped : ℕ → List ℕ → ℕ → Option ℕ
+skipped n l k = bad_pair false (n + k) (drop k l)
+
+skips_at : (n x : ℕ) (xs : List ℕ) (v : Bool) → (x == 92) ≡ v → bad_pair false (n + 1) xs ≡ skipped (n + 1) xs (length (until (begins 92) xs)) → bad_pair false n (x ∷ xs) ≡ skipped n (x ∷ xs) (length (until (begins 92) (x ∷ xs)))
+skips_at n x xs true e others =
+    let k : length (until (begins 92) (x ∷ xs)) ≡ 0 = rw e refl in
+    ap (λ m. bad_pair false m (x ∷ xs)) (sym (add-zero n)) ∙ ap (skipped n (x ∷ xs)) (sym k)
+skips_at n x xs false e others =
+    let k : length (until (begins 92) (x ∷ xs)) ≡ suc (length (until (begins 92) xs)) = rw e refl in
+    let m : n + 1 + length (until (begins 92) xs) ≡ n + suc (length (until (begins 92) xs)) = omega arith in
+    ap (λ v. bad_pair v (n + 1) xs) e ∙ others ∙ ap (λ i. bad_pair false i (drop (length (until (begins 92) xs)) xs)) m ∙ ap (skipped n (x ∷ xs)) (sym k)
+
+bad_skips : (n : ℕ) (l : List ℕ) → bad_pair false n l ≡ skipped n l (length (until (begins 92) l))
+bad_skips n [] = refl
+bad_skips n (x ∷ xs) = skips_at n x xs (x == 92) refl (bad_skips (n + 1) xs)
+
+pair_is_bad : (n : ℕ) (l : List ℕ) → begins 92 l ≡ true → begins_escape (drop 1 l) ≡ false → bad_pair false n l ≡ Some n
+pair_is_bad n [] h f = absurd (false_true h)
+pair_is_bad n (x ∷ []) h f = ap (λ v. bad_pair v (n + 1) []) h ∙ ap (λ k. Some k) (omega arith)
+pair_is_bad n (x ∷ y ∷ ys) h f = ap (λ v. bad_pair v (n + 1) (y ∷ ys)) h ∙ ap (λ v. cond v (bad_pair false (n + 1 + 1) ys) (Some (n + 1 - 1))) f ∙ ap (λ k. Some k) (omega arith)
+
+pair_is_good : (n : ℕ) (l : List ℕ) → begins 92 l ≡ true → begins_escape (drop 1 l) ≡ true → (2 ≤ length l) × (bad_pair false n l ≡ bad_pair false (n + 2) (drop 2 l))
+pair_is_good n [] h f = absurd (false_true h)
+pair_is_good n (x ∷ []) h f = absurd (false_true f)
+pair_is_good n (x ∷ y ∷ ys) h f = (
+  omega arith,
+  ap (λ v. bad_pair v (n + 1) (y ∷ ys)) h ∙ ap (λ v. cond v (bad_pair false (n + 1 + 1) ys) (Some (n + 1 - 1))) f ∙ ap (λ k. bad_pair false k ys) (omega arith),
+)
+
+-- how far a text was searched, the bad pair being no earlier
+pub record PairsTo (xs : List ℕ) (at : ℕ) : Type 0 where
+  pub within : at ≤ length xs
+  pub so_far : bad_pair false 0 xs ≡ bad_pair false at (drop at xs)
+
+-- at a backslash, or at the text's end
+abbrev pub PairsAt : List ℕ → ℕ → Type 0
+PairsAt xs at = PairsTo xs at × (at < length xs → begins 92 (drop at xs) ≡ true)
+
+pub pairs_on : (xs ys : List ℕ) (at k : ℕ) → PairsTo xs at → ys ≡ drop at xs → k ≡ length (until (begins 92) ys) → PairsAt xs (at + k)
+pairs_on xs ys at k s same f =
+    let l : List ℕ = drop at xs in
+    let e : k ≡ length (until (begins 92) l) = f ∙ ap (λ m. length (until (begins 92) m)) same in
+    let next : drop (length (until (begins 92) l)) l ≡ drop (at + k) xs = ap (λ j. drop j l) (sym e) ∙ drop-drop k at xs in (
+      record {
+        within = omega (arith, s.within, e, length-until (begins 92) l, length-drop at xs);
+        so_far = s.so_far ∙ bad_skips at l ∙ ap (λ j. bad_pair false (at + j) (drop (length (until (begins 92) l)) l)) (sym e) ∙ ap (bad_pair false (at + k)) next;
+      },
+      λ lt. ap (begins 92) (sym next) ∙ stopped (begins 92) l (omega (arith, lt, e, length-drop at xs)),
+    )
+
+pub pairs_end : (xs : List ℕ) (at : ℕ) → PairsAt xs at → at ≡ length xs → None ≡ bad_pair false 0 xs
+pairs_end xs at (s, h) e = sym (s.so_far ∙ ap (bad_pair false at) (drop_all at xs (omega (arith, e))))
+
+pub pairs_room : (xs : List ℕ) (at : ℕ) → PairsAt xs at → (at ≡ length xs → ⊥) → at < length xs
+pairs_room xs at (s, h) n = omega (arith, s.within, n)
+
+pub pairs_bad : (xs ys : List ℕ) (at : ℕ) → PairsAt xs at → (at ≡ length xs → ⊥) → ys ≡ drop (at + 1) xs → begins_escape ys ≡ false → Some at ≡ bad_pair false 0 xs
+pairs_bad xs ys at (s, h) n same f =
+    let lt = pairs_room xs at (s, h) n in
+    sym (s.so_far ∙ pair_is_bad at (drop at xs) (h lt) (ap begins_escape (drop-drop 1 at xs ∙ sym same) ∙ f))
+
+pub pairs_past : (xs ys : List ℕ) (at : ℕ) → PairsAt xs at → (at ≡ length xs → ⊥) → ys ≡ drop (at + 1) xs → begins_escape ys ≡ true → PairsTo xs (at + 2)
+pairs_past xs ys at (s, h) n same f =
+    let lt = pairs_room xs at (s, h) n in
+    let g = pair_is_good at (drop at xs) (h lt) (ap begins_escape (drop-drop 1 at xs ∙ sym same) ∙ f) in
+    record {
+      within = omega (arith, s.within, g.0, length-drop at xs);
+      so_far = s.so_far ∙ g.1 ∙ ap (bad_pair false (at + 2)) (drop-drop 2 at xs);
+    }

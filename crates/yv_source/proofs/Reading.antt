@@ -1,6 +1,10 @@
 -- How far a text was read, and one piece more.
-use Rattle.std.proofs.Common.{◌≡◌, ℕ, ◌+◌, ◌*◌, ◌≤◌, cond, ◌==◌, List, [], ◌∷◌, ◌++◌, length, Option, refl, sym, ◌∙◌, ap, subst, arith, append_assoc, length-append, fold, add-zero}
+use Rattle.std.proofs.Common.{◌≡◌, ℕ, ◌+◌, ◌*◌, ◌≤◌, ◌<◌, cond, ◌==◌, List, [], ◌∷◌, ◌++◌, length, take, drop, get_or, Option, Some, refl, sym, ◌∙◌, ap, subst, arith, append_assoc, length-append, fold, add-zero}
 use Rattle.std.specs.Prelude.{count_by, IsUtf8}
+use Rattle.std.proofs.lemmas.Bool.{eqb-true}
+use Rattle.std.proofs.lemmas.List.{drop_more, take_more, take-append-drop}
+use Rattle.std.proofs.lemmas.List.Sums.{count_by-le-length}
+use Rattle.memchr.specs.Find.{IsLastByte, is_byte}
 use Rattle.yv_statement.specs.Tree.{Tree}
 use Rattle.yv_source.specs.Pieces.{Piece, slice, Token, Before, Apart, past, MayStand, Cuts, behind, token, tokens}
 use Rattle.yv_source.specs.Inner.Pairs.{bad_on}
@@ -114,3 +118,32 @@ advances front body place bad left stack phase r p more left' stack' phase' is m
       stands = record { runs = ap (run 64 fresh) ts ∙ run-append 64 fresh (tokens front r.pieces) (token done p) ∙ ap (λ s. run 64 s (token done p)) r.stands.runs ∙ runs };
       utf8 = u;
     }
+
+-- a line feed begins the count anew
+pub columns_last : (xs : List ℕ) (at start m : ℕ) (r : Option ℕ) → r ≡ Some at → IsLastByte (is_byte 10) xs r → m ≡ columns 0 (drop (at + 1) xs) → m ≡ columns start xs
+columns_last xs at start m r is h e =
+    let P : Option ℕ → Type 0 = λ x. IsLastByte (is_byte 10) xs x in
+    let last = subst P is h in
+    let feed : get_or xs at 0 ≡ 10 = eqb-true (get_or xs at 0) 10 last.1 in
+    e
+    ∙ ap (λ b. columns (column_past (columns start (take at xs)) b) (drop (at + 1) xs)) (sym feed)
+    ∙ sym (columns-append start (take at xs) (get_or xs at 0 ∷ drop (at + 1) xs))
+    ∙ ap (λ l. columns start (take at xs ++ l)) (sym (drop_more xs at 0 last.0.high))
+    ∙ ap (columns start) (take-append-drop at xs)
+
+-- one more byte
+pub passed_more : (p : Place) (xs : List ℕ) (i : ℕ) → i < length xs → passed (passed p (take i xs)) (get_or xs i 0 ∷ []) ≡ passed p (take (i + 1) xs)
+passed_more p xs i lt =
+    let t : List ℕ = take i xs in
+    let x : ℕ = get_or xs i 0 in
+    let more : take (i + 1) xs ≡ t ++ x ∷ [] = take_more xs i 0 lt in
+    let a : p.at + length t + length (x ∷ []) ≡ p.at + length (t ++ x ∷ []) = omega (arith, length-append t (x ∷ [])) in
+    let l : p.line + count_by (λ b. b == 10) t + count_by (λ b. b == 10) (x ∷ []) ≡ p.line + count_by (λ b. b == 10) (t ++ x ∷ []) = omega (arith, count-append t (x ∷ [])) in
+    let is : passed (passed p t) (x ∷ []) ≡ passed p (t ++ x ∷ []) = λ i. record { at = a i; line = l i; column = sym (columns-append p.column t (x ∷ [])) i } in
+    is ∙ ap (passed p) (sym more)
+
+pub passed_most : (p q : Place) (x : ℕ) → q ≡ passed p (x ∷ []) → (q.line ≤ p.line + 1) × (q.column ≤ p.column + 8)
+passed_most p q x e =
+    let l : q.line ≡ p.line + count_by (λ b. b == 10) (x ∷ []) = ap (λ (r : Place). r.line) e in
+    let c : q.column ≡ columns p.column (x ∷ []) = ap (λ (r : Place). r.column) e in
+    (omega (arith, l, count_by-le-length (λ b. b == 10) (x ∷ [])), omega (arith, c, columns_most p.column (x ∷ [])))

@@ -1,21 +1,16 @@
 -- The writer writes what the text says.
-use Rattle.std.proofs.Common.{◌≡◌, ℕ, zero, suc, ◌+◌, ◌-◌, Bool, true, false, cond, ◌==◌, ◌&&◌, ◌||◌, List, [], ◌∷◌, ◌++◌, refl, sym, ◌∙◌, ap, subst, inl, inr, ◌⊎◌, append_assoc, lit<}
+use Rattle.std.proofs.Common.{◌≡◌, ℕ, zero, suc, ◌-◌, Bool, true, false, cond, ◌==◌, ◌&&◌, ◌||◌, List, [], ◌∷◌, ◌++◌, refl, sym, ◌∙◌, ap, subst, inl, inr, ◌⊎◌, append_assoc, lit<}
 use Rattle.std.specs.Prelude.{encode_utf8_all}
-use Rattle.std.specs.Str.{chars}
 use Rattle.std.specs.Char.{encode_utf8}
 use Rattle.std.proofs.lemmas.Bool.{eqb-true, or_cases}
 use Rattle.std.proofs.lemmas.Str.{encodes-append, encode_ascii}
 use Rattle.yv_source.specs.Pieces.{begins}
-use Rattle.yv_source.specs.Quoted.{is_gap, spaces, unindented, onto_first, lines_of, all_unindented, but_the_first, breaks, without_trailing, escape, unescaped, quoted}
-use Rattle.yv_source.specs.Inner.Writing.{Written, escape_bytes, put, gap_bytes, is_behind, flush, without_gap, with_gap, with_left, keep, keep_plain, keep_spaces, settle, take_in, take_all, trail, all_of, fresh}
+use Rattle.yv_source.specs.Quoted.{is_gap, spaces, unindented, onto_first, lines_of, all_unindented, but_the_first, breaks, without_trailing, escape, unescaped}
+use Rattle.yv_source.specs.Inner.Writing.{Written, escape_bytes, put, gap_bytes, is_behind, flush, without_gap, with_gap, with_left, keep, keep_plain, keep_spaces, settle, take_in, trail, all_of}
 use Rattle.yv_source.proofs.Accepts.{append_nil}
 
-pub take_all-append : (indent : ℕ) (xs : List ℕ) (c : ℕ) (w : Written) → take_all indent (xs ++ c ∷ []) w ≡ take_in indent c (take_all indent xs w)
-take_all-append indent [] c w = refl
-take_all-append indent (x ∷ xs) c w = take_all-append indent xs c (take_in indent x w)
-
 -- the bytes of a text with its escapes read
-abbrev read : Bool → List ℕ → List ℕ
+abbrev pub read : Bool → List ℕ → List ℕ
 read e t = encode_utf8_all (unescaped e t)
 
 abbrev put_out : Bool → ℕ → List ℕ
@@ -50,14 +45,14 @@ abbrev pub AllGap : List ℕ → Type 0
 AllGap [] = Unit {0}
 AllGap (b ∷ g) = IsGap b × AllGap g
 
-is_gap_means : (c : ℕ) → is_gap c ≡ true → IsGap c
+pub is_gap_means : (c : ℕ) → is_gap c ≡ true → IsGap c
 is_gap_means c e = elim (or_cases (c == 32) (c == 9) e) [ inl x ↦ inl (eqb-true c 32 x) | inr x ↦ inr (eqb-true c 9 x) ]
 
 by_gap : (P : ℕ → Type 0) (b : ℕ) → IsGap b → P 32 → P 9 → P b
 by_gap P b (inl e) h k = subst P (sym e) h
 by_gap P b (inr e) h k = subst P (sym e) k
 
-gap_ascii : (b : ℕ) → IsGap b → encode_utf8 b ≡ b ∷ []
+pub gap_ascii : (b : ℕ) → IsGap b → encode_utf8 b ≡ b ∷ []
 gap_ascii b h = by_gap (λ x. encode_utf8 x ≡ x ∷ []) b h (encode_ascii 32 (lit< tt)) (encode_ascii 9 (lit< tt))
 
 AllGap-append : (g : List ℕ) (b : ℕ) → AllGap g → IsGap b → AllGap (g ++ b ∷ [])
@@ -103,11 +98,11 @@ gaps_stay (b ∷ g) t (h, r) e =
     gap_step b h (g ++ t) ∙ ap (λ v. cond v (without_trailing (g ++ t)) (b ∷ without_trailing (g ++ t))) (breaks_gap g t r ∙ e) ∙ ap (λ l. b ∷ l) (gaps_stay g t r e)
 
 -- what is written in the end, if this text follows, but for its indent
-abbrev crs : Bool → List ℕ
+abbrev pub crs : Bool → List ℕ
 crs true = 13 ∷ []
 crs false = []
 
-abbrev value : Written → List ℕ → List ℕ
+abbrev pub value : Written → List ℕ → List ℕ
 value w t = w.out ++ read w.escaped (without_trailing (w.gap ++ (crs w.cr ++ t)))
 
 record Keeps (c : ℕ) (w x : Written) : Type 0 where
@@ -135,11 +130,11 @@ a_cr : (w : Written) (t : List ℕ) → w.cr ≡ true → value w t ≡ w.out ++
 a_cr w t e = ap (λ v. w.out ++ read w.escaped (without_trailing (w.gap ++ (crs v ++ t)))) e
 
 -- a character that is no blank and no part of a line break
-other_breaks : (c : ℕ) (t : List ℕ) → is_gap c ≡ false → (c == 13) ≡ false → (c == 10) ≡ false → breaks (c ∷ t) ≡ false
+pub other_breaks : (c : ℕ) (t : List ℕ) → is_gap c ≡ false → (c == 13) ≡ false → (c == 10) ≡ false → breaks (c ∷ t) ≡ false
 other_breaks c t g r l =
     ap (λ (x : Bool × (Bool × Bool)). (x.0 || (x.1.0 && begins 10 t)) || (x.1.1 && breaks t)) (λ i. (l i, (r i, g i)))
 
-other_stays : (c : ℕ) (t : List ℕ) → is_gap c ≡ false → without_trailing (c ∷ t) ≡ c ∷ without_trailing t
+pub other_stays : (c : ℕ) (t : List ℕ) → is_gap c ≡ false → without_trailing (c ∷ t) ≡ c ∷ without_trailing t
 other_stays c t g = ap (λ v. cond (v && breaks t) (without_trailing t) (c ∷ without_trailing t)) g
 
 keeps_plain : (c : ℕ) (w : Written) → AllGap w.gap → w.cr ≡ false → Keeps c w (keep_plain c w)
@@ -230,9 +225,9 @@ lead n left (c ∷ rest) =
     (cond (c == 9) (spaces (8 - left) ++ lead n (left - 8) rest)
     (c ∷ lead n 0 rest))))
 
-record Leads (indent c : ℕ) (t : List ℕ) (w x : Written) (u : List ℕ) : Type 0 where
-  gap : AllGap x.gap
-  says : value x (lead indent x.left t) ≡ value w u
+pub record Leads (indent c : ℕ) (t : List ℕ) (w x : Written) (u : List ℕ) : Type 0 where
+  pub gap : AllGap x.gap
+  pub says : value x (lead indent x.left t) ≡ value w u
 
 -- both sides of one choice
 by_both : (P : Written → List ℕ → Type 0) (b : Bool) (x y : Written) (u v : List ℕ) → (b ≡ true → P x u) → (b ≡ false → P y v) → P (cond b x y) (cond b u v)
@@ -243,7 +238,7 @@ led : (indent c : ℕ) (t : List ℕ) (w x : Written) (n : ℕ) → x.left ≡ n
 led indent c t w x n e k =
     record { gap = k.gap; says = ap (λ m. value x (lead indent m t)) e ∙ k.says (lead indent n t) }
 
-takes : (indent c : ℕ) (t : List ℕ) (w : Written) → AllGap w.gap → Leads indent c t w (take_in indent c w) (lead indent w.left (c ∷ t))
+pub takes : (indent c : ℕ) (t : List ℕ) (w : Written) → AllGap w.gap → Leads indent c t w (take_in indent c w) (lead indent w.left (c ∷ t))
 takes indent c t w h =
     let P : Written → List ℕ → Type 0 = λ x u. Leads indent c t w x u in
     by_both P (c == 10) _ _ _ _
@@ -262,13 +257,6 @@ takes indent c t w h =
     let k = keeps c (with_left 0 w) h in
     record { gap = k.gap; says = ap (λ m. value (keep c (with_left 0 w)) (lead indent m t)) k.left ∙ k.says (lead indent 0 t) }))))
 
-takes_all : (indent : ℕ) (t : List ℕ) (w : Written) → AllGap w.gap → AllGap (take_all indent t w).gap × (value (take_all indent t w) [] ≡ value w (lead indent w.left t))
-takes_all indent [] w h = (h, refl)
-takes_all indent (c ∷ t) w h =
-    let k = takes indent c t w h in
-    let r = takes_all indent t (take_in indent c w) k.gap in
-    (r.0, r.1 ∙ k.says)
-
 -- the end
 rest_of : (b : Bool) → cond b (encode_utf8 92) [] ≡ read b []
 rest_of true = sym (append_nil (encode_utf8 92))
@@ -282,7 +270,7 @@ ends_flushed w h e =
     ∙ ap (λ l. w.out ++ read w.escaped l) (sym (gaps_stay w.gap [] h refl))
     ∙ sym (no_cr w [] e)
 
-ends : (w : Written) → AllGap w.gap → all_of (trail w) ≡ value w []
+pub ends : (w : Written) → AllGap w.gap → all_of (trail w) ≡ value w []
 ends w h =
     let P : Written → Type 0 = λ x. all_of (flush x) ≡ value w [] in
     by_cond P w.cr (settle w) w
@@ -340,9 +328,3 @@ lead_lines n (c ∷ t) left =
 pub first_stays : (n : ℕ) (lines : List (List ℕ)) → first_unindented n 0 lines ≡ but_the_first n lines
 first_stays n [] = refl
 first_stays n (line ∷ others) = ap (λ l. l ++ all_unindented n others) (unindented_none line)
-
-pub writes : (column : ℕ) (text : List ℕ) → all_of (trail (take_all (column + 1) (chars text) fresh)) ≡ quoted column text
-writes column text =
-    let r = takes_all (column + 1) (chars text) fresh tt in
-    ends (take_all (column + 1) (chars text) fresh) r.0 ∙ r.1
-    ∙ ap (λ l. read false (without_trailing l)) (lead_lines (column + 1) (chars text) 0 ∙ first_stays (column + 1) (lines_of (chars text)))

@@ -2,11 +2,11 @@
 
 ghost use Rattle.std.specs.Prelude.{◌≡◌, ◌≤◌, ◌<◌, ◌+◌, false, length, IfSome};
 ghost use Rattle.yv_statement.specs.Tree.{trees};
-ghost use Rattle.yv_source.specs.Escapes.{is_escape};
+ghost use Rattle.yv_source.specs.Escapes.{begins_escape, is_escape};
 ghost use Rattle.yv_source.specs.Inner.Turn.{length_of};
 ghost use Rattle.yv_source.specs.Inner.Pairs.{bad_found, bad_pair, is_newer, is_version};
 
-use crate::scan::Found;
+use crate::scan::{Found, first_byte};
 use yv_statement::Statement;
 
 /// Where the first bad backslash pair is, of those so far and of the piece at a place.
@@ -25,22 +25,31 @@ pub(crate) fn bad_found(bad: Option<usize>, bytes: &[u8], found: Found, at: usiz
     }
 }
 
-// Where the first bad backslash pair of a text stands.
+// Where the first bad backslash pair of a text is.
 fn bad_pair(bytes: &[u8]) -> Option<usize>
     ensures place { result ≡ bad_pair false 0 bytes.now }
     ensures within { IfSome result (λ n. n < length bytes.now) }
 {
-    let mut escaped = false;
-    for (i, b) in bytes.iter().enumerate() {
-        if !escaped {
-            escaped = *b == b'\\';
-        } else if is_escape(*b) {
-            escaped = false;
-        } else {
-            return Some(i - 1);
+    let mut at = 0;
+    loop {
+        at += first_byte(b'\\', &bytes[at..]);
+        if at == bytes.len() {
+            return None;
         }
+        if !begins_escape(&bytes[at + 1..]) {
+            return Some(at);
+        }
+        at += 2;
     }
-    if escaped { Some(bytes.len() - 1) } else { None }
+}
+
+fn begins_escape(bytes: &[u8]) -> bool
+    ensures { result ≡ begins_escape bytes.now }
+{
+    match bytes {
+        [] => false,
+        [byte, ..] => is_escape(*byte),
+    }
 }
 
 fn is_escape(byte: u8) -> bool

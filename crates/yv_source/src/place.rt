@@ -1,13 +1,15 @@
 // Places in a text.
 
-ghost use Rattle.std.specs.Prelude.{◌≡◌, ◌≤◌, ◌<◌, ◌*◌, ◌^◌, ◌+◌, ◌==◌, count_by, drop, length, take};
+ghost use Rattle.std.specs.Prelude.{◌≡◌, ◌≤◌, ◌<◌, ◌*◌, ◌^◌, ◌+◌, ◌==◌, count_by, drop, length, take, ◌∷◌, []};
 ghost use Rattle.yv_source.specs.Characters.{line_feed};
 ghost use Rattle.yv_source.specs.Legal.{most_bytes};
 ghost use Rattle.yv_source.specs.Place.{mark_len, columns, column_past};
-ghost use Rattle.yv_source.specs.Inner.Place.{passed};
+ghost use Rattle.yv_source.specs.Pieces.{is_blank};
+ghost use Rattle.yv_source.specs.Inner.Place.{passed, IsPastBlanks};
 ghost use Rattle.yv_source.specs.Inner.Turn.{length_of};
 
 use crate::scan::Found;
+use memchr::memrchr;
 
 /// A place in a text.
 #[derive(Clone, Copy)]
@@ -36,6 +38,46 @@ impl Place {
             column: columns(piece, self.column),
         }
     }
+
+    /// The place after the blanks at a text's front, which is at this place.
+    pub(crate) fn past_blanks(self, rest: &[u8]) -> Place
+        requires size { self.at + length rest.now ≤ most_bytes }
+        requires line { self.line ≤ self.at + 1 }
+        requires column { self.column ≤ 8 * self.at }
+        ensures { IsPastBlanks self rest.now result }
+    {
+        let mut place = self;
+        for byte in rest {
+            if !is_blank(*byte) {
+                return place;
+            }
+            place = place.past_byte(*byte);
+        }
+        place
+    }
+
+    fn past_byte(self, byte: u8) -> Place
+        requires at { self.at < 2 ^ 40 }
+        requires line { self.line < 2 ^ 40 }
+        requires column { self.column < 2 ^ 40 }
+        ensures { result ≡ passed self (byte ∷ []) }
+    {
+        Place {
+            at: self.at + 1,
+            line: if byte == b'\n' {
+                self.line + 1
+            } else {
+                self.line
+            },
+            column: column_past(self.column, byte),
+        }
+    }
+}
+
+fn is_blank(byte: u8) -> bool
+    ensures { result ≡ is_blank byte }
+{
+    byte == b' ' || byte == b'\t' || byte == b'\r' || byte == b'\n'
 }
 
 fn piece_at(bytes: &[u8], at: usize, len: usize) -> &[u8]
@@ -63,7 +105,18 @@ pub(crate) fn line_feeds(bytes: &[u8]) -> usize
     bytes.iter().filter(|b| **b == b'\n').count()
 }
 
+// The columns after these bytes. Only those of the last line are counted.
 fn columns(bytes: &[u8], start: usize) -> usize
+    requires { start + 8 * length bytes.now < 2 ^ 40 }
+    ensures { result ≡ columns start bytes.now }
+{
+    match memrchr(b'\n', bytes) {
+        Some(at) => columns_on(&bytes[at + 1..], 0),
+        None => columns_on(bytes, start),
+    }
+}
+
+fn columns_on(bytes: &[u8], start: usize) -> usize
     requires { start + 8 * length bytes.now < 2 ^ 40 }
     ensures { result ≡ columns start bytes.now }
 {

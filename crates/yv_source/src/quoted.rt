@@ -1,15 +1,17 @@
-// What a double-quoted text says, written character by character in one pass: blanks that may stand before a line break
-// wait until it is known whether they do.
+// What a double-quoted text says, written in one pass: blanks that may stand before a line break wait until it is known
+// whether they do. Runs in which nothing is stripped or escaped are written at once.
 
-ghost use Rattle.std.specs.Prelude.{◌≡◌, ◌≤◌, ◌<◌, ◌^◌, ◌+◌, ◌-◌, OnOk, IfOk, string_bytes, true, false, []};
+ghost use Rattle.std.specs.Prelude.{◌≡◌, ◌≤◌, ◌<◌, ◌^◌, ◌+◌, ◌-◌, OnOk, IfOk, IsTrue, IsCharBoundary, take, length, slice_index, string_bytes, true, false, []};
 ghost use Rattle.std.specs.Cow.{cow_str_bytes};
 ghost use Rattle.std.specs.List.{list_all};
 ghost use Rattle.std.specs.Str.{chars};
 ghost use Rattle.yv_source.specs.Escapes.{all_pairs_good};
-ghost use Rattle.yv_source.specs.Quoted.{quoted, stripped};
+ghost use Rattle.yv_source.specs.Quoted.{is_gap, quoted, stripped};
 ghost use Rattle.yv_source.specs.Inner.Plain.{is_plain};
-ghost use Rattle.yv_source.specs.Inner.Writing.{put, flush, keep, keep_plain, keep_spaces, settle, take_in, trail, all_of, fresh, with_left};
+ghost use Rattle.yv_source.specs.Inner.Writing.{put, flush, keep, keep_plain, keep_spaces, settle, take_in, trail, all_of, fresh, with_left, is_in_run, ends_well, is_at_rest, Runs};
 
+use crate::source::front_of;
+use memchr::{memchr2, memchr3};
 use std::alloc::{AllocError, Global};
 use std::borrow::CowStr;
 use std::marker::Model;
@@ -59,18 +61,11 @@ pub(crate) fn said<'a>(
     }
 }
 
-// Whether all characters are such.
+// Whether no character ends a line or begins an escape.
 fn is_plain_text(text: &str) -> bool
-    ensures { result ≡ list_all is_plain (chars text.now) }
+    ensures { IsTrue result → IsTrue (list_all is_plain (chars text.now)) }
 {
-    text.chars().all(is_plain)
-}
-
-// Whether a character neither ends a line nor begins an escape.
-fn is_plain(c: char) -> bool
-    ensures { result ≡ is_plain c }
-{
-    c != '\n' && c != '\\'
+    memchr2(b'\n', b'\\', text.as_bytes()).is_none()
 }
 
 // What a double-quoted text says, in a text of its own.
@@ -82,11 +77,58 @@ fn quoted(alloc: Global, text: &str, column: usize) -> Result<String, AllocError
 {
     let mut writer = Writer::new(alloc);
     let indent = column + 1;
-    for c in text.chars() {
+    let mut at = 0;
+    loop {
+        at += writer.take_run(&text[at..])?;
+        let Some(c) = front_of(&text[at..]) else {
+            writer.trail()?;
+            return writer.end();
+        };
         writer.take_in(indent, c)?;
+        at += c.len_utf8();
     }
-    writer.trail()?;
-    writer.end()
+}
+
+// How many bytes at the front of a text neither end a line nor begin an escape, the last of them being no blank that a
+// line break may follow.
+fn run_len(bytes: &[u8]) -> usize
+    ensures inside { IsTrue (list_all is_in_run (take result bytes.now)) }
+    ensures well { IsTrue (ends_well (take result bytes.now)) }
+    ensures boundary { IsCharBoundary bytes.now result }
+{
+    len_before_gap(bytes, run_end(bytes))
+}
+
+// How many bytes there are before the first that ends a line or begins an escape.
+fn run_end(bytes: &[u8]) -> usize
+    ensures within { result ≤ length bytes.now }
+    ensures inside { IsTrue (list_all is_in_run (take result bytes.now)) }
+    ensures ascii { result < length bytes.now → slice_index bytes.now result < 128 }
+{
+    memchr3(b'\n', b'\r', b'\\', bytes).unwrap_or(bytes.len())
+}
+
+// How many bytes there are before the spaces and tabs at a place.
+fn len_before_gap(bytes: &[u8], end: usize) -> usize
+    requires end { end ≤ length bytes.now }
+    ensures within { result ≤ end }
+    ensures well { IsTrue (ends_well (take result bytes.now)) }
+    ensures gap { result < end → slice_index bytes.now result < 128 }
+{
+    let mut len = end;
+    while len > 0 {
+        if !is_gap(bytes[len - 1]) {
+            return len;
+        }
+        len -= 1;
+    }
+    0
+}
+
+fn is_gap(byte: u8) -> bool
+    ensures { result ≡ is_gap byte }
+{
+    byte == b' ' || byte == b'\t'
 }
 
 impl Writer {
@@ -100,6 +142,26 @@ impl Writer {
             escaped: false,
             left: 0,
         }
+    }
+
+    // Takes the front of a text that is kept as it is, and gives the number of its bytes. It's none where an earlier
+    // character waits, or where the start of a line is stripped.
+    fn take_run(&mut self, text: &str) -> Result<usize, AllocError>
+        ensures run { IfOk result (λ len. Runs self.old (take len text.now) self.new) }
+        ensures boundary { IfOk result (IsCharBoundary text.now) }
+    {
+        if !self.is_at_rest() {
+            return Ok(0);
+        }
+        let len = run_len(text.as_bytes());
+        self.out.push_str(&text[..len])?;
+        Ok(len)
+    }
+
+    fn is_at_rest(&self) -> bool
+        ensures { result ≡ is_at_rest self.now }
+    {
+        self.left == 0 && self.gap.is_empty() && !self.cr && !self.escaped
     }
 
     // Takes a character.

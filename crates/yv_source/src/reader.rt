@@ -1,12 +1,14 @@
 // The statement that a text spells.
 
-ghost use Rattle.std.specs.Prelude.{◌≡◌, ◌≤◌, ◌⊎◌, None, IfOk, IfSome, length, reverse};
+ghost use Rattle.std.specs.Prelude.{◌≡◌, ◌≤◌, ◌+◌, ◌*◌, ◌⊎◌, None, IfOk, IfSome, drop, length, reverse};
 ghost use Rattle.yv_statement.specs.Tree.{Tree};
 ghost use Rattle.yv_statement.specs.declared.refusal.Refusal.{Refusal};
 ghost use Rattle.yv_source.specs.Answer.{IsSpelled, IsRefused};
 ghost use Rattle.yv_source.specs.Legal.{IsLegalFile, most_bytes};
 ghost use Rattle.yv_source.specs.Order.{IsInOrder};
 ghost use Rattle.yv_source.specs.Place.{mark_len};
+ghost use Rattle.yv_source.specs.Inner.Place.{IsPastGap};
+ghost use Rattle.yv_source.specs.Inner.Scan.{before_of};
 ghost use Rattle.yv_source.specs.Inner.Ending.{Comes, ended_in, refused_by, IsChecked, IsEnd};
 
 use crate::escapes::{bad_found, is_newer};
@@ -68,7 +70,22 @@ fn read<'a>(alloc: Global, text: &'a str, start: usize) -> Result<Statement<'a>,
         };
         bad = bad_found(bad, bytes, found, place.at);
         before = before.past(found);
-        place = place.past(bytes, found);
+        let end = place.past(bytes, found);
+        place = past_gap(before, bytes, end);
+    }
+}
+
+// The place after the blanks at one, unless an unquoted text is right before it.
+fn past_gap(before: Before, bytes: &[u8], place: Place) -> Place
+    requires size { length bytes.now ≤ most_bytes }
+    requires within { place.at ≤ length bytes.now }
+    requires line { place.line ≤ place.at + 1 }
+    requires column { place.column ≤ 8 * place.at }
+    ensures { IsPastGap (before_of before) place (drop place.at bytes.now) result }
+{
+    match before {
+        Before::Unquoted => place,
+        Before::Apart | Before::Quoted => place.past_blanks(&bytes[place.at..]),
     }
 }
 

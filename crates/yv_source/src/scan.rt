@@ -4,8 +4,10 @@ ghost use Rattle.std.specs.Prelude.{◌≡◌, ◌<◌, ◌≤◌, ◌^◌, leng
 ghost use Rattle.yv_source.specs.Characters.{single_quote, asterisk, slash};
 ghost use Rattle.yv_source.specs.Pieces.{begins, begins_two, until, ends_word, up_to_quote, past_gap};
 ghost use Rattle.yv_source.specs.Pieces as Piece;
-ghost use Rattle.yv_source.specs.Inner.Scan.{ahead_in, before_of, shown, is_unquoted, unless_unquoted, closed, closed_by_two, word_or_plus, from, from_quote};
+ghost use Rattle.yv_source.specs.Inner.Scan.{ahead_in, before_of, shown, is_unquoted, unless_unquoted, closed, closed_by_two, word_or_plus, from, from_quote, begins_mark, ends_comment, pair_len};
 ghost use Rattle.yv_source.specs.Inner.Turn.{length_of, past_found};
+
+use memchr::{memchr, memchr2};
 
 /// What is before a place.
 #[derive(Clone, Copy)]
@@ -113,34 +115,33 @@ fn first_piece(before: Before, bytes: &[u8]) -> Ahead
     }
 }
 
-// How many bytes stand before the first that equals this one.
+// How many bytes there are before the first that equals this one.
 pub(crate) fn first_byte(byte: u8, bytes: &[u8]) -> usize
-    ensures { result ≡ length (until (begins byte) bytes.now) }
+    ensures value { result ≡ length (until (begins byte) bytes.now) }
+    ensures within { result ≤ length bytes.now }
 {
-    for (i, b) in bytes.iter().enumerate() {
-        if *b == byte {
-            return i;
-        }
-    }
-    bytes.len()
+    memchr(byte, bytes).unwrap_or(bytes.len())
 }
 
-// How many bytes stand before the first end of a comment.
+// How many bytes there are before the first end of a comment.
 fn comment_len(bytes: &[u8]) -> usize
     ensures { result ≡ length (until (begins_two asterisk slash) bytes.now) }
 {
-    for i in 0..bytes.len() {
-        if ends_comment(&bytes[i..]) {
-            return i;
+    let mut at = 0;
+    loop {
+        at += first_byte(b'*', &bytes[at..]);
+        if ends_comment(&bytes[at..]) {
+            return at;
         }
+        at += 1;
     }
-    bytes.len()
 }
 
+// Whether a text is at the end of a comment, or at its own.
 fn ends_comment(bytes: &[u8]) -> bool
-    ensures { result ≡ begins_two asterisk slash bytes.now }
+    ensures { result ≡ ends_comment bytes.now }
 {
-    matches!(bytes, [b'*', b'/', ..])
+    matches!(bytes, [b'*', b'/', ..] | [])
 }
 
 // How many bytes an unquoted text has.
@@ -169,21 +170,39 @@ fn ends_word(bytes: &[u8]) -> bool
     }
 }
 
-// How many bytes stand before the double quote that ends a text.
+// How many bytes there are before the double quote that ends a text.
 fn quote_len(bytes: &[u8]) -> usize
     ensures { result ≡ length (up_to_quote false bytes.now) }
 {
-    let mut escaped = false;
-    for (i, b) in bytes.iter().enumerate() {
-        if escaped {
-            escaped = false;
-        } else if *b == b'"' {
-            return i;
-        } else {
-            escaped = *b == b'\\';
+    let mut at = 0;
+    loop {
+        at += first_mark(&bytes[at..]);
+        let pair = pair_len(&bytes[at..]);
+        if pair == 0 {
+            return at;
         }
+        at += pair;
     }
-    bytes.len()
+}
+
+// How many bytes at the front of a text are a backslash and the byte that it takes with it.
+fn pair_len(bytes: &[u8]) -> usize
+    ensures value { result ≡ pair_len bytes.now }
+    ensures within { result ≤ length bytes.now }
+{
+    match bytes {
+        [b'\\'] => 1,
+        [b'\\', _, ..] => 2,
+        _ => 0,
+    }
+}
+
+// How many bytes there are before the first double quote or backslash.
+fn first_mark(bytes: &[u8]) -> usize
+    ensures value { result ≡ length (until begins_mark bytes.now) }
+    ensures within { result ≤ length bytes.now }
+{
+    memchr2(b'"', b'\\', bytes).unwrap_or(bytes.len())
 }
 
 // A double-quoted text, from behind its first quote.

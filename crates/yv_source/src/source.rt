@@ -1,9 +1,11 @@
 // A file's text.
 
-ghost use Rattle.std.specs.Prelude.{◌≡◌, ◌≤◌, length, IfSome, IfNone, IsTrue};
+ghost use Rattle.std.specs.Prelude.{◌≡◌, ◌≤◌, ◌++◌, [], length, take, drop, encode_utf8, IfSome, IfNone, IsTrue};
+ghost use Rattle.std.specs.Char.{len_utf8};
 ghost use Rattle.std.specs.List.{list_all};
 ghost use Rattle.std.specs.Str.{chars};
 ghost use Rattle.yv_source.specs.Legal.{most_bytes, is_legal, IsIllegalAt};
+ghost use Rattle.yv_source.specs.Inner.Plain.{is_common};
 
 use crate::fault::refuse;
 use std::alloc::Global;
@@ -84,19 +86,52 @@ impl Source {
     }
 }
 
-// The offset of the first character that isn't legal.
+// The offset of the first character that isn't legal. Only characters that aren't common are decoded.
 fn first_illegal(text: &str) -> Option<usize>
     requires { length text.now ≤ most_bytes }
     ensures found { IfSome result (IsIllegalAt text.now) }
     ensures within { IfSome result (λ at. at ≤ length text.now) }
     ensures none { IfNone result (IsTrue (list_all is_legal (chars text.now))) }
 {
+    let bytes = text.as_bytes();
     let mut at = 0;
-    for c in text.chars() {
+    loop {
+        at += common_len(&bytes[at..]);
+        let Some(c) = front_of(&text[at..]) else {
+            return None;
+        };
         if !is_legal(c) {
             return Some(at);
         }
         at += c.len_utf8();
     }
-    None
+}
+
+// How many common characters a text begins with.
+fn common_len(bytes: &[u8]) -> usize
+    ensures within { result ≤ length bytes.now }
+    ensures common { IsTrue (list_all is_common (take result bytes.now)) }
+{
+    for (i, b) in bytes.iter().enumerate() {
+        if !is_common(*b) {
+            return i;
+        }
+    }
+    bytes.len()
+}
+
+// Whether a byte is a character that almost all texts consist of: one of ASCII that isn't a control, or a tab or a part
+// of a line break.
+fn is_common(byte: u8) -> bool
+    ensures { result ≡ is_common byte }
+{
+    matches!(byte, b' '..=b'~' | b'\t' | b'\n' | b'\r')
+}
+
+// The character at a text's front.
+pub(crate) fn front_of(text: &str) -> Option<char>
+    ensures none { IfNone result (text.now ≡ []) }
+    ensures some { IfSome result (λ c. text.now ≡ encode_utf8 c ++ drop (len_utf8 c) text.now) }
+{
+    text.chars().next()
 }

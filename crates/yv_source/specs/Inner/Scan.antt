@@ -1,5 +1,5 @@
 -- The first piece of a text, as the scanner finds it; cited by private clauses alone. What may stand at a place is Pieces'.
-use Rattle.std.specs.Prelude.{ℕ, Bool, true, false, ◌==◌, ◌&&◌, cond, List, [], ◌∷◌, length, Option, Some, None}
+use Rattle.std.specs.Prelude.{ℕ, Bool, true, false, ◌==◌, ◌&&◌, ◌||◌, cond, List, [], ◌∷◌, length, Option, Some, None}
 use Rattle.yv_source.specs.Characters.{line_feed, double_quote, single_quote, asterisk, plus_sign, slash, semicolon, backslash, opening_brace, closing_brace}
 use Rattle.yv_source.specs.Pieces.{Piece, Blank, LineComment, BlockComment, Word, Single, Double, Semicolon, Open, Close, Plus, is_blank, begins, begins_two, until, ends_word, up_to_quote, Before, Apart, Unquoted, Quoted}
 use Rattle.yv_source.specs.declared.scan.Ahead.{Ahead}
@@ -93,3 +93,19 @@ abbrev pub before_of : Left → Before
 before_of left.Apart = Apart
 before_of left.Unquoted = Unquoted
 before_of left.Quoted = Quoted
+
+-- whether a text begins with a double quote or a backslash
+abbrev pub begins_mark : List ℕ → Bool
+begins_mark [] = false
+begins_mark (b ∷ rest) = b == double_quote || b == backslash
+
+-- whether a text is at the end of a comment, or at its own
+abbrev pub ends_comment : List ℕ → Bool
+ends_comment [] = true
+ends_comment (b ∷ rest) = b == asterisk && begins slash rest
+
+-- how many bytes at the front of a text are a backslash and the byte that it takes with it
+abbrev pub pair_len : List ℕ → ℕ
+pair_len [] = 0
+pair_len (b ∷ []) = cond (b == backslash) 1 0
+pair_len (b ∷ c ∷ rest) = cond (b == backslash) 2 0

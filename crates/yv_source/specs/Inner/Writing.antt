@@ -1,6 +1,7 @@
--- The states of the writer of a double-quoted text, one character at a time; cited by private clauses alone. What such a
+-- The states of the writer of a double-quoted text; cited by private clauses alone. What such a
 -- text says is Quoted's.
-use Rattle.std.specs.Prelude.{ℕ, ◌-◌, zero, suc, Bool, true, false, ◌==◌, ◌||◌, cond, List, [], ◌∷◌, ◌++◌}
+use Rattle.std.specs.Prelude.{◌≡◌, ℕ, ◌-◌, zero, suc, Bool, true, false, not, ◌==◌, ◌&&◌, ◌||◌, cond, IsTrue, List, [], ◌∷◌, ◌++◌, length, ◌⊎◌}
+use Rattle.std.specs.List.{list_all}
 use Rattle.std.specs.Char.{encode_utf8}
 use Rattle.yv_source.specs.Characters.{tab, line_feed, carriage_return, space, double_quote, backslash, letter_n, letter_t}
 use Rattle.yv_source.specs.Quoted.{is_gap}
@@ -96,6 +97,25 @@ all_of w = w.out ++ cond w.escaped (encode_utf8 backslash) []
 abbrev pub fresh : Written
 fresh = record { out = []; gap = []; cr = false; escaped = false; left = 0 }
 
-abbrev pub take_all : ℕ → List ℕ → Written → Written
-take_all indent [] w = w
-take_all indent (c ∷ rest) w = take_all indent rest (take_in indent c w)
+-- a byte that ends no line and begins no escape
+abbrev pub is_in_run : ℕ → Bool
+is_in_run b = not (b == line_feed || b == carriage_return || b == backslash)
+
+-- whether a text ends in something else than a space or a tab, or is empty
+abbrev pub ends_well : List ℕ → Bool
+ends_well [] = true
+ends_well (b ∷ []) = not (is_gap b)
+ends_well (b ∷ c ∷ rest) = ends_well (c ∷ rest)
+
+-- whether no character waits, and the line's start is stripped
+abbrev pub is_at_rest : Written → Bool
+is_at_rest w = (((w.left == 0) && (length w.gap == 0)) && not w.cr) && not w.escaped
+
+abbrev pub with_run : List ℕ → Written → Written
+with_run run w = record w { out = w.out ++ run }
+
+-- nothing is written, or at rest a run that stays as it is
+abbrev pub Runs : Written → List ℕ → Written → Type 0
+Runs w run x =
+    ((run ≡ []) × (x ≡ w))
+    ⊎ (IsTrue (is_at_rest w) × IsTrue (list_all is_in_run run) × IsTrue (ends_well run) × (x ≡ with_run run w))

@@ -1,12 +1,8 @@
-use Rattle.std.proofs.Common.{◌≡◌, ℕ, ◌+◌, List, sym, ap, ◌∙◌}
+use Rattle.std.proofs.Common.{◌≡◌, ℕ, ◌+◌, List, sym, ap, ◌∙◌, subst}
 use Rattle.std.specs.Prelude.{IfOk, string_bytes, String, Result, Ok, Err}
 use Rattle.yv_source.specs.Quoted.{quoted}
-use Rattle.std.specs.Str.{chars}
-use Rattle.std.proofs.lemmas.Iterator.{YieldsList-from_chars}
-use Rattle.std.proofs.lemmas.List.{map-id}
-use Rattle.std.proofs.lemmas.Iterator.Consumers.{YieldsList-end}
-use Rattle.yv_source.specs.Inner.Writing.{Written, take_in, take_all, trail, all_of, fresh}
-use Rattle.yv_source.proofs.Writing.{take_all-append, writes}
+use Rattle.yv_source.specs.Inner.Writing.{Written, all_of}
+use Rattle.yv_source.proofs.Runs.{WritesTo, writes_boundary, writes_run, writes_char, writes_all}
 use Rattle.yv_source.proofs.Stripping.{stripped_pairs}
 use Rattle.yv_source.proofs.quoted.quoted.Goals as goal
 
@@ -14,24 +10,30 @@ said_by : {E Z : Type 0} (r : Result (String Z) E) (w : Written) (column : ℕ) 
 said_by (Ok s) w column text h e = h ∙ e
 said_by (Err x) w column text h e = tt
 
-pub loop-c-preserved : goal.loop-c-preserved
-loop-c-preserved c =
-    c.in_ok-take_in.ensures ∙ ap (take_in (c.args.column + 1) c.in-Some.c) c.loop-c.invariant ∙ sym (take_all-append (c.args.column + 1) c.loop-c.yielded c.in-Some.c fresh)
+pub range_from-requires : goal.range_from-requires
+range_from-requires c = λ some. writes_boundary c.loop-writer.invariant
 
-pub returns-clause-said : goal.returns-clause-said
-returns-clause-said c =
-    let t = YieldsList-end (YieldsList-from_chars c.args.text.now c.utf8.text cc) c.loop-c.yielded _ c.loop-c.yielded_by _ _ c.in-None.is c.next.ensures.steps in
-    let all : c.loop-c.yielded ≡ chars c.args.text.now = sym (map-id c.loop-c.yielded) ∙ t.0 in
-    let whole : c.trail.new.self ≡ trail (take_all (c.args.column + 1) (chars c.args.text.now) fresh) =
-    c.in_ok-trail.ensures ∙ ap trail (c.loop-c.invariant ∙ ap (λ (l : List ℕ). take_all (c.args.column + 1) l fresh) all)
-    in
-    said_by c.end.result c.trail.new.self c.args.column c.args.text.now c.end.ensures (ap all_of whole ∙ writes c.args.column c.args.text.now)
+pub returns-in_err-at-clause-pairs : goal.returns-in_err-at-clause-pairs
+returns-in_err-at-clause-pairs c = stripped_pairs c.args.column c.args.text.now c.utf8.text
 
-pub returns-clause-pairs : goal.returns-clause-pairs
-returns-clause-pairs c = stripped_pairs c.args.column c.args.text.now c.utf8.text
+pub returns-in_err-trail-clause-pairs : goal.returns-in_err-trail-clause-pairs
+returns-in_err-trail-clause-pairs c = stripped_pairs c.args.column c.args.text.now c.utf8.text
+
+pub returns-in_default-clause-pairs : goal.returns-in_default-clause-pairs
+returns-in_default-clause-pairs c = stripped_pairs c.args.column c.args.text.now c.utf8.text
 
 pub returns-in_err-take_in-clause-pairs : goal.returns-in_err-take_in-clause-pairs
 returns-in_err-take_in-clause-pairs c = stripped_pairs c.args.column c.args.text.now c.utf8.text
 
-pub returns-in_err-trail-clause-pairs : goal.returns-in_err-trail-clause-pairs
-returns-in_err-trail-clause-pairs c = stripped_pairs c.args.column c.args.text.now c.utf8.text
+pub returns-in_default-clause-said : goal.returns-in_default-clause-said
+returns-in_default-clause-said c =
+    let here = writes_run c.loop-writer.invariant _ c.in_ok-at.field-0 c.take_run.new.self c.range_from.ensures.value c.in_ok-at.ensures.boundary c.in_ok-at.ensures.run in
+    let all = writes_all c.args.column here (sym c.range_from-in-loop-writer.ensures.value ∙ c.in_default.ensures.none) in
+    said_by c.end.result c.trail.new.self c.args.column c.args.text.now c.end.ensures (ap all_of c.in_ok-trail.ensures ∙ all)
+
+pub loop-writer-preserved : goal.loop-writer-preserved
+loop-writer-preserved c =
+    let here = writes_run c.loop-writer.invariant _ c.in_ok-at.field-0 c.take_run.new.self c.range_from.ensures.value c.in_ok-at.ensures.boundary c.in_ok-at.ensures.run in
+    let next = writes_char here c.in-Some.c _ (sym c.range_from-in-loop-writer.ensures.value ∙ c.in-Some.ensures.some) in
+    let P : ℕ × Written → Type 0 = λ x. WritesTo (c.args.column + 1) c.args.text.now (c.loop-writer.at + c.in_ok-at.field-0 + x.0) x.1 in
+    subst P (λ i. (sym c.len_utf8.ensures.value i, sym c.in_ok-take_in.ensures i)) next

@@ -1,6 +1,9 @@
-use Rattle.std.proofs.Common.{◌≡◌}
-use Rattle.yv_source.specs.Inner.Writing.{take_all, fresh}
+use Rattle.std.proofs.Common.{◌-◌, length}
+use Rattle.yv_source.proofs.Runs.{WritesTo}
 use Rattle.yv_source.proofs.quoted.quoted.Given as goal
 
-abbrev pub invariant-loop-c : goal.invariant-loop-c
-invariant-loop-c l = l.writer ≡ take_all l.indent l.yielded fresh
+abbrev pub invariant-loop-writer : goal.invariant-loop-writer
+invariant-loop-writer l = WritesTo l.indent l.text l.at l.writer
+
+abbrev pub decreases-loop-writer : goal.decreases-loop-writer
+decreases-loop-writer l = length l.text - l.at

@@ -37,24 +37,51 @@ returns-in-Err c =
 pub bad_found-bad-requires-clause-found : goal.bad_found-bad-requires-clause-found
 bad_found-bad-requires-clause-found c = loop.fits_in c.as_bytes-bytes.ensures.value c.loop-stack.invariant c.look_ahead.ensures c.in-Piece.is
 
-pub past-place-requires-clause-column : goal.past-place-requires-clause-column
-past-place-requires-clause-column c = loop.column_bound c.as_bytes-bytes.ensures.value c.loop-stack.invariant
+pub past-end-requires-clause-column : goal.past-end-requires-clause-column
+past-end-requires-clause-column c = loop.column_bound c.as_bytes-bytes.ensures.value c.loop-stack.invariant
 
-pub past-place-requires-clause-line : goal.past-place-requires-clause-line
-past-place-requires-clause-line c = loop.line_bound c.as_bytes-bytes.ensures.value c.loop-stack.invariant
+pub past-end-requires-clause-line : goal.past-end-requires-clause-line
+past-end-requires-clause-line c = loop.line_bound c.as_bytes-bytes.ensures.value c.loop-stack.invariant
+
+pub past_gap-place-requires-clause-within : goal.past_gap-place-requires-clause-within
+past_gap-place-requires-clause-within c =
+    let end = loop.read_on c.as_bytes-bytes.ensures.value c.loop-stack.invariant c.look_ahead.ensures c.in-Piece.is
+    c.past-end.result _ _ (reverse c.turn.new.stack.items) _ c.past-end.ensures c.bad_found-bad.ensures.place c.bad_found-bad.ensures.within c.past-before.ensures c.in-Ok.ensures
+    in
+    loop.within c.as_bytes-bytes.ensures.value end
+
+pub past_gap-place-requires-clause-line : goal.past_gap-place-requires-clause-line
+past_gap-place-requires-clause-line c =
+    let end = loop.read_on c.as_bytes-bytes.ensures.value c.loop-stack.invariant c.look_ahead.ensures c.in-Piece.is
+    c.past-end.result _ _ (reverse c.turn.new.stack.items) _ c.past-end.ensures c.bad_found-bad.ensures.place c.bad_found-bad.ensures.within c.past-before.ensures c.in-Ok.ensures
+    in
+    loop.line_bound c.as_bytes-bytes.ensures.value end
+
+pub past_gap-place-requires-clause-column : goal.past_gap-place-requires-clause-column
+past_gap-place-requires-clause-column c =
+    let end = loop.read_on c.as_bytes-bytes.ensures.value c.loop-stack.invariant c.look_ahead.ensures c.in-Piece.is
+    c.past-end.result _ _ (reverse c.turn.new.stack.items) _ c.past-end.ensures c.bad_found-bad.ensures.place c.bad_found-bad.ensures.within c.past-before.ensures c.in-Ok.ensures
+    in
+    loop.column_bound c.as_bytes-bytes.ensures.value end
 
 pub loop-stack-smaller : goal.loop-stack-smaller
 loop-stack-smaller c =
+    let end = loop.read_on c.as_bytes-bytes.ensures.value c.loop-stack.invariant c.look_ahead.ensures c.in-Piece.is
+    c.past-end.result _ _ (reverse c.turn.new.stack.items) _ c.past-end.ensures c.bad_found-bad.ensures.place c.bad_found-bad.ensures.within c.past-before.ensures c.in-Ok.ensures
+    in
     let f = loop.fits_in c.as_bytes-bytes.ensures.value c.loop-stack.invariant c.look_ahead.ensures c.in-Piece.is in
     let g = loop.goes_on c.as_bytes-bytes.ensures.value c.loop-stack.invariant c.look_ahead.ensures c.in-Piece.is in
     let e = ap length c.as_bytes-bytes.ensures.value in
-    let p = loop.passed_at c.as_bytes-bytes.ensures.value c.loop-stack.invariant c.look_ahead.ensures c.in-Piece.is _ c.past-place.ensures in
-    omega (arith, f, g, e, p)
+    let p = loop.passed_at c.as_bytes-bytes.ensures.value c.loop-stack.invariant c.look_ahead.ensures c.in-Piece.is _ c.past-end.ensures in
+    let q = loop.gap_read _ c.as_bytes-bytes.ensures.value end _ c.past_gap-place.ensures in
+    omega (arith, f, g, e, p, q.1)
 
 pub loop-stack-preserved : goal.loop-stack-preserved
 loop-stack-preserved c =
-    loop.read_on c.as_bytes-bytes.ensures.value c.loop-stack.invariant c.look_ahead.ensures c.in-Piece.is
-    _ _ _ (reverse c.turn.new.stack.items) _ c.past-place.ensures c.bad_found-bad.ensures.place c.bad_found-bad.ensures.within c.past-before.ensures c.in-Ok.ensures
+    let end = loop.read_on c.as_bytes-bytes.ensures.value c.loop-stack.invariant c.look_ahead.ensures c.in-Piece.is
+    c.past-end.result _ _ (reverse c.turn.new.stack.items) _ c.past-end.ensures c.bad_found-bad.ensures.place c.bad_found-bad.ensures.within c.past-before.ensures c.in-Ok.ensures
+    in
+    (loop.gap_read _ c.as_bytes-bytes.ensures.value end _ c.past_gap-place.ensures).0
 
-pub past-place-requires-clause-within : goal.past-place-requires-clause-within
-past-place-requires-clause-within c = loop.fits_in c.as_bytes-bytes.ensures.value c.loop-stack.invariant c.look_ahead.ensures c.in-Piece.is
+pub past-end-requires-clause-within : goal.past-end-requires-clause-within
+past-end-requires-clause-within c = loop.fits_in c.as_bytes-bytes.ensures.value c.loop-stack.invariant c.look_ahead.ensures c.in-Piece.is

@@ -1,6 +1,10 @@
-use Rattle.std.proofs.Common.{◌≡◌, length, ◌+◌, drop}
-use Rattle.yv_source.specs.Pieces.{begins_two, until}
+use Rattle.std.proofs.Common.{◌-◌, ◌+◌, length}
+use Rattle.yv_source.specs.Pieces.{begins_two}
+use Rattle.yv_source.proofs.Until.{SearchedTo}
 use Rattle.yv_source.proofs.scan.comment_len.Given as goal
 
-abbrev pub invariant-loop-i : goal.invariant-loop-i
-invariant-loop-i l = length (until (begins_two 42 47) l.bytes) ≡ l.i + length (until (begins_two 42 47) (drop l.i l.bytes))
+abbrev pub invariant-loop-at : goal.invariant-loop-at
+invariant-loop-at l = SearchedTo (begins_two 42 47) l.bytes l.at
+
+abbrev pub decreases-loop-at : goal.decreases-loop-at
+decreases-loop-at l = length l.bytes + 1 - l.at

@@ -1,16 +1,18 @@
-use Rattle.std.proofs.Common.{◌≡◌, ◌+◌, Bool, false, sym, subst, length, drop}
-use Rattle.yv_source.specs.Pieces.{up_to_quote}
-use Rattle.yv_source.proofs.Until.{give_quoted-kept, give_quoted-kept_escaped, not_equal}
+use Rattle.std.proofs.Common.{◌+◌}
+use Rattle.std.proofs.lemmas.List.{take_rest}
+use Rattle.yv_source.proofs.Until.{quoted_on, quoted_ends, quoted_past}
 use Rattle.yv_source.proofs.scan.quote_len.Goals as goal
-use Rattle.yv_source.proofs.scan.quote_len.Goals.{then-escaped, else-escaped+else-b-eq34}
 
-pub loop-i-preserved : goal.loop-i-preserved
-loop-i-preserved c =
+pub returns-then-pair-eq0 : goal.returns-then-pair-eq0
+returns-then-pair-eq0 c =
     let xs = c.args.bytes.now in
-    let i = c.loop-i.i in
-    let At : Bool → Type 0 = λ e. length (up_to_quote false xs) ≡ i + length (up_to_quote e (drop i xs)) in
-    let Next : Bool → Type 0 = λ e. length (up_to_quote false xs) ≡ i + 1 + length (up_to_quote e (drop (i + 1) xs)) in
-    elim c.if-escaped.branch [
-      | then-escaped w ↦ subst Next (sym w.escaped-is) (give_quoted-kept_escaped xs i c.loop-i-test.true (subst At w.if-escaped.true c.loop-i.invariant))
-      | else-escaped+else-b-eq34 w ↦ subst Next (sym w.escaped-is) (give_quoted-kept xs i c.loop-i-test.true (not_equal _ _ w.if-b-eq34.false) (subst At w.if-escaped.false c.loop-i.invariant))
-    ]
+    let at = c.loop-at.at + c.first_mark-at.result in
+    let here = quoted_on xs _ c.loop-at.at c.first_mark-at.result c.loop-at.invariant (take_rest xs c.loop-at.at) c.first_mark-at.ensures.value in
+    quoted_ends xs _ at c.pair_len-pair.result here (take_rest xs at) c.pair_len-pair.ensures.value c.if-pair-eq0.true
+
+pub loop-at-preserved : goal.loop-at-preserved
+loop-at-preserved c =
+    let xs = c.args.bytes.now in
+    let at = c.loop-at.at + c.first_mark-at.result in
+    let here = quoted_on xs _ c.loop-at.at c.first_mark-at.result c.loop-at.invariant (take_rest xs c.loop-at.at) c.first_mark-at.ensures.value in
+    quoted_past xs _ at c.pair_len-pair.result here (take_rest xs at) c.pair_len-pair.ensures.value c.if-pair-eq0.false

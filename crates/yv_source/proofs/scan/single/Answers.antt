@@ -9,14 +9,14 @@ use Rattle.yv_source.proofs.scan.single.Goals as goal
 
 pub returns-then-len-rest : goal.returns-then-len-rest
 returns-then-len-rest c =
-    let is : length (until (begins 39) c.args.rest.now) ≡ length c.args.rest.now = sym c.first_byte-len.ensures ∙ c.if-len-rest.true in
+    let is : length (until (begins 39) c.args.rest.now) ≡ length c.args.rest.now = sym c.first_byte-len.ensures.value ∙ c.if-len-rest.true in
     sym (ap (λ (f : First). shown (unless_unquoted (before_of c.args.before) f)) (closed_none (Single (until (begins 39) c.args.rest.now)) (until (begins 39) c.args.rest.now) (from (begins 39) c.args.rest.now) c.args.rest.now (until_from (begins 39) c.args.rest.now) is)
     ∙ ap shown (unless_none (before_of c.args.before)))
 
 pub returns-else-len-rest : goal.returns-else-len-rest
 returns-else-len-rest c =
-    let other : length (until (begins 39) c.args.rest.now) ≢ length c.args.rest.now = λ e. c.if-len-rest.false (c.first_byte-len.ensures ∙ e) in
+    let other : length (until (begins 39) c.args.rest.now) ≢ length c.args.rest.now = λ e. c.if-len-rest.false (c.first_byte-len.ensures.value ∙ e) in
     let some = closed_some (Single (until (begins 39) c.args.rest.now)) (until (begins 39) c.args.rest.now) (from (begins 39) c.args.rest.now) c.args.rest.now (until_from (begins 39) c.args.rest.now) other in
     let apart : is_unquoted (before_of c.args.before) ≡ false = sym c.is_unquoted.ensures ∙ c.if-is_unquoted.false in
-    ap (λ n. ahead.Piece (found.Single n)) c.first_byte-len.ensures
+    ap (λ n. ahead.Piece (found.Single n)) c.first_byte-len.ensures.value
     ∙ sym (ap shown (unless_apart (before_of c.args.before) (closed (Single (until (begins 39) c.args.rest.now)) (from (begins 39) c.args.rest.now)) apart) ∙ ap shown some.1)
