@@ -228,6 +228,13 @@ module _ (typing : Typing) (files : Files) where
     types_stay said draft f features is begun told changes =
         ap (λ (d : Defined). d.types) (changed_is draft f (begun_is said draft features is begun told) changes)
 
+    -- nor the default of its type
+    pub default_stays : (said draft f : Defined) (features : List ℕ) → said ≡ first → draft ≡ record said { features = features }
+        → features ≡ with_expressions said.features (all_expressions files refines) → f ≡ changed_by files refines draft
+        → f.type_default ≡ (defined typing files from).type_default
+    default_stays said draft f features is begun told changes =
+        ap (λ (d : Defined). d.type_default) (changed_is draft f (begun_is said draft features is begun told) changes)
+
     values_stay : give_default files refines ≡ false → is_swayed first left ≡ false → values ≡ defaults_of files left
     values_stay none still =
         let d : Defined = defined typing files from in

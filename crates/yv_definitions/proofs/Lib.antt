@@ -4,5 +4,6 @@ pub mod Firsts
 pub mod Later
 pub mod Listing
 pub mod Separating
+pub mod Shared
 pub mod Spacing
 pub mod TypeKinds

@@ -5,6 +5,7 @@ pub mod Defined
 pub mod Known
 pub mod InnerKept
 pub mod InnerRefined
+pub mod InnerShared
 pub mod InnerTexts
 pub mod InnerChanged
 pub mod InnerNamed

@@ -1,6 +1,6 @@
 //! What the numbered statements of files say of the nodes that they define.
-ghost use Rattle.std.specs.Prelude.{◌≡◌, ◌++◌, ℕ, List, [], map, slice_get, IfOk, OnOk, string_bytes};
-ghost use Rattle.std.specs.Option.{option_map};
+ghost use Rattle.std.specs.Prelude.{◌≡◌, ◌++◌, ℕ, List, [], map, slice_get, IfOk, IfSome, OnOk, string_bytes};
+ghost use Rattle.std.specs.Option.{option_copied, option_map};
 ghost use Rattle.std.specs.Rc.{rc_str_bytes};
 ghost use Rattle.yv_statement.specs.Tree.{trees};
 ghost use Rattle.yv_rows.specs.Lent.{lent_in};
@@ -11,10 +11,10 @@ ghost use Rattle.yv_definitions.specs.Kinds.{typing_of};
 ghost use Rattle.yv_conform.specs.declared.keyword.Keyword.TheVariants as word;
 ghost use Rattle.yv_stated.specs.Statements.{file_at, first_of, statement_at};
 ghost use Rattle.yv_definitions.specs.Features.{all_expressions, expressions, with_expressions};
-ghost use Rattle.yv_defaults.specs.Scopes.{AreScopes};
 ghost use Rattle.yv_definitions.specs.Defined.{defined, defined_at, referring, referring_by, refined, unwritten};
 ghost use Rattle.yv_definitions.specs.Values.{with_defaults};
 ghost use Rattle.yv_definitions.specs.InnerKept.{AreKept, gives_features, has_features};
+ghost use Rattle.yv_definitions.specs.InnerShared.{IsByType, IsReader};
 ghost use Rattle.yv_definitions.specs.InnerChanged.{change_at, changed, changed_by};
 ghost use Rattle.yv_definitions.specs.InnerRefined.{give_default, gives_default, is_moved, is_swayed};
 
@@ -22,11 +22,11 @@ use crate::features::push_expressions;
 use crate::keeping::{Kept, changes_at, kept_at, stated_at, types_at, unwritten_at};
 use crate::nothing::Nothing;
 use crate::numbered::{file_at, statement_at};
+use crate::reader::DefaultReader;
 use crate::values::defaults_of;
 use std::alloc::{AllocError, Global};
-use std::rc::RcStr;
+use std::rc::{Rc, RcStr};
 use yv_conform::Keyword;
-use yv_defaults::scopes_of;
 use yv_expansion::Origin;
 use yv_leaf_paths::LeafPaths;
 use yv_leafref_types::Referring;
@@ -34,7 +34,7 @@ use yv_properties::{Definition, DefinitionDraft, NodeKind};
 use yv_rows::Rows;
 use yv_stated::{first_of, has};
 use yv_types::Types;
-use yv_values::{Matchers, PlainType, Scope};
+use yv_values::{Defaults, Matchers, PlainType};
 
 /// What the numbered statements of files say of the nodes that they define, each read once. Contracts see the files, and
 /// what their `type` statements mean.
@@ -45,13 +45,13 @@ pub struct Definitions<'r, 'a, 'b> {
     types: &'r Types,
     // By which the paths in each file are read.
     paths: LeafPaths<'a>,
-    // By which the texts of each file are read.
-    scopes: Vec<Scope>,
+    // By which defaults are read.
+    reader: DefaultReader,
     nothing: Nothing,
     // Of each statement, by its number.
     kept: Vec<Kept>,
     ghost paths_so: { AreLeafPaths (lent_in rows.now) paths },
-    ghost scopes_so: { AreScopes (lent_in rows.now) scopes.items },
+    ghost reader_so: { IsReader types.now (lent_in rows.now) reader },
     ghost kept_so: { AreKept (typing_of types.now) (lent_in rows.now) kept.items },
 }
 
@@ -68,9 +68,9 @@ impl<'r, 'a, 'b> Definitions<'r, 'a, 'b> {
         ensures files { IfOk result (λ definitions. files_in definitions ≡ lent_in rows.now) }
     {
         let paths = LeafPaths::read(alloc, rows)?;
-        let scopes = scopes_of(alloc, rows)?;
         let nothing = Nothing::new(alloc)?;
         let mut matchers = Matchers::new(alloc);
+        let reader = DefaultReader::read(alloc, rows, types, &mut matchers)?;
         let count = rows.entries().len();
         let mut kept = Vec::with_capacity(alloc, count)?;
         for number in 0..count {
@@ -80,7 +80,7 @@ impl<'r, 'a, 'b> Definitions<'r, 'a, 'b> {
                 rows,
                 types,
                 &paths,
-                &scopes,
+                &reader,
                 &mut matchers,
                 number,
             )?)?;
@@ -90,7 +90,7 @@ impl<'r, 'a, 'b> Definitions<'r, 'a, 'b> {
             rows,
             types,
             paths,
-            scopes,
+            reader,
             nothing,
             kept,
         })
@@ -127,12 +127,14 @@ impl<'r, 'a, 'b> Definitions<'r, 'a, 'b> {
         let mut changed = self.changed(draft, refines)?;
         if self.is_moved(said, &changed, refines) {
             let types = self.types_of(origin);
+            let kept = self.values_of(origin);
             changed.defaults = defaults_of(
                 self.alloc,
                 &self.nothing,
-                &self.scopes,
+                &self.reader.scopes,
                 matchers,
                 types,
+                kept,
                 &changed,
             )?;
         }
@@ -166,6 +168,17 @@ impl<'r, 'a, 'b> Definitions<'r, 'a, 'b> {
         match origin {
             Origin::Statement(number) => types_at(self.rows, self.types, number),
             _ => &[],
+        }
+    }
+
+    // What is kept of the values that a node of this origin has by the default of its type.
+    fn values_of(&self, origin: Origin) -> Option<&Rc<Defaults>>
+        ensures { IfSome (option_copied result) (λ values. IsByType (files_in self.now)
+            (defined (typing_in self.now) (files_in self.now) origin) values.value) }
+    {
+        match origin {
+            Origin::Statement(number) => self.reader.values_at(self.rows, self.types, number),
+            _ => None,
         }
     }
 
@@ -205,7 +218,7 @@ impl<'r, 'a, 'b> Definitions<'r, 'a, 'b> {
                 self.rows,
                 self.types,
                 &self.paths,
-                &self.scopes,
+                &self.reader,
                 &mut Matchers::none(self.alloc),
                 number,
             ),

@@ -4,18 +4,19 @@ ghost use Rattle.yv_rows.specs.Lent.{lent_in};
 ghost use Rattle.yv_leaf_paths.specs.Known.{AreLeafPaths};
 ghost use Rattle.yv_values.specs.Types.{plain_of};
 ghost use Rattle.yv_properties.specs.declared.kind.NodeKind.{NodeKind};
-ghost use Rattle.yv_defaults.specs.Scopes.{AreScopes};
 ghost use Rattle.yv_definitions.specs.Kinds.{typing_of};
 ghost use Rattle.yv_stated.specs.Statements.{file_at, statement_at};
 ghost use Rattle.yv_definitions.specs.Defined.{defined_at, unwritten};
 ghost use Rattle.yv_definitions.specs.Values.{with_defaults};
 ghost use Rattle.yv_definitions.specs.InnerChanged.{change_at};
 ghost use Rattle.yv_definitions.specs.InnerKept.{IsKept};
+ghost use Rattle.yv_definitions.specs.InnerShared.{IsReader};
 
 use crate::changes::Changes;
 use crate::keys::BlockPaths;
 use crate::nothing::Nothing;
 use crate::numbered::{file_at, statement_at};
+use crate::reader::DefaultReader;
 use crate::reading::{blank, define, lasting_types, node_kind, node_name};
 use crate::values::defaults_of;
 use std::alloc::{AllocError, Global};
@@ -26,7 +27,7 @@ use yv_properties::{Definition, DefinitionDraft, NodeKind};
 use yv_rows::Rows;
 use yv_statement::Statement;
 use yv_types::Types;
-use yv_values::{Matchers, PlainType, Scope};
+use yv_values::{Matchers, PlainType};
 
 /// What is kept of a statement.
 #[derive(Drop)]
@@ -74,24 +75,33 @@ pub(crate) fn types_at<'t>(rows: &Rows<'_, '_>, types: &'t Types, number: usize)
     }
 }
 
-/// What the numbered statement says of the node that it defines, these being the scopes of the files. The matchers are kept of the types'
-/// patterns from one default to the next.
+/// What the numbered statement says of the node that it defines. The matchers are kept of the types' patterns from one default to the
+/// next.
 pub(crate) fn stated_at<'a, 't>(
     alloc: Global,
     nothing: &Nothing,
     rows: &Rows<'a, '_>,
     types: &'t Types,
     paths: &LeafPaths<'a>,
-    scopes: &[Scope],
+    reader: &DefaultReader,
     matchers: &mut Matchers<'t>,
     number: usize,
 ) -> Result<Definition, AllocError>
-    ensures { AreLeafPaths (lent_in rows.now) paths.now → AreScopes (lent_in rows.now) scopes.now → IfOk result (λ d. d
+    ensures { AreLeafPaths (lent_in rows.now) paths.now → IsReader types.now (lent_in rows.now) reader.now → IfOk result (λ d. d
         ≡ with_defaults (lent_in rows.now) (defined_at (typing_of types.now) (lent_in rows.now) number)) }
 {
     let mut draft = define_at(alloc, nothing, rows, types, paths, number)?;
     let lasting = types_at(rows, types, number);
-    draft.defaults = defaults_of(alloc, nothing, scopes, matchers, lasting, &draft)?;
+    let kept = reader.values_at(rows, types, number);
+    draft.defaults = defaults_of(
+        alloc,
+        nothing,
+        &reader.scopes,
+        matchers,
+        lasting,
+        kept,
+        &draft,
+    )?;
     draft.finish(alloc)
 }
 
@@ -147,15 +157,15 @@ pub(crate) fn kept_at<'a, 't>(
     rows: &Rows<'a, '_>,
     types: &'t Types,
     paths: &LeafPaths<'a>,
-    scopes: &[Scope],
+    reader: &DefaultReader,
     matchers: &mut Matchers<'t>,
     number: usize,
 ) -> Result<Kept, AllocError>
-    ensures { AreLeafPaths (lent_in rows.now) paths.now → AreScopes (lent_in rows.now) scopes.now → IfOk result (λ kept. IsKept (typing_of types.now) (lent_in rows.now) number kept) }
+    ensures { AreLeafPaths (lent_in rows.now) paths.now → IsReader types.now (lent_in rows.now) reader.now → IfOk result (λ kept. IsKept (typing_of types.now) (lent_in rows.now) number kept) }
 {
     let keyword = keyword_at(rows, number);
     if node_kind(keyword).is_some() {
-        let node = stated_at(alloc, nothing, rows, types, paths, scopes, matchers, number)?;
+        let node = stated_at(alloc, nothing, rows, types, paths, reader, matchers, number)?;
         Ok(Kept::Node(node))
     } else if keyword == Keyword::Refine {
         let changes = changes_at(alloc, nothing, rows, number)?;

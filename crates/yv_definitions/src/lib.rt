@@ -9,6 +9,7 @@ mod keys;
 pub mod laws;
 mod nothing;
 mod numbered;
+mod reader;
 mod reading;
 mod values;
 

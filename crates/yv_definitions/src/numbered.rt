@@ -2,9 +2,12 @@
 ghost use Rattle.std.specs.Prelude.{◌≡◌};
 ghost use Rattle.std.specs.Option.{option_map, unwrap_or};
 ghost use Rattle.yv_rows.specs.Lent.{lent_in};
-ghost use Rattle.yv_stated.specs.Statements.{file_at, no_statement, statement_at};
+ghost use Rattle.yv_conform.specs.declared.keyword.Keyword.TheVariants as word;
+ghost use Rattle.yv_stated.specs.Statements.{file_at, first_of, no_statement, statement_at};
 
+use yv_conform::Keyword;
 use yv_rows::Rows;
+use yv_stated::first_of;
 use yv_statement::Statement;
 
 /// The numbered statement.
@@ -22,4 +25,11 @@ pub(crate) fn file_at(rows: &Rows<'_, '_>, number: usize) -> u32
         Some(entry) => entry.file,
         None => 0,
     }
+}
+
+/// The `type` statement in the block of the numbered statement: the first, if there are several.
+pub(crate) fn type_at<'a, 'b>(rows: &Rows<'a, 'b>, number: usize) -> Option<&'a Statement<'b>>
+    ensures { option_map (λ found. found.now) result ≡ first_of word.Type (statement_at (lent_in rows.now) number).children }
+{
+    first_of(Keyword::Type, statement_at(rows, number)?)
 }

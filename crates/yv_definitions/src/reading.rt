@@ -111,8 +111,8 @@ fn types_in(
     }
 }
 
-// The same list, which lasts as long as the types of the files.
-fn lasting_at<'t>(types: &'t Types, file: u32, offset: u64) -> &'t [PlainType]
+/// The same list, which lasts as long as the types of the files.
+pub(crate) fn lasting_at<'t>(types: &'t Types, file: u32, offset: u64) -> &'t [PlainType]
     ensures { map plain_of result.now ≡ kinds_of types.now file offset }
 {
     match types.plain(file, offset) {

@@ -1,10 +1,12 @@
 //! The values of defaults.
-ghost use Rattle.std.specs.Prelude.{◌≡◌, ◌+◌, ◌≤◌, ◌++◌, map, length, IfOk, OnOk};
+ghost use Rattle.std.specs.Prelude.{◌≡◌, ◌+◌, ◌≤◌, ◌++◌, map, length, IfOk, IfSome, OnOk};
+ghost use Rattle.std.specs.Option.{option_copied};
 ghost use Rattle.yv_rows.specs.Files.{Files};
 ghost use Rattle.yv_values.specs.Types.{plain_of};
 ghost use Rattle.yv_properties.specs.Defined.{defaults_said, written_of};
 ghost use Rattle.yv_defaults.specs.Scopes.{AreScopes};
 ghost use Rattle.yv_definitions.specs.Values.{alone, defaults_of, has_defaults, value_of, values_of};
+ghost use Rattle.yv_definitions.specs.InnerShared.{IsByType, has_type_default};
 
 use crate::nothing::Nothing;
 use std::alloc::{AllocError, Global};
@@ -13,9 +15,38 @@ use yv_defaults::default_value;
 use yv_properties::{DefinitionDraft, NodeKind, WrittenText};
 use yv_values::{Defaults, Matchers, PlainType, Scope, Value};
 
-/// The values of the defaults that are said of a node of these types, these being the scopes of the files. Of more defaults than a node
-/// may have none is read.
+/// The values of the defaults that are said of a node of these types, these being the scopes of the files, and these being kept of the
+/// values of its type's default, if any are kept. Of more defaults than a node may have none is read.
 pub(crate) fn defaults_of<'t>(
+    alloc: Global,
+    nothing: &Nothing,
+    scopes: &[Scope],
+    matchers: &mut Matchers<'t>,
+    types: &'t [PlainType],
+    kept: Option<&Rc<Defaults>>,
+    definition: &DefinitionDraft,
+) -> Result<Rc<Defaults>, AllocError>
+    ensures { (files : Files) → AreScopes files scopes.now → map plain_of types.now ≡ definition.now.types
+        → IfSome (option_copied kept.entry) (λ values. IsByType files definition.now values.value)
+        → IfOk result (λ defaults. defaults.value ≡ defaults_of files definition.now) }
+{
+    if has_type_default(definition)
+        && let Some(values) = kept
+    {
+        return values.clone();
+    }
+    read_defaults(alloc, nothing, scopes, matchers, types, definition)
+}
+
+// Whether only the default of its type is said of a node.
+fn has_type_default(definition: &DefinitionDraft) -> bool
+    ensures { result ≡ has_type_default definition.now }
+{
+    has_defaults(definition.kind) && definition.own_defaults.is_empty() && definition.min == 0
+}
+
+// The same values, read anew.
+fn read_defaults<'t>(
     alloc: Global,
     nothing: &Nothing,
     scopes: &[Scope],
@@ -36,8 +67,8 @@ pub(crate) fn defaults_of<'t>(
     Ok(Rc::new(alloc, Defaults::of(alloc, values)?)?)
 }
 
-// Whether a node of this kind may have values by defaults.
-fn has_defaults(kind: NodeKind) -> bool
+/// Whether a node of this kind may have values by defaults.
+pub(crate) fn has_defaults(kind: NodeKind) -> bool
     ensures { result ≡ has_defaults kind }
 {
     matches!(kind, NodeKind::Leaf | NodeKind::LeafList)
@@ -87,8 +118,8 @@ fn values_of<'t>(
     Ok(values)
 }
 
-// Adds the value of a text, if these types read it.
-fn push_value<'t>(
+/// Adds the value of a text, if these types read it.
+pub(crate) fn push_value<'t>(
     alloc: Global,
     scopes: &[Scope],
     matchers: &mut Matchers<'t>,

@@ -11,7 +11,7 @@ loop-number-preserved c =
     let typing = typing_of c.args.types.now in
     let files = lent_in c.args.rows.now in
     let Are : List Kept → Type 0 = λ kept. AreKept typing files kept in
-    let more = kept_more typing files c.loop-number.kept.items c.in_ok-kept_at.field-0 c.loop-number.number c.loop-number.invariant.all (c.in_ok-kept_at.ensures c.in_ok-paths.ensures (rw c.deref.ensures.value c.in_ok-scopes.ensures)) c.loop-number.invariant.so in
+    let more = kept_more typing files c.loop-number.kept.items c.in_ok-kept_at.field-0 c.loop-number.number c.loop-number.invariant.all (c.in_ok-kept_at.ensures c.in_ok-paths.ensures c.in_ok-reader.ensures) c.loop-number.invariant.so in
     record {
       so = subst Are (sym {A = List Kept} c.in_ok-push.ensures.items) more;
       all = search rules;
