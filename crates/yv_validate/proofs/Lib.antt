@@ -13,3 +13,5 @@ pub mod Each
 pub mod Closed
 pub mod Bound
 pub mod Spelled
+pub mod Silent
+pub mod Known

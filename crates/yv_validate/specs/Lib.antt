@@ -11,5 +11,6 @@ pub mod InnerPath
 pub mod InnerWalk
 pub mod InnerMemory
 pub mod InnerNotes
+pub mod InnerQuiet
 pub use Rattle.yv_nodes.specs.Tree
 pub use Rattle.yv_nodes.specs.Rows

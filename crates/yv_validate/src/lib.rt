@@ -10,6 +10,7 @@ mod nodes;
 mod notes;
 mod path;
 mod progress;
+mod quiet;
 mod tell;
 mod text;
 mod trail;

@@ -1,5 +1,5 @@
 //! The walk over a document and its schema.
-ghost use Rattle.std.specs.Prelude.{◌≡◌, ◌==◌, ◌++◌, ◌<◌, ◌≤◌, ◌+◌, ◌*◌, ℕ, List, [], ◌∷◌, length, true, false, IfOk, OnOk, None, Some, option_map, if◌then◌else◌};
+ghost use Rattle.std.specs.Prelude.{◌≡◌, ◌==◌, ◌++◌, ◌<◌, ◌≤◌, ◌+◌, ◌*◌, ℕ, List, [], ◌∷◌, length, true, false, IfOk, IfSome, OnOk, None, Some, option_map, if◌then◌else◌};
 ghost use Rattle.serde_json.specs.Data.{Members, depth as nesting, object as an_object};
 ghost use Rattle.serde_json.specs.View.{view, items_view, members_view};
 ghost use Rattle.yv_properties.specs.Kinds.{is_data};
@@ -14,6 +14,7 @@ ghost use Rattle.yv_references.specs.Findings.{first_of};
 ghost use Rattle.yv_references.specs.InUse.{is_asked, is_number};
 ghost use Rattle.yv_validate.specs.Faults.{array_faults, faults as all_faults, flaw};
 ghost use Rattle.yv_validate.specs.InnerNotes.{GainsBy, HasTuples};
+ghost use Rattle.yv_validate.specs.InnerQuiet.{AreKnown, IsEmptied, IsPassed};
 ghost use Rattle.yv_validate.specs.InnerTrail.{places, IsWithin};
 ghost use Rattle.yv_validate.specs.InnerWalk.{cases_met, children_met, ClosesAt, container_at, data_met, entries_at, Grows, GrowsAt, GrowsWithAt, list_at, Meets, MeetsBelow, next_of, node_at, object_at, one_met, plain_at, scope_at, told, unknowns, with_node, Writes};
 ghost use Rattle.yv_validate.specs.Size.{size};
@@ -26,6 +27,7 @@ use crate::memory::stood_before;
 use crate::nodes::count_of;
 use crate::notes::Notes;
 use crate::progress::Progress;
+use crate::quiet::{inner_steps, known_nodes, known_steps};
 use crate::tell::tell_references;
 use crate::trail::Trail;
 use serde_json::{Map, Value};
@@ -38,12 +40,14 @@ use yv_tables::Schema;
 use yv_values::{Index, Meter};
 use yv_walk::{Context, Standing, is_there, laws};
 
-/// A validation: where its memory comes from, the schema, and what kind of document is asked for.
+/// A validation: where its memory comes from, the schema, what kind of document is asked for, and what is known of the nodes of the schema.
 #[derive(Clone, Copy)]
 pub(crate) struct Walk<'a> {
     pub(crate) alloc: Global,
     pub(crate) schema: &'a Schema,
     pub(crate) kind: Kind,
+    pub(crate) known: &'a [Option<u64>],
+    ghost nodes: { AreKnown schema.now known.now },
 }
 
 /// The faults of a document of this kind, in order (RFC 7950, section 8; RFC 7951): what is wrong with its data, and after it the
@@ -62,10 +66,12 @@ pub fn validate(
         * ((measures_of (whole schema.now)).m + (measures_of (whole schema.now)).u + (measures_of (whole schema.now)).w + 1)) }
 {
     is_bounded(schema, document, kind);
+    let known = known_nodes(alloc, schema)?;
     let walk = Walk {
         alloc,
         schema,
         kind,
+        known: known.as_slice(),
     };
     match document {
         Value::Object(members) => walk.document(members),
@@ -180,9 +186,58 @@ impl<'a> Walk<'a> {
         found_laws::object_met();
         let context = self.enter(id, members, here, &mut progress.meter, &mut progress.faults)?;
         let number = progress.found.enter(position, id, item)?;
-        self.children(Scope::Always, id, &context, number, here, notes, progress)?;
+        self.inside(id, members, &context, number, here, notes, progress)?;
         progress.found.leave(number);
         Ok(())
+    }
+
+    // What is below a node, in an object of it with these members, which has this number.
+    #[cycle(walk)]
+    fn inside(
+        &self,
+        parent: NodeId,
+        members: &Map<String, Value>,
+        context: &Context<'_>,
+        position: u64,
+        path: &Trail<'_>,
+        notes: &mut Notes,
+        progress: &mut Progress<'a>,
+    ) -> Result<(), AllocError>
+        requires node { rank parent ≤ length self.now.schema.now.nodes }
+        requires meets { MeetsBelow self.now.schema.now context.now parent }
+        requires members { members_of context.now ≡ members_view members.now.entries }
+        requires way { IsWithin self.now.schema.now path.now }
+        ensures grows { OnOk result (GrowsAt self.now.kind self.now.schema.now path.now position (told progress.old) (told progress.new)
+            (children_met self.now.kind self.now.schema.now Scope.Always parent (members_of context.now))) }
+        ensures notes { OnOk result (GainsBy self.now.schema.now notes.old notes.new
+            (children_met self.now.kind self.now.schema.now Scope.Always parent (members_of context.now))) }
+    {
+        found_laws::nothing_met();
+        if let Some(steps) = self.empty_steps(parent, members) {
+            progress.meter.visit_all(steps);
+            return Ok(());
+        }
+        self.children(
+            Scope::Always,
+            parent,
+            context,
+            position,
+            path,
+            notes,
+            progress,
+        )
+    }
+
+    // The steps of what is below a node in an object without members, where nothing else comes of it.
+    fn empty_steps(&self, parent: NodeId, members: &Map<String, Value>) -> Option<u64>
+        requires { rank parent ≤ length self.now.schema.now.nodes }
+        ensures { IfSome result (IsEmptied self.now.schema.now parent (members_view members.now.entries)) }
+    {
+        if !members.is_empty() {
+            return None;
+        }
+        let steps = inner_steps(self.schema, self.known, parent)?;
+        Some(steps)
     }
 
     // The nodes below one, each in this scope, in the object with this number.
@@ -210,7 +265,7 @@ impl<'a> Walk<'a> {
         found_laws::met_behind();
         found_laws::counted();
         for child in self.schema.children(parent) {
-            self.node(scope, *child, context, position, path, notes, progress)?;
+            self.meet(scope, *child, context, position, path, notes, progress)?;
         }
         Ok(())
     }
@@ -245,7 +300,7 @@ impl<'a> Walk<'a> {
         for child in self.schema.children(choice) {
             let those = context.standing(self.schema, *child);
             let scope = case_scope(fallback, *child, those);
-            self.node(scope, *child, context, position, path, notes, progress)?;
+            self.meet(scope, *child, context, position, path, notes, progress)?;
         }
         Ok(())
     }
@@ -263,6 +318,49 @@ impl<'a> Walk<'a> {
             return None;
         }
         self.schema.default_case(choice)
+    }
+
+    // A node that may be in the object, whose surroundings have this scope. Most nodes of an object are often not in it, and nothing comes of
+    // them: then their steps are counted at once.
+    #[cycle(walk)]
+    fn meet(
+        &self,
+        scope: Scope,
+        id: NodeId,
+        context: &Context<'_>,
+        position: u64,
+        path: &Trail<'_>,
+        notes: &mut Notes,
+        progress: &mut Progress<'a>,
+    ) -> Result<(), AllocError>
+        requires node { id.0 < length self.now.schema.now.nodes }
+        requires meets { Meets self.now.schema.now context.now id }
+        requires way { IsWithin self.now.schema.now path.now }
+        ensures grows { OnOk result (GrowsAt self.now.kind self.now.schema.now path.now position (told progress.old) (told progress.new)
+            (one_met self.now.kind self.now.schema.now (scope_at self.now.kind self.now.schema.now scope id) id (members_of context.now))) }
+        ensures notes { OnOk result (GainsBy self.now.schema.now notes.old notes.new
+            (one_met self.now.kind self.now.schema.now (scope_at self.now.kind self.now.schema.now scope id) id (members_of context.now))) }
+    {
+        found_laws::nothing_met();
+        if let Some(steps) = self.passed_steps(id, context) {
+            progress.meter.visit_all(steps);
+            return Ok(());
+        }
+        self.node(scope, id, context, position, path, notes, progress)
+    }
+
+    // The steps of a node with all that is met below it, where none of them exists in the object and nothing else comes of them.
+    fn passed_steps(&self, id: NodeId, context: &Context<'_>) -> Option<u64>
+        requires node { id.0 < length self.now.schema.now.nodes }
+        requires meets { Meets self.now.schema.now context.now id }
+        ensures { IfSome result (IsPassed self.now.schema.now id (members_of context.now)) }
+    {
+        let _node = self.schema.node(id);
+        let steps = known_steps(self.schema, self.known, id)?;
+        match context.standing(self.schema, id) {
+            Standing::Nothing => Some(steps),
+            _ => None,
+        }
     }
 
     // A node that may be in the object, whose surroundings have this scope.

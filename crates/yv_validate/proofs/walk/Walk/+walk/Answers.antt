@@ -25,6 +25,7 @@ use Rattle.yv_validate.specs.declared.fault.FaultKind.TheVariants.{State}
 use Rattle.yv_validate.specs.Faults.{array_faults, count_faults, end_faults, flaw_if, leafs_of, state_faults, unique_faults}
 use Rattle.yv_validate.specs.InnerMemory.{Remembers, RemembersEach}
 use Rattle.yv_validate.specs.InnerNotes.{GainsBy, list_tuple, noted_at, tuple_in}
+use Rattle.yv_validate.specs.InnerQuiet.{IsEmptied}
 use Rattle.yv_validate.specs.InnerTrail.{places}
 use Rattle.yv_validate.specs.InnerWalk.{cases_met, children_met, Closes, container_at, data_met, entries_at, Grows, GrowsWith, inside_at, leaf_at, list_at, next_of, node_at, object_at, one_met, ones_met, plain_at, scope_at, spot_at, Told, told, with_node}
 use Rattle.yv_validate.specs.Repeats.{repeated}
@@ -38,6 +39,7 @@ use Rattle.yv_validate.proofs.Items.{end_told, ends, entries_split, entry_grows,
 use Rattle.yv_validate.proofs.Meeting.{choice_passes, meets_child, meets_object, scope_is}
 use Rattle.yv_validate.proofs.Noted.{noted_fresh, same_tuple}
 use Rattle.yv_validate.proofs.Own.{gains_array, gains_behind, gains_met, gains_none, notes_done, notes_start, notes_turn}
+use Rattle.yv_validate.proofs.Silent.{emptied_says, one_says, quiet_gains, quiet_grows}
 use Rattle.yv_validate.proofs.Steps.{steps_both}
 use Rattle.yv_validate.proofs.walk.Walk.+walk.Goals as goal
 
@@ -82,18 +84,18 @@ children-loop-child-preserved t c =
     let rest = drop (i + 1) cs in
     let start : Told = told c.args.progress.now in
     let old : Told = told c.loop-child.progress in
-    let new : Told = told c.node.new.progress in
+    let new : Told = told c.meet.new.progress in
     record {
       grows = λ outer entry x later.
           let spot : Spot = spot_at s c.args.path.now c.args.position outer entry in
           let one : List Meeting = one_met k s (scope_at k s c.args.scope n) n ms spot (next_of old) in
-          let grows : Grows k s old new one = c.in_ok-node.ensures.grows outer entry in
+          let grows : Grows k s old new one = c.in_ok-meet.ensures.grows outer entry in
           turn c.met_behind.ensures k s start old new one (ones_met k s of rest ms spot (next_of old + entered one)) (ones_met k s of left ms spot (next_of old))
           (children_met k s c.args.scope p ms spot (next_of start)) grows (ones_drop k s of spot (next_of old) cs i d ms lt)
           (c.loop-child.invariant.grows outer entry) x
           (subst (λ (m : ℕ). Grows k s new x (ones_met k s of rest ms spot m)) (next_behind c.counted.ensures k s old new one grows) later);
-      notes = λ spot next less. notes_turn k s of n left rest ms spot c.loop-child.notes c.node.new.notes c.args.notes.now (children_met k s c.args.scope p ms spot next)
-          (split_at cs i d lt) (c.loop-child.invariant.notes spot next less) c.in_ok-node.ensures.notes;
+      notes = λ spot next less. notes_turn k s of n left rest ms spot c.loop-child.notes c.meet.new.notes c.args.notes.now (children_met k s c.args.scope p ms spot next)
+          (split_at cs i d lt) (c.loop-child.invariant.notes spot next less) c.in_ok-meet.ensures.notes;
     }
 
 pub children-returns-clause-grows : goal.children-returns-clause-grows
@@ -161,7 +163,7 @@ cases-loop-child-preserved t c =
     let rest = drop (i + 1) cs in
     let start : Told = told c.args.progress.now in
     let old : Told = told c.loop-child.progress in
-    let new : Told = told c.node.new.progress in
+    let new : Told = told c.meet.new.progress in
     let meets = meets_child s c.args.context.now p cs i d c.requires.meets kids.ensures.value lt in
     let those : c.standing-those.result ≡ tree_standing n.0 (tree_of s n) ms = c.standing-those.ensures meets.context meets.stands in
     let scope : c.case_scope-scope.result ≡ of n.0 (tree_of s n) =
@@ -172,14 +174,14 @@ cases-loop-child-preserved t c =
           let spot : Spot = spot_at s c.args.path.now c.args.position outer entry in
           let at_scope : Scope → List Meeting = λ y. one_met k s (scope_at k s y n) n ms spot (next_of old) in
           let one : List Meeting = at_scope (of n.0 (tree_of s n)) in
-          let grows : Grows k s old new one = grows_as k s old new (at_scope c.case_scope-scope.result) one (ap at_scope scope) (c.in_ok-node.ensures.grows outer entry) in
+          let grows : Grows k s old new one = grows_as k s old new (at_scope c.case_scope-scope.result) one (ap at_scope scope) (c.in_ok-meet.ensures.grows outer entry) in
           turn c.met_behind.ensures k s start old new one (ones_met k s of rest ms spot (next_of old + entered one)) (ones_met k s of left ms spot (next_of old))
           (cases_met k s p ms spot (next_of start)) grows (ones_drop k s of spot (next_of old) cs i d ms lt)
           (c.loop-child.invariant.grows outer entry) x
           (subst (λ (m : ℕ). Grows k s new x (ones_met k s of rest ms spot m)) (next_behind c.counted.ensures k s old new one grows) later);
-      notes = λ spot next less. notes_turn k s of n left rest ms spot c.loop-child.notes c.node.new.notes c.args.notes.now (cases_met k s p ms spot next)
+      notes = λ spot next less. notes_turn k s of n left rest ms spot c.loop-child.notes c.meet.new.notes c.args.notes.now (cases_met k s p ms spot next)
           (split_at cs i d lt) (c.loop-child.invariant.notes spot next less)
-          (subst (λ (y : Scope). GainsBy s c.loop-child.notes c.node.new.notes (one_met k s (scope_at k s y n) n ms)) scope c.in_ok-node.ensures.notes);
+          (subst (λ (y : Scope). GainsBy s c.loop-child.notes c.meet.new.notes (one_met k s (scope_at k s y n) n ms)) scope c.in_ok-meet.ensures.notes);
     }
 
 pub cases-returns-clause-grows : goal.cases-returns-clause-grows
@@ -221,20 +223,42 @@ object-returns-clause-grows t c =
     let number = c.in_ok-number.number in
     let begun = c.enter-2.new.self in
     let start : Told = record { faults = c.enter.new.faults.items; found = begun; steps = c.enter.new.meter } in
-    let walked : Told = told c.children.new.progress in
+    let walked : Told = told c.inside.new.progress in
     λ outer entry around. object_grows c.object_met.ensures k s id c.args.item path outer entry c.args.position number ms (told c.args.progress.now) begun
     c.enter.new.faults.items c.enter.new.meter walked c.leave.new.self around c.in_ok-number.ensures.number
     c.in_ok-number.ensures.positions c.in_ok-number.ensures.indexes c.in_ok-number.ensures.uses c.in_ok-number.ensures.notes
     c.in_ok-context.ensures.faults c.in_ok-context.ensures.steps
     (subst (λ (ds : Members). Grows k s start walked (children_met k s Always id ds (record { path = path; around = number ∷ outer; entry = entry }) (length begun.positions)))
-    c.in_ok-context.ensures.members (c.in_ok-children.ensures.grows outer entry))
+    c.in_ok-context.ensures.members (c.in_ok-inside.ensures.grows outer entry))
     c.leave.ensures.positions c.leave.ensures.indexes c.leave.ensures.uses c.leave.ensures.notes
 
 pub object-returns-clause-notes : goal.object-returns-clause-notes
 object-returns-clause-notes t c =
     let k = c.args.self.now.kind in
     let s = c.args.self.now.schema.now in
-    subst (λ (ds : Members). GainsBy s c.args.notes.now c.children.new.notes (children_met k s Always c.args.id ds)) c.in_ok-context.ensures.members c.in_ok-children.ensures.notes
+    subst (λ (ds : Members). GainsBy s c.args.notes.now c.inside.new.notes (children_met k s Always c.args.id ds)) c.in_ok-context.ensures.members c.in_ok-inside.ensures.notes
+
+pub inside-returns-in-Some-clause-grows : goal.inside-returns-in-Some-clause-grows
+inside-returns-in-Some-clause-grows t c =
+    let k = c.args.self.now.kind in
+    let s = c.args.self.now.schema.now in
+    let p = c.args.parent in
+    let ms = members_of c.args.context.now in
+    let old : Told = told c.args.progress.now in
+    let is : IsEmptied s p ms c.in-Some.steps = subst (λ (ds : Members). IsEmptied s p ds c.in-Some.steps) (sym c.requires.members) c.in-Some.ensures in
+    λ outer entry.
+    let spot : Spot = spot_at s c.args.path.now c.args.position outer entry in
+    quiet_grows c.nothing_met.ensures k s old c.visit_all.new.self c.in-Some.steps (children_met k s Always p ms spot (next_of old))
+    (emptied_says k s p ms spot (next_of old) c.in-Some.steps is) c.visit_all.ensures
+
+pub inside-returns-in-Some-clause-notes : goal.inside-returns-in-Some-clause-notes
+inside-returns-in-Some-clause-notes t c =
+    let k = c.args.self.now.kind in
+    let s = c.args.self.now.schema.now in
+    let p = c.args.parent in
+    let ms = members_of c.args.context.now in
+    let is : IsEmptied s p ms c.in-Some.steps = subst (λ (ds : Members). IsEmptied s p ds c.in-Some.steps) (sym c.requires.members) c.in-Some.ensures in
+    quiet_gains k s c.args.notes.now c.in-Some.steps (children_met k s Always p ms) (λ spot next. emptied_says k s p ms spot next c.in-Some.steps is)
 
 -- ---- entries
 
@@ -736,6 +760,31 @@ choice-returns-clause-grows t c =
     (grows_with k s old mid _ c.end_choice.new.faults.items _ (c.in_ok-cases.ensures.grows outer entry) h))
     c.end_choice.ensures
 
+-- ---- a node that is passed over
+
+pub meet-returns-in-Some-clause-grows : goal.meet-returns-in-Some-clause-grows
+meet-returns-in-Some-clause-grows t c =
+    let k = c.args.self.now.kind in
+    let s = c.args.self.now.schema.now in
+    let id = c.args.id in
+    let ms = members_of c.args.context.now in
+    let old : Told = told c.args.progress.now in
+    let scope = scope_at k s c.args.scope id in
+    λ outer entry.
+    let spot : Spot = spot_at s c.args.path.now c.args.position outer entry in
+    quiet_grows c.nothing_met.ensures k s old c.visit_all.new.self c.in-Some.steps (one_met k s scope id ms spot (next_of old))
+    (one_says k s scope id ms spot (next_of old) c.in-Some.steps c.requires.node c.in-Some.ensures) c.visit_all.ensures
+
+pub meet-returns-in-Some-clause-notes : goal.meet-returns-in-Some-clause-notes
+meet-returns-in-Some-clause-notes t c =
+    let k = c.args.self.now.kind in
+    let s = c.args.self.now.schema.now in
+    let id = c.args.id in
+    let ms = members_of c.args.context.now in
+    let scope = scope_at k s c.args.scope id in
+    quiet_gains k s c.args.notes.now c.in-Some.steps (one_met k s scope id ms)
+    (λ spot next. one_says k s scope id ms spot next c.in-Some.steps c.requires.node c.in-Some.ensures)
+
 -- ---- nodes
 
 pub node-returns-then-is_operation-clause-grows : goal.node-returns-then-is_operation-clause-grows
@@ -953,5 +1002,5 @@ object-leave-requires t c =
       c.in_ok-number.ensures.number,
       ap length c.in_ok-number.ensures.positions,
       length-append c.args.progress.now.found.positions (opened c.args.position c.args.id.0 c.args.item ∷ []),
-      not_fewer start (told c.children.new.progress) (c.in_ok-children.ensures.grows [] 0),
+      not_fewer start (told c.inside.new.progress) (c.in_ok-inside.ensures.grows [] 0),
     )

@@ -62,34 +62,40 @@ invariant-entries-loop-index l =
 
 -- the nodes behind, and the turns that each takes
 abbrev pub decreases-children : goal.decreases-children
-decreases-children l = 7 * (length l.self.now.schema.now.nodes - rank l.parent)
+decreases-children l = 9 * (length l.self.now.schema.now.nodes - rank l.parent)
 
 abbrev pub decreases-cases : goal.decreases-cases
-decreases-cases l = 7 * (length l.self.now.schema.now.nodes - rank l.choice) + 1
+decreases-cases l = 9 * (length l.self.now.schema.now.nodes - rank l.choice) + 1
 
 abbrev pub decreases-choice : goal.decreases-choice
-decreases-choice l = 7 * (length l.self.now.schema.now.nodes - rank l.id) + 2
+decreases-choice l = 9 * (length l.self.now.schema.now.nodes - rank l.id) + 2
+
+abbrev pub decreases-meet : goal.decreases-meet
+decreases-meet l = 9 * (length l.self.now.schema.now.nodes - l.id.0) - 1
 
 abbrev pub decreases-node : goal.decreases-node
-decreases-node l = 7 * (length l.self.now.schema.now.nodes - l.id.0) - 1
+decreases-node l = 9 * (length l.self.now.schema.now.nodes - l.id.0) - 2
 
 abbrev pub decreases-data : goal.decreases-data
-decreases-data l = 7 * (length l.self.now.schema.now.nodes - l.id.0) - 2
+decreases-data l = 9 * (length l.self.now.schema.now.nodes - l.id.0) - 3
 
 abbrev pub decreases-state : goal.decreases-state
-decreases-state l = 7 * (length l.self.now.schema.now.nodes - l.id.0) - 3
+decreases-state l = 9 * (length l.self.now.schema.now.nodes - l.id.0) - 4
 
 abbrev pub decreases-container : goal.decreases-container
-decreases-container l = 7 * (length l.self.now.schema.now.nodes - l.id.0) - 4
+decreases-container l = 9 * (length l.self.now.schema.now.nodes - l.id.0) - 5
 
 abbrev pub decreases-list : goal.decreases-list
-decreases-list l = 7 * (length l.self.now.schema.now.nodes - l.id.0) - 3
+decreases-list l = 9 * (length l.self.now.schema.now.nodes - l.id.0) - 4
 
 abbrev pub decreases-entries : goal.decreases-entries
-decreases-entries l = 7 * (length l.self.now.schema.now.nodes - l.id.0) - 4
+decreases-entries l = 9 * (length l.self.now.schema.now.nodes - l.id.0) - 5
 
 abbrev pub decreases-entry : goal.decreases-entry
-decreases-entry l = 7 * (length l.self.now.schema.now.nodes - l.id.0) - 5
+decreases-entry l = 9 * (length l.self.now.schema.now.nodes - l.id.0) - 6
 
 abbrev pub decreases-object : goal.decreases-object
-decreases-object l = 7 * (length l.self.now.schema.now.nodes - rank l.id) + 1
+decreases-object l = 9 * (length l.self.now.schema.now.nodes - rank l.id) + 2
+
+abbrev pub decreases-inside : goal.decreases-inside
+decreases-inside l = 9 * (length l.self.now.schema.now.nodes - rank l.parent) + 1

@@ -1,0 +1,104 @@
+//! Nodes of which nothing comes but steps, where they aren't in an object.
+ghost use Rattle.std.specs.Prelude.{◌≡◌, ◌<◌, ◌≤◌, length, true, Some, IfOk, IfSome};
+ghost use Rattle.yv_nodes.specs.Defaults.{has_no_value};
+ghost use Rattle.yv_nodes.specs.Rows.{below, rank, tree_of};
+ghost use Rattle.yv_tables.specs.Measures.{is_open, met};
+ghost use Rattle.yv_validate.specs.InnerQuiet.{are_quiet, AreKnown, is_mute, quiet_steps};
+
+use std::alloc::{AllocError, Global};
+use yv_nodes::{Node, NodeId};
+use yv_properties::NodeKind;
+use yv_tables::Schema;
+
+/// What is known of the nodes of a schema, from the last to the first: the steps of a node with all that is met below it, where nothing
+/// else comes of them if none of them exists in an object. It takes time and memory linear in the nodes.
+pub(crate) fn known_nodes(alloc: Global, schema: &Schema) -> Result<Vec<Option<u64>>, AllocError>
+    ensures { IfOk result (λ known. AreKnown schema.now known.items) }
+{
+    let mut known = Vec::new(alloc);
+    for index in 0..schema.len() {
+        let id = NodeId(schema.len() - 1 - index);
+        let steps = tree_steps(schema, known.as_slice(), id);
+        known.push(steps)?;
+    }
+    Ok(known)
+}
+
+/// What is known of a node.
+pub(crate) fn known_steps(schema: &Schema, known: &[Option<u64>], id: NodeId) -> Option<u64>
+    requires node { id.0 < length schema.now.nodes }
+    requires known { AreKnown schema.now known.now }
+    ensures { IfSome result (λ steps. quiet_steps (tree_of schema.now id) ≡ Some steps) }
+{
+    let back = schema.len() - 1 - id.number();
+    match known.get(back as usize) {
+        Some(steps) => *steps,
+        None => None,
+    }
+}
+
+/// The steps of the nodes below a node or the root.
+pub(crate) fn inner_steps(schema: &Schema, known: &[Option<u64>], parent: NodeId) -> Option<u64>
+    requires node { rank parent ≤ length schema.now.nodes }
+    requires known { AreKnown schema.now known.now }
+    ensures quiet { IfSome result (λ steps. are_quiet (below schema.now parent) ≡ true) }
+    ensures steps { IfSome result (λ steps. met (below schema.now parent) ≡ steps) }
+{
+    let mut total: u64 = 0;
+    for child in schema.children(parent) {
+        let steps = known_steps(schema, known, *child)?;
+        total = total.checked_add(steps)?;
+    }
+    Some(total)
+}
+
+// The steps of a node, by those of the nodes in it, which come later.
+fn tree_steps(schema: &Schema, known: &[Option<u64>], id: NodeId) -> Option<u64>
+    requires node { id.0 < length schema.now.nodes }
+    requires known { AreKnown schema.now known.now }
+    ensures { IfSome result (λ steps. quiet_steps (tree_of schema.now id) ≡ Some steps) }
+{
+    let node = schema.node(id);
+    let kind = node.kind();
+    if kind.is_operation() {
+        return Some(0);
+    }
+    if !is_mute(node) {
+        return None;
+    }
+    let width = node.width();
+    if !is_open(node) {
+        return Some(width);
+    }
+    let inner = inner_steps(schema, known, id)?;
+    width.checked_add(inner)
+}
+
+// Whether nothing is missed where the node itself isn't there, and no default of it is in use.
+fn is_mute(node: &Node) -> bool
+    ensures { result ≡ is_mute node.now.label.defined.kind node.now.label }
+{
+    match node.kind() {
+        NodeKind::Leaf => !node.is_key() && !node.mandatory() && has_no_value(node),
+        NodeKind::LeafList => node.min() == 0 && has_no_value(node),
+        NodeKind::List => node.min() == 0,
+        NodeKind::Choice | NodeKind::Anydata | NodeKind::Anyxml => !node.mandatory(),
+        _ => true,
+    }
+}
+
+fn has_no_value(node: &Node) -> bool
+    ensures { result ≡ has_no_value node.now.label }
+{
+    node.defaults().is_empty()
+}
+
+// Whether the nodes below this one are met where it is.
+fn is_open(node: &Node) -> bool
+    ensures { result ≡ is_open node.now.label }
+{
+    match node.kind() {
+        NodeKind::Container => !node.presence(),
+        kind => kind.is_passed(),
+    }
+}
