@@ -1,5 +1,5 @@
 -- Nodes that differ by their refines alone: paths lead to the same places among them, and blocks give them in the same order.
-use Rattle.std.proofs.Common.{inl, inr, ◌≡◌, ◌≢◌, ℕ, ◌+◌, ◌<◌, ◌≤◌, ◌&&◌, not, Bool, true, false, List, [], ◌∷◌, refl, sym, ◌∙◌, ap, subst, arith, Option}
+use Rattle.std.proofs.Common.{◌≡◌, ℕ, ◌+◌, ◌<◌, ◌≤◌, ◌&&◌, not, Bool, true, false, List, [], ◌∷◌, refl, sym, ◌∙◌, ap, subst, arith}
 use Rattle.std.specs.List.{Contains}
 use Rattle.std.specs.Str.{bytes_eq}
 use Rattle.std.proofs.lemmas.Bool.{false≢true}
@@ -12,7 +12,7 @@ use Rattle.yv_expanded_tree.specs.Nodes.{Forest, Node, joined, none, node}
 use Rattle.yv_expanded_tree.specs.Paths.{Leads, Step, answers, at, is_home, is_shorthand}
 use Rattle.yv_expanded_tree.specs.Paths.Leads.{past, to, into, into_case}
 use Rattle.yv_shown_tree.specs.Blocks.{Augments, Block}
-use Rattle.yv_shown_tree.specs.Comes.{Adds, Comes, Hits, Misses}
+use Rattle.yv_shown_tree.specs.Comes.{Adds, Comes, Misses}
 use Rattle.yv_shown_tree.specs.Comes.Comes.{no_items as none_come, of_uses, one_node}
 use Rattle.yv_shown_tree.specs.Comes.Adds.{adds, misses, none_left}
 use Rattle.yv_shown_tree.specs.Shows.{Agree, AreLabels, Items, Orders, Shows, Stand}

@@ -17,11 +17,11 @@ use Rattle.yv_shown_tree.proofs.Finding.{there_first, there_later}
 use Rattle.yv_shown_tree.proofs.Framing.{nothing_stands}
 use Rattle.yv_shown_tree.proofs.Showing.{first_or}
 
-left_is : (a b : Bool) → (a && b) ≡ true → a ≡ true
+pub left_is : (a b : Bool) → (a && b) ≡ true → a ≡ true
 left_is true b h = refl
 left_is false b h = h
 
-right_is : (a b : Bool) → (a && b) ≡ true → b ≡ true
+pub right_is : (a b : Bool) → (a && b) ≡ true → b ≡ true
 right_is true b h = h
 right_is false b h = absurd (false≢true h)
 
@@ -54,7 +54,7 @@ row_at test rows k h = by (slice_get rows k) refl h
     by (Some r) at h = (r, at, h)
 
 -- the statements of a block stand in it
-numbered_in : (passes : ℕ → Row → Bool) (n : ℕ) (rs : List Row) (j : ℕ) → Contains (weigh.numbers_from passes n rs) j
+pub numbered_in : (passes : ℕ → Row → Bool) (n : ℕ) (rs : List Row) (j : ℕ) → Contains (weigh.numbers_from passes n rs) j
     → (i : ℕ) × (r : Row) × (j ≡ n + i) × (slice_get rs i ≡ Some r) × (passes j r ≡ true)
 numbered_in passes n [] j h = absurd (nothing_stands j h)
 numbered_in passes n (r ∷ rs) j h = by (passes n r) refl h (λ h. later (numbered_in passes (n + 1) rs j h))

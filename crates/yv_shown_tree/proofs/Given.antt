@@ -1,11 +1,10 @@
 -- Statements show what they give.
-use Rattle.std.proofs.Common.{◌≡◌, ℕ, ◌+◌, ◌<◌, ◌≤◌, List, [], ◌∷◌, ◌++◌, length, map, refl, sym, ◌∙◌, ap, subst, arith, Option, Some, None}
-use Rattle.std.specs.List.{Contains, slice_get}
+use Rattle.std.proofs.Common.{◌≡◌, ℕ, List, [], ◌++◌, length, map, refl, sym, ◌∙◌, ap, subst, arith, None}
+use Rattle.std.specs.List.{Contains}
 use Rattle.std.proofs.lemmas.List.{append-nil}
 use Rattle.yv_rows.specs.Files.{Files, brief_of}
 use Rattle.yv_rows.specs.Listed.{rows_of}
-use Rattle.yv_rows.specs.Rows.{Row}
-use Rattle.yv_expansion.specs.Tree.{Item, Tree, count, listed}
+use Rattle.yv_expansion.specs.Tree.{Item, count, listed}
 use Rattle.yv_augments.specs.declared.label.Label.{Label}
 use Rattle.yv_augments.specs.Placed.{nothing}
 use Rattle.yv_augmented.specs.Ends.{end_at}
@@ -13,8 +12,6 @@ use Rattle.yv_augmented.specs.Refining.{refined_from}
 use Rattle.yv_augmented.specs.Spots.{Laid, Whole, labels_of, laid, whole}
 use Rattle.yv_augmented.specs.declared.spot.Spot.{Spot}
 use Rattle.yv_changes.specs.Changes.{changes}
-use Rattle.yv_expanded_tree.specs.Gives.{Gives, Made}
-use Rattle.yv_expanded_tree.specs.Nodes.{Node}
 use Rattle.yv_expanded_tree.proofs.Giving.{RefersToOne}
 use Rattle.yv_shown_tree.specs.Comes.{Comes}
 use Rattle.yv_shown_tree.specs.Giving.{ShowNodes, StatementsShow, one_of}
@@ -24,7 +21,9 @@ use Rattle.yv_shown_tree.proofs.Alike.{AreAlike, comes_same}
 use Rattle.yv_shown_tree.proofs.Finding.{not_none}
 use Rattle.yv_shown_tree.proofs.Framing.{nothing_stands}
 use Rattle.yv_shown_tree.proofs.Lying.{Lies}
-use Rattle.yv_shown_tree.proofs.Making.{IsHere, MayRun, all_make, parts_make, stage}
+use Rattle.yv_shown_tree.proofs.Making.{IsHere, MayRun, stage}
+use Rattle.yv_shown_tree.proofs.MakingNodes.{all_make}
+use Rattle.yv_shown_tree.proofs.MakingUses.{parts_make}
 use Rattle.yv_shown_tree.proofs.Making as making
 use Rattle.yv_shown_tree.proofs.Starting.{count_listed, lies_show, may_enter, none_there, whole_is}
 use Rattle.yv_shown_tree.proofs.Statements.{have_statements}

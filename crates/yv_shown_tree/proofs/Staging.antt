@@ -9,12 +9,10 @@ use Rattle.yv_rows.specs.Files.{Files}
 use Rattle.yv_augments.specs.declared.end.End.{End}
 use Rattle.yv_augments.specs.declared.end.End.TheVariants as end_is
 use Rattle.yv_augments.specs.declared.label.Label.{Label}
-use Rattle.yv_augments.specs.Groups.{members_of}
 use Rattle.yv_augments.specs.Paths.{ended}
-use Rattle.yv_augments.specs.Placed.{entered}
 use Rattle.yv_augments.specs.Turns.{State}
 use Rattle.yv_augmented.specs.Giving.{giving}
-use Rattle.yv_augmented.specs.Grafted.{last_of, path_in, placed_from, turns, turns_from}
+use Rattle.yv_augmented.specs.Grafted.{path_in, placed_from, turns, turns_from}
 use Rattle.yv_augmented.specs.Kinds.{is_uses}
 use Rattle.yv_augmented.specs.Refining.{meant, node_at, refined_at, refined_from, refines_in}
 use Rattle.yv_augmented.specs.Spots.{Whole}

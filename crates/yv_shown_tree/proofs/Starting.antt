@@ -21,7 +21,7 @@ use Rattle.yv_shown_tree.specs.Frames.{MayEnter}
 use Rattle.yv_shown_tree.specs.Laid.{Spot}
 use Rattle.yv_shown_tree.specs.Marks.{mark_of}
 use Rattle.yv_shown_tree.specs.Shows.{Items, Shows}
-use Rattle.yv_shown_tree.specs.Starting.{ShowsBlock, StartShows}
+use Rattle.yv_shown_tree.specs.Starting.{StartShows}
 use Rattle.yv_shown_tree.specs.Telling.{AreItems}
 use Rattle.yv_shown_tree.proofs.Expanding.{parts}
 use Rattle.yv_shown_tree.proofs.Finding.{not_none}

@@ -1,5 +1,5 @@
 -- The rounds of the augments of modules make of what is shown what they make of nodes.
-use Rattle.std.proofs.Common.{◌⊎◌, inl, inr, ◌≡◌, ◌≢◌, ℕ, zero, suc, ◌+◌, ◌<◌, ◌≤◌, ◌&&◌, ◌||◌, not, Bool, true, false, if◌then◌else◌, List, [], ◌∷◌, ◌++◌, length, set, length-set, get_or, refl, sym, ◌∙◌, ap, subst, arith, Option, Some, None}
+use Rattle.std.proofs.Common.{◌⊎◌, inl, inr, ◌≡◌, ◌≢◌, ℕ, zero, suc, ◌+◌, ◌<◌, ◌≤◌, ◌&&◌, not, Bool, true, false, if◌then◌else◌, List, [], ◌∷◌, ◌++◌, length, length-set, get_or, refl, sym, ◌∙◌, ap, subst, arith, Option, Some, None}
 use Rattle.std.specs.List.{Contains, slice_get}
 use Rattle.std.proofs.lemmas.Bool.{cases_eq, false≢true}
 use Rattle.std.proofs.lemmas.List.{get_or-set_other}
@@ -13,16 +13,15 @@ use Rattle.yv_augments.specs.Paths.{ended}
 use Rattle.yv_augments.specs.Rounds.{AreApplied, is_any, round, rounds}
 use Rattle.yv_augments.specs.Turns.{State, is_applied, is_some, is_taken, settled, target, turn}
 use Rattle.yv_expanded_tree.specs.Nodes.{Forest, Node, inserted}
-use Rattle.yv_expanded_tree.specs.Paths.{Leads, Step}
+use Rattle.yv_expanded_tree.specs.Paths.{Step}
 use Rattle.yv_shown_tree.specs.Rounds.{AreGivers, AwaitsTurn, IsRoundTurn}
 use Rattle.yv_shown_tree.specs.Comes.{Hits}
 use Rattle.yv_shown_tree.specs.Shows.{Agree, AreLabels, Items, Shows, Stand}
-use Rattle.yv_shown_tree.specs.WholeRounds.{AreBetween, ArePlaces, AreWaiting, RoundOn, RoundsOn, RoundsShow}
+use Rattle.yv_shown_tree.specs.WholeRounds.{AreBetween, ArePlaces, AreWaiting, RoundOn, RoundsOn, RoundsShow, gives}
 use Rattle.yv_shown_tree.specs.WholeRounds.AreWaiting.{no_places, applied, waits as waiting_here}
 use Rattle.yv_shown_tree.specs.WholeRounds.RoundOn.{none_left, adds, untargeted, waits}
 use Rattle.yv_shown_tree.specs.WholeRounds.RoundsOn.{no_more as last_round, one_more}
-use Rattle.yv_shown_tree.proofs.Finding.{not_none}
-use Rattle.yv_shown_tree.proofs.Framing.{moved_long, moved_other, moved_to, nothing_stands}
+use Rattle.yv_shown_tree.proofs.Framing.{moved_long, moved_other, moved_to}
 use Rattle.yv_shown_tree.proofs.Rounds.{round_adds}
 use Rattle.yv_shown_tree.proofs.Standing.{or_left, or_right, shows_on}
 use Rattle.yv_shown_tree.proofs.Waiting.{round_misses, round_takes, round_waits}
@@ -73,7 +72,7 @@ module _ (labels : List Label) where
       waiting_here (other_waits k start limit j names st (λ e. omega (arith, e, l)) ∙ is) (waiting_then k start limit names st (j + 1) others ws (omega (arith, l)) rest)
 
 module _ (labels : List Label) (its : Items) (are : AreLabels labels its) (giver_of : ℕ → Option ℕ) (givers : AreGivers its giver_of) (number : ℕ → ℕ) (path : ℕ → List Step)
-    (block : ℕ → Option Forest) (first last : ℕ → ℕ) (paths : List (List ℕ)) (places : ArePlaces labels its number path first last paths) where
+    (block : ℕ → Forest → Type 0) (first last : ℕ → ℕ) (paths : List (List ℕ)) (places : ArePlaces labels its number path first last paths) where
   abbrev Between : State → Forest → Type 0
   Between st m = AreBetween labels its giver_of number block first last (length paths) st m
 
@@ -120,7 +119,7 @@ module _ (labels : List Label) (its : Items) (are : AreLabels labels its) (giver
 
   -- when one has added what its block gives
   added_between : (k : ℕ) (names : List ℕ) (st : State) (m b below there : Forest) (target : Node) → k < length paths → slice_get paths k ≡ Some names → is_applied st k ≡ false
-      → block k ≡ Some b → Hits (path k) m target below (inserted (number k) b below) there → Between st m
+      → block k b → Hits (path k) m target below (inserted (number k) b below) there → Between st m
       → Between (turn labels k 0 (length labels) names st) there
   added_between k names st m b below there target l at isnt gives hits between =
       let t : IsRoundTurn labels its giver_of (first k) (last k) k (number k) st m b = turn_of in
@@ -200,7 +199,7 @@ module _ (labels : List Label) (its : Items) (are : AreLabels labels its) (giver
           ∙ moved_to labels (group_of_augment labels k) (hit.2.0 + 1) st.groups (λ e. omega (arith, e, iu)) (omega (arith, iu, room))) in
           elim (Contains-append_cases (members_of st.groups (hit.2.0 + 1)) (members_of st.groups (group_of_augment labels k)) z (subst (λ ms. Contains ms z) now there)) [
             | inl p ↦ between.not_theirs j (hit.2.0 + 1) z lj waits_j (omega (arith, iu)) p
-            | inr p ↦ (λ e. places.numbers j k other (sym (same_Some (number k) (number j) (sym (between.own k z l isnt p).1 ∙ e))))
+            | inr p ↦ (λ e. places.numbers j k lj l other (sym (same_Some (number k) (number j) (sym (between.own k z l isnt p).1 ∙ e))))
           ]
 
   -- one round
@@ -319,8 +318,16 @@ module _ (labels : List Label) (its : Items) (are : AreLabels labels its) (giver
       let w = went 0 paths (λ j n is. ap (slice_get paths) (let e : 0 + j ≡ j = omega arith in e) ∙ is) (omega arith) there st m waiting still ws b R in
       rounds_go n (round labels 0 paths st) there after w.waiting_now w.between more over
 
-pub rounds_show : (labels : List Label) (its : Items) (giver_of : ℕ → Option ℕ) → AreLabels labels its → RoundsShow labels its giver_of
-rounds_show labels its giver_of are number path block first last paths st new waiting m after givers places b ws R over =
+-- whatever tells which nodes the blocks give
+pub rounds_by : (labels : List Label) (its : Items) (giver_of : ℕ → Option ℕ) → AreLabels labels its → (number : ℕ → ℕ) (path : ℕ → List Step) (block : ℕ → Forest → Type 0)
+    (first last : ℕ → ℕ) (paths : List (List ℕ)) (st new : State) (waiting : List ℕ) (m end : Forest) → AreGivers its giver_of → ArePlaces labels its number path first last paths
+    → AreBetween labels its giver_of number block first last (length paths) st m → AreWaiting st 0 paths waiting → RoundsOn number path block waiting m end
+    → AreApplied labels 0 paths st new → Shows its new.groups 0 0 (length labels) end
+rounds_by labels its giver_of are number path block first last paths st new waiting m after givers places b ws R over =
     subst (λ (s : State). Shows its s.groups 0 0 (length labels) after) (sym over.is)
     (rounds_go labels its are giver_of givers number path block first last paths places over.count st m after ws b R
     (subst (λ s. is_any labels 0 paths s ≡ false) over.is over.last))
+
+pub rounds_show : (labels : List Label) (its : Items) (giver_of : ℕ → Option ℕ) → AreLabels labels its → RoundsShow labels its giver_of
+rounds_show labels its giver_of are number path block first last paths st new waiting m after givers places b ws R over =
+    rounds_by labels its giver_of are number path (gives block) first last paths st new waiting m after givers places b ws R over

@@ -17,3 +17,5 @@ pub mod RefinedBlocks
 pub mod Giving
 pub mod Beginning
 pub mod WholeRounds
+pub mod Files
+pub mod FinalTree

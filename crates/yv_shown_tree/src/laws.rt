@@ -8,6 +8,8 @@ ghost use Rattle.yv_augmented.specs.Spots.{Whole};
 ghost use Rattle.yv_shown_tree.specs.Beginning.{BeginningShows};
 ghost use Rattle.yv_shown_tree.specs.Entering.{BlockKeeps, BlockShows, SpotsEnter};
 ghost use Rattle.yv_shown_tree.specs.Expanding.{ExpansionLies, PlacedIsTold};
+ghost use Rattle.yv_shown_tree.specs.Files.{FilesShow, ItemsShow, ModulesShow};
+ghost use Rattle.yv_shown_tree.specs.FinalTree.{FinalTreeShows};
 ghost use Rattle.yv_shown_tree.specs.Giving.{StatementsShow};
 ghost use Rattle.yv_shown_tree.specs.Marks.{BlocksAreMarked};
 ghost use Rattle.yv_shown_tree.specs.RefinedBlocks.{BlockIsMissed, BlockIsRefined};
@@ -92,6 +94,21 @@ pub fn statements_show_what_they_give()
     yv_rows::laws::a_name_means_one_thing();
 }
 
+/// Each expansion of files has the nodes that its items show: each with what gives it, the uses and augments around that, its refines and its
+/// augment of a module (RFC 7950, sections 7.12 to 7.17).
+pub fn items_of_files_show_nodes()
+    ensures { (files : Files) → ItemsShow files }
+{}
+
+/// Before any augment of a module has its turn, the items of files show at the top what the files of the implemented modules give, each with
+/// what refines change and augments of uses add; and in a group for each augment of a module what its block gives (RFC 7950, sections 7.12
+/// to 7.17).
+pub fn modules_show_what_they_give()
+    ensures { (files : Files) → ModulesShow files }
+{
+    yv_rows::laws::a_name_means_one_thing();
+}
+
 /// When a refine means an item of a block, and that item has it, the block gives the nodes with it. Where the refine's path leads to no
 /// node, it means no item (RFC 7950, section 7.13.2).
 pub fn a_refined_block_gives_refined_nodes()
@@ -125,3 +142,20 @@ pub fn a_round_takes_what_leads_somewhere()
 pub fn the_final_tree_shows_the_same()
     ensures { (labels : List Label) (its : Items) → AreLabels labels its → TreeShows labels its }
 {}
+
+/// When no augment of a module can be applied any more, the items of files show at the top, with all that stands below, what the files expand
+/// to, before any condition is asked (RFC 7950, sections 7.12 to 7.17).
+pub fn files_show_what_they_expand_to()
+    ensures { (files : Files) → FilesShow files }
+{
+    yv_rows::laws::a_name_means_one_thing();
+}
+
+/// Before any condition is asked, the final tree by number shows what the files of the implemented modules expand to (RFC 7950, sections 7.12
+/// to 7.17).
+pub fn the_final_tree_is_what_files_expand_to()
+    ensures { (files : Files) → FinalTreeShows files }
+{
+    yv_rows::laws::a_name_means_one_thing();
+    yv_augmented::laws::items_stand_once();
+}

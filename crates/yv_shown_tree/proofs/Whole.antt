@@ -1,0 +1,382 @@
+-- When the rounds of the augments of modules are over, the items of files show what the files expand to.
+use Rattle.std.proofs.Common.{inl, inr, ◌≡◌, ◌≢◌, ℕ, zero, suc, ◌+◌, ◌<◌, ◌≤◌, ◌==◌, if◌then◌else◌, Bool, true, false, List, [], ◌∷◌, ◌++◌, length, map, get_or, refl, sym, ◌∙◌, ap, subst, arith, Option, Some, None, codes}
+use Rattle.std.specs.List.{Contains, slice_get}
+use Rattle.std.specs.Option.{option_map}
+use Rattle.std.proofs.lemmas.Bool.{cases_lt}
+use Rattle.std.proofs.lemmas.List.{length-map}
+use Rattle.std.proofs.lemmas.List.Splits.{length-slice_split}
+use Rattle.std.proofs.lemmas.Option.{same_Some, slice_get-map}
+use Rattle.yv_rows.specs.Files.{Briefs, Files, brief_of, has_word, home_at}
+use Rattle.yv_rows.specs.Listed.{rows_of}
+use Rattle.yv_rows.specs.Rows.{Row, name_in}
+use Rattle.yv_paths.specs.Paths.{behind_root, has_path, path_at, step_of, steps_of}
+use Rattle.yv_units.specs.Weigh.{block_of}
+use Rattle.yv_expansion.specs.Tree.{Item, all_of, count}
+use Rattle.yv_whole_expansion.specs.Expanded.{IsWhole, augments_of}
+use Rattle.yv_augments.specs.declared.label.Label.{Label}
+use Rattle.yv_augments.specs.Groups.{group_of_augment, members_of}
+use Rattle.yv_augments.specs.Placed.{nothing}
+use Rattle.yv_augments.specs.Rounds.{AreApplied}
+use Rattle.yv_augments.specs.Turns.{State, is_applied}
+use Rattle.yv_augments.specs.Turns as turns
+use Rattle.yv_augmented.specs.Grafted.{AreGrafted, module_paths, path_in, step_name}
+use Rattle.yv_augmented.specs.Spots.{Whole, own_home}
+use Rattle.yv_expanded_tree.specs.Expanded.{Expand, Tops}
+use Rattle.yv_expanded_tree.specs.Gives.{Gives, Made, judged, takes_block}
+use Rattle.yv_expanded_tree.specs.Nodes.{Forest, given_by, inserted}
+use Rattle.yv_expanded_tree.specs.Paths.{Leads, Step, at as end_at, path_of}
+use Rattle.yv_expanded_tree.specs.Rounds.{IsHome, Round, Rounds}
+use Rattle.yv_expanded_tree.specs.Rounds.Round.{none_left as round_over, adds as round_adds, untargeted as round_misses, waits as round_waits}
+use Rattle.yv_expanded_tree.specs.Rounds.Rounds.{last as last_round, one_more as one_more_round}
+use Rattle.yv_expanded_tree.proofs.Giving.{RefersToOne}
+use Rattle.yv_shown_tree.specs.Blocks.{run_all}
+use Rattle.yv_shown_tree.specs.Files.{AreGiven, FilesShow, ShowFiles, begins_at, expansion_of, giver_of, labels_in}
+use Rattle.yv_shown_tree.specs.Frames.{Frame, MayEnter}
+use Rattle.yv_shown_tree.specs.Marks.{mark_of}
+use Rattle.yv_shown_tree.specs.Rounds.{AreGivers}
+use Rattle.yv_shown_tree.specs.Shows.{Agree, Items, Shows}
+use Rattle.yv_shown_tree.specs.WholeRounds.{AreBetween, ArePlaces, AreWaiting, RoundOn, RoundsOn}
+use Rattle.yv_shown_tree.specs.WholeRounds.AreWaiting.{no_places, waits as waiting_here}
+use Rattle.yv_shown_tree.specs.WholeRounds.RoundOn.{none_left, adds, untargeted, waits}
+use Rattle.yv_shown_tree.specs.WholeRounds.RoundsOn.{no_more, one_more}
+use Rattle.yv_shown_tree.proofs.Beginning.{blocks_enter, own_enters}
+use Rattle.yv_shown_tree.proofs.Begun.{Begins}
+use Rattle.yv_shown_tree.proofs.Finding.{not_none}
+use Rattle.yv_shown_tree.proofs.Givers.{begins_apart, begins_up, given_is, giver_low, giver_place, giver_spans}
+use Rattle.yv_shown_tree.proofs.Keeping.{AllKept, MayAll, all_go_up, all_keep, block_keeps, goes_up}
+use Rattle.yv_shown_tree.proofs.Kinding.{right_is}
+use Rattle.yv_shown_tree.proofs.Making.{are, low}
+use Rattle.yv_shown_tree.proofs.Modules.{MadeAt, all_items, at_first, begins, begins_most, block_shows, facts, have, stand_givers, start_is, top_shows, ungiven, within}
+use Rattle.yv_shown_tree.proofs.Orders.{augment_in, augments_rise, at_there, rises_back, rises_one}
+use Rattle.yv_shown_tree.proofs.Starting.{none_applied, none_there}
+use Rattle.yv_shown_tree.proofs.Telling.{labels_tell, paths_agree, there_is}
+use Rattle.yv_shown_tree.proofs.WholeRounds.{rounds_by}
+
+-- a place for each of a list
+abbrev places_from : {A : Type 0} → ℕ → List A → List ℕ
+places_from k [] = []
+places_from k (x ∷ xs) = k ∷ places_from (k + 1) xs
+
+all_wait : (st : State) (k : ℕ) (paths : List (List ℕ)) → ((j : ℕ) → k ≤ j → j < k + length paths → is_applied st j ≡ false) → AreWaiting st k paths (places_from k paths)
+all_wait st k [] none = no_places
+all_wait st k (names ∷ others) none = waiting_here (none k (omega arith) (omega arith)) (all_wait st (k + 1) others (λ j l h. none j (omega (arith, l)) (omega (arith, h))))
+
+got : (xs : List ℕ) (k a : ℕ) → slice_get xs k ≡ Some a → get_or xs k 0 ≡ a
+got [] k a at = absurd (not_none at)
+got (x ∷ xs) zero a at = same_Some x a at
+got (x ∷ xs) (suc k) a at = got xs k a at
+
+some_first : {A B : Type 0} (f : A → B) (xs : List A) → 1 ≤ length xs → (y : B) × (ys : List B) × (map f xs ≡ y ∷ ys)
+some_first f [] l = absurd (omega (arith, l))
+some_first f (x ∷ xs) l = (f x, map f xs, refl)
+
+judged_nodes : (b : Bool) (a : ℕ) (m : Made) → (judged b a m).nodes ≡ m.nodes
+judged_nodes true a m = refl
+judged_nodes false a m = refl
+
+module _ (files : Files) (marks : List Bool) (order : List ℕ) (own : ℕ) (items : List Item) (its : Items) (given : AreGiven files marks order) (expanded : IsWhole files marks order own items)
+    (tells : ShowFiles files marks items its) (one_meant : RefersToOne files) where
+  abbrev briefs : Briefs
+  briefs = map brief_of files
+
+  abbrev rows : List Row
+  rows = rows_of files
+
+  abbrev augments : List ℕ
+  augments = augments_of briefs rows marks
+
+  abbrev w : Whole
+  w = expansion_of files marks items
+
+  abbrev labels : List Label
+  labels = labels_in files marks items
+
+  abbrev number : ℕ → ℕ
+  number k = get_or augments k 0
+
+  abbrev path_row : Option Row → List Step
+  path_row None = []
+  path_row (Some r) = path_of files (home_at briefs r.file) r
+
+  abbrev path_by : Option ℕ → List Step
+  path_by None = []
+  path_by (Some a) = path_row (slice_get rows a)
+
+  abbrev path : ℕ → List Step
+  path k = path_by (slice_get augments k)
+
+  abbrev block : ℕ → Forest → Type 0
+  block k f = (a : ℕ) × (home : ℕ) × (m : Made) × (slice_get augments k ≡ Some a) × IsHome files a home × Gives files home (a ∷ []) (block_of rows a) m × (f ≡ given_by a m.nodes)
+
+  abbrev top : ℕ
+  top = count (all_of expanded.trees)
+
+  abbrev first : ℕ → ℕ
+  first k = begins_at top expanded.added k
+
+  abbrev last : ℕ → ℕ
+  last k = begins_at top expanded.added (suc k)
+
+  abbrev paths : List (List ℕ)
+  paths = module_paths w
+
+  many_paths : length paths ≡ length augments
+  many_paths = length-map augments (λ a. path_in w (own_home w.files (slice_get w.rows a)) a)
+
+  path_is : (k a : ℕ) (q : Row) → slice_get augments k ≡ Some a → slice_get rows a ≡ Some q → path k ≡ path_of files (home_at briefs q.file) q
+  path_is k a q at row = ap path_by at ∙ ap path_row row
+
+  -- the rounds of files are those by places
+  abbrev AreAt : List ℕ → List ℕ → Type 0
+  AreAt [] [] = Unit {0}
+  AreAt [] (a ∷ numbers) = ⊥
+  AreAt (k ∷ ks) [] = ⊥
+  AreAt (k ∷ ks) (a ∷ numbers) = (slice_get augments k ≡ Some a) × AreAt ks numbers
+
+  at_places : {B : Type 0} (f : ℕ → B) (k : ℕ) (numbers : List ℕ) → ((j : ℕ) → slice_get numbers j ≡ slice_get augments (k + j)) → AreAt (places_from k (map f numbers)) numbers
+  at_places f k [] are_at = tt
+  at_places f k (a ∷ numbers) are_at = (
+    ap (slice_get augments) (let e : k ≡ k + 0 = omega arith in e) ∙ sym (are_at 0),
+    at_places f (k + 1) numbers (λ j. are_at (suc j) ∙ ap (slice_get augments) (let e : k + suc j ≡ k + 1 + j = omega arith in e)),
+  )
+
+  at_long : (ks numbers : List ℕ) → AreAt ks numbers → length ks ≡ length numbers
+  at_long [] [] at = refl
+  at_long [] (a ∷ numbers) at = absurd at
+  at_long (k ∷ ks) [] at = absurd at
+  at_long (k ∷ ks) (a ∷ numbers) at = (let e = at_long ks numbers at.1 in omega (arith, e))
+
+  at_one : (ks js numbers : List ℕ) → AreAt ks numbers → AreAt js numbers → js ≡ ks
+  at_one [] [] numbers p q = refl
+  at_one [] (j ∷ js) [] p q = absurd q
+  at_one [] (j ∷ js) (a ∷ numbers) p q = absurd p
+  at_one (k ∷ ks) js [] p q = absurd p
+  at_one (k ∷ ks) [] (a ∷ numbers) p q = absurd q
+  at_one (k ∷ ks) (j ∷ js) (a ∷ numbers) p q =
+      ap (λ (n : ℕ). n ∷ js) (rises_one augments (augments_rise files marks) j k a q.0 p.0) ∙ ap (λ z. k ∷ z) (at_one ks js numbers p.1 q.1)
+
+  -- where the path of an augment leads
+  leads_so : (k a home : ℕ) (r : Row) → slice_get augments k ≡ Some a → IsHome files a home → slice_get rows a ≡ Some r → path_of files home r ≡ path k
+  leads_so k a home r at (q, row, home_is) row' =
+      let same : q ≡ r = same_Some q r (sym row ∙ row') in
+      ap (λ (h : ℕ). path_of files h r) (home_is ∙ ap (λ (z : Row). home_at briefs z.file) same) ∙ sym (path_is k a r at row')
+
+  round_on : {waiting still : List ℕ} {m end : Made} → Round files waiting m still end → (ks : List ℕ) → AreAt ks waiting
+      → (js : List ℕ) × AreAt js still × RoundOn number path block ks m.nodes js end.nodes
+  round_on round_over [] at = ([], tt, none_left)
+  round_on round_over (k ∷ ks) at = absurd at
+  round_on (round_adds home G reach more) [] at = absurd at
+  round_on (round_adds {home = home} {a = a} {m = m} {block = given_block} {last = end} {there = there} {target = target} home_is G reach more) (k ∷ ks) (at, others) =
+      let r = round_on more ks others in
+      let same = leads_so k a home reach.leads.0 at home_is reach.leads.1 in
+      let number_is : a ≡ number k = sym (got augments k a at) in
+      let leads : Leads false (path k) m.nodes (end_at target reach.below target (inserted (number k) (given_by a given_block.nodes) reach.below)) there =
+      subst (λ ss. Leads false ss m.nodes (end_at target reach.below target (inserted (number k) (given_by a given_block.nodes) reach.below)) there) same
+      (subst (λ (n : ℕ). Leads false (path_of files home reach.leads.0) m.nodes (end_at target reach.below target (inserted n (given_by a given_block.nodes) reach.below)) there) number_is reach.leads.2) in (
+        r.0,
+        r.1,
+        adds (a, home, given_block, at, home_is, G, refl) (leads, reach.may_be)
+            (subst (λ z. RoundOn number path block ks z r.0 end.nodes) (judged_nodes (takes_block rows a target.kind) a (record { nodes = there; wrong = m.wrong ++ given_block.wrong })) r.2),
+      )
+  round_on (round_misses home_is leads missed more) [] at = absurd at
+  round_on (round_misses {home = home} {a = a} {m = m} {e = e} {there = there} home_is (row, row_at, leads) missed more) (k ∷ ks) (at, others) =
+      let r = round_on more ks others in
+      let same = leads_so k a home row at home_is row_at in (
+        r.0,
+        r.1,
+        untargeted (subst (λ ss. Leads false ss m.nodes e there) same leads)
+            (λ target below there hit. missed target there (record { below = below; leads = (row, row_at, subst (λ ss. Leads false ss m.nodes (end_at target below target below) there) (sym same) hit.0); may_be = hit.1 })) r.2,
+      )
+  round_on (round_waits home_is nowhere more) [] at = absurd at
+  round_on (round_waits {home = home} {a = a} {m = m} home_is (row, row_at, nowhere) more) (k ∷ ks) (at, others) =
+      let r = round_on more ks others in
+      let same = leads_so k a home row at home_is row_at in
+      (k ∷ r.0, (at, r.1), waits (λ e there leads. nowhere e there (subst (λ ss. Leads false ss m.nodes e there) (sym same) leads)) r.2)
+
+  rounds_on : {waiting : List ℕ} {m end : Made} → Rounds files waiting m end → (ks : List ℕ) → AreAt ks waiting → RoundsOn number path block ks m.nodes end.nodes
+  rounds_on {waiting = waiting} {m = m} (last_round R) ks at =
+      let r = round_on R ks at in no_more (subst (λ js. RoundOn number path block ks m.nodes js m.nodes) (at_one ks r.0 waiting at r.1) r.2)
+  rounds_on {waiting = waiting} (one_more_round {still = still} R less more) ks at =
+      let r = round_on R ks at in
+      let a = at_long ks waiting at in let b = at_long r.0 still r.1 in
+      one_more r.2 (omega (arith, a, b, less)) (rounds_on more r.0 r.1)
+
+  abbrev B : Begins files augments (length items) items (ungiven its) (facts files marks order own items its given expanded tells) refl
+      (MadeAt files marks order own items its given expanded tells) order expanded.added top
+  B = begins files marks order own items its given expanded tells one_meant
+
+  abbrev st : State
+  st = at_first files marks order own items its given expanded tells one_meant
+
+  in_order : length items ≤ length labels
+  in_order = within files marks order own items its given expanded tells one_meant
+
+  whole_many : top + count (all_of expanded.added) ≡ length items
+  whole_many = all_items files marks order own items its given expanded tells one_meant
+
+  spans_of : (i a : ℕ) → giver_of w items i ≡ Some a → (p : ℕ) × (slice_get augments p ≡ Some a) × (first p ≤ i) × (i < last p)
+  spans_of i a gives = giver_spans w items refl top (length items) B.last_own B.last B.front B.augs in_order B.new B.more B.spots_are B.long B.lie B.all_lie expanded.added B.spans i a gives
+
+  givers : AreGivers its (giver_of w items)
+  givers = record {
+    marks = λ i. tells.told.given i ∙ given_is w items refl i;
+    shown = λ i is. tells.giver i;
+    apart = λ i j p q gi gj less.
+        (let x = spans_of i p gi in
+        let y = spans_of j q gj in
+        let l = rises_back augments (augments_rise files marks) x.0 y.0 p q x.1 y.1 less in
+        let z = begins_apart top expanded.added x.0 y.0 l in
+        let a = x.3 in let b = y.2 in omega (arith, z, a, b));
+  }
+
+  -- the path of the augment at a place
+  record PathAt (k : ℕ) (names : List ℕ) : Type 0 where
+    augment : ℕ
+    row : Row
+    there : slice_get augments k ≡ Some augment
+    at : slice_get rows augment ≡ Some row
+    has : has_path row ≡ true
+    names_are : names ≡ path_in w (home_at briefs row.file) augment
+
+  path_there : (k : ℕ) (names : List ℕ) → slice_get paths k ≡ Some names → PathAt k names
+  path_there k names at = by (slice_get augments k) refl
+    where
+      by : (o : Option ℕ) → slice_get augments k ≡ o → PathAt k names
+      by None is = absurd (not_none (sym (slice_get-map (λ a. path_in w (own_home briefs (slice_get rows a)) a) augments k ∙ ap (option_map (λ a. path_in w (own_home briefs (slice_get rows a)) a)) is) ∙ at))
+      by (Some a) is =
+          let q = augment_in files marks a (at_there augments k a is) in
+          let same : path_in w (own_home briefs (slice_get rows a)) a ≡ names =
+          same_Some (path_in w (own_home briefs (slice_get rows a)) a) names
+          (sym (slice_get-map (λ a. path_in w (own_home briefs (slice_get rows a)) a) augments k ∙ ap (option_map (λ a. path_in w (own_home briefs (slice_get rows a)) a)) is) ∙ at) in
+          record {
+            augment = a;
+            row = q.row;
+            there = is;
+            at = q.at;
+            has = right_is (has_word (codes "refine") q.row.head) (has_word (codes "augment") q.row.head) q.is;
+            names_are = sym same ∙ ap (λ o. path_in w (own_home briefs o) a) q.at;
+          }
+
+  places : ArePlaces labels its number path first last paths
+  places = record {
+    agree = λ k names at.
+        (let x = path_there k names at in
+        subst (λ z. Agree labels its z (path k)) (sym x.names_are) (subst (λ z. Agree labels its (path_in w (home_at briefs x.row.file) x.augment) z) (sym (path_is k x.augment x.row x.there x.at))
+        (paths_agree files augments (length items) items its (home_at briefs x.row.file) x.augment x.row given.sound.few (have files marks order own items its given expanded tells) tells.told x.at x.has)));
+    steps = λ k names at.
+        (let x = path_there k names at in
+        let home : ℕ = home_at briefs x.row.file in
+        let many = length-slice_split (λ (b : ℕ). b == 47) (behind_root (name_in x.row)) in
+        let r = some_first (step_of briefs rows x.row.file) (steps_of (name_in x.row)) (omega (arith, many)) in (
+          step_name home r.0,
+          map (step_name home) r.1,
+          x.names_are ∙ (ap (λ o. map (step_name home) (path_at briefs rows o)) x.at
+              ∙ (ap (λ (b : Bool). map (step_name home) (if b then map (step_of briefs rows x.row.file) (steps_of (name_in x.row)) else [])) x.has ∙ ap (map (step_name home)) r.2)),
+        ));
+    items = λ k l. (let a = begins_most top expanded.added (suc k) in let b = whole_many in let c = in_order in omega (arith, a, b, c));
+    apart = λ j k x other from to. elim (cases_lt j k) [
+      | inl l ↦ (let a = begins_apart top expanded.added j k l in inl (omega (arith, a, to)))
+      | inr l ↦ (let a = begins_apart top expanded.added k j (less j k other l) in inr (omega (arith, a, from)))
+    ];
+    numbers = λ j k lj lk other same.
+        (let a = there_is augments j (let e = many_paths in omega (arith, lj, e)) in
+        let b = there_is augments k (let e = many_paths in omega (arith, lk, e)) in
+        let e = got augments j a.0 a.1 in let f = got augments k b.0 b.1 in
+        let one : b.0 ≡ a.0 = omega (arith, same, e, f) in
+        other (rises_one augments (augments_rise files marks) j k a.0 a.1 (b.1 ∙ ap (λ (n : ℕ). Some n) one)));
+  }
+    where
+      less : (j k : ℕ) → j ≢ k → k ≤ j → k < j
+      less j k other l = elim (cases_lt k j) [ inl h ↦ h | inr h ↦ absurd (other (omega (arith, l, h))) ]
+
+  abbrev before : State
+  before = run_all labels B.augs (nothing (length labels) B.last)
+
+  abbrev bare : Items
+  bare = ungiven its
+
+  entering : MayEnter labels 0 0 top (length augments) B.last_own before
+  entering =
+      own_enters labels bare (mark_of w) (are files augments (length items) items bare (facts files marks order own items its given expanded tells) refl)
+      (low files augments (length items) items bare (facts files marks order own items its given expanded tells) refl) top (length items) B.last_own B.last (length augments) B.front B.augs in_order
+
+  blocks_entering : MayAll labels top (length items) B.last_own B.last 0 (length augments) (nothing (length labels) B.last)
+  blocks_entering =
+      blocks_enter labels bare (mark_of w) (are files augments (length items) items bare (facts files marks order own items its given expanded tells) refl)
+      (low files augments (length items) items bare (facts files marks order own items its given expanded tells) refl) top (length items) B.last_own B.last (length augments) B.front B.augs in_order
+
+  kept : AllKept labels 0 top (length items) B.last_own B.last 0 (length augments) (nothing (length labels) B.last) before
+  kept = all_keep labels 0 B.augs (nothing (length labels) B.last) (inl (omega arith), inl (omega arith)) blocks_entering
+
+  framed : Frame labels 0 0 top (length augments) B.last_own before st
+  framed = (block_keeps labels 0 B.front before entering).0
+
+  up : (0 ≤ top) × (length augments ≤ B.last_own)
+  up = goes_up B.front
+
+  up' : (top ≤ length items) × (B.last_own ≤ B.last) × (0 ≤ length augments)
+  up' = all_go_up B.augs
+
+  top_empty : members_of before.groups 0 ≡ []
+  top_empty =
+      let far : ℕ = length labels + 1 + B.last in
+      let l = in_order in
+      (all_keep labels far B.augs (nothing (length labels) B.last) (inr (omega (arith, l)), inr (omega arith)) blocks_entering).frame.outside 0 (λ e. omega (arith, e)) (inl (omega arith), inl (omega arith))
+      ∙ none_there (length labels) B.last 0
+
+  in_own : (i : ℕ) → Contains (members_of st.groups 0) i → i < top
+  in_own i h = (framed.theirs i (subst (λ ms. Contains ms i) (framed.behind ∙ ap (λ z. z ++ framed.entered) top_empty) h)).1
+
+  none_yet : (j : ℕ) → j < length augments → is_applied st j ≡ false
+  none_yet j l =
+      let a = up.1 in let b = up'.1 in
+      ap turns.is_some (framed.ends j (inl l) ∙ (kept.gap_ends j (omega (arith, l, a)) ∙ none_applied (length labels) B.last j (omega (arith, l, a, b))))
+
+  between : (m : Made) → Tops files order m → AreBetween labels its (giver_of w items) number block first last (length paths) st m.nodes
+  between m T =
+      let s = top_shows files marks order own items its given expanded tells one_meant m T in
+      let high : top ≤ length labels = (let a = whole_many in let b = in_order in omega (arith, a, b)) in
+      record {
+        room = (let a = framed.groups in let b = framed.augments in let c = entering.room in omega (arith, a, b, c));
+        copies = (let a = framed.augments in let b = entering.copies in let c = up.1 in let d = many_paths in omega (arith, a, b, c, d));
+        whole = record {
+          items = s.items;
+          owns = s.owns;
+          bounds = λ i o. (let h = (s.bounds i o).1 in (omega arith, omega (arith, h, high)));
+          orders = record {
+            ascend = s.orders.ascend;
+            all = λ i h. s.orders.all i (h.0, (h.1.0, in_own i h.0));
+            only = λ i h. (let x = s.orders.only i h in let l = x.1.1 in (x.0, (x.1.0, omega (arith, l, high))));
+          };
+          stand = s.stand;
+        };
+        within = λ i h. (let l = in_own i h in omega (arith, l, high));
+        blocks = λ k f l waits gives. shown_at k f gives;
+        own = λ k i l waits h. own_at k i l h;
+        not_theirs = λ k x i l waits le h e. not_none (sym (stand_givers files marks order own items its given expanded tells one_meant x i h ∙ giver_low w items refl x le) ∙ e);
+        away = λ k x l waits o. (let h = (s.bounds x o).1 in let a = (begins_up top expanded.added k).0 in inl (omega (arith, h, a)));
+      }
+    where
+      shown_at : (k : ℕ) (f : Forest) → block k f → Shows its st.groups (group_of_augment labels k) (first k) (last k) f
+      shown_at k f (a, home, m, at, home_is, G, is) =
+          subst (λ z. Shows its st.groups (group_of_augment labels k) (first k) (last k) z) (sym is) (block_shows files marks order own items its given expanded tells one_meant k a home m at home_is G)
+
+      own_at : (k i : ℕ) → k < length paths → Contains (members_of st.groups (group_of_augment labels k)) i → ((first k ≤ i) × (i < last k)) × (giver_of w items i ≡ Some (number k))
+      own_at k i l h =
+          let a = there_is augments k (let e = many_paths in omega (arith, l, e)) in
+          let g : giver_of w items i ≡ Some a.0 =
+          stand_givers files marks order own items its given expanded tells one_meant (group_of_augment labels k) i h ∙ giver_place w items refl k a.0 a.1 in
+          let x = spans_of i a.0 g in
+          let same : x.0 ≡ k = rises_one augments (augments_rise files marks) x.0 k a.0 x.1 a.1 in
+          let e = ap first same in let f = ap last same in let y = x.2 in let z = x.3 in
+          ((omega (arith, e, y), omega (arith, f, z)), g ∙ ap (λ (n : ℕ). Some n) (sym (got augments k a.0 a.1)))
+
+  whole_shows : (m : Made) (new : State) → Expand files marks order m → AreGrafted w items new → Shows its new.groups 0 0 (length labels) m.nodes
+  whole_shows m new E grafted =
+      rounds_by labels its (giver_of w items) (labels_tell w items its tells.told) number path block first last paths st new (places_from 0 paths) E.own.nodes m.nodes givers places
+      (between E.own E.tops) (all_wait st 0 paths (λ j l h. none_yet j (let e = many_paths in omega (arith, h, e))))
+      (rounds_on E.rounds (places_from 0 paths) (at_places (λ a. path_in w (own_home w.files (slice_get w.rows a)) a) 0 augments (λ j. ap (slice_get augments) (let e : j ≡ 0 + j = omega arith in e))))
+      (subst (λ s. AreApplied labels 0 paths s new) (start_is files marks order own items its given expanded tells one_meant) grafted.applied)
+
+pub files_show : (files : Files) → RefersToOne files → FilesShow files
+files_show files one_meant marks order own items its m st given expanded tells E grafted = whole_shows files marks order own items its given expanded tells one_meant m st E grafted
