@@ -1,2 +1,3 @@
+pub mod NoPattern
 pub mod Quoting
 pub mod Speaking

@@ -4,11 +4,12 @@ use Rattle.std.specs.Fmt.{decimal}
 use Rattle.std.specs.List.{AllZip}
 use Rattle.std.specs.Str.{bytes_eq}
 use Rattle.yv_statement.specs.Tree.{Head, Tree, name_of}
+use Rattle.yv_statement.specs.declared.refusal.Refusal.{Refusal}
 use Rattle.yv_rows.specs.Rows.{Row}
 use Rattle.yv_rows.specs.Listed.{rows_of}
 use Rattle.yv_pattern.specs.Spells.{Translates}
 use Rattle.yv_streams.specs.Files.{File}
-use Rattle.yv_files.specs.Read.{IsRead}
+use Rattle.yv_files.specs.Read.{IsRead, IsUnreadAt}
 use Rattle.yv_messages.specs.Excerpt.{ShowsPlace, shown}
 use Rattle.yv_messages.specs.Quoted.{quoted}
 
@@ -22,6 +23,14 @@ pub record IsPatternAmong (rows : List Row) (r : Row) : Type 0 where
   pub at : slice_get rows number ≡ Some r
   pub keyword : bytes_eq r.head.keyword (codes "pattern") ≡ true
   pub dialect : IsOfDialect (name_of r.head)
+
+-- the statement is no `pattern`, or its argument is not of the dialect
+abbrev pub IsNoPattern : Row → Type 0
+IsNoPattern r = bytes_eq r.head.keyword (codes "pattern") ≡ true → IsOfDialect (name_of r.head) → ⊥
+
+-- none of these statements is a pattern of the dialect
+abbrev pub AreNoPatterns : List Row → Type 0
+AreNoPatterns rows = (number : ℕ) (r : Row) → slice_get rows number ≡ Some r → IsNoPattern r
 
 -- FILE:LINE: pattern not built
 abbrev pub unbuilt_line : File → ℕ → List ℕ
@@ -48,3 +57,8 @@ pub record TellsPattern (files : List File) (text : List ℕ) : Type 0 where
   pub trees : List Tree
   pub read : AllZip IsRead files trees
   pub tells : TellsAmong files (rows_of trees) text
+
+-- the files spell statements of which none is a pattern of the dialect, or they can't be read
+pub data HasNoPattern (files : List File) : Type 0 where
+  read : (trees : List Tree) → AllZip IsRead files trees → AreNoPatterns (rows_of trees) → HasNoPattern files
+  unread : (q : Refusal) → IsUnreadAt files q → HasNoPattern files

@@ -1,6 +1,7 @@
 //! What the form of arguments is, and which statements are not supported.
 use crate::site::{Site, is_among};
 use crate::telling::Telling;
+use crate::tokens::{CURLY, has_curly_quote};
 
 // The statements whose argument is a name without a prefix.
 static NAMED: &[&str] = &[
@@ -67,7 +68,12 @@ fn form_of(keyword: &str) -> &'static str {
 /// Adds what is wrong with an argument.
 pub(crate) fn tell_argument<'a>(telling: &mut Telling<'a>, site: &Site<'_, 'a>) {
     match site.entry.argument {
-        Some(_) => telling.subject("", form_of(site.keyword())),
+        Some(argument) => {
+            telling.subject("", form_of(site.keyword()));
+            if has_curly_quote(argument.as_bytes()) {
+                telling.say(CURLY);
+            }
+        }
         None => telling.subject("", " has no argument, and needs one."),
     }
 }

@@ -1,9 +1,11 @@
 //! Augments and refines.
 use crate::defaults::is_mandatory;
+use crate::imported::say_prefixed;
 use crate::nodes::{Steps, Way, follow, node_above, node_below, nodes_below, root_of, say_no_node};
 use crate::site::{Site, is_among};
 use crate::telling::Telling;
 use std::alloc::{AllocError, Global};
+use yv_rows::local;
 
 // The grouping of a `uses` in whose block a statement is, or the root of the module where its path begins.
 fn start_of<'s, 'a>(site: &Site<'s, 'a>) -> Option<Site<'s, 'a>> {
@@ -13,8 +15,11 @@ fn start_of<'s, 'a>(site: &Site<'s, 'a>) -> Option<Site<'s, 'a>> {
     }
 }
 
-// Follows the path of an `augment` or a `refine`.
-fn way_of<'s, 'a>(alloc: Global, site: &Site<'s, 'a>) -> Result<Way<'s, 'a>, AllocError> {
+/// Follows the path of an `augment` or a `refine`.
+pub(crate) fn way_of<'s, 'a>(
+    alloc: Global,
+    site: &Site<'s, 'a>,
+) -> Result<Way<'s, 'a>, AllocError> {
     match start_of(site) {
         Some(start) => follow(alloc, &start, site.argument(), Steps::Schema),
         None => Ok(Way::Unknown),
@@ -146,9 +151,12 @@ pub(crate) fn tell_augment_target<'a>(
         " does not lead to a node that can be augmented.",
     );
     match way_of(alloc, site)? {
-        Way::Until(node, name) => return say_missing_step(alloc, telling, &node, name),
+        Way::Until(node, name) => say_missing_step(alloc, telling, &node, name)?,
         Way::To(node) => say_no_target(telling, &node),
         _ => telling.say(" Look at the prefixes of its steps."),
+    }
+    if site.argument().starts_with('/') {
+        say_prefixed(alloc, telling, site, site.argument(), Steps::Schema)?;
     }
     Ok(())
 }
@@ -172,11 +180,10 @@ fn say_missing_step<'a>(
 // Adds the case of a node, which a path leaves out.
 fn say_case<'a>(telling: &mut Telling<'a>, node: &Site<'_, 'a>) {
     match case_around(node) {
-        Some(case) => telling.statement(
-            " That node is in the ",
-            &case,
-            ", which is a step of the path, too.",
-        ),
+        Some(case) => {
+            telling.statement(" That node is in the ", &case, "");
+            telling.point(" at ", &case, ", which is a step of the path, too.");
+        }
         None => telling.quote(
             " The case of ",
             node.argument(),
@@ -198,8 +205,9 @@ fn case_around<'s, 'a>(node: &Site<'s, 'a>) -> Option<Site<'s, 'a>> {
 // Adds why a node is no target.
 fn say_no_target<'a>(telling: &mut Telling<'a>, node: &Site<'_, 'a>) {
     if !is_among(node.keyword(), TARGETS) {
-        telling.statement(
-            " It leads to the ",
+        telling.statement(" It leads to the ", node, "");
+        telling.point(
+            " at ",
             node,
             "; a target is a container, list, choice, case, input, output or notification.",
         );
@@ -239,7 +247,7 @@ pub(crate) fn tell_augment<'a>(
     site: &Site<'_, 'a>,
 ) -> Result<(), AllocError> {
     let augment = augment_around(site).unwrap_or(*site);
-    let Way::To(target) = way_of(alloc, &augment)? else {
+    let Some(target) = target_of(&way_of(alloc, &augment)?) else {
         telling.subject(
             "What the augment of ",
             " adds can't be added to its target.",
@@ -247,12 +255,42 @@ pub(crate) fn tell_augment<'a>(
         return Ok(());
     };
     let nodes = nodes_below(alloc, &augment, Steps::Schema)?;
-    if let Some(node) = unfit(&nodes, target.keyword()) {
+    if let Some(node) = unfit(&nodes, target.keyword) {
         say_unfit(telling, &node, &target);
     } else {
         say_mandatory(telling, &nodes, &target);
     }
     Ok(())
+}
+
+/// A node that is augmented. An input or output that isn't written has the statement of its operation.
+#[derive(Clone, Copy)]
+pub(crate) struct Target<'s, 'a> {
+    keyword: &'a str,
+    pub(crate) node: Site<'s, 'a>,
+}
+
+/// The target to which a path leads.
+pub(crate) fn target_of<'s, 'a>(way: &Way<'s, 'a>) -> Option<Target<'s, 'a>> {
+    match way {
+        Way::To(node) => Some(Target {
+            keyword: node.keyword(),
+            node: *node,
+        }),
+        Way::Until(node, name) if is_operation(node) && is_among(local(name), SIDES) => {
+            Some(Target {
+                keyword: local(name),
+                node: *node,
+            })
+        }
+        _ => None,
+    }
+}
+
+static SIDES: &[&str] = &["input", "output"];
+
+fn is_operation(node: &Site<'_, '_>) -> bool {
+    node.is("rpc") || node.is("action")
 }
 
 // The first of these nodes that can't be in the block of a node of this keyword.
@@ -274,14 +312,36 @@ fn takes(target: &str, node: &str) -> bool {
     }
 }
 
-fn say_unfit<'a>(telling: &mut Telling<'a>, node: &Site<'_, 'a>, target: &Site<'_, 'a>) {
+fn say_unfit<'a>(telling: &mut Telling<'a>, node: &Site<'_, 'a>, target: &Target<'_, 'a>) {
     telling.subject("The augment of ", " is wrong: ");
     telling.statement("the ", node, "");
-    telling.statement(" can't be in the ", target, ".");
+    telling.point(" at ", node, "");
+    say_target(telling, " can't be in the ", target);
+    telling.say(".");
+}
+
+// Adds a target and its place.
+fn say_target<'a>(telling: &mut Telling<'a>, before: &'a str, target: &Target<'_, 'a>) {
+    telling.say(before);
+    if is_among(target.keyword, SIDES) {
+        telling.say(target.keyword);
+        telling.say(" of the ");
+        let operation = if is_operation(&target.node) {
+            Some(target.node)
+        } else {
+            target.node.parent()
+        };
+        if let Some(operation) = operation {
+            telling.statement("", &operation, "");
+        }
+    } else {
+        telling.statement("", &target.node, "");
+    }
+    telling.point(" at ", &target.node, "");
 }
 
 // Adds that a mandatory node is added to another module, and which one it is.
-fn say_mandatory<'a>(telling: &mut Telling<'a>, nodes: &[Site<'_, 'a>], target: &Site<'_, 'a>) {
+fn say_mandatory<'a>(telling: &mut Telling<'a>, nodes: &[Site<'_, 'a>], target: &Target<'_, 'a>) {
     telling.subject(
         "The augment of ",
         " adds a mandatory node to another module",
@@ -290,7 +350,8 @@ fn say_mandatory<'a>(telling: &mut Telling<'a>, nodes: &[Site<'_, 'a>], target: 
         Some(node) => {
             telling.statement(": the ", &node, "");
             telling.point(" at ", &node, " is mandatory, and");
-            telling.statement(" the ", target, " is not of this module.");
+            say_target(telling, " the ", target);
+            telling.say(" is not of this module.");
         }
         None => telling.say("."),
     }

@@ -1,7 +1,7 @@
 //! The cause of a refusal at a statement.
 use crate::arguments::{tell_argument, tell_unsupported};
 use crate::augments::{tell_augment, tell_augment_target, tell_refine, tell_refine_target};
-use crate::circle::{FEATURES, GROUPINGS, IDENTITIES, TYPEDEFS, tell_cycle, tell_imports};
+use crate::circle::{tell_cycle, tell_imports};
 use crate::defaults::{tell_default, tell_mandatory};
 use crate::definitions::{
     tell_feature_name, tell_grouping_name, tell_identity_name, tell_second_module,
@@ -108,19 +108,19 @@ fn tell_circle<'a>(
     match code {
         Code::FeatureCycle => {
             telling.subject("The feature ", " depends on itself.");
-            tell_cycle(alloc, telling, rows, site, &FEATURES)
+            tell_cycle(alloc, telling, rows, site, "if-feature")
         }
         Code::IdentityCycle => {
             telling.subject("The identity ", " is derived from itself.");
-            tell_cycle(alloc, telling, rows, site, &IDENTITIES)
+            tell_cycle(alloc, telling, rows, site, "base")
         }
         Code::TypeCycle => {
             telling.subject("The typedef ", " is derived from itself.");
-            tell_cycle(alloc, telling, rows, site, &TYPEDEFS)
+            tell_cycle(alloc, telling, rows, site, "type")
         }
         _ => {
             telling.subject("The grouping ", " uses itself.");
-            tell_cycle(alloc, telling, rows, site, &GROUPINGS)
+            tell_cycle(alloc, telling, rows, site, "uses")
         }
     }
 }
@@ -149,13 +149,12 @@ fn tell_restricted<'a>(
     code: Code,
 ) -> Result<(), AllocError> {
     match code {
-        Code::BadRestriction => return tell_restriction(alloc, telling, site),
-        Code::BadNumbering => return tell_item(alloc, telling, site),
-        Code::BadType => return tell_type(alloc, telling, site),
-        Code::BadPattern => tell_pattern(telling, site.argument()),
-        _ => {}
+        Code::BadRestriction => tell_restriction(alloc, telling, site),
+        Code::BadNumbering => tell_item(alloc, telling, site),
+        Code::BadType => tell_type(alloc, telling, site),
+        Code::BadPattern => tell_pattern(alloc, telling, site.argument()),
+        _ => Ok(()),
     }
-    Ok(())
 }
 
 // The same, of the nodes of the schema.
@@ -177,10 +176,7 @@ fn tell_node<'a>(
             tell_config(telling, site);
             Ok(())
         }
-        Code::BadOperation => {
-            tell_operation(telling, site);
-            Ok(())
-        }
+        Code::BadOperation => tell_operation(alloc, telling, site),
         _ => Ok(()),
     }
 }

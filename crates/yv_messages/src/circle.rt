@@ -6,39 +6,7 @@ use std::alloc::{AllocError, Global};
 use yv_rows::{Kind, Places, Rows, first_places, local};
 
 /// How many names of a cycle are listed.
-const MOST_TOLD: usize = 10;
-
-/// How the statements of a cycle lead to each other: by statements in them of a keyword.
-#[derive(Clone, Copy)]
-pub(crate) struct Links {
-    pub(crate) keyword: &'static str,
-    pub(crate) verb: &'static str,
-}
-
-pub(crate) const IMPORTS: Links = Links {
-    keyword: "import",
-    verb: " imports ",
-};
-
-pub(crate) const FEATURES: Links = Links {
-    keyword: "if-feature",
-    verb: " depends on ",
-};
-
-pub(crate) const IDENTITIES: Links = Links {
-    keyword: "base",
-    verb: " is derived from ",
-};
-
-pub(crate) const TYPEDEFS: Links = Links {
-    keyword: "type",
-    verb: " is derived from ",
-};
-
-pub(crate) const GROUPINGS: Links = Links {
-    keyword: "uses",
-    verb: " uses ",
-};
+pub(crate) const MOST_TOLD: usize = 10;
 
 // The features of the files, by module and name.
 #[derive(Drop)]
@@ -202,37 +170,44 @@ fn say_cycle<'a>(
     alloc: Global,
     telling: &mut Telling<'a>,
     features: &Features<'_, 'a, '_>,
-    links: &Links,
+    keyword: &str,
     start: &Site<'_, 'a>,
     first: &[Site<'_, 'a>],
 ) -> Result<(), AllocError> {
-    if let Some(search) = searched(alloc, features, links.keyword, start, first)? {
+    if let Some(search) = searched(alloc, features, keyword, start, first)? {
         let mut way = search.way_back(alloc, start.number)?;
         way.reverse();
-        say_ring(telling, start, &way, links.verb);
+        say_ring(telling, start, &way);
     }
     Ok(())
 }
 
-// Adds the names of a ring: first and last that of this statement, which is the last of the numbers.
-fn say_ring<'a>(telling: &mut Telling<'a>, start: &Site<'_, 'a>, ring: &[usize], verb: &'a str) {
-    telling.quote(" The cycle: ", start.argument(), verb);
+// Adds the statements of a ring: first and last this one, which is the last of the numbers.
+fn say_ring<'a>(telling: &mut Telling<'a>, start: &Site<'_, 'a>, ring: &[usize]) {
+    telling.quote(" The cycle: ", start.argument(), " -> ");
     for number in ring
         .iter()
         .take(ring.len().min(MOST_TOLD).saturating_sub(1))
     {
         if let Some(site) = Site::at(start.entries, *number) {
-            telling.quote("", site.argument(), verb);
+            say_link(telling, &site);
         }
     }
-    if ring.len() > MOST_TOLD {
-        telling.count(
-            "",
-            ring.len().saturating_sub(MOST_TOLD) as u64,
-            " more, and so on to ",
-        );
-    }
+    say_rest(telling, ring.len());
     telling.quote("", start.argument(), ".");
+}
+
+/// Adds a statement of a cycle with its place.
+pub(crate) fn say_link<'a>(telling: &mut Telling<'a>, site: &Site<'_, 'a>) {
+    telling.quote("", site.argument(), "");
+    telling.point(" (", site, ") -> ");
+}
+
+/// Adds how many of the statements of a cycle are not listed.
+pub(crate) fn say_rest(telling: &mut Telling<'_>, count: usize) {
+    if count > MOST_TOLD {
+        telling.count("", count.saturating_sub(MOST_TOLD) as u64, " more -> ");
+    }
 }
 
 /// Adds the cycle of modules that an import is part of: this module, the one that it imports, and so on.
@@ -249,21 +224,21 @@ pub(crate) fn tell_imports<'a>(
     let features = Features::read(alloc, rows)?;
     match (import.module(), import.meaning()) {
         (Some(own), Some(first)) => {
-            say_cycle(alloc, telling, &features, &IMPORTS, &own, &[first])
+            say_cycle(alloc, telling, &features, "import", &own, &[first])
         }
         _ => Ok(()),
     }
 }
 
-/// Adds the cycle of definitions that one is part of.
+/// Adds the cycle of definitions that one is part of: each leads to the next one by a statement of this keyword.
 pub(crate) fn tell_cycle<'a>(
     alloc: Global,
     telling: &mut Telling<'a>,
     rows: &Rows<'a, '_>,
     site: &Site<'_, 'a>,
-    links: &Links,
+    keyword: &str,
 ) -> Result<(), AllocError> {
     let features = Features::read(alloc, rows)?;
-    let first = next_sites(alloc, &features, links.keyword, site)?;
-    say_cycle(alloc, telling, &features, links, site, &first)
+    let first = next_sites(alloc, &features, keyword, site)?;
+    say_cycle(alloc, telling, &features, keyword, site, &first)
 }

@@ -2,8 +2,8 @@
 use crate::augments::first_mandatory;
 use crate::guess::{nearest_site, say_guess};
 use crate::meanings::chain;
-use crate::nodes::{Steps, named, nodes_below, state_above};
-use crate::site::Site;
+use crate::nodes::{Steps, last_step, named, nodes_below, state_above};
+use crate::site::{Site, all_sites};
 use crate::telling::Telling;
 use crate::values::{are_same, is_no_value, say_values};
 use std::alloc::{AllocError, Global};
@@ -33,7 +33,7 @@ pub(crate) fn tell_default<'a>(
         return Ok(());
     }
     match defaults.as_slice() {
-        [] => say_refined(telling, site),
+        [] => return say_refined(alloc, telling, site, &types),
         [only] => return tell_value(alloc, telling, site, only, &types),
         _ => return tell_values(alloc, telling, site, &defaults, &types),
     }
@@ -54,8 +54,13 @@ fn say_first<'a>(telling: &mut Telling<'a>, defaults: &[Site<'_, 'a>]) {
     }
 }
 
-// Adds that a default comes by a `refine`.
-fn say_refined<'a>(telling: &mut Telling<'a>, site: &Site<'_, 'a>) {
+// Adds that a default comes by a `refine`, and which one this can be.
+fn say_refined<'a>(
+    alloc: Global,
+    telling: &mut Telling<'a>,
+    site: &Site<'_, 'a>,
+    types: &[Site<'_, 'a>],
+) -> Result<(), AllocError> {
     if site.is("leaf-list") {
         telling.subject(
             "A `refine` gives the leaf-list ",
@@ -67,6 +72,16 @@ fn say_refined<'a>(telling: &mut Telling<'a>, site: &Site<'_, 'a>) {
             " a default that is not one of its values.",
         );
     }
+    for refine in all_sites(alloc, site.entries, "refine")?.iter() {
+        if last_step(refine.argument()) == site.argument() {
+            if let Some(default) = refine.child("default") {
+                telling.quote(" The default ", default.argument(), "");
+                telling.point(" is at ", &default, ".");
+                return say_values(alloc, telling, types, &default);
+            }
+        }
+    }
+    Ok(())
 }
 
 // The defaults of a leaf or a leaf-list: its own, or that of the nearest typedef that has one.

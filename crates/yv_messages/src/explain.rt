@@ -43,7 +43,7 @@ fn push_told(
             Ok(())
         }
         Err(Stop::Fault(_)) => {
-            push_unread(text, bytes_at(inputs, refusal.file), refusal)?;
+            push_unread(alloc, text, inputs, bytes_at(inputs, refusal.file), refusal)?;
             Ok(())
         }
         Err(Stop::NoMemory) => Err(AllocError),

@@ -52,8 +52,17 @@ fn not_text(alloc: Global, bytes: &[u8], valid: usize) -> Result<String, AllocEr
     ensures { IfOk result (λ text. ShowsReason bytes.now (string_bytes text)) }
 {
     let mut why = excerpt(alloc, bytes, valid.min(bytes.len()))?;
-    why.push_str("data: not UTF-8 from this byte on\n")?;
+    why.push_str(if is_utf16(bytes) { UTF16 } else { NOT_UTF8 })?;
     Ok(why)
+}
+
+const NOT_UTF8: &str = "data: not UTF-8 from this byte on\n";
+
+const UTF16: &str = "data: not UTF-8 but UTF-16: save the document as UTF-8\n";
+
+// Whether a mark of UTF-16 is at the start.
+fn is_utf16(bytes: &[u8]) -> bool {
+    matches!(bytes, [0xFF, 0xFE, ..] | [0xFE, 0xFF, ..])
 }
 
 // Where a text is not JSON, and why.
@@ -66,9 +75,9 @@ fn told(alloc: Global, bytes: &[u8], error: &Error) -> Result<String, AllocError
     let reason = if message.as_str().starts_with("number") {
         "a number has a size below 1.8e308"
     } else if error.is_eof() {
-        reason_at(bytes, bytes.len())
+        reason_at(alloc, bytes, bytes.len())?
     } else {
-        reason_at(bytes, place)
+        reason_at(alloc, bytes, place)?
     };
     let line = format!(in alloc; "data: {message}: {reason}\n")?;
     why.push_str(line.as_str())?;

@@ -194,7 +194,8 @@ pub(crate) fn say_no_node<'a>(
     steps: Steps,
 ) -> Result<(), AllocError> {
     telling.quote(" There is no node ", name, "");
-    telling.statement(" in ", node, ".");
+    telling.statement(" in ", node, "");
+    telling.point(" at ", node, ".");
     let nodes = nodes_below(alloc, node, steps)?;
     say_guess(telling, nearest_site(local(name), &nodes));
     Ok(())

@@ -125,11 +125,18 @@ fn say_in_type<'a>(telling: &mut Telling<'a>, items: &[Site<'_, 'a>], site: &Sit
     let number = number_after(site, highest_before(items, site.number));
     match item_numbered(items, number, site.number) {
         Some(other) => {
-            telling.quote(" can't have a number that is taken: ", other.argument(), "");
-            telling.point(" at ", &other, " has it already.");
+            telling.say(" has the same ");
+            telling.say(number_word(site));
+            telling.quote(" as ", other.argument(), "");
+            telling.point(" at ", &other, ".");
         }
         None => telling.say(" has no number left: the highest is taken, so state one."),
     }
+}
+
+// What the number of an item is called.
+fn number_word(site: &Site<'_, '_>) -> &'static str {
+    if site.is("bit") { "position" } else { "value" }
 }
 
 // The number of an item of a type.

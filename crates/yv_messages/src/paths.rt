@@ -1,4 +1,6 @@
 //! Paths of leafrefs.
+use crate::circle::{MOST_TOLD, say_link, say_rest};
+use crate::imported::say_prefixed;
 use crate::lists::has_value;
 use crate::meanings::chain;
 use crate::nodes::{Steps, Way, follow, node_above, root_of, say_no_node, state_above};
@@ -79,12 +81,51 @@ pub(crate) fn tell_path<'a>(
         telling.point(" at ", &path, "");
     }
     telling.say(".");
-    match way_of(alloc, leaf, &path)? {
-        Way::Until(node, name) => say_no_node(alloc, telling, &node, name, Steps::Data),
-        way => {
-            say_way(telling, leaf, &way);
-            Ok(())
+    let way = way_of(alloc, leaf, &path)?;
+    match way {
+        Way::Until(node, name) => say_no_node(alloc, telling, &node, name, Steps::Data)?,
+        _ => say_way(telling, leaf, &way),
+    }
+    if path.argument().starts_with('/') {
+        say_prefixed(alloc, telling, &path, path.argument(), Steps::Data)
+    } else {
+        say_climb(alloc, telling, leaf, path.argument())
+    }
+}
+
+// Adds the path with one `..` more or less, if that leads to a leaf or a leaf-list.
+fn say_climb<'a>(
+    alloc: Global,
+    telling: &mut Telling<'a>,
+    leaf: &Site<'_, 'a>,
+    path: &'a str,
+) -> Result<(), AllocError> {
+    if is_way(alloc, leaf, path, true)? {
+        telling.quote_joined(" Did you mean ", "../", path, "?");
+    } else if let Some(shorter) = path.strip_prefix("../") {
+        if shorter.starts_with("../") && is_way(alloc, leaf, shorter, false)? {
+            telling.quote(" Did you mean ", shorter, "?");
         }
+    }
+    Ok(())
+}
+
+// Whether a path leads from a leaf, or from the node above it, to another leaf or leaf-list.
+fn is_way<'a>(
+    alloc: Global,
+    leaf: &Site<'_, 'a>,
+    path: &'a str,
+    is_above: bool,
+) -> Result<bool, AllocError> {
+    let Some(start) = (if is_above { above(leaf) } else { Some(*leaf) }) else {
+        return Ok(false);
+    };
+    let Some((node, rest)) = climbed(&start, path) else {
+        return Ok(false);
+    };
+    match follow(alloc, &node, rest, Steps::Data)? {
+        Way::To(target) => Ok(has_value(&target) && target.number != leaf.number),
+        _ => Ok(false),
     }
 }
 
@@ -100,23 +141,26 @@ fn is_within(path: &Site<'_, '_>, leaf: &Site<'_, '_>) -> bool {
 fn say_way<'a>(telling: &mut Telling<'a>, leaf: &Site<'_, 'a>, way: &Way<'_, 'a>) {
     match way {
         Way::Above => telling.say(" It goes above the top of the module: it has a `..` too many."),
-        Way::To(node) if !has_value(node) => telling.statement(
-            " It leads to the ",
-            node,
-            ", and has to lead to a leaf or leaf-list.",
-        ),
+        Way::To(node) if !has_value(node) => {
+            telling.statement(" It leads to the ", node, "");
+            telling.point(" at ", node, ", and has to lead to a leaf or leaf-list.");
+        }
         Way::To(node) if state_above(node).is_some() && state_above(leaf).is_none() => {
-            telling.statement(
-                " The ",
+            telling.statement(" The ", node, "");
+            telling.point(
+                " at ",
                 node,
                 " is state, and this leafref is configuration.",
             );
         }
-        Way::To(node) => telling.statement(
-            " The ",
-            node,
-            " can't be referred to: look at the prefixes and the conditions on the way.",
-        ),
+        Way::To(node) => {
+            telling.statement(" The ", node, "");
+            telling.point(
+                " at ",
+                node,
+                " can't be referred to: look at the prefixes and the conditions on the way.",
+            );
+        }
         _ => {}
     }
 }
@@ -161,20 +205,12 @@ fn target_of<'s, 'a>(
     }
 }
 
-/// How many leafrefs of a cycle are listed.
-const MOST_TOLD: usize = 10;
-
+// Adds the leafrefs of a cycle: first and last this one.
 fn say_leafrefs<'a>(telling: &mut Telling<'a>, ring: &[Site<'_, 'a>], leaf: &Site<'_, 'a>) {
-    telling.say(" The cycle: ");
-    for site in ring.iter().take(MOST_TOLD) {
-        telling.quote("", site.argument(), " refers to ");
+    telling.quote(" The cycle: ", leaf.argument(), " -> ");
+    for site in ring.iter().take(MOST_TOLD).skip(1) {
+        say_link(telling, site);
     }
-    if ring.len() > MOST_TOLD {
-        telling.count(
-            "",
-            ring.len().saturating_sub(MOST_TOLD) as u64,
-            " more, and so on to ",
-        );
-    }
+    say_rest(telling, ring.len());
     telling.quote("", leaf.argument(), ".");
 }

@@ -1,10 +1,10 @@
 //! Patterns that the library of regular expressions doesn't build.
-ghost use Rattle.std.specs.Prelude.{◌≡◌, true, IfOk, IfSome, codes};
+ghost use Rattle.std.specs.Prelude.{◌≡◌, true, false, IfOk, IfNone, IfSome, codes};
 ghost use Rattle.std.specs.Str.{bytes_eq};
 ghost use Rattle.yv_statement.specs.Tree.{name_of as name_at};
 ghost use Rattle.yv_rows.specs.Rows.{row};
 ghost use Rattle.yv_rows.specs.Lent.{rows_in};
-ghost use Rattle.yv_messages.specs.Unbuilt.{IsOfDialect, IsPatternAmong};
+ghost use Rattle.yv_messages.specs.Unbuilt.{AreNoPatterns, IsOfDialect, IsPatternAmong};
 
 use std::alloc::{AllocError, Global};
 use yv_pattern::Patterns;
@@ -24,7 +24,8 @@ fn is_unbuilt_text(alloc: Global, patterns: &mut Patterns, text: &str) -> Result
 
 // Whether a text is a pattern of the dialect.
 fn is_of_dialect(alloc: Global, text: &str) -> Result<bool, AllocError>
-    ensures { IfOk result (λ is. is ≡ true → IsOfDialect text.now) }
+    ensures is { IfOk result (λ is. is ≡ true → IsOfDialect text.now) }
+    ensures not { IfOk result (λ is. is ≡ false → IsOfDialect text.now → ⊥) }
 {
     match Patterns::new(alloc).read(alloc, text) {
         Ok(_) | Err(Stop::PatternBuild) => Ok(true),
@@ -37,6 +38,8 @@ fn is_of_dialect(alloc: Global, text: &str) -> Result<bool, AllocError>
 fn is_pattern(alloc: Global, statement: &Statement<'_>) -> Result<bool, AllocError>
     ensures keyword { IfOk result (λ is. is ≡ true → bytes_eq statement.now.head.keyword (codes "pattern") ≡ true) }
     ensures dialect { IfOk result (λ is. is ≡ true → IsOfDialect (name_at statement.now.head)) }
+    ensures not { IfOk result (λ is. is ≡ false → bytes_eq statement.now.head.keyword (codes "pattern") ≡ true
+        → IsOfDialect (name_at statement.now.head) → ⊥) }
 {
     if statement.keyword() != "pattern" {
         return Ok(false);
@@ -81,7 +84,8 @@ pub(crate) fn first_pattern<'r, 'a, 'b>(
     alloc: Global,
     rows: &'r Rows<'a, 'b>,
 ) -> Result<Option<&'r Entry<'a, 'b>>, AllocError>
-    ensures { IfOk result (λ found. IfSome found (λ e. IsPatternAmong (rows_in rows.now) (row e.now))) }
+    ensures found { IfOk result (λ found. IfSome found (λ e. IsPatternAmong (rows_in rows.now) (row e.now))) }
+    ensures none { IfOk result (λ found. IfNone found (AreNoPatterns (rows_in rows.now))) }
 {
     for entry in rows.entries() {
         if is_pattern(alloc, entry.statement)? {

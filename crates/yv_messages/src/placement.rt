@@ -1,5 +1,6 @@
 //! Nodes that can't be where they are, or whose names are taken there.
-use crate::nodes::{DATA_NODES, next_uses, node_above, state_above};
+use crate::augments::{target_of, way_of};
+use crate::nodes::{DATA_NODES, Way, next_uses, node_above, state_above};
 use crate::site::{Site, is_among};
 use crate::telling::Telling;
 use std::alloc::{AllocError, Global};
@@ -21,20 +22,17 @@ fn state_over<'s, 'a>(site: &Site<'s, 'a>) -> Option<Site<'s, 'a>> {
     state_above(&node_above(site)?)
 }
 
-/// How many nodes above one are looked at.
-const MOST_STEPS: usize = 128;
-
 /// Adds which node above an action or a notification it can't be in.
-pub(crate) fn tell_operation<'a>(telling: &mut Telling<'a>, site: &Site<'_, 'a>) {
+pub(crate) fn tell_operation<'a>(
+    alloc: Global,
+    telling: &mut Telling<'a>,
+    site: &Site<'_, 'a>,
+) -> Result<(), AllocError> {
     telling.say("The ");
     telling.say(site.keyword());
     telling.subject(" ", " is not allowed here: ");
-    match hindrance(site) {
-        Some(around) if around.is("case") => telling.statement("it can't be in the ", &around, "."),
-        Some(around) if around.is("list") => {
-            telling.statement("it is inside the ", &around, ", which has no key.");
-        }
-        Some(around) => telling.statement("it is inside the ", &around, "."),
+    match find_hindrance(alloc, site)? {
+        Some(hindrance) => say_hindrance(telling, &hindrance),
         None if site.is("action") => {
             telling.say("an action can't be at the top of a module; that is an `rpc`.");
         }
@@ -42,22 +40,142 @@ pub(crate) fn tell_operation<'a>(telling: &mut Telling<'a>, site: &Site<'_, 'a>)
             "a node above it is an operation, a notification, or a list without a key.",
         ),
     }
+    Ok(())
 }
 
-// The `case`, or the nearest node above an action or a notification, in which it can't be.
-fn hindrance<'s, 'a>(site: &Site<'s, 'a>) -> Option<Site<'s, 'a>> {
-    let parent = site.parent()?;
-    if parent.is("case") {
-        return Some(parent);
+// What an action or a notification can't be in, and the last `uses` by which it comes there.
+#[derive(Clone, Copy)]
+struct Hindrance<'s, 'a> {
+    around: Site<'s, 'a>,
+    uses: Option<Site<'s, 'a>>,
+    /// Whether no other node is between the two.
+    is_direct: bool,
+}
+
+impl Hindrance<'_, '_> {
+    // Whether no action or notification can be there.
+    fn is_one(&self) -> bool {
+        hinders(&self.around) || (self.is_direct && self.around.is("case"))
     }
-    let mut at = *site;
-    for _ in 0..MOST_STEPS {
-        at = node_above(&at)?;
-        if hinders(&at) {
-            return Some(at);
+}
+
+fn say_hindrance<'a>(telling: &mut Telling<'a>, hindrance: &Hindrance<'_, 'a>) {
+    if let Some(uses) = &hindrance.uses {
+        telling.statement("by the ", uses, "");
+        telling.point(" at ", uses, " ");
+    }
+    let around = &hindrance.around;
+    telling.statement(
+        if around.is("case") {
+            "it can't be in the "
+        } else {
+            "it is inside the "
+        },
+        around,
+        "",
+    );
+    telling.point(
+        " at ",
+        around,
+        if around.is("list") {
+            ", which has no key."
+        } else {
+            "."
+        },
+    );
+}
+
+// The first place that hinders an action or a notification, by way of the `uses` of groupings too.
+fn find_hindrance<'s, 'a>(
+    alloc: Global,
+    site: &Site<'s, 'a>,
+) -> Result<Option<Hindrance<'s, 'a>>, AllocError> {
+    let mut open = Vec::new(alloc);
+    push_around(&mut open, site, None, true)?;
+    let mut followed: usize = 0;
+    for place in 0..MOST_PLACES {
+        let Some(next) = open.get(place).copied() else {
+            break;
+        };
+        if next.is_one() {
+            return Ok(Some(next));
+        }
+        if !is_copied(&next.around) {
+            push_around(&mut open, &next.around, next.uses, false)?;
+        } else if followed < MOST_FOLLOWED {
+            followed += 1;
+            push_copies(alloc, &mut open, &next)?;
         }
     }
-    None
+    Ok(None)
+}
+
+// Adds the statement around one, unless that is a file.
+fn push_around<'s, 'a>(
+    open: &mut Vec<Hindrance<'s, 'a>>,
+    site: &Site<'s, 'a>,
+    uses: Option<Site<'s, 'a>>,
+    is_direct: bool,
+) -> Result<(), AllocError> {
+    match site.parent() {
+        Some(around) if !around.is_root() => open.push(Hindrance {
+            around,
+            uses,
+            is_direct,
+        })?,
+        _ => {}
+    }
+    Ok(())
+}
+
+// Adds the statements around the `uses` of a grouping.
+fn push_uses<'s, 'a>(
+    open: &mut Vec<Hindrance<'s, 'a>>,
+    grouping: &Hindrance<'s, 'a>,
+) -> Result<(), AllocError> {
+    let mut from = 0;
+    for _ in 0..MOST_USES {
+        let Some(uses) = next_uses(&grouping.around, from) else {
+            break;
+        };
+        from = uses.number.saturating_add(1);
+        push_around(open, &uses, Some(uses), grouping.is_direct)?;
+    }
+    Ok(())
+}
+
+// Whether the nodes in a statement come to be elsewhere.
+fn is_copied(site: &Site<'_, '_>) -> bool {
+    site.is("grouping") || site.is("augment")
+}
+
+// Adds where the nodes in a grouping or in an `augment` come to be.
+fn push_copies<'s, 'a>(
+    alloc: Global,
+    open: &mut Vec<Hindrance<'s, 'a>>,
+    copied: &Hindrance<'s, 'a>,
+) -> Result<(), AllocError> {
+    if copied.around.is("grouping") {
+        push_uses(open, copied)
+    } else {
+        push_target(alloc, open, copied)
+    }
+}
+
+// Adds the target of an `augment`.
+fn push_target<'s, 'a>(
+    alloc: Global,
+    open: &mut Vec<Hindrance<'s, 'a>>,
+    augment: &Hindrance<'s, 'a>,
+) -> Result<(), AllocError> {
+    if let Some(target) = target_of(&way_of(alloc, &augment.around)?) {
+        open.push(Hindrance {
+            around: target.node,
+            uses: augment.uses,
+            is_direct: augment.is_direct,
+        })?;
+    }
+    Ok(())
 }
 
 // Whether no operation or notification can be in a node.
@@ -69,6 +187,12 @@ fn hinders(node: &Site<'_, '_>) -> bool {
     }
 }
 
+/// How many `uses` of a grouping are looked at.
+const MOST_USES: usize = 64;
+
+/// How many groupings and augments are followed to where their nodes come to be.
+const MOST_FOLLOWED: usize = 16;
+
 /// How many places of a node are compared.
 const MOST_PLACES: usize = 256;
 
@@ -78,6 +202,24 @@ struct Landing<'s, 'a> {
     node: Site<'s, 'a>,
     block: Site<'s, 'a>,
     uses: Option<Site<'s, 'a>>,
+}
+
+// Adds the place of a node in the target of its `augment`, or in the augment, if its target isn't found.
+fn add_target<'s, 'a>(
+    alloc: Global,
+    open: &mut Vec<Landing<'s, 'a>>,
+    landings: &mut Vec<Landing<'s, 'a>>,
+    landing: Landing<'s, 'a>,
+) -> Result<(), AllocError> {
+    match way_of(alloc, &landing.block)? {
+        Way::To(block) => open.push(Landing {
+            node: landing.node,
+            block,
+            uses: landing.uses,
+        })?,
+        _ => landings.push(landing)?,
+    }
+    Ok(())
 }
 
 // Where a statement is, if it is a node of this name.
@@ -116,6 +258,7 @@ fn namesakes<'s, 'a>(
 fn landed<'s, 'a>(alloc: Global, site: &Site<'s, 'a>) -> Result<Vec<Landing<'s, 'a>>, AllocError> {
     let mut open = namesakes(alloc, site)?;
     let mut landings = Vec::new(alloc);
+    let mut augments: usize = 0;
     for _ in 0..MOST_PLACES {
         let Some(landing) = open.pop() else {
             break;
@@ -123,6 +266,10 @@ fn landed<'s, 'a>(alloc: Global, site: &Site<'s, 'a>) -> Result<Vec<Landing<'s, 
         match landing.block.keyword() {
             "choice" | "case" => add_around(&mut open, &landing)?,
             "grouping" => add_uses(&mut open, &landing)?,
+            "augment" if augments < MOST_FOLLOWED => {
+                augments += 1;
+                add_target(alloc, &mut open, &mut landings, landing)?;
+            }
             _ => landings.push(landing)?,
         }
     }

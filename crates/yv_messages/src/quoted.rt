@@ -9,8 +9,8 @@ use std::alloc::AllocError;
 /// How many bytes of a name are shown.
 const MOST_SHOWN: usize = 72;
 
-// The bytes of a name that are shown.
-fn front(name: &[u8]) -> &[u8]
+/// The bytes of a name that are shown.
+pub(crate) fn front(name: &[u8]) -> &[u8]
     ensures { result.now ≡ front name.now }
 {
     if name.len() <= MOST_SHOWN {

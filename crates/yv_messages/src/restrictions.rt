@@ -37,8 +37,8 @@ const HUGE: Bound<'static> = Bound {
     number: Integer::Natural(18_446_744_073_709_551_615),
 };
 
-// The least and the greatest number of a built-in type, or of lengths.
-fn limits_of(built_in: &str) -> Option<(&'static str, &'static str)> {
+/// The least and the greatest number of a built-in type, or of lengths.
+pub(crate) fn limits_of(built_in: &str) -> Option<(&'static str, &'static str)> {
     match built_in {
         "int8" => Some(("-128", "127")),
         "int16" => Some(("-32768", "32767")),

@@ -209,6 +209,11 @@ static KEYWORDS: &[&str] = &[
     "deviate",
 ];
 
+/// Whether YANG has a statement of this keyword.
+pub(crate) fn is_keyword(word: &str) -> bool {
+    is_among(word, KEYWORDS)
+}
+
 // Statements of these keywords, and those of which they may be substatements (RFC 7950, sections 7 and 9).
 struct Place {
     keywords: &'static [&'static str],
@@ -481,7 +486,7 @@ fn misspelt<'s, 'a>(site: &Site<'s, 'a>, needed: &str) -> Option<Site<'s, 'a>> {
 
 // Whether a keyword means nothing, and is like one that is needed.
 fn is_misspelt(keyword: &str, needed: &str) -> bool {
-    Guess::of(keyword, needed, None).is_some() && !is_among(keyword, KEYWORDS)
+    Guess::of(keyword, needed, None).is_some() && !is_keyword(keyword)
 }
 
 // The first statement of the same keyword in the same block, if this is a later one.

@@ -2,8 +2,9 @@
 ghost use Rattle.std.specs.Prelude.{OnOk, string_bytes};
 ghost use Rattle.yv_messages.specs.Quoted.{Extends, Quotes};
 
+use crate::code_points::push_code_point;
 use crate::place::{excerpt, push_shown};
-use crate::quoted::push_quoted;
+use crate::quoted::{front, push_quoted};
 use crate::site::Site;
 use std::alloc::{AllocError, Global};
 use yv_streams::Input;
@@ -13,11 +14,15 @@ use yv_streams::Input;
 enum Piece<'w> {
     Text(&'w str),
     Name(&'w str),
-    /// A prefix and a name.
-    Prefixed(&'w str, &'w str),
+    /// Two texts that are shown as one name.
+    Joined(&'w str, &'w str, &'w str),
+    /// A text of the files without quotes.
+    Part(&'w str),
     /// A keyword and a name.
     Statement(&'w str, &'w str),
     Number(u64),
+    /// The number of a character in Unicode.
+    CodePoint(char),
     Line(u32, u64),
     Excerpt(u32, u64),
 }
@@ -82,9 +87,27 @@ impl<'w> Telling<'w> {
         self.push(if prefix.is_empty() {
             Piece::Name(name)
         } else {
-            Piece::Prefixed(prefix, name)
+            Piece::Joined(prefix, ":", name)
         });
         self.push(Piece::Text(after));
+    }
+
+    /// Adds two texts of the files as one in quotes, with these words before and after it.
+    pub(crate) fn quote_joined(
+        &mut self,
+        before: &'w str,
+        front: &'w str,
+        rest: &'w str,
+        after: &'w str,
+    ) {
+        self.push(Piece::Text(before));
+        self.push(Piece::Joined(front, "", rest));
+        self.push(Piece::Text(after));
+    }
+
+    /// Adds a text of the files without quotes.
+    pub(crate) fn part(&mut self, text: &'w str) {
+        self.push(Piece::Part(text));
     }
 
     /// Adds a number, with these words before and after it.
@@ -94,11 +117,23 @@ impl<'w> Telling<'w> {
         self.push(Piece::Text(after));
     }
 
+    /// Adds the number of a character in Unicode, with these words before and after it.
+    pub(crate) fn character(&mut self, before: &'w str, character: char, after: &'w str) {
+        self.push(Piece::Text(before));
+        self.push(Piece::CodePoint(character));
+        self.push(Piece::Text(after));
+    }
+
+    /// Adds a file and a line, with these words before and after them.
+    pub(crate) fn line(&mut self, before: &'w str, file: u32, line: u64, after: &'w str) {
+        self.push(Piece::Text(before));
+        self.push(Piece::Line(file, line));
+        self.push(Piece::Text(after));
+    }
+
     /// Adds the file and the line of a statement, with these words before and after them.
     pub(crate) fn point(&mut self, before: &'w str, site: &Site<'_, '_>, after: &'w str) {
-        self.push(Piece::Text(before));
-        self.push(Piece::Line(site.entry.file, site.entry.line));
-        self.push(Piece::Text(after));
+        self.line(before, site.entry.file, site.entry.line, after);
     }
 
     /// Adds the line of a statement with a caret under it, below what was said so far.
@@ -115,10 +150,21 @@ impl<'w> Telling<'w> {
 
     /// Adds a statement as its keyword and its name, with these words before and after it.
     pub(crate) fn statement(&mut self, before: &'w str, site: &Site<'_, 'w>, after: &'w str) {
+        self.head(before, site.keyword(), site.entry.argument, after);
+    }
+
+    /// Adds a keyword and an argument, if there is one, with these words before and after them.
+    pub(crate) fn head(
+        &mut self,
+        before: &'w str,
+        keyword: &'w str,
+        argument: Option<&'w str>,
+        after: &'w str,
+    ) {
         self.push(Piece::Text(before));
-        self.push(match site.entry.argument {
-            Some(argument) => Piece::Statement(site.keyword(), argument),
-            None => Piece::Text(site.keyword()),
+        self.push(match argument {
+            Some(argument) => Piece::Statement(keyword, argument),
+            None => Piece::Name(keyword),
         });
         self.push(Piece::Text(after));
     }
@@ -146,22 +192,24 @@ fn push_piece(
     match piece {
         Piece::Text(words) => text.push_str(words),
         Piece::Name(name) => push_quoted(text, name),
-        Piece::Prefixed(prefix, name) => push_prefixed(text, prefix, name),
+        Piece::Joined(one, mark, rest) => push_joined(text, one, mark, rest),
+        Piece::Part(part) => push_shown(text, front(part.as_bytes())),
         Piece::Statement(keyword, name) => push_statement(text, keyword, name),
         Piece::Number(number) => push_number(alloc, text, *number),
+        Piece::CodePoint(character) => push_code_point(text, *character),
         Piece::Line(file, line) => push_line(alloc, text, inputs, *file, *line),
         Piece::Excerpt(file, offset) => push_excerpt(alloc, text, inputs, *file, *offset),
     }
 }
 
-// Adds a name with a prefix, in quotes.
-fn push_prefixed(text: &mut String, prefix: &str, name: &str) -> Result<(), AllocError>
+// Adds two texts with a mark between them, in quotes.
+fn push_joined(text: &mut String, one: &str, mark: &str, rest: &str) -> Result<(), AllocError>
     ensures { OnOk result (Extends (string_bytes text.old) (string_bytes text.new)) }
 {
     text.push_str("\"")?;
-    push_shown(text, prefix.as_bytes())?;
-    text.push_str(":")?;
-    push_shown(text, name.as_bytes())?;
+    push_shown(text, front(one.as_bytes()))?;
+    text.push_str(mark)?;
+    push_shown(text, front(rest.as_bytes()))?;
     text.push_str("\"")
 }
 
@@ -169,7 +217,7 @@ fn push_prefixed(text: &mut String, prefix: &str, name: &str) -> Result<(), Allo
 fn push_statement(text: &mut String, keyword: &str, name: &str) -> Result<(), AllocError>
     ensures { OnOk result (Extends (string_bytes text.old) (string_bytes text.new)) }
 {
-    text.push_str(keyword)?;
+    push_shown(text, front(keyword.as_bytes()))?;
     text.push_str(" ")?;
     push_quoted(text, name)
 }

@@ -1,10 +1,10 @@
 //! What helps a person to fix a pattern that the library of regular expressions doesn't build.
-ghost use Rattle.std.specs.Prelude.{◌≡◌, length, map, min, string_bytes, IfOk, IfSome};
+ghost use Rattle.std.specs.Prelude.{◌≡◌, length, map, min, string_bytes, IfOk, IfNone, IfSome};
 ghost use Rattle.yv_rows.specs.Rows.{row};
-ghost use Rattle.yv_rows.specs.Lent.{rows_in};
+ghost use Rattle.yv_rows.specs.Lent.{lent_in, rows_in};
 ghost use Rattle.yv_streams.specs.Files.{file_of};
 ghost use Rattle.yv_messages.specs.Excerpt.{ShowsPlace};
-ghost use Rattle.yv_messages.specs.Unbuilt.{IsPatternAmong, TellsAmong, TellsOf, TellsPattern, unbuilt_line};
+ghost use Rattle.yv_messages.specs.Unbuilt.{AreNoPatterns, HasNoPattern, IsPatternAmong, TellsAmong, TellsOf, TellsPattern, unbuilt_line};
 
 use crate::patterns::{first_pattern, first_unbuilt};
 use crate::place::{excerpt, push_shown};
@@ -54,7 +54,8 @@ fn pattern_to_tell<'r, 'a, 'b>(
     alloc: Global,
     rows: &'r Rows<'a, 'b>,
 ) -> Result<Option<&'r Entry<'a, 'b>>, AllocError>
-    ensures { IfOk result (λ found. IfSome found (λ e. IsPatternAmong (rows_in rows.now) (row e.now))) }
+    ensures found { IfOk result (λ found. IfSome found (λ e. IsPatternAmong (rows_in rows.now) (row e.now))) }
+    ensures none { IfOk result (λ found. IfNone found (AreNoPatterns (rows_in rows.now))) }
 {
     if let Some(entry) = first_unbuilt(alloc, rows)? {
         return Ok(Some(entry));
@@ -68,23 +69,27 @@ fn told_among(
     inputs: &[Input],
     rows: &Rows<'_, '_>,
 ) -> Result<Option<String>, AllocError>
-    ensures { IfOk result (λ found. IfSome found (λ s. TellsAmong (map file_of inputs.now) (rows_in rows.now) (string_bytes s))) }
+    requires { length inputs.now ≡ length (lent_in rows.now) }
+    ensures tells { IfOk result (λ found. IfSome found (λ s. TellsAmong (map file_of inputs.now) (rows_in rows.now) (string_bytes s))) }
+    ensures none { IfOk result (λ found. IfNone found (AreNoPatterns (rows_in rows.now))) }
 {
+    yv_rows::laws::roots_come_first();
     let Some(entry) = pattern_to_tell(alloc, rows)? else {
         return Ok(None);
     };
     match inputs.get(entry.file as usize) {
         Some(input) => Ok(Some(told(alloc, input, entry.statement)?)),
-        None => Ok(None),
+        None => unreachable!(),
     }
 }
 
 /// The message on the first pattern of the files that the library of regular expressions doesn't build: the file and the line,
 /// that line with a caret under the statement, and below it the pattern with the reason. The patterns are read in the order of the files,
-/// each in the room that those before it leave; if all are built like this, it is about the first. None if there is no pattern of the
+/// each in the room that those before it leave; if all are built like this, it is about the first. None only if there is no pattern of the
 /// dialect, or if the files can't be read.
 pub fn unbuilt_pattern(alloc: Global, inputs: &[Input]) -> Result<Option<String>, AllocError>
-    ensures { IfOk result (λ found. IfSome found (λ s. TellsPattern (map file_of inputs.now) (string_bytes s))) }
+    ensures tells { IfOk result (λ found. IfSome found (λ s. TellsPattern (map file_of inputs.now) (string_bytes s))) }
+    ensures none { IfOk result (λ found. IfNone found (HasNoPattern (map file_of inputs.now))) }
 {
     let texts = Texts::read(alloc, inputs)?;
     match texts.statements(alloc) {

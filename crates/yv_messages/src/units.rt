@@ -38,6 +38,8 @@ struct Count {
     total: u64,
     most: u64,
     largest: usize,
+    /// The first `uses` in that statement that expands to most of them, and to how many.
+    uses: Option<(usize, u64)>,
 }
 
 // How many units the implemented modules expand to, or 2 to the 64 less one if these are more. None if names mean nothing.
@@ -57,13 +59,37 @@ fn count_of(
         total: 0,
         most: 0,
         largest: 0,
+        uses: None,
     };
     for (number, entry) in rows.entries().iter().enumerate() {
         if is_counted(&marks, number, entry) {
             add(&mut count, number, units.weight(number));
         }
     }
+    count.uses = largest_uses(rows, &units, count.largest);
     Ok(Some(count))
+}
+
+// The first `uses` of those in a statement, or that statement, that expands to most units.
+fn largest_uses(rows: &Rows<'_, '_>, units: &Units, around: usize) -> Option<(usize, u64)> {
+    let mut largest: Option<(usize, u64)> = None;
+    for (number, entry) in rows.entries().iter().enumerate().skip(around) {
+        if number > around && entry.scope < around {
+            break;
+        }
+        let weight = units.weight(number);
+        if entry.statement.keyword() == "uses" && is_more(weight, largest) {
+            largest = Some((number, weight));
+        }
+    }
+    largest
+}
+
+fn is_more(weight: u64, largest: Option<(usize, u64)>) -> bool {
+    match largest {
+        Some((_, most)) => weight > most,
+        None => true,
+    }
 }
 
 // Counts the units of a statement.
@@ -92,8 +118,25 @@ pub(crate) fn tell_units<'a>(
             telling.count(": ", count.most, or_more(count.most));
             telling.say(".");
         }
+        say_uses(telling, entries, count.uses);
     }
     Ok(())
+}
+
+// Adds to how many a `uses` expands, and where its grouping is.
+fn say_uses<'a>(telling: &mut Telling<'a>, entries: &[Entry<'a>], uses: Option<(usize, u64)>) {
+    let Some((number, weight)) = uses else {
+        return;
+    };
+    if let Some(uses) = Site::at(entries, number) {
+        telling.statement(" The ", &uses, "");
+        telling.point(" at ", &uses, "");
+        telling.count(" expands to ", weight, or_more(weight));
+        if let Some(grouping) = uses.meaning() {
+            telling.point("; its grouping is at ", &grouping, "");
+        }
+        telling.say(".");
+    }
 }
 
 // Adds how many there are, and the limit.

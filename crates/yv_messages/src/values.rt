@@ -1,7 +1,7 @@
 //! What values a type has.
 use crate::definitions::prefix_for;
 use crate::guess::{Guess, say_guess};
-use crate::restrictions::{digits_of, widest_of};
+use crate::restrictions::{digits_of, limits_of, widest_of};
 use crate::site::{Site, all_sites, is_among};
 use crate::telling::Telling;
 use std::alloc::{AllocError, Global};
@@ -11,7 +11,12 @@ use yv_numbers::{Integer, based_integer_of, scaled_of};
 const MOST_NAMES: usize = 8;
 
 // Adds names of a type, the first of them and the one that is most like what was written.
-fn say_names<'a>(telling: &mut Telling<'a>, names: &[Site<'_, 'a>], default: &Site<'_, 'a>) {
+fn say_names<'a>(
+    telling: &mut Telling<'a>,
+    names: &[Site<'_, 'a>],
+    default: &Site<'_, 'a>,
+    written: &str,
+) {
     for (place, name) in names.iter().enumerate().take(MOST_NAMES) {
         telling.quote_prefixed(
             if place == 0 { "" } else { ", " },
@@ -21,7 +26,7 @@ fn say_names<'a>(telling: &mut Telling<'a>, names: &[Site<'_, 'a>], default: &Si
         );
     }
     say_rest(telling, names.len());
-    say_guess(telling, nearest_name(names, default.name()));
+    say_guess(telling, nearest_name(names, written));
 }
 
 // Adds how many of so many names are not listed.
@@ -40,6 +45,49 @@ pub(crate) fn nearest_name<'a>(sites: &[Site<'_, 'a>], written: &str) -> Option<
         nearest = Guess::nearer(nearest, Guess::of(written, site.argument(), None));
     }
     nearest
+}
+
+// Adds which numbers a type has: those of the nearest `range`, or of the built-in type.
+fn say_range<'a>(telling: &mut Telling<'a>, chain: &[Site<'_, 'a>], built_in: &'a str) {
+    telling.quote(" Its type is ", built_in, "");
+    if let Some(digits) = digits_in(chain) {
+        telling.count(" with `fraction-digits` ", digits as u64, "");
+    }
+    match nearest_with(chain, "range") {
+        Some(site) => {
+            if let Some(range) = site.child("range") {
+                telling.quote(", which takes ", range.argument(), "");
+                telling.point(" by the range at ", &range, ".");
+            }
+        }
+        None => say_limits(telling, built_in),
+    }
+}
+
+// Adds the least and the greatest number of a built-in type.
+fn say_limits<'a>(telling: &mut Telling<'a>, built_in: &str) {
+    match limits_of(built_in) {
+        Some((least, greatest)) => {
+            telling.quote(", which takes ", least, "");
+            telling.quote(" to ", greatest, ".");
+        }
+        None => telling.say("."),
+    }
+}
+
+// The digits after the point, if the built-in type of this chain is decimal64.
+fn digits_in(chain: &[Site<'_, '_>]) -> Option<u32> {
+    digits_of(chain.last()?)
+}
+
+// The first word of a text that is no bit of a type, among those that are looked at.
+fn unknown_bit<'a>(chain: &[Site<'_, 'a>], text: &'a str) -> Option<&'a str> {
+    for word in text.split(' ').take(MOST_WORDS) {
+        if !word.is_empty() && !has_item(chain, "bit", word) {
+            return Some(word);
+        }
+    }
+    None
 }
 
 // Adds the restrictions along a chain of types.
@@ -208,7 +256,7 @@ pub(crate) fn is_no_value(chain: &[Site<'_, '_>], text: &str) -> bool {
         "boolean" => text != "true" && text != "false",
         "empty" => true,
         "enumeration" => !has_item(chain, "enum", text),
-        "bits" => !are_items(chain, text),
+        "bits" => unknown_bit(chain, text).is_some(),
         _ if has_numbers(chain) => !is_in_ranges(chain, text),
         _ => false,
     }
@@ -224,16 +272,6 @@ fn has_item(chain: &[Site<'_, '_>], keyword: &str, name: &str) -> bool {
 
 /// How many bits of a default are looked at.
 const MOST_WORDS: usize = 8;
-
-// Whether the first words of a text are bits of a type.
-fn are_items(chain: &[Site<'_, '_>], text: &str) -> bool {
-    for word in text.split(' ').take(MOST_WORDS) {
-        if !word.is_empty() && !has_item(chain, "bit", word) {
-            return false;
-        }
-    }
-    true
-}
 
 // Whether a text is a number within a type's limits and within each `range`.
 fn is_in_ranges(chain: &[Site<'_, '_>], text: &str) -> bool {
@@ -263,22 +301,52 @@ pub(crate) fn say_values<'a>(
     match first.argument() {
         "boolean" => telling.say(" Its values are `true` and `false`."),
         "empty" => telling.say(" The type \"empty\" has no default."),
-        "enumeration" => {
-            telling.say(" Its values are ");
-            say_names(telling, &items_of(alloc, chain, "enum")?, default);
-        }
-        "bits" => {
-            telling.say(" Its bits are ");
-            say_names(telling, &items_of(alloc, chain, "bit")?, default);
-        }
-        "identityref" => {
-            telling.say(" Its identities are ");
-            say_names(telling, &identities_of(alloc, first)?, default);
+        "enumeration" | "bits" | "identityref" => {
+            return say_named(alloc, telling, chain, first, default);
         }
         "union" => telling.say(" None of the types of its union has this value."),
-        built_in => {
-            telling.quote(" Its type is ", built_in, "");
+        "string" | "binary" => {
+            telling.quote(" Its type is ", first.argument(), "");
+            telling.say(if first.argument() == "binary" {
+                ", which takes texts in base64"
+            } else {
+                ""
+            });
             return say_restrictions(alloc, telling, chain);
+        }
+        built_in => say_range(telling, chain, built_in),
+    }
+    Ok(())
+}
+
+// Adds the names that are the values of a type.
+fn say_named<'a>(
+    alloc: Global,
+    telling: &mut Telling<'a>,
+    chain: &[Site<'_, 'a>],
+    first: &Site<'_, 'a>,
+    default: &Site<'_, 'a>,
+) -> Result<(), AllocError> {
+    match first.argument() {
+        "enumeration" => {
+            let names = items_of(alloc, chain, "enum")?;
+            telling.say(" Its values are ");
+            say_names(telling, &names, default, default.argument());
+        }
+        "bits" => {
+            let names = items_of(alloc, chain, "bit")?;
+            let word = unknown_bit(chain, default.argument());
+            match word {
+                Some(word) => telling.quote(" There is no bit ", word, "."),
+                None => telling.say(" A bit is there twice."),
+            }
+            telling.say(" Its bits are ");
+            say_names(telling, &names, default, word.unwrap_or(""));
+        }
+        _ => {
+            let names = identities_of(alloc, first)?;
+            telling.say(" Its identities are ");
+            say_names(telling, &names, default, default.name());
         }
     }
     Ok(())
