@@ -58,7 +58,7 @@ lines_clear [] (l ∷ ls) each = absurd each
 lines_clear (f ∷ fs) [] each = absurd each
 lines_clear (f ∷ fs) (l ∷ ls) each =
     let s = each.0 in
-    both_clear l (joined ls) (ap is_clear s.is ∙ line_clear (s.front ++ codes ": " ++ s.told)) (lines_clear fs ls each.1)
+    both_clear l (joined ls) (ap is_clear s.is ∙ line_clear (s.front ++ codes ": " ++ s.advice)) (lines_clear fs ls each.1)
 
 more_clear : (count : ℕ) → is_clear (more_text count) ≡ true
 more_clear count = cases (nat_lt 20 count)
@@ -67,7 +67,7 @@ more_clear count = cases (nat_lt 20 count)
     cases true = line_clear (codes "more faults: " ++ decimal (count - 20))
     cases false = refl
 
--- what is told has nothing that drives a terminal
+-- the sentences have nothing that drives a terminal
 pub tells_clear : (fs : List Flaw) (text : List ℕ) → Tells fs text → is_clear text ≡ true
 tells_clear fs text tells =
     ap is_clear (tells.is ∙ ap (λ (t : List ℕ). t ++ more_text (length fs)) tells.are.is)
@@ -83,7 +83,7 @@ lines_short [] (l ∷ ls) each = absurd each
 lines_short (f ∷ fs) [] each = absurd each
 lines_short (f ∷ fs) (l ∷ ls) each =
     let s = each.0 in
-    let one : length l ≤ 1401 = rw s.is (line_short (s.front ++ codes ": " ++ s.told)) in
+    let one : length l ≤ 1401 = rw s.is (line_short (s.front ++ codes ": " ++ s.advice)) in
     let others : length (joined ls) ≤ 1401 * length fs = lines_short fs ls each.1 in
     omega (arith, length-append l (joined ls))
 
@@ -94,7 +94,7 @@ more_short count = cases (nat_lt 20 count)
     cases true = line_short (codes "more faults: " ++ decimal (count - 20))
     cases false = omega arith
 
--- what is told has fewer than 30,000 bytes
+-- the sentences have fewer than 30,000 bytes
 pub tells_short : (fs : List Flaw) (text : List ℕ) → Tells fs text → length text < 30000
 tells_short fs text tells =
     let all : length text ≡ length (joined tells.are.lines ++ more_text (length fs)) = ap length (tells.is ∙ ap (λ (t : List ℕ). t ++ more_text (length fs)) tells.are.is) in

@@ -34,9 +34,9 @@ pub data Begins (f : Flaw) (front : List ℕ) : Type 0 where
   whole : front ≡ line_text f → Begins f front
   short : (first others : List Place) → f.path ≡ first ++ others → front ≡ shortened f others → Begins f front
 
--- the line of a sentence: the fault, and behind a colon and a blank what is wrong and what to do
+-- the line of a sentence: the fault, and after a colon and a blank what is wrong and what to do
 pub record IsSentence (f : Flaw) (line : List ℕ) : Type 0 where
   pub front : List ℕ
-  pub told : List ℕ
+  pub advice : List ℕ
   pub begins : Begins f front
-  pub is : line ≡ cleared_line (front ++ codes ": " ++ told)
+  pub is : line ≡ cleared_line (front ++ codes ": " ++ advice)

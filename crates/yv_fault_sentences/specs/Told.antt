@@ -1,4 +1,4 @@
--- What a person is told of the faults of a document.
+-- The sentences for a person on the faults of a document.
 use Rattle.std.specs.Prelude.{◌≡◌, ℕ, ◌-◌, ◌==◌, ◌||◌, List, [], ◌++◌, Bool, length, take, nat_lt, codes, decimal, if◌then◌else◌}
 use Rattle.std.specs.List.{AllZip, flat_map, list_all}
 use Rattle.yv_validate.specs.Flaw.{Flaw}
@@ -16,7 +16,7 @@ pub record AreSentences (fs : List Flaw) (text : List ℕ) : Type 0 where
 abbrev pub more_line : ℕ → List ℕ
 more_line count = cleared_line (codes "more faults: " ++ decimal count)
 
--- of so many faults, how many there are that nothing is told of
+-- of so many faults, how many there are without a sentence
 abbrev pub more_text : ℕ → List ℕ
 more_text count = if nat_lt 20 count then more_line (count - 20) else []
 

@@ -28,6 +28,29 @@ pub(crate) fn beside(
     Ok(nodes)
 }
 
+/// The data nodes among them: those that a member of the object can write.
+pub(crate) fn data_beside(
+    alloc: Global,
+    schema: &Schema,
+    around: Option<NodeId>,
+) -> Result<Vec<NodeId>, AllocError> {
+    let nodes = beside(alloc, schema, around)?;
+    let mut data = Vec::new(alloc);
+    for id in nodes.iter() {
+        if is_data(schema, *id) {
+            data.push(*id)?;
+        }
+    }
+    Ok(data)
+}
+
+fn is_data(schema: &Schema, id: NodeId) -> bool {
+    match node_at(schema, Some(id)) {
+        Some(node) => node.kind().is_data(),
+        None => false,
+    }
+}
+
 // Adds nodes, as long as there are fewer than 1,000.
 fn add(nodes: &mut Vec<NodeId>, others: &[NodeId]) -> Result<(), AllocError> {
     for id in others {

@@ -1,7 +1,7 @@
 //! What is said of choices.
 use crate::beside::choice_of;
 use crate::spot::{Spot, children_at, has_children};
-use crate::words::push_names;
+use crate::words::{Joint, push_names};
 use serde_json::Value;
 use std::alloc::{AllocError, Global};
 use yv_nodes::NodeId;
@@ -16,7 +16,7 @@ const MOST_MEMBERS: usize = 1000;
 /// How many cases of a choice are looked at.
 const MOST_CASES: usize = 1000;
 
-/// Adds that one of the cases of a choice must be there.
+/// Adds that one of the cases of a choice must exist.
 pub(crate) fn push_missing_choice(
     alloc: Global,
     text: &mut String,
@@ -25,11 +25,15 @@ pub(crate) fn push_missing_choice(
     name: &MemberName<'_>,
 ) -> Result<(), AllocError> {
     let choice = choice_of(alloc, schema, spot.around, name)?;
-    text.push_str("a node of one of its cases is missing: ")?;
-    push_names(text, schema, children_at(schema, choice))
+    let cases = children_at(schema, choice);
+    if cases.is_empty() {
+        return text.push_str("the schema requires a node of one of its cases, but it has none");
+    }
+    text.push_str("it is missing: write a node of one of its cases, ")?;
+    push_names(text, schema, cases, Joint::Or)
 }
 
-/// Adds which cases of a choice are there.
+/// Adds which cases of a choice exist.
 pub(crate) fn push_choice(
     alloc: Global,
     text: &mut String,
@@ -37,16 +41,18 @@ pub(crate) fn push_choice(
     spot: &Spot<'_>,
     name: &MemberName<'_>,
 ) -> Result<(), AllocError> {
-    text.push_str("only one of its cases can be there, and there are ")?;
+    text.push_str("only one of its cases can exist, but there are nodes of ")?;
     let choice = choice_of(alloc, schema, spot.around, name)?;
     let cases = existing(alloc, schema, spot, choice)?;
     if cases.is_empty() {
-        return text.push_str("nodes of several");
+        text.push_str("several")?;
+    } else {
+        push_names(text, schema, &cases, Joint::And)?;
     }
-    push_names(text, schema, &cases)
+    text.push_str("; remove those of all cases but one")
 }
 
-// The cases of a choice that an object has.
+// The cases of a choice of which an object has nodes.
 fn existing(
     alloc: Global,
     schema: &Schema,
@@ -58,13 +64,13 @@ fn existing(
         Some(Value::Object(members))
             if has_children(schema, around) && members.len() <= MOST_MEMBERS => {
             let context = Context::read(alloc, schema, &mut Meter::new(), around, members)?;
-            standing(alloc, schema, &context, choice)
+            existing_in(alloc, schema, &context, choice)
         }
         _ => Ok(Vec::new(alloc)),
     }
 }
 
-fn standing(
+fn existing_in(
     alloc: Global,
     schema: &Schema,
     context: &Context<'_>,
@@ -72,13 +78,13 @@ fn standing(
 ) -> Result<Vec<NodeId>, AllocError> {
     let mut cases = Vec::new(alloc);
     for case in children_at(schema, choice).iter().take(MOST_CASES) {
-        if is_standing(schema, context, *case) {
+        if exists(schema, context, *case) {
             cases.push(*case)?;
         }
     }
     Ok(cases)
 }
 
-fn is_standing(schema: &Schema, context: &Context<'_>, case: NodeId) -> bool {
+fn exists(schema: &Schema, context: &Context<'_>, case: NodeId) -> bool {
     case.number() < schema.len() && context.standing(schema, case).any()
 }

@@ -1,5 +1,5 @@
 //! The names that are values of enumerations, bits and identityrefs.
-use crate::words::{MOST_NAMES, push_between};
+use crate::words::{Joint, MOST_NAMES, push_between, push_others};
 use serde_json::Value;
 use std::alloc::{AllocError, Global};
 use std::rc::RcStr;
@@ -12,6 +12,10 @@ const MOST_COMPARED: usize = 1000;
 /// The longest texts of a module and a name that are shown as one.
 const MOST_BYTES: usize = 64;
 
+/// What is said of an identityref without values.
+const NO_IDENTITY: &str =
+    "no value, since no identity of an implemented module is derived from its base";
+
 /// A name that is like a word of a value; of an identity with its module.
 #[derive(Clone, Copy)]
 struct Near<'t> {
@@ -20,13 +24,30 @@ struct Near<'t> {
     likeness: Likeness,
 }
 
-/// Adds names in quotes, of many the first 8.
-pub(crate) fn push_list(text: &mut String, names: &[RcStr]) -> Result<(), AllocError> {
+/// Adds the names of an enumeration as its values, of many the first 8.
+pub(crate) fn push_enums(text: &mut String, names: &[RcStr]) -> Result<(), AllocError> {
+    if names.is_empty() {
+        return text.push_str("no value, since `if-feature` leaves out all its names");
+    }
+    push_list(text, names)
+}
+
+/// Adds how the names of bits make a value, and these names, of many the first 8.
+pub(crate) fn push_bits(text: &mut String, names: &[RcStr]) -> Result<(), AllocError> {
+    if names.is_empty() {
+        return text.push_str("an empty string, since `if-feature` leaves out all its bits");
+    }
+    text.push_str("a string of names with blanks between, each at most once: ")?;
+    push_list(text, names)
+}
+
+// Adds names in quotes, of many the first 8.
+fn push_list(text: &mut String, names: &[RcStr]) -> Result<(), AllocError> {
     for (place, name) in names.iter().enumerate() {
         if place >= MOST_NAMES {
-            return text.push_str(" and others");
+            return push_others(text, Joint::Or);
         }
-        push_between(text, place, names.len())?;
+        push_between(text, place, names.len(), Joint::Or)?;
         push_quoted(text, name.as_str())?;
     }
     Ok(())
@@ -38,11 +59,15 @@ pub(crate) fn push_identities(
     text: &mut String,
     members: &[Member],
 ) -> Result<(), AllocError> {
+    if members.is_empty() {
+        return text.push_str(NO_IDENTITY);
+    }
+    text.push_str("the identity ")?;
     for (place, member) in members.iter().enumerate() {
         if place >= MOST_NAMES {
-            return text.push_str(" and others");
+            return push_others(text, Joint::Or);
         }
-        push_between(text, place, members.len())?;
+        push_between(text, place, members.len(), Joint::Or)?;
         push_identity(alloc, text, member)?;
     }
     Ok(())
@@ -170,7 +195,7 @@ fn is_nearer(one: &Option<Near<'_>>, other: &Option<Near<'_>>) -> bool {
     }
 }
 
-// What is written, without the module in front.
+// What is written, without the module before it.
 fn local(written: &str) -> &str {
     match written.split_once(':') {
         Some((_, name)) => name,

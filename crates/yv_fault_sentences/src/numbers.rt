@@ -1,4 +1,4 @@
-//! Intervals of numbers.
+//! Counts, and intervals of numbers and of lengths.
 use itoa::Buffer;
 use std::alloc::AllocError;
 use yv_values::{Integer, Span};
@@ -6,11 +6,59 @@ use yv_values::{Integer, Span};
 /// How many intervals are listed.
 const MOST_SPANS: usize = 4;
 
-/// Adds intervals of numbers that are scaled by so many fraction digits, of many the first 4.
+/// What intervals are of.
+#[derive(Clone, Copy)]
+pub(crate) enum Scale {
+    /// Numbers with so many digits after the point.
+    Places(usize),
+    /// Lengths of texts.
+    Lengths,
+}
+
+/// Adds a count, and the word for what is counted.
+pub(crate) fn push_count(
+    text: &mut String,
+    count: u64,
+    one: &str,
+    several: &str,
+) -> Result<(), AllocError> {
+    text.push_str(Buffer::new().format(count))?;
+    text.push_str(" ")?;
+    text.push_str(if count == 1 { one } else { several })
+}
+
+/// Adds lengths, of many the first 4, and the word for what they count.
+pub(crate) fn push_lengths(
+    text: &mut String,
+    spans: &[Span],
+    one: &str,
+    several: &str,
+) -> Result<(), AllocError> {
+    push_spans(text, spans, Scale::Lengths)?;
+    text.push_str(" ")?;
+    text.push_str(if ends_with_one(spans) { one } else { several })
+}
+
+// Whether the last number that is written for lengths is 1.
+fn ends_with_one(spans: &[Span]) -> bool {
+    match spans.last() {
+        Some(last) => {
+            last.low == Integer::Natural(1) && (last.high == last.low || is_unbounded(last))
+        }
+        None => false,
+    }
+}
+
+// Whether an interval of lengths has no greatest one.
+fn is_unbounded(span: &Span) -> bool {
+    span.high == Integer::Natural(u64::MAX)
+}
+
+/// Adds intervals, of many the first 4.
 pub(crate) fn push_spans(
     text: &mut String,
     spans: &[Span],
-    places: usize,
+    scale: Scale,
 ) -> Result<(), AllocError> {
     for (number, span) in spans.iter().enumerate() {
         if number >= MOST_SPANS {
@@ -19,12 +67,23 @@ pub(crate) fn push_spans(
         if number > 0 {
             text.push_str(" or ")?;
         }
-        push_span(text, span, places)?;
+        push_span(text, span, scale)?;
     }
     Ok(())
 }
 
-fn push_span(text: &mut String, span: &Span, places: usize) -> Result<(), AllocError> {
+fn push_span(text: &mut String, span: &Span, scale: Scale) -> Result<(), AllocError> {
+    match scale {
+        Scale::Places(places) => push_ends(text, span, places),
+        Scale::Lengths if is_unbounded(span) => {
+            text.push_str("at least ")?;
+            push_number(text, span.low, 0)
+        }
+        Scale::Lengths => push_ends(text, span, 0),
+    }
+}
+
+fn push_ends(text: &mut String, span: &Span, places: usize) -> Result<(), AllocError> {
     push_number(text, span.low, places)?;
     if span.low != span.high {
         text.push_str("..")?;
@@ -43,7 +102,7 @@ fn push_number(text: &mut String, number: Integer, places: usize) -> Result<(), 
     }
 }
 
-// Adds digits, so many of which stand behind a point.
+// Adds digits, so many of them after a point.
 fn push_scaled(text: &mut String, digits: &str, places: usize) -> Result<(), AllocError> {
     let missing = places.saturating_add(1).saturating_sub(digits.len());
     for before in 0..missing {
@@ -57,7 +116,7 @@ fn push_scaled(text: &mut String, digits: &str, places: usize) -> Result<(), All
     Ok(())
 }
 
-// Adds a digit, behind a point where it is the first of those.
+// Adds a digit, with the point before it if it is the first one after the point.
 fn push_digit(text: &mut String, digit: u8, is_first: bool) -> Result<(), AllocError> {
     if is_first {
         text.push('.')?;

@@ -1,6 +1,6 @@
 //! What is said of entries and items that repeat earlier ones.
 use crate::spot::{Spot, node_at};
-use crate::words::push_names;
+use crate::words::{Joint, push_names};
 use itoa::Buffer;
 use std::alloc::AllocError;
 use yv_nodes::NodeId;
@@ -36,7 +36,12 @@ pub(crate) fn push_unique(
 ) -> Result<(), AllocError> {
     push_earlier(text, "entry", fault.earlier)?;
     text.push_str(" has the same ")?;
-    push_names(text, schema, unique_at(schema, spot.node, fault.number))?;
+    push_names(
+        text,
+        schema,
+        unique_at(schema, spot.node, fault.number),
+        Joint::And,
+    )?;
     text.push_str("; change one of them")
 }
 
@@ -52,7 +57,7 @@ pub(crate) fn push_keys(
     } else {
         text.push_str("it is missing: each entry needs the keys ")?;
     }
-    push_names(text, schema, keys)
+    push_names(text, schema, keys, Joint::And)
 }
 
 // Adds which earlier entry or item it is.

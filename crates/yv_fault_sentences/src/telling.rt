@@ -4,9 +4,9 @@ ghost use Rattle.yv_fault_sentences.specs.Line.{IsSentence, cleared_line};
 ghost use Rattle.yv_fault_sentences.specs.Told.{Tells, is_clear, more_line, more_text};
 ghost use Rattle.yv_fault_sentences.specs.InnerAdds.{AddsSentences};
 
+use crate::advice::advice;
 use crate::clear::push_line;
 use crate::front::front;
-use crate::told::told;
 use itoa::Buffer;
 use serde_json::Value;
 use std::alloc::{AllocError, Global};
@@ -14,7 +14,7 @@ use yv_tables::Schema;
 use yv_validate::Fault;
 
 /// How many faults are explained.
-const MOST_TOLD: usize = 20;
+const MOST_EXPLAINED: usize = 20;
 
 /// A line for each of the first 20 faults of a document, which says what is wrong there and what to do, and one of how many more
 /// there are. Each begins as the fault's line; of a long path it has the last steps. However long names and paths are, the text
@@ -36,14 +36,14 @@ pub fn sentences(
     Ok(text)
 }
 
-// The faults that are told of.
+// The faults that are explained.
 fn first(faults: &[Fault]) -> &[Fault]
     ensures { result.now ≡ take 20 faults.now }
 {
-    if faults.len() <= MOST_TOLD {
+    if faults.len() <= MOST_EXPLAINED {
         faults
     } else {
-        &faults[..MOST_TOLD]
+        &faults[..MOST_EXPLAINED]
     }
 }
 
@@ -88,17 +88,17 @@ fn whole(
 {
     let mut text = front(alloc, fault)?;
     text.push_str(": ")?;
-    let told = told(alloc, schema, document, fault)?;
-    text.push_str(told.as_str())?;
+    let advice = advice(alloc, schema, document, fault)?;
+    text.push_str(advice.as_str())?;
     Ok(text)
 }
 
-// How many faults there are that nothing is told of, where there are more than 20.
+// Adds how many faults there are that are not explained, if there are more than 20.
 fn push_more(alloc: Global, text: &mut String, count: usize) -> Result<(), AllocError>
     ensures { OnOk result (string_bytes text.new ≡ string_bytes text.old ++ more_text count) }
 {
-    if count > MOST_TOLD {
-        push_count(alloc, text, count - MOST_TOLD)?;
+    if count > MOST_EXPLAINED {
+        push_count(alloc, text, count - MOST_EXPLAINED)?;
     }
     Ok(())
 }

@@ -1,7 +1,7 @@
-//! What is said of a member that names no node.
-use crate::beside::beside;
+//! What is said of a member that names no data node of its object.
+use crate::beside::{beside, data_beside};
 use crate::spot::node_at;
-use crate::words::push_member;
+use crate::words::{Joint, push_member, push_members};
 use std::alloc::{AllocError, Global};
 use yv_messages::{Likeness, compared, push_quoted};
 use yv_nodes::{Node, NodeId};
@@ -15,7 +15,7 @@ struct Candidate {
     likeness: Likeness,
 }
 
-/// Adds what is wrong with a member that names no node of an object.
+/// Adds what is wrong with a member that names no data node of an object.
 pub(crate) fn push_unknown(
     alloc: Global,
     text: &mut String,
@@ -31,11 +31,15 @@ pub(crate) fn push_unknown(
         None => (None, member),
     };
     if let Some(node) = other_kind(alloc, schema, around, name)? {
-        return push_other_kind(text, node);
+        return text.push_str(not_data(node.kind()));
     }
-    match nearest(alloc, schema, around, name)? {
-        Some(near) => push_near(alloc, text, schema, near),
-        None => push_far(text, schema, module),
+    let data = data_beside(alloc, schema, around)?;
+    let near = nearest(schema, &data, name);
+    match module {
+        Some(module) if !is_same(near) && !is_implemented(schema, module) => {
+            push_no_module(text, module)
+        }
+        _ => push_guess(alloc, text, schema, &data, near),
     }
 }
 
@@ -61,24 +65,57 @@ fn other_kind<'s>(
     Ok(other)
 }
 
-// Adds what a node is that no member of an object writes.
-fn push_other_kind(text: &mut String, node: &Node) -> Result<(), AllocError> {
-    text.push_str(match node.kind() {
+// What is said of a node that no member of an object writes.
+fn not_data(kind: NodeKind) -> &'static str {
+    match kind {
         NodeKind::Choice =>
-            "a choice has no member of its own: write the nodes of one of its cases",
-        NodeKind::Case => "a case has no member of its own: write its nodes",
-        NodeKind::Notification => "it is a notification, which a document of data does not contain",
-        _ => "it is an operation, which a document of data does not contain",
-    })
+            "this is the name of a choice, which is not in a document: write the nodes of one of its cases",
+        NodeKind::Case =>
+            "this is the name of a case, which is not in a document: write the nodes of the case",
+        NodeKind::Notification =>
+            "this is the name of a notification, which is not in a document of data; remove it",
+        NodeKind::Rpc =>
+            "this is the name of an rpc, which is not in a document of data; remove it",
+        _ => "this is the name of an action, which is not in a document of data; remove it",
+    }
 }
 
-// Adds which node may be meant.
-fn push_near(
+// Whether a node has the very name of the member.
+fn is_same(near: Option<Candidate>) -> bool {
+    match near {
+        Some(near) => near.likeness == Likeness::Same,
+        None => false,
+    }
+}
+
+// Whether a module of this name is implemented.
+fn is_implemented(schema: &Schema, name: &str) -> bool {
+    for module in schema.modules() {
+        if module.name.as_str() == name {
+            return true;
+        }
+    }
+    false
+}
+
+// Adds that a module isn't implemented. It may be given for import only: the schema doesn't have it then.
+fn push_no_module(text: &mut String, module: &str) -> Result<(), AllocError> {
+    text.push_str("there is no implemented module ")?;
+    push_quoted(text, module)?;
+    text.push_str("; add its file, do not list it in --import-only, or fix the name")
+}
+
+// Adds which node may be meant, or which members there are.
+fn push_guess(
     alloc: Global,
     text: &mut String,
     schema: &Schema,
-    near: Candidate,
+    data: &[NodeId],
+    near: Option<Candidate>,
 ) -> Result<(), AllocError> {
+    let Some(near) = near else {
+        return push_all(alloc, text, schema, data);
+    };
     if near.likeness == Likeness::Same {
         text.push_str("the name of this member is ")?;
         push_member(alloc, text, schema, near.id)
@@ -89,49 +126,32 @@ fn push_near(
     }
 }
 
-// Adds that no node is meant.
-fn push_far(text: &mut String, schema: &Schema, module: Option<&str>) -> Result<(), AllocError> {
-    if let Some(module) = module {
-        if !is_given(schema, module) {
-            text.push_str("there is no implemented module ")?;
-            push_quoted(text, module)?;
-            return text.push_str("; add its file, or fix the name");
-        }
-    }
-    text.push_str("there is no such member here; remove it")
-}
-
-// Whether a module of this name is implemented.
-fn is_given(schema: &Schema, name: &str) -> bool {
-    for module in schema.modules() {
-        if module.name.as_str() == name {
-            return true;
-        }
-    }
-    false
-}
-
-// The data node of an object whose name is most like another one: the first, where several are.
-fn nearest(
+// Adds which members an object can have.
+fn push_all(
     alloc: Global,
+    text: &mut String,
     schema: &Schema,
-    around: Option<NodeId>,
-    name: &str,
-) -> Result<Option<Candidate>, AllocError> {
-    let nodes = beside(alloc, schema, around)?;
+    data: &[NodeId],
+) -> Result<(), AllocError> {
+    if data.is_empty() {
+        return text.push_str("there is no such member here; remove it");
+    }
+    text.push_str("there is no such member here, only ")?;
+    push_members(alloc, text, schema, data, Joint::And)
+}
+
+// The node whose name is most like another one: the first, where several are.
+fn nearest(schema: &Schema, data: &[NodeId], name: &str) -> Option<Candidate> {
     let mut found: Option<Candidate> = None;
-    for id in nodes.iter() {
+    for id in data.iter() {
         found = nearer(found, near(schema, *id, name));
     }
-    Ok(found)
+    found
 }
 
-// A data node, where its name is like another one.
+// A node, where its name is like another one.
 fn near(schema: &Schema, id: NodeId, name: &str) -> Option<Candidate> {
     let node = node_at(schema, Some(id))?;
-    if !node.kind().is_data() {
-        return None;
-    }
     let likeness = compared(name.as_bytes(), node.name().as_bytes())?;
     Some(Candidate { id, likeness })
 }

@@ -39,14 +39,23 @@ fn push_list(text: &mut String, modules: &[Module]) -> Result<(), AllocError> {
         if place >= MOST_NAMES {
             return text.push_str(" and others");
         }
-        text.push_str(if place == 0 {
-            "; the implemented modules are "
-        } else {
-            ", "
-        })?;
+        text.push_str(before_name(place, modules.len()))?;
         push_quoted(text, known.name.as_str())?;
     }
     Ok(())
+}
+
+// What is before the name of this place in a list of so many.
+fn before_name(place: usize, count: usize) -> &'static str {
+    if count == 1 {
+        "; the only implemented module is "
+    } else if place == 0 {
+        "; the implemented modules are "
+    } else if place.saturating_add(1) == count {
+        " and "
+    } else {
+        ", "
+    }
 }
 
 // The module whose name is most like one that was written: the first, if several are.

@@ -9,7 +9,7 @@ pub enum Status {
     Clean,
     /// The modules were refused, the document has faults, or there is no such module.
     Refused,
-    /// The document is too large, or no JSON.
+    /// The document is too large, or not JSON.
     BadInput,
     NoMemory,
     /// A pattern that the library of regular expressions doesn't build.

@@ -10,6 +10,7 @@ use Rattle.yv_selection.specs.declared.kind.Kind.{Kind}
 use Rattle.yv_streams.specs.Files.{File}
 use Rattle.yv_messages.specs.Excerpt.{Explains}
 use Rattle.yv_messages.specs.Explained.{Speaks, bytes_at}
+use Rattle.yv_messages.specs.Unbuilt.{TellsPattern}
 use Rattle.yv_outcome.specs.Compiles.{Compiled, Built, RefusedAt}
 use Rattle.yv_outcome.specs.Told.{NotesData, NotesDiagram}
 use Rattle.yv_run.specs.Runs.{Runs}
@@ -19,6 +20,10 @@ use Rattle.yv_run.specs.declared.running.Ended.{Ended}
 pub record TellsRefusal (files : List File) (r : Refusal) (text : List ℕ) : Type 0 where
   pub place : Explains (bytes_at (slice_get files r.file)) r text
   pub speaks : Speaks files r text
+
+-- the note where a pattern of the files isn't built: it is about one of them
+abbrev pub NotesPattern : List File → (note : Option (List ℕ)) → Type 0
+NotesPattern files note = IsSomeAnd note (TellsPattern files)
 
 -- the note on what was asked of a schema: none on the number of nodes
 abbrev pub NotesSchema : Asked → Kind → Rows → (given : List ℕ) → (note : Option (List ℕ)) → Type 0

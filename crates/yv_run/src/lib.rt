@@ -4,6 +4,7 @@
 
 mod answers;
 mod compiling;
+mod laws;
 mod running;
 mod writing;
 

@@ -1,23 +1,24 @@
 //! A run over files that were read: what it writes, and how it ends. The note for a person is made only when all is written.
-ghost use Rattle.std.specs.Prelude.{◌≡◌, ◌↔◌, ◌⊎◌, true, map, length, IfOk, IfSome, IsErrOf, OnErr, None, Ok, string_bytes};
+ghost use Rattle.std.specs.Prelude.{◌≡◌, ◌↔◌, ◌⊎◌, true, ℕ, map, length, IfOk, IsErrOf, OnErr, None, Ok, option_map, string_bytes};
 ghost use Rattle.yv_job.specs.Jobs.{HasFiles, HasLimit, task_of};
-ghost use Rattle.yv_selection.specs.Choice.{choice_of};
+ghost use Rattle.yv_selection.specs.Choice.{Choice, choice_of};
 ghost use Rattle.yv_streams.specs.Stream.{stream_inner, has_failed, IsFresh, FailsOnceAtMost, TakesAtMost};
 ghost use Rattle.yv_streams.specs.Files.{file_of};
 ghost use Rattle.yv_outcome.specs.Compiles.{HavePattern};
 ghost use Rattle.yv_outcome.specs.Output.{WantsData, IsStopped};
-ghost use Rattle.yv_messages.specs.Unbuilt.{TellsPattern};
-ghost use Rattle.yv_run.specs.Notes.{RunsWithNote};
+ghost use Rattle.yv_run.specs.Notes.{NotesPattern, RunsWithNote};
 ghost use Rattle.yv_run.specs.Runs.{Runs, most_read};
 
 use crate::answers::{write_answer, write_refusal};
 use crate::compiling::compiled;
+use crate::laws::a_pattern_of_a_type_is_listed;
 use std::alloc::{AllocError, Global};
 use std::io::{Read, Write};
 use thiserror::Error;
 use yv_job::Job;
 use yv_messages::unbuilt_pattern;
 use yv_outcome::Status;
+use yv_source::laws::{a_bad_file_is_refused_once, a_text_is_spelled_or_refused_once};
 use yv_statement::Stop;
 use yv_streams::{Counted, Input};
 
@@ -121,7 +122,7 @@ pub fn run_with_note<R: Read, W: Write>(
     ensures reader_once { FailsOnceAtMost reader.new }
     ensures writer_once { FailsOnceAtMost writer.new }
     ensures built { result.status ≡ Status.PatternBuild → HavePattern (choice_of job.now.selection) job.now.limit (map file_of inputs.now) }
-    ensures note_on_pattern { result.status ≡ Status.PatternBuild → IfOk result.note (λ note. IfSome note (λ s. TellsPattern (map file_of inputs.now) (string_bytes s))) }
+    ensures note_on_pattern { result.status ≡ Status.PatternBuild → IfOk result.note (λ note. NotesPattern (map file_of inputs.now) (option_map string_bytes note)) }
     ensures no_note { (result.status ≡ Status.NoMemory) ⊎ (result.status ≡ Status.ReadFault) → result.note ≡ Ok None }
 {
     match run_job(alloc, job, inputs, reader, writer) {
@@ -129,10 +130,21 @@ pub fn run_with_note<R: Read, W: Write>(
         Err(Halt::NoMemory) => Ended::stopped(Status::NoMemory),
         Err(Halt::PatternBuild) => Ended {
             status: Status::PatternBuild,
-            note: unbuilt_pattern(alloc, inputs),
+            note: pattern_note(alloc, inputs),
         },
         Err(Halt::Read) => Ended::stopped(Status::ReadFault),
     }
+}
+
+// What helps a person to fix a pattern that isn't built.
+fn pattern_note(alloc: Global, inputs: &[Input]) -> Result<Option<String>, AllocError>
+    ensures { (choice : Choice) (limit : ℕ) → HavePattern choice limit (map file_of inputs.now)
+        → IfOk result (λ note. NotesPattern (map file_of inputs.now) (option_map string_bytes note)) }
+{
+    a_bad_file_is_refused_once();
+    a_text_is_spelled_or_refused_once();
+    a_pattern_of_a_type_is_listed();
+    unbuilt_pattern(alloc, inputs)
 }
 
 // A run that nothing stops, up to its note.

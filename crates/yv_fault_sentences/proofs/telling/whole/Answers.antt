@@ -4,10 +4,10 @@ use Rattle.yv_fault_sentences.proofs.telling.whole.Goals as goal
 
 pub returns : goal.returns
 returns c =
-    let same : string_bytes c.push_str-2.new.self ≡ string_bytes c.in_ok-text.text ++ codes ": " ++ string_bytes c.in_ok-told.told = search rules in
+    let same : string_bytes c.push_str-2.new.self ≡ string_bytes c.in_ok-text.text ++ codes ": " ++ string_bytes c.in_ok-advice.advice = search rules in
     record {
       front = string_bytes c.in_ok-text.text;
-      told = string_bytes c.in_ok-told.told;
+      advice = string_bytes c.in_ok-advice.advice;
       begins = c.in_ok-text.ensures;
       is = ap cleared_line same;
     }

@@ -1,16 +1,16 @@
-//! What is said of a fault.
+//! What is wrong at a fault, and what to do.
 use crate::choices::{push_choice, push_missing_choice};
 use crate::front::left_out;
+use crate::numbers::push_count;
+use crate::reference::push_reference;
 use crate::repeated::{push_duplicate, push_keys, push_unique};
 use crate::spot::{Spot, items_of, node_at};
 use crate::types::push_type;
 use crate::unknown::push_unknown;
-use crate::words::push_name;
 use itoa::Buffer;
 use serde_json::Value;
 use std::alloc::{AllocError, Global};
 use yv_messages::push_quoted;
-use yv_nodes::NodeId;
 use yv_properties::NodeKind;
 use yv_tables::Schema;
 use yv_validate::{Fault, FaultKind, MemberName};
@@ -19,7 +19,7 @@ const STATE: &str =
     "this is state data, and a configuration has none; leave it out, or validate with --kind data";
 
 /// What is wrong at a fault, and what to do.
-pub(crate) fn told(
+pub(crate) fn advice(
     alloc: Global,
     schema: &Schema,
     document: &Value,
@@ -35,15 +35,15 @@ pub(crate) fn told(
                 push_quoted(&mut text, name.name)?;
                 text.push_str(": ")?;
             }
-            push_told(alloc, &mut text, schema, &spot, &name, fault)?;
+            push_advice(alloc, &mut text, schema, &spot, &name, fault)?;
         }
         None => text.push_str("the document needs to be an object in braces")?,
     }
     Ok(text)
 }
 
-// Adds what is said of a fault at the end of a path that isn't empty.
-fn push_told(
+// Adds what is wrong at a fault whose path isn't empty, and what to do.
+fn push_advice(
     alloc: Global,
     text: &mut String,
     schema: &Schema,
@@ -65,7 +65,7 @@ fn push_told(
         FaultKind::Min => push_few(text, schema, spot),
         FaultKind::Max => push_many(text, schema, spot),
         FaultKind::Choice => push_choice(alloc, text, schema, spot, name),
-        FaultKind::Reference => push_reference(text, schema, spot),
+        FaultKind::Reference => push_reference(alloc, text, schema, spot),
         FaultKind::State => text.push_str(STATE),
     }
 }
@@ -116,49 +116,32 @@ fn push_mandatory(
     }
 }
 
-// Adds how many entries there are, and how few there may be.
+// Adds how many entries there must be at least, and how many there are.
 fn push_few(text: &mut String, schema: &Schema, spot: &Spot<'_>) -> Result<(), AllocError> {
     let least = match node_at(schema, spot.node) {
         Some(node) => node.min(),
-        None => 0,
+        None => 1,
     };
     text.push_str("the schema requires at least ")?;
-    text.push_str(Buffer::new().format(least))?;
-    text.push_str(", and there are ")?;
-    text.push_str(Buffer::new().format(items_of(spot.written).len()))
+    push_count(text, u64::from(least), "entry", "entries")?;
+    match items_of(spot.written).len() {
+        0 => text.push_str(", but there are none"),
+        1 => text.push_str(", but there is only 1"),
+        count => {
+            text.push_str(", but there are only ")?;
+            text.push_str(Buffer::new().format(count))
+        }
+    }
 }
 
-// Adds how many entries there are, and how many there may be.
+// Adds how many entries there may be, and how many there are.
 fn push_many(text: &mut String, schema: &Schema, spot: &Spot<'_>) -> Result<(), AllocError> {
-    text.push_str("the schema allows at most ")?;
-    if let Some(node) = node_at(schema, spot.node) {
-        text.push_str(Buffer::new().format(node.max().unwrap_or(u32::MAX)))?;
-    }
-    text.push_str(", and there are ")?;
-    text.push_str(Buffer::new().format(items_of(spot.written).len()))
-}
-
-// Adds which node has no such value where the path of a leafref leads.
-fn push_reference(text: &mut String, schema: &Schema, spot: &Spot<'_>) -> Result<(), AllocError> {
-    text.push_str("no ")?;
-    push_target(text, schema, spot.node)?;
-    text.push_str(
-        " in the document has this value; a reference needs the value of one that is there",
-    )
-}
-
-// Adds the name of the node that the path of a leafref leads to.
-fn push_target(
-    text: &mut String,
-    schema: &Schema,
-    leafref: Option<NodeId>,
-) -> Result<(), AllocError> {
-    let link = match leafref {
-        Some(leafref) => schema.reference(leafref),
-        None => None,
+    let most = match node_at(schema, spot.node) {
+        Some(node) => node.max().unwrap_or(u32::MAX),
+        None => u32::MAX,
     };
-    match link {
-        Some(link) => push_name(text, schema, link.target),
-        None => text.push_str("node"),
-    }
+    text.push_str("the schema allows at most ")?;
+    push_count(text, u64::from(most), "entry", "entries")?;
+    text.push_str(", but there are ")?;
+    text.push_str(Buffer::new().format(items_of(spot.written).len()))
 }
