@@ -8,15 +8,6 @@ import workspace
 Token = namedtuple("Token", "kind text start end")
 WORD = re.compile(r"[A-Za-z_]\w*")
 
-CODE = re.compile(
-    r"""(?P<comment>//[^\n]*)|(?P<string>b?"(?:\\.|[^"\\])*")|(?P<char>b?'(?:\\.|[^'\\\n])')|(?P<life>'\w+)"""
-    r"""|(?P<word>[A-Za-z_]\w*)|(?P<number>\d\w*)|(?P<space>\s+)|(?P<mark>::|->|=>|.)""",
-    re.S,
-)
-LOGIC = re.compile(
-    r"""(?P<comment>--[^\n]*)|(?P<string>"[^"\n]*")|(?P<space>\s+)|(?P<mark>[(){}.,;:"«»]|λ(?=\w))|(?P<word>[^\s(){}.,;:"«»]+)""", re.S
-)
-
 
 def read(path):
     """The text of a file of the repository."""
