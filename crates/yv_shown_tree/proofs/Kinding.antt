@@ -18,6 +18,7 @@ use Rattle.yv_units.specs.Units.{nodes, operations}
 use Rattle.yv_units.specs.Weigh.{block_of}
 use Rattle.yv_expansion.specs.declared.item.Origin.TheVariants.{Input, Output}
 use Rattle.yv_whole_expansion.specs.Expands.{input_of, is_at, is_augment, is_input, is_item, is_operation, is_output, output_of, part}
+use Rattle.yv_augments.specs.Labels.{is_node}
 use Rattle.yv_augments.specs.declared.label.Kind.{Kind}
 use Rattle.yv_augments.specs.declared.label.Kind.TheVariants as kind
 use Rattle.yv_augmented.specs.Kinds.{kind_by}
@@ -27,11 +28,11 @@ use Rattle.yv_shown_tree.specs.Telling.{name_at, name_of}
 use Rattle.yv_shown_tree.proofs.Choosing.{first_passes, row_at}
 
 -- what holds of each of these words
-abbrev Each : (List ℕ → Type 0) → List (List ℕ) → Type 0
+abbrev pub Each : (List ℕ → Type 0) → List (List ℕ) → Type 0
 Each P [] = Unit {0}
 Each P (w ∷ ws) = P w × Each P ws
 
-among_all : (P : List ℕ → Type 0) (words : List (List ℕ)) (word : List ℕ) → Each P words → is_among words word ≡ true → P word
+pub among_all : (P : List ℕ → Type 0) (words : List (List ℕ)) (word : List ℕ) → Each P words → is_among words word ≡ true → P word
 among_all P [] word each h = absurd (false≢true h)
 among_all P (w ∷ ws) word (first, rest) h = by (bytes_eq w word) refl h (λ h. among_all P ws word rest h)
   where
@@ -39,7 +40,7 @@ among_all P (w ∷ ws) word (first, rest) h = by (bytes_eq w word) refl h (λ h.
     by true is h later = subst P ((bytes_eq-Decides w word).0 is) first
     by false is h later = later h
 
-either_is : (a b : Bool) → (a || b) ≡ true → (a ≡ true) ⊎ (b ≡ true)
+pub either_is : (a b : Bool) → (a || b) ≡ true → (a ≡ true) ⊎ (b ≡ true)
 either_is true b h = inl refl
 either_is false b h = inr h
 
@@ -102,6 +103,39 @@ no_type r h = elim (either_is (is_among nodes r.head.keyword) (is_among operatio
   | inl a ↦ among_all (λ word. bytes_eq word (codes "type") ≡ false) nodes r.head.keyword (refl, (refl, (refl, (refl, (refl, (refl, (refl, (refl, (refl, (refl, tt)))))))))) a
   | inr b ↦ among_all (λ word. bytes_eq word (codes "type") ≡ false) operations r.head.keyword (refl, (refl, tt)) b
 ]
+
+-- what is no uses is a node
+pub node_is : (k : Kind) → is_node k ≡ not (kinds.is_uses k)
+node_is kind.Uses = refl
+node_is kind.Container = refl
+node_is kind.Leaf = refl
+node_is kind.LeafList = refl
+node_is kind.List = refl
+node_is kind.Choice = refl
+node_is kind.Case = refl
+node_is kind.Anydata = refl
+node_is kind.Anyxml = refl
+node_is kind.Rpc = refl
+node_is kind.Action = refl
+node_is kind.Input = refl
+node_is kind.Output = refl
+node_is kind.Notification = refl
+
+pub uses_only : (k : Kind) → kinds.is_uses k ≡ true → k ≡ kind.Uses
+uses_only kind.Uses h = refl
+uses_only kind.Container h = absurd (false≢true h)
+uses_only kind.Leaf h = absurd (false≢true h)
+uses_only kind.LeafList h = absurd (false≢true h)
+uses_only kind.List h = absurd (false≢true h)
+uses_only kind.Choice h = absurd (false≢true h)
+uses_only kind.Case h = absurd (false≢true h)
+uses_only kind.Anydata h = absurd (false≢true h)
+uses_only kind.Anyxml h = absurd (false≢true h)
+uses_only kind.Rpc h = absurd (false≢true h)
+uses_only kind.Action h = absurd (false≢true h)
+uses_only kind.Input h = absurd (false≢true h)
+uses_only kind.Output h = absurd (false≢true h)
+uses_only kind.Notification h = absurd (false≢true h)
 
 -- the kind of a numbered statement that is an item
 pub statement_kind : (rows : List Row) (k : ℕ) (r : Row) → slice_get rows k ≡ Some r → is_item r ≡ true → kinds.is_uses (kinds.kind_at (slice_get rows k)) ≡ is_uses r

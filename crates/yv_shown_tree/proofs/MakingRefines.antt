@@ -39,6 +39,8 @@ use Rattle.yv_shown_tree.specs.RefinedBlocks.{IsRefinable}
 use Rattle.yv_shown_tree.specs.Refining.{changed}
 use Rattle.yv_shown_tree.specs.Shows.{Agree, Items}
 use Rattle.yv_shown_tree.specs.Telling.{AreItems, HaveStatements}
+use Rattle.yv_shown_tree.specs.RefusedRefines.{Refuse}
+use Rattle.yv_shown_tree.proofs.RefusedRefines.{fits, means_none, none_refused, unfit}
 use Rattle.yv_shown_tree.proofs.Alike.{AreAlike, IsLike, comes_same}
 use Rattle.yv_shown_tree.proofs.Finding.{not_none, there_first, there_later}
 use Rattle.yv_shown_tree.proofs.Lying.{map_length}
@@ -169,11 +171,13 @@ module _ (files : Files) (augments : List ℕ) (many : ℕ) (items : List Item) 
             by (Some (end_is.ShorthandCase j)) is = ap (option_and_then node_at) is
             by (Some (end_is.Node j)) is = absurd (never j is)
 
-        -- with its refines the block gives the nodes that (are files augments many items its facts each) refined; and they mean items of it
+        -- With its refines the block gives the nodes that are refined, and they mean items of it. Those are refused that are refused for what
+        -- they mean by number.
         pub refines_come : (ks : List ℕ) → ((k : ℕ) → Contains ks k → (r : Row) × (slice_get (rows_of files) k ≡ Some r) × (has_path r ≡ true)) → {m last : Made}
             → AreRefined files s.home ks m last → (refined : List Refined) → Comes labels (noted files spots its refined) _ _ _ _ block m.nodes
             → Comes labels (noted files spots its (refined ++ meant_all s n limit now ks)) _ _ _ _ block last.nodes × Targets (λ i. i < mid) (meant_all s n limit now ks)
-        refines_come [] paths {m = m} refined_all refined C = (subst (λ z. Comes labels (noted files spots its z) _ _ _ _ block m.nodes) (sym (append-nil refined)) C, tt)
+            × Refuse files spots (meant_all s n limit now ks) m.wrong last.wrong
+        refines_come [] paths {m = m} refined_all refined C = (subst (λ z. Comes labels (noted files spots its z) _ _ _ _ block m.nodes) (sym (append-nil refined)) C, tt, none_refused files spots m.wrong)
         refines_come (k ∷ ks) paths {last = last} (refine_changes {m = m} {g = g} {below = below} {there = there} (r, at, leads) fit later) refined C =
             let path = paths k (there_first k ks) in
             let same_row : path.0 ≡ r = same_Some path.0 r (sym path.1 ∙ at) in
@@ -190,6 +194,7 @@ module _ (files : Files) (augments : List ℕ) (many : ℕ) (items : List Item) 
             let more = refines_come ks (λ j h. paths j (there_later k j ks h)) later (refined ++ y ∷ []) D in (
               subst (λ z. Comes labels (noted files spots its z) _ _ _ _ block last.nodes) (append_assoc refined (y ∷ []) (meant_all s n limit now ks)) more.0,
               ((λ j is. subst (λ (m : ℕ). m < mid) (same_Some i j (sym target ∙ is)) x.4), more.1),
+              fits files spots y i (meant_all s n limit now ks) m.wrong last.wrong target is_so more.2,
             )
         refines_come (k ∷ ks) paths {last = last} (refine_unfit {m = m} {g = g} {below = below} {there = there} (r, at, leads) fit later) refined C =
             let path = paths k (there_first k ks) in
@@ -209,6 +214,7 @@ module _ (files : Files) (augments : List ℕ) (many : ℕ) (items : List Item) 
             let more = refines_come ks (λ j h. paths j (there_later k j ks h)) later (refined ++ y ∷ []) D in (
               subst (λ z. Comes labels (noted files spots its z) _ _ _ _ block last.nodes) (append_assoc refined (y ∷ []) (meant_all s n limit now ks)) more.0,
               ((λ j is. subst (λ (m : ℕ). m < mid) (same_Some i j (sym target ∙ is)) x.4), more.1),
+              unfit files spots y (meant_all s n limit now ks) m.wrong last.wrong (record { item = i; target = target; unfit = is_so }) more.2,
             )
         refines_come (k ∷ ks) paths {last = last} (refine_misses {m = m} nowhere later) refined C =
             let path = paths k (there_first k ks) in
@@ -223,4 +229,5 @@ module _ (files : Files) (augments : List ℕ) (many : ℕ) (items : List Item) 
             let more = refines_come ks (λ j h. paths j (there_later k j ks h)) later (refined ++ y ∷ []) D in (
               subst (λ z. Comes labels (noted files spots its z) _ _ _ _ block last.nodes) (append_assoc refined (y ∷ []) (meant_all s n limit now ks)) more.0,
               ((λ j is. absurd (not_none (sym target ∙ is))), more.1),
+              means_none files spots y (meant_all s n limit now ks) m.wrong last.wrong target more.2,
             )

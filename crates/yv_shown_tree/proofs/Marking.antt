@@ -18,7 +18,7 @@ use Rattle.yv_shown_tree.proofs.Framing.{nothing_stands}
 use Rattle.yv_augments.specs.Paths.{ended}
 use Rattle.yv_augmented.specs.Grafted.{last_of}
 
-set_cases : (groups : Groups) (g x : ℕ) (v : List ℕ) → ((x ≡ g) × (get_or (set groups g v) x [] ≡ v)) ⊎ (get_or (set groups g v) x [] ≡ get_or groups x [])
+pub set_cases : (groups : Groups) (g x : ℕ) (v : List ℕ) → ((x ≡ g) × (get_or (set groups g v) x [] ≡ v)) ⊎ (get_or (set groups g v) x [] ≡ get_or groups x [])
 set_cases groups g x v = by (cases_eq x g) (cases_lt g (length groups))
   where
     by : (x ≡ g) ⊎ (x ≢ g) → (g < length groups) ⊎ (length groups ≤ g) → ((x ≡ g) × (get_or (set groups g v) x [] ≡ v)) ⊎ (get_or (set groups g v) x [] ≡ get_or groups x [])

@@ -215,7 +215,7 @@ module _ (labels : List Label) (its : Items) (mark : ℕ → Bool) (below_mark :
   }
 
   -- the same in groups that are the same
-  copies_on : (old new : State) {lo hi c e k own : ℕ} {augments : Augments lo hi c e k own} {m last : Forest} (all : Adds labels its _ _ _ _ _ _ augments m last)
+  pub copies_on : (old new : State) {lo hi c e k own : ℕ} {augments : Augments lo hi c e k own} {m last : Forest} (all : Adds labels its _ _ _ _ _ _ augments m last)
       → ((i : ℕ) → lo ≤ i → i < hi → members_of new.groups (i + 1) ≡ members_of old.groups (i + 1))
       → ((j : ℕ) → k ≤ j → j < own → members_of new.groups (group_of_augment labels j) ≡ members_of old.groups (group_of_augment labels j))
       → CopiesShow all old → CopiesShow all new
@@ -239,29 +239,29 @@ module _ (labels : List Label) (its : Items) (mark : ℕ → Bool) (below_mark :
   last_from (y ∷ ys) n x there all = all (last_of (y ∷ ys)) (Contains-get_or (y ∷ ys) (length (y ∷ ys) - 1) 0 (omega arith))
 
   -- when turns of the copies from k on are due, of items from `cur` to before `end`: what is there so far is from `lo + 1` on
-  record AreDue (g lo hi cur end k own : ℕ) (st : State) : Type 0 where
-    room : length st.groups ≡ length labels + 1 + length st.ends
-    items : end ≤ length labels
-    copies : own ≤ length st.ends
-    begins : lo < cur
-    ends : end ≤ hi
-    out : IsOutside labels lo hi k own g
-    others : (i : ℕ) → Contains (members_of st.groups g) i → ((lo + 1 ≤ i) × (i < cur)) ⊎ (end ≤ i)
-    marks : HasMarks its.given mark st
-    from : StandFrom (lo + 1) st
-    waits : (j : ℕ) → k ≤ j → j < own → get_or st.ends j None ≡ None
+  pub record AreDue (g lo hi cur end k own : ℕ) (st : State) : Type 0 where
+    pub room : length st.groups ≡ length labels + 1 + length st.ends
+    pub items : end ≤ length labels
+    pub copies : own ≤ length st.ends
+    pub begins : lo < cur
+    pub ends : end ≤ hi
+    pub out : IsOutside labels lo hi k own g
+    pub others : (i : ℕ) → Contains (members_of st.groups g) i → ((lo + 1 ≤ i) × (i < cur)) ⊎ (end ≤ i)
+    pub marks : HasMarks its.given mark st
+    pub from : StandFrom (lo + 1) st
+    pub waits : (j : ℕ) → k ≤ j → j < own → get_or st.ends j None ≡ None
 
-  g_not_below : (g lo hi k own i : ℕ) → IsOutside labels lo hi k own g → lo ≤ i → i < hi → g ≢ i + 1
+  pub g_not_below : (g lo hi k own i : ℕ) → IsOutside labels lo hi k own g → lo ≤ i → i < hi → g ≢ i + 1
   g_not_below g lo hi k own i out l h same = elim out.0 [ inl p ↦ omega (arith, p, l, same) | inr p ↦ omega (arith, p, h, same) ]
 
-  g_not_copy : (g lo hi k own j : ℕ) → IsOutside labels lo hi k own g → k ≤ j → j < own → g ≢ group_of_augment labels j
+  pub g_not_copy : (g lo hi k own j : ℕ) → IsOutside labels lo hi k own g → k ≤ j → j < own → g ≢ group_of_augment labels j
   g_not_copy g lo hi k own j out l h same = elim out.1 [ inl p ↦ omega (arith, p, l, same) | inr p ↦ omega (arith, p, h, same) ]
 
   limit_at : ℕ → State → ℕ
   limit_at k st = last_of (members_of st.groups (group_of_augment labels k))
 
   -- one turn is as it should be
-  one_turn : (g lo hi cur mid end k own : ℕ) (st : State) → AreDue g lo hi cur end k own st → IsCopy k cur mid st → cur < mid → mid ≤ end → k < own
+  pub one_turn : (g lo hi cur mid end k own : ℕ) (st : State) → AreDue g lo hi cur end k own st → IsCopy k cur mid st → cur < mid → mid ≤ end → k < own
       → mark (group_of_augment labels k) ≡ false
       → IsTurn labels its mark g (lo + 1) cur mid k (last_of (members_of st.groups (group_of_augment labels k))) st
       × (last_of (members_of st.groups (group_of_augment labels k)) ≤ mid)
@@ -289,7 +289,7 @@ module _ (labels : List Label) (its : Items) (mark : ℕ → Bool) (below_mark :
       )
 
   -- and then the turns of those behind are due
-  still_due : (g lo hi cur mid end k own limit : ℕ) (names : List ℕ) (st : State) → AreDue g lo hi cur end k own st → cur < mid → mid ≤ end → k < own
+  pub still_due : (g lo hi cur mid end k own limit : ℕ) (names : List ℕ) (st : State) → AreDue g lo hi cur end k own st → cur < mid → mid ≤ end → k < own
       → mark (group_of_augment labels k) ≡ false → limit ≤ mid
       → Frame labels g lo mid k (k + 1) st (turn labels k g limit names st)
       × AreDue g lo hi mid end (k + 1) own (turn labels k g limit names st)
@@ -320,7 +320,7 @@ module _ (labels : List Label) (its : Items) (mark : ℕ → Bool) (below_mark :
       )
 
   -- where nothing stands between
-  shows_stretched : (groups : Groups) (g lo hi more : ℕ) (f : Forest) → hi ≤ more → ((i : ℕ) → Contains (members_of groups g) i → i < more → i < hi)
+  pub shows_stretched : (groups : Groups) (g lo hi more : ℕ) (f : Forest) → hi ≤ more → ((i : ℕ) → Contains (members_of groups g) i → i < more → i < hi)
       → Shows its groups g lo hi f → Shows its groups g lo more f
   shows_stretched groups g lo hi more f l between s = record {
     items = s.items;
@@ -335,7 +335,7 @@ module _ (labels : List Label) (its : Items) (mark : ℕ → Bool) (below_mark :
   }
 
   -- what may enter after others
-  may_below : (g lo hi c e mid d : ℕ) (st st1 : State) → lo + 1 ≤ mid → mid ≤ hi → d ≤ e → MayEnter labels g lo hi c e st → Frame labels g mid hi d e st st1
+  pub may_below : (g lo hi c e mid d : ℕ) (st st1 : State) → lo + 1 ≤ mid → mid ≤ hi → d ≤ e → MayEnter labels g lo hi c e st → Frame labels g mid hi d e st st1
       → StandFrom mid st1 → MayEnter labels (lo + 1) (lo + 1) mid c d st1
   may_below g lo hi c e mid d st st1 lm mh de m f1 from1 =
       let long1 = f1.groups in let many1 = f1.augments in
@@ -439,7 +439,7 @@ module _ (labels : List Label) (its : Items) (mark : ℕ → Bool) (below_mark :
           subst (λ ms. Contains ms i) (sym (get_or-set_same st.groups g (members_of st.groups g ++ i ∷ []) [] (omega (arith, room, long)))) (Contains-push (members_of st.groups g) i)
 
   -- where a copy's group was empty, its block is all that stands there
-  is_copy : (k c e : ℕ) {lo mid : ℕ} (block : Block lo mid c e) (st : State) → MayEnter labels (group_of_augment labels k) lo mid c e st
+  pub is_copy : (k c e : ℕ) {lo mid : ℕ} (block : Block lo mid c e) (st : State) → MayEnter labels (group_of_augment labels k) lo mid c e st
       → members_of st.groups (group_of_augment labels k) ≡ [] → IsCopy k lo mid (run labels (group_of_augment labels k) block st)
   is_copy k c e {lo = lo} {mid = mid} block st m empty =
       let f = (block_keeps labels (group_of_augment labels k) block st m).0 in
@@ -451,7 +451,7 @@ module _ (labels : List Label) (its : Items) (mark : ℕ → Bool) (below_mark :
 
   module _ (turn_adds : TurnAdds labels its mark) (turn_misses : TurnMisses labels its mark) where
     -- the turns of a uses, in order
-    turns_show : (g lo hi : ℕ) (st : State) {cur end d e k own : ℕ} {augments : Augments cur end d e k own} {m given : Forest}
+    pub turns_show : (g lo hi : ℕ) (st : State) {cur end d e k own : ℕ} {augments : Augments cur end d e k own} {m given : Forest}
         (all : Adds labels its _ _ _ _ _ _ augments m given) → AllMarked labels its.given mark augments → AreDue g lo hi cur end k own st
         → CopiesShow all st → Shows its st.groups g (lo + 1) cur m → Shows its (turned labels g augments st).groups g (lo + 1) end given
     turns_show g lo hi st none_left marked due show S = S
@@ -603,7 +603,7 @@ module _ (labels : List Label) (its : Items) (mark : ℕ → Bool) (below_mark :
           uses_shown g lo end hi st4 gives last (omega (arith, lm, me)) eh (omega (arith, group, long1, long2, long3, long4))
           (λ i l h. not_g (i + 1) (omega (arith, l)) (omega (arith, h))) no_node is has4 four.1 shows_g shows_f4
 
-      all_show : (g : ℕ) (st : State) {lo hi c e k own : ℕ} {augments : Augments lo hi c e k own} {made last : Forest} (all : Adds labels its _ _ _ _ _ _ augments made last)
+      pub all_show : (g : ℕ) (st : State) {lo hi c e k own : ℕ} {augments : Augments lo hi c e k own} {made last : Forest} (all : Adds labels its _ _ _ _ _ _ augments made last)
           → AllMarked labels its.given mark augments → IsOutside labels lo hi k e g → MayAll labels lo hi c e k own st → AreEmpty lo hi st → HasMarks its.given mark st
           → CopiesShow all (run_all labels augments st)
       all_show g st none_left marked out m empty has = tt

@@ -24,10 +24,10 @@ use Rattle.yv_shown_tree.proofs.Framing.{nothing_stands}
 use Rattle.yv_shown_tree.proofs.Showing.{first_or}
 
 -- how often a number stands in a list
-abbrev one_if : Bool → ℕ
+abbrev pub one_if : Bool → ℕ
 one_if b = if b then 1 else 0
 
-abbrev count : ℕ → List ℕ → ℕ
+abbrev pub count : ℕ → List ℕ → ℕ
 count y xs = count_by (λ i. i == y) xs
 
 count_more : (y x : ℕ) (xs : List ℕ) → count y (x ∷ xs) ≡ 0 + one_if (x == y) + count y xs
@@ -36,14 +36,14 @@ count_more y x xs = sum_by-append (λ i. one_if (i == y)) (x ∷ []) xs
 if_eq : (x y : ℕ) → x ≡ y → one_if (x == y) ≡ 1
 if_eq x y e = ap one_if (eq-eqb x y e)
 
-counted : (y : ℕ) (xs : List ℕ) → Contains xs y → 1 ≤ count y xs
+pub counted : (y : ℕ) (xs : List ℕ) → Contains xs y → 1 ≤ count y xs
 counted y [] h = absurd (nothing_stands y h)
 counted y (x ∷ xs) h = elim (first_or x xs y h) [
   | inl same ↦ (let a = count_more y x xs in let b = if_eq x y same in omega (arith, a, b))
   | inr rest ↦ (let a = count_more y x xs in let b = counted y xs rest in omega (arith, a, b))
 ]
 
-contained : (y : ℕ) (xs : List ℕ) → 1 ≤ count y xs → Contains xs y
+pub contained : (y : ℕ) (xs : List ℕ) → 1 ≤ count y xs → Contains xs y
 contained y [] h = absurd (omega (arith, h))
 contained y (x ∷ xs) h = elim (cases_eq x y) [
   | inl same ↦ subst (λ n. Contains (x ∷ xs) n) same (there_first x xs)
@@ -53,7 +53,7 @@ contained y (x ∷ xs) h = elim (cases_eq x y) [
 ]
 
 -- an item stands in a group at most as often as in all
-in_all : (y g : ℕ) (groups : Groups) → count y (members_of groups g) ≤ times y groups
+pub in_all : (y g : ℕ) (groups : Groups) → count y (members_of groups g) ≤ times y groups
 in_all y g [] = omega arith
 in_all y zero (members ∷ groups) =
     (let a = sum_by-append (λ ms. count y ms) (members ∷ []) groups in let e : times y (members ∷ groups) ≡ 0 + count y members + times y groups = a in omega (arith, e))

@@ -79,6 +79,25 @@ module _ (labels : List Label) (its : Items) (are : AreLabels labels its) (mark 
         by None w = ap (λ (s : State). s.groups) (settled_is (n ∷ ns) None (start_is n ns ∙ w))
         by (Some e) w = ap (λ (s : State). s.groups) (settled_is (n ∷ ns) (Some e) (start_is n ns ∙ w)) ∙ nothing_moves e (target labels e) refl (λ i is. none_to e w i is)
 
+    -- where it hits, all of the copy moves to an item of those that are shown
+    pub turned_to : (names : List ℕ) (ss : List Step) (below put there : Forest) (node : Node) → Agree labels its names ss → Hits ss m node below put there
+        → (i : ℕ) × (S.owns i ≡ true) × (ended labels st.groups limit names (end.Start g) ≡ Some (end.Node i))
+        × ((turn labels k g limit names st).groups ≡ moved (group_of_augment labels k) (i + 1) st.groups)
+    turned_to names ss below put there node agree (leads, may) =
+        let h = hits labels its are st.groups limit S.stand false ss names node below put there leads agree bound in
+        by names h.item h.has (target_is h.item h.is_node (ap (λ (y : Node). may_be_target y.kind) (sym h.is) ∙ may)) h.walks
+      where
+        by : (names : List ℕ) (i : ℕ) → S.owns i ≡ true → target labels (end.Node i) ≡ Some i → walked labels its are st.groups limit false names S.items ≡ Some (end.Node i)
+            → (i : ℕ) × (S.owns i ≡ true) × (ended labels st.groups limit names (end.Start g) ≡ Some (end.Node i))
+            × ((turn labels k g limit names st).groups ≡ moved (group_of_augment labels k) (i + 1) st.groups)
+        by [] i has is walks = absurd (not_none walks)
+        by (n ∷ ns) i has is walks = (
+          i,
+          has,
+          start_is n ns ∙ walks,
+          ap (λ (s : State). s.groups) (settled_is (n ∷ ns) (Some (end.Node i)) (start_is n ns ∙ walks)) ∙ ap (λ p. given (group_of_augment labels k) p st.groups) is,
+        )
+
     -- where it hits, what the copy shows moves
     added : (names : List ℕ) (ss : List Step) (b below there : Forest) (node : Node) → Agree labels its names ss → Shows its st.groups (group_of_augment labels k) cur mid b
         → Hits ss m node below (joined below b) there → Shows its (turn labels k g limit names st).groups g lo mid there

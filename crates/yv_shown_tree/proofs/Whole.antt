@@ -1,11 +1,13 @@
 -- When the rounds of the augments of modules are over, the items of files show what the files expand to.
-use Rattle.std.proofs.Common.{inl, inr, ◌≡◌, ◌≢◌, ℕ, zero, suc, ◌+◌, ◌<◌, ◌≤◌, ◌==◌, if◌then◌else◌, Bool, true, false, List, [], ◌∷◌, ◌++◌, length, map, get_or, refl, sym, ◌∙◌, ap, subst, arith, Option, Some, None, codes}
+use Rattle.std.proofs.Common.{◌⊎◌, inl, inr, ◌≡◌, ◌≢◌, ℕ, zero, suc, ◌+◌, ◌<◌, ◌≤◌, ◌==◌, if◌then◌else◌, Bool, true, false, List, [], ◌∷◌, ◌++◌, length, map, get_or, refl, sym, ◌∙◌, ap, subst, arith, Option, Some, None, codes}
 use Rattle.std.specs.List.{Contains, slice_get}
 use Rattle.std.specs.Option.{option_map}
 use Rattle.std.proofs.lemmas.Bool.{cases_lt}
 use Rattle.std.proofs.lemmas.List.{length-map}
+use Rattle.std.proofs.lemmas.List.Elements.{Contains-append_cases, Contains-append_left, Contains-append_right, Contains-push, Contains-push_cases}
 use Rattle.std.proofs.lemmas.List.Splits.{length-slice_split}
-use Rattle.std.proofs.lemmas.Option.{same_Some, slice_get-map}
+use Rattle.std.proofs.lemmas.Option.{same_Some, slice_get-map, slice_get_within}
+use Rattle.yv_statement.specs.declared.refusal.Code.TheVariants as code
 use Rattle.yv_rows.specs.Files.{Briefs, Files, brief_of, has_word, home_at}
 use Rattle.yv_rows.specs.Listed.{rows_of}
 use Rattle.yv_rows.specs.Rows.{Row, name_in}
@@ -22,7 +24,7 @@ use Rattle.yv_augments.specs.Turns as turns
 use Rattle.yv_augmented.specs.Grafted.{AreGrafted, module_paths, path_in, step_name}
 use Rattle.yv_augmented.specs.Spots.{Whole, own_home}
 use Rattle.yv_expanded_tree.specs.Expanded.{Expand, Tops}
-use Rattle.yv_expanded_tree.specs.Gives.{Gives, Made, judged, takes_block}
+use Rattle.yv_expanded_tree.specs.Gives.{Gives, Made, Wrong, judged, takes_block}
 use Rattle.yv_expanded_tree.specs.Nodes.{Forest, given_by, inserted}
 use Rattle.yv_expanded_tree.specs.Paths.{Leads, Step, at as end_at, path_of}
 use Rattle.yv_expanded_tree.specs.Rounds.{IsHome, Round, Rounds}
@@ -41,23 +43,26 @@ use Rattle.yv_shown_tree.specs.WholeRounds.RoundOn.{none_left, adds, untargeted,
 use Rattle.yv_shown_tree.specs.WholeRounds.RoundsOn.{no_more, one_more}
 use Rattle.yv_shown_tree.proofs.Beginning.{blocks_enter, own_enters}
 use Rattle.yv_shown_tree.proofs.Begun.{Begins}
-use Rattle.yv_shown_tree.proofs.Finding.{not_none}
+use Rattle.yv_shown_tree.proofs.Finding.{not_none, there_first, there_later}
+use Rattle.yv_shown_tree.proofs.Framing.{nothing_stands}
 use Rattle.yv_shown_tree.proofs.Givers.{begins_apart, begins_up, given_is, giver_low, giver_place, giver_spans}
 use Rattle.yv_shown_tree.proofs.Keeping.{AllKept, MayAll, all_go_up, all_keep, block_keeps, goes_up}
 use Rattle.yv_shown_tree.proofs.Kinding.{right_is}
 use Rattle.yv_shown_tree.proofs.Making.{are, low}
 use Rattle.yv_shown_tree.proofs.Modules.{MadeAt, all_items, at_first, begins, begins_most, block_shows, facts, have, stand_givers, start_is, top_shows, ungiven, within}
 use Rattle.yv_shown_tree.proofs.Orders.{augment_in, augments_rise, at_there, rises_back, rises_one}
+use Rattle.yv_shown_tree.proofs.Showing.{first_or}
 use Rattle.yv_shown_tree.proofs.Starting.{none_applied, none_there}
 use Rattle.yv_shown_tree.proofs.Telling.{labels_tell, paths_agree, there_is}
-use Rattle.yv_shown_tree.proofs.WholeRounds.{rounds_by}
+use Rattle.yv_shown_tree.proofs.WholeRounds.{all_missed, missed_of, rounds_by, targets_of}
 
 -- a place for each of a list
 abbrev places_from : {A : Type 0} → ℕ → List A → List ℕ
 places_from k [] = []
 places_from k (x ∷ xs) = k ∷ places_from (k + 1) xs
 
-all_wait : (st : State) (k : ℕ) (paths : List (List ℕ)) → ((j : ℕ) → k ≤ j → j < k + length paths → is_applied st j ≡ false) → AreWaiting st k paths (places_from k paths)
+all_wait : (st : State) (k : ℕ) (paths : List (List ℕ)) → ((j : ℕ) → k ≤ j → j < k + length paths → is_applied st j ≡ false)
+    → AreWaiting st k paths (places_from k paths)
 all_wait st k [] none = no_places
 all_wait st k (names ∷ others) none = waiting_here (none k (omega arith) (omega arith)) (all_wait st (k + 1) others (λ j l h. none j (omega (arith, l)) (omega (arith, h))))
 
@@ -69,10 +74,6 @@ got (x ∷ xs) (suc k) a at = got xs k a at
 some_first : {A B : Type 0} (f : A → B) (xs : List A) → 1 ≤ length xs → (y : B) × (ys : List B) × (map f xs ≡ y ∷ ys)
 some_first f [] l = absurd (omega (arith, l))
 some_first f (x ∷ xs) l = (f x, map f xs, refl)
-
-judged_nodes : (b : Bool) (a : ℕ) (m : Made) → (judged b a m).nodes ≡ m.nodes
-judged_nodes true a m = refl
-judged_nodes false a m = refl
 
 module _ (files : Files) (marks : List Bool) (order : List ℕ) (own : ℕ) (items : List Item) (its : Items) (given : AreGiven files marks order) (expanded : IsWhole files marks order own items)
     (tells : ShowFiles files marks items its) (one_meant : RefersToOne files) where
@@ -123,7 +124,8 @@ module _ (files : Files) (marks : List Bool) (order : List ℕ) (own : ℕ) (ite
   many_paths : length paths ≡ length augments
   many_paths = length-map augments (λ a. path_in w (own_home w.files (slice_get w.rows a)) a)
 
-  path_is : (k a : ℕ) (q : Row) → slice_get augments k ≡ Some a → slice_get rows a ≡ Some q → path k ≡ path_of files (home_at briefs q.file) q
+  path_is : (k a : ℕ) (q : Row) → slice_get augments k ≡ Some a → slice_get rows a ≡ Some q
+      → path k ≡ path_of files (home_at briefs q.file) q
   path_is k a q at row = ap path_by at ∙ ap path_row row
 
   -- the rounds of files are those by places
@@ -133,7 +135,8 @@ module _ (files : Files) (marks : List Bool) (order : List ℕ) (own : ℕ) (ite
   AreAt (k ∷ ks) [] = ⊥
   AreAt (k ∷ ks) (a ∷ numbers) = (slice_get augments k ≡ Some a) × AreAt ks numbers
 
-  at_places : {B : Type 0} (f : ℕ → B) (k : ℕ) (numbers : List ℕ) → ((j : ℕ) → slice_get numbers j ≡ slice_get augments (k + j)) → AreAt (places_from k (map f numbers)) numbers
+  at_places : {B : Type 0} (f : ℕ → B) (k : ℕ) (numbers : List ℕ) → ((j : ℕ) → slice_get numbers j ≡ slice_get augments (k + j))
+      → AreAt (places_from k (map f numbers)) numbers
   at_places f k [] are_at = tt
   at_places f k (a ∷ numbers) are_at = (
     ap (slice_get augments) (let e : k ≡ k + 0 = omega arith in e) ∙ sym (are_at 0),
@@ -156,10 +159,25 @@ module _ (files : Files) (marks : List Bool) (order : List ℕ) (own : ℕ) (ite
       ap (λ (n : ℕ). n ∷ js) (rises_one augments (augments_rise files marks) j k a q.0 p.0) ∙ ap (λ z. k ∷ z) (at_one ks js numbers p.1 q.1)
 
   -- where the path of an augment leads
-  leads_so : (k a home : ℕ) (r : Row) → slice_get augments k ≡ Some a → IsHome files a home → slice_get rows a ≡ Some r → path_of files home r ≡ path k
+  leads_so : (k a home : ℕ) (r : Row) → slice_get augments k ≡ Some a → IsHome files a home → slice_get rows a ≡ Some r
+      → path_of files home r ≡ path k
   leads_so k a home r at (q, row, home_is) row' =
       let same : q ≡ r = same_Some q r (sym row ∙ row') in
       ap (λ (h : ℕ). path_of files h r) (home_is ∙ ap (λ (z : Row). home_at briefs z.file) same) ∙ sym (path_is k a r at row')
+
+  -- what goes on from an augment goes on from it where it is refused too
+  judged_on : (b : Bool) (a : ℕ) (there : Forest) (wrong : List Wrong) {ks js : List ℕ} {after : Forest}
+      → RoundOn number path block ks (judged b a (record { nodes = there; wrong = wrong })).nodes js after
+      → RoundOn number path block ks there js after
+  judged_on true a there wrong R = R
+  judged_on false a there wrong R = R
+
+  judged_missed : (b : Bool) (a : ℕ) (there : Forest) (wrong : List Wrong) {ks js : List ℕ} {after : Forest}
+      → (R : RoundOn number path block ks (judged b a (record { nodes = there; wrong = wrong })).nodes js after)
+      → missed_of (judged_on b a there wrong R) ≡ missed_of R
+  unfolding judged_on
+  judged_missed true a there wrong R = refl
+  judged_missed false a there wrong R = refl
 
   round_on : {waiting still : List ℕ} {m end : Made} → Round files waiting m still end → (ks : List ℕ) → AreAt ks waiting
       → (js : List ℕ) × AreAt js still × RoundOn number path block ks m.nodes js end.nodes
@@ -176,7 +194,7 @@ module _ (files : Files) (marks : List Bool) (order : List ℕ) (own : ℕ) (ite
         r.0,
         r.1,
         adds (a, home, given_block, at, home_is, G, refl) (leads, reach.may_be)
-            (subst (λ z. RoundOn number path block ks z r.0 end.nodes) (judged_nodes (takes_block rows a target.kind) a (record { nodes = there; wrong = m.wrong ++ given_block.wrong })) r.2),
+            (judged_on (takes_block rows a target.kind) a there (m.wrong ++ given_block.wrong) r.2),
       )
   round_on (round_misses home_is leads missed more) [] at = absurd at
   round_on (round_misses {home = home} {a = a} {m = m} {e = e} {there = there} home_is (row, row_at, leads) missed more) (k ∷ ks) (at, others) =
@@ -193,7 +211,8 @@ module _ (files : Files) (marks : List Bool) (order : List ℕ) (own : ℕ) (ite
       let same = leads_so k a home row at home_is row_at in
       (k ∷ r.0, (at, r.1), waits (λ e there leads. nowhere e there (subst (λ ss. Leads false ss m.nodes e there) (sym same) leads)) r.2)
 
-  rounds_on : {waiting : List ℕ} {m end : Made} → Rounds files waiting m end → (ks : List ℕ) → AreAt ks waiting → RoundsOn number path block ks m.nodes end.nodes
+  rounds_on : {waiting : List ℕ} {m end : Made} → Rounds files waiting m end → (ks : List ℕ) → AreAt ks waiting
+      → RoundsOn number path block ks m.nodes end.nodes
   rounds_on {waiting = waiting} {m = m} (last_round R) ks at =
       let r = round_on R ks at in no_more (subst (λ js. RoundOn number path block ks m.nodes js m.nodes) (at_one ks r.0 waiting at r.1) r.2)
   rounds_on {waiting = waiting} (one_more_round {still = still} R less more) ks at =
@@ -361,7 +380,8 @@ module _ (files : Files) (marks : List Bool) (order : List ℕ) (own : ℕ) (ite
       shown_at k f (a, home, m, at, home_is, G, is) =
           subst (λ z. Shows its st.groups (group_of_augment labels k) (first k) (last k) z) (sym is) (block_shows files marks order own items its given expanded tells one_meant k a home m at home_is G)
 
-      own_at : (k i : ℕ) → k < length paths → Contains (members_of st.groups (group_of_augment labels k)) i → ((first k ≤ i) × (i < last k)) × (giver_of w items i ≡ Some (number k))
+      own_at : (k i : ℕ) → k < length paths → Contains (members_of st.groups (group_of_augment labels k)) i
+          → ((first k ≤ i) × (i < last k)) × (giver_of w items i ≡ Some (number k))
       own_at k i l h =
           let a = there_is augments k (let e = many_paths in omega (arith, l, e)) in
           let g : giver_of w items i ≡ Some a.0 =
@@ -371,12 +391,175 @@ module _ (files : Files) (marks : List Bool) (order : List ℕ) (own : ℕ) (ite
           let e = ap first same in let f = ap last same in let y = x.2 in let z = x.3 in
           ((omega (arith, e, y), omega (arith, f, z)), g ∙ ap (λ (n : ℕ). Some n) (sym (got augments k a.0 a.1)))
 
-  whole_shows : (m : Made) (new : State) → Expand files marks order m → AreGrafted w items new → Shows its new.groups 0 0 (length labels) m.nodes
+  whole_shows : (m : Made) (new : State) → Expand files marks order m → AreGrafted w items new
+      → Shows its new.groups 0 0 (length labels) m.nodes
   whole_shows m new E grafted =
       rounds_by labels its (giver_of w items) (labels_tell w items its tells.told) number path block first last paths st new (places_from 0 paths) E.own.nodes m.nodes givers places
       (between E.own E.tops) (all_wait st 0 paths (λ j l h. none_yet j (let e = many_paths in omega (arith, h, e))))
       (rounds_on E.rounds (places_from 0 paths) (at_places (λ a. path_in w (own_home w.files (slice_get w.rows a)) a) 0 augments (λ j. ap (slice_get augments) (let e : j ≡ 0 + j = omega arith in e))))
       (subst (λ s. AreApplied labels 0 paths s new) (start_is files marks order own items its given expanded tells one_meant) grafted.applied)
+
+  -- an augment has no target
+  abbrev pub untargeted_at : ℕ → Wrong
+  untargeted_at a = record { code = code.AugmentTarget; statement = a }
+
+  module _ (far : ℕ → Type 0) (near : (k a : ℕ) → slice_get augments k ≡ Some a → far a → ⊥)
+      (given_far : (a home : ℕ) (m : Made) → Gives files home (a ∷ []) (block_of rows a) m → (b : ℕ) → Contains m.wrong (untargeted_at b) → far b) where
+    -- what is refused for its target before, or is missed, is refused for its target then
+    record Refuses (old new : List Wrong) (missed : List ℕ) : Type 0 where
+      to : (k a : ℕ) → slice_get augments k ≡ Some a → Contains new (untargeted_at a) → Contains old (untargeted_at a) ⊎ Contains missed k
+      from : (k a : ℕ) → slice_get augments k ≡ Some a → Contains old (untargeted_at a) ⊎ Contains missed k → Contains new (untargeted_at a)
+
+    not_misplaced : (a b : ℕ) → record { code = code.BadAugment; statement = a } ≡ untargeted_at b → ⊥
+    not_misplaced a b e = (let bad : code.BadAugment ≡ code.AugmentTarget = ap (λ (x : Wrong). x.code) e in cc)
+
+    judged_wrong : (b : Bool) (a : ℕ) (there : Forest) (m block : Made)
+        → (n : ℕ) → Contains (judged b a (record { nodes = there; wrong = m.wrong ++ block.wrong })).wrong (untargeted_at n)
+        → Contains m.wrong (untargeted_at n) ⊎ Contains block.wrong (untargeted_at n)
+    judged_wrong true a there m block n h = Contains-append_cases m.wrong block.wrong (untargeted_at n) h
+    judged_wrong false a there m block n h = elim (Contains-push_cases (m.wrong ++ block.wrong) _ (untargeted_at n) h) [
+      | inl x ↦ Contains-append_cases m.wrong block.wrong (untargeted_at n) x
+      | inr bad ↦ absurd (not_misplaced a n bad)
+    ]
+
+    judged_old : (b : Bool) (a : ℕ) (there : Forest) (m block : Made) (x : Wrong) → Contains m.wrong x
+        → Contains (judged b a (record { nodes = there; wrong = m.wrong ++ block.wrong })).wrong x
+    judged_old true a there m block x h = Contains-append_left m.wrong block.wrong x h
+    judged_old false a there m block x h = Contains-append_left (m.wrong ++ block.wrong) _ x (Contains-append_left m.wrong block.wrong x h)
+
+    round_wrong : {waiting still : List ℕ} {m end : Made} → (R : Round files waiting m still end) → (ks : List ℕ) → (at : AreAt ks waiting)
+        → Refuses m.wrong end.wrong (missed_of (round_on R ks at).2)
+    unfolding round_on
+    round_wrong round_over [] at = record { to = λ k a is h. inl h; from = λ k a is h. elim h [ inl x ↦ x | inr y ↦ absurd (nothing_stands k y) ] }
+    round_wrong round_over (k ∷ ks) at = absurd at
+    round_wrong (round_adds home G reach more) [] at = absurd at
+    round_wrong (round_adds {home = home} {a = a} {m = m} {block = given_block} {last = end} {there = there} {target = target} home_is G reach more) (k ∷ ks) (at, others) =
+        let r = round_wrong more ks others in
+        let b : Bool = takes_block rows a target.kind in
+        let missed = judged_missed b a there (m.wrong ++ given_block.wrong) (round_on more ks others).2 in
+        subst (Refuses m.wrong end.wrong) (sym missed) (record {
+          to = λ j n is h. elim (r.to j n is h) [
+            | inl x ↦ elim (judged_wrong b a there m given_block n x) [
+              | inl y ↦ inl y
+              | inr y ↦ absurd (near j n is (given_far a home given_block G n y))
+            ]
+            | inr x ↦ inr x
+          ];
+          from = λ j n is h. r.from j n is (elim h [ inl x ↦ inl (judged_old b a there m given_block (untargeted_at n) x) | inr x ↦ inr x ]);
+        })
+    round_wrong (round_misses home_is leads missed more) [] at = absurd at
+    round_wrong (round_misses {home = home} {a = a} {m = m} {e = e} {there = there} home_is (row, row_at, leads) missed more) (k ∷ ks) (at, others) =
+        let r = round_wrong more ks others in
+        let rest : List ℕ = missed_of (round_on more ks others).2 in
+        record {
+          to = λ j n is h. elim (r.to j n is h) [
+            | inl x ↦ elim (Contains-push_cases m.wrong _ (untargeted_at n) x) [
+              | inl y ↦ inl y
+              | inr same ↦ inr (subst (Contains (k ∷ rest)) (place k j a n at is (ap (λ (z : Wrong). z.statement) same)) (there_first k rest))
+            ]
+            | inr x ↦ inr (there_later k j rest x)
+          ];
+          from = λ j n is h. elim h [
+            | inl x ↦ r.from j n is (inl (Contains-append_left m.wrong (untargeted_at a ∷ []) (untargeted_at n) x))
+            | inr x ↦ elim (first_or k rest j x) [
+              | inl same ↦
+                  let one : a ≡ n = same_Some a n (sym at ∙ (ap (slice_get augments) same ∙ is)) in
+                  r.from j n is (inl (subst (λ (z : ℕ). Contains (m.wrong ++ untargeted_at a ∷ []) (untargeted_at z)) one (Contains-push m.wrong (untargeted_at a))))
+              | inr y ↦ r.from j n is (inr y)
+            ]
+          ];
+        }
+      where
+        place : (k j a n : ℕ) → slice_get augments k ≡ Some a → slice_get augments j ≡ Some n → a ≡ n → k ≡ j
+        place k j a n at is same = rises_one augments (augments_rise files marks) k j n (at ∙ ap (λ (z : ℕ). Some z) same) is
+    round_wrong (round_waits home_is nowhere more) [] at = absurd at
+    round_wrong (round_waits {home = home} {a = a} {m = m} home_is (row, row_at, nowhere) more) (k ∷ ks) (at, others) = round_wrong more ks others
+
+    waiting_wrong : (ks numbers : List ℕ) → AreAt ks numbers → (k a : ℕ) → slice_get augments k ≡ Some a
+        → (Contains (map (λ n. untargeted_at n) numbers) (untargeted_at a) → Contains ks k) × (Contains ks k → Contains (map (λ n. untargeted_at n) numbers) (untargeted_at a))
+    waiting_wrong [] [] at k a is = (λ h. absurd (no_wrong h), λ h. absurd (nothing_stands k h))
+      where
+        no_wrong : Contains (let none : List Wrong = [] in none) (untargeted_at a) → ⊥
+        no_wrong (i, l, e) = omega (arith, l)
+    waiting_wrong [] (b ∷ numbers) at k a is = absurd at
+    waiting_wrong (j ∷ ks) [] at k a is = absurd at
+    waiting_wrong (j ∷ ks) (b ∷ numbers) (at, others) k a is =
+        let r = waiting_wrong ks numbers others k a is in
+        let rest : List Wrong = map (λ n. untargeted_at n) numbers in (
+          (λ h. elim (Contains-append_cases (untargeted_at b ∷ []) rest (untargeted_at a) h) [
+            | inl x ↦ elim (Contains-push_cases [] (untargeted_at b) (untargeted_at a) x) [
+              | inl (i, l, e) ↦ absurd (omega (arith, l))
+              | inr same ↦
+                  let one : b ≡ a = ap (λ (z : Wrong). z.statement) same in
+                  subst (Contains (j ∷ ks)) (rises_one augments (augments_rise files marks) j k a (at ∙ ap (λ (z : ℕ). Some z) one) is) (there_first j ks)
+            ]
+            | inr x ↦ there_later j k ks (r.0 x)
+          ]),
+          (λ h. elim (first_or j ks k h) [
+            | inl same ↦
+                let one : b ≡ a = same_Some b a (sym at ∙ (ap (slice_get augments) same ∙ is)) in
+                Contains-append_left (untargeted_at b ∷ []) rest (untargeted_at a) (subst (λ (z : ℕ). Contains (untargeted_at b ∷ []) (untargeted_at z)) one (Contains-push [] (untargeted_at b)))
+            | inr x ↦ Contains-append_right (untargeted_at b ∷ []) rest (untargeted_at a) (r.1 x)
+          ]),
+        )
+
+    rounds_wrong : {waiting : List ℕ} {m end : Made} → (R : Rounds files waiting m end) → (ks : List ℕ) → (at : AreAt ks waiting)
+        → Refuses m.wrong end.wrong (all_missed (rounds_on R ks at))
+    unfolding rounds_on
+    rounds_wrong {waiting = waiting} {m = m} (last_round R) ks at = record {
+      to = λ k a is h. elim (Contains-append_cases m.wrong (map (λ n. untargeted_at n) waiting) (untargeted_at a) h) [
+        | inl x ↦ inl x
+        | inr x ↦ inr ((waiting_wrong ks waiting at k a is).0 x)
+      ];
+      from = λ k a is h. elim h [
+        | inl x ↦ Contains-append_left m.wrong (map (λ n. untargeted_at n) waiting) (untargeted_at a) x
+        | inr x ↦ Contains-append_right m.wrong (map (λ n. untargeted_at n) waiting) (untargeted_at a) ((waiting_wrong ks waiting at k a is).1 x)
+      ];
+    }
+    rounds_wrong (one_more_round R less more) ks at =
+        let r = round_on R ks at in
+        let x = round_wrong R ks at in
+        let y = rounds_wrong more r.0 r.1 in
+        let later : List ℕ = all_missed (rounds_on more r.0 r.1) in
+        record {
+          to = λ k a is h. elim (y.to k a is h) [
+            | inl z ↦ elim (x.to k a is z) [ inl u ↦ inl u | inr u ↦ inr (Contains-append_left (missed_of r.2) later k u) ]
+            | inr z ↦ inr (Contains-append_right (missed_of r.2) later k z)
+          ];
+          from = λ k a is h. y.from k a is (elim h [
+            | inl z ↦ inl (x.from k a is (inl z))
+            | inr z ↦ elim (Contains-append_cases (missed_of r.2) later k z) [ inl u ↦ inl (x.from k a is (inr u)) | inr u ↦ inr u ]
+          ]);
+        }
+
+    -- an augment of a module has no target exactly where it is refused so
+    pub target_refused : (m : Made) (new : State) → (E : Expand files marks order m) → AreGrafted w items new
+        → ((b : ℕ) → Contains E.own.wrong (untargeted_at b) → far b)
+        → (k a : ℕ) → slice_get augments k ≡ Some a
+        → (turns.target_of labels new.ends k ≡ None → Contains m.wrong (untargeted_at a)) × (Contains m.wrong (untargeted_at a) → turns.target_of labels new.ends k ≡ None)
+    target_refused m new E grafted own_far k a is =
+        let at = at_places (λ b. path_in w (own_home w.files (slice_get w.rows b)) b) 0 augments (λ j. ap (slice_get augments) (let e : j ≡ 0 + j = omega arith in e)) in
+        let R = rounds_on E.rounds (places_from 0 paths) at in
+        let ts = targets_of labels its (labels_tell w items its tells.told) (giver_of w items) givers number path block first last paths places st new (between E.own E.tops)
+        (all_wait st 0 paths (λ j l h. none_yet j (let e = many_paths in omega (arith, h, e)))) R
+        (subst (λ s. AreApplied labels 0 paths s new) (start_is files marks order own items its given expanded tells one_meant) grafted.applied) in
+        let wrongs = rounds_wrong E.rounds (places_from 0 paths) at in (
+          (λ none. elim (ts.1 k (place_in paths k (let less = slice_get_within augments k a is in let e = many_paths in omega (arith, less, e)))) [
+            | inl x ↦ wrongs.from k a is (inr x)
+            | inr x ↦ absurd (not_none (sym none ∙ x.1))
+          ]),
+          (λ h. elim (wrongs.to k a is h) [ inl x ↦ absurd (near k a is (own_far a x)) | inr x ↦ ts.0 k x ]),
+        )
+      where
+        place_from : {A : Type 0} (n : ℕ) (xs : List A) (k : ℕ) → k < length xs → Contains (places_from n xs) (n + k)
+        place_from n [] k l = absurd (omega (arith, l))
+        place_from n (x ∷ xs) zero l = subst (Contains (n ∷ places_from (n + 1) xs)) (let e : n ≡ n + 0 = omega arith in e) (there_first n (places_from (n + 1) xs))
+        place_from n (x ∷ xs) (suc k) l =
+            there_later n (n + suc k) (places_from (n + 1) xs)
+            (subst (Contains (places_from (n + 1) xs)) (let e : n + 1 + k ≡ n + suc k = omega arith in e) (place_from (n + 1) xs k (omega (arith, l))))
+
+        place_in : {A : Type 0} (xs : List A) (k : ℕ) → k < length xs → Contains (places_from 0 xs) k
+        place_in xs k l = subst (Contains (places_from 0 xs)) (let e : 0 + k ≡ k = omega arith in e) (place_from 0 xs k l)
 
 pub files_show : (files : Files) → RefersToOne files → FilesShow files
 files_show files one_meant marks order own items its m st given expanded tells E grafted = whole_shows files marks order own items its given expanded tells one_meant m st E grafted

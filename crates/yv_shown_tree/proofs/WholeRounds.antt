@@ -1,9 +1,10 @@
 -- The rounds of the augments of modules make of what is shown what they make of nodes.
 use Rattle.std.proofs.Common.{◌⊎◌, inl, inr, ◌≡◌, ◌≢◌, ℕ, zero, suc, ◌+◌, ◌<◌, ◌≤◌, ◌&&◌, not, Bool, true, false, if◌then◌else◌, List, [], ◌∷◌, ◌++◌, length, length-set, get_or, refl, sym, ◌∙◌, ap, subst, arith, Option, Some, None}
 use Rattle.std.specs.List.{Contains, slice_get}
+use Rattle.std.specs.Option.{option_and_then}
 use Rattle.std.proofs.lemmas.Bool.{cases_eq, false≢true}
 use Rattle.std.proofs.lemmas.List.{get_or-set_other}
-use Rattle.std.proofs.lemmas.List.Elements.{Contains-append_cases}
+use Rattle.std.proofs.lemmas.List.Elements.{Contains-append_cases, Contains-append_left, Contains-append_right}
 use Rattle.std.proofs.lemmas.Option.{same_Some}
 use Rattle.yv_augments.specs.declared.end.End.{End}
 use Rattle.yv_augments.specs.declared.end.End.TheVariants as end_is
@@ -11,7 +12,7 @@ use Rattle.yv_augments.specs.declared.label.Label.{Label}
 use Rattle.yv_augments.specs.Groups.{Groups, group_of_augment, members_of, moved}
 use Rattle.yv_augments.specs.Paths.{ended}
 use Rattle.yv_augments.specs.Rounds.{AreApplied, is_any, round, rounds}
-use Rattle.yv_augments.specs.Turns.{State, is_applied, is_some, is_taken, settled, target, turn}
+use Rattle.yv_augments.specs.Turns.{State, is_applied, is_some, is_taken, settled, target, target_of, turn}
 use Rattle.yv_expanded_tree.specs.Nodes.{Forest, Node, inserted}
 use Rattle.yv_expanded_tree.specs.Paths.{Step}
 use Rattle.yv_shown_tree.specs.Rounds.{AreGivers, AwaitsTurn, IsRoundTurn}
@@ -21,15 +22,18 @@ use Rattle.yv_shown_tree.specs.WholeRounds.{AreBetween, ArePlaces, AreWaiting, R
 use Rattle.yv_shown_tree.specs.WholeRounds.AreWaiting.{no_places, applied, waits as waiting_here}
 use Rattle.yv_shown_tree.specs.WholeRounds.RoundOn.{none_left, adds, untargeted, waits}
 use Rattle.yv_shown_tree.specs.WholeRounds.RoundsOn.{no_more as last_round, one_more}
-use Rattle.yv_shown_tree.proofs.Framing.{moved_long, moved_other, moved_to}
+use Rattle.yv_shown_tree.proofs.Finding.{not_none, there_first, there_later}
+use Rattle.yv_shown_tree.proofs.Framing.{moved_long, moved_other, moved_to, nothing_stands}
 use Rattle.yv_shown_tree.proofs.Rounds.{round_adds}
+use Rattle.yv_shown_tree.proofs.Showing.{first_or}
 use Rattle.yv_shown_tree.proofs.Standing.{or_left, or_right, shows_on}
-use Rattle.yv_shown_tree.proofs.Waiting.{round_misses, round_takes, round_waits}
+use Rattle.yv_shown_tree.proofs.Waiting.{hit_target, miss_target, round_misses, round_takes, round_waits}
 use Rattle.yv_shown_tree.proofs.Walking.{not_so}
 
 module _ (labels : List Label) where
   -- a turn leaves where other augments' paths ended
-  turn_ends : (k start limit j : ℕ) (names : List ℕ) (st : State) → j ≢ k → get_or (turn labels k start limit names st).ends j None ≡ get_or st.ends j None
+  turn_ends : (k start limit j : ℕ) (names : List ℕ) (st : State) → j ≢ k
+      → get_or (turn labels k start limit names st).ends j None ≡ get_or st.ends j None
   turn_ends k start limit j names st other = by (is_applied st k) (ended labels st.groups limit names (end_is.Start start))
     where
       by : (b : Bool) (o : Option End) → get_or (if b then st else settled labels k o st).ends j None ≡ get_or st.ends j None
@@ -47,23 +51,28 @@ module _ (labels : List Label) where
 
   -- an augment that was applied has no more turns
   applied_still : (k start limit : ℕ) (names : List ℕ) (st : State) → is_applied st k ≡ true → turn labels k start limit names st ≡ st
-  applied_still k start limit names st is = ap (λ (b : Bool). if b then st else settled labels k (ended labels st.groups limit names (end_is.Start start)) st) is
+  applied_still k start limit names st is =
+      ap (λ (b : Bool). if b then st else settled labels k (ended labels st.groups limit names (end_is.Start start)) st) is
 
   -- one that is applied by its turn is taken
-  taken_so : (k start limit : ℕ) (names : List ℕ) (st : State) → is_applied st k ≡ false → is_applied (turn labels k start limit names st) k ≡ true
+  taken_so : (k start limit : ℕ) (names : List ℕ) (st : State) → is_applied st k ≡ false
+      → is_applied (turn labels k start limit names st) k ≡ true
       → is_taken labels k start limit names st ≡ true
   taken_so k start limit names st isnt is = by (ended labels st.groups limit names (end_is.Start start)) refl
     where
-      by : (o : Option End) → ended labels st.groups limit names (end_is.Start start) ≡ o → (not (is_applied st k) && is_some (ended labels st.groups limit names (end_is.Start start))) ≡ true
+      by : (o : Option End) → ended labels st.groups limit names (end_is.Start start) ≡ o
+          → (not (is_applied st k) && is_some (ended labels st.groups limit names (end_is.Start start))) ≡ true
       by (Some e) at = ap (λ (b : Bool). not b && is_some (ended labels st.groups limit names (end_is.Start start))) isnt ∙ ap is_some at
       by None at =
           absurd (false≢true (sym isnt ∙ (ap (λ (s : State). is_applied s k)
           (sym (ap (λ (b : Bool). if b then st else settled labels k (ended labels st.groups limit names (end_is.Start start)) st) isnt ∙ ap (λ o. settled labels k o st) at)) ∙ is)))
 
-  other_waits : (k start limit j : ℕ) (names : List ℕ) (st : State) → j ≢ k → is_applied (turn labels k start limit names st) j ≡ is_applied st j
+  other_waits : (k start limit j : ℕ) (names : List ℕ) (st : State) → j ≢ k
+      → is_applied (turn labels k start limit names st) j ≡ is_applied st j
   other_waits k start limit j names st other = ap is_some (turn_ends k start limit j names st other)
 
-  waiting_then : (k start limit : ℕ) (names : List ℕ) (st : State) (j : ℕ) (paths : List (List ℕ)) (ws : List ℕ) → k < j → AreWaiting st j paths ws
+  waiting_then : (k start limit : ℕ) (names : List ℕ) (st : State) (j : ℕ) (paths : List (List ℕ)) (ws : List ℕ) → k < j
+      → AreWaiting st j paths ws
       → AreWaiting (turn labels k start limit names st) j paths ws
   waiting_then k start limit names st j _ _ l no_places = no_places
   waiting_then k start limit names st j _ _ l (applied {others = others} {waiting = ws} is rest) =
@@ -71,12 +80,26 @@ module _ (labels : List Label) where
   waiting_then k start limit names st j _ _ l (waiting_here {others = others} {waiting = ws} is rest) =
       waiting_here (other_waits k start limit j names st (λ e. omega (arith, e, l)) ∙ is) (waiting_then k start limit names st (j + 1) others ws (omega (arith, l)) rest)
 
+-- the augments that a round applies to no target, and those that no round applies to one
+abbrev pub missed_of : {number : ℕ → ℕ} {path : ℕ → List Step} {block : ℕ → Forest → Type 0} {waiting still : List ℕ} {m after : Forest}
+    → RoundOn number path block waiting m still after → List ℕ
+missed_of none_left = []
+missed_of (adds gives hits more) = missed_of more
+missed_of (untargeted {k = k} leads misses more) = k ∷ missed_of more
+missed_of (waits nowhere more) = missed_of more
+
+abbrev pub all_missed : {number : ℕ → ℕ} {path : ℕ → List Step} {block : ℕ → Forest → Type 0} {waiting : List ℕ} {m after : Forest}
+    → RoundsOn number path block waiting m after → List ℕ
+all_missed (last_round {waiting = waiting} R) = waiting
+all_missed (one_more R less more) = missed_of R ++ all_missed more
+
 module _ (labels : List Label) (its : Items) (are : AreLabels labels its) (giver_of : ℕ → Option ℕ) (givers : AreGivers its giver_of) (number : ℕ → ℕ) (path : ℕ → List Step)
     (block : ℕ → Forest → Type 0) (first last : ℕ → ℕ) (paths : List (List ℕ)) (places : ArePlaces labels its number path first last paths) where
   abbrev Between : State → Forest → Type 0
   Between st m = AreBetween labels its giver_of number block first last (length paths) st m
 
-  awaits : (k : ℕ) (st : State) (m : Forest) → k < length paths → is_applied st k ≡ false → (b : Between st m) → AwaitsTurn labels its k st m
+  awaits : (k : ℕ) (st : State) (m : Forest) → k < length paths → is_applied st k ≡ false → (b : Between st m)
+      → AwaitsTurn labels its k st m
   awaits k st m l isnt b =
       let many = b.copies in
       record { copies = omega (arith, l, many); waits = not_applied (get_or st.ends k None) isnt; whole = b.whole; within = b.within }
@@ -98,13 +121,16 @@ module _ (labels : List Label) (its : Items) (are : AreLabels labels its) (giver
         copies = omega (arith, copies, ends);
         whole = shows_same same b.whole;
         within = λ i there. b.within i (subst (λ gs. Contains (members_of gs 0) i) same there);
-        blocks = λ j f l isnt gives. subst (λ gs. Shows its gs (group_of_augment labels j) (first j) (last j) f) (sym same) (b.blocks j f l (was j isnt) gives);
-        own = λ j i l isnt there. b.own j i l (was j isnt) (subst (λ gs. Contains (members_of gs (group_of_augment labels j)) i) same there);
+        blocks =
+            λ j f l isnt gives. subst (λ gs. Shows its gs (group_of_augment labels j) (first j) (last j) f) (sym same) (b.blocks j f l (was j isnt) gives);
+        own =
+            λ j i l isnt there. b.own j i l (was j isnt) (subst (λ gs. Contains (members_of gs (group_of_augment labels j)) i) same there);
         not_theirs = λ j x i l isnt le there. b.not_theirs j x i l (was j isnt) le (subst (λ gs. Contains (members_of gs x) i) same there);
         away = λ j x l isnt o. b.away j x l (was j isnt) o;
       }
     where
-      shows_same : {old new : Groups} {f : Forest} → new ≡ old → (s : Shows its old 0 0 (length labels) f) → Shows its new 0 0 (length labels) f
+      shows_same : {old new : Groups} {f : Forest} → new ≡ old → (s : Shows its old 0 0 (length labels) f)
+          → Shows its new 0 0 (length labels) f
       shows_same {old = old} {new = new} {f = f} same s = record {
         items = s.items;
         owns = s.owns;
@@ -118,7 +144,8 @@ module _ (labels : List Label) (its : Items) (are : AreLabels labels its) (giver
       }
 
   -- when one has added what its block gives
-  added_between : (k : ℕ) (names : List ℕ) (st : State) (m b below there : Forest) (target : Node) → k < length paths → slice_get paths k ≡ Some names → is_applied st k ≡ false
+  added_between : (k : ℕ) (names : List ℕ) (st : State) (m b below there : Forest) (target : Node) → k < length paths
+      → slice_get paths k ≡ Some names → is_applied st k ≡ false
       → block k b → Hits (path k) m target below (inserted (number k) b below) there → Between st m
       → Between (turn labels k 0 (length labels) names st) there
   added_between k names st m b below there target l at isnt gives hits between =
@@ -178,9 +205,11 @@ module _ (labels : List Label) (its : Items) (are : AreLabels labels its) (giver
 
       hit : (s : Shows its (turn labels k 0 (length labels) names st).groups 0 0 (length labels) there) × ((x : ℕ) → s.owns x ≡ true → (turn_of.whole.owns x ≡ true) ⊎ (turn_of.block.owns x ≡ true))
           × ((i : ℕ) × (turn_of.whole.owns i ≡ true) × ((turn labels k 0 (length labels) names st).groups ≡ moved (group_of_augment labels k) (i + 1) st.groups))
-      hit = round_adds labels its are giver_of (first k) (last k) k (number k) names (path k) st m b below there target turn_of (places.agree k names at) hits
+      hit =
+          round_adds labels its are giver_of (first k) (last k) k (number k) names (path k) st m b below there target turn_of (places.agree k names at) hits
 
-      at_group : (j : ℕ) → j ≢ k → members_of (turn labels k 0 (length labels) names st).groups (group_of_augment labels j) ≡ members_of st.groups (group_of_augment labels j)
+      at_group : (j : ℕ) → j ≢ k
+          → members_of (turn labels k 0 (length labels) names st).groups (group_of_augment labels j) ≡ members_of st.groups (group_of_augment labels j)
       at_group j other =
           let iu = (between.whole.bounds hit.2.0 hit.2.1).1 in
           ap (λ gs. members_of gs (group_of_augment labels j)) hit.2.2
@@ -221,14 +250,17 @@ module _ (labels : List Label) (its : Items) (are : AreLabels labels its) (giver
       → round labels k (names ∷ others) st ≡ round labels (k + 1) others st
   same_then k names others st same = ap (round labels (k + 1) others) same
 
-  any_then : (k : ℕ) (names : List ℕ) (others : List (List ℕ)) (st : State) → turn labels k 0 (length labels) names st ≡ st → is_any labels (k + 1) others st ≡ true
+  any_then : (k : ℕ) (names : List ℕ) (others : List (List ℕ)) (st : State) → turn labels k 0 (length labels) names st ≡ st
+      → is_any labels (k + 1) others st ≡ true
       → is_any labels k (names ∷ others) st ≡ true
   any_then k names others st same any =
       or_right (is_taken labels k 0 (length labels) names st) (is_any labels (k + 1) others (turn labels k 0 (length labels) names st)) (ap (is_any labels (k + 1) others) same ∙ any)
 
   -- the first augment was applied
-  done_then : (k : ℕ) (names : List ℕ) (others : List (List ℕ)) (st : State) (waiting still : List ℕ) (after : Forest) → is_applied st k ≡ false
-      → is_applied (turn labels k 0 (length labels) names st) k ≡ true → Went (k + 1) others (turn labels k 0 (length labels) names st) waiting still after
+  done_then : (k : ℕ) (names : List ℕ) (others : List (List ℕ)) (st : State) (waiting still : List ℕ) (after : Forest)
+      → is_applied st k ≡ false
+      → is_applied (turn labels k 0 (length labels) names st) k ≡ true
+      → Went (k + 1) others (turn labels k 0 (length labels) names st) waiting still after
       → Went k (names ∷ others) st (k ∷ waiting) still after
   done_then k names others st waiting still after isnt done w =
       let few = w.fewer in
@@ -237,7 +269,8 @@ module _ (labels : List Label) (its : Items) (are : AreLabels labels its) (giver
         waiting_now = applied (round_keeps (k + 1) others (turn labels k 0 (length labels) names st) k (omega arith) ∙ done) w.waiting_now;
         fewer = omega (arith, few);
         none_went = λ e. absurd (omega (arith, e, few));
-        some_went = λ l. or_left (is_taken labels k 0 (length labels) names st) (is_any labels (k + 1) others (turn labels k 0 (length labels) names st)) (taken_so labels k 0 (length labels) names st isnt done);
+        some_went =
+            λ l. or_left (is_taken labels k 0 (length labels) names st) (is_any labels (k + 1) others (turn labels k 0 (length labels) names st)) (taken_so labels k 0 (length labels) names st isnt done);
       }
 
   -- those behind the first augment went on, from where its turn left them
@@ -246,8 +279,10 @@ module _ (labels : List Label) (its : Items) (are : AreLabels labels its) (giver
       (st : State) (m : Forest) (waiting still : List ℕ) → AreWaiting st (k + 1) others waiting → Between st m → RoundOn number path block waiting m still after
       → Went (k + 1) others st waiting still after
 
-  first_went : (k : ℕ) (names : List ℕ) (others : List (List ℕ)) (after : Forest) → slice_get paths k ≡ Some names → k < length paths → Later k others after
-      → (st : State) (m : Forest) {waiting still : List ℕ} → AreWaiting st k (names ∷ others) waiting → Between st m → RoundOn number path block waiting m still after
+  first_went : (k : ℕ) (names : List ℕ) (others : List (List ℕ)) (after : Forest) → slice_get paths k ≡ Some names → k < length paths
+      → Later k others after
+      → (st : State) (m : Forest) {waiting still : List ℕ} → AreWaiting st k (names ∷ others) waiting → Between st m
+      → RoundOn number path block waiting m still after
       → Went k (names ∷ others) st waiting still after
   first_went k names others after here l later st m {still = still} (applied {waiting = waiting} is more) b R =
       let same = applied_still labels k 0 (length labels) names st is in
@@ -255,7 +290,8 @@ module _ (labels : List Label) (its : Items) (are : AreLabels labels its) (giver
       let few = w.fewer in
       record {
         between = subst (λ s. Between s after) (sym (same_then k names others st same)) w.between;
-        waiting_now = subst (λ s. AreWaiting s k (names ∷ others) still) (sym (same_then k names others st same)) (applied (round_keeps (k + 1) others st k (omega arith) ∙ is) w.waiting_now);
+        waiting_now =
+            subst (λ s. AreWaiting s k (names ∷ others) still) (sym (same_then k names others st same)) (applied (round_keeps (k + 1) others st k (omega arith) ∙ is) w.waiting_now);
         fewer = few;
         none_went = λ e. same_then k names others st same ∙ w.none_went e;
         some_went = λ l. any_then k names others st same (w.some_went l);
@@ -277,7 +313,8 @@ module _ (labels : List Label) (its : Items) (are : AreLabels labels its) (giver
       let few = w.fewer in
       record {
         between = subst (λ s. Between s after) (sym (same_then k names others st same)) w.between;
-        waiting_now = subst (λ s. AreWaiting s k (names ∷ others) (k ∷ still)) (sym (same_then k names others st same)) (waiting_here (round_keeps (k + 1) others st k (omega arith) ∙ isnt) w.waiting_now);
+        waiting_now =
+            subst (λ s. AreWaiting s k (names ∷ others) (k ∷ still)) (sym (same_then k names others st same)) (waiting_here (round_keeps (k + 1) others st k (omega arith) ∙ isnt) w.waiting_now);
         fewer = omega (arith, few);
         none_went = λ e. same_then k names others st same ∙ w.none_went (omega (arith, e));
         some_went = λ l. any_then k names others st same (w.some_went (omega (arith, l)));
@@ -289,13 +326,16 @@ module _ (labels : List Label) (its : Items) (are : AreLabels labels its) (giver
           subst (λ z. turn labels k 0 (length labels) z st ≡ st) (sym s.2)
           (round_waits labels its are k s.0 s.1 (path k) st m (awaits k st m l isnt b) (subst (λ z. Agree labels its z (path k)) s.2 (places.agree k names here)) nowhere)
 
-  none_went_on : (k : ℕ) (st : State) (m after : Forest) {waiting still : List ℕ} → AreWaiting st k [] waiting → Between st m → RoundOn number path block waiting m still after
+  none_went_on : (k : ℕ) (st : State) (m after : Forest) {waiting still : List ℕ} → AreWaiting st k [] waiting → Between st m
+      → RoundOn number path block waiting m still after
       → Went k [] st waiting still after
   none_went_on k st m after no_places b none_left =
       record { between = b; waiting_now = no_places; fewer = omega arith; none_went = λ e. refl; some_went = λ l. absurd (omega (arith, l)) }
 
-  went : (k : ℕ) (rest : List (List ℕ)) → ((j : ℕ) (names : List ℕ) → slice_get rest j ≡ Some names → slice_get paths (k + j) ≡ Some names) → k + length rest ≡ length paths
-      → (after : Forest) (st : State) (m : Forest) (waiting still : List ℕ) → AreWaiting st k rest waiting → Between st m → RoundOn number path block waiting m still after
+  went : (k : ℕ) (rest : List (List ℕ))
+      → ((j : ℕ) (names : List ℕ) → slice_get rest j ≡ Some names → slice_get paths (k + j) ≡ Some names) → k + length rest ≡ length paths
+      → (after : Forest) (st : State) (m : Forest) (waiting still : List ℕ) → AreWaiting st k rest waiting → Between st m
+      → RoundOn number path block waiting m still after
       → Went k rest st waiting still after
   went k [] at long after st m waiting still ws b R = none_went_on k st m after ws b R
   went k (names ∷ others) at long after st m waiting still ws b R =
@@ -306,8 +346,10 @@ module _ (labels : List Label) (its : Items) (are : AreLabels labels its) (giver
   rounds_same zero st same = refl
   rounds_same (suc n) st same = ap (rounds labels 0 paths n) same ∙ rounds_same n st same
 
-  rounds_go : (count : ℕ) (st : State) (m after : Forest) {waiting : List ℕ} → AreWaiting st 0 paths waiting → Between st m → RoundsOn number path block waiting m after
-      → is_any labels 0 paths (rounds labels 0 paths count st) ≡ false → Shows its (rounds labels 0 paths count st).groups 0 0 (length labels) after
+  rounds_go : (count : ℕ) (st : State) (m after : Forest) {waiting : List ℕ} → AreWaiting st 0 paths waiting → Between st m
+      → RoundsOn number path block waiting m after
+      → is_any labels 0 paths (rounds labels 0 paths count st) ≡ false
+      → Shows its (rounds labels 0 paths count st).groups 0 0 (length labels) after
   rounds_go count st m after {waiting = waiting} ws b (last_round R) over =
       let w = went 0 paths (λ j n is. ap (slice_get paths) (let e : 0 + j ≡ j = omega arith in e) ∙ is) (omega arith) m st m waiting waiting ws b R in
       subst (λ (s : State). Shows its s.groups 0 0 (length labels) m) (sym (rounds_same count st (w.none_went refl))) b.whole
@@ -318,10 +360,194 @@ module _ (labels : List Label) (its : Items) (are : AreLabels labels its) (giver
       let w = went 0 paths (λ j n is. ap (slice_get paths) (let e : 0 + j ≡ j = omega arith in e) ∙ is) (omega arith) there st m waiting still ws b R in
       rounds_go n (round labels 0 paths st) there after w.waiting_now w.between more over
 
+  -- where the path of an augment that was applied ended stays
+  turn_stays : (k : ℕ) (names : List ℕ) (st : State) (j : ℕ) → is_applied st j ≡ true
+      → get_or (turn labels k 0 (length labels) names st).ends j None ≡ get_or st.ends j None
+  turn_stays k names st j is = elim (cases_eq j k) [
+    | inl same ↦
+        ap (λ (s : State). get_or s.ends j None) (applied_still labels k 0 (length labels) names st (ap (is_applied st) (sym same) ∙ is))
+    | inr other ↦ turn_ends labels k 0 (length labels) j names st other
+  ]
+
+  round_stays : (k : ℕ) (rest : List (List ℕ)) (st : State) (j : ℕ) → is_applied st j ≡ true
+      → get_or (round labels k rest st).ends j None ≡ get_or st.ends j None
+  round_stays k [] st j is = refl
+  round_stays k (names ∷ others) st j is =
+      let same = turn_stays k names st j is in
+      round_stays (k + 1) others (turn labels k 0 (length labels) names st) j (ap is_some same ∙ is) ∙ same
+
+  rounds_stay : (count : ℕ) (st : State) (j : ℕ) → is_applied st j ≡ true
+      → get_or (rounds labels 0 paths count st).ends j None ≡ get_or st.ends j None
+  rounds_stay zero st j is = refl
+  rounds_stay (suc n) st j is =
+      let same = round_stays 0 paths st j is in
+      rounds_stay n (round labels 0 paths st) j (ap is_some same ∙ is) ∙ same
+
+  -- what is known of the targets of those that waited, after a round
+  record Aimed (st : State) (waiting still missed : List ℕ) : Type 0 where
+    none_there : (j : ℕ) → Contains missed j → (is_applied st j ≡ true) × (target_of labels st.ends j ≡ None)
+    one_there : (j : ℕ) → Contains waiting j → Contains missed j ⊎ (Contains still j ⊎ ((i : ℕ) × (target_of labels st.ends j ≡ Some i)))
+
+  abbrev AimedLater : (k : ℕ) → List (List ℕ) → Forest → Type 0
+  AimedLater k others after =
+      (st : State) (m : Forest) (waiting still : List ℕ) → AreWaiting st (k + 1) others waiting → Between st m → (R : RoundOn number path block waiting m still after)
+      → Aimed (round labels (k + 1) others st) waiting still (missed_of R)
+
+  -- an end that an augment has now it has after the turns of those behind
+  settled_later : (k : ℕ) (others : List (List ℕ)) (st : State) → is_applied st k ≡ true
+      → (is_applied (round labels (k + 1) others st) k ≡ true)
+      × (target_of labels (round labels (k + 1) others st).ends k ≡ target_of labels st.ends k)
+  settled_later k others st is =
+      (let same = round_stays (k + 1) others st k is in (ap is_some same ∙ is, ap (option_and_then (target labels)) same))
+
+  applied_target : (st : State) (k i : ℕ) → target_of labels st.ends k ≡ Some i → is_applied st k ≡ true
+  applied_target st k i is = by (get_or st.ends k None) is
+    where
+      by : (o : Option End) → option_and_then (target labels) o ≡ Some i → is_some o ≡ true
+      by None h = absurd (not_none h)
+      by (Some e) h = refl
+
+  first_aimed : (k : ℕ) (names : List ℕ) (others : List (List ℕ)) (after : Forest) → slice_get paths k ≡ Some names → k < length paths
+      → AimedLater k others after
+      → (st : State) (m : Forest) {waiting still : List ℕ} → AreWaiting st k (names ∷ others) waiting → Between st m
+      → (R : RoundOn number path block waiting m still after)
+      → Aimed (round labels k (names ∷ others) st) waiting still (missed_of R)
+  first_aimed k names others after here l later st m {still = still} (applied {waiting = waiting} is more) b R =
+      subst (λ s. Aimed s waiting still (missed_of R)) (sym (same_then k names others st (applied_still labels k 0 (length labels) names st is)))
+      (later st m waiting still more b R)
+  first_aimed k names others after here l later st m (waiting_here {waiting = waiting} isnt more) b (adds {still = still} {b = f} {below = below} {there = there} {target = aim} gives hits R) =
+      let s = places.steps k names here in
+      let agree = subst (λ z. Agree labels its z (path k)) s.2 (places.agree k names here) in
+      let aimed = hit_target labels its are k s.0 s.1 (path k) st m (awaits k st m l isnt b) agree aim below (inserted (number k) f below) there hits in
+      let here_now = subst (λ z. target_of labels (turn labels k 0 (length labels) z st).ends k ≡ Some aimed.0) (sym s.2) aimed.1 in
+      let now : State = turn labels k 0 (length labels) names st in
+      let w = later now there waiting still (waiting_then labels k 0 (length labels) names st (k + 1) others waiting (omega arith) more)
+      (added_between k names st m f below there aim l here isnt gives hits b) R in
+      record {
+        none_there = w.none_there;
+        one_there = λ j h. elim (first_or k waiting j h) [
+          | inl same ↦ subst (λ (n : ℕ). Contains (missed_of R) n ⊎ (Contains still n ⊎ ((i : ℕ) × (target_of labels (round labels (k + 1) others now).ends n ≡ Some i)))) same
+              (inr (inr (aimed.0, (settled_later k others now (applied_target now k aimed.0 here_now)).1 ∙ here_now)))
+          | inr rest ↦ w.one_there j rest
+        ];
+      }
+  first_aimed k names others after here l later st m (waiting_here {waiting = waiting} isnt more) b (untargeted {still = still} {there = there} {e = e} leads misses R) =
+      let waits_now = awaits k st m l isnt b in
+      let done = round_takes labels its are k names (path k) st m there e waits_now (places.agree k names here) leads in
+      let same = round_misses labels its are k names (path k) st m waits_now (places.agree k names here) misses in
+      let s = places.steps k names here in
+      let agree = subst (λ z. Agree labels its z (path k)) s.2 (places.agree k names here) in
+      let missed = miss_target labels its are k s.0 s.1 (path k) st m waits_now agree misses in
+      let here_now = subst (λ z. target_of labels (turn labels k 0 (length labels) z st).ends k ≡ None) (sym s.2) missed in
+      let now : State = turn labels k 0 (length labels) names st in
+      let w = later now m waiting still (waiting_then labels k 0 (length labels) names st (k + 1) others waiting (omega arith) more) (still_between k names st m done same b) R in
+      let at_end = settled_later k others now done in
+      record {
+        none_there = λ j h. elim (first_or k (missed_of R) j h) [
+          | inl is ↦ subst (λ (n : ℕ). (is_applied (round labels (k + 1) others now) n ≡ true) × (target_of labels (round labels (k + 1) others now).ends n ≡ None)) is (at_end.0, at_end.1 ∙ here_now)
+          | inr rest ↦ w.none_there j rest
+        ];
+        one_there = λ j h. elim (first_or k waiting j h) [
+          | inl is ↦ inl (subst (Contains (k ∷ missed_of R)) is (there_first k (missed_of R)))
+          | inr rest ↦ elim (w.one_there j rest) [ inl x ↦ inl (there_later k j (missed_of R) x) | inr y ↦ inr y ]
+        ];
+      }
+  first_aimed k names others after here l later st m (waiting_here {waiting = waiting} isnt more) b (waits {still = still} nowhere R) =
+      let s = places.steps k names here in
+      let same : turn labels k 0 (length labels) names st ≡ st =
+      subst (λ z. turn labels k 0 (length labels) z st ≡ st) (sym s.2)
+      (round_waits labels its are k s.0 s.1 (path k) st m (awaits k st m l isnt b) (subst (λ z. Agree labels its z (path k)) s.2 (places.agree k names here)) nowhere) in
+      let w = later st m waiting still more b R in
+      subst (λ z. Aimed z (k ∷ waiting) (k ∷ still) (missed_of R)) (sym (same_then k names others st same)) (record {
+        none_there = w.none_there;
+        one_there = λ j h. elim (first_or k waiting j h) [
+          | inl is ↦ inr (inl (subst (Contains (k ∷ still)) is (there_first k still)))
+          | inr rest ↦ elim (w.one_there j rest) [ inl x ↦ inl x | inr y ↦ elim y [ inl z ↦ inr (inl (there_later k j still z)) | inr z ↦ inr (inr z) ] ]
+        ];
+      })
+
+  none_aimed : (k : ℕ) (st : State) (m after : Forest) {waiting still : List ℕ} → AreWaiting st k [] waiting
+      → (R : RoundOn number path block waiting m still after)
+      → Aimed st waiting still (missed_of R)
+  none_aimed k st m after no_places none_left =
+      record { none_there = λ j h. absurd (nothing_stands j h); one_there = λ j h. absurd (nothing_stands j h) }
+
+  aimed : (k : ℕ) (rest : List (List ℕ))
+      → ((j : ℕ) (names : List ℕ) → slice_get rest j ≡ Some names → slice_get paths (k + j) ≡ Some names) → k + length rest ≡ length paths
+      → (after : Forest) (st : State) (m : Forest) (waiting still : List ℕ) → AreWaiting st k rest waiting → Between st m
+      → (R : RoundOn number path block waiting m still after)
+      → Aimed (round labels k rest st) waiting still (missed_of R)
+  aimed k [] at long after st m waiting still ws b R = none_aimed k st m after ws R
+  aimed k (names ∷ others) at long after st m waiting still ws b R =
+      first_aimed k names others after (ap (slice_get paths) (let e : k ≡ k + 0 = omega arith in e) ∙ at 0 names refl) (omega (arith, long))
+      (aimed (k + 1) others (λ j n is. ap (slice_get paths) (let e : k + 1 + j ≡ k + suc j = omega arith in e) ∙ at (suc j) n is) (omega (arith, long)) after) st m ws b R
+
+  -- those that wait have no target
+  waiting_none : (st : State) (k : ℕ) (rest : List (List ℕ)) (waiting : List ℕ) → AreWaiting st k rest waiting → (j : ℕ)
+      → Contains waiting j → target_of labels st.ends j ≡ None
+  waiting_none st k _ _ no_places j h = absurd (nothing_stands j h)
+  waiting_none st k _ _ (applied {others = others} {waiting = ws} is more) j h = waiting_none st (k + 1) others ws more j h
+  waiting_none st k _ _ (waiting_here {others = others} {waiting = ws} isnt more) j h = elim (first_or k ws j h) [
+    | inl same ↦ subst (λ (n : ℕ). target_of labels st.ends n ≡ None) same (by (get_or st.ends k None) isnt)
+    | inr rest ↦ waiting_none st (k + 1) others ws more j rest
+  ]
+    where
+      by : (o : Option End) → is_some o ≡ false → option_and_then (target labels) o ≡ None
+      by None e = refl
+      by (Some x) e = absurd (false≢true (sym e))
+
+  -- after all rounds those have no target that were missed, and the others that waited have one
+  record AllAimed (st : State) (waiting missed : List ℕ) : Type 0 where
+    none_there : (j : ℕ) → Contains missed j → target_of labels st.ends j ≡ None
+    one_there : (j : ℕ) → Contains waiting j → Contains missed j ⊎ ((i : ℕ) × (target_of labels st.ends j ≡ Some i))
+
+  rounds_aim : (count : ℕ) (st : State) (m after : Forest) {waiting : List ℕ} → AreWaiting st 0 paths waiting → Between st m
+      → (R : RoundsOn number path block waiting m after)
+      → is_any labels 0 paths (rounds labels 0 paths count st) ≡ false → AllAimed (rounds labels 0 paths count st) waiting (all_missed R)
+  rounds_aim count st m after {waiting = waiting} ws b (last_round R) over =
+      let w = went 0 paths (λ j n is. ap (slice_get paths) (let e : 0 + j ≡ j = omega arith in e) ∙ is) (omega arith) m st m waiting waiting ws b R in
+      subst (λ (s : State). AllAimed s waiting waiting) (sym (rounds_same count st (w.none_went refl)))
+      (record { none_there = waiting_none st 0 paths waiting ws; one_there = λ j h. inl h })
+  rounds_aim zero st m after {waiting = waiting} ws b (one_more {still = still} {there = there} R less more) over =
+      let w = went 0 paths (λ j n is. ap (slice_get paths) (let e : 0 + j ≡ j = omega arith in e) ∙ is) (omega arith) there st m waiting still ws b R in
+      absurd (false≢true (sym over ∙ w.some_went less))
+  rounds_aim (suc n) st m after {waiting = waiting} ws b (one_more {still = still} {there = there} R less more) over =
+      let w = went 0 paths (λ j n is. ap (slice_get paths) (let e : 0 + j ≡ j = omega arith in e) ∙ is) (omega arith) there st m waiting still ws b R in
+      let x = aimed 0 paths (λ j n is. ap (slice_get paths) (let e : 0 + j ≡ j = omega arith in e) ∙ is) (omega arith) there st m waiting still ws b R in
+      let r = rounds_aim n (round labels 0 paths st) there after w.waiting_now w.between more over in
+      let stays : (j : ℕ) → is_applied (round labels 0 paths st) j ≡ true
+      → target_of labels (rounds labels 0 paths n (round labels 0 paths st)).ends j ≡ target_of labels (round labels 0 paths st).ends j =
+      λ j is. ap (option_and_then (target labels)) (rounds_stay n (round labels 0 paths st) j is) in
+      record {
+        none_there = λ j h. elim (Contains-append_cases (missed_of R) (all_missed more) j h) [
+          | inl a ↦ (let y = x.none_there j a in stays j y.0 ∙ y.1)
+          | inr c ↦ r.none_there j c
+        ];
+        one_there = λ j h. elim (x.one_there j h) [
+          | inl a ↦ inl (Contains-append_left (missed_of R) (all_missed more) j a)
+          | inr y ↦ elim y [
+            | inl c ↦ elim (r.one_there j c) [ inl d ↦ inl (Contains-append_right (missed_of R) (all_missed more) j d) | inr d ↦ inr d ]
+            | inr z ↦ inr (z.0, stays j (applied_target (round labels 0 paths st) j z.0 z.1) ∙ z.1)
+          ]
+        ];
+      }
+
+  pub targets_of : {waiting : List ℕ} {m after : Forest} (st new : State) → Between st m → AreWaiting st 0 paths waiting
+      → (R : RoundsOn number path block waiting m after)
+      → AreApplied labels 0 paths st new
+      → ((j : ℕ) → Contains (all_missed R) j → target_of labels new.ends j ≡ None)
+      × ((j : ℕ) → Contains waiting j → Contains (all_missed R) j ⊎ ((i : ℕ) × (target_of labels new.ends j ≡ Some i)))
+  targets_of {waiting = waiting} {m = m} {after = after} st new b ws R over =
+      let r = subst (λ (s : State). AllAimed s waiting (all_missed R)) (sym over.is)
+      (rounds_aim over.count st m after ws b R (subst (λ s. is_any labels 0 paths s ≡ false) over.is over.last)) in
+      (r.none_there, r.one_there)
+
 -- whatever tells which nodes the blocks give
-pub rounds_by : (labels : List Label) (its : Items) (giver_of : ℕ → Option ℕ) → AreLabels labels its → (number : ℕ → ℕ) (path : ℕ → List Step) (block : ℕ → Forest → Type 0)
+pub rounds_by : (labels : List Label) (its : Items) (giver_of : ℕ → Option ℕ) → AreLabels labels its
+    → (number : ℕ → ℕ) (path : ℕ → List Step) (block : ℕ → Forest → Type 0)
     (first last : ℕ → ℕ) (paths : List (List ℕ)) (st new : State) (waiting : List ℕ) (m end : Forest) → AreGivers its giver_of → ArePlaces labels its number path first last paths
-    → AreBetween labels its giver_of number block first last (length paths) st m → AreWaiting st 0 paths waiting → RoundsOn number path block waiting m end
+    → AreBetween labels its giver_of number block first last (length paths) st m → AreWaiting st 0 paths waiting
+    → RoundsOn number path block waiting m end
     → AreApplied labels 0 paths st new → Shows its new.groups 0 0 (length labels) end
 rounds_by labels its giver_of are number path block first last paths st new waiting m after givers places b ws R over =
     subst (λ (s : State). Shows its s.groups 0 0 (length labels) after) (sym over.is)

@@ -19,3 +19,12 @@ pub mod Beginning
 pub mod WholeRounds
 pub mod Files
 pub mod FinalTree
+pub mod Conditions
+pub mod Schema
+pub mod Depths
+pub mod Impositions
+pub mod Targets
+pub mod Under
+pub mod RefusedRefines
+pub mod PathTargets
+pub mod TakenBlocks

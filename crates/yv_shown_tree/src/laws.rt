@@ -6,20 +6,28 @@ ghost use Rattle.yv_expansion.specs.Tree.{Item};
 ghost use Rattle.yv_augments.specs.declared.label.Label.{Label};
 ghost use Rattle.yv_augmented.specs.Spots.{Whole};
 ghost use Rattle.yv_shown_tree.specs.Beginning.{BeginningShows};
+ghost use Rattle.yv_shown_tree.specs.Conditions.{FilesAsk, MarksAreConditions, MarksAsk};
+ghost use Rattle.yv_shown_tree.specs.Depths.{DepthsAreOne};
 ghost use Rattle.yv_shown_tree.specs.Entering.{BlockKeeps, BlockShows, SpotsEnter};
 ghost use Rattle.yv_shown_tree.specs.Expanding.{ExpansionLies, PlacedIsTold};
 ghost use Rattle.yv_shown_tree.specs.Files.{FilesShow, ItemsShow, ModulesShow};
 ghost use Rattle.yv_shown_tree.specs.FinalTree.{FinalTreeShows};
 ghost use Rattle.yv_shown_tree.specs.Giving.{StatementsShow};
+ghost use Rattle.yv_shown_tree.specs.Impositions.{ImpositionsAreOne};
 ghost use Rattle.yv_shown_tree.specs.Marks.{BlocksAreMarked};
+ghost use Rattle.yv_shown_tree.specs.PathTargets.{PathsReach};
 ghost use Rattle.yv_shown_tree.specs.RefinedBlocks.{BlockIsMissed, BlockIsRefined};
 ghost use Rattle.yv_shown_tree.specs.Refining.{RefineChanges, RefineMisses};
 ghost use Rattle.yv_shown_tree.specs.Rounds.{RoundAdds, RoundMisses, RoundTakes, RoundWaits};
+ghost use Rattle.yv_shown_tree.specs.Schema.{LeftShows};
 ghost use Rattle.yv_shown_tree.specs.Shows.{AreLabels, Items};
 ghost use Rattle.yv_shown_tree.specs.Starting.{StartShows};
+ghost use Rattle.yv_shown_tree.specs.TakenBlocks.{TargetsTake};
+ghost use Rattle.yv_shown_tree.specs.Targets.{TargetsAreOne};
 ghost use Rattle.yv_shown_tree.specs.Telling.{ExpansionsHaveStatements, LabelsTell, PathsAgree};
 ghost use Rattle.yv_shown_tree.specs.Trees.{TreeShows};
 ghost use Rattle.yv_shown_tree.specs.Turning.{TurnAdds, TurnMisses};
+ghost use Rattle.yv_shown_tree.specs.Under.{BeginningStands, BlockStands, FinalStands};
 ghost use Rattle.yv_shown_tree.specs.WholeRounds.{RoundsShow};
 
 /// What an augment of a uses gives comes to stand, in its turn, behind what the node has to which its path leads; where the path leads to
@@ -159,3 +167,102 @@ pub fn the_final_tree_is_what_files_expand_to()
     yv_rows::laws::a_name_means_one_thing();
     yv_augmented::laws::items_stand_once();
 }
+
+/// The conditions of the uses and augments round a node of what files expand to are those that are
+/// asked at the node itself, up to the next node in whose block one of them is, and conditions of
+/// nodes above it (RFC 7950, sections 7.13, 7.17 and 7.20.2).
+pub fn conditions_are_asked_at_or_above_a_node()
+    ensures { (files : Files) → FilesAsk files }
+{}
+
+/// A numbered statement that is in a block, and is no extension's, has a mark exactly where each
+/// of its `if-feature` statements is true in its file (RFC 7950, section 7.20.2).
+pub fn marks_tell_which_conditions_hold()
+    ensures { (files : Files) → MarksAreConditions files }
+{}
+
+/// An item that is a node has a mark where all conditions of its node hold; and where it has one,
+/// its own hold, those of the refines that change it, and those of the uses and augments round it
+/// up to the next node (RFC 7950, sections 7.13, 7.17 and 7.20.2).
+pub fn marks_ask_up_to_the_next_node()
+    ensures { (files : Files) → MarksAsk files }
+{}
+
+/// What is left of the final tree when conditions were asked shows the nodes of the schema of the
+/// files (RFC 7950, section 7.20.2).
+pub fn what_is_left_is_the_schema()
+    ensures { (files : Files) → LeftShows files }
+{
+    yv_rows::laws::a_name_means_one_thing();
+    yv_augmented::laws::items_stand_once();
+    yv_features::laws::an_expression_has_one_truth();
+}
+
+/// A node is refused for its depth in the final tree by number exactly where it is in the tree to
+/// which the files expand (RFC 7950, sections 7.12 to 7.17).
+pub fn depths_are_one()
+    ensures { (files : Files) → DepthsAreOne files }
+{
+    yv_rows::laws::a_name_means_one_thing();
+    yv_augmented::laws::items_stand_once();
+    yv_augments::laws::a_tree_has_no_item_twice();
+}
+
+/// An augment of a module is refused for a mandatory node in the final tree by number exactly
+/// where it is in the tree to which the files expand (RFC 7950, sections 3 and 7.17).
+pub fn impositions_are_one()
+    ensures { (files : Files) → ImpositionsAreOne files }
+{
+    yv_rows::laws::a_name_means_one_thing();
+    yv_augmented::laws::items_stand_once();
+    yv_augments::laws::a_tree_has_no_item_twice();
+}
+
+/// An augment of a module is refused for its target by number exactly where it is refused so in
+/// what the files expand to: no round applies it to a node that may be its target (RFC 7950,
+/// section 7.17).
+pub fn targets_are_one()
+    ensures { (files : Files) → TargetsAreOne files }
+{
+    yv_rows::laws::a_name_means_one_thing();
+}
+
+/// When a block has entered a group, what stands there at any depth is what stood there before and
+/// the items of the block, but for those of augments of uses whose paths lead to no node to which
+/// they may add (RFC 7950, sections 7.13 and 7.17).
+pub fn a_block_keeps_its_items()
+    ensures { (labels : List Label) (its : Items) (mark : ℕ → Bool) → AreLabels labels its
+        → ((x : ℕ) → x ≤ length labels → mark x ≡ false) → BlockStands labels its mark }
+{}
+
+/// The items of the final tree are those that stood at the top before any augment of a module had
+/// its turn, at any depth, and those of what the augments of modules give that add to a node
+/// (RFC 7950, section 7.17).
+pub fn items_of_the_final_tree_were_placed()
+    ensures { FinalStands }
+{
+    yv_augments::laws::each_item_stands_once();
+    yv_augments::laws::items_stand_in_one_group();
+    yv_augments::laws::entering_keeps_groups();
+}
+
+/// In its turn an augment of a uses adds to the item that shows the node to which its path leads,
+/// if that may be its target; and to no item where the path leads to no such node (RFC 7950,
+/// section 7.17).
+pub fn a_path_of_a_uses_reaches_its_target()
+    ensures { (labels : List Label) (its : Items) → AreLabels labels its → PathsReach labels its }
+{}
+
+/// A target doesn't take what is in the block of an augment where a statement of the block gives
+/// an item that it doesn't take (RFC 7950, section 7.17).
+pub fn a_target_takes_a_block_item_by_item()
+    ensures { (rows : List Row) → TargetsTake rows }
+{}
+
+/// Before any augment of a module has its turn, what stands at the top, at any depth, is what the
+/// block of the modules keeps, and what stands in the group of each of their augments is what its
+/// block keeps (RFC 7950, sections 7.13 and 7.17).
+pub fn what_blocks_keep_stands_at_first()
+    ensures { (labels : List Label) (its : Items) (mark : ℕ → Bool) → AreLabels labels its
+        → ((x : ℕ) → x ≤ length labels → mark x ≡ false) → BeginningStands labels its mark }
+{}
