@@ -30,19 +30,19 @@ not_same n m lt = grind (arith, nat_tests)
 pub rank_is : (s : Rows) (n : NodeId) → IsSound s → n.0 < length s.nodes → rank n ≡ n.0 + 1
 rank_is s n sound lt = ap (λ b. cond b 0 (n.0 + 1)) (not_same n.0 4294967295 (omega (arith, sound.small, lt)))
 
-trees_behind : (s : Rows) (c : NodeId) (cs : List NodeId) → AreTrees s (c ∷ cs) → AreTrees s cs
+pub trees_behind : (s : Rows) (c : NodeId) (cs : List NodeId) → AreTrees s (c ∷ cs) → AreTrees s cs
 trees_behind s c cs trees = λ i d lt.
     let one : suc i + 1 ≡ suc (i + 1) = omega arith in
     let less : suc i < length (c ∷ cs) = omega (arith, lt) in
     subst (λ (n : ℕ). forest s (drop i cs) ≡ tree (tree_of s (get_or cs i d)) (forest s (drop n (c ∷ cs)))) one (trees (suc i) d less)
 
 -- the first of nodes, and those behind it
-record Splits (s : Rows) (at : ℕ) (c : NodeId) (cs : List NodeId) : Type 0 where
+pub record Splits (s : Rows) (at : ℕ) (c : NodeId) (cs : List NodeId) : Type 0 where
   pub first : at ≡ c.0
   pub here : forest s (c ∷ cs) ≡ tree (tree_of s c) (forest s cs)
   pub later : cs ≡ numbers_from (c.0 + 1 + count (below s c)) (forest s cs)
 
-split_of : (s : Rows) (at : ℕ) (c : NodeId) (cs : List NodeId) → AreTrees s (c ∷ cs) → c ∷ cs ≡ numbers_from at (forest s (c ∷ cs)) → Splits s at c cs
+pub split_of : (s : Rows) (at : ℕ) (c : NodeId) (cs : List NodeId) → AreTrees s (c ∷ cs) → c ∷ cs ≡ numbers_from at (forest s (c ∷ cs)) → Splits s at c cs
 split_of s at c cs trees are =
     let F : Forest = forest s cs in
     let n : NodeId = record { 0 = at } in

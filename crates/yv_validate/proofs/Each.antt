@@ -46,7 +46,7 @@ set_other (x ∷ xs) zero (suc i) v d other = refl
 set_other (x ∷ xs) (suc n) zero v d other = refl
 set_other (x ∷ xs) (suc n) (suc i) v d other = set_other xs n i v d (λ e. other (ap suc e))
 
-any_default : {X : Type 0} (xs : List X) (n : ℕ) (d e : X) → n < length xs → get_or xs n d ≡ get_or xs n e
+pub any_default : {X : Type 0} (xs : List X) (n : ℕ) (d e : X) → n < length xs → get_or xs n d ≡ get_or xs n e
 any_default [] n d e lt = absurd (omega arith)
 any_default (x ∷ xs) zero d e lt = refl
 any_default (x ∷ xs) (suc n) d e lt = any_default xs n d e (omega arith)
@@ -73,7 +73,7 @@ some_step is f us before d n new u lt stated h now = record {
 
 -- ---- what is told of them
 
-first_left : (us : List (List (Option NodeId))) (i : ℕ) (u : List (Option NodeId)) → i < length us → drop i us ≡ get_or us i u ∷ drop (i + 1) us
+pub first_left : (us : List (List (Option NodeId))) (i : ℕ) (u : List (Option NodeId)) → i < length us → drop i us ≡ get_or us i u ∷ drop (i + 1) us
 first_left us i u lt = rw (add-one) (drop-cons us i u lt)
 
 pub unique_drop : (f : List (Option NodeId) → Data → Option (List Val)) (here : List Place) (k : ℕ) (us : List (List (Option NodeId))) (i : ℕ) (u : List (Option NodeId)) (before : List Data) (d : Data) → i < length us → u ≡ get_or us i u

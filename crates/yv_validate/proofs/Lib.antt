@@ -5,6 +5,7 @@ pub mod Grown
 pub mod Beneath
 pub mod Entered
 pub mod Items
+pub mod Asked
 pub mod Noted
 pub mod Own
 pub mod Meeting

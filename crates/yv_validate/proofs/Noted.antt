@@ -1,32 +1,35 @@
 -- What is noted, one node more at a time.
 use Rattle.std.proofs.Common.{◌≡◌, ℕ, ◌==◌, ◌<◌, Bool, true, false, cond, Option, Some, None, List, [], ◌∷◌, ◌++◌, map, length, get_or, drop, drop-cons, add-one, arith, suc, ◌+◌, ◌-◌, refl, sym, ap, ◌∙◌, append_assoc, eqb-true}
 use Rattle.std.specs.List.{slice_get}
-use Rattle.std.specs.Bool.{one_answer}
-use Rattle.std.specs.Ordering.{nat_cmp, is_eq}
-use Rattle.std.specs.declared.cmp.Ordering.TheVariants.{Equal}
-use Rattle.std.specs.Cmp.{Equal-is, nat_cmp_is}
+use Rattle.std.specs.Ordering.{nat_cmp}
 use Rattle.std.specs.BTreeMap.{BTreeMap, UpdatesBy, get_by}
-use Rattle.std.proofs.Common.{eq-eqb}
-use Rattle.std.proofs.lemmas.Map.Lookups.{exact_unsigned}
+use Rattle.std.proofs.lemmas.Bool.Decides.{nat_tests}
 use Rattle.yv_values.specs.Reads.{or_else}
 use Rattle.yv_values.specs.Values.{Val}
 use Rattle.yv_nodes.specs.declared.node.NodeId.{NodeId}
 use Rattle.yv_nodes.specs.Rows.{Rows}
+use Rattle.yv_references.specs.InUse.{is_number}
+use Rattle.yv_validate.specs.InnerNamed.{are_named, is_named}
 use Rattle.yv_validate.specs.InnerNotes.{Gains, last_of, note_value, noted_at}
 use Rattle.yv_validate.specs.Values.{all_values, joined, leaf_at, tuple_of}
 use Rattle.yv_validate.specs.declared.notes.Notes.{Notes}
+use Rattle.yv_validate.proofs.Asked.{is_eq_nat, or_left, or_right}
 
 pub or_else_assoc : (a b c : Option Val) → or_else (or_else a b) c ≡ or_else a (or_else b c)
 or_else_assoc (Some v) b c = refl
 or_else_assoc None b c = refl
 
+-- no values of leafs that are named
+pub gains_unnamed : (s : Rows) (x : Notes) (f : ℕ → Option Val) → ((n : ℕ) → is_named s n ≡ true → f n ≡ None) → Gains s x x f
+gains_unnamed s x f none = record { each = λ n named. ap (λ v. or_else v (noted_at s x n)) (sym (none n named)) }
+
 -- no values
 pub gains_nothing : (s : Rows) (x : Notes) (f : ℕ → Option Val) → ((n : ℕ) → f n ≡ None) → Gains s x x f
-gains_nothing s x f none = record { each = λ n. ap (λ v. or_else v (noted_at s x n)) (sym (none n)) }
+gains_nothing s x f none = gains_unnamed s x f (λ n named. none n)
 
 -- the same values
 pub gains_as : (s : Rows) (old new : Notes) (f g : ℕ → Option Val) → Gains s old new f → ((n : ℕ) → f n ≡ g n) → Gains s old new g
-gains_as s old new f g gains same = record { each = λ n. gains.each n ∙ ap (λ v. or_else v (noted_at s old n)) (same n) }
+gains_as s old new f g gains same = record { each = λ n named. gains.each n named ∙ ap (λ v. or_else v (noted_at s old n)) (same n) }
 
 -- one more turn of a loop
 pub gains_on : (old new here from left all : Option Val) → new ≡ or_else here old → from ≡ or_else left here → or_else from old ≡ all → or_else left new ≡ all
@@ -43,15 +46,21 @@ gains_none_at s x number v none = gains_nothing s x (λ n. cond (number == n) v 
 
 -- ---- tuples of what is noted
 
-same_leaf : (f g : ℕ → Option Val) (o : Option NodeId) → ((n : ℕ) → f n ≡ g n) → leaf_at f o ≡ leaf_at g o
+itself : (n : ℕ) → (n == n) ≡ true
+itself n = grind (arith, nat_tests)
+
+same_leaf : (f g : ℕ → Option Val) (o : Option NodeId) → ((n : ℕ) → is_number o n ≡ true → f n ≡ g n) → leaf_at f o ≡ leaf_at g o
 same_leaf f g None same = refl
-same_leaf f g (Some n) same = same n.0
+same_leaf f g (Some n) same = same n.0 (itself n.0)
 
-same_all : (f g : ℕ → Option Val) (ns : List (Option NodeId)) → ((n : ℕ) → f n ≡ g n) → all_values f ns ≡ all_values g ns
+same_all : (f g : ℕ → Option Val) (ns : List (Option NodeId)) → ((n : ℕ) → are_named ns n ≡ true → f n ≡ g n) → all_values f ns ≡ all_values g ns
 same_all f g [] same = refl
-same_all f g (n ∷ ns) same = ap (λ v. joined v (all_values f ns)) (same_leaf f g n same) ∙ ap (joined (leaf_at g n)) (same_all f g ns same)
+same_all f g (o ∷ ns) same =
+    ap (λ v. joined v (all_values f ns)) (same_leaf f g o (λ n e. same n (or_left (is_number o n) (are_named ns n) e)))
+    ∙ ap (joined (leaf_at g o)) (same_all f g ns (λ n e. same n (or_right (is_number o n) (are_named ns n) e)))
 
-pub same_tuple : (f g : ℕ → Option Val) (ns : List (Option NodeId)) → ((n : ℕ) → f n ≡ g n) → tuple_of f ns ≡ tuple_of g ns
+-- leafs that have the same values
+pub same_tuple : (f g : ℕ → Option Val) (ns : List (Option NodeId)) → ((n : ℕ) → are_named ns n ≡ true → f n ≡ g n) → tuple_of f ns ≡ tuple_of g ns
 same_tuple f g [] same = refl
 same_tuple f g (n ∷ ns) same = same_all f g (n ∷ ns) same
 
@@ -60,8 +69,9 @@ or_none (Some v) = refl
 or_none None = refl
 
 -- what is noted in new notes
-pub noted_fresh : (s : Rows) (old new : Notes) (f : ℕ → Option Val) → ((n : ℕ) → noted_at s old n ≡ None) → Gains s old new f → (n : ℕ) → noted_at s new n ≡ f n
-noted_fresh s old new f fresh gains n = gains.each n ∙ ap (or_else (f n)) (fresh n) ∙ or_none (f n)
+pub noted_fresh : (s : Rows) (old new : Notes) (f : ℕ → Option Val) → ((n : ℕ) → noted_at s old n ≡ None) → Gains s old new f → (n : ℕ) → is_named s n ≡ true
+    → noted_at s new n ≡ f n
+noted_fresh s old new f fresh gains n named = gains.each n named ∙ ap (or_else (f n)) (fresh n) ∙ or_none (f n)
 
 -- these parts, and then those
 abbrev pub behind : List Val → Option (List Val) → Option (List Val)
@@ -75,7 +85,7 @@ behind_joined vs v (Some ws) = ap Some (append_assoc vs (v ∷ []) ws)
 abbrev pub named_leafs : List NodeId → List (Option NodeId)
 named_leafs ids = map (λ (n : NodeId). Some n) ids
 
-leafs_drop : (ids : List NodeId) (i : ℕ) (d : NodeId) → i < length ids → named_leafs (drop i ids) ≡ Some (get_or ids i d) ∷ named_leafs (drop (i + 1) ids)
+pub leafs_drop : (ids : List NodeId) (i : ℕ) (d : NodeId) → i < length ids → named_leafs (drop i ids) ≡ Some (get_or ids i d) ∷ named_leafs (drop (i + 1) ids)
 leafs_drop ids i d lt = let split : drop i ids ≡ get_or ids i d ∷ drop (i + 1) ids = rw (add-one) (drop-cons ids i d lt) in ap named_leafs split
 
 pub parts_step : (f : ℕ → Option Val) (vs new : List Val) (v : Val) (ids : List NodeId) (i : ℕ) (d : NodeId) (all : Option (List Val)) → i < length ids
@@ -93,11 +103,6 @@ parts_stop f vs ids i d all lt here before =
     ∙ ap (λ ns. behind vs (all_values f ns)) (sym (leafs_drop ids i d lt)) ∙ before
 
 -- ---- one note more
-
-is_eq_nat : (a b : ℕ) → is_eq (nat_cmp a b) ≡ (a == b)
-is_eq_nat a b = one_answer (is_eq (nat_cmp a b)) (a == b)
-    (λ h. exact_unsigned a b ((Equal-is (nat_cmp a b)).0 h), λ e. (Equal-is (nat_cmp a b)).1 (sym (nat_cmp_is a b Equal e)))
-    (λ h. eqb-true a b h, λ e. eq-eqb a b e)
 
 chosen : (s : Rows) (b : Bool) (n : ℕ) (o w : Option Val) (old : Option (Option Val)) → (b ≡ true → note_value s n (Some o) ≡ w) → ((x : Option Val) → or_else w x ≡ w)
     → note_value s n (cond b (Some o) old) ≡ or_else (cond b w None) (note_value s n old)

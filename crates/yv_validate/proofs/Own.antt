@@ -19,6 +19,7 @@ use Rattle.yv_references.specs.declared.scope.Scope.TheVariants.{Always}
 use Rattle.yv_references.specs.InUse.{case_scope, in_use, scope_in, some_value, uses_defaults, value_of}
 use Rattle.yv_references.specs.Meetings.{Below, entered, entries_met, entry_met, found_of, in_container, in_entry, in_no_object, is_left, items_met, kind_met, leaf_met, Meeting, meetings, met, Node, node_met, object_met, Spot, written}
 use Rattle.yv_references.specs.Values.{Valued, valued, values_at, values_in}
+use Rattle.yv_validate.specs.InnerNamed.{is_named}
 use Rattle.yv_validate.specs.InnerNotes.{default_value, Gains, GainsBy, last_of, noted_at, own_value}
 use Rattle.yv_validate.specs.InnerWalk.{data_met, inside_at, node_at, one_met, ones_met, scope_at, with_node}
 use Rattle.yv_validate.specs.Values.{is_own, value_if, value_in}
@@ -95,6 +96,17 @@ valued_there e n m l spot [] other = refl
 valued_there e n m l spot (v ∷ vs) other =
     ap (λ (o : Option Val). or_else o (value_if (is_leaf l.defined.kind && (m.0 == n) && (spot.entry == e)) v)) (valued_there e n m l spot vs other)
     ∙ own_there (is_leaf l.defined.kind) (m.0 == n) (spot.entry == e) v other
+
+own_apart : (a b c : Bool) (v : Val) → b ≡ false → value_if (a && b && c) v ≡ None
+own_apart true true c v p = absurd (cc)
+own_apart true false c v p = refl
+own_apart false b c v p = refl
+
+pub valued_apart : (e n : ℕ) (m : NodeId) (l : Label) (spot : Spot) (vs : List Val) → (m.0 == n) ≡ false → value_in e n (valued m l spot vs) ≡ None
+valued_apart e n m l spot [] other = refl
+valued_apart e n m l spot (v ∷ vs) other =
+    ap (λ (o : Option Val). or_else o (value_if (is_leaf l.defined.kind && (m.0 == n) && (spot.entry == e)) v)) (valued_apart e n m l spot vs other)
+    ∙ own_apart (is_leaf l.defined.kind) (m.0 == n) (spot.entry == e) v other
 
 valued_other : (e n : ℕ) (m : NodeId) (l : Label) (spot : Spot) (vs : List Val) → is_leaf l.defined.kind ≡ false → value_in e n (valued m l spot vs) ≡ None
 valued_other e n m l spot [] other = refl
@@ -197,7 +209,7 @@ items_here e n m l spot before (item d ds) other =
     (items_here e n m l spot (before ++ d ∷ []) ds other)
 
 -- a node's own value
-own_node : (e n : ℕ) (m : Node) → own_of e n (met m ∷ []) ≡ value_in e n (valued m.node m.label m.spot (in_use m.label.defined.kind m.label m.scope (found_of m)))
+pub own_node : (e n : ℕ) (m : Node) → own_of e n (met m ∷ []) ≡ value_in e n (valued m.node m.label m.spot (in_use m.label.defined.kind m.label m.scope (found_of m)))
 own_node e n m = value_append e n (values_at (met m)) []
 
 -- no default of it is in use
@@ -329,7 +341,7 @@ gains_none s x f none = λ spot next lt. gains_nothing s x _ (λ n. ap (λ (ms :
 pub record NotesLeft (k : Kind) (s : Rows) (of : ℕ → Tree → Scope) (left : List NodeId) (ms : Members) (spot : Spot) (now start : Notes) (all : List Meeting) : Type 0 where
   pub later : ℕ
   pub within : spot.entry < later
-  pub same : (n : ℕ) → or_else (own_value spot (ones_met k s of left ms spot later) n) (noted_at s now n) ≡ or_else (own_value spot all n) (noted_at s start n)
+  pub same : (n : ℕ) → is_named s n ≡ true → or_else (own_value spot (ones_met k s of left ms spot later) n) (noted_at s now n) ≡ or_else (own_value spot all n) (noted_at s start n)
 
 pub notes_turn : (k : Kind) (s : Rows) (of : ℕ → Tree → Scope) (n : NodeId) (left rest : List NodeId) (ms : Members) (spot : Spot) (now new start : Notes) (all : List Meeting) → left ≡ n ∷ rest
     → NotesLeft k s of left ms spot now start all
@@ -340,16 +352,16 @@ notes_turn k s of n left rest ms spot now new start all split h gains =
     record {
       later = h.later + entered one;
       within = omega (arith, h.within);
-      same = λ m. gains_on (noted_at s now m) (noted_at s new m) (own_value spot one m) (own_value spot (ones_met k s of left ms spot h.later) m) (own_value spot others m) _
-          ((gains spot h.later h.within).each m)
+      same = λ m named. gains_on (noted_at s now m) (noted_at s new m) (own_value spot one m) (own_value spot (ones_met k s of left ms spot h.later) m) (own_value spot others m) _
+          ((gains spot h.later h.within).each m named)
           (ap (λ (ns : List NodeId). own_value spot (ones_met k s of ns ms spot h.later) m) split ∙ met_append spot.entry m one others)
-          (h.same m);
+          (h.same m named);
     }
 
 pub notes_done : (k : Kind) (s : Rows) (of : ℕ → Tree → Scope) (left : List NodeId) (ms : Members) (spot : Spot) (now start : Notes) (all : List Meeting) → left ≡ []
     → NotesLeft k s of left ms spot now start all → Gains s start now (own_value spot all)
 notes_done k s of left ms spot now start all none h = record {
-  each = λ n. ap (λ (ns : List NodeId). or_else (own_value spot (ones_met k s of ns ms spot h.later) n) (noted_at s now n)) (sym none) ∙ h.same n;
+  each = λ n named. ap (λ (ns : List NodeId). or_else (own_value spot (ones_met k s of ns ms spot h.later) n) (noted_at s now n)) (sym none) ∙ h.same n named;
 }
 
 pub notes_start : (k : Kind) (s : Rows) (of : ℕ → Tree → Scope) (left : List NodeId) (ms : Members) (spot : Spot) (next : ℕ) (now : Notes) (all : List Meeting) → spot.entry < next
@@ -357,5 +369,5 @@ pub notes_start : (k : Kind) (s : Rows) (of : ℕ → Tree → Scope) (left : Li
 notes_start k s of left ms spot next now all lt same = record {
   later = next;
   within = lt;
-  same = λ n. ap (λ (xs : List Meeting). or_else (own_value spot xs n) (noted_at s now n)) same;
+  same = λ n named. ap (λ (xs : List Meeting). or_else (own_value spot xs n) (noted_at s now n)) same;
 }

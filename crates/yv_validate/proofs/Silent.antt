@@ -30,19 +30,23 @@ use Rattle.yv_references.specs.declared.scope.Scope.{Scope}
 use Rattle.yv_references.specs.declared.scope.Scope.TheVariants.{Always}
 use Rattle.yv_references.specs.Findings.{Findings, Finds, first_of, kept_at, met_in, notes_at, positions_at, used_at, used_if}
 use Rattle.yv_references.specs.InUse.{case_scope, enforces, enforces_beside, in_use, is_asked, is_empty_at, scope_in, uses_defaults}
+use Rattle.yv_references.specs.Values.{valued}
 use Rattle.yv_references.specs.Meetings.{at, Below, container_met, entered, found_of, in_no_object, is_left, kind_met, Meeting, meetings, met, Node, node_met, Spot}
 use Rattle.yv_validate.specs.declared.fault.FaultKind.TheVariants.{Mandatory, Max, Min, MissingKey, State}
 use Rattle.yv_validate.specs.Faults.{choice_faults, count_faults, faults_at, flaw, flaw_if, kind_faults, leaf_faults, missing, node_faults, state_faults}
 use Rattle.yv_validate.specs.Flaw.{Flaw}
 use Rattle.yv_validate.specs.InnerNotes.{Gains, GainsBy}
-use Rattle.yv_validate.specs.InnerQuiet.{are_quiet, is_mute, is_quiet, IsEmptied, IsPassed, quiet_steps, tree_met}
+use Rattle.yv_validate.specs.InnerNamed.{is_named, is_read}
+use Rattle.yv_validate.specs.InnerQuiet.{are_quiet, is_mute, is_quiet, is_unread, IsEmptied, IsPassed, tree_met}
 use Rattle.yv_validate.specs.InnerWalk.{below_from, children_met, Grows, one_from, one_met, Told}
+use Rattle.yv_validate.specs.Values.{value_in}
 use Rattle.yv_validate.specs.Work.{work_at}
 use Rattle.yv_validate.specs.declared.notes.Notes.{Notes}
 use Rattle.yv_validate.proofs.Beneath.{quiet_state, rank_is}
 use Rattle.yv_validate.proofs.Grown.{Quiet}
-use Rattle.yv_validate.proofs.Noted.{gains_nothing}
-use Rattle.yv_validate.proofs.Own.{met_append, own_behind, own_of}
+use Rattle.yv_validate.proofs.Asked.{named_apart, or_neither}
+use Rattle.yv_validate.proofs.Noted.{gains_unnamed}
+use Rattle.yv_validate.proofs.Own.{met_append, own_node, own_of, valued_apart}
 
 -- ---- truth values and standings
 
@@ -115,11 +119,11 @@ pub record SaysNothing (k : Kind) (s : Rows) (xs : List Meeting) (total : ℕ) :
   pub used : flat_map (used_at (is_target s.links)) xs ≡ []
   pub positions : flat_map positions_at xs ≡ []
   pub notes : flat_map (notes_at (link_in s.links)) xs ≡ []
-  pub values : (e n : ℕ) → own_of e n xs ≡ None
+  pub values : (e n : ℕ) → is_named s n ≡ true → own_of e n xs ≡ None
   pub steps : sum_by (work_at k s) xs ≡ total
 
 says_none : (k : Kind) (s : Rows) → SaysNothing k s [] 0
-says_none k s = record { faults = refl; kept = refl; used = refl; positions = refl; notes = refl; values = λ e n. refl; steps = refl }
+says_none k s = record { faults = refl; kept = refl; used = refl; positions = refl; notes = refl; values = λ e n named. refl; steps = refl }
 
 none_both : {X Y : Type 0} (f : X → List Y) (xs ys : List X) → flat_map f xs ≡ [] → flat_map f ys ≡ [] → flat_map f (xs ++ ys) ≡ []
 none_both f xs ys p q = flat_map-append f xs ys ∙ ap (λ zs. zs ++ flat_map f ys) p ∙ q
@@ -131,21 +135,45 @@ says_both k s xs ys v w all p q sum = record {
   used = none_both (used_at (is_target s.links)) xs ys p.used q.used;
   positions = none_both positions_at xs ys p.positions q.positions;
   notes = none_both (notes_at (link_in s.links)) xs ys p.notes q.notes;
-  values = λ e n. met_append e n xs ys ∙ ap (λ (o : Option Val). or_else o (own_of e n xs)) (q.values e n) ∙ p.values e n;
+  values = λ e n named. met_append e n xs ys ∙ ap (λ (o : Option Val). or_else o (own_of e n xs)) (q.values e n named) ∙ p.values e n named;
   steps = omega (arith, p.steps, q.steps, sum, sum_by-append (work_at k s) xs ys);
 }
 
--- a node of which nothing is told and no default is in use
+-- values of a node, as those of its defaults in use, of which nothing comes
+record IsUnused (s : Rows) (n : NodeId) (vs : List Val) : Type 0 where
+  pub used : (here : ℕ) → used_if (is_target s.links n.0) n.0 here vs ≡ []
+  pub values : (e m : ℕ) (l : Label) (spot : Spot) → is_named s m ≡ true → value_in e m (valued n l spot vs) ≡ None
+
+-- there are none
+unused_none : (s : Rows) (n : NodeId) (vs : List Val) → vs ≡ [] → IsUnused s n vs
+unused_none s n vs none = record {
+  used = λ here. ap (used_if (is_target s.links n.0) n.0 here) none;
+  values = λ e m l spot named. ap (λ (ws : List Val). value_in e m (valued n l spot ws)) none;
+}
+
+no_target : (n here : ℕ) (vs : List Val) → used_if false n here vs ≡ []
+no_target n here [] = refl
+no_target n here (v ∷ vs) = refl
+
+-- nothing asks for them
+unused_unread : (s : Rows) (n : NodeId) (vs : List Val) → is_read s n.0 ≡ false → IsUnused s n vs
+unused_unread s n vs unread =
+    let parts = or_neither (is_target s.links n.0) (is_named s n.0) unread in
+    record {
+      used = λ here. ap (λ (b : Bool). used_if b n.0 here vs) parts.0 ∙ no_target n.0 here vs;
+      values = λ e m l spot named. valued_apart e m n l spot vs (named_apart s n.0 m parts.1 named);
+    }
+
+-- a node of which nothing is told, and whose defaults don't matter
 says_node : (k : Kind) (s : Rows) (m : Node) → node_faults m.label.defined.kind m (found_of m) ≡ []
-    → in_use m.label.defined.kind m.label m.scope (found_of m) ≡ [] → SaysNothing k s (met m ∷ []) (width m.label)
+    → IsUnused s m.node (in_use m.label.defined.kind m.label m.scope (found_of m)) → SaysNothing k s (met m ∷ []) (width m.label)
 says_node k s m faultless unused = record {
   faults = append-nil (faults_at k s (met m)) ∙ faultless;
   kept = refl;
-  used = append-nil (used_at (is_target s.links) (met m))
-      ∙ ap (λ (vs : List Val). used_if (is_target s.links m.node.0) m.node.0 (first_of m.spot.around) vs) unused;
+  used = append-nil (used_at (is_target s.links) (met m)) ∙ unused.used (first_of m.spot.around);
   positions = refl;
   notes = refl;
-  values = λ e n. own_behind e n [] m unused;
+  values = λ e n named. own_node e n m ∙ unused.values e n m.label m.spot named;
   steps = omega (arith, sum_by-cons (work_at k s) (met m) []);
 }
 
@@ -168,10 +196,10 @@ abbrev inner_of : NodeKind → Label → Bool
 inner_of K l = is_passed K || is_container K && not l.defined.has_presence
 
 -- what is known of what is below a node that says nothing
-record Inner (k : Kind) (s : Rows) (kids : Forest) (below : Below) (inner : Standing) : Type 0 where
-  pub inside : are_quiet kids ≡ true → (spot : Spot) (next : ℕ) (scope : Scope) → SaysNothing k s (below.inside spot next scope no_members) (measured.met kids)
-  pub cases : are_quiet kids ≡ true → inner ≡ Nothing → SaysNothing k s below.cases (measured.met kids)
-  pub nodes : are_quiet kids ≡ true → inner ≡ Nothing → SaysNothing k s below.nodes (measured.met kids)
+record Inner (k : Kind) (s : Rows) (first : ℕ) (kids : Forest) (below : Below) (inner : Standing) : Type 0 where
+  pub inside : are_quiet s first kids ≡ true → (spot : Spot) (next : ℕ) (scope : Scope) → SaysNothing k s (below.inside spot next scope no_members) (measured.met kids)
+  pub cases : are_quiet s first kids ≡ true → inner ≡ Nothing → SaysNothing k s below.cases (measured.met kids)
+  pub nodes : are_quiet s first kids ≡ true → inner ≡ Nothing → SaysNothing k s below.nodes (measured.met kids)
 
 -- a container that isn't written
 open_quiet : (p q : Bool) → (not (not p) || q) ≡ true → p ≡ false → q ≡ true
@@ -185,35 +213,35 @@ absent_left K scope = and_false (is_data K) (not (is_asked scope))
 gone : {X : Type 0} (n : NodeId) → Only n ≡ Nothing → X
 gone n e = absurd (cc)
 
-kind_says : (k : Kind) (s : Rows) (K : NodeKind) (n : NodeId) (l : Label) (kids : Forest) (spot : Spot) (scope : Scope) (next : ℕ) (found : Option Data) (below : Below) (inner : Standing)
-    → (is_mute K l && (not (inner_of K l) || are_quiet kids)) ≡ true → kind_standing K n found inner ≡ Nothing → Inner k s kids below inner
+kind_says : (k : Kind) (s : Rows) (asked : Bool) (first : ℕ) (K : NodeKind) (n : NodeId) (l : Label) (kids : Forest) (spot : Spot) (scope : Scope) (next : ℕ) (found : Option Data) (below : Below) (inner : Standing)
+    → (is_mute asked K l && (not (inner_of K l) || are_quiet s first kids)) ≡ true → kind_standing K n found inner ≡ Nothing → Inner k s first kids below inner
     → SaysNothing k s (kind_met K n l kids spot scope next found below) (cond (inner_of K l) (measured.met kids) 0)
-kind_says k s kind.Container n l kids spot scope next None below inner quiet none h =
+kind_says k s asked first kind.Container n l kids spot scope next None below inner quiet none h =
     says_open k s l.defined.has_presence (below.inside (in_no_object spot l) next scope no_members) (measured.met kids)
-    (λ e. h.inside (open_quiet l.defined.has_presence (are_quiet kids) quiet e) (in_no_object spot l) next scope)
-kind_says k s kind.Container n l kids spot scope next (Some d) below inner quiet none h = gone n none
-kind_says k s kind.Leaf n l kids spot scope next None below inner quiet none h = says_none k s
-kind_says k s kind.Leaf n l kids spot scope next (Some d) below inner quiet none h = gone n none
-kind_says k s kind.LeafList n l kids spot scope next None below inner quiet none h = says_none k s
-kind_says k s kind.LeafList n l kids spot scope next (Some (array no_items)) below inner quiet none h = says_none k s
-kind_says k s kind.LeafList n l kids spot scope next (Some (array (item d ds))) below inner quiet none h = gone n none
-kind_says k s kind.LeafList n l kids spot scope next (Some null) below inner quiet none h = says_none k s
-kind_says k s kind.LeafList n l kids spot scope next (Some (boolean x)) below inner quiet none h = says_none k s
-kind_says k s kind.LeafList n l kids spot scope next (Some (number x)) below inner quiet none h = says_none k s
-kind_says k s kind.LeafList n l kids spot scope next (Some (string x)) below inner quiet none h = says_none k s
-kind_says k s kind.LeafList n l kids spot scope next (Some (object x)) below inner quiet none h = says_none k s
-kind_says k s kind.List n l kids spot scope next None below inner quiet none h = says_none k s
-kind_says k s kind.List n l kids spot scope next (Some (array no_items)) below inner quiet none h = says_none k s
-kind_says k s kind.List n l kids spot scope next (Some (array (item d ds))) below inner quiet none h = gone n none
-kind_says k s kind.List n l kids spot scope next (Some null) below inner quiet none h = says_none k s
-kind_says k s kind.List n l kids spot scope next (Some (boolean x)) below inner quiet none h = says_none k s
-kind_says k s kind.List n l kids spot scope next (Some (number x)) below inner quiet none h = says_none k s
-kind_says k s kind.List n l kids spot scope next (Some (string x)) below inner quiet none h = says_none k s
-kind_says k s kind.List n l kids spot scope next (Some (object x)) below inner quiet none h = says_none k s
-kind_says k s kind.Choice n l kids spot scope next found below inner quiet none h =
-    h.cases (and_true (not l.defined.is_mandatory) (are_quiet kids) quiet).1 none
-kind_says k s kind.Case n l kids spot scope next found below inner quiet none h = h.nodes quiet none
-kind_says k s _ n l kids spot scope next found below inner quiet none h = says_none k s
+    (λ e. h.inside (open_quiet l.defined.has_presence (are_quiet s first kids) quiet e) (in_no_object spot l) next scope)
+kind_says k s asked first kind.Container n l kids spot scope next (Some d) below inner quiet none h = gone n none
+kind_says k s asked first kind.Leaf n l kids spot scope next None below inner quiet none h = says_none k s
+kind_says k s asked first kind.Leaf n l kids spot scope next (Some d) below inner quiet none h = gone n none
+kind_says k s asked first kind.LeafList n l kids spot scope next None below inner quiet none h = says_none k s
+kind_says k s asked first kind.LeafList n l kids spot scope next (Some (array no_items)) below inner quiet none h = says_none k s
+kind_says k s asked first kind.LeafList n l kids spot scope next (Some (array (item d ds))) below inner quiet none h = gone n none
+kind_says k s asked first kind.LeafList n l kids spot scope next (Some null) below inner quiet none h = says_none k s
+kind_says k s asked first kind.LeafList n l kids spot scope next (Some (boolean x)) below inner quiet none h = says_none k s
+kind_says k s asked first kind.LeafList n l kids spot scope next (Some (number x)) below inner quiet none h = says_none k s
+kind_says k s asked first kind.LeafList n l kids spot scope next (Some (string x)) below inner quiet none h = says_none k s
+kind_says k s asked first kind.LeafList n l kids spot scope next (Some (object x)) below inner quiet none h = says_none k s
+kind_says k s asked first kind.List n l kids spot scope next None below inner quiet none h = says_none k s
+kind_says k s asked first kind.List n l kids spot scope next (Some (array no_items)) below inner quiet none h = says_none k s
+kind_says k s asked first kind.List n l kids spot scope next (Some (array (item d ds))) below inner quiet none h = gone n none
+kind_says k s asked first kind.List n l kids spot scope next (Some null) below inner quiet none h = says_none k s
+kind_says k s asked first kind.List n l kids spot scope next (Some (boolean x)) below inner quiet none h = says_none k s
+kind_says k s asked first kind.List n l kids spot scope next (Some (number x)) below inner quiet none h = says_none k s
+kind_says k s asked first kind.List n l kids spot scope next (Some (string x)) below inner quiet none h = says_none k s
+kind_says k s asked first kind.List n l kids spot scope next (Some (object x)) below inner quiet none h = says_none k s
+kind_says k s asked first kind.Choice n l kids spot scope next found below inner quiet none h =
+    h.cases (and_true (not l.defined.is_mandatory) (are_quiet s first kids) quiet).1 none
+kind_says k s asked first kind.Case n l kids spot scope next found below inner quiet none h = h.nodes quiet none
+kind_says k s asked first _ n l kids spot scope next found below inner quiet none h = says_none k s
 
 -- only a container is entered that isn't left
 left_none : (K : NodeKind) (n : NodeId) (l : Label) (kids : Forest) (scope : Scope) (found : Option Data) (inner : Standing) → kind_standing K n found inner ≡ Nothing
@@ -248,42 +276,42 @@ count_none m e =
     ++ flaw_if (unwrap_or (option_map (λ (most : ℕ). nat_lt most 0) m.label.defined.max) false) Max here) (eqb-true m.label.defined.min 0 e)
     ∙ ap (λ (b : Bool). flaw_if b Max here) (most_none m.label.defined.max)
 
-leaf_none : (m : Node) → (not m.label.is_key && not m.label.defined.is_mandatory && has_no_value m.label) ≡ true → leaf_faults m None ≡ []
-leaf_none m e =
-    let parts = and_three (not m.label.is_key) (not m.label.defined.is_mandatory) (has_no_value m.label) e in
+leaf_none : (m : Node) (rest : Bool) → (not m.label.is_key && not m.label.defined.is_mandatory && rest) ≡ true → leaf_faults m None ≡ []
+leaf_none m rest e =
+    let parts = and_three (not m.label.is_key) (not m.label.defined.is_mandatory) rest e in
     ap (λ (b : Bool). cond b (flaw MissingKey (at m.spot m.label None) ∷ []) (missing m)) (not_true m.label.is_key parts.0)
     ∙ missing_none m (not_true m.label.defined.is_mandatory parts.1)
 
-kind_told : (K : NodeKind) (m : Node) (n : NodeId) (found : Option Data) (inner : Standing) (rest : Bool)
-    → (is_mute K m.label && rest) ≡ true → kind_standing K n found inner ≡ Nothing
+kind_told : (asked : Bool) (K : NodeKind) (m : Node) (n : NodeId) (found : Option Data) (inner : Standing) (rest : Bool)
+    → (is_mute asked K m.label && rest) ≡ true → kind_standing K n found inner ≡ Nothing
     → (inner ≡ Nothing → count_standing (m.node.0 + 1) m.kids m.members ≡ 0) → kind_faults K m found ≡ []
-kind_told kind.Leaf m n None inner rest quiet none counts = leaf_none m (and_true (is_mute kind.Leaf m.label) rest quiet).0
-kind_told kind.Leaf m n (Some d) inner rest quiet none counts = refl
-kind_told kind.LeafList m n None inner rest quiet none counts =
-    count_none m (and_true (m.label.defined.min == 0) (has_no_value m.label) (and_true (is_mute kind.LeafList m.label) rest quiet).0).0
-kind_told kind.LeafList m n (Some (array no_items)) inner rest quiet none counts =
-    count_none m (and_true (m.label.defined.min == 0) (has_no_value m.label) (and_true (is_mute kind.LeafList m.label) rest quiet).0).0
-kind_told kind.LeafList m n (Some (array (item d ds))) inner rest quiet none counts = gone n none
-kind_told kind.LeafList m n (Some null) inner rest quiet none counts = gone n none
-kind_told kind.LeafList m n (Some (boolean x)) inner rest quiet none counts = gone n none
-kind_told kind.LeafList m n (Some (number x)) inner rest quiet none counts = gone n none
-kind_told kind.LeafList m n (Some (string x)) inner rest quiet none counts = gone n none
-kind_told kind.LeafList m n (Some (object x)) inner rest quiet none counts = gone n none
-kind_told kind.List m n None inner rest quiet none counts = count_none m (and_true (is_mute kind.List m.label) rest quiet).0
-kind_told kind.List m n (Some (array no_items)) inner rest quiet none counts = count_none m (and_true (is_mute kind.List m.label) rest quiet).0
-kind_told kind.List m n (Some (array (item d ds))) inner rest quiet none counts = gone n none
-kind_told kind.List m n (Some null) inner rest quiet none counts = gone n none
-kind_told kind.List m n (Some (boolean x)) inner rest quiet none counts = gone n none
-kind_told kind.List m n (Some (number x)) inner rest quiet none counts = gone n none
-kind_told kind.List m n (Some (string x)) inner rest quiet none counts = gone n none
-kind_told kind.List m n (Some (object x)) inner rest quiet none counts = gone n none
-kind_told kind.Choice m n found inner rest quiet none counts =
-    ap (choice_faults m) (counts none) ∙ missing_none m (not_true m.label.defined.is_mandatory (and_true (is_mute kind.Choice m.label) rest quiet).0)
-kind_told kind.Anydata m n None inner rest quiet none counts = missing_none m (not_true m.label.defined.is_mandatory (and_true (is_mute kind.Anydata m.label) rest quiet).0)
-kind_told kind.Anydata m n (Some d) inner rest quiet none counts = gone n none
-kind_told kind.Anyxml m n None inner rest quiet none counts = missing_none m (not_true m.label.defined.is_mandatory (and_true (is_mute kind.Anyxml m.label) rest quiet).0)
-kind_told kind.Anyxml m n (Some d) inner rest quiet none counts = refl
-kind_told _ m n found inner rest quiet none counts = refl
+kind_told asked kind.Leaf m n None inner rest quiet none counts = leaf_none m (is_unread asked m.label) (and_true (is_mute asked kind.Leaf m.label) rest quiet).0
+kind_told asked kind.Leaf m n (Some d) inner rest quiet none counts = refl
+kind_told asked kind.LeafList m n None inner rest quiet none counts =
+    count_none m (and_true (m.label.defined.min == 0) (is_unread asked m.label) (and_true (is_mute asked kind.LeafList m.label) rest quiet).0).0
+kind_told asked kind.LeafList m n (Some (array no_items)) inner rest quiet none counts =
+    count_none m (and_true (m.label.defined.min == 0) (is_unread asked m.label) (and_true (is_mute asked kind.LeafList m.label) rest quiet).0).0
+kind_told asked kind.LeafList m n (Some (array (item d ds))) inner rest quiet none counts = gone n none
+kind_told asked kind.LeafList m n (Some null) inner rest quiet none counts = gone n none
+kind_told asked kind.LeafList m n (Some (boolean x)) inner rest quiet none counts = gone n none
+kind_told asked kind.LeafList m n (Some (number x)) inner rest quiet none counts = gone n none
+kind_told asked kind.LeafList m n (Some (string x)) inner rest quiet none counts = gone n none
+kind_told asked kind.LeafList m n (Some (object x)) inner rest quiet none counts = gone n none
+kind_told asked kind.List m n None inner rest quiet none counts = count_none m (and_true (is_mute asked kind.List m.label) rest quiet).0
+kind_told asked kind.List m n (Some (array no_items)) inner rest quiet none counts = count_none m (and_true (is_mute asked kind.List m.label) rest quiet).0
+kind_told asked kind.List m n (Some (array (item d ds))) inner rest quiet none counts = gone n none
+kind_told asked kind.List m n (Some null) inner rest quiet none counts = gone n none
+kind_told asked kind.List m n (Some (boolean x)) inner rest quiet none counts = gone n none
+kind_told asked kind.List m n (Some (number x)) inner rest quiet none counts = gone n none
+kind_told asked kind.List m n (Some (string x)) inner rest quiet none counts = gone n none
+kind_told asked kind.List m n (Some (object x)) inner rest quiet none counts = gone n none
+kind_told asked kind.Choice m n found inner rest quiet none counts =
+    ap (choice_faults m) (counts none) ∙ missing_none m (not_true m.label.defined.is_mandatory (and_true (is_mute asked kind.Choice m.label) rest quiet).0)
+kind_told asked kind.Anydata m n None inner rest quiet none counts = missing_none m (not_true m.label.defined.is_mandatory (and_true (is_mute asked kind.Anydata m.label) rest quiet).0)
+kind_told asked kind.Anydata m n (Some d) inner rest quiet none counts = gone n none
+kind_told asked kind.Anyxml m n None inner rest quiet none counts = missing_none m (not_true m.label.defined.is_mandatory (and_true (is_mute asked kind.Anyxml m.label) rest quiet).0)
+kind_told asked kind.Anyxml m n (Some d) inner rest quiet none counts = refl
+kind_told asked _ m n found inner rest quiet none counts = refl
 
 passed_no_data : (K : NodeKind) → is_passed K ≡ true → is_data K ≡ false
 passed_no_data kind.Choice e = refl
@@ -310,42 +338,52 @@ cond_never : (b : Bool) (vs : List Val) → cond (b && false) vs [] ≡ []
 cond_never true vs = refl
 cond_never false vs = refl
 
-unused : (K : NodeKind) (l : Label) (scope : Scope) (found : Option Data) (rest : Bool) → (is_mute K l && rest) ≡ true → in_use K l scope found ≡ []
-unused kind.Leaf l scope found rest quiet =
-    cond_same (uses_defaults scope && is_empty_at kind.Leaf found) (defaults_of l)
-    (none_of (defaults_of l) (and_three (not l.is_key) (not l.defined.is_mandatory) (has_no_value l) (and_true (is_mute kind.Leaf l) rest quiet).0).2)
-unused kind.LeafList l scope found rest quiet =
-    cond_same (uses_defaults scope && is_empty_at kind.LeafList found) (defaults_of l)
-    (none_of (defaults_of l) (and_true (l.defined.min == 0) (has_no_value l) (and_true (is_mute kind.LeafList l) rest quiet).0).1)
-unused _ l scope found rest quiet = cond_never (uses_defaults scope) (defaults_of l)
+-- none is in use, or nothing asks for them
+unread_unused : (s : Rows) (n : NodeId) (l : Label) (u : Bool) → is_unread (is_read s n.0) l ≡ true → IsUnused s n (cond u (defaults_of l) [])
+unread_unused s n l u unread = elim (cases_Bool (has_no_value l)) [
+  | inl e ↦ unused_none s n (cond u (defaults_of l) []) (cond_same u (defaults_of l) (none_of (defaults_of l) e))
+  | inr e ↦ unused_unread s n (cond u (defaults_of l) []) (not_true (is_read s n.0) (or_other (has_no_value l) (not (is_read s n.0)) unread e))
+]
+
+unused : (s : Rows) (n : NodeId) (K : NodeKind) (l : Label) (scope : Scope) (found : Option Data) (rest : Bool) → (is_mute (is_read s n.0) K l && rest) ≡ true
+    → IsUnused s n (in_use K l scope found)
+unused s n kind.Leaf l scope found rest quiet =
+    unread_unused s n l (uses_defaults scope && is_empty_at kind.Leaf found)
+    (and_three (not l.is_key) (not l.defined.is_mandatory) (is_unread (is_read s n.0) l) (and_true (is_mute (is_read s n.0) kind.Leaf l) rest quiet).0).2
+unused s n kind.LeafList l scope found rest quiet =
+    unread_unused s n l (uses_defaults scope && is_empty_at kind.LeafList found)
+    (and_true (l.defined.min == 0) (is_unread (is_read s n.0) l) (and_true (is_mute (is_read s n.0) kind.LeafList l) rest quiet).0).1
+unused s n _ l scope found rest quiet =
+    unused_none s n (cond (uses_defaults scope && false) (defaults_of l) []) (cond_never (uses_defaults scope) (defaults_of l))
 
 -- ---- a node, and what is in it
 
 node_says : (k : Kind) (s : Rows) (n : NodeId) (l : Label) (kids : Forest) (spot : Spot) (scope : Scope) (next : ℕ) (ms : Members) (below : Below)
-    → is_quiet (node l kids) ≡ true → tree_standing n.0 (node l kids) ms ≡ Nothing → Inner k s kids below (standing (n.0 + 1) kids ms)
+    → is_quiet s n.0 (node l kids) ≡ true → tree_standing n.0 (node l kids) ms ≡ Nothing → Inner k s (n.0 + 1) kids below (standing (n.0 + 1) kids ms)
     → SaysNothing k s (node_met n l kids spot scope next ms below) (tree_met (node l kids))
 node_says k s n l kids spot scope next ms below quiet none h =
     let K : NodeKind = l.defined.kind in
     let found : Option Data = get_member l.member ms in
     let inner : Standing = standing (n.0 + 1) kids ms in
     let m : Node = record { node = n; label = l; spot = spot; scope = scope; members = ms; kids = kids } in
-    let rest : Bool = not (is_open l) || are_quiet kids in
+    let asked : Bool = is_read s n.0 in
+    let rest : Bool = not (is_open l) || are_quiet s (n.0 + 1) kids in
     let within : ℕ = cond (is_open l) (measured.met kids) 0 in
     let here : List Meeting = kind_met K n l kids spot scope next found below in
     says_unless k s (is_operation K) (cond (is_left K scope found) [] here ++ met m ∷ []) (width l + within) (λ other.
-    let mute : (is_mute K l && rest) ≡ true = or_other (is_operation K) (is_mute K l && rest) quiet other in
+    let mute : (is_mute asked K l && rest) ≡ true = or_other (is_operation K) (is_mute asked K l && rest) quiet other in
     says_both k s (cond (is_left K scope found) [] here) (met m ∷ []) within (width l) (width l + within)
     (says_if k s (is_left K scope found) here within (left_none K n l kids scope found inner none)
-    (kind_says k s K n l kids spot scope next found below inner mute none h))
+    (kind_says k s asked (n.0 + 1) K n l kids spot scope next found below inner mute none h))
     (says_node k s m
     (neither (is_asked scope) (kind_faults K m found) (state_faults K m found)
-    (kind_told K m n found inner rest mute none (none_counted (n.0 + 1) kids ms))
+    (kind_told asked K m n found inner rest mute none (none_counted (n.0 + 1) kids ms))
     (state_told K m n found inner none))
-    (unused K l scope found rest mute))
+    (unused s n K l scope found rest mute))
     (omega arith))
 
 -- quiet trees of which nothing exists in an object
-pub trees_say : (k : Kind) (s : Rows) (scope_of : ℕ → Tree → Scope) (spot : Spot) (next first : ℕ) (ts : Forest) (ms : Members) → are_quiet ts ≡ true → standing first ts ms ≡ Nothing
+pub trees_say : (k : Kind) (s : Rows) (scope_of : ℕ → Tree → Scope) (spot : Spot) (next first : ℕ) (ts : Forest) (ms : Members) → are_quiet s first ts ≡ true → standing first ts ms ≡ Nothing
     → SaysNothing k s (meetings k s scope_of spot next first ts ms) (measured.met ts)
 trees_say k s scope_of spot next first no_trees ms quiet none = says_none k s
 trees_say k s scope_of spot next first (tree (node l kids) ts) ms quiet none =
@@ -357,7 +395,7 @@ trees_say k s scope_of spot next first (tree (node l kids) ts) ms quiet none =
       nodes = meetings k s (λ m t. scope) spot next (first + 1) kids ms;
     } in
     let here : List Meeting = node_met n l kids spot scope next ms below in
-    let own = and_true (is_quiet (node l kids)) (are_quiet ts) quiet in
+    let own = and_true (is_quiet s first (node l kids)) (are_quiet s (first + 1 + count kids) ts) quiet in
     let apart = both_parts (kind_standing l.defined.kind n (get_member l.member ms) (standing (first + 1) kids ms)) (standing (first + 1 + count kids) ts ms) none in
     says_both k s here (meetings k s scope_of spot (next + entered here) (first + 1 + count kids) ts ms) (tree_met (node l kids)) (measured.met ts)
     (tree_met (node l kids) + measured.met ts)
@@ -379,7 +417,7 @@ pub one_says : (k : Kind) (s : Rows) (scope : Scope) (n : NodeId) (ms : Members)
 one_says k s scope n ms spot next w lt h =
     let l : Label = (row_at s n).label in
     let kids : Forest = below_in s n in
-    let parts = quiet_parts (is_quiet (tree_of s n)) (tree_met (tree_of s n)) w h.quiet in
+    let parts = quiet_parts (is_quiet s n.0 (tree_of s n)) (tree_met (tree_of s n)) w h.quiet in
     subst (λ (r : ℕ). SaysNothing k s (one_from k s scope n r ms spot next) w) (sym (rank_is s n h.sound lt))
     (subst (λ (v : ℕ). SaysNothing k s (one_from k s scope n (n.0 + 1) ms spot next) v) parts.1
     (node_says k s n l kids spot scope next ms (below_from k s scope spot next n (n.0 + 1) ms) parts.0 h.nothing (record {
@@ -414,4 +452,4 @@ quiet_grows quiet k s a steps w xs h is =
 -- and notes no values
 pub quiet_gains : (k : Kind) (s : Rows) (x : Notes) (w : ℕ) (met_at : Spot → ℕ → List Meeting) → ((spot : Spot) (next : ℕ) → SaysNothing k s (met_at spot next) w)
     → GainsBy s x x met_at
-quiet_gains k s x w met_at h = λ spot next lt. gains_nothing s x _ (λ n. (h spot next).values spot.entry n)
+quiet_gains k s x w met_at h = λ spot next lt. gains_unnamed s x _ (λ n named. (h spot next).values spot.entry n named)

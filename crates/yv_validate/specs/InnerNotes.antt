@@ -1,5 +1,6 @@
 -- Only private clauses cite this: the values of leafs as the walk notes them.
-use Rattle.std.specs.Prelude.{◌≡◌, ℕ, ◌<◌, List, [], ◌∷◌, Option, Some, None}
+use Rattle.std.specs.Prelude.{◌≡◌, ℕ, ◌<◌, true, List, [], ◌∷◌, length, Option, Some, None}
+use Rattle.std.specs.List.{slice_index_or}
 use Rattle.std.specs.Ordering.{nat_cmp}
 use Rattle.std.specs.BTreeMap.{get_by}
 use Rattle.serde_json.specs.Data.{Data}
@@ -12,7 +13,8 @@ use Rattle.yv_nodes.specs.Tree.{Label}
 use Rattle.yv_references.specs.Meetings.{Meeting, Spot}
 use Rattle.yv_references.specs.Values.{values_in}
 use Rattle.yv_selection.specs.declared.kind.Kind.{Kind}
-use Rattle.yv_validate.specs.Values.{entry_tuple, tuple_of, unique_leafs, value_in}
+use Rattle.yv_validate.specs.InnerNamed.{is_named, keys_at, uniques_at}
+use Rattle.yv_validate.specs.Values.{entry_tuple, tuple_of, value_in}
 use Rattle.yv_validate.specs.declared.notes.Notes.{Notes}
 
 -- the last of these values
@@ -33,9 +35,9 @@ note_value s n (Some (Some v)) = Some v
 abbrev pub noted_at : Rows → Notes → ℕ → Option Val
 noted_at s notes n = note_value s n (get_by (nat_cmp n) notes.values)
 
--- more notes, with these values
+-- more notes, with these values of leafs that make entries differ: nothing asks for the notes of others
 pub record Gains (s : Rows) (old new : Notes) (values : ℕ → Option Val) : Type 0 where
-  pub each : (n : ℕ) → noted_at s new n ≡ or_else (values n) (noted_at s old n)
+  pub each : (n : ℕ) → is_named s n ≡ true → noted_at s new n ≡ or_else (values n) (noted_at s old n)
 
 -- the value of a leaf in the entry in which a spot is, of what is met
 abbrev pub own_value : Spot → List Meeting → ℕ → Option Val
@@ -54,10 +56,11 @@ tuple_in s (Some notes) leafs = tuple_of (noted_at s notes) leafs
 abbrev pub list_tuple : Kind → Rows → NodeId → List (Option NodeId) → Data → Option (List Val)
 list_tuple k s n leafs d = entry_tuple k s (rank n) (below s n) leafs d
 
--- the leafs of the list's `unique` statements
-abbrev pub uniques_at : Rows → NodeId → List (List (Option NodeId))
-uniques_at s n = unique_leafs s n (row_at s n).label
+-- these notes have the tuple of the entry for these leafs
+abbrev pub HasTuple : Kind → Rows → NodeId → Option Notes → Data → List (Option NodeId) → Type 0
+HasTuple k s n notes d leafs = tuple_in s notes leafs ≡ list_tuple k s n leafs d
 
--- its tuples are those of the entry
+-- for those of the list's key and of its `unique` statements
 pub record HasTuples (k : Kind) (s : Rows) (n : NodeId) (notes : Option Notes) (d : Data) : Type 0 where
-  pub each : (leafs : List (Option NodeId)) → tuple_in s notes leafs ≡ list_tuple k s n leafs d
+  pub keys : HasTuple k s n notes d (keys_at s n)
+  pub uniques : (i : ℕ) → i < length (uniques_at s n) → HasTuple k s n notes d (slice_index_or (uniques_at s n) i [])

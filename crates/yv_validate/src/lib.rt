@@ -6,6 +6,7 @@ mod fault;
 mod faults;
 pub mod laws;
 mod memory;
+mod named;
 mod nodes;
 mod notes;
 mod path;

@@ -1,24 +1,30 @@
 //! Nodes of which nothing comes but steps, where they aren't in an object.
-ghost use Rattle.std.specs.Prelude.{◌≡◌, ◌<◌, ◌≤◌, length, true, Some, IfOk, IfSome};
-ghost use Rattle.yv_nodes.specs.Defaults.{has_no_value};
-ghost use Rattle.yv_nodes.specs.Rows.{below, rank, tree_of};
+ghost use Rattle.std.specs.Prelude.{◌≡◌, ◌<◌, ◌≤◌, ℕ, length, true, Some, IfOk, IfSome};
+ghost use Rattle.std.specs.BTreeSet.{contains};
+ghost use Rattle.std.specs.Ordering.{nat_cmp};
+ghost use Rattle.yv_nodes.specs.Rows.{below, rank};
 ghost use Rattle.yv_tables.specs.Measures.{is_open, met};
-ghost use Rattle.yv_validate.specs.InnerQuiet.{are_quiet, AreKnown, is_mute, quiet_steps};
+ghost use Rattle.yv_validate.specs.InnerNamed.{is_named};
+ghost use Rattle.yv_validate.specs.InnerQuiet.{are_quiet, AreKnown, is_mute, is_unread, steps_at};
 
+use crate::named::{is_read, named_leafs};
 use std::alloc::{AllocError, Global};
+use std::collections::BTreeSet;
 use yv_nodes::{Node, NodeId};
 use yv_properties::NodeKind;
 use yv_tables::Schema;
+use yv_walk::laws;
 
 /// What is known of the nodes of a schema, from the last to the first: the steps of a node with all that is met below it, where nothing
-/// else comes of them if none of them exists in an object. It takes time and memory linear in the nodes.
+/// else comes of them if none of them exists in an object. It takes time n log n, and memory linear in the nodes.
 pub(crate) fn known_nodes(alloc: Global, schema: &Schema) -> Result<Vec<Option<u64>>, AllocError>
     ensures { IfOk result (λ known. AreKnown schema.now known.items) }
 {
+    let named = named_leafs(alloc, schema)?;
     let mut known = Vec::new(alloc);
     for index in 0..schema.len() {
         let id = NodeId(schema.len() - 1 - index);
-        let steps = tree_steps(schema, known.as_slice(), id);
+        let steps = tree_steps(schema, &named, known.as_slice(), id);
         known.push(steps)?;
     }
     Ok(known)
@@ -28,7 +34,7 @@ pub(crate) fn known_nodes(alloc: Global, schema: &Schema) -> Result<Vec<Option<u
 pub(crate) fn known_steps(schema: &Schema, known: &[Option<u64>], id: NodeId) -> Option<u64>
     requires node { id.0 < length schema.now.nodes }
     requires known { AreKnown schema.now known.now }
-    ensures { IfSome result (λ steps. quiet_steps (tree_of schema.now id) ≡ Some steps) }
+    ensures { IfSome result (λ steps. steps_at schema.now id ≡ Some steps) }
 {
     let back = schema.len() - 1 - id.number();
     match known.get(back as usize) {
@@ -41,9 +47,10 @@ pub(crate) fn known_steps(schema: &Schema, known: &[Option<u64>], id: NodeId) ->
 pub(crate) fn inner_steps(schema: &Schema, known: &[Option<u64>], parent: NodeId) -> Option<u64>
     requires node { rank parent ≤ length schema.now.nodes }
     requires known { AreKnown schema.now known.now }
-    ensures quiet { IfSome result (λ steps. are_quiet (below schema.now parent) ≡ true) }
+    ensures quiet { IfSome result (λ steps. are_quiet schema.now (rank parent) (below schema.now parent) ≡ true) }
     ensures steps { IfSome result (λ steps. met (below schema.now parent) ≡ steps) }
 {
+    laws::child_numbers();
     let mut total: u64 = 0;
     for child in schema.children(parent) {
         let steps = known_steps(schema, known, *child)?;
@@ -53,17 +60,24 @@ pub(crate) fn inner_steps(schema: &Schema, known: &[Option<u64>], parent: NodeId
 }
 
 // The steps of a node, by those of the nodes in it, which come later.
-fn tree_steps(schema: &Schema, known: &[Option<u64>], id: NodeId) -> Option<u64>
+fn tree_steps(
+    schema: &Schema,
+    named: &BTreeSet<u32>,
+    known: &[Option<u64>],
+    id: NodeId,
+) -> Option<u64>
     requires node { id.0 < length schema.now.nodes }
+    requires named { (n : ℕ) → contains nat_cmp named.now n ≡ is_named schema.now n }
     requires known { AreKnown schema.now known.now }
-    ensures { IfSome result (λ steps. quiet_steps (tree_of schema.now id) ≡ Some steps) }
+    ensures { IfSome result (λ steps. steps_at schema.now id ≡ Some steps) }
 {
     let node = schema.node(id);
     let kind = node.kind();
     if kind.is_operation() {
         return Some(0);
     }
-    if !is_mute(node) {
+    let asked = is_read(schema, named, id);
+    if !is_mute(node, asked) {
         return None;
     }
     let width = node.width();
@@ -74,23 +88,24 @@ fn tree_steps(schema: &Schema, known: &[Option<u64>], id: NodeId) -> Option<u64>
     width.checked_add(inner)
 }
 
-// Whether nothing is missed where the node itself isn't there, and no default of it is in use.
-fn is_mute(node: &Node) -> bool
-    ensures { result ≡ is_mute node.now.label.defined.kind node.now.label }
+// Whether nothing is missed where the node itself isn't there, and its defaults don't matter.
+fn is_mute(node: &Node, asked: bool) -> bool
+    ensures { result ≡ is_mute asked node.now.label.defined.kind node.now.label }
 {
     match node.kind() {
-        NodeKind::Leaf => !node.is_key() && !node.mandatory() && has_no_value(node),
-        NodeKind::LeafList => node.min() == 0 && has_no_value(node),
+        NodeKind::Leaf => !node.is_key() && !node.mandatory() && is_unread(node, asked),
+        NodeKind::LeafList => node.min() == 0 && is_unread(node, asked),
         NodeKind::List => node.min() == 0,
         NodeKind::Choice | NodeKind::Anydata | NodeKind::Anyxml => !node.mandatory(),
         _ => true,
     }
 }
 
-fn has_no_value(node: &Node) -> bool
-    ensures { result ≡ has_no_value node.now.label }
+// Whether no default of a node is in use where it isn't there, or nothing asks for it.
+fn is_unread(node: &Node, asked: bool) -> bool
+    ensures { result ≡ is_unread asked node.now.label }
 {
-    node.defaults().is_empty()
+    node.defaults().is_empty() || !asked
 }
 
 // Whether the nodes below this one are met where it is.

@@ -14,6 +14,6 @@ returns c =
     let are : c.defaults.result.now ≡ defaults_of l = c.defaults.ensures.value ∙ ap (λ r. defaults_of r.label) c.node.ensures.value in
     let some : (length (defaults_of l) == 0) ≡ false = subst (λ (vs : List Val). (length vs == 0) ≡ false) are (sym c.is_empty.ensures ∙ c.if-is_empty.false) in
     record {
-      each = noted_more s c.args.self.now.values c.insert.new.self id.0 None (default_value l)
-          (λ n e. ap (λ (m : ℕ). default_value (row_at s (record { 0 = m })).label) (sym e)) (last_wins (defaults_of l) some) c.in_ok-insert.ensures.updates;
+      each = λ n named. noted_more s c.args.self.now.values c.insert.new.self id.0 None (default_value l)
+          (λ m e. ap (λ (i : ℕ). default_value (row_at s (record { 0 = i })).label) (sym e)) (last_wins (defaults_of l) some) c.in_ok-insert.ensures.updates n;
     }

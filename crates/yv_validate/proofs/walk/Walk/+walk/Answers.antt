@@ -24,6 +24,7 @@ use Rattle.yv_references.specs.declared.scope.Scope.TheVariants.{Always, InCase,
 use Rattle.yv_validate.specs.declared.fault.FaultKind.TheVariants.{State}
 use Rattle.yv_validate.specs.Faults.{array_faults, count_faults, end_faults, flaw_if, leafs_of, state_faults, unique_faults}
 use Rattle.yv_validate.specs.InnerMemory.{Remembers, RemembersEach}
+use Rattle.yv_validate.specs.InnerNamed.{is_named, keys_at, uniques_at}
 use Rattle.yv_validate.specs.InnerNotes.{GainsBy, list_tuple, noted_at, tuple_in}
 use Rattle.yv_validate.specs.InnerQuiet.{IsEmptied}
 use Rattle.yv_validate.specs.InnerTrail.{places}
@@ -37,6 +38,7 @@ use Rattle.yv_validate.proofs.Entered.{container_none, container_open, container
 use Rattle.yv_validate.proofs.Grown.{grows_alone, grows_as, grows_nothing, grows_only, grows_with, in_use_other, in_use_unasked, next_behind, not_fewer, turn, visited}
 use Rattle.yv_validate.proofs.Items.{end_told, ends, entries_split, entry_grows, many_before, one_more}
 use Rattle.yv_validate.proofs.Meeting.{choice_passes, meets_child, meets_object, scope_is}
+use Rattle.yv_validate.proofs.Asked.{by_key, by_unique}
 use Rattle.yv_validate.proofs.Noted.{noted_fresh, same_tuple}
 use Rattle.yv_validate.proofs.Own.{gains_array, gains_behind, gains_met, gains_none, notes_done, notes_start, notes_turn}
 use Rattle.yv_validate.proofs.Silent.{emptied_says, one_says, quiet_gains, quiet_grows}
@@ -278,7 +280,7 @@ entries-loop-index-preserved t c =
     let lt : i < length xs = subst (λ (ys : List Value). i < length ys) c.deref-item-items.ensures.value (omega arith) in
     let is : x ≡ slice_index_or xs i x = c.item-item.is ∙ ap (λ (ys : List Value). slice_index_or ys i x) c.deref-item-items.ensures.value in
     let has = c.in_ok-notes.ensures.tuples in
-    let keys : f leafs.keys d ≡ c.in_ok-tuple.tuple = sym (has.each leafs.keys)
+    let keys : f leafs.keys d ≡ c.in_ok-tuple.tuple = sym has.keys
     ∙ ap (tuple_in s c.in_ok-notes.notes) (sym c.keys-leafs.ensures) ∙ sym c.in_ok-tuple.ensures in
     let stood = c.in_ok-first.ensures.told in
     let which = c.in_ok-first.first in
@@ -342,9 +344,15 @@ entry-returns-in_ok-object-in-Object-clause-tuples t c =
     let new = c.object.new.notes in
     let value : ℕ → Option Val = leaf_in k s (rank id) (below s id) (object ms) in
     let doc : view c.args.item.now ≡ object ms = ap view c.in-Object.is ∙ view-Object c.in-Object.members in
-    let same : (n : ℕ) → noted_at s new n ≡ value n = noted_fresh s c.new-notes.result new value
+    let same : (n : ℕ) → is_named s n ≡ true → noted_at s new n ≡ value n = noted_fresh s c.new-notes.result new value
     (c.new-notes.ensures s) (c.in_ok-object-in-Object.ensures.notes top 1 (omega arith)) in
-    record { each = λ leafs. same_tuple (noted_at s new) value leafs same ∙ ap (list_tuple k s id leafs) (sym doc) }
+    let keys : List (Option NodeId) = keys_at s id in
+    let statement : ℕ → List (Option NodeId) = λ i. slice_index_or (uniques_at s id) i [] in
+    record {
+      keys = same_tuple (noted_at s new) value keys (λ n e. same n (by_key s id n c.requires.node e)) ∙ ap (list_tuple k s id keys) (sym doc);
+      uniques = λ i lt. same_tuple (noted_at s new) value (statement i) (λ n e. same n (by_unique s id i n c.requires.node lt e))
+          ∙ ap (list_tuple k s id (statement i)) (sym doc);
+    }
 
 pub entry-returns-in_ok-object-in-Object-clause-grows : goal.entry-returns-in_ok-object-in-Object-clause-grows
 entry-returns-in_ok-object-in-Object-clause-grows t c =

@@ -5,7 +5,8 @@ use Rattle.yv_walk.specs.Context.{members_of}
 use Rattle.yv_references.specs.InUse.{case_scope}
 use Rattle.yv_references.specs.Meetings.{Spot}
 use Rattle.yv_validate.specs.InnerMemory.{Remembers, RemembersEach}
-use Rattle.yv_validate.specs.InnerNotes.{list_tuple, uniques_at}
+use Rattle.yv_validate.specs.InnerNamed.{uniques_at}
+use Rattle.yv_validate.specs.InnerNotes.{list_tuple}
 use Rattle.yv_validate.specs.InnerWalk.{cases_met, children_met, entries_at, Grows, next_of, ones_met, spot_at, Told, told}
 use Rattle.yv_validate.specs.Values.{key_leafs}
 use Rattle.yv_validate.proofs.Own.{NotesLeft}

@@ -1,15 +1,16 @@
-use Rattle.std.proofs.Common.{◌≡◌, ℕ, ◌+◌, ◌<◌, ◌≤◌, ◌++◌, List, Option, map, min, length, length-set, drop, get_or, refl, sym, ap, ◌∙◌, arith, append-nil}
+use Rattle.std.proofs.Common.{◌≡◌, ℕ, ◌+◌, ◌<◌, ◌≤◌, ◌++◌, List, Option, map, min, length, length-set, drop, get_or, [], refl, sym, ap, ◌∙◌, arith, append-nil, subst}
 use Rattle.std.proofs.lemmas.List.{drop_all, length-map}
 use Rattle.serde_json.specs.View.{view}
 use Rattle.yv_values.specs.Values.{Val}
 use Rattle.yv_nodes.specs.declared.node.NodeId.{NodeId}
 use Rattle.yv_validate.specs.Faults.{unique_faults, unique_if}
 use Rattle.yv_validate.specs.InnerMemory.{Remembers}
-use Rattle.yv_validate.specs.InnerNotes.{list_tuple, tuple_in, uniques_at}
+use Rattle.yv_validate.specs.InnerNamed.{uniques_at}
+use Rattle.yv_validate.specs.InnerNotes.{HasTuple, list_tuple, tuple_in}
 use Rattle.yv_validate.specs.InnerTrail.{places}
 use Rattle.yv_validate.specs.Repeats.{repeated}
 use Rattle.yv_validate.specs.Work.{tuple_work, uniques_work}
-use Rattle.yv_validate.proofs.Each.{all_done, at_turn, get_map, none_done, some_step, unique_drop, work_drop}
+use Rattle.yv_validate.proofs.Each.{all_done, any_default, at_turn, get_map, none_done, some_step, unique_drop, work_drop}
 use Rattle.yv_validate.proofs.Noted.{named_leafs}
 use Rattle.yv_validate.proofs.Steps.{joins, steps_on}
 use Rattle.yv_validate.proofs.walk.Walk.end_uniques.Goals as goal
@@ -51,8 +52,10 @@ loop-number-preserved c =
       each = λ d has.
           let inv = c.loop-number.invariant.each d has in
           let old : Remembers c.index_mut.result.now (f u) before = at_turn c.loop-number.kept.items f us before d n c.index_mut.result.now u lt c.index_mut.ensures.value stated inv.kept in
+          let own : HasTuple c.args.self.now.kind s c.args.id c.args.notes.now d u =
+          subst (λ (w : List (Option NodeId)). HasTuple c.args.self.now.kind s c.args.id c.args.notes.now d w) (sym (stated ∙ any_default us n u [] lt)) (has.uniques n lt) in
           let made : f u d ≡ c.in_ok-tuple.tuple =
-          sym (has.each u) ∙ ap (λ (xs : List NodeId). tuple_in s c.args.notes.now (named_leafs xs)) (sym c.deref.ensures.value) ∙ sym c.in_ok-tuple.ensures in
+          sym own ∙ ap (λ (xs : List NodeId). tuple_in s c.args.notes.now (named_leafs xs)) (sym c.deref.ensures.value) ∙ sym c.in_ok-tuple.ensures in
           let is : first ≡ repeated (f u) before d = told.same (f u) before d old made in
           record {
             faults = joins c.loop-number.faults.items (unique_if (repeated (f u) before d) here (n + 1)) (unique_faults f here (n + 1 + 1) (drop (n + 1) us) before d)

@@ -3,7 +3,8 @@ use Rattle.serde_json.specs.Data.{Data}
 use Rattle.serde_json.specs.View.{view}
 use Rattle.yv_values.specs.Count.{counted}
 use Rattle.yv_validate.specs.Faults.{unique_faults}
-use Rattle.yv_validate.specs.InnerNotes.{HasTuples, list_tuple, uniques_at}
+use Rattle.yv_validate.specs.InnerNamed.{uniques_at}
+use Rattle.yv_validate.specs.InnerNotes.{HasTuples, list_tuple}
 use Rattle.yv_validate.specs.InnerTrail.{places}
 use Rattle.yv_validate.specs.Work.{uniques_work}
 use Rattle.yv_validate.proofs.Each.{RemembersSome}
