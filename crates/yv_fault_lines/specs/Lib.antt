@@ -1,4 +1,2 @@
-pub mod Paged
 pub mod Lines
-pub mod InnerPage
 pub mod InnerNumbers

@@ -3,6 +3,5 @@
 #![tactic(auto)]
 
 mod lines;
-mod page;
 
 pub use lines::write_faults;

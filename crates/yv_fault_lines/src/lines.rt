@@ -7,13 +7,13 @@ ghost use Rattle.yv_validate.specs.Line.{escaped, escaped_byte, hexadecimal, is_
 ghost use Rattle.yv_references.specs.Place.{called};
 ghost use Rattle.yv_validate.specs.Part.{part_of};
 ghost use Rattle.yv_streams.specs.Stream.{has_failed, stream_failures, stream_inner, FailsOnceAtMost};
-ghost use Rattle.yv_fault_lines.specs.Paged.{Adds, held};
+ghost use Rattle.yv_page.specs.Paged.{Adds, held};
 ghost use Rattle.yv_fault_lines.specs.Lines.{ended_line, fault_lines, faults_text};
 ghost use Rattle.yv_fault_lines.specs.InnerNumbers.{number_text};
 
-use crate::page::Page;
 use itoa::Buffer;
 use std::io::Write;
+use yv_page::Page;
 use yv_streams::Counted;
 use yv_validate::{Fault, MemberName, Part, PathSteps};
 
@@ -164,7 +164,7 @@ fn put_escaped_byte<W: Write>(page: &mut Page, writer: &mut Counted<W>, byte: u8
         (held (W.contents (stream_inner writer.new)) (has_failed writer.new) (stream_failures writer.new) page.new) }
 {
     if b'!' <= byte && byte <= b'~' && byte != b'%' {
-        page.put(writer, &[byte]);
+        page.put_byte(writer, byte);
     } else {
         page.put(writer, &[b'%', digit(byte / 16), digit(byte % 16)]);
     }

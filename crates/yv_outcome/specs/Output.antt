@@ -17,7 +17,7 @@ use Rattle.yv_outcome.specs.Compiles.{Compiled, RefusedAt, Built, FilesCompile, 
 use Rattle.yv_outcome.specs.Document.{Reading, TooLarge, NotJson, Reads, reading}
 use Rattle.yv_streams.specs.Files.{File}
 use Rattle.yv_outcome.specs.declared.print.Body.{Body}
-use Rattle.yv_outcome.specs.declared.print.Body.TheVariants.{Text, Faults}
+use Rattle.yv_outcome.specs.declared.print.Body.TheVariants.{Text, Diagram, Faults}
 use Rattle.yv_outcome.specs.declared.print.Output.{Output}
 use Rattle.yv_outcome.specs.declared.status.Status.{Status}
 use Rattle.yv_outcome.specs.declared.status.Status.TheVariants as ended
@@ -110,9 +110,10 @@ IsStopped ended.PatternBuild = Unit {0}
 IsStopped ended.ReadFault = Unit {0}
 IsStopped ended.WriteFault = ⊥
 
--- the bytes of a text, or of the lines of faults
+-- the bytes of a text, of a diagram, or of the lines of faults
 abbrev pub body_text : Body → List ℕ
 body_text (Text text) = string_bytes text
+body_text (Diagram text) = text
 body_text (Faults list) = faults_text list.items
 
 abbrev pub printed_of : Output → Printed

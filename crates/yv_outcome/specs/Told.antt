@@ -11,7 +11,7 @@ use Rattle.yv_messages.specs.Document.{SaysWhy, TellsLarge}
 use Rattle.yv_tree.specs.Diagram.{diagram_of}
 use Rattle.yv_outcome.specs.Document.{Reading, TooLarge, NotJson, Reads, reading}
 use Rattle.yv_outcome.specs.declared.print.Body.{Body}
-use Rattle.yv_outcome.specs.declared.print.Body.TheVariants.{Text, Faults}
+use Rattle.yv_outcome.specs.declared.print.Body.TheVariants.{Text, Diagram, Faults}
 
 -- the faults of a document of a kind, by what its bytes are
 abbrev pub faults_in : Kind → Rows → Reading → List Flaw
@@ -22,6 +22,7 @@ faults_in k s (Reads d) = faults k s d
 -- the faults of which the lines are written
 abbrev pub faults_of : Body → List Flaw
 faults_of (Text text) = []
+faults_of (Diagram text) = []
 faults_of (Faults list) = list.items
 
 -- the note on faults tells them, and there is none where there are no faults

@@ -36,13 +36,13 @@ impl Checked {
     }
 }
 
-impl Body {
+impl Body<'_> {
     // The faults of which it has the lines.
     fn faults(&self) -> &[Fault]
         ensures { result.now ≡ faults_of self.now }
     {
         match self {
-            Body::Text(_) => &[],
+            Body::Text(_) | Body::Diagram(_) => &[],
             Body::Faults(faults) => faults.as_slice(),
         }
     }
@@ -69,7 +69,7 @@ pub fn diagram_note(
     schema: &Schema,
     selection: &Selection,
     name: &str,
-    output: &Output,
+    output: &Output<'_>,
 ) -> Result<Option<String>, AllocError>
     ensures { printed_of output.now ≡ diagram_printed schema.now name.now
         → IfOk result (λ note. NotesDiagram schema.now name.now (option_map string_bytes note)) }

@@ -13,27 +13,33 @@ use yv_schema::Schema;
 use yv_selection::Kind;
 use yv_statement::Refusal;
 use yv_streams::Input;
-use yv_tree::diagram;
+use yv_tree::TreeDiagram;
 use yv_validate::{Fault, validate};
 
-/// What is written of an outcome. The lines of faults are no text: they may be more than memory holds, since each has all the names on its
-/// way.
+/// What is written of an outcome. A diagram and the lines of faults are no text: they may be more than memory holds, since what is short in a
+/// module may be shown many times, and a fault has all the names on its way.
 #[derive(Drop)]
-pub enum Body {
+pub enum Body<'a> {
     Text(String),
+    /// The diagram of a module, which is drawn as it is written.
+    Diagram(TreeDiagram<'a>),
     /// The faults of a document, one or more.
     Faults(Vec<Fault>),
 }
 
 /// What a run writes, and what it found.
 #[derive(Drop)]
-pub struct Output {
-    pub body: Body,
+pub struct Output<'a> {
+    pub body: Body<'a>,
     pub verdict: Verdict,
 }
 
 /// The line of a refusal, with the name of its file.
-pub fn of_refusal(alloc: Global, inputs: &[Input], refusal: &Refusal) -> Result<Output, AllocError>
+pub fn of_refusal(
+    alloc: Global,
+    inputs: &[Input],
+    refusal: &Refusal,
+) -> Result<Output<'static>, AllocError>
     ensures { IfOk result (λ o. printed_of o ≡ refusal_printed (map file_of inputs.now) refusal.now) }
 {
     let name = name_at(inputs, refusal.file);
@@ -57,7 +63,7 @@ fn name_at(inputs: &[Input], file: u32) -> &str
 }
 
 /// How many nodes a schema has.
-pub fn of_count(alloc: Global, schema: &Schema) -> Result<Output, AllocError>
+pub fn of_count(alloc: Global, schema: &Schema) -> Result<Output<'static>, AllocError>
     ensures { IfOk result (λ o. printed_of o ≡ count_printed (whole schema.now)) }
 {
     let count = schema.len();
@@ -69,19 +75,23 @@ pub fn of_count(alloc: Global, schema: &Schema) -> Result<Output, AllocError>
 }
 
 /// The tree diagram of the implemented module of this name, or that there is no such module.
-pub fn of_diagram(alloc: Global, schema: &Schema, name: &str) -> Result<Output, AllocError>
+pub fn of_diagram<'a>(
+    alloc: Global,
+    schema: &'a Schema,
+    name: &str,
+) -> Result<Output<'a>, AllocError>
     ensures { IfOk result (λ o. printed_of o ≡ diagram_printed schema.now name.now) }
 {
-    match diagram(alloc, schema, name)? {
-        Some(text) => Ok(Output {
-            body: Body::Text(text),
+    match TreeDiagram::of(alloc, schema, name)? {
+        Some(diagram) => Ok(Output {
+            body: Body::Diagram(diagram),
             verdict: Verdict::Clean,
         }),
         None => no_module(alloc),
     }
 }
 
-fn no_module(alloc: Global) -> Result<Output, AllocError>
+fn no_module(alloc: Global) -> Result<Output<'static>, AllocError>
     ensures { IfOk result (λ o. printed_of o ≡ drawn_printed None) }
 {
     let text = String::from_str(alloc, "tree: no such module\n")?;
@@ -94,7 +104,7 @@ fn no_module(alloc: Global) -> Result<Output, AllocError>
 /// What is said of a document, and the document that its bytes are: what a note on it is made of.
 #[derive(Drop)]
 pub struct Checked {
-    pub output: Output,
+    pub output: Output<'static>,
     pub document: Document,
 }
 
@@ -120,7 +130,7 @@ fn of_document(
     schema: &Schema,
     document: &Document,
     kind: Kind,
-) -> Result<Output, AllocError>
+) -> Result<Output<'static>, AllocError>
     requires { MeetsLimits document.now }
     ensures printed { IfOk result (λ o. printed_of o ≡ reading_printed kind schema.now (document_view document.now)) }
     ensures faults { IfOk result (λ o. faults_of o.body ≡ faults_in kind schema.now (document_view document.now)) }
@@ -133,7 +143,7 @@ fn of_document(
 }
 
 // What is said of a document that can't be read.
-fn bad_input(alloc: Global, text: &str) -> Result<Output, AllocError>
+fn bad_input(alloc: Global, text: &str) -> Result<Output<'static>, AllocError>
     ensures printed { IfOk result (λ o. printed_of o ≡ record { text = text.now; verdict = Verdict.BadInput }) }
     ensures faults { IfOk result (λ o. faults_of o.body ≡ []) }
 {
@@ -145,7 +155,7 @@ fn bad_input(alloc: Global, text: &str) -> Result<Output, AllocError>
 }
 
 // That a document is valid, or its faults.
-fn of_faults(alloc: Global, faults: Vec<Fault>) -> Result<Output, AllocError>
+fn of_faults(alloc: Global, faults: Vec<Fault>) -> Result<Output<'static>, AllocError>
     ensures printed { IfOk result (λ o. printed_of o ≡ faults_printed faults.items) }
     ensures faults { IfOk result (λ o. faults_of o.body ≡ faults.items) }
 {

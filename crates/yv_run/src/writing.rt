@@ -11,7 +11,7 @@ use yv_outcome::{Body, Output, Status};
 use yv_streams::{Counted, write_whole};
 
 /// Writes what was found, has the writer pass it on, and answers how the run ends.
-pub(crate) fn write_output<W: Write>(output: &Output, writer: &mut Counted<W>) -> Status
+pub(crate) fn write_output<W: Write>(output: &Output<'_>, writer: &mut Counted<W>) -> Status
     requires { IsFresh writer.old }
     ensures writes { Writes (printed_of output.now) result (W.contents (stream_inner writer.old)) (W.contents (stream_inner writer.new)) }
     ensures fault { result ≡ Status.WriteFault ↔ (has_failed writer.new ≡ true) }
@@ -25,8 +25,8 @@ pub(crate) fn write_output<W: Write>(output: &Output, writer: &mut Counted<W>) -
     }
 }
 
-// Writes a text, or the lines of faults, and answers whether all was taken and passed on.
-fn write_body<W: Write>(writer: &mut Counted<W>, body: &Body) -> bool
+// Writes a text, a diagram or the lines of faults, and answers whether all was taken and passed on.
+fn write_body<W: Write>(writer: &mut Counted<W>, body: &Body<'_>) -> bool
     requires { has_failed writer.old ≡ false }
     ensures done { result ≡ true → Appends (W.contents (stream_inner writer.old)) (W.contents (stream_inner writer.new)) (body_text body.now) }
     ensures part { (n : ℕ) × Appends (W.contents (stream_inner writer.old)) (W.contents (stream_inner writer.new)) (take n (body_text body.now)) }
@@ -40,8 +40,8 @@ fn write_body<W: Write>(writer: &mut Counted<W>, body: &Body) -> bool
     }
 }
 
-// Writes a text, or the lines of faults, and answers whether all was taken.
-fn put_body<W: Write>(writer: &mut Counted<W>, body: &Body) -> bool
+// Writes a text, a diagram or the lines of faults, and answers whether all was taken.
+fn put_body<W: Write>(writer: &mut Counted<W>, body: &Body<'_>) -> bool
     requires { has_failed writer.old ≡ false }
     ensures done { result ≡ true → Appends (W.contents (stream_inner writer.old)) (W.contents (stream_inner writer.new)) (body_text body.now) }
     ensures part { (n : ℕ) × Appends (W.contents (stream_inner writer.old)) (W.contents (stream_inner writer.new)) (take n (body_text body.now)) }
@@ -50,6 +50,7 @@ fn put_body<W: Write>(writer: &mut Counted<W>, body: &Body) -> bool
 {
     match body {
         Body::Text(text) => write_whole(writer, text.as_bytes()),
+        Body::Diagram(diagram) => diagram.write(writer),
         Body::Faults(faults) => write_faults(writer, faults),
     }
 }

@@ -4,6 +4,7 @@ use Rattle.yv_nodes.specs.declared.node.NodeId.{NodeId}
 use Rattle.yv_nodes.specs.Tree.{Forest, tree}
 use Rattle.yv_nodes.specs.Rows.{Module, Rows, tree_of}
 use Rattle.yv_tables.specs.Sound.{IsChild}
+use Rattle.yv_page.specs.Paged.{Adds, Held}
 use Rattle.yv_tree.specs.Lines.{has_line, tree_lines, forest_lines}
 use Rattle.yv_tree.specs.Diagram.{text_of}
 
@@ -29,3 +30,7 @@ waiting s (Some c) ts = tree (tree_of s c) ts
 pub record IsShown (s : Rows) (p c : NodeId) : Type 0 where
   pub child : IsChild s p c
   pub shown : has_line (tree_of s c) ≡ true
+
+-- all these bytes are put as soon as the rest of them is
+abbrev pub Leaves : (all rest : List ℕ) → (old new : Held) → Type 0
+Leaves all rest old new = (last : Held) → Adds rest new last → Adds all old last

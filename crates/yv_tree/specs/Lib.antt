@@ -2,4 +2,5 @@ pub mod Lines
 pub mod Diagram
 pub mod InnerModules
 pub mod InnerMargin
+pub mod InnerTops
 pub mod InnerDraw

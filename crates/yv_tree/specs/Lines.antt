@@ -1,5 +1,6 @@
 -- The lines of schema nodes in a tree diagram (RFC 8340, section 2.6).
 use Rattle.std.specs.Prelude.{ℕ, List, [], ◌∷◌, ◌++◌, Bool, true, false, ◌||◌, ◌==◌, Option, Some, None, map, if◌then◌else◌, codes}
+use Rattle.std.specs.List.{flat_map}
 use Rattle.yv_properties.specs.Steps.{Piece, Step, is_home}
 use Rattle.yv_properties.specs.declared.kind.NodeKind.{NodeKind}
 use Rattle.yv_properties.specs.declared.kind.NodeKind.TheVariants as kinds
@@ -53,8 +54,7 @@ optional l = if l.defined.is_mandatory || l.is_key then [] else codes "?"
 
 -- each text with this mark in front
 abbrev pub behind_each : (mark : List ℕ) → List (List ℕ) → List ℕ
-behind_each mark [] = []
-behind_each mark (text ∷ texts) = mark ++ text ++ behind_each mark texts
+behind_each mark texts = flat_map (λ text. mark ++ text) texts
 
 -- texts with this mark between them
 abbrev pub between : (mark : List ℕ) → List (List ℕ) → List ℕ

@@ -1,15 +1,16 @@
 //! Nodes and those below them, drawn line by line.
-ghost use Rattle.std.specs.Prelude.{◌≡◌, ◌++◌, ◌<◌, All, IfSome, OnOk, length, string_bytes};
-ghost use Rattle.yv_nodes.specs.Rows.{AreTrees, below, forest, tree_of};
+ghost use Rattle.std.specs.Prelude.{◌≡◌, ◌++◌, ◌<◌, All, IfSome, codes, length};
+ghost use Rattle.yv_nodes.specs.Rows.{AreTrees, below, forest, row_at, tree_of};
 ghost use Rattle.yv_tables.specs.Sound.{IsChild};
+ghost use Rattle.yv_page.specs.Paged.{Adds};
 ghost use Rattle.yv_tree.specs.InnerDraw.{tree_text, trees_text, waiting_text, IsShown};
 ghost use Rattle.yv_tree.specs.InnerMargin.{margin_text};
-ghost use Rattle.yv_tree.specs.Lines.{are_some, has_line};
+ghost use Rattle.yv_tree.specs.Lines.{are_some, has_line, line};
 
-use crate::line::push_line;
-use crate::margin::{Margin, push_margin};
+use crate::line::put_line;
+use crate::margin::{Margin, put_margin};
 use crate::modules::Modules;
-use std::alloc::AllocError;
+use crate::paper::Paper;
 use yv_nodes::NodeId;
 use yv_properties::NodeKind;
 use yv_tables::Schema;
@@ -23,66 +24,106 @@ pub(crate) struct Drawing<'a> {
 }
 
 impl Drawing<'_> {
-    /// Adds the lines of some children of a node, in order. A child waits until it is known whether one with a line follows.
+    /// Puts the lines of some children of a node, in order. A child waits until it is known whether
+    /// one with a line follows.
     #[cycle(draw)]
-    pub(crate) fn nodes(
+    pub(crate) fn nodes<P: Paper>(
         &self,
         parent: NodeId,
         ids: &[NodeId],
         margin: &Margin<'_>,
-        text: &mut String,
-    ) -> Result<(), AllocError>
+        paper: &mut P,
+        page: &mut P::Page,
+    )
         requires children { All (IsChild self.now.schema.now parent) ids.now }
         requires trees { AreTrees self.now.schema.now ids.now }
-        ensures { OnOk result (string_bytes text.new ≡ string_bytes text.old
-            ++ trees_text self.now.schema.now self.now.modules.now self.now.own (margin_text margin.now) (forest self.now.schema.now ids.now)) }
+        ensures { Adds
+            (trees_text self.now.schema.now self.now.modules.now self.now.own
+            (margin_text margin.now) (forest self.now.schema.now ids.now))
+            (P.output page.old paper.old) (P.output page.new paper.new) }
     {
         let mut last = None;
         for id in ids {
             if self.has_line(*id) {
-                self.waiting(parent, last, true, margin, text)?;
+                self.waiting(parent, last, true, margin, paper, page);
                 last = Some(*id);
             }
         }
-        self.waiting(parent, last, false, margin, text)
+        self.waiting(parent, last, false, margin, paper, page);
     }
 
     #[cycle(draw)]
-    fn waiting(
+    fn waiting<P: Paper>(
         &self,
         parent: NodeId,
         last: Option<NodeId>,
         follows: bool,
         margin: &Margin<'_>,
-        text: &mut String,
-    ) -> Result<(), AllocError>
+        paper: &mut P,
+        page: &mut P::Page,
+    )
         requires { IfSome last (IsChild self.now.schema.now parent) }
-        ensures { OnOk result (string_bytes text.new ≡ string_bytes text.old
-            ++ waiting_text self.now.schema.now self.now.modules.now self.now.own (margin_text margin.now) follows last) }
+        ensures { Adds
+            (waiting_text self.now.schema.now self.now.modules.now self.now.own
+            (margin_text margin.now) follows last)
+            (P.output page.old paper.old) (P.output page.new paper.new) }
     {
-        match last {
-            Some(id) => self.node(id, follows, margin, text),
-            None => Ok(()),
+        if let Some(id) = last {
+            self.node(id, follows, margin, paper, page);
         }
     }
 
+    // A node and those below it. Nothing is done for paper that has failed, since it takes no more.
     #[cycle(draw)]
-    fn node(
+    fn node<P: Paper>(
         &self,
         id: NodeId,
         follows: bool,
         margin: &Margin<'_>,
-        text: &mut String,
-    ) -> Result<(), AllocError>
+        paper: &mut P,
+        page: &mut P::Page,
+    )
         requires { id.0 < length self.now.schema.now.nodes }
-        ensures { OnOk result (string_bytes text.new ≡ string_bytes text.old
-            ++ tree_text self.now.schema.now self.now.modules.now self.now.own (margin_text margin.now) follows id) }
+        ensures { Adds
+            (tree_text self.now.schema.now self.now.modules.now self.now.own
+            (margin_text margin.now) follows id)
+            (P.output page.old paper.old) (P.output page.new paper.new) }
     {
-        push_margin(margin, text)?;
-        push_line(self.modules, self.own, self.schema.node(id), text)?;
-        text.push_str("\n")?;
+        if !paper.has_failed() {
+            self.whole_node(id, follows, margin, paper, page);
+        }
+    }
+
+    #[cycle(draw)]
+    fn whole_node<P: Paper>(
+        &self,
+        id: NodeId,
+        follows: bool,
+        margin: &Margin<'_>,
+        paper: &mut P,
+        page: &mut P::Page,
+    )
+        requires { id.0 < length self.now.schema.now.nodes }
+        ensures { Adds
+            (tree_text self.now.schema.now self.now.modules.now self.now.own
+            (margin_text margin.now) follows id)
+            (P.output page.old paper.old) (P.output page.new paper.new) }
+    {
+        self.line(id, margin, paper, page);
         let below = Margin::Below(&*margin, follows);
-        self.nodes(id, self.schema.children(id), &below, text)
+        self.nodes(id, self.schema.children(id), &below, paper, page);
+    }
+
+    // Puts the line of a node.
+    fn line<P: Paper>(&self, id: NodeId, margin: &Margin<'_>, paper: &mut P, page: &mut P::Page)
+        requires { id.0 < length self.now.schema.now.nodes }
+        ensures { Adds (margin_text margin.now
+            ++ line self.now.modules.now self.now.own (row_at self.now.schema.now id).label ++ codes "\n")
+            (P.output page.old paper.old) (P.output page.new paper.new) }
+    {
+        put_margin(margin, paper, page);
+        put_line(self.modules, self.own, self.schema.node(id), paper, page);
+        paper.put(page, "\n");
     }
 
     // Whether a node has a line: an input or output without nodes below it has none.

@@ -5,6 +5,9 @@ mod draw;
 mod line;
 mod margin;
 mod modules;
+mod paper;
 mod sections;
+mod text;
+mod tree_diagram;
 
-pub use sections::diagram;
+pub use tree_diagram::{TreeDiagram, diagram};

@@ -1,29 +1,59 @@
 //! A node's line.
-ghost use Rattle.std.specs.Prelude.{◌≡◌, ◌++◌, OnOk, Some, codes, map, string_bytes};
+ghost use Rattle.std.specs.Prelude.{◌≡◌, ◌++◌, Some, codes, map};
 ghost use Rattle.yv_properties.specs.Steps.{is_home};
+ghost use Rattle.yv_page.specs.Paged.{Adds};
 ghost use Rattle.yv_tree.specs.Lines.{status_mark, access, flags, opening, lead, full_name, shown_name, options, optional, list_options, key_name, between, behind, behind_each, written_prefix, shown_piece, shown_type, condition, line};
 
 use crate::modules::Modules;
-use std::alloc::AllocError;
+use crate::paper::Paper;
 use yv_nodes::Node;
 use yv_properties::{NodeKind, NodeStatus, PathPiece, PathStep};
 
-/// Adds the line of a node in a diagram of the module of this number, without its margin and its line feed.
-pub(crate) fn push_line(
+/// Puts the line of a node in a diagram of the module of this number, without its margin and
+/// its line feed.
+pub(crate) fn put_line<P: Paper>(
     modules: &Modules<'_>,
     own: u32,
     node: &Node,
-    text: &mut String,
-) -> Result<(), AllocError>
-    ensures { OnOk result (string_bytes text.new ≡ string_bytes text.old ++ line modules.now own node.now.label) }
+    paper: &mut P,
+    page: &mut P::Page,
+)
+    ensures { Adds (line modules.now own node.now.label)
+        (P.output page.old paper.old) (P.output page.new paper.new) }
 {
-    text.push_str(mark_of(node.status()))?;
-    text.push_str("--")?;
-    push_opening(node, text)?;
-    push_name(modules, own, node, text)?;
-    push_options(node, text)?;
-    push_type(node, text)?;
-    push_condition(node.features(), text)
+    put_front(modules, own, node, paper, page);
+    put_fields(node, paper, page);
+}
+
+// The first fields: status, flags and name.
+fn put_front<P: Paper>(
+    modules: &Modules<'_>,
+    own: u32,
+    node: &Node,
+    paper: &mut P,
+    page: &mut P::Page,
+)
+    ensures { Adds (status_mark node.now.label.defined.status ++ codes "--"
+        ++ opening node.now.label.defined.kind node.now.label
+        ++ shown_name node.now.label.defined.kind modules.now own node.now.label)
+        (P.output page.old paper.old) (P.output page.new paper.new) }
+{
+    paper.put(page, mark_of(node.status()));
+    paper.put(page, "--");
+    put_opening(node, paper, page);
+    put_name(modules, own, node, paper, page);
+}
+
+// The other fields: options, type and conditions.
+fn put_fields<P: Paper>(node: &Node, paper: &mut P, page: &mut P::Page)
+    ensures { Adds (options node.now.label.defined.kind node.now.label
+        ++ behind (shown_type node.now.label.defined.path node.now.label)
+        ++ condition node.now.label.defined.features)
+        (P.output page.old paper.old) (P.output page.new paper.new) }
+{
+    put_options(node, paper, page);
+    put_type(node, paper, page);
+    put_condition(node.features(), paper, page);
 }
 
 fn mark_of(status: NodeStatus) -> &'static str
@@ -58,76 +88,81 @@ fn access_of(node: &Node) -> &'static str
     }
 }
 
-fn push_opening(node: &Node, text: &mut String) -> Result<(), AllocError>
-    ensures { OnOk result (string_bytes text.new ≡ string_bytes text.old ++ opening node.now.label.defined.kind node.now.label) }
+fn put_opening<P: Paper>(node: &Node, paper: &mut P, page: &mut P::Page)
+    ensures { Adds (opening node.now.label.defined.kind node.now.label)
+        (P.output page.old paper.old) (P.output page.new paper.new) }
 {
     match node.kind() {
-        NodeKind::Case => text.push_str(":"),
-        _ => {
-            text.push_str(flags_of(node))?;
-            text.push_str(" ")
-        }
+        NodeKind::Case => paper.put(page, ":"),
+        _ => put_flags(node, paper, page),
     }
 }
 
-fn push_name(
+fn put_flags<P: Paper>(node: &Node, paper: &mut P, page: &mut P::Page)
+    ensures { Adds (flags node.now.label.defined.kind node.now.label ++ codes " ")
+        (P.output page.old paper.old) (P.output page.new paper.new) }
+{
+    paper.put(page, flags_of(node));
+    paper.put(page, " ");
+}
+
+fn put_name<P: Paper>(
     modules: &Modules<'_>,
     own: u32,
     node: &Node,
-    text: &mut String,
-) -> Result<(), AllocError>
-    ensures { OnOk result (string_bytes text.new ≡ string_bytes text.old
-        ++ shown_name node.now.label.defined.kind modules.now own node.now.label) }
+    paper: &mut P,
+    page: &mut P::Page,
+)
+    ensures { Adds (shown_name node.now.label.defined.kind modules.now own node.now.label)
+        (P.output page.old paper.old) (P.output page.new paper.new) }
 {
     match node.kind() {
         NodeKind::Choice | NodeKind::Case => {
-            text.push_str("(")?;
-            push_full_name(modules, own, node, text)?;
-            text.push_str(")")
+            paper.put(page, "(");
+            put_full_name(modules, own, node, paper, page);
+            paper.put(page, ")");
         }
-        _ => push_full_name(modules, own, node, text),
+        _ => put_full_name(modules, own, node, paper, page),
     }
 }
 
-fn push_full_name(
+fn put_full_name<P: Paper>(
     modules: &Modules<'_>,
     own: u32,
     node: &Node,
-    text: &mut String,
-) -> Result<(), AllocError>
-    ensures { OnOk result (string_bytes text.new ≡ string_bytes text.old ++ full_name modules.now own node.now.label) }
+    paper: &mut P,
+    page: &mut P::Page,
+)
+    ensures { Adds (full_name modules.now own node.now.label)
+        (P.output page.old paper.old) (P.output page.new paper.new) }
 {
-    push_lead(modules, own, node.home(), text)?;
-    text.push_str(node.name())
+    put_lead(modules, own, node.home(), paper, page);
+    paper.put(page, node.name());
 }
 
 // The prefix of a node's module and a colon, where that isn't the module of the diagram.
-fn push_lead(
-    modules: &Modules<'_>,
-    own: u32,
-    home: u32,
-    text: &mut String,
-) -> Result<(), AllocError>
-    ensures { OnOk result (string_bytes text.new ≡ string_bytes text.old ++ lead modules.now own home) }
+fn put_lead<P: Paper>(modules: &Modules<'_>, own: u32, home: u32, paper: &mut P, page: &mut P::Page)
+    ensures { Adds (lead modules.now own home)
+        (P.output page.old paper.old) (P.output page.new paper.new) }
 {
-    if home == own {
-        return Ok(());
+    if home != own {
+        paper.put(page, modules.prefix(home));
+        paper.put(page, ":");
     }
-    text.push_str(modules.prefix(home))?;
-    text.push_str(":")
 }
 
-fn push_options(node: &Node, text: &mut String) -> Result<(), AllocError>
-    ensures { OnOk result (string_bytes text.new ≡ string_bytes text.old ++ options node.now.label.defined.kind node.now.label) }
+fn put_options<P: Paper>(node: &Node, paper: &mut P, page: &mut P::Page)
+    ensures { Adds (options node.now.label.defined.kind node.now.label)
+        (P.output page.old paper.old) (P.output page.new paper.new) }
 {
     match node.kind() {
-        NodeKind::Container => text.push_str(if node.presence() { "!" } else { "" }),
+        NodeKind::Container => paper.put(page, if node.presence() { "!" } else { "" }),
         NodeKind::Leaf | NodeKind::Choice | NodeKind::Anydata | NodeKind::Anyxml => {
-            text.push_str(optional_of(node))
+            paper.put(page, optional_of(node));
         }
-        NodeKind::LeafList => text.push_str("*"),
-        NodeKind::List => push_list_options(node.keys(), text),
-        _ => Ok(()),
+        NodeKind::LeafList => paper.put(page, "*"),
+        NodeKind::List => put_list_options(node.keys(), paper, page),
+        _ => {}
     }
 }
 
@@ -141,34 +176,41 @@ fn optional_of(node: &Node) -> &'static str
     }
 }
 
-fn push_list_options(keys: &[Option<PathStep>], text: &mut String) -> Result<(), AllocError>
-    ensures { OnOk result (string_bytes text.new ≡ string_bytes text.old ++ list_options keys.now) }
+fn put_list_options<P: Paper>(keys: &[Option<PathStep>], paper: &mut P, page: &mut P::Page)
+    ensures { Adds (list_options keys.now)
+        (P.output page.old paper.old) (P.output page.new paper.new) }
 {
-    text.push_str("* [")?;
-    push_keys(keys, text)?;
-    text.push_str("]")
+    paper.put(page, "* [");
+    put_keys(keys, paper, page);
+    paper.put(page, "]");
 }
 
-fn push_keys(keys: &[Option<PathStep>], text: &mut String) -> Result<(), AllocError>
-    ensures { OnOk result (string_bytes text.new ≡ string_bytes text.old ++ between (codes " ") (map key_name keys.now)) }
+fn put_keys<P: Paper>(keys: &[Option<PathStep>], paper: &mut P, page: &mut P::Page)
+    ensures { Adds (between (codes " ") (map key_name keys.now))
+        (P.output page.old paper.old) (P.output page.new paper.new) }
 {
-    match keys.split_first() {
-        Some((first, others)) => {
-            text.push_str(name_of(first))?;
-            push_others(others, text)
-        }
-        None => Ok(()),
+    if let Some((first, others)) = keys.split_first() {
+        paper.put(page, name_of(first));
+        put_others(others, paper, page);
     }
 }
 
-fn push_others(keys: &[Option<PathStep>], text: &mut String) -> Result<(), AllocError>
-    ensures { OnOk result (string_bytes text.new ≡ string_bytes text.old ++ behind_each (codes " ") (map key_name keys.now)) }
+fn put_others<P: Paper>(keys: &[Option<PathStep>], paper: &mut P, page: &mut P::Page)
+    ensures { Adds (behind_each (codes " ") (map key_name keys.now))
+        (P.output page.old paper.old) (P.output page.new paper.new) }
 {
     for key in keys {
-        text.push_str(" ")?;
-        text.push_str(name_of(key))?;
+        put_other(key, paper, page);
     }
-    Ok(())
+}
+
+// A further key behind its blank.
+fn put_other<P: Paper>(key: &Option<PathStep>, paper: &mut P, page: &mut P::Page)
+    ensures { Adds (codes " " ++ key_name key.now)
+        (P.output page.old paper.old) (P.output page.new paper.new) }
+{
+    paper.put(page, " ");
+    paper.put(page, name_of(key));
 }
 
 fn name_of(key: &Option<PathStep>) -> &str
@@ -181,49 +223,57 @@ fn name_of(key: &Option<PathStep>) -> &str
 }
 
 // A further field: a blank and the field, or nothing where it is empty.
-fn push_field(field: &str, text: &mut String) -> Result<(), AllocError>
-    ensures { OnOk result (string_bytes text.new ≡ string_bytes text.old ++ behind field.now) }
+fn put_field<P: Paper>(field: &str, paper: &mut P, page: &mut P::Page)
+    ensures { Adds (behind field.now) (P.output page.old paper.old) (P.output page.new paper.new) }
 {
-    if field.is_empty() {
-        return Ok(());
+    if !field.is_empty() {
+        paper.put(page, " ");
+        paper.put(page, field);
     }
-    text.push_str(" ")?;
-    text.push_str(field)
 }
 
 // The field of the type: of a leafref an arrow and its path.
-fn push_type(node: &Node, text: &mut String) -> Result<(), AllocError>
-    ensures { OnOk result (string_bytes text.new ≡ string_bytes text.old
-        ++ behind (shown_type node.now.label.defined.path node.now.label)) }
+fn put_type<P: Paper>(node: &Node, paper: &mut P, page: &mut P::Page)
+    ensures { Adds (behind (shown_type node.now.label.defined.path node.now.label))
+        (P.output page.old paper.old) (P.output page.new paper.new) }
 {
     match node.path().split_first() {
         Some((first, others)) => {
-            text.push_str(" -> ")?;
-            push_piece(node.home(), first, text)?;
-            push_pieces(node.home(), others, text)
+            paper.put(page, " -> ");
+            put_piece(node.home(), first, paper, page);
+            put_pieces(node.home(), others, paper, page);
         }
-        None => push_field(node.type_text(), text),
+        None => put_field(node.type_text(), paper, page),
     }
 }
 
 // Pieces of the path of a leafref of the module of this number, each behind a slash.
-fn push_pieces(home: u32, pieces: &[PathPiece], text: &mut String) -> Result<(), AllocError>
-    ensures { OnOk result (string_bytes text.new ≡ string_bytes text.old ++ behind_each (codes "/") (map (shown_piece home) pieces.now)) }
+fn put_pieces<P: Paper>(home: u32, pieces: &[PathPiece], paper: &mut P, page: &mut P::Page)
+    ensures { Adds (behind_each (codes "/") (map (shown_piece home) pieces.now))
+        (P.output page.old paper.old) (P.output page.new paper.new) }
 {
     for piece in pieces {
-        text.push_str("/")?;
-        push_piece(home, piece, text)?;
+        put_other_piece(home, piece, paper, page);
     }
-    Ok(())
 }
 
-fn push_piece(home: u32, piece: &PathPiece, text: &mut String) -> Result<(), AllocError>
-    ensures { OnOk result (string_bytes text.new ≡ string_bytes text.old ++ shown_piece home piece.now) }
+// A further piece behind its slash.
+fn put_other_piece<P: Paper>(home: u32, piece: &PathPiece, paper: &mut P, page: &mut P::Page)
+    ensures { Adds (codes "/" ++ shown_piece home piece.now)
+        (P.output page.old paper.old) (P.output page.new paper.new) }
+{
+    paper.put(page, "/");
+    put_piece(home, piece, paper, page);
+}
+
+fn put_piece<P: Paper>(home: u32, piece: &PathPiece, paper: &mut P, page: &mut P::Page)
+    ensures { Adds (shown_piece home piece.now)
+        (P.output page.old paper.old) (P.output page.new paper.new) }
 {
     if !is_of(piece, home) {
-        push_prefix(piece, text)?;
+        put_prefix(piece, paper, page);
     }
-    text.push_str(piece.name())
+    paper.put(page, piece.name());
 }
 
 // Whether a piece has a prefix that stands for the module of this number.
@@ -236,25 +286,23 @@ fn is_of(piece: &PathPiece, home: u32) -> bool
     }
 }
 
-fn push_prefix(piece: &PathPiece, text: &mut String) -> Result<(), AllocError>
-    ensures { OnOk result (string_bytes text.new ≡ string_bytes text.old ++ written_prefix piece.now.prefix) }
+fn put_prefix<P: Paper>(piece: &PathPiece, paper: &mut P, page: &mut P::Page)
+    ensures { Adds (written_prefix piece.now.prefix)
+        (P.output page.old paper.old) (P.output page.new paper.new) }
 {
-    match piece.prefix() {
-        Some(prefix) => {
-            text.push_str(prefix)?;
-            text.push_str(":")
-        }
-        None => Ok(()),
+    if let Some(prefix) = piece.prefix() {
+        paper.put(page, prefix);
+        paper.put(page, ":");
     }
 }
 
-fn push_condition(features: &str, text: &mut String) -> Result<(), AllocError>
-    ensures { OnOk result (string_bytes text.new ≡ string_bytes text.old ++ condition features.now) }
+fn put_condition<P: Paper>(features: &str, paper: &mut P, page: &mut P::Page)
+    ensures { Adds (condition features.now)
+        (P.output page.old paper.old) (P.output page.new paper.new) }
 {
-    if features.is_empty() {
-        return Ok(());
+    if !features.is_empty() {
+        paper.put(page, " {");
+        paper.put(page, features);
+        paper.put(page, "}?");
     }
-    text.push_str(" {")?;
-    text.push_str(features)?;
-    text.push_str("}?")
 }

@@ -1,7 +1,7 @@
 use Rattle.std.proofs.Common.{take}
 use Rattle.yv_streams.specs.Stream.{has_failed, stream_failures, stream_inner}
 use Rattle.yv_fault_lines.specs.Lines.{fault_lines}
-use Rattle.yv_fault_lines.specs.Paged.{Adds, held}
+use Rattle.yv_page.specs.Paged.{Adds, held}
 use Rattle.yv_fault_lines.proofs.lines.put_lines.Given as goal
 
 abbrev pub invariant-loop-fault : goal.invariant-loop-fault

@@ -1,7 +1,7 @@
 use Rattle.std.proofs.Common.{◌≡◌, [], sym, ◌∙◌, false}
 use Rattle.yv_streams.specs.Stream.{has_failed, stream_failures, stream_inner}
 use Rattle.yv_fault_lines.specs.Lines.{fault_lines, faults_text}
-use Rattle.yv_fault_lines.proofs.Paging.{all_written, front_written, none_written, not_failed, not_failed_yet, once_written}
+use Rattle.yv_page.proofs.Paging.{all_written, front_written, none_written, not_failed, not_failed_yet, once_written}
 use Rattle.yv_fault_lines.proofs.lines.write_faults.Goals as goal
 
 pub returns-clause-done : goal.returns-clause-done

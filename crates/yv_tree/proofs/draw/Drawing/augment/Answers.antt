@@ -5,7 +5,7 @@ use Rattle.yv_tables.specs.Sound.{IsChild}
 use Rattle.yv_tree.proofs.draw.Drawing.augment.Goals as goal
 
 pub section-requires-clause-trees : goal.section-requires-clause-trees
-section-requires-clause-trees c =
+section-requires-clause-trees g c =
     let s = c.args.self.now.schema.now in
     let target = c.args.augment.now.target in
     let own = c.as_slice.ensures.value ∙ ap (λ (n : Note). n.nodes) c.augment.view_is in

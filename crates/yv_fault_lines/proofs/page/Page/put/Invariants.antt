@@ -1,9 +1,0 @@
-use Rattle.std.proofs.Common.{take}
-use Rattle.yv_streams.specs.Stream.{has_failed, stream_failures, stream_inner}
-use Rattle.yv_fault_lines.specs.Paged.{Adds, held}
-use Rattle.yv_fault_lines.proofs.page.Page.put.Given as goal
-
-abbrev pub invariant-loop-byte : goal.invariant-loop-byte
-invariant-loop-byte g l =
-    Adds (take l.byte-index l.bytes) (held (g.W.Write.contents (stream_inner l.initial.writer)) (has_failed l.initial.writer) (stream_failures l.initial.writer) l.initial.self)
-    (held (g.W.Write.contents (stream_inner l.writer)) (has_failed l.writer) (stream_failures l.writer) l.self)

@@ -1,0 +1,42 @@
+//! What a diagram is drawn on.
+ghost use Rattle.std.specs.Prelude.{◌≡◌};
+ghost use Rattle.yv_page.specs.Paged.{Adds, Held};
+
+use std::io::Write;
+use yv_page::Page;
+use yv_streams::Counted;
+
+/// What takes a text piece by piece: a stream behind its page, or a text in memory. Once it has
+/// failed it takes no more.
+pub(crate) trait Paper {
+    /// What holds the last pieces.
+    type Page;
+
+    ghost output: { Self.Page → Self → Held };
+
+    /// Puts a piece behind the others.
+    fn put(&mut self, page: &mut Self::Page, piece: &str)
+        ensures { Adds piece.now (output page.old self.old) (output page.new self.new) };
+
+    /// Whether no more is taken.
+    fn has_failed(&self) -> bool
+        ensures { (page : Self.Page) → result ≡ (output page self.now).has_failed };
+}
+
+impl<W: Write> Paper for Counted<W> {
+    ghost use Rattle.yv_streams.specs.Stream.{has_failed, stream_failures, stream_inner};
+    ghost use Rattle.yv_page.specs.Paged.{held};
+
+    type Page = Page;
+
+    ghost output = { λ page w.
+        held (W.contents (stream_inner w)) (has_failed w) (stream_failures w) page };
+
+    fn put(&mut self, page: &mut Page, piece: &str) {
+        page.put(self, piece.as_bytes());
+    }
+
+    fn has_failed(&self) -> bool {
+        self.has_failed()
+    }
+}

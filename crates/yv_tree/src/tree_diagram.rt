@@ -1,0 +1,168 @@
+//! The diagram of a module, which is drawn in memory or written to a stream.
+ghost use Rattle.std.specs.Prelude.{◌≡◌, ◌++◌, ◌∷◌, [], ◌↔◌, ℕ, true, false, Some, IfOk, codes, option_map, string_bytes, take};
+ghost use Rattle.std.specs.Io.KnownBytes.{Appends};
+ghost use Rattle.yv_streams.specs.Stream.{has_failed, stream_inner, FailsOnceAtMost};
+ghost use Rattle.yv_page.specs.Paged.{Adds};
+ghost use Rattle.yv_tree.specs.Diagram.{diagram_lines, diagram_of, module_in, text_of};
+
+use crate::draw::Drawing;
+use crate::margin::Margin;
+use crate::modules::Modules;
+use crate::paper::Paper;
+use crate::sections::Part;
+use crate::text::Text;
+use std::alloc::{AllocError, Global};
+use std::io::Write;
+use std::marker::Model;
+use yv_nodes::NodeId;
+use yv_page::Page;
+use yv_streams::Counted;
+use yv_tables::{Module, Schema};
+
+/// The tree diagram of a module (RFC 8340), before it is drawn: all that wants memory is at hand.
+/// Contracts see its text.
+#[derive(Drop)]
+pub struct TreeDiagram<'a> {
+    schema: &'a Schema,
+    shown: &'a Module,
+    modules: Modules<'a>,
+    data_nodes: Vec<NodeId>,
+    rpcs: Vec<NodeId>,
+    notifications: Vec<NodeId>,
+}
+
+impl<'a> Model for TreeDiagram<'a> {
+    ghost use Rattle.std.specs.Prelude.{◌≡◌, ℕ, List};
+    ghost use Rattle.yv_tree.specs.Diagram.{diagram_lines, text_of};
+    ghost use Rattle.yv_tree.specs.InnerTops.{AreReady};
+
+    ghost Value = { List ℕ };
+
+    ghost view = { λ d. text_of (diagram_lines d.schema.now d.shown.now.name d.shown.now.home) };
+
+    ghost invariant = { λ d.
+        AreReady d.schema.now d.shown.now.home d.modules
+        d.data_nodes.items d.rpcs.items d.notifications.items };
+}
+
+/// The tree diagram of a module as a text: None where the schema has no implemented module of this
+/// name.
+pub fn diagram(alloc: Global, schema: &Schema, name: &str) -> Result<Option<String>, AllocError>
+    ensures { IfOk result (λ text. option_map string_bytes text ≡ diagram_of schema.now name.now) }
+{
+    match TreeDiagram::of(alloc, schema, name)? {
+        Some(found) => Ok(Some(found.text(alloc)?)),
+        None => Ok(None),
+    }
+}
+
+// The first of these modules that has this name.
+fn implemented<'a>(modules: &'a [Module], name: &str) -> Option<&'a Module>
+    ensures { option_map (λ found. found.now) result ≡ module_in modules.now name.now }
+{
+    for known in modules {
+        if known.name.as_str() == name {
+            return Some(known);
+        }
+    }
+    None
+}
+
+impl<'a> TreeDiagram<'a> {
+    /// The diagram of a module: None where the schema has no implemented module of this name.
+    pub fn of(
+        alloc: Global,
+        schema: &'a Schema,
+        name: &str,
+    ) -> Result<Option<TreeDiagram<'a>>, AllocError>
+        ensures { IfOk result (λ found. found ≡ diagram_of schema.now name.now) }
+    {
+        match implemented(schema.modules(), name) {
+            Some(shown) => Ok(Some(TreeDiagram::ready(alloc, schema, shown)?)),
+            None => Ok(None),
+        }
+    }
+
+    // The diagram of this module.
+    fn ready(
+        alloc: Global,
+        schema: &'a Schema,
+        shown: &'a Module,
+    ) -> Result<TreeDiagram<'a>, AllocError>
+        ensures { IfOk result (λ found. found
+            ≡ text_of (diagram_lines schema.now shown.now.name shown.now.home)) }
+    {
+        let modules = Modules::of(alloc, schema.modules())?;
+        let drawing = Drawing {
+            schema,
+            modules: &modules,
+            own: shown.home,
+        };
+        let data_nodes = drawing.tops(alloc, Part::Data)?;
+        let rpcs = drawing.tops(alloc, Part::Rpcs)?;
+        let notifications = drawing.tops(alloc, Part::Notifications)?;
+        Ok(TreeDiagram {
+            schema,
+            shown,
+            modules,
+            data_nodes,
+            rpcs,
+            notifications,
+        })
+    }
+
+    /// Writes the diagram, and answers whether all was taken. It takes no memory, however much text
+    /// that is.
+    pub fn write<W: Write>(&self, writer: &mut Counted<W>) -> bool
+        requires { has_failed writer.old ≡ false }
+        ensures done { result ≡ true → Appends (W.contents (stream_inner writer.old))
+            (W.contents (stream_inner writer.new)) self.now }
+        ensures part { (n : ℕ) × Appends (W.contents (stream_inner writer.old))
+            (W.contents (stream_inner writer.new)) (take n self.now) }
+        ensures fault { result ≡ false ↔ (has_failed writer.new ≡ true) }
+        ensures once { FailsOnceAtMost writer.new }
+    {
+        let mut page = Page::new();
+        self.draw(writer, &mut page);
+        page.turn(writer);
+        !writer.has_failed()
+    }
+
+    // The diagram as a text.
+    fn text(&self, alloc: Global) -> Result<String, AllocError>
+        ensures { IfOk result (λ text. string_bytes text ≡ self.now) }
+    {
+        let mut text = Text::new(alloc);
+        self.draw(&mut text, &mut ());
+        text.whole()
+    }
+
+    // Draws the diagram.
+    fn draw<P: Paper>(&self, paper: &mut P, page: &mut P::Page)
+        ensures { Adds self.now (P.output page.old paper.old) (P.output page.new paper.new) }
+    {
+        let shown = self.shown;
+        let drawing = Drawing {
+            schema: self.schema,
+            modules: &self.modules,
+            own: shown.home,
+        };
+        let data_nodes = self.data_nodes.as_slice();
+        put_header(shown.name.as_str(), paper, page);
+        drawing.nodes(Schema::ROOT, data_nodes, &Margin::Top, paper, page);
+        drawing.augments(paper, page);
+        drawing.tops_section("rpcs", self.rpcs.as_slice(), paper, page);
+        let notifications = self.notifications.as_slice();
+        drawing.tops_section("notifications", notifications, paper, page);
+    }
+}
+
+// Puts the first line, which tells this name of the module.
+fn put_header<P: Paper>(name: &str, paper: &mut P, page: &mut P::Page)
+    ensures { Adds (codes "module: " ++ name.now ++ codes "\n")
+        (P.output page.old paper.old) (P.output page.new paper.new) }
+{
+    paper.put(page, "module: ");
+    paper.put(page, name);
+    paper.put(page, "\n");
+}
