@@ -1,5 +1,5 @@
 -- The lines of trees one of which waits for what follows it.
-use Rattle.std.proofs.Common.{◌≡◌, ℕ, ◌+◌, ◌<◌, ◌≤◌, Bool, true, false, List, [], ◌∷◌, ◌++◌, length, drop, get_or, refl, sym, ap, ◌∙◌, subst, append_assoc, append-nil, if◌then◌else◌, Option, Some, None}
+use Rattle.std.proofs.Common.{◌≡◌, ℕ, ◌+◌, ◌<◌, ◌≤◌, Bool, true, false, List, [], ◌∷◌, ◌++◌, length, drop, get_or, refl, sym, ap, ◌∙◌, subst, append-nil, if◌then◌else◌, Option, Some, None}
 use Rattle.std.proofs.lemmas.Bool.{false≢true}
 use Rattle.std.proofs.lemmas.Grind.{flat_map-append}
 use Rattle.std.proofs.lemmas.List.{drop_all}
@@ -7,10 +7,11 @@ use Rattle.std.specs.Prelude.{IfSome, codes}
 use Rattle.yv_nodes.specs.declared.node.NodeId.{NodeId}
 use Rattle.yv_nodes.specs.Tree.{Forest, Tree, no_trees, tree}
 use Rattle.yv_nodes.specs.Rows.{AreTrees, Module, Rows, children_of, forest, row_at, tree_of}
+use Rattle.yv_tree.proofs.Parts.{adds_both}
 use Rattle.yv_tree.specs.Lines.{any_line, bars, forest_lines, has_line, line, tree_lines}
 use Rattle.yv_tree.specs.Diagram.{text_of}
 use Rattle.yv_tree.specs.InnerDraw.{IsShown, Leaves, tree_text, trees_text, waiting, waiting_text}
-use Rattle.yv_page.specs.Paged.{Adds, Held, IsPaged}
+use Rattle.yv_page.specs.Paged.{Adds, Held}
 use Rattle.yv_tree.proofs.Drawn.{left_less}
 
 text_append : (xs ys : List (List ℕ)) → text_of (xs ++ ys) ≡ text_of xs ++ text_of ys
@@ -106,7 +107,6 @@ pub line_and_below : (s : Rows) (modules : List Module) (own : ℕ) (margin : Li
 line_and_below s modules own margin follows c cs e =
     ap (λ (xs : List NodeId). (margin ++ line modules own (row_at s c).label ++ codes "\n") ++ trees_text s modules own (margin ++ bars follows) (forest s xs)) (sym e)
 
--- bytes that are put one part after the other
-pub adds_both : (all first rest : List ℕ) (old mid new : Held) → all ≡ first ++ rest → Adds first old mid → Adds rest mid new → Adds all old new
-adds_both all first rest old mid new e one two = λ start text h.
-    subst (λ (l : List ℕ). IsPaged start l new) (append_assoc text first rest ∙ ap (λ (l : List ℕ). text ++ l) (sym e)) (two start (text ++ first) (one start text h))
+-- a text of two parts is put by putting them one after the other
+pub adds_parts : (all first rest : List ℕ) (old mid new : Held) → all ≡ first ++ rest → Adds first old mid → Adds rest mid new → Adds all old new
+adds_parts all first rest old mid new e one two = subst (λ (l : List ℕ). Adds l old new) (sym e) (adds_both first rest old mid new one two)

@@ -7,7 +7,7 @@ use Rattle.yv_tree.specs.InnerDraw.{trees_text}
 use Rattle.yv_tree.specs.InnerMargin.{margin_text}
 use Rattle.yv_tree.specs.Lines.{has_line}
 use Rattle.yv_tree.proofs.Drawn.{lost}
-use Rattle.yv_tree.proofs.Waiting.{adds_both, end_step, hidden_step, line_and_below, shown_step}
+use Rattle.yv_tree.proofs.Waiting.{adds_parts, end_step, hidden_step, line_and_below, shown_step}
 use Rattle.yv_tree.proofs.draw.Drawing.+draw.Goals as goal
 use Rattle.yv_tree.proofs.draw.Drawing.+draw.Goals.{nodes-then-has_line, nodes-else-has_line}
 
@@ -18,7 +18,7 @@ node-returns-else-not-has_failed g t c = λ start text h.
 pub whole_node-returns : goal.whole_node-returns
 whole_node-returns g t c =
     let s = c.args.self.now.schema.now in
-    adds_both _ _ _ (g.P.Paper.output c.args.page.now c.args.paper.now) (g.P.Paper.output c.line.new.page c.line.new.paper)
+    adds_parts _ _ _ (g.P.Paper.output c.args.page.now c.args.paper.now) (g.P.Paper.output c.line.new.page c.line.new.paper)
     (g.P.Paper.output c.nodes.new.page c.nodes.new.paper)
     (line_and_below s c.args.self.now.modules.now c.args.self.now.own (margin_text c.args.margin.now) c.args.follows c.args.id c.children.result.now c.children.ensures.value)
     c.line.ensures c.nodes.ensures
