@@ -2,10 +2,10 @@
 use Rattle.std.proofs.Common.{◌≡◌, ℕ, zero, suc, ◌+◌, ◌<◌, ◌≤◌, Bool, true, false, ◌||◌, List, [], ◌∷◌, Option, Some, None, take, sym, ◌∙◌, refl, arith}
 use Rattle.std.specs.List.{slice_get}
 use Rattle.std.proofs.lemmas.Bool.{false≢true, or_parts}
-use Rattle.yv_conform.specs.Names.{same}
+use Rattle.yv_statement.specs.Keywords.{same}
 use Rattle.yv_conform.specs.Faults.{has, keyword_at, is_excess}
 use Rattle.yv_conform.specs.Fits.{occurrences, IsAllowed}
-use Rattle.yv_conform.specs.declared.keyword.Keyword.{Keyword}
+use Rattle.yv_statement.specs.declared.keyword.Keyword.{Keyword}
 use Rattle.yv_conform.specs.declared.table.Occurs.{Occurs}
 use Rattle.yv_conform.specs.declared.table.Occurs.TheVariants.{One, Optional, Any}
 use Rattle.yv_statement.specs.Tree.{Tree}

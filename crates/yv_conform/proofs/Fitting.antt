@@ -3,13 +3,13 @@ use Rattle.std.proofs.Common.{◌≡◌, ◌≢◌, ℕ, ◌<◌, inl, inr, ⊎_
 use Rattle.std.specs.List.{slice_get}
 use Rattle.std.proofs.lemmas.Bool.{and_from, and_parts, cases_lt, false_from_ne_true, false≢true, not-true, not_from_false}
 use Rattle.std.proofs.lemmas.Option.{slice_get_within}
-use Rattle.yv_conform.specs.Names.{same}
+use Rattle.yv_statement.specs.Keywords.{same}
 use Rattle.yv_statement.specs.Order.{IsLeast, IsLesser, refusal_at}
 use Rattle.yv_conform.specs.Table.{occurs_in, rows_of}
 use Rattle.yv_conform.specs.Faults.{Faulty, own, number, below, Miscounted, OwnFault, IsMisplaced, has, keyword_at, is_excess}
 use Rattle.yv_conform.specs.Fits.{FitsIn, extended, plain, OwnFits, IsCounted, IsAllowed, occurrences}
-use Rattle.yv_conform.specs.declared.keyword.Keyword.{Keyword}
-use Rattle.yv_conform.specs.declared.keyword.Keyword.TheVariants as word
+use Rattle.yv_statement.specs.declared.keyword.Keyword.{Keyword}
+use Rattle.yv_statement.specs.declared.keyword.Keyword.TheVariants as word
 use Rattle.yv_statement.specs.Tree.{Tree, trees}
 use Rattle.yv_statement.specs.declared.refusal.Refusal.{Refusal}
 use Rattle.yv_statement.specs.declared.refusal.Code.TheVariants as code

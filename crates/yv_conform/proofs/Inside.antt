@@ -5,8 +5,8 @@ use Rattle.yv_statement.specs.Order.{Among, IsLeast, IsLesser}
 use Rattle.yv_conform.specs.Faults.{Faulty, own, number, below, Miscounted, OwnFault, keyword_at}
 use Rattle.yv_statement.specs.Tree.{Tree, trees}
 use Rattle.yv_statement.specs.declared.refusal.Refusal.{Refusal}
-use Rattle.yv_conform.specs.declared.keyword.Keyword.{Keyword}
-use Rattle.yv_conform.specs.declared.keyword.Keyword.TheVariants as word
+use Rattle.yv_statement.specs.declared.keyword.Keyword.{Keyword}
+use Rattle.yv_statement.specs.declared.keyword.Keyword.TheVariants as word
 use Rattle.yv_statement.proofs.Least.{least_lesser, least_same}
 
 -- what stands in one of the children

@@ -2,11 +2,11 @@
 use Rattle.std.proofs.Common.{◌≡◌, ◌≢◌, Bool, true, false, not, ◌&&◌, ◌||◌, cond, List, [], ◌∷◌, Some, sym, ◌∙◌, ap, subst, refl}
 use Rattle.std.specs.List.{list_any}
 use Rattle.std.proofs.lemmas.Bool.{and_parts, false_from_ne_true, false≢true, not-true, or_parts}
-use Rattle.yv_conform.specs.Names.{same}
+use Rattle.yv_statement.specs.Keywords.{same}
 use Rattle.yv_conform.specs.Table.{Rows, is_one, occurs_in, rows_of}
 use Rattle.yv_conform.specs.Faults.{has}
-use Rattle.yv_conform.specs.declared.keyword.Keyword.{Keyword}
-use Rattle.yv_conform.specs.declared.keyword.Keyword.TheVariants as word
+use Rattle.yv_statement.specs.declared.keyword.Keyword.{Keyword}
+use Rattle.yv_statement.specs.declared.keyword.Keyword.TheVariants as word
 use Rattle.yv_conform.specs.declared.table.Occurs.{Occurs}
 use Rattle.yv_conform.specs.declared.table.Occurs.TheVariants.{One, Optional, Any}
 use Rattle.yv_statement.specs.Tree.{Tree}

@@ -4,7 +4,7 @@ use Rattle.yv_conform.specs.Forms.{form_of}
 use Rattle.yv_condition.specs.Condition.{Condition, Spells}
 use Rattle.yv_condition.specs.Names.{is_identifier, is_name}
 use Rattle.yv_conform.specs.Texts.{is_absolute_path, is_date, is_descendant_path, is_enum_name, is_enum_value, is_fraction_digits, is_key, is_leafref_path, is_max_elements, is_number, is_one_of, is_unique}
-use Rattle.yv_conform.specs.declared.keyword.Keyword.{Keyword}
+use Rattle.yv_statement.specs.declared.keyword.Keyword.{Keyword}
 use Rattle.yv_conform.specs.declared.form.Form.{Form}
 use Rattle.yv_conform.specs.declared.form.Form.TheVariants as form
 

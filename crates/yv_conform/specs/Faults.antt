@@ -7,11 +7,11 @@ use Rattle.yv_statement.specs.Order.{Among, Stands, refusal_at}
 use Rattle.yv_statement.specs.declared.refusal.Refusal.{Refusal}
 use Rattle.yv_statement.specs.declared.refusal.Code.TheVariants as code
 use Rattle.yv_conform.specs.Bytes.{opening_bracket, opening_parenthesis}
-use Rattle.yv_conform.specs.Names.{keyword_of, same}
+use Rattle.yv_statement.specs.Keywords.{keyword_of, same}
 use Rattle.yv_conform.specs.Table.{Rows, rows_of, occurs_in, is_one}
 use Rattle.yv_conform.specs.Argument.{ArgumentFits}
-use Rattle.yv_conform.specs.declared.keyword.Keyword.{Keyword}
-use Rattle.yv_conform.specs.declared.keyword.Keyword.TheVariants as word
+use Rattle.yv_statement.specs.declared.keyword.Keyword.{Keyword}
+use Rattle.yv_statement.specs.declared.keyword.Keyword.TheVariants as word
 use Rattle.yv_conform.specs.declared.table.Occurs.{Occurs}
 use Rattle.yv_conform.specs.declared.table.Occurs.TheVariants.{One, Optional, Any}
 

@@ -1,8 +1,8 @@
 -- Inner definitions, which only clauses of private functions cite: which keywords were met.
 use Rattle.std.specs.Prelude.{ℕ, Bool, false, slice_index_or}
 use denote.Enum.Declared.{tag_of}
-use Rattle.yv_conform.specs.declared.keyword.Keyword.{Keyword}
-use Rattle.yv_conform.specs.contracts.keyword.Keyword.{the_type}
+use Rattle.yv_statement.specs.declared.keyword.Keyword.{Keyword}
+use Rattle.yv_statement.specs.contracts.keyword.Keyword.{the_type}
 use Rattle.yv_conform.specs.declared.seen.Seen.{Seen}
 
 -- a keyword's place among all

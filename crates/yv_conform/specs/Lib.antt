@@ -1,5 +1,4 @@
 pub mod Bytes
-pub mod Names
 pub mod Table
 pub mod Words
 pub mod Texts

@@ -4,9 +4,9 @@ ghost use Rattle.std.specs.Option.{option_copied};
 ghost use Rattle.yv_conform.specs.Argument.{ArgumentFits, ConditionFits, argument_has, has_form};
 
 use crate::form::{Form, find_form};
-use crate::keyword::Keyword;
 use crate::{lists, text};
 use yv_condition::{is_condition, is_identifier, is_name};
+use yv_statement::Keyword;
 
 /// Whether the argument of a statement, in the block of a parent, is as its keyword wants it (RFC 7950, section 14).
 pub fn fits(parent: Keyword, keyword: Keyword, argument: Option<&str>) -> bool

@@ -11,10 +11,9 @@ ghost use Rattle.yv_conform.specs.Fits.{Fits, FitsIn, OwnFits};
 ghost use Rattle.yv_conform.specs.Table.{is_one, occurs_in};
 
 use crate::argument;
-use crate::keyword::Keyword;
 use crate::seen::Seen;
 use crate::table::{self, Occurs, Row};
-use yv_statement::{Code, Refusal, Statement, lesser, refused};
+use yv_statement::{Code, Keyword, Refusal, Statement, lesser, refused};
 
 /// Whether the statements of a file are as the tables of RFC 7950, sections 7 and 9, say: each has the substatements
 /// that it may have, no more and no fewer, and an argument in its grammar. The refusal is the least by offset and code
@@ -36,7 +35,7 @@ pub fn conform(root: &Statement) -> Result<(), Refusal>
     ensures fits { IsOk result ↔ Fits root.now }
     ensures least { IsLeast (Bad root.now) (result_err result) }
 {
-    let keyword = Keyword::read(root.keyword());
+    let keyword = root.kind();
     let outer = refused(!is_module(keyword), Code::Cardinality, 0, root);
     let inner = first_fault(Keyword::Unknown, root);
     let first = lesser(outer, inner);
@@ -57,7 +56,7 @@ fn first_fault(parent: Keyword, statement: &Statement) -> Option<Refusal>
     ensures fits { IfNone result (FitsIn parent statement.now) }
     ensures least { IsLeast (Faulty parent statement.now) result }
 {
-    let keyword = Keyword::read(statement.keyword());
+    let keyword = statement.kind();
     if keyword == Keyword::Extended {
         return None;
     }
@@ -97,7 +96,7 @@ fn count_fault(keyword: Keyword, statement: &Statement) -> Option<Refusal>
     let mut seen = Seen::new();
     let mut best = None;
     for child in statement.children() {
-        let kind = Keyword::read(child.keyword());
+        let kind = child.kind();
         let misplaced = is_misplaced(rows, kind, seen.contains(kind));
         let here = refused(misplaced, Code::Cardinality, 0, child);
         best = lesser(best, here);

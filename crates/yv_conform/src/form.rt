@@ -2,7 +2,7 @@
 ghost use Rattle.std.specs.Prelude.{◌≡◌};
 ghost use Rattle.yv_conform.specs.Forms.{form_of};
 
-use crate::keyword::Keyword;
+use yv_statement::Keyword;
 
 /// The form of an argument.
 #[derive(Clone, Copy, PartialEq, Eq, Debug)]

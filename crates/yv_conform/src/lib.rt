@@ -5,7 +5,6 @@ mod argument;
 mod distinct;
 mod fault;
 mod form;
-mod keyword;
 mod lists;
 mod seen;
 mod table;
@@ -13,4 +12,4 @@ mod text;
 mod words;
 
 pub use fault::conform;
-pub use keyword::Keyword;
+pub use yv_statement::Keyword;

@@ -1,10 +1,10 @@
 //! A set of keywords.
 ghost use Rattle.std.specs.Prelude.{◌≡◌, ◌<◌, ◌||◌, false};
-ghost use Rattle.yv_conform.specs.Names.{same};
+ghost use Rattle.yv_statement.specs.Keywords.{same};
 ghost use Rattle.yv_conform.specs.InnerSeen.{number, is_marked};
-ghost use Rattle.yv_conform.specs.declared.keyword.Keyword.{Keyword};
+ghost use Rattle.yv_statement.specs.declared.keyword.Keyword.{Keyword};
 
-use crate::keyword::Keyword as Word;
+use yv_statement::Keyword as Word;
 
 /// How many keywords there are.
 pub const KEYWORDS: usize = 70;

@@ -3,7 +3,7 @@ ghost use Rattle.std.specs.Prelude.{◌≡◌, map};
 ghost use Rattle.yv_conform.specs.InnerEntries.{row};
 ghost use Rattle.yv_conform.specs.Table.{is_one, rows_of};
 
-use crate::keyword::Keyword;
+use yv_statement::Keyword;
 
 /// How often a substatement may occur in a block.
 #[derive(Clone, Copy, PartialEq, Eq, Debug)]

@@ -3,7 +3,7 @@ use Rattle.std.proofs.Common.{◌≡◌, ℕ, Bool, true, false, List, [], ◌�
 use Rattle.std.specs.Prelude.{◌||◌, filter, map}
 use Rattle.std.specs.List.{find}
 use Rattle.yv_statement.specs.Tree.{Tree, Forest, trees, name_of}
-use Rattle.yv_conform.specs.declared.keyword.Keyword.TheVariants as word
+use Rattle.yv_statement.specs.declared.keyword.Keyword.TheVariants as word
 use Rattle.yv_rows.specs.Files.{Files}
 use Rattle.yv_definitions.specs.Features.{all_expressions, expressions}
 use Rattle.yv_stated.specs.Statements.{is_of, statement_at}

@@ -2,7 +2,7 @@
 use Rattle.std.proofs.Common.{◌≡◌, ℕ, ◌+◌, ◌<◌, Bool, true, false, List, [], ◌∷◌, ◌++◌, length, drop, get_or, add-one, refl, sym, ap, ◌∙◌, append_assoc, Option}
 use Rattle.std.proofs.Math.Seq.{drop-cons}
 use Rattle.yv_statement.specs.Tree.{Tree}
-use Rattle.yv_conform.specs.declared.keyword.Keyword.TheVariants as word
+use Rattle.yv_statement.specs.declared.keyword.Keyword.TheVariants as word
 use Rattle.yv_conform.specs.Words.{words}
 use Rattle.yv_rows.specs.Files.{Files}
 use Rattle.yv_properties.specs.Steps.{Step}

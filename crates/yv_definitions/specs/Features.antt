@@ -4,7 +4,7 @@ use Rattle.std.specs.List.{filter, join_with_byte}
 use Rattle.std.specs.Str.{chars}
 use Rattle.yv_statement.specs.Tree.{Tree, trees}
 use Rattle.yv_conform.specs.Words.{is_empty}
-use Rattle.yv_conform.specs.declared.keyword.Keyword.TheVariants as word
+use Rattle.yv_statement.specs.declared.keyword.Keyword.TheVariants as word
 use Rattle.yv_rows.specs.Files.{Files}
 use Rattle.yv_stated.specs.Statements.{arguments_among, statement_at}
 

@@ -2,7 +2,7 @@
 use Rattle.std.specs.Prelude.{ℕ, ◌||◌, List, [], ◌∷◌, filter, map}
 use Rattle.std.specs.Option.{option_or, unwrap_or}
 use Rattle.yv_statement.specs.Tree.{Tree}
-use Rattle.yv_conform.specs.declared.keyword.Keyword.TheVariants as word
+use Rattle.yv_statement.specs.declared.keyword.Keyword.TheVariants as word
 use Rattle.yv_rows.specs.Files.{Files}
 use Rattle.yv_properties.specs.Defined.{Defined, Written, or_list}
 use Rattle.yv_stated.specs.Properties.{Properties, defaults_by, properties_of, said_by, written_in}

@@ -2,7 +2,7 @@
 ghost use Rattle.std.specs.Prelude.{◌≡◌, ℕ, [], ◌∷◌, ◌++◌, map, IfOk, OnOk};
 ghost use Rattle.std.specs.Option.{option_map};
 ghost use Rattle.std.specs.Rc.{rc_slice_items};
-ghost use Rattle.yv_conform.specs.declared.keyword.Keyword.TheVariants as word;
+ghost use Rattle.yv_statement.specs.declared.keyword.Keyword.TheVariants as word;
 ghost use Rattle.yv_properties.specs.Defined.{written_of};
 ghost use Rattle.yv_definitions.specs.InnerChanged.{change_by, changed, defaults_among};
 ghost use Rattle.yv_stated.specs.Properties.{defaults_by, elements_of, is_true, least_of, said_by, written_in};

@@ -8,7 +8,7 @@ ghost use Rattle.yv_expansion.specs.declared.item.Origin.{Origin};
 ghost use Rattle.yv_values.specs.Types.{plain_of};
 ghost use Rattle.yv_leaf_paths.specs.Known.{AreLeafPaths};
 ghost use Rattle.yv_definitions.specs.Kinds.{typing_of};
-ghost use Rattle.yv_conform.specs.declared.keyword.Keyword.TheVariants as word;
+ghost use Rattle.yv_statement.specs.declared.keyword.Keyword.TheVariants as word;
 ghost use Rattle.yv_stated.specs.Statements.{file_at, first_of, statement_at};
 ghost use Rattle.yv_definitions.specs.Features.{all_expressions, expressions, with_expressions};
 ghost use Rattle.yv_definitions.specs.Defined.{defined, defined_at, referring, referring_by, refined, unwritten};

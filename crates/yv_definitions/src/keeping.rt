@@ -145,7 +145,7 @@ pub(crate) fn unwritten_at(
 // The keyword of the numbered statement.
 fn keyword_at(rows: &Rows<'_, '_>, number: usize) -> Keyword {
     match statement_at(rows, number) {
-        Some(statement) => Keyword::read(statement.keyword()),
+        Some(statement) => statement.kind(),
         None => Keyword::Unknown,
     }
 }

@@ -119,7 +119,7 @@ fn lacks_defaults(rows: &Rows<'_, '_>, number: usize) -> bool {
     let Some(statement) = statement_at(rows, number) else {
         return false;
     };
-    match node_kind(Keyword::read(statement.keyword())) {
+    match node_kind(statement.kind()) {
         Some(kind) => has_defaults(kind) && !has(Keyword::Default, statement),
         None => false,
     }

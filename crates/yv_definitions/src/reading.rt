@@ -3,8 +3,8 @@ ghost use Rattle.std.specs.Prelude.{◌≡◌, map, IfOk};
 ghost use Rattle.std.specs.Option.{option_copied, option_map};
 ghost use Rattle.std.specs.Rc.{rc_slice_items, rc_str_bytes};
 ghost use Rattle.yv_statement.specs.Tree.{trees};
-ghost use Rattle.yv_conform.specs.Names.{keyword_of};
-ghost use Rattle.yv_conform.specs.declared.keyword.Keyword.TheVariants as word;
+ghost use Rattle.yv_statement.specs.Keywords.{keyword_of};
+ghost use Rattle.yv_statement.specs.declared.keyword.Keyword.TheVariants as word;
 ghost use Rattle.yv_rows.specs.Files.{Files};
 ghost use Rattle.yv_definitions.specs.InnerNamed.{AreNamed};
 ghost use Rattle.yv_values.specs.Types.{plain_of};
@@ -217,7 +217,7 @@ pub(crate) fn define(
     ensures { (files : Files) → AreNamed files file statement.now.children names
         → IfOk result (λ d. d ≡ defined_by (typing_of types.now) files file statement.now) }
 {
-    let kind = kind_of(Keyword::read(statement.keyword()));
+    let kind = kind_of(statement.kind());
     let changes = Changes::read(alloc, nothing, file, statement)?;
     Ok(DefinitionDraft {
         offset: statement.offset(),

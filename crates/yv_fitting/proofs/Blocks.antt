@@ -8,10 +8,10 @@ use Rattle.std.proofs.lemmas.List.{length-map}
 use Rattle.std.proofs.lemmas.Option.{same_Some, slice_get_cases, slice_get_within, slice_get-map}
 use Rattle.std.proofs.lemmas.Slice.Eq.{bytes_eq-Decides}
 use Rattle.yv_statement.specs.Tree.{Head, Tree, trees}
-use Rattle.yv_conform.specs.declared.keyword.Keyword.{Keyword}
-use Rattle.yv_conform.specs.declared.keyword.Keyword.TheVariants as word
+use Rattle.yv_statement.specs.declared.keyword.Keyword.{Keyword}
+use Rattle.yv_statement.specs.declared.keyword.Keyword.TheVariants as word
 use Rattle.yv_conform.specs.declared.table.Occurs.{Occurs}
-use Rattle.yv_conform.specs.Names.{keyword_of, same}
+use Rattle.yv_statement.specs.Keywords.{keyword_of, same}
 use Rattle.yv_conform.specs.Table.{Rows as Table, occurs_in, rows_of as table_of}
 use Rattle.yv_conform.specs.Faults.{is_module, keyword_at}
 use Rattle.yv_conform.specs.Fits.{FitsIn, IsAllowed, extended, occurrences, plain}

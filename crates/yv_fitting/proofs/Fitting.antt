@@ -5,9 +5,9 @@ use Rattle.std.specs.Str.{bytes_eq}
 use Rattle.std.proofs.lemmas.Bool.{false≢true}
 use Rattle.std.proofs.lemmas.Option.{same_Some}
 use Rattle.yv_statement.specs.Tree.{Tree, Forest, Then, End, trees}
-use Rattle.yv_conform.specs.declared.keyword.Keyword.{Keyword}
-use Rattle.yv_conform.specs.declared.keyword.Keyword.TheVariants as word
-use Rattle.yv_conform.specs.Names.{keyword_in, keyword_of, names}
+use Rattle.yv_statement.specs.declared.keyword.Keyword.{Keyword}
+use Rattle.yv_statement.specs.declared.keyword.Keyword.TheVariants as word
+use Rattle.yv_statement.specs.Keywords.{keyword_in, keyword_of, names}
 use Rattle.yv_conform.specs.Faults.{is_module, keyword_at}
 use Rattle.yv_conform.specs.Fits.{FitsIn, extended, plain}
 use Rattle.yv_rows.specs.Files.{Files}

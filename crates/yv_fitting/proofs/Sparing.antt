@@ -10,13 +10,13 @@ use Rattle.yv_statement.specs.declared.refusal.Code.TheVariants as code
 use Rattle.yv_condition.specs.Condition.{Condition, Spells}
 use Rattle.yv_conform.specs.declared.form.Form.{Form}
 use Rattle.yv_conform.specs.declared.form.Form.TheVariants as form
-use Rattle.yv_conform.specs.declared.keyword.Keyword.{Keyword}
-use Rattle.yv_conform.specs.declared.keyword.Keyword.TheVariants as word
+use Rattle.yv_statement.specs.declared.keyword.Keyword.{Keyword}
+use Rattle.yv_statement.specs.declared.keyword.Keyword.TheVariants as word
 use Rattle.yv_conform.specs.Argument.{ArgumentFits, ConditionFits, argument_has}
 use Rattle.yv_conform.specs.Faults.{Bad, Faulty, OwnFault, below, is_module, keyword_at, number, own}
 use Rattle.yv_conform.specs.Fits.{Fits, FitsIn, OwnFits, extended, plain}
 use Rattle.yv_conform.specs.Forms.{form_of}
-use Rattle.yv_conform.specs.Names.{keyword_of, same}
+use Rattle.yv_statement.specs.Keywords.{keyword_of, same}
 use Rattle.yv_conform.proofs.Fitting.{is_counted}
 use Rattle.yv_conform.proofs.Keywords.{one, other}
 

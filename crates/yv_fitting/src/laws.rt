@@ -4,7 +4,7 @@ ghost use Rattle.yv_statement.specs.Tree.{Tree};
 ghost use Rattle.yv_statement.specs.declared.refusal.Refusal.{Refusal};
 ghost use Rattle.yv_conform.specs.Faults.{Bad};
 ghost use Rattle.yv_conform.specs.Fits.{Fits, FitsIn};
-ghost use Rattle.yv_conform.specs.declared.keyword.Keyword.{Keyword};
+ghost use Rattle.yv_statement.specs.declared.keyword.Keyword.{Keyword};
 ghost use Rattle.yv_rows.specs.Files.{Files};
 ghost use Rattle.yv_rows.specs.Listed.{rows_of, statements_of};
 ghost use Rattle.yv_rows.specs.Rows.{Row};

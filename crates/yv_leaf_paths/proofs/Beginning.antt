@@ -5,8 +5,8 @@ use Rattle.std.specs.List.{prefix_len, slice_get}
 use Rattle.std.proofs.lemmas.Option.{same_Some}
 use Rattle.std.proofs.lemmas.Bool.{eqb-true}
 use Rattle.yv_statement.specs.Tree.{Tree, trees}
-use Rattle.yv_conform.specs.declared.keyword.Keyword.{Keyword}
-use Rattle.yv_conform.specs.declared.keyword.Keyword.TheVariants as word
+use Rattle.yv_statement.specs.declared.keyword.Keyword.{Keyword}
+use Rattle.yv_statement.specs.declared.keyword.Keyword.TheVariants as word
 use Rattle.yv_conform.specs.Argument.{argument_has}
 use Rattle.yv_conform.specs.Faults.{keyword_at}
 use Rattle.yv_conform.specs.Fits.{FitsIn, extended, plain}

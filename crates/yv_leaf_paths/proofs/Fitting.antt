@@ -2,7 +2,7 @@
 use Rattle.std.proofs.Common.{◌≡◌, ◌≢◌, ℕ, List, Some}
 use Rattle.std.specs.List.{slice_get}
 use Rattle.yv_statement.specs.Tree.{Tree, trees}
-use Rattle.yv_conform.specs.declared.keyword.Keyword.TheVariants as word
+use Rattle.yv_statement.specs.declared.keyword.Keyword.TheVariants as word
 use Rattle.yv_conform.specs.Faults.{keyword_at}
 use Rattle.yv_fitting.specs.Fitting.{Conform}
 use Rattle.yv_fitting.proofs.Fitting.{statement_fits}

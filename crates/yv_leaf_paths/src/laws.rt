@@ -3,8 +3,8 @@ ghost use Rattle.std.specs.Prelude.{◌≡◌, ◌≢◌, ℕ, List, true, slice
 ghost use Rattle.yv_statement.specs.Tree.{Tree, trees};
 ghost use Rattle.yv_conform.specs.Faults.{keyword_at};
 ghost use Rattle.yv_conform.specs.Fits.{Fits, FitsIn};
-ghost use Rattle.yv_conform.specs.declared.keyword.Keyword.{Keyword};
-ghost use Rattle.yv_conform.specs.declared.keyword.Keyword.TheVariants.{Extended, Path};
+ghost use Rattle.yv_statement.specs.declared.keyword.Keyword.{Keyword};
+ghost use Rattle.yv_statement.specs.declared.keyword.Keyword.TheVariants.{Extended, Path};
 ghost use Rattle.yv_conform.specs.Texts.{is_leafref_path};
 ghost use Rattle.yv_rows.specs.Files.{Files};
 ghost use Rattle.yv_rows.specs.Listed.{statements_of};

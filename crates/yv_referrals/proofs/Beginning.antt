@@ -7,9 +7,9 @@ use Rattle.std.proofs.lemmas.Bool.{false≢true}
 use Rattle.std.proofs.lemmas.Option.{same_Some, slice_get-map}
 use Rattle.std.proofs.lemmas.Slice.Eq.{bytes_eq-Decides}
 use Rattle.yv_statement.specs.Tree.{Head, Tree, name_of, trees}
-use Rattle.yv_conform.specs.declared.keyword.Keyword.{Keyword}
-use Rattle.yv_conform.specs.declared.keyword.Keyword.TheVariants as word
-use Rattle.yv_conform.specs.Names.{keyword_of}
+use Rattle.yv_statement.specs.declared.keyword.Keyword.{Keyword}
+use Rattle.yv_statement.specs.declared.keyword.Keyword.TheVariants as word
+use Rattle.yv_statement.specs.Keywords.{keyword_of}
 use Rattle.yv_conform.specs.Argument.{argument_has}
 use Rattle.yv_conform.specs.Faults.{keyword_at}
 use Rattle.yv_conform.specs.Fits.{Fits, FitsIn, extended, plain}

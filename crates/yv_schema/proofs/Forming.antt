@@ -6,7 +6,7 @@ use Rattle.yv_statement.specs.Tree.{Tree as Root}
 use Rattle.yv_selection.specs.Choice.{Choice}
 use Rattle.yv_rows.specs.Files.{Files, tree_name}
 use Rattle.yv_expansion.specs.Tree.{Item, Node, Nodes, count, item, listed, none}
-use Rattle.yv_conform.specs.declared.keyword.Keyword.TheVariants as word
+use Rattle.yv_statement.specs.declared.keyword.Keyword.TheVariants as word
 use Rattle.yv_stated.specs.Statements.{argument_of, first_of}
 use Rattle.yv_nodes.specs.Rows.{Module}
 use Rattle.yv_nodes.specs.Tree.{Label}

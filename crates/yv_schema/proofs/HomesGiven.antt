@@ -11,10 +11,10 @@ use Rattle.yv_statement.specs.Tree.{Head, Tree, Forest, Then, End, trees, name_o
 use Rattle.yv_statement.specs.Order.{refusal_at}
 use Rattle.yv_statement.specs.declared.refusal.Refusal.{Refusal}
 use Rattle.yv_statement.specs.declared.refusal.Code.TheVariants as code
-use Rattle.yv_conform.specs.Names.{keyword_in, keyword_of, names, same}
-use Rattle.yv_conform.specs.contracts.keyword.Keyword.{the_type}
-use Rattle.yv_conform.specs.declared.keyword.Keyword.{Keyword}
-use Rattle.yv_conform.specs.declared.keyword.Keyword.TheVariants as word
+use Rattle.yv_statement.specs.Keywords.{keyword_in, keyword_of, names, same}
+use Rattle.yv_statement.specs.contracts.keyword.Keyword.{the_type}
+use Rattle.yv_statement.specs.declared.keyword.Keyword.{Keyword}
+use Rattle.yv_statement.specs.declared.keyword.Keyword.TheVariants as word
 use Rattle.yv_conform.specs.Faults.{Bad, has, keyword_at, number}
 use Rattle.yv_conform.specs.Faults.{is_module as is_module_word}
 use Rattle.yv_conform.specs.Table.{is_one}

@@ -11,9 +11,9 @@ use Rattle.yv_statement.specs.Tree as statement
 use Rattle.yv_selection.specs.Choice.{Choice}
 use Rattle.yv_conform.specs.Bytes.{colon}
 use Rattle.yv_conform.specs.Faults.{keyword_at}
-use Rattle.yv_conform.specs.Names.{keyword_in, keyword_of, names}
-use Rattle.yv_conform.specs.declared.keyword.Keyword.{Keyword}
-use Rattle.yv_conform.specs.declared.keyword.Keyword.TheVariants as word
+use Rattle.yv_statement.specs.Keywords.{keyword_in, keyword_of, names}
+use Rattle.yv_statement.specs.declared.keyword.Keyword.{Keyword}
+use Rattle.yv_statement.specs.declared.keyword.Keyword.TheVariants as word
 use Rattle.yv_fitting.specs.Fitting.{Conform}
 use Rattle.yv_rows.specs.Files.{Files}
 use Rattle.yv_rows.specs.Listed.{rows_of, statements_of}

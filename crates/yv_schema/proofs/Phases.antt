@@ -12,10 +12,10 @@ use Rattle.yv_statement.specs.declared.refusal.Refusal.{Refusal}
 use Rattle.yv_statement.specs.declared.refusal.Code.TheVariants as code
 use Rattle.yv_statement.specs.Order.{Among, IsLeast, refusal_at}
 use Rattle.yv_statement.proofs.Least.{least_same}
-use Rattle.yv_conform.specs.declared.keyword.Keyword.{Keyword}
-use Rattle.yv_conform.specs.declared.keyword.Keyword.TheVariants as word
+use Rattle.yv_statement.specs.declared.keyword.Keyword.{Keyword}
+use Rattle.yv_statement.specs.declared.keyword.Keyword.TheVariants as word
 use Rattle.yv_conform.specs.declared.form.Form.TheVariants as form
-use Rattle.yv_conform.specs.Names.{keyword_of}
+use Rattle.yv_statement.specs.Keywords.{keyword_of}
 use Rattle.yv_conform.specs.Argument.{ArgumentFits, argument_has}
 use Rattle.yv_conform.specs.Faults.{Bad, keyword_at, own}
 use Rattle.yv_conform.specs.Forms.{form_of}

@@ -11,10 +11,10 @@ use Rattle.yv_statement.specs.Tree.{Tree, Forest, Then, End, Head, trees, name_o
 use Rattle.yv_statement.specs.declared.refusal.Refusal.{Refusal}
 use Rattle.yv_statement.specs.declared.refusal.Code.TheVariants as code
 use Rattle.yv_statement.specs.Order.{refusal_at}
-use Rattle.yv_conform.specs.declared.keyword.Keyword.{Keyword}
-use Rattle.yv_conform.specs.declared.keyword.Keyword.TheVariants as word
+use Rattle.yv_statement.specs.declared.keyword.Keyword.{Keyword}
+use Rattle.yv_statement.specs.declared.keyword.Keyword.TheVariants as word
 use Rattle.yv_conform.specs.declared.form.Form.TheVariants as form
-use Rattle.yv_conform.specs.Names.{keyword_in, keyword_of, names}
+use Rattle.yv_statement.specs.Keywords.{keyword_in, keyword_of, names}
 use Rattle.yv_conform.specs.Argument.{argument_has}
 use Rattle.yv_conform.specs.Faults.{Bad, Faulty, is_module, keyword_at, own, below}
 use Rattle.yv_conform.specs.Forms.{form_of}

@@ -8,7 +8,7 @@ use Rattle.std.proofs.lemmas.Option.{slice_get-map}
 use Rattle.yv_statement.specs.Order.{IsLeast}
 use Rattle.yv_statement.specs.declared.refusal.Refusal.{Refusal}
 use Rattle.yv_statement.specs.Tree.{Tree, name_of as name_of_head}
-use Rattle.yv_conform.specs.Names.{keyword_of}
+use Rattle.yv_statement.specs.Keywords.{keyword_of}
 use Rattle.yv_rows.specs.Files.{Files}
 use Rattle.yv_rows.specs.Listed.{rows_of, statements_of}
 use Rattle.yv_rows.specs.Rows.{Row as Statement}

@@ -7,7 +7,7 @@ use Rattle.yv_statement.specs.declared.refusal.Refusal.{Refusal}
 use Rattle.yv_statement.specs.declared.refusal.Code.{Code}
 use Rattle.yv_statement.specs.declared.refusal.Code.TheVariants as code
 use Rattle.yv_statement.specs.Order.{IsLeast, IsUpTo, Stands, refusal_at}
-use Rattle.yv_conform.specs.declared.keyword.Keyword.{Keyword}
+use Rattle.yv_statement.specs.declared.keyword.Keyword.{Keyword}
 use Rattle.yv_conform.specs.Faults.{Bad, Faulty, own, number, below}
 use Rattle.yv_schema.specs.Refuses.{BadFile, in_file}
 

@@ -13,7 +13,7 @@ use Rattle.yv_final_tree.specs.Final.{Final, changes_of, spots_of}
 use Rattle.yv_final_tree.specs.Given.{is_given}
 use Rattle.yv_final_tree.specs.Kept.{home_at, origin_at}
 use Rattle.yv_above.specs.Labels.{label_of}
-use Rattle.yv_conform.specs.declared.keyword.Keyword.TheVariants as word
+use Rattle.yv_statement.specs.declared.keyword.Keyword.TheVariants as word
 use Rattle.yv_stated.specs.Statements.{argument_of, first_of}
 use Rattle.yv_nodes.specs.Numbers.{rows_from}
 use Rattle.yv_nodes.specs.Rows.{Module}

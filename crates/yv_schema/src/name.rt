@@ -1,7 +1,7 @@
 //! The name and the prefix that a statement gives.
 ghost use Rattle.std.specs.Prelude.{◌≡◌};
 ghost use Rattle.std.specs.Option.{option_map};
-ghost use Rattle.yv_conform.specs.declared.keyword.Keyword.TheVariants as word;
+ghost use Rattle.yv_statement.specs.declared.keyword.Keyword.TheVariants as word;
 ghost use Rattle.yv_statement.specs.Tree.{name_of as name_at};
 ghost use Rattle.yv_stated.specs.Statements.{argument_of, first_of, is_of};
 
@@ -36,5 +36,5 @@ fn first_prefix<'s, 'b>(root: &'s Statement<'b>) -> Option<&'s Statement<'b>>
 fn is_prefix(statement: &Statement<'_>) -> bool
     ensures { result ≡ is_of word.Prefix statement.now }
 {
-    Keyword::read(statement.keyword()) == Keyword::Prefix
+    statement.kind() == Keyword::Prefix
 }

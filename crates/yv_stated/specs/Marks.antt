@@ -2,7 +2,7 @@
 -- entries it has at least (RFC 7950, sections 3, 7.5.5, 7.6.5, 7.7.5 and 7.21.1).
 use Rattle.std.specs.Prelude.{ℕ, nat_lt, Bool, false, ◌||◌, Option, None, is_some}
 use Rattle.std.specs.Option.{option_map, option_or, unwrap_or}
-use Rattle.yv_conform.specs.declared.keyword.Keyword.TheVariants as word
+use Rattle.yv_statement.specs.declared.keyword.Keyword.TheVariants as word
 use Rattle.yv_stated.specs.Properties.{Said, is_true, least_of}
 use Rattle.yv_stated.specs.declared.stated.Stated.{Stated}
 

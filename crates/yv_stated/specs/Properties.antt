@@ -3,8 +3,8 @@ use Rattle.std.specs.Prelude.{ℕ, ◌^◌, nat_lt, Bool, false, ℤ, pos, List,
 use Rattle.std.specs.Option.{option_map, option_or, unwrap_or}
 use Rattle.std.specs.Str.{bytes_eq}
 use Rattle.yv_statement.specs.Tree.{Tree, name_of, trees}
-use Rattle.yv_conform.specs.declared.keyword.Keyword.{Keyword}
-use Rattle.yv_conform.specs.declared.keyword.Keyword.TheVariants as word
+use Rattle.yv_statement.specs.declared.keyword.Keyword.{Keyword}
+use Rattle.yv_statement.specs.declared.keyword.Keyword.TheVariants as word
 use Rattle.yv_rows.specs.Files.{Files}
 use Rattle.yv_expansion.specs.declared.item.Origin.{Origin}
 use Rattle.yv_expansion.specs.declared.item.Origin.TheVariants as origin

@@ -2,8 +2,8 @@
 use Rattle.std.specs.Prelude.{ℕ, Bool, List, [], Option, None, Some, filter, map, slice_index_or}
 use Rattle.std.specs.List.{find}
 use Rattle.yv_statement.specs.Tree.{Head, Tree, Forest, End, trees, name_of}
-use Rattle.yv_conform.specs.declared.keyword.Keyword.{Keyword}
-use Rattle.yv_conform.specs.Names.{keyword_of, same}
+use Rattle.yv_statement.specs.declared.keyword.Keyword.{Keyword}
+use Rattle.yv_statement.specs.Keywords.{keyword_of, same}
 use Rattle.yv_rows.specs.Files.{Files}
 use Rattle.yv_rows.specs.Rows.{Row}
 use Rattle.yv_rows.specs.Listed.{rows_of, statements_of}

@@ -1,7 +1,7 @@
 //! What statements say of a node that doesn't wait for its types.
 ghost use Rattle.std.specs.Prelude.{◌≡◌, ℕ};
 ghost use Rattle.std.specs.Option.{option_map};
-ghost use Rattle.yv_conform.specs.declared.keyword.Keyword.TheVariants as word;
+ghost use Rattle.yv_statement.specs.declared.keyword.Keyword.TheVariants as word;
 ghost use Rattle.yv_stated.specs.Marks.{is_mandatory, over, silent, stated_by};
 ghost use Rattle.yv_stated.specs.Properties.{elements_of, is_true, least_of, said_by};
 

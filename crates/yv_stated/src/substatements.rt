@@ -11,7 +11,7 @@ use yv_statement::Statement;
 pub fn is_of(keyword: Keyword, statement: &Statement<'_>) -> bool
     ensures { result ≡ is_of keyword statement.now }
 {
-    Keyword::read(statement.keyword()) == keyword
+    statement.kind() == keyword
 }
 
 /// The first of the statements in its block that has this keyword.

@@ -1,5 +1,5 @@
 -- How a statement grows while it is read.
-use Rattle.std.specs.Prelude.{ℕ, List, [], ◌∷◌, ◌++◌, Option, Some, None}
+use Rattle.std.specs.Prelude.{ℕ, List, ◌++◌, Option, Some, None}
 use Rattle.yv_statement.specs.Tree.{Forest, End, Then, Tree}
 
 -- two lists of statements, one behind the other

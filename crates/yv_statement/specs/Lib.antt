@@ -4,3 +4,5 @@ pub mod Seen
 pub mod Building
 pub mod Codes
 pub mod Order
+pub mod Keywords
+pub mod InnerKeywords

@@ -1,5 +1,4 @@
 -- What contracts see of a statement.
-use Rattle.std.specs.Prelude.{List, ℕ}
 use Rattle.std.specs.Cow.{cow_str_bytes}
 use Rattle.std.specs.Option.{option_map}
 use Rattle.yv_statement.specs.Tree.{Tree, forest}

@@ -2,11 +2,13 @@
 //! several refusals comes first.
 #![tactic(auto)]
 
+mod keyword;
 pub mod laws;
 mod legal;
 mod refusal;
 mod statement;
 
+pub use keyword::Keyword;
 pub use legal::{is_legal, is_legal_text};
 pub use refusal::{Code, Refusal, Stop, lesser, refused};
 pub use statement::Statement;

@@ -1,9 +1,11 @@
 ghost use Rattle.std.specs.Prelude.{◌≡◌, OnOk, OnErr, string_bytes};
 ghost use Rattle.std.specs.Cow.{cow_str_bytes};
 ghost use Rattle.std.specs.Option.{option_map};
+ghost use Rattle.yv_statement.specs.Keywords.{keyword_of};
 ghost use Rattle.yv_statement.specs.Tree.{trees};
 ghost use Rattle.yv_statement.specs.Building.{bare, push_child, with_argument, with_more};
 
+use crate::keyword::Keyword;
 use std::alloc::{AllocError, Global};
 use std::borrow::CowStr;
 use std::marker::Model;
@@ -13,6 +15,7 @@ use std::marker::Model;
 #[derive(Drop)]
 pub struct Statement<'a> {
     keyword: &'a str,
+    kind: Keyword,
     argument: Option<CowStr<'a>>,
     children: Vec<Statement<'a>>,
     line: u64,
@@ -20,7 +23,7 @@ pub struct Statement<'a> {
 }
 
 impl<'a> Model for Statement<'a> {
-    ghost use Rattle.std.specs.Prelude.{string_bytes, ◌+◌, Option};
+    ghost use Rattle.std.specs.Prelude.{string_bytes, ◌+◌, ◌≡◌, Option};
     ghost use Rattle.std.proofs.Common.{arith};
     ghost use Rattle.yv_statement.specs.Tree.{Tree, tree_code, forest, count, most_le-count};
 
@@ -29,6 +32,9 @@ impl<'a> Model for Statement<'a> {
     ghost coded = { tree_code };
 
     ghost use Rattle.yv_statement.specs.Seen.{seen};
+    ghost use Rattle.yv_statement.specs.Keywords.{keyword_of};
+
+    ghost invariant = { λ a. a.kind ≡ keyword_of a.keyword.now };
 
     ghost view = { seen };
 
@@ -44,6 +50,7 @@ impl<'a> Statement<'a> {
     {
         Statement {
             keyword,
+            kind: Keyword::read(keyword),
             argument: None,
             children: Vec::new(alloc),
             line,
@@ -104,6 +111,13 @@ impl<'a> Statement<'a> {
         ensures { result.now ≡ self.now.head.keyword }
     {
         self.keyword
+    }
+
+    /// What the keyword means. It was read when the statement was made.
+    pub fn kind(&self) -> Keyword
+        ensures { result ≡ keyword_of self.now.head.keyword }
+    {
+        self.kind
     }
 
     /// The argument, where it has one.

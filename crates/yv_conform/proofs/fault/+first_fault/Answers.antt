@@ -1,12 +1,11 @@
-use Rattle.std.proofs.Common.{◌≡◌, ◌≢◌, IfNone, sym, ◌∙◌, ap, Some, length, refl, arith}
+use Rattle.std.proofs.Common.{◌≡◌, ◌≢◌, IfNone, sym, ◌∙◌, Some, length, refl, arith}
 use Rattle.std.specs.List.{slice_get}
 use Rattle.std.proofs.lemmas.Option.{slice_get_read}
 use Rattle.yv_statement.specs.Order.{IsLeast}
 use Rattle.yv_conform.specs.Fits.{FitsIn, extended}
 use Rattle.yv_statement.specs.Tree.{trees}
-use Rattle.yv_conform.specs.Names.{keyword_of}
 use Rattle.yv_conform.specs.Faults.{Faulty, keyword_at}
-use Rattle.yv_conform.specs.declared.keyword.Keyword.TheVariants as word
+use Rattle.yv_statement.specs.declared.keyword.Keyword.TheVariants as word
 use Rattle.yv_statement.proofs.Least.{least_more}
 use Rattle.yv_conform.proofs.Inside.{Inner, least_inside}
 use Rattle.yv_conform.proofs.Fitting.{FitBelow, fit_more, all_fit}
@@ -29,7 +28,7 @@ loop-child-preserved t c =
     let child = c.child-item.result in
     let at_child : slice_get (trees s.children) i ≡ Some child =
     rw (← c.children-child-items.ensures) (slice_get_read _ _ i child refl (omega arith) c.child-item.is) in
-    let kind : c.read-keyword.result ≡ keyword_at s = c.read-keyword.ensures ∙ ap keyword_of c.keyword.ensures in
+    let kind : c.kind-keyword.result ≡ keyword_at s = c.kind-keyword.ensures in
     let here : IsLeast (Faulty (keyword_at s) child) c.first_fault-inner.result = rw (← kind) c.first_fault-inner.ensures.least in
     let fits : IfNone c.first_fault-inner.result (FitsIn (keyword_at s) child) = rw (← kind) c.first_fault-inner.ensures.fits in
     record {
@@ -41,7 +40,7 @@ pub returns : goal.returns
 returns t c =
     let s = c.args.statement.now in
     let all : c.loop-child.child-index ≡ length (trees s.children) = rw (← c.children-child-items.ensures) (omega arith) in
-    let kind : c.read-keyword.result ≡ keyword_at s = c.read-keyword.ensures ∙ ap keyword_of c.keyword.ensures in
+    let kind : c.kind-keyword.result ≡ keyword_at s = c.kind-keyword.ensures in
     let plain : keyword_at s ≢ word.Extended = λ e. other _ _ (sym c.eq.ensures ∙ c.if-eq.false) (kind ∙ e) in
     let inner : IsLeast (Inner s) c.loop-child.best = rw (← all) c.loop-child.invariant.least in
     let fit : FitBelow s (length (trees s.children)) c.loop-child.best = rw (← all) c.loop-child.invariant.fit in
@@ -52,5 +51,5 @@ returns t c =
 
 pub returns-then-eq-clause-fits : goal.returns-then-eq-clause-fits
 returns-then-eq-clause-fits t c =
-    let kind : c.read-keyword.result ≡ keyword_at c.args.statement.now = c.read-keyword.ensures ∙ ap keyword_of c.keyword.ensures in
+    let kind : c.kind-keyword.result ≡ keyword_at c.args.statement.now = c.kind-keyword.ensures in
     extended (sym kind ∙ one _ _ (sym c.eq.ensures ∙ c.if-eq.true))

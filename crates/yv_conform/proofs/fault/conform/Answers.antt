@@ -1,9 +1,8 @@
 use Rattle.std.proofs.Common.{◌≡◌, ⊎_elim, Bool, true, false, not, cond, Some, None, IfNone, sym, ◌∙◌, ap, refl}
 use Rattle.std.proofs.lemmas.Bool.{false≢true, not-true, not_from_false}
 use Rattle.yv_statement.specs.Order.{IsLeast, Stands, refusal_at}
-use Rattle.yv_conform.specs.Names.{keyword_of}
 use Rattle.yv_conform.specs.Faults.{Bad, is_module, keyword_at}
-use Rattle.yv_conform.specs.declared.keyword.Keyword.TheVariants as word
+use Rattle.yv_statement.specs.declared.keyword.Keyword.TheVariants as word
 use Rattle.yv_statement.specs.declared.refusal.Code.TheVariants as code
 use Rattle.yv_conform.specs.Fits.{Fits, FitsIn}
 use Rattle.yv_statement.specs.Tree.{Tree}
@@ -17,7 +16,7 @@ least_bad : (c : After-lesser-first) → IsLeast (Bad c.args.root.now) c.lesser-
 least_bad c =
     let s = c.args.root.now in
     let N : Type 0 = is_module (keyword_at s) ≡ false in
-    let kind : c.read-keyword.result ≡ keyword_at s = c.read-keyword.ensures ∙ ap keyword_of c.keyword.ensures in
+    let kind : c.kind-keyword.result ≡ keyword_at s = c.kind-keyword.ensures in
     let is : c.is_module.result ≡ is_module (keyword_at s) = c.is_module.ensures ∙ ap is_module kind in
     let outer : IsLeast (Stands N (refusal_at code.Cardinality 0 s.head)) c.refused-outer.result =
     rw c.refused-outer.ensures (least_refused N _ _ (λ h. sym is ∙ not-true _ h) (λ h. not_from_false _ (is ∙ h))) in
@@ -28,7 +27,7 @@ root_fits : (c : After-lesser-first) → c.lesser-first.result ≡ None → Fits
 root_fits c none =
     let s = c.args.root.now in
     let found = neither c.refused-outer.result c.first_fault-inner.result c.lesser-first.result c.lesser-first.ensures none in
-    let kind : c.read-keyword.result ≡ keyword_at s = c.read-keyword.ensures ∙ ap keyword_of c.keyword.ensures in
+    let kind : c.kind-keyword.result ≡ keyword_at s = c.kind-keyword.ensures in
     let is : c.is_module.result ≡ is_module (keyword_at s) = c.is_module.ensures ∙ ap is_module kind in
     let outer : cond (not c.is_module.result) (Some (refusal_at code.Cardinality 0 s.head)) None ≡ None = sym c.refused-outer.ensures ∙ found.0 in
     let fits : IfNone c.first_fault-inner.result (FitsIn word.Unknown s) = c.first_fault-inner.ensures.fits in

@@ -6,9 +6,8 @@ use Rattle.yv_conform.specs.InnerSeen.{is_marked}
 use Rattle.yv_conform.specs.Table.{is_one, rows_of}
 use Rattle.yv_conform.specs.InnerEntries.{row}
 use Rattle.yv_statement.specs.Tree.{trees}
-use Rattle.yv_conform.specs.Names.{keyword_of}
 use Rattle.yv_conform.specs.Faults.{IsMisplaced, LacksChild, has, is_misplaced, keyword_at}
-use Rattle.yv_conform.specs.declared.keyword.Keyword.{Keyword}
+use Rattle.yv_statement.specs.declared.keyword.Keyword.{Keyword}
 use Rattle.yv_statement.specs.declared.refusal.Code.TheVariants as code
 use Rattle.yv_statement.proofs.Least.{least_more}
 use Rattle.yv_conform.proofs.Counts.{all_seen, has_more, missing_is}
@@ -22,8 +21,8 @@ loop-child-preserved c =
     let child = c.child-item.result in
     let at_child : slice_get (trees s.children) i ≡ Some child =
     rw (← c.children-child-items.ensures) (slice_get_read _ _ i child refl (omega arith) c.child-item.is) in
-    let kind : c.read-kind.result ≡ keyword_at child = c.read-kind.ensures ∙ ap keyword_of c.keyword.ensures in
-    let before : c.contains.result ≡ has c.read-kind.result (take i (trees s.children)) = c.contains.ensures ∙ c.loop-child.invariant.seen c.read-kind.result in
+    let kind : c.kind-kind.result ≡ keyword_at child = c.kind-kind.ensures in
+    let before : c.contains.result ≡ has c.kind-kind.result (take i (trees s.children)) = c.contains.ensures ∙ c.loop-child.invariant.seen c.kind-kind.result in
     let rows : _ ≡ rows_of (keyword_at s) = c.rows-rows.ensures ∙ ap rows_of c.requires in
     let misplaced : c.is_misplaced-misplaced.result ≡ is_misplaced (rows_of (keyword_at s)) (keyword_at child) (has (keyword_at child) (take i (trees s.children))) =
     rw (← kind, ← rows, ← before) c.is_misplaced-misplaced.ensures in
@@ -31,7 +30,7 @@ loop-child-preserved c =
     rw c.refused-here.ensures (least_refused (IsMisplaced s i child) _ _ (λ h. sym misplaced ∙ h) (λ h. misplaced ∙ h)) in
     record {
       best = least_more (trees s.children) (λ k c. Stands (IsMisplaced s k c) (refusal_at code.Cardinality 0 c.head)) i child _ _ _ at_child c.lesser-best.ensures c.loop-child.invariant.best here;
-      seen = has_more (trees s.children) i child c.read-kind.result kind at_child (is_marked c.loop-child.seen) (is_marked c.insert.new.self) c.loop-child.invariant.seen c.insert.ensures;
+      seen = has_more (trees s.children) i child c.kind-kind.result kind at_child (is_marked c.loop-child.seen) (is_marked c.insert.new.self) c.loop-child.invariant.seen c.insert.ensures;
     }
 
 pub returns : goal.returns

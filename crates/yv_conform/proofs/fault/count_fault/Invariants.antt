@@ -3,7 +3,7 @@ use Rattle.yv_statement.specs.Order.{Among, IsLeast, Stands, refusal_at}
 use Rattle.yv_conform.specs.InnerSeen.{is_marked}
 use Rattle.yv_statement.specs.Tree.{trees}
 use Rattle.yv_conform.specs.Faults.{IsMisplaced, has}
-use Rattle.yv_conform.specs.declared.keyword.Keyword.{Keyword}
+use Rattle.yv_statement.specs.declared.keyword.Keyword.{Keyword}
 use Rattle.yv_statement.specs.declared.refusal.Code.TheVariants as code
 use Rattle.yv_conform.proofs.fault.count_fault.Given as goal
 

@@ -2,7 +2,7 @@ use Rattle.std.proofs.Common.{◌≡◌, MatchBool, true, sym, ◌∙◌}
 use Rattle.yv_statement.specs.Order.{IsLeast, Stands, refusal_at}
 use Rattle.yv_conform.specs.Argument.{ArgumentFits}
 use Rattle.yv_conform.specs.Faults.{is_unsupported, keyword_at}
-use Rattle.yv_conform.specs.declared.keyword.Keyword.TheVariants as word
+use Rattle.yv_statement.specs.declared.keyword.Keyword.TheVariants as word
 use Rattle.yv_statement.specs.declared.refusal.Code.TheVariants as code
 use Rattle.yv_conform.proofs.Fitting.{neither, spared, told}
 use Rattle.yv_conform.proofs.Keywords.{one, other, is_same, failed, fails, passed}

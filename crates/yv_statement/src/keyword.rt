@@ -1,7 +1,7 @@
 //! The keywords of YANG statements.
 ghost use Rattle.std.specs.Prelude.{◌≡◌, map};
-ghost use Rattle.yv_conform.specs.InnerEntries.{entry};
-ghost use Rattle.yv_conform.specs.Names.{keyword_in, keyword_of};
+ghost use Rattle.yv_statement.specs.InnerKeywords.{entry};
+ghost use Rattle.yv_statement.specs.Keywords.{keyword_in, keyword_of};
 
 /// What a statement's keyword means (RFC 7950, section 14).
 #[derive(Clone, Copy, PartialEq, Eq, Debug)]
@@ -83,68 +83,69 @@ pub enum Keyword {
 // A keyword and how it is written.
 struct Name(&'static str, Keyword);
 
+// The keywords that files have most of come first, since they are searched for in this order.
 static NAMES: [Name; 68] = [
+    Name("leaf", Keyword::Leaf),
+    Name("type", Keyword::Type),
+    Name("description", Keyword::Description),
+    Name("container", Keyword::Container),
+    Name("list", Keyword::List),
+    Name("key", Keyword::Key),
+    Name("reference", Keyword::Reference),
+    Name("enum", Keyword::Enum),
+    Name("leaf-list", Keyword::LeafList),
+    Name("uses", Keyword::Uses),
+    Name("path", Keyword::Path),
+    Name("mandatory", Keyword::Mandatory),
+    Name("default", Keyword::Default),
+    Name("config", Keyword::Config),
+    Name("value", Keyword::Value),
+    Name("range", Keyword::Range),
+    Name("units", Keyword::Units),
+    Name("status", Keyword::Status),
+    Name("typedef", Keyword::Typedef),
+    Name("grouping", Keyword::Grouping),
+    Name("case", Keyword::Case),
+    Name("choice", Keyword::Choice),
+    Name("base", Keyword::Base),
+    Name("identity", Keyword::Identity),
+    Name("pattern", Keyword::Pattern),
+    Name("length", Keyword::Length),
+    Name("if-feature", Keyword::IfFeature),
+    Name("augment", Keyword::Augment),
+    Name("bit", Keyword::Bit),
+    Name("position", Keyword::Position),
+    Name("presence", Keyword::Presence),
+    Name("min-elements", Keyword::MinElements),
+    Name("max-elements", Keyword::MaxElements),
+    Name("ordered-by", Keyword::OrderedBy),
+    Name("unique", Keyword::Unique),
+    Name("refine", Keyword::Refine),
+    Name("require-instance", Keyword::RequireInstance),
+    Name("revision", Keyword::Revision),
+    Name("import", Keyword::Import),
+    Name("prefix", Keyword::Prefix),
     Name("module", Keyword::Module),
     Name("submodule", Keyword::Submodule),
-    Name("import", Keyword::Import),
     Name("include", Keyword::Include),
     Name("belongs-to", Keyword::BelongsTo),
-    Name("revision", Keyword::Revision),
-    Name("typedef", Keyword::Typedef),
-    Name("type", Keyword::Type),
-    Name("container", Keyword::Container),
-    Name("leaf", Keyword::Leaf),
-    Name("leaf-list", Keyword::LeafList),
-    Name("list", Keyword::List),
-    Name("choice", Keyword::Choice),
-    Name("case", Keyword::Case),
     Name("anydata", Keyword::Anydata),
     Name("anyxml", Keyword::Anyxml),
-    Name("grouping", Keyword::Grouping),
-    Name("uses", Keyword::Uses),
-    Name("refine", Keyword::Refine),
-    Name("augment", Keyword::Augment),
     Name("rpc", Keyword::Rpc),
     Name("action", Keyword::Action),
     Name("input", Keyword::Input),
     Name("output", Keyword::Output),
     Name("notification", Keyword::Notification),
-    Name("identity", Keyword::Identity),
     Name("feature", Keyword::Feature),
     Name("extension", Keyword::Extension),
     Name("argument", Keyword::Argument),
-    Name("enum", Keyword::Enum),
-    Name("bit", Keyword::Bit),
-    Name("range", Keyword::Range),
-    Name("length", Keyword::Length),
-    Name("pattern", Keyword::Pattern),
     Name("yang-version", Keyword::YangVersion),
     Name("namespace", Keyword::Namespace),
-    Name("prefix", Keyword::Prefix),
     Name("organization", Keyword::Organization),
     Name("contact", Keyword::Contact),
-    Name("description", Keyword::Description),
-    Name("reference", Keyword::Reference),
     Name("revision-date", Keyword::RevisionDate),
-    Name("default", Keyword::Default),
-    Name("units", Keyword::Units),
-    Name("status", Keyword::Status),
-    Name("base", Keyword::Base),
     Name("fraction-digits", Keyword::FractionDigits),
-    Name("path", Keyword::Path),
-    Name("require-instance", Keyword::RequireInstance),
-    Name("config", Keyword::Config),
-    Name("presence", Keyword::Presence),
-    Name("mandatory", Keyword::Mandatory),
-    Name("min-elements", Keyword::MinElements),
-    Name("max-elements", Keyword::MaxElements),
-    Name("ordered-by", Keyword::OrderedBy),
-    Name("key", Keyword::Key),
-    Name("unique", Keyword::Unique),
-    Name("if-feature", Keyword::IfFeature),
     Name("yin-element", Keyword::YinElement),
-    Name("value", Keyword::Value),
-    Name("position", Keyword::Position),
     Name("error-message", Keyword::ErrorMessage),
     Name("error-app-tag", Keyword::ErrorAppTag),
     Name("modifier", Keyword::Modifier),
@@ -156,7 +157,7 @@ static NAMES: [Name; 68] = [
 
 impl Keyword {
     /// The keyword that a text writes. One with a colon is an extension's (RFC 7950, section 6.3.1).
-    #[tactic(auto, unfolding(crate::specs::Names::keyword_of))]
+    #[tactic(auto, unfolding(crate::specs::Keywords::keyword_of))]
     pub fn read(text: &str) -> Keyword
         ensures { result ≡ keyword_of text.now }
     {

@@ -1,7 +1,7 @@
 use Rattle.std.proofs.Common.{◌≡◌, false, nat_eq, sym, ◌∙◌, ap}
 use Rattle.std.specs.List.{list_any}
-use Rattle.yv_conform.specs.Names.{keyword_of}
-use Rattle.yv_conform.proofs.keyword.Keyword.read.Goals as goal
+use Rattle.yv_statement.specs.Keywords.{keyword_of}
+use Rattle.yv_statement.proofs.keyword.Keyword.read.Goals as goal
 
 pub returns-else-contains : goal.returns-else-contains
 unfolding keyword_of
