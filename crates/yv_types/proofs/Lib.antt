@@ -7,3 +7,4 @@ mod Stepping
 mod Telling
 mod Told
 mod Walking
+mod Unrestricted

@@ -8,7 +8,8 @@ use Rattle.yv_rows.specs.Listed.{rows_of}
 use Rattle.yv_values.specs.Types.{Plain, plain_of}
 use Rattle.yv_values.specs.Sorted.{Rises, is_named}
 use Rattle.yv_bases.specs.Types.{Follows, IsTypeAt}
-use Rattle.yv_restricted_types.specs.Types.{HasPlainType}
+use Rattle.yv_statement.specs.Tree.{Tree, trees}
+use Rattle.yv_restricted_types.specs.Types.{HasPlainType, IsTypeAt as IsType}
 use Rattle.yv_assigned_types.specs.Types.{HasNames, Told, Truth}
 use Rattle.yv_types.specs.Spaces.{Space, of_kind}
 use Rattle.yv_types.specs.declared.table.Shared.{Shared}
@@ -67,6 +68,10 @@ pub record IsBare (files : Files) (truth : Truth) (k : ℕ) : Type 0 where
 -- and it follows none
 abbrev pub FollowsNone : Files → ℕ → Type 0
 FollowsNone files k = (j : ℕ) → Follows (map brief_of files) (rows_of files) k j → ⊥
+
+-- the numbered statement is a type that says nothing but a name
+abbrev pub IsUnrestricted : Files → ℕ → Type 0
+IsUnrestricted files k = (t : Tree) × IsType files k t × (trees t.children ≡ [])
 
 -- the table has the plain types of all types, and of nothing else
 pub record AreSpaces (files : Files) (truth : Truth) (choice : Choice) (spaces : List (Option Shared)) : Type 0 where

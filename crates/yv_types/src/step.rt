@@ -1,5 +1,5 @@
 //! The plain types of one type.
-ghost use Rattle.std.specs.Prelude.{◌≡◌, ℕ, [], Some, map, slice_get, IfOk, IfSome};
+ghost use Rattle.std.specs.Prelude.{◌≡◌, ℕ, List, [], Some, true, map, slice_get, IfOk, IfSome};
 ghost use Rattle.std.specs.Option.{option_map};
 ghost use Rattle.yv_selection.specs.Choice.{Choice};
 ghost use Rattle.yv_rows.specs.Files.{Files, brief_of};
@@ -8,11 +8,12 @@ ghost use Rattle.yv_rows.specs.Listed.{rows_of};
 ghost use Rattle.yv_bases.specs.Types.{RestsOn, is_kind, types_in};
 ghost use Rattle.yv_assigned_types.specs.Told.{told_of};
 ghost use Rattle.yv_link.specs.Linked.{AreLinked, truth_in};
-ghost use Rattle.yv_values.specs.Types.{plain_of};
+ghost use Rattle.yv_values.specs.Types.{Plain, plain_of};
 ghost use Rattle.yv_bases.specs.InnerTables.{items_at};
 ghost use Rattle.yv_identityref.specs.Known.{AreIdentities};
 ghost use Rattle.yv_types.specs.Known.{AreLayers};
-ghost use Rattle.yv_types.specs.InnerTables.{AreKnown, FollowsNone, IsBare, IsListed, IsNewOrThere, IsSpace, plains};
+ghost use Rattle.yv_types.specs.Spaces.{Space};
+ghost use Rattle.yv_types.specs.InnerTables.{AreKnown, FollowsNone, IsBare, IsListed, IsNewOrThere, IsSpace, IsUnrestricted, entry_at, entry_of, plains};
 
 use crate::layers::Layers;
 use crate::table::{Shared, joined, list_at, one};
@@ -95,7 +96,40 @@ fn members_of(inside: &[Vec<usize>], number: usize) -> &[usize]
     }
 }
 
+// Whether the numbered statement is a type that says nothing but a name.
+fn is_unrestricted(linked: &Linked<'_, '_>, number: usize) -> bool
+    ensures { (files : Files) (choice : Choice) → AreLinked files choice linked.now → result ≡ true → IsUnrestricted files number }
+{
+    match linked.rows().statement(number) {
+        Some(statement) => statement.keyword() == "type" && statement.children().is_empty(),
+        None => false,
+    }
+}
+
 impl Layers<'_> {
+    // The list of the type that the numbered type follows, if that has a plain type of which this one takes nothing away.
+    fn shared_types(
+        &self,
+        linked: &Linked<'_, '_>,
+        spaces: &[Option<Shared>],
+        number: usize,
+    ) -> Result<Option<Shared>, AllocError>
+        ensures space { IfOk result (λ s. (files : Files) (choice : Choice) → AreLinked files choice linked.now
+            → AreLayers files (truth_in linked.now) self.now
+            → AreKnown files (truth_in linked.now) choice (RestsOn (map brief_of files) (rows_of files) number) spaces.now
+            → (ps : List Plain) → option_map plains s ≡ Some ps → Space files (truth_in linked.now) choice number ps) }
+        ensures there { IfOk result (λ s. (x : ℕ × List Plain) → option_map entry_of s ≡ Some x → (k : ℕ) × (entry_at spaces.now k ≡ Some x)) }
+    {
+        crate::laws::a_type_has_one_space();
+        if !is_unrestricted(linked, number) {
+            return Ok(None);
+        }
+        match self.bases.follows(number) {
+            Some(followed) if self.faceted.plain(followed).is_some() => list_at(spaces, followed),
+            _ => Ok(None),
+        }
+    }
+
     /// The plain types of the numbered type, the table having those of the types on which it rests. A list that isn't in the table has
     /// this number.
     pub(crate) fn types_at(
@@ -117,6 +151,9 @@ impl Layers<'_> {
         ensures number { IfOk result (IsNewOrThere spaces.now list) }
     {
         if let Some(plain) = self.faceted.plain(number) {
+            if let Some(shared) = self.shared_types(linked, spaces, number)? {
+                return Ok(Some(shared));
+            }
             return Ok(Some(one(alloc, plain.copy()?, list)?));
         }
         if let Some(names) = self.lists.names(number) {

@@ -1,4 +1,4 @@
-use Rattle.std.proofs.Common.{◌≡◌, ◌↔◌, ℕ, [], ◌∷◌, inl, map, ap, refl, sym, ◌∙◌, subst, Some, None}
+use Rattle.std.proofs.Common.{◌≡◌, ◌↔◌, ℕ, [], ◌∷◌, inl, inr, map, ap, refl, sym, ◌∙◌, subst, Some, None}
 use Rattle.std.specs.List.{slice_get}
 use Rattle.std.specs.Option.{option_map}
 use Rattle.std.proofs.lemmas.Option.{same_Some}
@@ -12,7 +12,7 @@ use Rattle.yv_assigned_types.specs.Told.{told_of}
 use Rattle.yv_link.specs.Linked.{truth_in}
 use Rattle.yv_values.specs.Types.{plain_of}
 use Rattle.yv_types.specs.Spaces.{faceted, listed, of_kind}
-use Rattle.yv_types.specs.InnerTables.{FollowsNone, IsBare, IsListed, IsSpace, plains}
+use Rattle.yv_types.specs.InnerTables.{FollowsNone, IsBare, IsListed, IsSpace, entry_of, plains}
 use Rattle.yv_types.proofs.Stepping.{bare_by, has_followed, has_out, has_some, if_ok, no_number, row_past, row_read}
 use Rattle.yv_types.proofs.layers.Layers.types_at.Goals as goal
 
@@ -64,3 +64,6 @@ returns-in-None-clause-space c = λ kept files choice linked layers inside known
     let own : slice_get (rows_in c.rows.result.now) k ≡ None = row_past row c.entries.result.now (rows_in c.rows.result.now) k c.entries.ensures c.in-None.ensures.lookup.3 in
     let out : slice_get (rows_of files) k ≡ None = subst (λ (fs : Files). slice_get (rows_of fs) k ≡ None) (c.rows.ensures files choice linked) own in
     has_out files truth choice k bare alone None refl out
+
+pub returns-in-Some-2-clause-number : goal.returns-in-Some-2-clause-number
+returns-in-Some-2-clause-number c = λ x e. inr (c.in_ok-shared.ensures.there x (ap (option_map entry_of) c.in-Some-2.is ∙ e))
