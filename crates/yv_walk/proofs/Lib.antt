@@ -12,3 +12,5 @@ mod Kept
 mod Looked
 mod Stands
 mod Counting
+mod Ascending
+mod Places

@@ -1,5 +1,6 @@
 -- Which data nodes exist in one object of a document: through choices and cases, and each by its number (RFC 7950, sections 7.5 to 7.11).
 use Rattle.std.specs.Prelude.{ℕ, ◌+◌, ◌==◌, ◌&&◌, ◌||◌, Bool, true, false, not, Option, Some, None, if◌then◌else◌}
+use Rattle.std.specs.List.{slice_index_or}
 use Rattle.serde_json.specs.Data.{Data, array, no_items, Members}
 use Rattle.serde_json.specs.Find.{get_member}
 use Rattle.yv_properties.specs.declared.kind.NodeKind.{NodeKind}
@@ -7,7 +8,7 @@ use Rattle.yv_properties.specs.declared.kind.NodeKind.TheVariants as kind
 use Rattle.yv_properties.specs.Kinds.{is_data, is_passed}
 use Rattle.yv_nodes.specs.declared.node.NodeId.{NodeId}
 use Rattle.yv_nodes.specs.Tree.{count, Forest, Tree, no_trees, node, tree}
-use Rattle.yv_nodes.specs.Rows.{Rows, below, is_root, rank, row_at}
+use Rattle.yv_nodes.specs.Rows.{Rows, below, children_of, is_root, rank, row_at, tree_of}
 use Rattle.yv_tables.specs.Sound.{is_object}
 use Rattle.yv_walk.specs.declared.standing.Standing.{Standing}
 use Rattle.yv_walk.specs.declared.standing.Standing.TheVariants.{Nothing, Only, Several}
@@ -85,3 +86,13 @@ holds first (tree (node l kids) ts) n =
 -- the node stands in the object of p: a child, or in its choices and cases; a choice or case has no object
 abbrev pub stands_in : Rows → (p n : NodeId) → Bool
 stands_in s p n = is_object s p && holds (rank p) (below s p) n
+
+-- ---- one after the other
+
+-- the child of a choice or case that has this place, from 0
+abbrev pub child_at : Rows → NodeId → (place : ℕ) → NodeId
+child_at s p place = slice_index_or (children_of s p) place p
+
+-- it exists in an object with these members
+abbrev pub child_exists : Rows → NodeId → Members → (place : ℕ) → Bool
+child_exists s p ms place = any (tree_standing (child_at s p place).0 (tree_of s (child_at s p place)) ms)

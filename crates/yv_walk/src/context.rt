@@ -1,16 +1,18 @@
 //! One object of a document, its members looked up once.
-ghost use Rattle.std.specs.Prelude.{◌≡◌, ◌<◌, ◌≤◌, ◌+◌, ◌∷◌, [], ◌++◌, ◌&&◌, length, map, true, IfOk, OnErr, OnOk};
-ghost use Rattle.std.specs.Option.{option_map};
+ghost use Rattle.std.specs.Prelude.{◌≡◌, ◌<◌, ◌≤◌, ◌+◌, ◌∷◌, [], ◌++◌, ◌&&◌, ℕ, false, length, map, true, IfOk, IfSome, OnErr, OnOk};
+ghost use Rattle.std.specs.List.{slice_index_or};
+ghost use Rattle.std.specs.Option.{option_map, unwrap_or};
 ghost use Rattle.serde_json.specs.Data.{no_members};
 ghost use Rattle.serde_json.specs.Find.{get_member};
 ghost use Rattle.serde_json.specs.View.{view, members_view};
 ghost use Rattle.yv_properties.specs.Kinds.{is_data};
 ghost use Rattle.yv_values.specs.Count.{counted};
 ghost use Rattle.yv_nodes.specs.declared.node.NodeId.{NodeId};
-ghost use Rattle.yv_nodes.specs.Rows.{Rows, below, rank, row_at, tree_of};
+ghost use Rattle.yv_nodes.specs.Rows.{Rows, below, children_of, rank, row_at, tree_of};
 ghost use Rattle.yv_tables.specs.Sound.{object_trees};
+ghost use Rattle.yv_walk.specs.InnerKept.{Ascend, IsUnkept, is_before};
 ghost use Rattle.yv_walk.specs.Marked.{joined, mark_at};
-ghost use Rattle.yv_walk.specs.Standing.{count_standing, holds, is_there as exists, passes, row_standing, stands_in, tree_standing};
+ghost use Rattle.yv_walk.specs.Standing.{child_exists, count_standing, holds, is_there as exists, passes, row_standing, stands_in, tree_standing};
 
 use crate::exists::is_there;
 use crate::marks::Marks;
@@ -22,6 +24,9 @@ use yv_nodes::NodeId;
 use yv_properties::NodeKind;
 use yv_tables::Schema;
 use yv_values::Meter;
+
+// So many children of a choice or case are few.
+const FEW_CHILDREN: usize = 16;
 
 /// What the members of one object write: the values of its data nodes, the data nodes that exist in its choices and cases, and the
 /// members that name no node.
@@ -129,6 +134,19 @@ impl<'v> Context<'v> {
         ensures { IsContext schema.now self.now → stands_in schema.now (parent_of self.now) id ≡ true
             → passes schema.now id ≡ true → result ≡ count_standing (rank id) (below schema.now id) (members_of self.now) }
     {
+        if schema.children(id).len() <= FEW_CHILDREN {
+            self.count_each(schema, id)
+        } else {
+            self.count_existing(schema, id)
+        }
+    }
+
+    // Asks each child: where there are few, this takes the least time.
+    fn count_each(&self, schema: &Schema, id: NodeId) -> usize
+        requires { id.0 < length schema.now.nodes }
+        ensures { IsContext schema.now self.now → stands_in schema.now (parent_of self.now) id ≡ true
+            → passes schema.now id ≡ true → result ≡ count_standing (rank id) (below schema.now id) (members_of self.now) }
+    {
         let mut total = 0;
         for child in schema.children(id) {
             if self.standing(schema, *child).any() {
@@ -136,6 +154,75 @@ impl<'v> Context<'v> {
             }
         }
         total
+    }
+
+    // Goes from one that exists to the next.
+    fn count_existing(&self, schema: &Schema, id: NodeId) -> usize
+        requires { id.0 < length schema.now.nodes }
+        ensures { IsContext schema.now self.now → stands_in schema.now (parent_of self.now) id ≡ true
+            → passes schema.now id ≡ true → result ≡ count_standing (rank id) (below schema.now id) (members_of self.now) }
+    {
+        let _children = schema.children(id);
+        let mut total = 0;
+        let mut from = 0;
+        while let Some(place) = self.next_existing(schema, id, from) {
+            total += 1;
+            from = place + 1;
+        }
+        total
+    }
+
+    /// The place, from 0, of the first child of a choice or case in the object that exists, from this place on. A child of which nothing
+    /// is written takes no time, and any other that is passed takes time log n.
+    pub fn next_existing(&self, schema: &Schema, id: NodeId, from: usize) -> Option<usize>
+        requires { id.0 < length schema.now.nodes }
+        ensures behind { IfSome result (λ place. from ≤ place) }
+        ensures within { IfSome result (λ place. place < length (children_of schema.now id)) }
+        ensures exists { IsContext schema.now self.now → stands_in schema.now (parent_of self.now) id ≡ true
+            → passes schema.now id ≡ true → IfSome result (λ place. child_exists schema.now id (members_of self.now) place ≡ true) }
+        ensures others { IsContext schema.now self.now → stands_in schema.now (parent_of self.now) id ≡ true
+            → passes schema.now id ≡ true → (place : ℕ) → from ≤ place
+            → place < unwrap_or result (length (children_of schema.now id)) → child_exists schema.now id (members_of self.now) place ≡ false }
+    {
+        let children = schema.children(id);
+        let mut place = self.pass_unkept(children, from);
+        while place < children.len() {
+            if self.standing(schema, children[place]).any() {
+                return Some(place);
+            }
+            place = self.pass_unkept(children, place + 1);
+        }
+        None
+    }
+
+    // The first place from this one on where something may be kept of the node.
+    fn pass_unkept(&self, nodes: &[NodeId], from: usize) -> usize
+        requires { Ascend nodes.now }
+        ensures behind { from ≤ result }
+        ensures unkept { (place : ℕ) (d : NodeId) → from ≤ place → place < result → place < length nodes.now
+            → IsUnkept self.now (slice_index_or nodes.now place d).0 }
+    {
+        let Some(first) = nodes.get(from) else {
+            return from;
+        };
+        match self.next_kept(first.number()) {
+            Some(number) => count_below(nodes, number),
+            None => nodes.len(),
+        }
+    }
+
+    // The least number from this one on at which something is kept.
+    fn next_kept(&self, from: u32) -> Option<u32>
+        ensures behind { IfSome result (λ next. from ≤ next) }
+        ensures unkept { (n : ℕ) → from ≤ n → is_before n result ≡ true → IsUnkept self.now n }
+    {
+        let value = self.values.next(from);
+        let mark = self.marks.next(from);
+        match (value, mark) {
+            (Some(one), Some(other)) => Some(one.min(other)),
+            (one, None) => one,
+            (None, other) => other,
+        }
     }
 
     /// The names of the members that name no node, in the order of the object.
@@ -173,6 +260,16 @@ fn mark_member(
         marks.mark(schema, id)?;
     }
     Ok(())
+}
+
+// How many of the nodes, which ascend, have numbers below this one.
+fn count_below(nodes: &[NodeId], number: u32) -> usize
+    requires { Ascend nodes.now }
+    ensures bound { result ≤ length nodes.now }
+    ensures below { (place : ℕ) (d : NodeId) → place < result → (slice_index_or nodes.now place d).0 < number }
+    ensures others { (place : ℕ) (d : NodeId) → result ≤ place → place < length nodes.now → number ≤ (slice_index_or nodes.now place d).0 }
+{
+    nodes.partition_point(|node| node.0 < number)
 }
 
 fn note<'v>(unknown: &mut Vec<&'v str>, key: &'v str) -> Result<(), AllocError>

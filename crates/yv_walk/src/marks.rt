@@ -1,7 +1,8 @@
 //! The data nodes that exist in each choice and case of an object.
-ghost use Rattle.std.specs.Prelude.{◌≡◌, ◌==◌, ◌<◌, ◌≤◌, ℕ, length, OnErr, OnOk, true};
+ghost use Rattle.std.specs.Prelude.{◌≡◌, ◌==◌, ◌<◌, ◌≤◌, ℕ, length, IfSome, OnErr, OnOk, true};
 ghost use Rattle.yv_nodes.specs.declared.node.NodeId.{NodeId};
 ghost use Rattle.yv_nodes.specs.Rows.{below, rank};
+ghost use Rattle.yv_walk.specs.InnerKept.{is_before};
 ghost use Rattle.yv_walk.specs.InnerMarks.{has_room, HasRoomAround};
 ghost use Rattle.yv_walk.specs.Marked.{joined, mark_at};
 ghost use Rattle.yv_walk.specs.Standing.{holds, passes};
@@ -37,6 +38,15 @@ impl Marks {
             Some(standing) => *standing,
             None => Standing::Nothing,
         }
+    }
+
+    /// The least number from this one on that has a mark.
+    pub(crate) fn next(&self, from: u32) -> Option<u32>
+        ensures behind { IfSome result (λ next. from ≤ next) }
+        ensures none { (n : ℕ) → from ≤ n → is_before n result ≡ true → mark_at self.now n ≡ Nothing }
+    {
+        let (number, _) = self.rows.range(from..).next()?;
+        Some(*number)
     }
 
     /// Marks the choices and cases that contain a node that exists. It fails only if memory runs out, and then each mark is as before.

@@ -1,6 +1,7 @@
 //! The values that the members of an object write, by the numbers of their nodes.
-ghost use Rattle.std.specs.Prelude.{◌≡◌, ℕ, None, OnOk, option_map};
+ghost use Rattle.std.specs.Prelude.{◌≡◌, ◌≤◌, ℕ, None, true, IfSome, OnOk, option_map};
 ghost use Rattle.serde_json.specs.View.{view};
+ghost use Rattle.yv_walk.specs.InnerKept.{is_before};
 ghost use Rattle.yv_walk.specs.Written.{value_at, kept};
 
 use serde_json::Value;
@@ -28,6 +29,15 @@ impl<'v> Written<'v> {
         ensures { option_map (λ v. view v.now) result ≡ value_at self.now number }
     {
         self.values.get(&number).copied()
+    }
+
+    /// The least number from this one on that has a value.
+    pub(crate) fn next(&self, from: u32) -> Option<u32>
+        ensures behind { IfSome result (λ next. from ≤ next) }
+        ensures none { (n : ℕ) → from ≤ n → is_before n result ≡ true → value_at self.now n ≡ None }
+    {
+        let (number, _) = self.values.range(from..).next()?;
+        Some(*number)
     }
 
     /// Keeps a value, where the number has none yet.

@@ -7,8 +7,8 @@ use Rattle.yv_walk.specs.Standing.{any, stands_in, tree_standing}
 use Rattle.yv_walk.proofs.Above.{rank_within}
 use Rattle.yv_walk.proofs.Counting.{count_all, count_drop, count_of, more_false, more_true}
 use Rattle.yv_walk.proofs.Stands.{inner_stands}
-use Rattle.yv_walk.proofs.context.Context.count.Goals as goal
-use Rattle.yv_walk.proofs.context.Context.count.Goals.{then-any, else-any}
+use Rattle.yv_walk.proofs.context.Context.count_each.Goals as goal
+use Rattle.yv_walk.proofs.context.Context.count_each.Goals.{then-any, else-any}
 
 pub loop-child-preserved : goal.loop-child-preserved
 loop-child-preserved c =

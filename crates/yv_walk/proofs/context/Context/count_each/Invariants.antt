@@ -3,7 +3,7 @@ use Rattle.yv_nodes.specs.Rows.{children_of}
 use Rattle.yv_walk.specs.Context.{IsContext, members_of, parent_of}
 use Rattle.yv_walk.specs.Standing.{passes, stands_in}
 use Rattle.yv_walk.proofs.Counting.{count_of}
-use Rattle.yv_walk.proofs.context.Context.count.Given as goal
+use Rattle.yv_walk.proofs.context.Context.count_each.Given as goal
 
 -- with those that are left, all are counted
 abbrev pub invariant-loop-child : goal.invariant-loop-child
