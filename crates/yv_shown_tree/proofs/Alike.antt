@@ -1,5 +1,5 @@
 -- Nodes that differ by their refines alone: paths lead to the same places among them, and blocks give them in the same order.
-use Rattle.std.proofs.Common.{◌≡◌, ℕ, ◌+◌, ◌<◌, ◌≤◌, ◌&&◌, not, Bool, true, false, List, [], ◌∷◌, refl, sym, ◌∙◌, ap, subst, arith}
+use Rattle.std.proofs.Common.{◌⊎◌, inl, inr, ◌≡◌, ℕ, ◌+◌, ◌<◌, ◌≤◌, ◌&&◌, not, Bool, true, false, List, [], ◌∷◌, refl, sym, ◌∙◌, ap, subst, arith}
 use Rattle.std.specs.List.{Contains}
 use Rattle.std.specs.Str.{bytes_eq}
 use Rattle.std.proofs.lemmas.Bool.{false≢true}
@@ -17,6 +17,7 @@ use Rattle.yv_shown_tree.specs.Comes.Comes.{no_items as none_come, of_uses, one_
 use Rattle.yv_shown_tree.specs.Comes.Adds.{adds, misses, none_left}
 use Rattle.yv_shown_tree.specs.Shows.{Agree, AreLabels, Items, Orders, Shows, Stand}
 use Rattle.yv_shown_tree.specs.Shows.Stand.{no_items as none_stand, passed, shown}
+use Rattle.yv_shown_tree.specs.Under.{Keeps, KeepsAdded}
 use Rattle.yv_shown_tree.proofs.Keeping.{all_go_up, goes_up}
 use Rattle.yv_shown_tree.proofs.Trees.{one_order}
 
@@ -107,6 +108,28 @@ leads_alike (into_case {s = s} {t = t} {ss = ss} {g = g} {below = under} {behind
       ));
     }
 
+-- something holds of the same numbers as something else
+abbrev pub Same : (P Q : ℕ → Type 0) → Type 0
+Same P Q = (x : ℕ) → (P x → Q x) × (Q x → P x)
+
+pub same_then : (P Q R : ℕ → Type 0) → Same P Q → Same Q R → Same P R
+same_then P Q R p q x = (λ h. (q x).0 ((p x).0 h), λ h. (p x).1 ((q x).1 h))
+
+pub either : {A B C D : Type 0} → (A → B) → (C → D) → A ⊎ C → B ⊎ D
+either f g h = elim h [ inl a ↦ inl (f a) | inr c ↦ inr (g c) ]
+
+pub same_two : (P Q R S : ℕ → Type 0) → Same P Q → Same R S → Same (λ x. P x ⊎ R x) (λ x. Q x ⊎ S x)
+same_two P Q R S p r x = (either (p x).0 (r x).0, either (p x).1 (r x).1)
+
+pub same_more : (lo : ℕ) (P Q : ℕ → Type 0) → Same P Q → Same (λ x. (x ≡ lo) ⊎ P x) (λ x. (x ≡ lo) ⊎ Q x)
+same_more lo P Q p x = (either (λ e. e) (p x).0, either (λ e. e) (p x).1)
+
+pub same_uses : (lo : ℕ) (P Q A B R S : ℕ → Type 0) → Same P Q → Same A B → Same R S
+    → Same (λ x. (x ≡ lo) ⊎ ((P x ⊎ A x) ⊎ R x)) (λ x. (x ≡ lo) ⊎ ((Q x ⊎ B x) ⊎ S x))
+same_uses lo P Q A B R S p a r =
+    same_more lo (λ x. (P x ⊎ A x) ⊎ R x) (λ x. (Q x ⊎ B x) ⊎ S x)
+    (same_two (λ x. P x ⊎ A x) (λ x. Q x ⊎ B x) R S (same_two P Q A B p a) r)
+
 -- what is told of items is told alike
 pub record AreAlike (its new : Items) : Type 0 where
   pub given : new.given ≡ its.given
@@ -131,59 +154,90 @@ module _ (labels : List Label) (its new : Items) (are : AreAlike its new) where
       missed q.meant q.low x.0 (x.1, ap may_be_target (sym q.is_like.kind) ∙ hit.1)
 
   mutual
-    -- a block gives nodes that are alike
-    pub comes_alike : {lo hi c e : ℕ} {block : Block lo hi c e} {f : Forest} → Comes labels its _ _ _ _ block f → (g : Forest) × Comes labels new _ _ _ _ block g × Alike f g
-    comes_alike none_come = (none, none_come, none_alike)
+    -- a block gives nodes that are alike, and keeps the same items
+    pub comes_alike : {lo hi c e : ℕ} {block : Block lo hi c e} {f : Forest} (C : Comes labels its _ _ _ _ block f)
+        → (g : Forest) × (D : Comes labels new _ _ _ _ block g) × Alike f g × Same (λ x. Keeps D x) (λ x. Keeps C x)
+    comes_alike none_come = (none, none_come, none_alike, λ x. (λ h. h, λ h. h))
     comes_alike (one_node {lo = lo} is_node B F) =
         let b = comes_alike B in
-        let f = comes_alike F in
-        (node (new.node_of lo) b.0 f.0, one_node (are.node lo ∙ is_node) b.1 f.1, node_alike (are.like lo) b.2 f.2)
+        let f = comes_alike F in (
+          node (new.node_of lo) b.0 f.0,
+          one_node (are.node lo ∙ is_node) b.1 f.1,
+          node_alike (are.like lo) b.2 f.2,
+          same_more lo (λ x. Keeps b.1 x ⊎ Keeps f.1 x) (λ x. Keeps B x ⊎ Keeps F x) (same_two (λ x. Keeps b.1 x) (λ x. Keeps B x) (λ x. Keeps f.1 x) (λ x. Keeps F x) b.3 f.3),
+        )
     comes_alike (of_uses {lo = lo} no_node M A F) =
         let m = comes_alike M in
         let a = adds_alike A m.0 m.2 in
-        let f = comes_alike F in
-        (joined a.0 f.0, of_uses (are.node lo ∙ no_node) m.1 a.1 f.1, joined_alike a.2 f.2)
+        let f = comes_alike F in (
+          joined a.0 f.0,
+          of_uses (are.node lo ∙ no_node) m.1 a.1 f.1,
+          joined_alike a.2 f.2,
+          same_uses lo (λ x. Keeps m.1 x) (λ x. Keeps M x) (λ x. KeepsAdded a.1 x) (λ x. KeepsAdded A x) (λ x. Keeps f.1 x) (λ x. Keeps F x) m.3 a.3 f.3,
+        )
 
-    pub adds_alike : {lo hi c e k own : ℕ} {augments : Augments lo hi c e k own} {m last : Forest} → Adds labels its _ _ _ _ _ _ augments m last
-        → (n : Forest) → Alike m n → (g : Forest) × Adds labels new _ _ _ _ _ _ augments n g × Alike last g
-    adds_alike none_left n alike = (n, none_left, alike)
+    pub adds_alike : {lo hi c e k own : ℕ} {augments : Augments lo hi c e k own} {m last : Forest} (A : Adds labels its _ _ _ _ _ _ augments m last)
+        → (n : Forest) → Alike m n → (g : Forest) × (D : Adds labels new _ _ _ _ _ _ augments n g) × Alike last g × Same (λ x. KeepsAdded D x) (λ x. KeepsAdded A x)
+    adds_alike none_left n alike = (n, none_left, alike, λ x. (λ h. h, λ h. h))
     adds_alike (adds {names = names} {b = b} {below = below} {there = there} {target = target} ss agree l comes hits later) n alike =
         let x = comes_alike comes in
         let q = leads_alike hits.0 n alike in
         let y = q.leads q.meant (joined q.low x.0) q.is_like (joined_alike q.alike x.2) in
-        let z = adds_alike later y.0 y.2 in
-        (z.0, adds ss (agree_alike labels its new are names ss agree) l x.1 (y.1, ap may_be_target (sym q.is_like.kind) ∙ hits.1) z.1, z.2)
+        let z = adds_alike later y.0 y.2 in (
+          z.0,
+          adds ss (agree_alike labels its new are names ss agree) l x.1 (y.1, ap may_be_target (sym q.is_like.kind) ∙ hits.1) z.1,
+          z.2,
+          same_two (λ i. Keeps x.1 i) (λ i. Keeps comes i) (λ i. KeepsAdded z.1 i) (λ i. KeepsAdded later i) x.3 z.3,
+        )
     adds_alike (misses {names = names} {m = m} ss agree l missed later) n alike =
         let z = adds_alike later n alike in
-        (z.0, misses ss (agree_alike labels its new are names ss agree) l (misses_alike ss m n alike missed) z.1, z.2)
+        (z.0, misses ss (agree_alike labels its new are names ss agree) l (misses_alike ss m n alike missed) z.1, z.2, z.3)
 
   mutual
     -- and the same, where what is told of its own items is the same
-    pub comes_same : {lo hi c e : ℕ} {block : Block lo hi c e} {f : Forest} → ((i : ℕ) → lo ≤ i → i < hi → new.node_of i ≡ its.node_of i) → Comes labels its _ _ _ _ block f
-        → Comes labels new _ _ _ _ block f
-    comes_same same none_come = none_come
-    comes_same same (one_node {lo = lo} {hi = hi} {c = c} {e = e} {mid = mid} {d = d} {below = below} {behind = behind} {b = b} {f = f} is_node B F) =
+    pub comes_kept : {lo hi c e : ℕ} {block : Block lo hi c e} {f : Forest} → ((i : ℕ) → lo ≤ i → i < hi → new.node_of i ≡ its.node_of i)
+        → (C : Comes labels its _ _ _ _ block f) → (D : Comes labels new _ _ _ _ block f) × Same (λ x. Keeps D x) (λ x. Keeps C x)
+    comes_kept same none_come = (none_come, λ x. (λ h. h, λ h. h))
+    comes_kept same (one_node {lo = lo} {hi = hi} {c = c} {e = e} {mid = mid} {d = d} {below = below} {behind = behind} {b = b} {f = f} is_node B F) =
         let up = goes_up below in let lm = up.0 in
         let up' = goes_up behind in let mh = up'.0 in
-        subst (λ (x : Node). Comes labels new _ _ _ _ (Block.item {lo = lo} {hi = hi} {c = c} {e = e} mid d below behind) (node x b f)) (same lo (omega arith) (omega (arith, lm, mh)))
-        (one_node (are.node lo ∙ is_node) (comes_same (λ i l h. same i (omega (arith, l)) (omega (arith, h, mh))) B) (comes_same (λ i l h. same i (omega (arith, l, lm)) h) F))
-    comes_same same (of_uses {lo = lo} {mid = mid} {copies = copies} {augments = augments} {behind = behind} no_node M A F) =
+        let x = comes_kept (λ i l h. same i (omega (arith, l)) (omega (arith, h, mh))) B in
+        let y = comes_kept (λ i l h. same i (omega (arith, l, lm)) h) F in
+        subst (λ (g : Node). (D : Comes labels new _ _ _ _ (Block.item {lo = lo} {hi = hi} {c = c} {e = e} mid d below behind) (node g b f))
+        × Same (λ x. Keeps D x) (λ x. (x ≡ lo) ⊎ (Keeps B x ⊎ Keeps F x))) (same lo (omega arith) (omega (arith, lm, mh))) (
+          one_node (are.node lo ∙ is_node) x.0 y.0,
+          same_more lo (λ i. Keeps x.0 i ⊎ Keeps y.0 i) (λ i. Keeps B i ⊎ Keeps F i) (same_two (λ i. Keeps x.0 i) (λ i. Keeps B i) (λ i. Keeps y.0 i) (λ i. Keeps F i) x.1 y.1),
+        )
+    comes_kept same (of_uses {lo = lo} {mid = mid} {copies = copies} {augments = augments} {behind = behind} no_node M A F) =
         let up = goes_up copies in let lm = up.0 in
         let up' = all_go_up augments in let me = up'.0 in
         let up'' = goes_up behind in let eh = up''.0 in
-        of_uses (are.node lo ∙ no_node) (comes_same (λ i l h. same i (omega (arith, l)) (omega (arith, h, me, eh))) M)
-        (adds_same (λ i l h. same i (omega (arith, l, lm)) (omega (arith, h, eh))) A) (comes_same (λ i l h. same i (omega (arith, l, lm, me)) h) F)
+        let x = comes_kept (λ i l h. same i (omega (arith, l)) (omega (arith, h, me, eh))) M in
+        let y = adds_kept (λ i l h. same i (omega (arith, l, lm)) (omega (arith, h, eh))) A in
+        let z = comes_kept (λ i l h. same i (omega (arith, l, lm, me)) h) F in (
+          of_uses (are.node lo ∙ no_node) x.0 y.0 z.0,
+          same_uses lo (λ i. Keeps x.0 i) (λ i. Keeps M i) (λ i. KeepsAdded y.0 i) (λ i. KeepsAdded A i) (λ i. Keeps z.0 i) (λ i. Keeps F i) x.1 y.1 z.1,
+        )
 
-    pub adds_same : {lo hi c e k own : ℕ} {augments : Augments lo hi c e k own} {m last : Forest} → ((i : ℕ) → lo ≤ i → i < hi → new.node_of i ≡ its.node_of i)
-        → Adds labels its _ _ _ _ _ _ augments m last → Adds labels new _ _ _ _ _ _ augments m last
-    adds_same same none_left = none_left
-    adds_same same (adds {names = names} {block = block} {others = others} ss agree l comes hits later) =
+    pub adds_kept : {lo hi c e k own : ℕ} {augments : Augments lo hi c e k own} {m last : Forest} → ((i : ℕ) → lo ≤ i → i < hi → new.node_of i ≡ its.node_of i)
+        → (A : Adds labels its _ _ _ _ _ _ augments m last) → (D : Adds labels new _ _ _ _ _ _ augments m last) × Same (λ x. KeepsAdded D x) (λ x. KeepsAdded A x)
+    adds_kept same none_left = (none_left, λ x. (λ h. h, λ h. h))
+    adds_kept same (adds {names = names} {block = block} {others = others} ss agree l comes hits later) =
         let up = goes_up block in let lm = up.0 in
         let up' = all_go_up others in let mh = up'.0 in
-        adds ss (agree_alike labels its new are names ss agree) l (comes_same (λ i x h. same i x (omega (arith, h, mh))) comes) hits (adds_same (λ i x h. same i (omega (arith, x, lm)) h) later)
-    adds_same same (misses {names = names} {block = block} ss agree l missed later) =
+        let x = comes_kept (λ i x h. same i x (omega (arith, h, mh))) comes in
+        let y = adds_kept (λ i x h. same i (omega (arith, x, lm)) h) later in (
+          adds ss (agree_alike labels its new are names ss agree) l x.0 hits y.0,
+          same_two (λ i. Keeps x.0 i) (λ i. Keeps comes i) (λ i. KeepsAdded y.0 i) (λ i. KeepsAdded later i) x.1 y.1,
+        )
+    adds_kept same (misses {names = names} {block = block} ss agree l missed later) =
         let up = goes_up block in let lm = up.0 in
-        misses ss (agree_alike labels its new are names ss agree) l missed (adds_same (λ i x h. same i (omega (arith, x, lm)) h) later)
+        let y = adds_kept (λ i x h. same i (omega (arith, x, lm)) h) later in
+        (misses ss (agree_alike labels its new are names ss agree) l missed y.0, y.1)
+
+  pub comes_same : {lo hi c e : ℕ} {block : Block lo hi c e} {f : Forest} → ((i : ℕ) → lo ≤ i → i < hi → new.node_of i ≡ its.node_of i) → Comes labels its _ _ _ _ block f
+      → Comes labels new _ _ _ _ block f
+  comes_same same C = (comes_kept same C).0
 
 -- items show one forest
 module _ (labels : List Label) (its : Items) (are : AreLabels labels its) (groups : Groups) where

@@ -15,17 +15,16 @@ use Rattle.yv_augmented.specs.Spots.{Laid, Whole, labels_of, laid, laid_from, wh
 use Rattle.yv_augmented.specs.declared.spot.Spot.{Spot}
 use Rattle.yv_expanded_tree.specs.Expanded.{Tops}
 use Rattle.yv_expanded_tree.specs.Gives.{Made}
-use Rattle.yv_expanded_tree.specs.Nodes.{Forest}
 use Rattle.yv_shown_tree.specs.Beginning.{BlocksMarked, begun}
 use Rattle.yv_shown_tree.specs.Blocks.{Augments, Block, run, run_all}
-use Rattle.yv_shown_tree.specs.Comes.{Comes, HasMarks, Marked}
+use Rattle.yv_shown_tree.specs.Comes.{HasMarks, Marked}
 use Rattle.yv_shown_tree.specs.Expanding.{told}
 use Rattle.yv_shown_tree.specs.Files.{giver_of}
 use Rattle.yv_shown_tree.specs.Giving.{ShowNodes}
 use Rattle.yv_shown_tree.specs.Laid.{AllLie, Lie}
 use Rattle.yv_shown_tree.specs.Marks.{mark_of}
 use Rattle.yv_shown_tree.specs.Shows.{Items}
-use Rattle.yv_shown_tree.proofs.Alike.{AreAlike, comes_same}
+use Rattle.yv_shown_tree.proofs.Alike.{AreAlike}
 use Rattle.yv_shown_tree.proofs.Beginning.{blocks_enter, blocks_mark, no_marks, own_empty, own_enters}
 use Rattle.yv_shown_tree.proofs.Finding.{not_none}
 use Rattle.yv_shown_tree.proofs.Given.{told_last}
@@ -34,11 +33,12 @@ use Rattle.yv_shown_tree.proofs.Joining.{count_joined, laid_append, listed_joine
 use Rattle.yv_shown_tree.proofs.Keeping.{goes_up}
 use Rattle.yv_shown_tree.proofs.Lying.{AllLies, Lies, laid_as}
 use Rattle.yv_shown_tree.proofs.Making.{IsHere, Makes, MayRun, all_state_is, are, drop_at, each_label, first_stops, low, new_long, node_stays, split_here, stage, state, state_is}
+use Rattle.yv_shown_tree.proofs.Refusing.{Come, come_same}
 use Rattle.yv_shown_tree.proofs.Starting.{count_listed, laid_is, none_there}
 use Rattle.yv_shown_tree.proofs.Tops.{AllCome, AreBegun, BlocksMake, FilesMake, MayBegin, TopsGive, all_come_same, blocks_make, tops_make}
 
 module _ (files : Files) (augments : List ℕ) (many : ℕ) (items : List Item) (its : Items)
-    (facts : ShowNodes files (whole (map brief_of files) (rows_of files) augments many) items (λ i. None) its) (each : length items ≡ many) (made : ℕ → Forest → Type 0) where
+    (facts : ShowNodes files (whole (map brief_of files) (rows_of files) augments many) items (λ i. None) its) (each : length items ≡ many) (made : ℕ → Made → Type 0) where
   abbrev w : Whole
   w = whole (map brief_of files) (rows_of files) augments many
 
@@ -65,8 +65,8 @@ module _ (files : Files) (augments : List ℕ) (many : ℕ) (items : List Item) 
     pub all_lie : AllLie labels augs (map (told w) more)
     pub spans : Spans augs added
     pub placed_is : placed w (laid w items) ≡ begun labels front augs
-    pub top : (m : Made) → Tops files order m → Comes labels its _ _ _ _ front m.nodes
-    pub blocks : AllCome labels its made augs
+    pub top : (m : Made) → Tops files order m → Come files augments many items its front m.nodes m.wrong
+    pub blocks : AllCome files augments many items its made augs
     pub marked : Marked labels its.given (mark_of w) 0 front
     pub all_marked : BlocksMarked labels its.given (mark_of w) augs
 
@@ -173,14 +173,14 @@ module _ (files : Files) (augments : List ℕ) (many : ℕ) (items : List Item) 
         ap (is_from_at j) (ap (slice_get items) (let h : own ≡ own + 0 = omega arith in h) ∙ (sym (drop_at items own 0) ∙ ap (λ z. slice_get z 0) both.0.items_are))
         ∙ firsts [] (λ j l. refl) j (omega arith)
 
-    own_comes : (m : Made) → Tops files order m → Comes labels its _ _ _ _ A.block m.nodes
+    own_comes : (m : Made) → Tops files order m → Come files augments many items its A.block m.nodes m.wrong
     own_comes m T =
-        comes_same labels (stage files augments many items its 0 all_new) its (like 0 all_new) (λ i u h. last_told i)
-        (A_makes m.nodes (ys ++ []) (G.new ++ []) (m, T, refl) both.1 may_own)
+        come_same files augments many items (stage files augments many items its 0 all_new) its (like 0 all_new) m.wrong (λ i u h. last_told i)
+        (A_makes m (ys ++ []) (G.new ++ []) T both.1 may_own)
 
-    blocks_come : AllCome labels its made G.augments
+    blocks_come : AllCome files augments many items its made G.augments
     blocks_come =
-        all_come_same labels made (stage files augments many items its own (G.new ++ [])) its (like own (G.new ++ [])) G.augments
+        all_come_same files augments many items made (stage files augments many items its own (G.new ++ [])) its (like own (G.new ++ [])) G.augments
         (λ i u h. last_told i ∙ node_stays files augments many items its facts each 0 own A.new (G.new ++ []) A.long (λ j x y. stops_at j) i u) (b.begin [] [] both.0 may_blocks)
 
     begins_so : Begins order added own

@@ -65,7 +65,7 @@ statements_show files augments one_meant numbers t home m its sound E tops facts
       empty = λ y low high. none_there (length labels) e y;
       marks = λ y i h. absurd (nothing_stands i (subst (λ l. Contains l i) (none_there (length labels) e y) h));
     }) in
-    let C : Comes labels (stage files augments (count t) items its 0 (F.new ++ [])) _ _ _ _ F.block m.nodes = x.2 m.nodes [] [] (m, gives, refl) here may in
+    let C : Comes labels (stage files augments (count t) items its 0 (F.new ++ [])) _ _ _ _ F.block m.nodes = (x.2 m [] [] gives here may).0 in
     let like : AreAlike (stage files augments (count t) items its 0 (F.new ++ [])) its =
     record { given = refl; node = λ i. refl; like = λ i. record { home = refl; kind = refl; name = refl } } in
     lies_show w items (count t) e all F each (omega (arith, each)) its m.nodes facts.told

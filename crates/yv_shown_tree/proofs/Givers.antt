@@ -139,7 +139,7 @@ module _ (w : Whole) (items : List Item) (each : length items ≡ w.items) where
   pub giver_low : (x : ℕ) → x ≤ length labels → giver_here x ≡ None
   giver_low x l = (let e = many_labels in ap (λ (b : Bool). if b then slice_get w.augments (x - w.items - 1) else None) (le-ltb w.items x (omega (arith, l, e))))
 
-  giver_high : (k : ℕ) → giver_here (group_of_augment labels k) ≡ slice_get w.augments k
+  pub giver_high : (k : ℕ) → giver_here (group_of_augment labels k) ≡ slice_get w.augments k
   giver_high k =
       let e = many_labels in
       let g : ℕ = length labels + 1 + k in

@@ -24,12 +24,10 @@ use Rattle.yv_augmented.specs.declared.spot.Spot.{Spot}
 use Rattle.yv_augmented.proofs.Ending.{drop_drop, run_no, run_yes}
 use Rattle.yv_changes.specs.Changes.{changes}
 use Rattle.yv_refinements.specs.Meant.{Refined}
-use Rattle.yv_expanded_tree.specs.Nodes.{Forest, Node, node}
+use Rattle.yv_expanded_tree.specs.Gives.{Made}
 use Rattle.yv_expanded_tree.specs.Nodes as nodes
-use Rattle.yv_shown_tree.specs.Blocks.{Augments, Block, augment, no_augments, run, run_all}
-use Rattle.yv_shown_tree.specs.Blocks as block
-use Rattle.yv_shown_tree.specs.Comes.{Comes, HasMarks, Marked}
-use Rattle.yv_shown_tree.specs.Comes.Comes.{no_items as none_come, of_uses, one_node}
+use Rattle.yv_shown_tree.specs.Blocks.{Augments, Block, run, run_all}
+use Rattle.yv_shown_tree.specs.Comes.{HasMarks, Marked}
 use Rattle.yv_shown_tree.specs.Expanding.{told}
 use Rattle.yv_shown_tree.specs.Frames.{MayEnter}
 use Rattle.yv_shown_tree.specs.Giving.{ShowNodes}
@@ -37,7 +35,6 @@ use Rattle.yv_shown_tree.specs.Laid.{AllLie, Lie, placed_on}
 use Rattle.yv_shown_tree.specs.Laid as laid_spots
 use Rattle.yv_shown_tree.specs.Marks.{mark_of}
 use Rattle.yv_shown_tree.specs.Shows.{AreLabels, Items}
-use Rattle.yv_shown_tree.proofs.Alike.{comes_same}
 use Rattle.yv_shown_tree.proofs.Framing.{narrower}
 use Rattle.yv_shown_tree.proofs.Joining.{then_block}
 use Rattle.yv_shown_tree.proofs.Keeping.{block_keeps, goes_up, may_behind}
@@ -46,6 +43,7 @@ use Rattle.yv_shown_tree.proofs.Lying.{Lies, laid_as, lies_then, map_append, map
 use Rattle.yv_shown_tree.proofs.Marking.{run_marks}
 use Rattle.yv_shown_tree.proofs.Marks.{blocks_are_marked}
 use Rattle.yv_shown_tree.proofs.Placing.{placed_is_told}
+use Rattle.yv_shown_tree.proofs.Refusing.{Come, come_as, come_same, come_then}
 use Rattle.yv_shown_tree.proofs.Staging.{changes_away, changes_then, noted, noted_alike, part, part_within, refined_parts}
 use Rattle.yv_shown_tree.proofs.Telling.{labels_tell, laid_grows, laid_many}
 
@@ -71,18 +69,6 @@ new_long w labels l these g n hi c e F =
     let r = laid_grows w these l in
     let same : l.spots ++ F.new ≡ l.spots ++ r.0 = ap (λ (z : Laid). z.spots) (sym F.laid) ∙ r.1 in
     let a = ap length same in let b = length-append l.spots F.new in let d = length-append l.spots r.0 in let f = r.2 in omega (arith, a, b, d, f)
-
--- blocks give nodes one behind the other
-pub comes_then : (labels : List Label) (its : Items) {lo mid hi c d e : ℕ} {a : Block lo mid c d} {b : Block mid hi d e} {f g : Forest} → Comes labels its _ _ _ _ a f
-    → Comes labels its _ _ _ _ b g → Comes labels its _ _ _ _ (then_block a b) (nodes.joined f g)
-comes_then labels its none_come B = B
-comes_then labels its (one_node is_node L R) B = one_node is_node L (comes_then labels its R B)
-comes_then labels its {b = b} {g = g} (of_uses {lo = lo} {hi = hi} {c = c} {f = f} {mid = mid} {end = end} {own = own} {d = d} {e = e} {copies = copies} {augments = augs} {behind = behind} {given = given} {others = others} no_node M A R) B =
-    subst (λ z. Comes labels its _ _ _ _ (then_block (block.uses {lo = lo} {hi = hi} {c = c} {f = f} mid end own d e copies augs behind) b) z) (sym (forest_assoc given others g)) (of_uses no_node M A (comes_then labels its R B))
-  where
-    forest_assoc : (a b c : Forest) → nodes.joined (nodes.joined a b) c ≡ nodes.joined a (nodes.joined b c)
-    forest_assoc nodes.none b c = refl
-    forest_assoc (node x inner rest) b c = ap (λ z. node x inner z) (forest_assoc rest b c)
 
 -- the items below an item end where one comes that isn't below it
 pub end_before : (items : List Item) (j m : ℕ) → j < m → is_from_at j (slice_get items m) ≡ false → end_at items j ≤ m
@@ -153,11 +139,11 @@ module _ (files : Files) (augments : List ℕ) (many : ℕ) (items : List Item) 
     pub empty : (x : ℕ) → n < x → x ≤ hi → members_of st.groups x ≡ []
     pub marks : HasMarks its.given (mark_of w) st
 
-  -- a block of items that are laid gives what their statements give
-  abbrev pub Makes : {l : Laid} {these : List Item} {g n hi c e : ℕ} → Lies w labels l these g n hi c e → (Forest → Type 0) → Type 0
+  -- a block of items that are laid gives what their statements give, and at its items that is refused which is refused of these
+  abbrev pub Makes : {l : Laid} {these : List Item} {g n hi c e : ℕ} → Lies w labels l these g n hi c e → (Made → Type 0) → Type 0
   Makes {l = l} {these = these} {g = g} {n = n} {hi = hi} {c = c} {e = e} F G =
-      (f : Forest) (behind : List Item) (rest : List Spot) → G f → IsHere l these behind n c F.new rest → MayRun g n hi c e (state hi rest)
-      → Comes labels (stage n (F.new ++ rest)) _ _ _ _ F.block f
+      (m : Made) (behind : List Item) (rest : List Spot) → G m → IsHere l these behind n c F.new rest → MayRun g n hi c e (state hi rest)
+      → Come files augments many items (stage n (F.new ++ rest)) F.block m.nodes m.wrong
 
   module _ (facts : ShowNodes files w items (λ i. None) its) (each : length items ≡ many) where
     pub are : AreLabels labels its
@@ -286,11 +272,11 @@ module _ (files : Files) (augments : List ℕ) (many : ℕ) (items : List Item) 
 
     -- one part behind another
     pub then_makes : (l : Laid) (xs ys : List Item) (g n mid hi c d e : ℕ) (p : Lies w labels l xs g n mid c d) (q : Lies w labels (laid_as w labels (l.spots ++ p.new) d) ys g mid hi d e)
-        (P Q G : Forest → Type 0) → ((f : Forest) → G f → (a : Forest) × (b : Forest) × P a × Q b × (f ≡ nodes.joined a b))
+        (P Q G : Made → Type 0) → ((m : Made) → G m → (a : Made) × (b : Made) × P a × Q b × (m.nodes ≡ nodes.joined a.nodes b.nodes) × (m.wrong ≡ a.wrong ++ b.wrong))
         → ((behind : List Item) → ((j : ℕ) → n ≤ j → is_from_at j (slice_get behind 0) ≡ false) → (j : ℕ) → n ≤ j → is_from_at j (slice_get (ys ++ behind) 0) ≡ false)
         → Makes p P → Makes q Q → Makes (lies_then w labels l xs ys g n mid hi c d e p q) G
-    then_makes l xs ys g n mid hi c d e p q P Q G parted firsts first second f behind rest gives here may =
-        let x = parted f gives in
+    then_makes l xs ys g n mid hi c d e p q P Q G parted firsts first second m behind rest gives here may =
+        let x = parted m gives in
         let up = goes_up p.block in let nm = up.0 in let cd = up.1 in
         let both = split_here l xs ys behind n mid c d p.new q.new rest (new_long w labels l xs g n mid c d p) p.long cd firsts here in
         let here_q = both.0 in
@@ -303,12 +289,13 @@ module _ (files : Files) (augments : List ℕ) (many : ℕ) (items : List Item) 
         } in
         let may_p : MayRun g n mid c d (state mid (q.new ++ rest)) =
         subst (MayRun g n mid c d) (sym st_q) (may_front g n hi c e mid d q.block (state hi rest) nm cd may (marked g q.block here_q q.lie)) in
-        let A : Comes labels (stage n (p.new ++ (q.new ++ rest))) _ _ _ _ p.block x.0 = first x.0 (ys ++ behind) (q.new ++ rest) x.2 here_p may_p in
-        let B : Comes labels (stage mid (q.new ++ rest)) _ _ _ _ q.block x.1 = second x.1 behind rest x.3 here_q may_q in
+        let now : Items = stage n (p.new ++ (q.new ++ rest)) in
+        let A = first x.0 (ys ++ behind) (q.new ++ rest) x.2 here_p may_p in
+        let B = second x.1 behind rest x.3 here_q may_q in
         let same_at : slice_get items mid ≡ slice_get (ys ++ behind) 0 =
         ap (slice_get items) (let h : mid ≡ mid + 0 = omega arith in h) ∙ (sym (drop_at items mid 0) ∙ ap (λ z. slice_get z 0) here_q.items_are) in
-        let C : Comes labels (stage n (p.new ++ (q.new ++ rest))) _ _ _ _ q.block x.1 =
-        comes_same labels (stage mid (q.new ++ rest)) (stage n (p.new ++ (q.new ++ rest))) (noted_alike files spots its (refined mid (q.new ++ rest)) (refined n (p.new ++ (q.new ++ rest))))
+        let C = come_same files augments many items (stage mid (q.new ++ rest)) now (noted_alike files spots its (refined mid (q.new ++ rest)) (refined n (p.new ++ (q.new ++ rest)))) x.1.wrong
         (λ i a b. node_stays n mid p.new (q.new ++ rest) p.long (λ j u v. ap (is_from_at j) same_at ∙ firsts behind here.stops j u) i a) B in
-        subst (λ z. Comes labels (stage n z) _ _ _ _ (then_block p.block q.block) f) (sym (append_assoc p.new q.new rest))
-        (subst (λ z. Comes labels (stage n (p.new ++ (q.new ++ rest))) _ _ _ _ (then_block p.block q.block) z) (sym x.4) (comes_then labels (stage n (p.new ++ (q.new ++ rest))) A C))
+        subst (λ z. Come files augments many items (stage n z) (then_block p.block q.block) m.nodes m.wrong) (sym (append_assoc p.new q.new rest))
+        (come_as files augments many items now (then_block p.block q.block) (nodes.joined x.0.nodes x.1.nodes) m.nodes (x.0.wrong ++ x.1.wrong) m.wrong (sym x.4) (sym x.5)
+        (come_then files augments many items now x.0.wrong x.1.wrong A C))

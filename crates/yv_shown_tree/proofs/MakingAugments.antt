@@ -23,23 +23,22 @@ use Rattle.yv_augmented.specs.Refining.{refined_from}
 use Rattle.yv_augmented.specs.Spots.{Laid, Whole, copy_group, home_below, labels_of, laid, laid_from, whole}
 use Rattle.yv_augmented.specs.declared.spot.Spot.{Spot}
 use Rattle.yv_refinements.specs.Meant.{Refined}
-use Rattle.yv_expanded_tree.specs.Gives.{Augmented, Made, Reaches, added, judged, nothing as made_none, refused, takes_block}
+use Rattle.yv_expanded_tree.specs.Gives.{Augmented, Made, Reaches, Wrong, added, judged, nothing as made_none, refused, takes_block}
 use Rattle.yv_expanded_tree.specs.Gives.Augmented.{none_left as augmented_all, adds as augment_adds, untargeted as augment_misses}
 use Rattle.yv_expanded_tree.specs.Nodes.{Forest, Node, node}
 use Rattle.yv_expanded_tree.specs.Nodes as nodes
-use Rattle.yv_expanded_tree.specs.Paths.{path_of}
+use Rattle.yv_expanded_tree.specs.Paths.{Leads, at as end_at_node, path_of}
 use Rattle.yv_expanded_tree.proofs.Giving.{RefersToOne}
 use Rattle.yv_expanded_tree.proofs.Nothing.{adds_none, gives_none}
 use Rattle.yv_shown_tree.specs.Blocks.{Augments, augment, no_augments, run_all}
-use Rattle.yv_shown_tree.specs.Comes.{Adds, AllMarked, HasMarks}
-use Rattle.yv_shown_tree.specs.Comes.Adds.{adds, misses, none_left}
+use Rattle.yv_shown_tree.specs.Comes.{AllMarked, HasMarks}
 use Rattle.yv_shown_tree.specs.Expanding.{told}
 use Rattle.yv_shown_tree.specs.Frames.{IsOutside}
 use Rattle.yv_shown_tree.specs.Giving.{AreSound, ShowNodes, around, one_of, under_by}
 use Rattle.yv_shown_tree.specs.Marks.{mark_of}
 use Rattle.yv_shown_tree.specs.Shows.{Agree, Items}
 use Rattle.yv_shown_tree.specs.Telling.{HaveStatements}
-use Rattle.yv_shown_tree.proofs.Alike.{adds_same}
+use Rattle.yv_shown_tree.specs.Under.{Keeps, KeepsAdded}
 use Rattle.yv_shown_tree.proofs.Choosing.{block_scope, nothing_given, ordinal_is}
 use Rattle.yv_shown_tree.proofs.Finding.{there_first, there_later}
 use Rattle.yv_shown_tree.proofs.Framing.{narrower, nothing_stands}
@@ -48,11 +47,14 @@ use Rattle.yv_shown_tree.proofs.Keeping.{AllKept, MayAll, all_go_up, all_keep, g
 use Rattle.yv_shown_tree.proofs.Kinding.{right_is}
 use Rattle.yv_shown_tree.proofs.Lying.{AllLies, Lies, laid_as, map_append, map_length, still_at}
 use Rattle.yv_shown_tree.proofs.Marking.{all_marks}
+use Rattle.yv_shown_tree.proofs.Reaching.{adds_of, judged_list}
+use Rattle.yv_shown_tree.proofs.Reaching.Goes.{adds, hits_still, misses, misses_still}
+use Rattle.yv_shown_tree.proofs.Refusing.{AskedAt, Go, TellsMore, added_tells, go_none, go_same, judged_tells, missed_tells}
 use Rattle.yv_shown_tree.proofs.Showing.{first_or, may_block, may_others}
 use Rattle.yv_shown_tree.proofs.Staging.{noted, noted_alike}
 use Rattle.yv_shown_tree.proofs.Using.{group_of_used, no_item}
 use Rattle.yv_shown_tree.proofs.Making.{IsHere, Makes, MayRun, all_state_is, drop_at, each_label, first_stops, low, new_long, node_stays, split_here}
-use Rattle.yv_shown_tree.proofs.MakingNodes.{Given, PartsMake, StandsBelow, all_make}
+use Rattle.yv_shown_tree.proofs.MakingNodes.{Given, PartsMake, StandsBelow, all_make, joined_nothing}
 use Rattle.yv_shown_tree.proofs.MakingRefines.{agree_at}
 use Rattle.yv_shown_tree.proofs.MakingNodes.PartsMake.{no_parts, one_part}
 
@@ -90,12 +92,12 @@ module _ (files : Files) (augments : List ℕ) (many : ℕ) (items : List Item) 
           pub marks : HasMarks its.given (mark_of w) st
           pub marked : AllMarked labels its.given (mark_of w) augs
 
-        -- they add to nodes what the augments do
-        abbrev pub AllMakes : {l : Laid} {these : List Item} {n hi c e k own : ℕ} {paths : List (List ℕ)} → AllLies w labels l these n hi c e k own paths → (augments : List ℕ) → (home : ℕ)
+        -- they add to nodes what the augments do, and at their items that is refused which is refused of these
+        abbrev pub AllMakes : {l : Laid} {these : List Item} {n hi c e k own : ℕ} {paths : List (List ℕ)} → AllLies w labels l these n hi c e k own paths → (augments : List ℕ) → Spot
             → (under : List ℕ) → Type 0
-        AllMakes {l = l} {these = these} {n = n} {hi = hi} {c = c} {e = e} {k = k} {own = own} F adding home under =
-            (g : ℕ) (m last : Made) (behind : List Item) (rest : List Spot) → Augmented files home under adding m last → IsHere files augments many items its l these behind n c F.new rest
-            → MayAllRun g n hi c e k own F.augments (state hi rest) → Adds labels (stage n (F.new ++ rest)) _ _ _ _ _ _ F.augments m.nodes last.nodes
+        AllMakes {l = l} {these = these} {n = n} {hi = hi} {c = c} {e = e} {k = k} {own = own} F adding s under =
+            (g : ℕ) (m last : Made) (behind : List Item) (rest : List Spot) → Augmented files s.home under adding m last → IsHere files augments many items its l these behind n c F.new rest
+            → MayAllRun g n hi c e k own F.augments (state hi rest) → Go files augments many items (stage n (F.new ++ rest)) s adding F.augments m.nodes last.nodes m.wrong last.wrong
 
         judged_nodes : (b : Bool) (a : ℕ) (m : Made) → (judged b a m).nodes ≡ m.nodes
         judged_nodes true a m = refl
@@ -123,32 +125,65 @@ module _ (files : Files) (augments : List ℕ) (many : ℕ) (items : List Item) 
           round = s.statement ∷ (its.node_of p).under
 
           -- an augment that gives no item
-          quiet_makes : (a : ℕ) (others : List ℕ) {l : Laid} {these : List Item} {n hi c e k own : ℕ} {paths : List (List ℕ)} (F : AllLies w labels l these n hi c e k own paths)
-              → ((j : ℕ) (r : Row) → Contains (block_of w.rows a) j → slice_get w.rows j ≡ Some r → is_item r ≡ false) → AllMakes F others s.home round → AllMakes F (a ∷ others) s.home round
-          quiet_makes a others {n = n} F no_items later g m last behind rest aug here may = by aug
+          quiet_makes : (a : ℕ) (others : List ℕ) (q : Row) → slice_get w.rows a ≡ Some q → is_augment q ≡ true → is_giving w.rows s.statement a ≡ false
+              → {l : Laid} {these : List Item} {n hi c e k own : ℕ} {paths : List (List ℕ)} (F : AllLies w labels l these n hi c e k own paths)
+              → ((j : ℕ) (r : Row) → Contains (block_of w.rows a) j → slice_get w.rows j ≡ Some r → is_item r ≡ false) → AllMakes F others s round → AllMakes F (a ∷ others) s round
+          quiet_makes a others q at_a is_aug quiet {n = n} F no_items later g m last behind rest aug here may = by aug
             where
-              by : {last : Made} → Augmented files s.home round (a ∷ others) m last → Adds labels (stage n (F.new ++ rest)) _ _ _ _ _ _ F.augments m.nodes last.nodes
+              now : Items
+              now = stage n (F.new ++ rest)
+
+              agrees : (r : Row) → slice_get w.rows a ≡ Some r → Agree labels now (path_in w s.home a) (path_of files s.home r)
+              agrees r at = agree_at files augments many items its facts each sound have (refined n (F.new ++ rest)) s.home a r at
+                  (right_is (has_word (codes "refine") r.head) (has_word (codes "augment") r.head) (ap is_augment (same_Some r q (sym at ∙ at_a)) ∙ is_aug))
+
+              by : {last : Made} → Augmented files s.home round (a ∷ others) m last
+                  → Go files augments many items now s (a ∷ others) F.augments m.nodes last.nodes m.wrong last.wrong
               by {last = last} (augment_adds {block = block} {there = there} {target = target} B reach more) =
                   let nothing_is : block ≡ made_none = gives_none files s.home B no_items in
-                  let still : there ≡ m.nodes =
-                  adds_none files s.home a m.nodes there target (subst (λ (z : Made). Reaches files s.home a (λ below. nodes.joined below z.nodes) m.nodes there target) nothing_is reach) in
-                  subst (λ z. Adds labels (stage n (F.new ++ rest)) _ _ _ _ _ _ F.augments z last.nodes)
-                  (judged_nodes (takes_block (rows_of files) a target.kind) a (record { nodes = there; wrong = m.wrong ++ block.wrong }) ∙ still)
-                  (later g (added files a target m block there) last behind rest more here may)
-              by {last = last} (augment_misses missed more) = later g (refused code.AugmentTarget a m) last behind rest more here may
+                  let reached : Reaches files s.home a (λ below. nodes.joined below nodes.none) m.nodes there target =
+                  subst (λ (z : Made). Reaches files s.home a (λ below. nodes.joined below z.nodes) m.nodes there target) nothing_is reach in
+                  let still : there ≡ m.nodes = adds_none files s.home a m.nodes there target reached in
+                  let so : Made = added files a target m block there in
+                  let is_taken : Bool = takes_block (rows_of files) a target.kind in
+                  let none_wrong : m.wrong ++ block.wrong ≡ m.wrong = ap (λ (z : Made). m.wrong ++ z.wrong) nothing_is ∙ append-nil m.wrong in
+                  let r = reached.leads.0 in
+                  let leads : Leads false (path_of files s.home r) m.nodes (end_at_node target reached.below target reached.below) there =
+                  subst (λ z. Leads false (path_of files s.home r) m.nodes (end_at_node target reached.below target z) there) (joined_nothing files augments many items its facts each reached.below) reached.leads.2 in
+                  let old : List Wrong = m.wrong ++ block.wrong in
+                  let x = subst (λ z. Go files augments many items now s others F.augments z last.nodes so.wrong last.wrong)
+                  (judged_nodes is_taken a (record { nodes = there; wrong = old }) ∙ still) (later g so last behind rest more here may) in
+                  let told = judged_tells files augments many items (λ y. KeepsAdded (adds_of w labels s now x.2) y) is_taken a there x.0 x.1 old last.wrong x.3 in (
+                    x.0,
+                    judged_list is_taken a x.1,
+                    hits_still (path_of files s.home r) quiet (agrees r reached.leads.1) (leads, reached.may_be) x.2,
+                    subst (λ z. TellsMore augments (AskedAt files augments many items) z (λ y. KeepsAdded (adds_of w labels s now x.2) y) x.0 (judged_list is_taken a x.1) last.wrong) none_wrong told,
+                  )
+              by {last = last} (augment_misses missed more) =
+                  let x = later g (refused code.AugmentTarget a m) last behind rest more here may in (
+                    a ∷ x.0,
+                    x.1,
+                    misses_still (path_of files s.home q) quiet (agrees q at_a)
+                        (λ target below there hit. missed target there (record { below = below; leads = (q, at_a, hit.0); may_be = hit.1 })) x.2,
+                    missed_tells files augments many items (λ y. KeepsAdded (adds_of w labels s now x.2) y) a x.0 x.1 m.wrong last.wrong x.3,
+                  )
 
           -- one that gives some
           module _ (a : ℕ) (others : List ℕ) (q : Row) (at_a : slice_get w.rows a ≡ Some q) (is_aug : is_augment q ≡ true) (l : Laid) (xs ys : List Item) (n mid hi c d e k own : ℕ)
               (A : Lies w labels l xs (group_of_augment labels k) n mid c d) {paths : List (List ℕ)} (G : AllLies w labels (laid_as w labels (l.spots ++ A.new) d) ys mid hi d e (k + 1) own paths)
               (some : n < mid)
               (firsts : (behind : List Item) → ((j : ℕ) → n ≤ j → is_from_at j (slice_get behind 0) ≡ false) → (j : ℕ) → n ≤ j → is_from_at j (slice_get (ys ++ behind) 0) ≡ false) where
-            giving_makes : (F : AllLies w labels l (xs ++ ys) n hi c e k own (path_in w s.home a ∷ paths)) → F.new ≡ A.new ++ G.new → F.augments ≡ augment mid d (path_in w s.home a) A.block G.augments
-                → Makes files augments many items its A (Given files augments many items its facts each (block_of w.rows a) s.home (a ∷ round)) → AllMakes G others s.home round → AllMakes F (a ∷ others) s.home round
-            giving_makes F new_is augs_are first later g m last behind rest aug here may =
-                subst (λ z. Adds labels (stage n (z ++ rest)) _ _ _ _ _ _ F.augments m.nodes last.nodes) (sym new_is)
-                (subst (λ z. Adds labels (stage n ((A.new ++ G.new) ++ rest)) _ _ _ _ _ _ z m.nodes last.nodes) (sym augs_are)
-                (subst (λ z. Adds labels (stage n z) _ _ _ _ _ _ (augment mid d (path_in w s.home a) A.block G.augments) m.nodes last.nodes) (sym (append_assoc A.new G.new rest)) (by aug)))
+            giving_makes : is_giving w.rows s.statement a ≡ true → (F : AllLies w labels l (xs ++ ys) n hi c e k own (path_in w s.home a ∷ paths)) → F.new ≡ A.new ++ G.new → F.augments ≡ augment mid d (path_in w s.home a) A.block G.augments
+                → Makes files augments many items its A (Given files augments many items its facts each (block_of w.rows a) s.home (a ∷ round)) → AllMakes G others s round → AllMakes F (a ∷ others) s round
+            giving_makes giving_one F new_is augs_are first later g m last behind rest aug here may =
+                subst (λ z. Go files augments many items (stage n (z ++ rest)) s (a ∷ others) F.augments m.nodes last.nodes m.wrong last.wrong) (sym new_is)
+                (subst (λ z. Go files augments many items (stage n ((A.new ++ G.new) ++ rest)) s (a ∷ others) z m.nodes last.nodes m.wrong last.wrong) (sym augs_are)
+                (subst (λ z. Go files augments many items (stage n z) s (a ∷ others) (augment mid d (path_in w s.home a) A.block G.augments) m.nodes last.nodes m.wrong last.wrong)
+                (sym (append_assoc A.new G.new rest)) (by aug)))
               where
+                now : Items
+                now = stage n (A.new ++ (G.new ++ rest))
+
                 up : (n ≤ mid) × (c ≤ d)
                 up = goes_up A.block
 
@@ -198,9 +233,11 @@ module _ (files : Files) (augments : List ℕ) (many : ℕ) (items : List Item) 
                 same_at : slice_get items mid ≡ slice_get (ys ++ behind) 0
                 same_at = ap (slice_get items) (let h : mid ≡ mid + 0 = omega arith in h) ∙ (sym (drop_at items mid 0) ∙ ap (λ z. slice_get z 0) both.0.items_are)
 
-                later_adds : (m last : Made) → Augmented files s.home round others m last → Adds labels (stage n (A.new ++ (G.new ++ rest))) _ _ _ _ _ _ G.augments m.nodes last.nodes
+                later_adds : (m last : Made) → Augmented files s.home round others m last
+                    → Go files augments many items (stage n (A.new ++ (G.new ++ rest))) s others G.augments m.nodes last.nodes m.wrong last.wrong
                 later_adds m last more =
-                    adds_same labels (stage mid (G.new ++ rest)) (stage n (A.new ++ (G.new ++ rest))) (noted_alike files spots its (refined mid (G.new ++ rest)) (refined n (A.new ++ (G.new ++ rest))))
+                    go_same files augments many items (stage mid (G.new ++ rest)) (stage n (A.new ++ (G.new ++ rest)))
+                    (noted_alike files spots its (refined mid (G.new ++ rest)) (refined n (A.new ++ (G.new ++ rest)))) s others m.wrong last.wrong
                     (λ i u h. node_stays files augments many items its facts each n mid A.new (G.new ++ rest) A.long (λ j v x. ap (is_from_at j) same_at ∙ firsts behind here.stops j v) i u) (later g m last behind rest more both.0 may_G)
 
                 agrees : (r : Row) → slice_get w.rows a ≡ Some r → Agree labels (stage n (A.new ++ (G.new ++ rest))) (path_in w s.home a) (path_of files s.home r)
@@ -208,33 +245,46 @@ module _ (files : Files) (augments : List ℕ) (many : ℕ) (items : List Item) 
                     (right_is (has_word (codes "refine") r.head) (has_word (codes "augment") r.head) (ap is_augment (same_Some r q (sym at ∙ at_a)) ∙ is_aug))
 
                 by : {last : Made} → Augmented files s.home round (a ∷ others) m last
-                    → Adds labels (stage n (A.new ++ (G.new ++ rest))) _ _ _ _ _ _ (augment mid d (path_in w s.home a) A.block G.augments) m.nodes last.nodes
+                    → Go files augments many items now s (a ∷ others) (augment mid d (path_in w s.home a) A.block G.augments) m.nodes last.nodes m.wrong last.wrong
                 by {last = last} (augment_adds {block = block} {there = there} {target = target} B reach more) =
                     let r = reach.leads.0 in
-                    let B_comes = first block.nodes (ys ++ behind) (G.new ++ rest) (block, B, refl) both.1 may_A in
-                    adds (path_of files s.home r) (agrees r reach.leads.1) some B_comes (reach.leads.2, reach.may_be)
-                    (subst (λ z. Adds labels (stage n (A.new ++ (G.new ++ rest))) _ _ _ _ _ _ G.augments z last.nodes)
-                    (judged_nodes (takes_block (rows_of files) a target.kind) a (record { nodes = there; wrong = m.wrong ++ block.wrong }))
-                    (later_adds (added files a target m block there) last more))
+                    let B_comes = first block (ys ++ behind) (G.new ++ rest) B both.1 may_A in
+                    let so : Made = added files a target m block there in
+                    let is_taken : Bool = takes_block (rows_of files) a target.kind in
+                    let old : List Wrong = m.wrong ++ block.wrong in
+                    let x = subst (λ z. Go files augments many items now s others G.augments z last.nodes so.wrong last.wrong)
+                    (judged_nodes is_taken a (record { nodes = there; wrong = old })) (later_adds so last more) in
+                    let told = judged_tells files augments many items (λ y. KeepsAdded (adds_of w labels s now x.2) y) is_taken a there x.0 x.1 old last.wrong x.3 in (
+                      x.0,
+                      judged_list is_taken a x.1,
+                      adds (path_of files s.home r) giving_one (agrees r reach.leads.1) some B_comes.0 (reach.leads.2, reach.may_be) x.2,
+                      added_tells files augments many items (λ y. Keeps B_comes.0 y) (λ y. KeepsAdded (adds_of w labels s now x.2) y) x.0 (judged_list is_taken a x.1) m.wrong block.wrong last.wrong
+                          B_comes.1 told,
+                    )
                 by {last = last} (augment_misses missed more) =
-                    misses (path_of files s.home q) (agrees q at_a) some
-                    (λ target below there hit. missed target there (record { below = below; leads = (q, at_a, hit.0); may_be = hit.1 })) (later_adds (refused code.AugmentTarget a m) last more)
+                    let x = later_adds (refused code.AugmentTarget a m) last more in (
+                      a ∷ x.0,
+                      x.1,
+                      misses (path_of files s.home q) giving_one (agrees q at_a) some
+                          (λ target below there hit. missed target there (record { below = below; leads = (q, at_a, hit.0); may_be = hit.1 })) x.2,
+                      missed_tells files augments many items (λ y. KeepsAdded (adds_of w labels s now x.2) y) a x.0 x.1 m.wrong last.wrong x.3,
+                    )
 
           abbrev GivenMade : (augments : List ℕ) → Laid → (n hi c k own : ℕ) → Tree → (passed : List ℕ) → Type 0
           GivenMade adding l n hi c k own u passed =
-              (e : ℕ) × (F : AllLies w labels l (listed (Some p) n u) n hi c e k own (map (path_in w s.home) passed)) × AllMakes F adding s.home round
+              (e : ℕ) × (F : AllLies w labels l (listed (Some p) n u) n hi c e k own (map (path_in w s.home) passed)) × AllMakes F adding s round
 
           pub all_given_make : (others done : List ℕ) {t : Tree} → PartsMake files augments many items its facts each (flat_map (block_of w.rows) others) t
               → ((a : ℕ) → Contains others a → (q : Row) × (slice_get w.rows a ≡ Some q) × (is_augment q ≡ true) × (q.scope ≡ s.statement))
               → giving w.rows s.statement ≡ done ++ filter (is_giving w.rows s.statement) others
               → (l : Laid) (n hi c k own : ℕ) → k ≡ s.first + length done → own ≡ s.first + length (giving w.rows s.statement) → length l.spots ≡ n → l.copies ≡ c → n + count t ≡ hi
               → p < n → slice_get l.spots p ≡ Some s
-              → (e : ℕ) × (F : AllLies w labels l (listed (Some p) n t) n hi c e k own (map (path_in w s.home) (filter (is_giving w.rows s.statement) others))) × AllMakes F others s.home round
+              → (e : ℕ) × (F : AllLies w labels l (listed (Some p) n t) n hi c e k own (map (path_in w s.home) (filter (is_giving w.rows s.statement) others))) × AllMakes F others s round
           all_given_make [] done no_parts augs gives l n hi c k own k_is own_is long all_copies ends less at =
               let h : n ≡ hi = omega (arith, ends) in
               let o : k ≡ own = (let f = ap length gives in let h = length-append done [] in omega (arith, f, h, k_is, own_is)) in
-              let pair = subst (λ (h : ℕ). (F : AllLies w labels l [] n h c c k own []) × AllMakes F [] s.home round) h
-              (subst (λ (o : ℕ). (F : AllLies w labels l [] n n c c k o []) × AllMakes F [] s.home round) o (empty, empty_adds)) in (c, pair.0, pair.1)
+              let pair = subst (λ (h : ℕ). (F : AllLies w labels l [] n h c c k own []) × AllMakes F [] s round) h
+              (subst (λ (o : ℕ). (F : AllLies w labels l [] n n c c k o []) × AllMakes F [] s round) o (empty, empty_adds)) in (c, pair.0, pair.1)
             where
               empty : AllLies w labels l [] n n c c k k []
               empty = record {
@@ -246,11 +296,12 @@ module _ (files : Files) (augments : List ℕ) (many : ℕ) (items : List Item) 
                 paths_are = refl;
               }
 
-              empty_adds : AllMakes empty [] s.home round
+              empty_adds : AllMakes empty [] s round
               empty_adds g m last behind rest aug here may = by aug
                 where
-                  by : {last : Made} → Augmented files s.home round [] m last → Adds labels (stage n rest) _ _ _ _ _ _ (no_augments {lo = n} {c = c} {k = k}) m.nodes last.nodes
-                  by augmented_all = none_left
+                  by : {last : Made} → Augmented files s.home round [] m last
+                      → Go files augments many items (stage n rest) s [] (no_augments {lo = n} {c = c} {k = k}) m.nodes last.nodes m.wrong last.wrong
+                  by augmented_all = go_none files augments many items (stage n rest) s m.nodes m.wrong
           all_given_make (a ∷ others) done {t = t} P augs gives l n hi c k own k_is own_is long all_copies ends less at =
               let sp = parts_make_split (block_of w.rows a) (flat_map (block_of w.rows) others) P in
               by (is_giving w.rows s.statement a) refl sp.0 sp.1 sp.2 sp.3 sp.4
@@ -263,7 +314,7 @@ module _ (files : Files) (augments : List ℕ) (many : ℕ) (items : List Item) 
               by : (b : Bool) → is_giving w.rows s.statement a ≡ b → (x y : Tree) → t ≡ joined x y → PartsMake files augments many items its facts each (block_of w.rows a) x → PartsMake files augments many items its facts each (flat_map (block_of w.rows) others) y
                   → ((more : List ℕ) (u : Tree) → PartsMake files augments many items its facts each (flat_map (block_of w.rows) others) u → giving w.rows s.statement ≡ more ++ filter (is_giving w.rows s.statement) others
                   → (l : Laid) (n c k : ℕ) → k ≡ s.first + length more → length l.spots ≡ n → l.copies ≡ c → n + count u ≡ hi → p < n → slice_get l.spots p ≡ Some s
-                  → (e : ℕ) × (F : AllLies w labels l (listed (Some p) n u) n hi c e k own (map (path_in w s.home) (filter (is_giving w.rows s.statement) others))) × AllMakes F others s.home round)
+                  → (e : ℕ) × (F : AllLies w labels l (listed (Some p) n u) n hi c e k own (map (path_in w s.home) (filter (is_giving w.rows s.statement) others))) × AllMakes F others s round)
                   → GivenMade (a ∷ others) l n hi c k own t (filter (is_giving w.rows s.statement) (a ∷ others))
               by false is x y whole_is A R later =
                   let q = augs a (there_first a others) in
@@ -273,7 +324,7 @@ module _ (files : Files) (augments : List ℕ) (many : ℕ) (items : List Item) 
                   let empty : x ≡ none = none_made A (λ j h. (let b = block_scope w.rows a j h in (b.0, b.1, no_items j b.0 h b.1))) in
                   let same : t ≡ y = whole_is ∙ ap (λ z. joined z y) empty in
                   let b = later done y R (gives ∙ ap (λ z. done ++ z) (chosen false is)) l n c k k_is long all_copies (ap (λ z. n + count z) (sym same) ∙ ends) less at in
-                  subst (λ z. GivenMade (a ∷ others) l n hi c k own z (filter (is_giving w.rows s.statement) (a ∷ others))) (sym same) (subst (GivenMade (a ∷ others) l n hi c k own y) (sym (chosen false is)) (b.0, b.1, quiet_makes a others b.1 no_items b.2))
+                  subst (λ z. GivenMade (a ∷ others) l n hi c k own z (filter (is_giving w.rows s.statement) (a ∷ others))) (sym same) (subst (GivenMade (a ∷ others) l n hi c k own y) (sym (chosen false is)) (b.0, b.1, quiet_makes a others q.0 q.1 q.2 is b.1 no_items b.2))
               by true is x y whole_is A R later =
                   let q = augs a (there_first a others) in
                   let mid : ℕ = n + count x in
@@ -297,10 +348,10 @@ module _ (files : Files) (augments : List ℕ) (many : ℕ) (items : List Item) 
                     lie = (map (told w) F.new, map (told w) G.new, map_append (told w) F.new G.new, F.lie, G.lie, (let f = map_length (told w) F.new in let h = F.long in omega (arith, f, h)));
                     paths_are = ap (λ z. path_in w s.home a ∷ z) G.paths_are;
                   } in
-                  let makes : AllMakes all (a ∷ others) s.home round =
+                  let makes : AllMakes all (a ∷ others) s round =
                   giving_makes a others q.0 q.1 q.2 l (listed (Some p) n x) (listed (Some p) mid y) n mid hi c one.0 two.0 k own F G (omega (arith, many_in))
-                  (λ behind stops. first_stops (Some p) n (λ q e. subst (λ (m : ℕ). m < n) (same_Some p q e) less) y mid behind stops) all refl refl one.2 two.2 in
-                  let pair = subst (λ these. (F : AllLies w labels l these n hi c two.0 k own (path_in w s.home a ∷ map (path_in w s.home) (filter (is_giving w.rows s.statement) others))) × AllMakes F (a ∷ others) s.home round)
+                  (λ behind stops. first_stops (Some p) n (λ q e. subst (λ (m : ℕ). m < n) (same_Some p q e) less) y mid behind stops) is all refl refl one.2 two.2 in
+                  let pair = subst (λ these. (F : AllLies w labels l these n hi c two.0 k own (path_in w s.home a ∷ map (path_in w s.home) (filter (is_giving w.rows s.statement) others))) × AllMakes F (a ∷ others) s round)
                   (sym (listed_joined (Some p) n x y)) (all, makes) in
                   subst (λ z. GivenMade (a ∷ others) l n hi c k own z (filter (is_giving w.rows s.statement) (a ∷ others))) (sym whole_is) (subst (GivenMade (a ∷ others) l n hi c k own (joined x y)) (sym (chosen true is))
                   (two.0, pair.0, pair.1))

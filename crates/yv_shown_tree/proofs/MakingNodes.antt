@@ -37,10 +37,10 @@ use Rattle.yv_expanded_tree.specs.Nodes as nodes
 use Rattle.yv_expanded_tree.proofs.Giving.{clash}
 use Rattle.yv_shown_tree.specs.Blocks.{Augments, Block, augment, no_augments, run, run_all}
 use Rattle.yv_shown_tree.specs.Blocks as block
-use Rattle.yv_shown_tree.specs.Comes.{Comes}
 use Rattle.yv_shown_tree.specs.Comes.Comes.{no_items as none_come, one_node}
 use Rattle.yv_shown_tree.specs.Giving.{ShowNodes, around, under_by}
 use Rattle.yv_shown_tree.specs.Shows.{Items}
+use Rattle.yv_shown_tree.specs.Under.{Keeps}
 use Rattle.yv_shown_tree.specs.Telling.{is_node_by, name_at, name_of}
 use Rattle.yv_shown_tree.proofs.Expanding.{no_uses}
 use Rattle.yv_shown_tree.proofs.Finding.{there_first, there_later}
@@ -48,6 +48,7 @@ use Rattle.yv_shown_tree.proofs.Joining.{count_joined, listed_joined}
 use Rattle.yv_shown_tree.proofs.Keeping.{goes_up}
 use Rattle.yv_shown_tree.proofs.Kinding.{input_is, input_no_uses, operation_item, output_is, output_no_uses, statement_kind}
 use Rattle.yv_shown_tree.proofs.Lying.{Lies, empty_lies, group_of_node, item_lies, laid_as, last_at, lies_then, part_no_uses, spot_stays, still_at}
+use Rattle.yv_shown_tree.proofs.Refusing.{Come, come_as, come_none, node_tells}
 use Rattle.yv_shown_tree.proofs.Staging.{all_above, changes_away, noted}
 use Rattle.yv_shown_tree.proofs.Making.{IsHere, Makes, MayRun, first_stops, item_here, spot_here, then_makes}
 
@@ -104,7 +105,7 @@ module _ (files : Files) (augments : List ℕ) (many : ℕ) (items : List Item) 
         × (under_by w.rows its r parent (spot_at l.spots parent) ≡ under)
 
     -- what stands below an item that is no uses
-    abbrev pub BelowMakes : Tree → (ℕ → List ℕ → Forest → Type 0) → Type 0
+    abbrev pub BelowMakes : Tree → (ℕ → List ℕ → Made → Type 0) → Type 0
     BelowMakes t G =
         (l : Laid) (p n hi c : ℕ) (s : Spot) → length l.spots ≡ n → l.copies ≡ c → n + count t ≡ hi → p < n → slice_get l.spots p ≡ Some s → is_uses s.label.kind ≡ false
         → (e : ℕ) × (F : Lies w labels l (listed (Some p) n t) (p + 1) n hi c e) × Makes files augments many items its F (G s.home (its.node_of p).under)
@@ -118,8 +119,8 @@ module _ (files : Files) (augments : List ℕ) (many : ℕ) (items : List Item) 
           ∙ ap (λ (b : Bool). if b then around w.rows r ++ s.statement ∷ (its.node_of p).under else (its.node_of p).under) no_uses,
     )
 
-    abbrev pub OwnGives : Origin → (ℕ → List ℕ → Forest → Type 0) → ℕ → List ℕ → Forest → Type 0
-    OwnGives o G home under f = (b : Forest) × G home under b × (f ≡ node (made_of o home under) b nodes.none)
+    abbrev pub OwnGives : Origin → (ℕ → List ℕ → Made → Type 0) → ℕ → List ℕ → Made → Type 0
+    OwnGives o G home under m = (b : Made) × G home under b × (m.nodes ≡ node (made_of o home under) b.nodes nodes.none) × (m.wrong ≡ b.wrong)
 
     node_kind : (k : Kind) → is_uses k ≡ false → labels_are.is_node k ≡ true
     node_kind kind.Uses isnt = absurd (false≢true (sym isnt))
@@ -138,7 +139,7 @@ module _ (files : Files) (augments : List ℕ) (many : ℕ) (items : List Item) 
     node_kind kind.Notification isnt = refl
 
     -- an item that is no uses
-    pub own_makes : (o : Origin) (t : Tree) (G : ℕ → List ℕ → Forest → Type 0) → BelowMakes t G → is_uses (kind_of w.rows o) ≡ false
+    pub own_makes : (o : Origin) (t : Tree) (G : ℕ → List ℕ → Made → Type 0) → BelowMakes t G → is_uses (kind_of w.rows o) ≡ false
         → (l : Laid) (parent : Option ℕ) (g n hi c home : ℕ) (under : List ℕ) → length l.spots ≡ n → l.copies ≡ c → n + count (item o t none) ≡ hi
         → ((p : ℕ) → parent ≡ Some p → p < n) → StandsBelow (slice_get w.rows (number_of o)) l parent g home under
         → (e : ℕ) × (F : Lies w labels l (listed parent n (item o t none)) g n hi c e) × Makes files augments many items its F (OwnGives o G home under)
@@ -156,7 +157,7 @@ module _ (files : Files) (augments : List ℕ) (many : ℕ) (items : List Item) 
 
         makes : (e : ℕ) (q : Lies w labels (laid_as w labels (l.spots ++ s ∷ []) c) (listed (Some n) (n + 1) t) (n + 1) (n + 1) hi c e) → Makes files augments many items its q (G s.home (its.node_of n).under)
             → Makes files augments many items its (item_lies w labels l x (listed (Some n) (n + 1) t) g n hi c e long all_copies no_uses group q) (OwnGives o G home under)
-        makes e q inside f behind rest (b, gives, f_is) here may =
+        makes e q inside m behind rest (b, gives, nodes_are, wrong_is) here may =
             let up = goes_up q.block in let nh = up.0 in let ce = up.1 in
             let more = length-append l.spots (s ∷ []) in
             let xs : List Spot = q.new ++ rest in
@@ -186,8 +187,7 @@ module _ (files : Files) (augments : List ℕ) (many : ℕ) (items : List Item) 
               empty = λ y a b. may.empty y (omega (arith, a)) b;
               marks = may.marks;
             } in
-            let B : Comes labels (stage (n + 1) xs) _ _ _ _ q.block b =
-            inside b behind rest (subst (λ u. G s.home u b) (sym under_now) (subst (λ (h : ℕ). G h under b) (sym home_is) gives)) here_q may_q in
+            let B = inside b behind rest (subst (λ u. G s.home u b) (sym under_now) (subst (λ (h : ℕ). G h under b) (sym home_is) gives)) here_q may_q in
             let same : refined n (s ∷ xs) ≡ refined (n + 1) xs =
             ap (λ (t : Bool). refined (n + 1) xs ++ (if t then map (λ k. record { item = n; refine = k; target = meant w labels s (end_at items n) k (state (n + 1) xs) }) (refines_in w.rows s.statement) else [])) no_uses
             ∙ append-nil (refined (n + 1) xs) in
@@ -198,14 +198,15 @@ module _ (files : Files) (augments : List ℕ) (many : ℕ) (items : List Item) 
             (changes_away files spots (λ i. n + 1 + 1 ≤ i) n (refined (n + 1) xs) (all_above w labels copies (end_at items) (n + 1) xs) (λ h. omega (arith, h)))
             ∙ node_is (its.node_of n) o under home (kind_of w.rows o) (name_of w.rows o) (facts.origin n x at_item) under_now (facts.told.home n s at_spot ∙ home_is)
             (facts.told.kind n s at_spot) (facts.told.name n x at_item) (facts.giver n) in
-            subst (λ z. Comes labels (noted files spots its z) _ _ _ _ (block.item {lo = n} {hi = hi} {c = c} {e = e} hi e q.block block.nothing) f) (sym same)
-            (subst (λ z. Comes labels (stage (n + 1) xs) _ _ _ _ (block.item {lo = n} {hi = hi} {c = c} {e = e} hi e q.block block.nothing) z)
-            (ap (λ z. node z b nodes.none) shows ∙ sym f_is) (one_node is_node B none_come))
+            subst (λ z. Come files augments many items (noted files spots its z) (block.item {lo = n} {hi = hi} {c = c} {e = e} hi e q.block block.nothing) m.nodes m.wrong) (sym same)
+            (come_as files augments many items (stage (n + 1) xs) (block.item {lo = n} {hi = hi} {c = c} {e = e} hi e q.block block.nothing) (node ((stage (n + 1) xs).node_of n) b.nodes nodes.none) m.nodes b.wrong m.wrong
+            (ap (λ z. node z b.nodes nodes.none) shows ∙ sym nodes_are) (sym wrong_is)
+            (one_node is_node B.0 none_come, node_tells files augments many items n s (λ x. Keeps B.0 x) b.wrong at_spot no_uses B.1))
 
     -- an operation's input and output
-    pub two_make : (o q : Origin) (t u : Tree) (P Q : ℕ → List ℕ → Forest → Type 0) → BelowMakes t P → BelowMakes u Q → is_uses (kind_of w.rows o) ≡ false
+    pub two_make : (o q : Origin) (t u : Tree) (P Q : ℕ → List ℕ → Made → Type 0) → BelowMakes t P → BelowMakes u Q → is_uses (kind_of w.rows o) ≡ false
         → is_uses (kind_of w.rows q) ≡ false
-        → BelowMakes (item o t (item q u none)) (λ home under f. (a : Forest) × (b : Forest) × OwnGives o P home under a × OwnGives q Q home under b × (f ≡ nodes.joined a b))
+        → BelowMakes (item o t (item q u none)) (λ home under m. (a : Made) × (b : Made) × OwnGives o P home under a × OwnGives q Q home under b × (m.nodes ≡ nodes.joined a.nodes b.nodes) × (m.wrong ≡ a.wrong ++ b.wrong))
     two_make o q t u P Q T U no_o no_q l p n hi c s long all_copies ends less at no_uses =
         let mid : ℕ = n + count (item o t none) in
         let home : ℕ = s.home in
@@ -217,7 +218,7 @@ module _ (files : Files) (augments : List ℕ) (many : ℕ) (items : List Item) 
         let at_more : slice_get (l.spots ++ A.new) p ≡ Some s = still_at l.spots A.new p (omega (arith, less, long)) ∙ at in
         let b = own_makes q u Q U no_q (laid_as w labels (l.spots ++ A.new) a.0) (Some p) (p + 1) mid hi a.0 home under (omega (arith, more, A_long, long)) refl
         (omega (arith, ends)) (λ x is. (let same : p ≡ x = same_Some p x is in omega (arith, same, less))) (below_item (laid_as w labels (l.spots ++ A.new) a.0) p s (slice_get w.rows (number_of q)) at_more no_uses) in
-        let G : Forest → Type 0 = λ f. (x : Forest) × (y : Forest) × OwnGives o P home under x × OwnGives q Q home under y × (f ≡ nodes.joined x y) in
+        let G : Made → Type 0 = λ m. (x : Made) × (y : Made) × OwnGives o P home under x × OwnGives q Q home under y × (m.nodes ≡ nodes.joined x.nodes y.nodes) × (m.wrong ≡ x.wrong ++ y.wrong) in
         let pair = subst (λ these. (F : Lies w labels l these (p + 1) n hi c b.0) × Makes files augments many items its F G) (sym (listed_joined (Some p) n (item o t none) (item q u none))) (
           lies_then w labels l (listed (Some p) n (item o t none)) (listed (Some p) mid (item q u none)) (p + 1) n mid hi c a.0 b.0 A b.1,
           then_makes files augments many items its facts each l (listed (Some p) n (item o t none)) (listed (Some p) mid (item q u none)) (p + 1) n mid hi c a.0 b.0 A b.1 (OwnGives o P home under) (OwnGives q Q home under) G
@@ -225,8 +226,8 @@ module _ (files : Files) (augments : List ℕ) (many : ℕ) (items : List Item) 
         ) in (b.0, pair.0, pair.1)
 
     -- what numbered statements give
-    abbrev pub Given : List ℕ → (home : ℕ) → (under : List ℕ) → Forest → Type 0
-    Given ks home under f = (m : Made) × Gives files home under ks m × (f ≡ m.nodes)
+    abbrev pub Given : List ℕ → (home : ℕ) → (under : List ℕ) → Made → Type 0
+    Given ks home under m = Gives files home under ks m
 
     -- each statement gives a part of the items, and this gives the nodes that the statement does
     pub record PartMakes (k : ℕ) (t : Tree) : Type 0 where
@@ -240,11 +241,8 @@ module _ (files : Files) (augments : List ℕ) (many : ℕ) (items : List Item) 
       no_parts : PartsMake [] none
       one_part : {k : ℕ} {ks : List ℕ} {t u : Tree} → PartMakes k t → PartsMake ks u → PartsMake (k ∷ ks) (joined t u)
 
-    no_nodes : (home : ℕ) (under : List ℕ) (f : Forest) → Given [] home under f → f ≡ nodes.none
-    no_nodes home under f (m, gives, is) = is ∙ by gives
-      where
-        by : {m : Made} → Gives files home under [] m → m.nodes ≡ nodes.none
-        by gives_nothing = refl
+    nothing_given : {home : ℕ} {under : List ℕ} {m : Made} → Given [] home under m → (m.nodes ≡ nodes.none) × (m.wrong ≡ [])
+    nothing_given gives_nothing = (refl, refl)
 
     joined_end : (a b : Forest) → nodes.joined a b ≡ nodes.joined (nodes.joined a nodes.none) b
     joined_end nodes.none b = refl
@@ -255,23 +253,24 @@ module _ (files : Files) (augments : List ℕ) (many : ℕ) (items : List Item) 
     joined_nothing (node x inner rest) = ap (λ z. node x inner z) (joined_nothing rest)
 
     -- what statements give is what the first gives, and behind it what the others do
-    gives_split : (k : ℕ) (ks : List ℕ) (home : ℕ) (under : List ℕ) (f : Forest) → Given (k ∷ ks) home under f
-        → (a : Forest) × (b : Forest) × Given (k ∷ []) home under a × Given ks home under b × (f ≡ nodes.joined a b)
-    gives_split k ks home under f (m, gives, is) = (let r = by gives in (r.0, r.1, r.2, r.3, is ∙ r.4))
-      where
-        by : {m : Made} → Gives files home under (k ∷ ks) m
-            → (a : Forest) × (b : Forest) × Given (k ∷ []) home under a × Given ks home under b × (m.nodes ≡ nodes.joined a b)
-        by (gives_other {m = m} at isnt e) = (nodes.none, m.nodes, (made_none, gives_other at isnt gives_nothing, refl), (m, e, refl), refl)
-        by (gives_node {below = below} {behind = behind} at is_one o u known B e) =
-            (_, behind.nodes, (_, gives_node at is_one o u known B gives_nothing, refl), (behind, e, refl), refl)
-        by (gives_operation {behind = behind} at is_one o u known I O e) =
-            (_, behind.nodes, (_, gives_operation at is_one o u known I O gives_nothing, refl), (behind, e, refl), refl)
-        by (gives_uses {given = given} {behind = behind} at is_one u d C R A e) =
-            (_, behind.nodes, (_, gives_uses at is_one u d C R A gives_nothing, refl), (behind, e, refl), joined_end given.nodes behind.nodes)
+    abbrev Split : (k : ℕ) (ks : List ℕ) (home : ℕ) (under : List ℕ) → Made → Type 0
+    Split k ks home under m =
+        (a : Made) × (b : Made) × Given (k ∷ []) home under a × Given ks home under b × (m.nodes ≡ nodes.joined a.nodes b.nodes) × (m.wrong ≡ a.wrong ++ b.wrong)
+
+    gives_split : {k : ℕ} {ks : List ℕ} {home : ℕ} {under : List ℕ} {m : Made} → Given (k ∷ ks) home under m → Split k ks home under m
+    gives_split (gives_other {m = m} at isnt e) = (made_none, m, gives_other at isnt gives_nothing, e, refl, refl)
+    gives_split (gives_node {below = below} {behind = behind} at is_one o u known B e) =
+        (_, behind, gives_node at is_one o u known B gives_nothing, e, refl, ap (λ z. z ++ behind.wrong) (sym (append-nil below.wrong)))
+    gives_split (gives_operation {input = input} {output = output} {behind = behind} at is_one o u known I O e) =
+        (_, behind, gives_operation at is_one o u known I O gives_nothing, e, refl, ap (λ z. z ++ behind.wrong) (sym (append-nil (input.wrong ++ output.wrong))))
+    gives_split (gives_uses {given = given} {behind = behind} at is_one u d C R A e) =
+        (_, behind, gives_uses at is_one u d C R A gives_nothing, e, joined_end given.nodes behind.nodes, ap (λ z. z ++ behind.wrong) (sym (append-nil given.wrong)))
 
     empty_makes : (l : Laid) (g n c : ℕ) (same : l.copies ≡ c) (home : ℕ) (under : List ℕ) → Makes files augments many items its (empty_lies w labels l g n c same) (Given [] home under)
-    empty_makes l g n c same home under f behind rest gives here may =
-        subst (λ z. Comes labels (stage n rest) _ _ _ _ (block.nothing {lo = n} {c = c}) z) (sym (no_nodes home under f gives)) none_come
+    empty_makes l g n c same home under m behind rest gives here may =
+        let none_so = nothing_given gives in
+        come_as files augments many items (stage n rest) (block.nothing {lo = n} {c = c}) nodes.none m.nodes [] m.wrong (sym none_so.0) (sym none_so.1)
+        (come_none files augments many items (stage n rest))
 
     pub all_make : {ks : List ℕ} {t : Tree} → PartsMake ks t → (l : Laid) (parent : Option ℕ) (g n hi c home : ℕ) (under : List ℕ) → length l.spots ≡ n → l.copies ≡ c
         → n + count t ≡ hi → ((p : ℕ) → parent ≡ Some p → p < n)
@@ -292,7 +291,7 @@ module _ (files : Files) (augments : List ℕ) (many : ℕ) (items : List Item) 
         let pair = subst (λ these. (F : Lies w labels l these g n hi c b.0) × Makes files augments many items its F (Given (k ∷ ks) home under)) (sym (listed_joined parent n t u)) (
           lies_then w labels l (listed parent n t) (listed parent (n + count t) u) g n (n + count t) hi c a.0 b.0 A b.1,
           then_makes files augments many items its facts each l (listed parent n t) (listed parent (n + count t) u) g n (n + count t) hi c a.0 b.0 A b.1 (Given (k ∷ []) home under) (Given ks home under) (Given (k ∷ ks) home under)
-              (gives_split k ks home under) (λ behind stops. first_stops parent n below u (n + count t) behind stops) a.2 b.2,
+              (λ m gives. gives_split gives) (λ behind stops. first_stops parent n below u (n + count t) behind stops) a.2 b.2,
         ) in (b.0, pair.0, pair.1)
 
     below_make : {ks : List ℕ} {t : Tree} → PartsMake ks t → BelowMakes t (Given ks)
@@ -301,8 +300,8 @@ module _ (files : Files) (augments : List ℕ) (many : ℕ) (items : List Item) 
         (λ k r there row. below_item l p s (Some r) at no_uses)
 
     -- what an item gives, for other reasons
-    pub makes_for : {l : Laid} {these : List Item} {g n hi c e : ℕ} (F : Lies w labels l these g n hi c e) (G H : Forest → Type 0) → ((f : Forest) → H f → G f) → Makes files augments many items its F G → Makes files augments many items its F H
-    makes_for F G H all makes f behind rest gives here may = makes f behind rest (all f gives) here may
+    pub makes_for : {l : Laid} {these : List Item} {g n hi c e : ℕ} (F : Lies w labels l these g n hi c e) (G H : Made → Type 0) → ((m : Made) → H m → G m) → Makes files augments many items its F G → Makes files augments many items its F H
+    makes_for F G H all makes m behind rest gives here may = makes m behind rest (all m gives) here may
 
     pub node_makes : (k : ℕ) (r : Row) (under_it : Tree) → slice_get w.rows k ≡ Some r → is_item r ≡ true → is_operation r ≡ false → refers.is_uses r ≡ false
         → PartsMake (block_of w.rows k) under_it → PartMakes k (item (Statement k) under_it none)
@@ -315,18 +314,19 @@ module _ (files : Files) (augments : List ℕ) (many : ℕ) (items : List Item) 
       some = λ q row is. omega arith;
     }
       where
-        gives_one : (home : ℕ) (under : List ℕ) (f : Forest) → Given (k ∷ []) home under f → OwnGives (Statement k) (Given (block_of w.rows k)) home under f
-        gives_one home under f (m, gives, is) = (let x = by gives in (x.0, x.1, is ∙ x.2))
+        gives_one : (home : ℕ) (under : List ℕ) (m : Made) → Given (k ∷ []) home under m → OwnGives (Statement k) (Given (block_of w.rows k)) home under m
+        gives_one home under m gives = by gives
           where
-            by : {m : Made} → Gives files home under (k ∷ []) m → OwnGives (Statement k) (Given (block_of w.rows k)) home under m.nodes
+            by : {m : Made} → Gives files home under (k ∷ []) m → OwnGives (Statement k) (Given (block_of w.rows k)) home under m
             by (gives_other at' isnt e) = absurd (clash is_item w.rows k _ _ at' at isnt is_one)
             by (gives_node {r = q} {kd = kd} {below = below} at' is_item' o u known B gives_nothing) = (
-              below.nodes,
-              (below, B, refl),
+              below,
+              B,
               ap (λ (z : Kind). node (record { origin = Statement k; under = under; home = home; kind = z; name = node_name q.head; refines = []; giver = None }) below.nodes nodes.none)
                   (sym (ap kind_at at' ∙ ap (λ x. unwrap_or x kind.Uses) known))
                   ∙ ap (λ z. node (record { origin = Statement k; under = under; home = home; kind = kind_at (slice_get w.rows k); name = z; refines = []; giver = None }) below.nodes nodes.none)
                   (sym (ap name_at at')),
+              append-nil below.wrong,
             )
             by (gives_operation at' is_item' o u known I O e) = absurd (clash is_operation w.rows k _ _ at at' no_operation o)
             by (gives_uses at' is_item' u d C R A e) = absurd (clash refers.is_uses w.rows k _ _ at at' no_uses u)
@@ -352,10 +352,11 @@ module _ (files : Files) (augments : List ℕ) (many : ℕ) (items : List Item) 
         out_origin : Origin
         out_origin = part_of (Output k) (output_of w.rows k)
 
-        Both : ℕ → List ℕ → Forest → Type 0
-        Both home under f =
-            (a : Forest) × (b : Forest) × OwnGives (part_of (Input k) (input_of w.rows k)) (Given (part_block w.rows (input_of w.rows k))) home under a
-            × OwnGives (part_of (Output k) (output_of w.rows k)) (Given (part_block w.rows (output_of w.rows k))) home under b × (f ≡ nodes.joined a b)
+        Both : ℕ → List ℕ → Made → Type 0
+        Both home under m =
+            (a : Made) × (b : Made) × OwnGives (part_of (Input k) (input_of w.rows k)) (Given (part_block w.rows (input_of w.rows k))) home under a
+            × OwnGives (part_of (Output k) (output_of w.rows k)) (Given (part_block w.rows (output_of w.rows k))) home under b
+            × (m.nodes ≡ nodes.joined a.nodes b.nodes) × (m.wrong ≡ a.wrong ++ b.wrong)
 
         in_is : (home : ℕ) (under : List ℕ) (b : Forest) → node (record { origin = in_origin; under = under; home = home; kind = kind.Input; name = codes "input"; refines = []; giver = None }) b nodes.none
             ≡ node (made_of in_origin home under) b nodes.none
@@ -369,20 +370,24 @@ module _ (files : Files) (augments : List ℕ) (many : ℕ) (items : List Item) 
             ap (λ (z : Kind). node (record { origin = out_origin; under = under; home = home; kind = z; name = codes "output"; refines = []; giver = None }) b nodes.none) (sym (output_is w.rows k).0)
             ∙ ap (λ z. node (record { origin = out_origin; under = under; home = home; kind = kind_of w.rows out_origin; name = z; refines = []; giver = None }) b nodes.none) (sym (output_is w.rows k).1)
 
-        gives_one : (home : ℕ) (under : List ℕ) (f : Forest) → Given (k ∷ []) home under f → OwnGives (Statement k) Both home under f
-        gives_one home under f (m, gives, is) = (let x = by gives in (x.0, x.1, is ∙ x.2))
+        gives_one : (home : ℕ) (under : List ℕ) (m : Made) → Given (k ∷ []) home under m → OwnGives (Statement k) Both home under m
+        gives_one home under m gives = by gives
           where
-            by : {m : Made} → Gives files home under (k ∷ []) m → OwnGives (Statement k) Both home under m.nodes
+            by : {m : Made} → Gives files home under (k ∷ []) m → OwnGives (Statement k) Both home under m
             by (gives_other at' isnt e) = absurd (clash is_item w.rows k _ _ at' at isnt (operation_item r is_one).0)
             by (gives_node at' is_item' o u known B e) = absurd (clash is_operation w.rows k _ _ at' at o is_one)
             by (gives_operation {r = q} {kd = kd} {input = x} {output = y} at' is_item' o u known I' O' gives_nothing) =
-                let a : Forest = node (record { origin = in_origin; under = under; home = home; kind = kind.Input; name = codes "input"; refines = []; giver = None }) x.nodes nodes.none in
-                let b : Forest = node (record { origin = out_origin; under = under; home = home; kind = kind.Output; name = codes "output"; refines = []; giver = None }) y.nodes nodes.none in (
-                  nodes.joined a b,
-                  (a, b, (x.nodes, (x, I', refl), in_is home under x.nodes), (y.nodes, (y, O', refl), out_is home under y.nodes), refl),
-                  ap (λ (z : Kind). node (record { origin = Statement k; under = under; home = home; kind = z; name = node_name q.head; refines = []; giver = None }) (nodes.joined a b) nodes.none)
+                let f : Forest = node (record { origin = in_origin; under = under; home = home; kind = kind.Input; name = codes "input"; refines = []; giver = None }) x.nodes nodes.none in
+                let g : Forest = node (record { origin = out_origin; under = under; home = home; kind = kind.Output; name = codes "output"; refines = []; giver = None }) y.nodes nodes.none in
+                let a : Made = record { nodes = f; wrong = x.wrong } in
+                let b : Made = record { nodes = g; wrong = y.wrong } in
+                let two : Made = record { nodes = nodes.joined f g; wrong = x.wrong ++ y.wrong } in (
+                  two,
+                  (a, b, (x, I', in_is home under x.nodes, refl), (y, O', out_is home under y.nodes, refl), refl, refl),
+                  ap (λ (z : Kind). node (record { origin = Statement k; under = under; home = home; kind = z; name = node_name q.head; refines = []; giver = None }) (nodes.joined f g) nodes.none)
                       (sym (ap kind_at at' ∙ ap (λ x. unwrap_or x kind.Uses) known))
-                      ∙ ap (λ z. node (record { origin = Statement k; under = under; home = home; kind = kind_at (slice_get w.rows k); name = z; refines = []; giver = None }) (nodes.joined a b) nodes.none)
+                      ∙ ap (λ z. node (record { origin = Statement k; under = under; home = home; kind = kind_at (slice_get w.rows k); name = z; refines = []; giver = None }) (nodes.joined f g) nodes.none)
                       (sym (ap name_at at')),
+                  append-nil (x.wrong ++ y.wrong),
                 )
             by (gives_uses at' is_item' u d C R A e) = absurd (clash refers.is_uses w.rows k _ _ at at' (operation_item r is_one).1 u)

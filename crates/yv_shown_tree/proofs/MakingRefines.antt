@@ -40,11 +40,12 @@ use Rattle.yv_shown_tree.specs.Refining.{changed}
 use Rattle.yv_shown_tree.specs.Shows.{Agree, Items}
 use Rattle.yv_shown_tree.specs.Telling.{AreItems, HaveStatements}
 use Rattle.yv_shown_tree.specs.RefusedRefines.{Refuse}
+use Rattle.yv_shown_tree.specs.Under.{Keeps}
 use Rattle.yv_shown_tree.proofs.RefusedRefines.{fits, means_none, none_refused, unfit}
-use Rattle.yv_shown_tree.proofs.Alike.{AreAlike, IsLike, comes_same}
+use Rattle.yv_shown_tree.proofs.Alike.{AreAlike, IsLike, Same, comes_kept, same_then}
 use Rattle.yv_shown_tree.proofs.Finding.{not_none, there_first, there_later}
 use Rattle.yv_shown_tree.proofs.Lying.{map_length}
-use Rattle.yv_shown_tree.proofs.Refined.{block_is_missed, block_is_refined}
+use Rattle.yv_shown_tree.proofs.Refined.{block_is_missed, refined_kept}
 use Rattle.yv_shown_tree.proofs.Staging.{Targets, changes_first, changes_then, noted, noted_alike, noted_labels}
 use Rattle.yv_shown_tree.proofs.Telling.{paths_agree, there_is, told_at}
 use Rattle.yv_shown_tree.proofs.Making.{MayRun, are, low}
@@ -150,7 +151,7 @@ module _ (files : Files) (augments : List ℕ) (many : ℕ) (items : List Item) 
         abbrev now : State
         now = run labels s.group block st
 
-        refinable : (refined : List Refined) (m : Forest) → Comes labels (noted files spots its refined) _ _ _ _ block m
+        abbrev refinable : (refined : List Refined) (m : Forest) → Comes labels (noted files spots its refined) _ _ _ _ block m
             → IsRefinable labels (noted files spots its refined) (mark_of w) s.group lo mid own d limit block st m
         refinable refined m comes = record {
           comes = comes;
@@ -171,28 +172,44 @@ module _ (files : Files) (augments : List ℕ) (many : ℕ) (items : List Item) 
             by (Some (end_is.ShorthandCase j)) is = ap (option_and_then node_at) is
             by (Some (end_is.Node j)) is = absurd (never j is)
 
+        -- the block gives these nodes when these refines changed some, and keeps what it kept
+        abbrev pub RefinedSo : List ℕ → Forest → List Refined → (ℕ → Type 0) → Type 0
+        RefinedSo ks f refined kept =
+            (D : Comes labels (noted files spots its (refined ++ meant_all s n limit now ks)) _ _ _ _ block f) × Same (λ x. Keeps D x) kept
+
+        -- the refines behind one
+        one_more : (y : Refined) (ks : List ℕ) (f : Forest) (refined : List Refined) (P Q : ℕ → Type 0) → Same P Q
+            → (D : Comes labels (noted files spots its ((refined ++ y ∷ []) ++ meant_all s n limit now ks)) _ _ _ _ block f) × Same (λ x. Keeps D x) P
+            → (D : Comes labels (noted files spots its (refined ++ y ∷ meant_all s n limit now ks)) _ _ _ _ block f) × Same (λ x. Keeps D x) Q
+        one_more y ks f refined P Q kept r =
+            subst (λ z. (D : Comes labels (noted files spots its z) _ _ _ _ block f) × Same (λ x. Keeps D x) Q) (append_assoc refined (y ∷ []) (meant_all s n limit now ks))
+            (r.0, same_then (λ x. Keeps r.0 x) P Q r.1 kept)
+
         -- With its refines the block gives the nodes that are refined, and they mean items of it. Those are refused that are refused for what
-        -- they mean by number.
+        -- they mean by number. The block keeps the same items.
         pub refines_come : (ks : List ℕ) → ((k : ℕ) → Contains ks k → (r : Row) × (slice_get (rows_of files) k ≡ Some r) × (has_path r ≡ true)) → {m last : Made}
-            → AreRefined files s.home ks m last → (refined : List Refined) → Comes labels (noted files spots its refined) _ _ _ _ block m.nodes
-            → Comes labels (noted files spots its (refined ++ meant_all s n limit now ks)) _ _ _ _ block last.nodes × Targets (λ i. i < mid) (meant_all s n limit now ks)
+            → AreRefined files s.home ks m last → (refined : List Refined) → (C : Comes labels (noted files spots its refined) _ _ _ _ block m.nodes)
+            → RefinedSo ks last.nodes refined (λ x. Keeps C x) × Targets (λ i. i < mid) (meant_all s n limit now ks)
             × Refuse files spots (meant_all s n limit now ks) m.wrong last.wrong
-        refines_come [] paths {m = m} refined_all refined C = (subst (λ z. Comes labels (noted files spots its z) _ _ _ _ block m.nodes) (sym (append-nil refined)) C, tt, none_refused files spots m.wrong)
+        refines_come [] paths {m = m} refined_all refined C = (
+          subst (λ z. (D : Comes labels (noted files spots its z) _ _ _ _ block m.nodes) × Same (λ x. Keeps D x) (λ x. Keeps C x)) (sym (append-nil refined)) (C, λ x. (λ h. h, λ h. h)),
+          tt,
+          none_refused files spots m.wrong,
+        )
         refines_come (k ∷ ks) paths {last = last} (refine_changes {m = m} {g = g} {below = below} {there = there} (r, at, leads) fit later) refined C =
             let path = paths k (there_first k ks) in
             let same_row : path.0 ≡ r = same_Some path.0 r (sym path.1 ∙ at) in
             let agree = agree_at refined s.home k r at (ap has_path (sym same_row) ∙ path.2) in
-            let x = block_is_refined labels (noted files spots its refined) (mark_of w) (noted_labels files spots labels its refined (are files augments many items its facts each)) (low files augments many items its facts each) s.group lo mid own d limit k block (path_in w s.home k)
+            let x = refined_kept labels (noted files spots its refined) (mark_of w) (noted_labels files spots labels its refined (are files augments many items its facts each)) (low files augments many items its facts each) s.group lo mid own d limit k block (path_in w s.home k)
             (path_of files s.home r) st m.nodes below there g (refinable refined m.nodes C) agree leads in
             let i : ℕ = x.0 in
             let y : Refined = record { item = n; refine = k; target = meant w labels s limit k now } in
             let target : y.target ≡ Some i = ap (option_and_then node_at) x.1 in
             let in_items = may.enters.items in let up = x.4 in
             let is_so : is_fit_for files spots k i ≡ true = fit_same k i (omega (arith, up, in_items)) ∙ (ap (λ (z : Node). is_fit files k z) (sym x.2) ∙ fit) in
-            let D : Comes labels (noted files spots its (refined ++ y ∷ [])) _ _ _ _ block there =
-            comes_same labels (changed (noted files spots its refined) i k) (noted files spots its (refined ++ y ∷ [])) (after refined y i) (λ j l h. one_node_more refined y i j (added_change refined y i true target is_so j)) x.5 in
-            let more = refines_come ks (λ j h. paths j (there_later k j ks h)) later (refined ++ y ∷ []) D in (
-              subst (λ z. Comes labels (noted files spots its z) _ _ _ _ block last.nodes) (append_assoc refined (y ∷ []) (meant_all s n limit now ks)) more.0,
+            let D = comes_kept labels (changed (noted files spots its refined) i k) (noted files spots its (refined ++ y ∷ [])) (after refined y i) (λ j l h. one_node_more refined y i j (added_change refined y i true target is_so j)) x.5 in
+            let more = refines_come ks (λ j h. paths j (there_later k j ks h)) later (refined ++ y ∷ []) D.0 in (
+              one_more y ks last.nodes refined (λ z. Keeps D.0 z) (λ z. Keeps C z) (same_then (λ z. Keeps D.0 z) (λ z. Keeps x.5 z) (λ z. Keeps C z) D.1 x.6) more.0,
               ((λ j is. subst (λ (m : ℕ). m < mid) (same_Some i j (sym target ∙ is)) x.4), more.1),
               fits files spots y i (meant_all s n limit now ks) m.wrong last.wrong target is_so more.2,
             )
@@ -201,18 +218,17 @@ module _ (files : Files) (augments : List ℕ) (many : ℕ) (items : List Item) 
             let same_row : path.0 ≡ r = same_Some path.0 r (sym path.1 ∙ at) in
             let agree = agree_at refined s.home k r at (ap has_path (sym same_row) ∙ path.2) in
             let other = any_exchange leads (record g { refines = g.refines ++ k ∷ [] }) below in
-            let x = block_is_refined labels (noted files spots its refined) (mark_of w) (noted_labels files spots labels its refined (are files augments many items its facts each)) (low files augments many items its facts each) s.group lo mid own d limit k block (path_in w s.home k)
+            let x = refined_kept labels (noted files spots its refined) (mark_of w) (noted_labels files spots labels its refined (are files augments many items its facts each)) (low files augments many items its facts each) s.group lo mid own d limit k block (path_in w s.home k)
             (path_of files s.home r) st m.nodes below other.0 g (refinable refined m.nodes C) agree other.1 in
             let i : ℕ = x.0 in
             let y : Refined = record { item = n; refine = k; target = meant w labels s limit k now } in
             let target : y.target ≡ Some i = ap (option_and_then node_at) x.1 in
             let in_items = may.enters.items in let up = x.4 in
             let is_so : is_fit_for files spots k i ≡ false = fit_same k i (omega (arith, up, in_items)) ∙ (ap (λ (z : Node). is_fit files k z) (sym x.2) ∙ fit) in
-            let D : Comes labels (noted files spots its (refined ++ y ∷ [])) _ _ _ _ block m.nodes =
-            comes_same labels (noted files spots its refined) (noted files spots its (refined ++ y ∷ [])) (noted_alike files spots its refined (refined ++ y ∷ []))
+            let D = comes_kept labels (noted files spots its refined) (noted files spots its (refined ++ y ∷ [])) (noted_alike files spots its refined (refined ++ y ∷ []))
             (λ j l h. ap (λ z. record (its.node_of j) { refines = z }) (added_change refined y i false target is_so j ∙ nothing_more (j == i) (changes files spots refined j) k)) C in
-            let more = refines_come ks (λ j h. paths j (there_later k j ks h)) later (refined ++ y ∷ []) D in (
-              subst (λ z. Comes labels (noted files spots its z) _ _ _ _ block last.nodes) (append_assoc refined (y ∷ []) (meant_all s n limit now ks)) more.0,
+            let more = refines_come ks (λ j h. paths j (there_later k j ks h)) later (refined ++ y ∷ []) D.0 in (
+              one_more y ks last.nodes refined (λ z. Keeps D.0 z) (λ z. Keeps C z) D.1 more.0,
               ((λ j is. subst (λ (m : ℕ). m < mid) (same_Some i j (sym target ∙ is)) x.4), more.1),
               unfit files spots y (meant_all s n limit now ks) m.wrong last.wrong (record { item = i; target = target; unfit = is_so }) more.2,
             )
@@ -223,11 +239,10 @@ module _ (files : Files) (augments : List ℕ) (many : ℕ) (items : List Item) 
             let target : y.target ≡ None =
             meant_none k (λ i is. block_is_missed labels (noted files spots its refined) (mark_of w) (noted_labels files spots labels its refined (are files augments many items its facts each)) (low files augments many items its facts each) s.group lo mid own d limit i block
             (path_in w s.home k) (path_of files s.home path.0) st m.nodes (refinable refined m.nodes C) agree (λ g below there leads. nowhere g below there (path.0, path.1, leads)) is) in
-            let D : Comes labels (noted files spots its (refined ++ y ∷ [])) _ _ _ _ block m.nodes =
-            comes_same labels (noted files spots its refined) (noted files spots its (refined ++ y ∷ [])) (noted_alike files spots its refined (refined ++ y ∷ []))
+            let D = comes_kept labels (noted files spots its refined) (noted files spots its (refined ++ y ∷ [])) (noted_alike files spots its refined (refined ++ y ∷ []))
             (λ j l h. ap (λ z. record (its.node_of j) { refines = z }) (missed_change refined y target j)) C in
-            let more = refines_come ks (λ j h. paths j (there_later k j ks h)) later (refined ++ y ∷ []) D in (
-              subst (λ z. Comes labels (noted files spots its z) _ _ _ _ block last.nodes) (append_assoc refined (y ∷ []) (meant_all s n limit now ks)) more.0,
+            let more = refines_come ks (λ j h. paths j (there_later k j ks h)) later (refined ++ y ∷ []) D.0 in (
+              one_more y ks last.nodes refined (λ z. Keeps D.0 z) (λ z. Keeps C z) D.1 more.0,
               ((λ j is. absurd (not_none (sym target ∙ is))), more.1),
               means_none files spots y (meant_all s n limit now ks) m.wrong last.wrong target more.2,
             )

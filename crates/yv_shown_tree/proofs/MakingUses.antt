@@ -4,7 +4,7 @@ use Rattle.std.specs.List.{Contains, filter, slice_get}
 use Rattle.std.specs.Option.{option_map}
 use Rattle.std.proofs.lemmas.Bool.{false≢true, le-leb}
 use Rattle.std.proofs.lemmas.List.{append-nil}
-use Rattle.std.proofs.lemmas.Option.{same_Some, slice_get-map}
+use Rattle.std.proofs.lemmas.Option.{same_Some, slice_get-map, slice_get_within}
 use Rattle.yv_rows.specs.Files.{Files, brief_of, has_word}
 use Rattle.yv_rows.specs.Listed.{rows_of}
 use Rattle.yv_rows.specs.Rows.{Row}
@@ -29,14 +29,15 @@ use Rattle.yv_augmented.specs.Grafted.{path_in, placed_from}
 use Rattle.yv_augmented.specs.InnerEnds.{is_from_at}
 use Rattle.yv_augmented.specs.Kinds.{is_uses, kind_at}
 use Rattle.yv_augmented.specs.Misplaced.{augment_at}
-use Rattle.yv_augmented.specs.Refining.{is_refine, meant, refined_from, refines_in}
+use Rattle.yv_augmented.specs.Refining.{is_refine, meant, refined_at, refined_from, refines_in}
 use Rattle.yv_augmented.specs.Spots.{Laid, Whole, copy_group, home_below, labels_of, laid, spot_at, spot_of, whole}
+use Rattle.yv_augmented.specs.Untargeted.{augments_in}
 use Rattle.yv_augmented.specs.declared.spot.Spot.{Spot}
 use Rattle.yv_augmented.proofs.Ending.{drop_drop, run_yes}
 use Rattle.yv_augmented.proofs.Turning.{giving_filtered}
 use Rattle.yv_changes.specs.Changes.{changes}
 use Rattle.yv_refinements.specs.Meant.{Refined}
-use Rattle.yv_expanded_tree.specs.Gives.{Augmented, Gives, Made}
+use Rattle.yv_expanded_tree.specs.Gives.{Augmented, Gives, Made, takes_block}
 use Rattle.yv_expanded_tree.specs.Gives.{Refined as AreRefined}
 use Rattle.yv_expanded_tree.specs.Gives.Gives.{no_statements as gives_nothing, other as gives_other, one_node as gives_node, operation as gives_operation, uses as gives_uses}
 use Rattle.yv_expanded_tree.specs.Nodes.{Forest, Node, node}
@@ -44,28 +45,31 @@ use Rattle.yv_expanded_tree.specs.Nodes as nodes
 use Rattle.yv_expanded_tree.proofs.Giving.{RefersToOne, clash}
 use Rattle.yv_shown_tree.specs.Blocks.{Augments, Block, augment, no_augments, run, run_all}
 use Rattle.yv_shown_tree.specs.Blocks as block
-use Rattle.yv_shown_tree.specs.Comes.{Adds, Comes, Marked}
+use Rattle.yv_shown_tree.specs.Comes.{Comes, Marked}
 use Rattle.yv_shown_tree.specs.Comes.Comes.{no_items as none_come, of_uses}
 use Rattle.yv_shown_tree.specs.Frames.{IsOutside}
 use Rattle.yv_shown_tree.specs.Giving.{AreSound, ShowNodes, around, one_of, under_by}
 use Rattle.yv_shown_tree.specs.Marks.{mark_of}
-use Rattle.yv_shown_tree.specs.Shows.{Items}
+use Rattle.yv_shown_tree.specs.Shows.{AreLabels, Items}
 use Rattle.yv_shown_tree.specs.Telling.{HaveStatements, is_node_by}
-use Rattle.yv_shown_tree.proofs.Alike.{adds_same}
+use Rattle.yv_shown_tree.specs.Under.{Keeps, KeepsAdded}
+use Rattle.yv_shown_tree.proofs.Alike.{Same}
 use Rattle.yv_shown_tree.proofs.Choosing.{augments_are, block_scope, filter_in, no_augment_gives, refines_are, row_at}
 use Rattle.yv_shown_tree.proofs.Expanding.{no_uses}
 use Rattle.yv_shown_tree.proofs.Framing.{narrower, still}
 use Rattle.yv_shown_tree.proofs.Joining.{count_joined, listed_joined}
 use Rattle.yv_shown_tree.proofs.Keeping.{AllKept, MayAll, all_go_up, all_keep, goes_up}
 use Rattle.yv_shown_tree.proofs.Kinding.{refers_uses, statement_kind, uses_no_augment, uses_no_refine}
-use Rattle.yv_shown_tree.proofs.Lying.{AllLies, Lies, empty_lies, laid_as, last_at, still_at, uses_lies}
+use Rattle.yv_shown_tree.proofs.Lying.{AllLies, Lies, empty_lies, laid_as, last_at, map_length, still_at, uses_lies}
 use Rattle.yv_shown_tree.proofs.Marking.{all_marks}
+use Rattle.yv_shown_tree.proofs.Reaching.{EndsFrom, adds_of, bad_reach, copies_show, due, goes_reach, missed_reach, shows_made}
+use Rattle.yv_shown_tree.proofs.Refusing.{Come, Go, come_as, come_none, go_same, refined_by, uses_tell}
 use Rattle.yv_shown_tree.proofs.Showing.{may_all, may_copies}
-use Rattle.yv_shown_tree.proofs.Staging.{Targets, changes_away, changes_then, noted, noted_alike}
+use Rattle.yv_shown_tree.proofs.Staging.{Targets, changes_away, changes_then, noted, noted_alike, noted_labels}
 use Rattle.yv_shown_tree.proofs.Starting.{count_listed}
-use Rattle.yv_shown_tree.proofs.Telling.{laid_grows}
+use Rattle.yv_shown_tree.proofs.Telling.{laid_grows, there_is}
 use Rattle.yv_shown_tree.proofs.Using.{group_of_used}
-use Rattle.yv_shown_tree.proofs.Making.{IsHere, Makes, MayRun, all_state_is, at_behind, drop_at, each_label, end_before, first_stops, item_here, low, marked, new_long, node_stays, split_here, spot_here, state_is}
+use Rattle.yv_shown_tree.proofs.Making.{IsHere, Makes, MayRun, all_state_is, are, at_behind, drop_at, drop_front, each_label, end_before, first_stops, item_here, low, marked, new_long, node_stays, split_here, spot_here, state_is}
 use Rattle.yv_shown_tree.proofs.MakingNodes.{Given, PartMakes, PartsMake, StandsBelow, all_make, makes_for, node_makes, operation_makes, spot_above}
 use Rattle.yv_shown_tree.proofs.MakingRefines.{meant_all, refines_come}
 use Rattle.yv_shown_tree.proofs.MakingAugments.{AllMakes, MayAllRun, all_given_make}
@@ -133,7 +137,8 @@ module _ (files : Files) (augments : List ℕ) (many : ℕ) (items : List Item) 
               (q : AllLies w labels (laid_as w labels ((l.spots ++ s ∷ []) ++ p.new) d) others mid hi d e c own (map (path_in w s.home) (giving w.rows k)))
               (under_is : under_by w.rows its (slice_get w.rows k) parent (spot_at l.spots parent) ≡ under)
               (firsts : (behind : List Item) → ((j : ℕ) → n + 1 ≤ j → is_from_at j (slice_get behind 0) ≡ false) → (j : ℕ) → n + 1 ≤ j → is_from_at j (slice_get (others ++ behind) 0) ≡ false)
-              (inside : (behind : List Item) → length first ≤ ends.run n (first ++ behind)) where
+              (inside : (behind : List Item) → length first ≤ ends.run n (first ++ behind))
+              (inside_all : (behind : List Item) → length (first ++ others) ≤ ends.run n ((first ++ others) ++ behind)) where
             abbrev whole_lies : Lies w labels l (x ∷ (first ++ others)) g n hi c e
             whole_lies = uses_lies w labels l x first others g n mid hi c own d e long all_copies of_uses_is refl own_is p q
 
@@ -223,6 +228,13 @@ module _ (files : Files) (augments : List ℕ) (many : ℕ) (items : List Item) 
               now_so : state (n + 1) xs ≡ now_is
               now_so = state_is files augments many items its facts each g p.block p.new (q.new ++ rest) p.long p.lie ∙ ap (run labels g p.block) st2_is
 
+              all_long : length q.new ≡ length others
+              all_long =
+                  let z : Laid = laid_as w labels ((l.spots ++ s ∷ []) ++ p.new) d in
+                  let r = laid_grows w others z in
+                  let same : z.spots ++ q.new ≡ z.spots ++ r.0 = ap (λ (y : Laid). y.spots) (sym q.laid) ∙ r.1 in
+                  let a = ap length same in let b = length-append z.spots q.new in let f = length-append z.spots r.0 in let h = r.2 in omega (arith, a, b, f, h)
+
               limit_up : limit ≤ hi
               limit_up =
                   let nm = up.0 in let mh = up'.0 in
@@ -231,13 +243,11 @@ module _ (files : Files) (augments : List ℕ) (many : ℕ) (items : List Item) 
                   (ap (is_from_at n) (ap (slice_get items) (let h : hi ≡ mid + length others = omega (arith, hi_is) in h)
                   ∙ (sym (drop_at items mid (length others)) ∙ (ap (λ z. slice_get z (length others)) both.0.items_are
                   ∙ (ap (slice_get (others ++ behind)) (let h : length others ≡ length others + 0 = omega arith in h) ∙ at_behind others behind (length others) 0 refl)))) ∙ here.stops n (omega arith))
-                where
-                  all_long : length q.new ≡ length others
-                  all_long =
-                      let z : Laid = laid_as w labels ((l.spots ++ s ∷ []) ++ p.new) d in
-                      let r = laid_grows w others z in
-                      let same : z.spots ++ q.new ≡ z.spots ++ r.0 = ap (λ (y : Laid). y.spots) (sym q.laid) ∙ r.1 in
-                      let a = ap length same in let b = length-append z.spots q.new in let f = length-append z.spots r.0 in let h = r.2 in omega (arith, a, b, f, h)
+
+              new_long_all : n + 1 + length (first ++ others) ≡ hi
+              new_long_all =
+                  let a = new_long w labels (laid_as w labels (l.spots ++ s ∷ []) own) first g (n + 1) mid own d p in
+                  let b = all_long in let f = p.long in let h = q.long in let i = length-append first others in omega (arith, a, b, f, h, i)
 
               limit_low : mid ≤ limit
               limit_low =
@@ -268,18 +278,98 @@ module _ (files : Files) (augments : List ℕ) (many : ℕ) (items : List Item) 
                   ap (λ (b : Bool). refined (n + 1) xs ++ (if b then meant_all files augments many items its facts each s n limit (state (n + 1) xs) (refines_in w.rows k) else [])) of_uses_is
                   ∙ (ap (λ z. refined (n + 1) xs ++ meant_all files augments many items its facts each s n limit (state (n + 1) xs) z) refs_are ∙ ap (λ z. refined (n + 1) xs ++ meant_all files augments many items its facts each s n limit z refines) now_so)
 
-              uses_come : (copied refined_made given : Made) → Comes labels (stage (n + 1) xs) _ _ _ _ p.block copied.nodes → AreRefined files s.home refines copied refined_made
-                  → Adds labels (stage mid (q.new ++ rest)) _ _ _ _ _ _ q.augments refined_made.nodes given.nodes
-                  → Comes labels (stage n (s ∷ xs)) _ _ _ _ whole_lies.block (nodes.joined given.nodes nodes.none)
+              -- the augments of this uses, in the state in which their turns begin
+              augments_so : augments_in w.rows k ≡ those is_augment w.rows (block_of w.rows k)
+              augments_so = augments_are w.rows k (λ z row. ap is_augment (same_Some z r (sym row ∙ at)) ∙ uses_no_augment r is_a_uses)
+
+              limit_is : limit ≡ hi
+              limit_is =
+                  let a = inside_all behind in let b = limit_up in
+                  let f = new_long_all in let mh = up'.0 in
+                  let same : ends.run n (drop (n + 1) items) ≡ ends.run n ((first ++ others) ++ behind) = ap (ends.run n) (sym (drop_drop n 1 items) ∙ ap (drop 1) here.items_are) in
+                  omega (arith, a, b, f, same)
+
+              behind_spots : drop (n + 1) spots ≡ xs
+              behind_spots =
+                  let all : spots ≡ (l.spots ++ s ∷ []) ++ xs =
+                  here.spots_are ∙ (ap (λ z. z ++ rest) (sym (append_assoc l.spots (s ∷ []) (p.new ++ q.new)))
+                  ∙ (append_assoc (l.spots ++ s ∷ []) (p.new ++ q.new) rest ∙ ap (λ z. (l.spots ++ s ∷ []) ++ z) (append_assoc p.new q.new rest))) in
+                  let more = length-append l.spots (s ∷ []) in
+                  ap (drop (n + 1)) all ∙ drop_front (l.spots ++ s ∷ []) xs (n + 1) (omega (arith, more, long))
+
+              state_so : state (n + 1) (drop (n + 1) spots) ≡ now_is
+              state_so = ap (state (n + 1)) behind_spots ∙ now_so
+
+              abbrev adding_now : List ℕ
+              adding_now = those is_augment w.rows (block_of w.rows k)
+
+              abbrev st_then : State
+              st_then = state (n + 1) (drop (n + 1) spots)
+
+              ends_so : (o : Option ℕ) (a : ℕ) → EndsFrom w labels s o hi adding_now c now_is a → EndsFrom w labels s o limit (augments_in w.rows k) l.copies st_then a
+              ends_so o a h =
+                  subst (λ (z : ℕ). EndsFrom w labels s o limit (augments_in w.rows k) z st_then a) (sym all_copies)
+                  (subst (λ z. EndsFrom w labels s o limit z c st_then a) (sym augments_so)
+                  (subst (λ (m : ℕ). EndsFrom w labels s o m adding_now c st_then a) (sym limit_is)
+                  (subst (λ (z : State). EndsFrom w labels s o hi adding_now c z a) (sym state_so) h)))
+
+              ends_is : (o : Option ℕ) (a : ℕ) → EndsFrom w labels s o limit (augments_in w.rows k) l.copies st_then a → EndsFrom w labels s o hi adding_now c now_is a
+              ends_is o a h =
+                  subst (λ (z : State). EndsFrom w labels s o hi adding_now c z a) state_so
+                  (subst (λ (m : ℕ). EndsFrom w labels s o m adding_now c st_then a) limit_is
+                  (subst (λ z. EndsFrom w labels s o limit z c st_then a) augments_so
+                  (subst (λ (z : ℕ). EndsFrom w labels s o limit (augments_in w.rows k) z st_then a) all_copies h)))
+
+              -- as many labels as spots
+              spot_there : (i : ℕ) → i < length labels → (t : Spot) × (slice_get spots i ≡ Some t)
+              spot_there i few = there_is spots i (let a = map_length (λ (z : Spot). z.label) spots in omega (arith, a, few))
+
+              label_there : (i : ℕ) (t : Spot) → slice_get spots i ≡ Some t → i < length labels
+              label_there i t there = (let a = map_length (λ (z : Spot). z.label) spots in let b = slice_get_within spots i t there in omega (arith, a, b))
+
+              -- what is refused of the refines of this uses
+              refined_here : refined_by files augments many items (slice_get spots n) n ≡ meant_all files augments many items its facts each s n limit now_is refines
+              refined_here =
+                  ap (λ o. refined_by files augments many items o n) at_spot
+                  ∙ (ap (λ z. refined_at w labels s n limit (state (n + 1) z)) behind_spots
+                  ∙ (ap (λ (b : Bool). if b then meant_all files augments many items its facts each s n limit (state (n + 1) xs) (refines_in w.rows k) else []) of_uses_is
+                  ∙ (ap (λ z. meant_all files augments many items its facts each s n limit (state (n + 1) xs) z) refs_are
+                  ∙ ap (λ z. meant_all files augments many items its facts each s n limit z refines) now_so)))
+
+              uses_come : (copied refined_made given : Made) → Come files augments many items (stage (n + 1) xs) p.block copied.nodes copied.wrong → AreRefined files s.home refines copied refined_made
+                  → Go files augments many items (stage mid (q.new ++ rest)) s (those is_augment w.rows (block_of w.rows k)) q.augments refined_made.nodes given.nodes refined_made.wrong given.wrong
+                  → Come files augments many items (stage n (s ∷ xs)) whole_lies.block (nodes.joined given.nodes nodes.none) given.wrong
               uses_come copied refined_made given C R A =
-                  let D = refines_come files augments many items its facts each sound have s (n + 1) mid own d n limit p.block st2 may_p marks_are.1 limit_low behind_limit refines paths R (refined (n + 1) xs) C in
+                  let D = refines_come files augments many items its facts each sound have s (n + 1) mid own d n limit p.block st2 may_p marks_are.1 limit_low behind_limit refines paths R (refined (n + 1) xs) C.0 in
                   let no_node : its.is_node n ≡ false =
                   facts.told.node n ∙ (ap is_node_by (slice_get-map (λ (z : Spot). z.label) spots n ∙ ap (option_map (λ (z : Spot). z.label)) at_spot) ∙ uses_kind s.label.kind of_uses_is) in
-                  let E : Comes labels (stage n (s ∷ xs)) _ _ _ _ p.block refined_made.nodes =
-                  subst (λ z. Comes labels (noted files spots its z) _ _ _ _ p.block refined_made.nodes) (sym list_is) D.0 in
-                  let B : Adds labels (stage n (s ∷ xs)) _ _ _ _ _ _ q.augments refined_made.nodes given.nodes =
-                  adds_same labels (stage mid (q.new ++ rest)) (stage n (s ∷ xs)) (noted_alike files spots its (refined mid (q.new ++ rest)) (refined n (s ∷ xs))) (λ i u h. node_same i u D.1) A in
-                  of_uses no_node E B none_come
+                  let E = subst (λ z. (E : Comes labels (noted files spots its z) _ _ _ _ p.block refined_made.nodes) × Same (λ x. Keeps E x) (λ x. Keeps C.0 x)) (sym list_is) D.0 in
+                  let now : Items = stage n (s ∷ xs) in
+                  let B = go_same files augments many items (stage mid (q.new ++ rest)) now (noted_alike files spots its (refined mid (q.new ++ rest)) (refined n (s ∷ xs))) s
+                  (those is_augment w.rows (block_of w.rows k)) refined_made.wrong given.wrong (λ i u h. node_same i u D.1) A in
+                  let now_are : AreLabels labels now = noted_labels files spots labels its (refined n (s ∷ xs)) (are files augments many items its facts each) in
+                  let low_is = low files augments many items its facts each in
+                  let reach = goes_reach w labels s now now_are (mark_of w) low_is n hi now_is B.2 marks_are.2
+                  (due labels now now_are (mark_of w) low_is g n mid hi c own d e p.block q.augments st1 may.enters may.empty may.marks marks_are.1 marks_are.2)
+                  (copies_show labels now now_are (mark_of w) low_is g n mid hi c own d e p.block q.augments st1 may.enters may.empty may.marks marks_are.1 marks_are.2 (adds_of w labels s now B.2))
+                  (shows_made labels now now_are (mark_of w) low_is g n mid hi c own d e p.block q.augments st1 may.enters may.empty may.marks marks_are.1 marks_are.2 E.0) in (
+                    of_uses no_node E.0 (adds_of w labels s now B.2) none_come,
+                    uses_tell files augments many items n s (λ x. Keeps C.0 x) (λ x. Keeps E.0 x) (λ x. KeepsAdded (adds_of w labels s now B.2) x) B.0 B.1 copied.wrong refined_made.wrong given.wrong
+                        (meant_all files augments many items its facts each s n limit now_is refines) at_spot refined_here
+                        (λ a. (let r = missed_reach w labels s now hi B.2 now_is reach a in ((λ h. (of_uses_is, ends_so None a (r.0 h))), (λ h. r.1 (ends_is None a h.1)))))
+                        (λ a. (let r = bad_reach w labels s now hi B.2 now_is reach a in (
+                          (λ h. (let (i, ends, few, kind) = r.0 h in
+                              let t = spot_there i few in
+                              (of_uses_is, (i, t.0, ends_so (Some i) a ends, t.1, ap (λ (z : Kind). takes_block w.rows a z) (sym (facts.told.kind i t.0 t.1)) ∙ kind)))),
+                          (λ (is, (i, t, ends, there, kind)). r.1 (
+                            i,
+                            ends_is (Some i) a ends,
+                            label_there i t there,
+                            ap (λ (z : Kind). takes_block w.rows a z) (facts.told.kind i t there) ∙ kind,
+                          )),
+                        )))
+                        C.1 E.1 D.2 B.3,
+                  )
                 where
                   same_at : slice_get items mid ≡ slice_get (others ++ behind) 0
                   same_at = ap (slice_get items) (let h : mid ≡ mid + 0 = omega arith in h) ∙ (sym (drop_at items mid 0) ∙ ap (λ z. slice_get z 0) both.0.items_are)
@@ -292,13 +382,12 @@ module _ (files : Files) (augments : List ℕ) (many : ℕ) (items : List Item) 
                       ∙ append-nil (changes files spots (refined (n + 1) xs) i))))
                       ∙ node_stays files augments many items its facts each (n + 1) mid p.new (q.new ++ rest) p.long (λ j v z. ap (is_from_at j) same_at ∙ firsts behind (λ j h. here.stops j (omega (arith, h))) j v) i u
 
-            uses_give : Makes files augments many items its p (Given files augments many items its facts each (block_of w.rows meant_one) s.home (k ∷ (its.node_of n).under)) → AllMakes files augments many items its facts each sound have one_meant q (those is_augment w.rows (block_of w.rows k)) s.home (k ∷ (its.node_of n).under)
+            uses_give : Makes files augments many items its p (Given files augments many items its facts each (block_of w.rows meant_one) s.home (k ∷ (its.node_of n).under)) → AllMakes files augments many items its facts each sound have one_meant q (those is_augment w.rows (block_of w.rows k)) s (k ∷ (its.node_of n).under)
                 → Makes files augments many items its whole_lies (Given files augments many items its facts each (k ∷ []) s.home under)
-            uses_give first_makes later_makes f behind rest (m, gives, f_is) here may =
-                subst (λ z. Comes labels (stage n (s ∷ z)) _ _ _ _ whole_lies.block f) (sym (append_assoc p.new q.new rest))
-                (subst (λ z. Comes labels (stage n (s ∷ (p.new ++ (q.new ++ rest)))) _ _ _ _ whole_lies.block z) (sym f_is) (by gives))
+            uses_give first_makes later_makes m behind rest gives here may =
+                subst (λ z. Come files augments many items (stage n (s ∷ z)) whole_lies.block m.nodes m.wrong) (sym (append_assoc p.new q.new rest)) (by gives)
               where
-                by : {m : Made} → Gives files s.home under (k ∷ []) m → Comes labels (stage n (s ∷ (p.new ++ (q.new ++ rest)))) _ _ _ _ whole_lies.block m.nodes
+                by : {m : Made} → Gives files s.home under (k ∷ []) m → Come files augments many items (stage n (s ∷ (p.new ++ (q.new ++ rest)))) whole_lies.block m.nodes m.wrong
                 by (gives_other at' isnt e) = absurd (clash is_item w.rows k _ _ at' at isnt is_one)
                 by (gives_node at' is_item' o u known B e) = absurd (clash refers.is_uses w.rows k _ _ at' at u is_a_uses)
                 by (gives_operation at' is_item' o u known I O e) = absurd (clash refers.is_uses w.rows k _ _ at' at u is_a_uses)
@@ -310,10 +399,12 @@ module _ (files : Files) (augments : List ℕ) (many : ℕ) (items : List Item) 
                     (subst (λ z. Gives files s.home (k ∷ z) (block_of w.rows other_one) copied) (sym round_is) C) in
                     let A' : Augmented files s.home (k ∷ (its.node_of n).under) (those is_augment w.rows (block_of w.rows k)) refined_made given =
                     subst (λ z. Augmented files s.home (k ∷ z) (those is_augment w.rows (block_of w.rows k)) refined_made given) (sym round_is) A in
-                    uses_come behind rest here may copied refined_made given
-                    (first_makes copied.nodes (others ++ behind) (q.new ++ rest) (copied, C', refl) (both behind rest here may).1
+                    come_as files augments many items (stage n (s ∷ (p.new ++ (q.new ++ rest)))) whole_lies.block (nodes.joined given.nodes nodes.none) (nodes.joined given.nodes nodes.none) given.wrong
+                    (given.wrong ++ []) refl (sym (append-nil given.wrong))
+                    (uses_come behind rest here may copied refined_made given
+                    (first_makes copied (others ++ behind) (q.new ++ rest) C' (both behind rest here may).1
                     (subst (MayRun files augments many items its g (n + 1) mid own d) (sym (st2_is behind rest here may)) (may_p behind rest here may))) R
-                    (later_makes g refined_made given behind rest A' (both behind rest here may).0 (may_q behind rest here may))
+                    (later_makes g refined_made given behind rest A' (both behind rest here may).0 (may_q behind rest here may)))
 
         -- the items below an item (are files augments many items its facts each) from it on
         run_listed : (j parent m : ℕ) → j ≤ parent → j ≤ m → (t : Tree) (ys : List Item) → count t ≤ ends.run j (listed (Some parent) m t ++ ys)
@@ -372,16 +463,19 @@ module _ (files : Files) (augments : List ℕ) (many : ℕ) (items : List Item) 
                 (let f = length-append (l.spots ++ s ∷ []) F.new in let h = F.long in omega (arith, f, h, more, long)) refl (omega (arith, counts, ends_are)) (omega arith)
                 (still_at (l.spots ++ s ∷ []) F.new n (omega (arith, more, long)) ∙ last_at l.spots s n long) in
                 let whole_two = subst (λ z. (F' : AllLies w labels (laid_as w labels ((l.spots ++ s ∷ []) ++ F.new) one.0) (listed (Some n) mid given) mid hi one.0 two.0 c own (map (path_in w s.home) z))
-                × AllMakes files augments many items its facts each sound have one_meant F' (those is_augment w.rows (block_of w.rows k)) s.home (k ∷ (its.node_of n).under)) (sym gives) (two.1, two.2) in
+                × AllMakes files augments many items its facts each sound have one_meant F' (those is_augment w.rows (block_of w.rows k)) s (k ∷ (its.node_of n).under)) (sym gives) (two.1, two.2) in
                 let all = uses_give k d r at is_one found.0 meant l parent (listed (Some n) (n + 1) copied) (listed (Some n) mid given) n mid hi c own one.0 two.0 under long all_copies less of_uses_is refl F whole_two.0
                 stand.2 (λ behind stops. first_stops (Some n) (n + 1) (λ q e. subst (λ (m : ℕ). m < n + 1) (same_Some n q e) (omega arith)) given mid behind stops)
-                (λ behind. (let a = run_listed n n (n + 1) (omega arith) (omega arith) copied behind in let b = count_listed (Some n) (n + 1) copied in omega (arith, a, b))) one.2 whole_two.1 in
+                (λ behind. (let a = run_listed n n (n + 1) (omega arith) (omega arith) copied behind in let b = count_listed (Some n) (n + 1) copied in omega (arith, a, b)))
+                (λ behind. subst (λ these. length these ≤ ends.run n (these ++ behind)) (listed_joined (Some n) (n + 1) copied given)
+                (let a = run_listed n n (n + 1) (omega arith) (omega arith) (joined copied given) behind in let b = count_listed (Some n) (n + 1) (joined copied given) in omega (arith, a, b)))
+                one.2 whole_two.1 in
                 let F' : Lies w labels l (y ∷ (listed (Some n) (n + 1) copied ++ listed (Some n) mid given)) s.group n hi c two.0 =
                 uses_lies w labels l y (listed (Some n) (n + 1) copied) (listed (Some n) mid given) s.group n mid hi c own one.0 two.0 long all_copies of_uses_is refl refl F whole_two.0 in
                 let pair = subst (λ these. (F : Lies w labels l these g n hi c two.0) × Makes files augments many items its F (Given files augments many items its facts each (k ∷ []) home under))
                 (ap (λ z. y ∷ z) (sym (append-nil (listed (Some n) (n + 1) (joined copied given)) ∙ listed_joined (Some n) (n + 1) copied given)))
                 (subst (λ (g : ℕ). (F : Lies w labels l (y ∷ (listed (Some n) (n + 1) copied ++ listed (Some n) mid given)) g n hi c two.0) × Makes files augments many items its F (Given files augments many items its facts each (k ∷ []) home under)) stand.0
-                (F', makes_for files augments many items its facts each F' (Given files augments many items its facts each (k ∷ []) s.home under) (Given files augments many items its facts each (k ∷ []) home under) (λ f z. subst (λ (h : ℕ). Given files augments many items its facts each (k ∷ []) h under f) (sym stand.1) z) all)) in
+                (F', makes_for files augments many items its facts each F' (Given files augments many items its facts each (k ∷ []) s.home under) (Given files augments many items its facts each (k ∷ []) home under) (λ m z. subst (λ (h : ℕ). Given files augments many items its facts each (k ∷ []) h under m) (sym stand.1) z) all)) in
                 (two.0, pair.0, pair.1)
               where
                 copies_stand : (l : Laid) (s : Spot) (n j : ℕ) (q : Row) → Contains (block_of w.rows d) j → slice_get w.rows j ≡ Some q → slice_get (l.spots ++ s ∷ []) n ≡ Some s
@@ -405,20 +499,24 @@ module _ (files : Files) (augments : List ℕ) (many : ℕ) (items : List Item) 
           makes = λ l parent g n hi c home under long all_copies ends_are less stands.
               (let h : n ≡ hi = omega (arith, ends_are) in
               let pair = subst (λ (h : ℕ). (F : Lies w labels l [] g n h c c) × Makes files augments many items its F (Given files augments many items its facts each (k ∷ []) home under)) h
-              (empty_lies w labels l g n c all_copies, λ f behind rest gives here may. subst (λ z. Comes labels (stage n rest) _ _ _ _ (block.nothing {lo = n} {c = c}) z) (sym (no_forest home under f gives)) none_come) in
+              (empty_lies w labels l g n c all_copies, none_come_here l g n c all_copies home under) in
               (c, pair.0, pair.1));
           nothing = λ q row none_is. refl;
           some = λ q row is. absurd (clash is_item w.rows k r q at row is_none is);
         }
           where
-            no_forest : (home : ℕ) (under : List ℕ) (f : Forest) → Given files augments many items its facts each (k ∷ []) home under f → f ≡ nodes.none
-            no_forest home under f (m, gives, is) = is ∙ by gives
-              where
-                by : {m : Made} → Gives files home under (k ∷ []) m → m.nodes ≡ nodes.none
-                by (gives_other at' isnt gives_nothing) = refl
-                by (gives_node at' is_item' o u known B e) = absurd (clash is_item w.rows k _ _ at at' is_none is_item')
-                by (gives_operation at' is_item' o u known I O e) = absurd (clash is_item w.rows k _ _ at at' is_none is_item')
-                by (gives_uses at' is_item' u d C R A e) = absurd (clash is_item w.rows k _ _ at at' is_none is_item')
+            nothing_given : {home : ℕ} {under : List ℕ} {m : Made} → Gives files home under (k ∷ []) m → (m.nodes ≡ nodes.none) × (m.wrong ≡ [])
+            nothing_given (gives_other at' isnt gives_nothing) = (refl, refl)
+            nothing_given (gives_node at' is_item' o u known B e) = absurd (clash is_item w.rows k _ _ at at' is_none is_item')
+            nothing_given (gives_operation at' is_item' o u known I O e) = absurd (clash is_item w.rows k _ _ at at' is_none is_item')
+            nothing_given (gives_uses at' is_item' u d C R A e) = absurd (clash is_item w.rows k _ _ at at' is_none is_item')
+
+            none_come_here : (l : Laid) (g n c : ℕ) (all_copies : l.copies ≡ c) (home : ℕ) (under : List ℕ)
+                → Makes files augments many items its (empty_lies w labels l g n c all_copies) (Given files augments many items its facts each (k ∷ []) home under)
+            none_come_here l g n c all_copies home under m behind rest gives here may =
+                let none_so = nothing_given gives in
+                come_as files augments many items (stage n rest) (block.nothing {lo = n} {c = c}) nodes.none m.nodes [] m.wrong (sym none_so.0) (sym none_so.1)
+                (come_none files augments many items (stage n rest))
 
         pub parts_make : {numbers : List ℕ} {t : Tree} → Expands w.files w.rows numbers t → PartsMake files augments many items its facts each numbers t
         parts_make expands_nothing = no_parts

@@ -50,9 +50,14 @@ use Rattle.yv_shown_tree.proofs.Tops.{AllCome, BlocksMake, FilesMake, TopPart}
 use Rattle.yv_shown_tree.proofs.Tops.FilesMake.{no_files_make, one_file}
 use Rattle.yv_shown_tree.proofs.Tops.BlocksMake.{no_blocks, one_block}
 
+-- the blocks of augments give these nodes
+abbrev BlocksCome : List Label → Items → (made : ℕ → Forest → Type 0) → {lo hi c e k own : ℕ} → Augments lo hi c e k own → Type 0
+BlocksCome labels its made no_augments = Unit {0}
+BlocksCome labels its made {k = k} (augment mid d names block others) = ((f : Forest) → made k f → Comes labels its _ _ _ _ block f) × BlocksCome labels its made others
+
 -- the group of each augment shows what its block gives
 shows_at : (labels : List Label) (its : Items) (st : State) (made : ℕ → Forest → Type 0) {lo hi c e k own : ℕ} (augs : Augments lo hi c e k own) (ts : List Tree) → Spans augs ts
-    → AllShow labels its st augs → AllCome labels its made augs → (p : ℕ) (f : Forest) → p < length ts → made (k + p) f
+    → AllShow labels its st augs → BlocksCome labels its made augs → (p : ℕ) (f : Forest) → p < length ts → made (k + p) f
     → Shows its st.groups (group_of_augment labels (k + p)) (begins_at lo ts p) (begins_at lo ts (suc p)) f
 shows_at labels its st made no_augments ts spans show come p f l m = absurd (let e = ap length spans in omega (arith, e, l))
 shows_at labels its st made {lo = lo} {k = k} (augment mid d names block others) ts (t, us, ts_are, mid_so, spans) (shows, show) (comes, come) zero f l m =
@@ -127,8 +132,12 @@ module _ (files : Files) (marks : List Bool) (order : List ℕ) (own : ℕ) (ite
       (block_of rows a.0, expanded.are_added.expands n a.0 t a.1 at))))
 
   -- what the block of the augment at a place gives
-  abbrev pub MadeAt : ℕ → Forest → Type 0
-  MadeAt k f = (a : ℕ) × (home : ℕ) × (m : Made) × (slice_get augments k ≡ Some a) × IsHome files a home × Gives files home (a ∷ []) (block_of rows a) m × (f ≡ m.nodes)
+  abbrev pub MadeAt : ℕ → Made → Type 0
+  MadeAt k m = (a : ℕ) × (home : ℕ) × (slice_get augments k ≡ Some a) × IsHome files a home × Gives files home (a ∷ []) (block_of rows a) m
+
+  -- which are these nodes
+  abbrev NodesAt : ℕ → Forest → Type 0
+  NodesAt k f = (m : Made) × MadeAt k m × (f ≡ m.nodes)
 
   -- statements at the top of a file stand at the top
   top_stands : (file k : ℕ) (r : Row) → Contains (top_of briefs rows file) k → slice_get rows k ≡ Some r
@@ -177,13 +186,13 @@ module _ (files : Files) (marks : List Bool) (order : List ℕ) (own : ℕ) (ite
           ap one_of (ap (λ (n : ℕ). augment_at n (slice_get rows n)) b.0 ∙ (ap (augment_at a) row ∙ ap (λ (b : Bool). if b then Some a else None) is)),
         )
 
-    made_gives : (k a : ℕ) (q : Row) → slice_get augments k ≡ Some a → slice_get rows a ≡ Some q → (f : Forest) → MadeAt k f
-        → (m : Made) × Gives files (home_at briefs q.file) (a ∷ []) (block_of rows a) m × (f ≡ m.nodes)
-    made_gives k a q at row f (b, home, m, to, (r, row', home_is), G, is) =
+    made_gives : (k a : ℕ) (q : Row) → slice_get augments k ≡ Some a → slice_get rows a ≡ Some q → (m : Made) → MadeAt k m
+        → Gives files (home_at briefs q.file) (a ∷ []) (block_of rows a) m
+    made_gives k a q at row m (b, home, to, (r, row', home_is), G) =
         let same : b ≡ a = same_Some b a (sym to ∙ at) in
         let same_row : r ≡ q = same_Some r q (sym row' ∙ (ap (slice_get rows) same ∙ row)) in
         let same_home : home ≡ home_at briefs q.file = home_is ∙ ap (λ (z : Row). home_at briefs z.file) same_row in
-        (m, subst (λ (h : ℕ). Gives files h (a ∷ []) (block_of rows a) m) same_home (subst (λ (n : ℕ). Gives files home (n ∷ []) (block_of rows n) m) same G), is)
+        subst (λ (h : ℕ). Gives files h (a ∷ []) (block_of rows a) m) same_home (subst (λ (n : ℕ). Gives files home (n ∷ []) (block_of rows n) m) same G)
 
     blocks_make : (k : ℕ) (numbers : List ℕ) (ts : List Tree) → ((j : ℕ) → slice_get numbers j ≡ slice_get augments (k + j)) → length ts ≡ length numbers
         → ((n a : ℕ) (t : Tree) → slice_get numbers n ≡ Some a → slice_get ts n ≡ Some t → Expands briefs rows (block_of rows a) t)
@@ -234,7 +243,7 @@ module _ (files : Files) (marks : List Bool) (order : List ℕ) (own : ℕ) (ite
 
     pub top_shows : (m : Made) → Tops files order m → Shows its at_first.groups 0 0 its_own m.nodes
     top_shows m T =
-        let s = shows_first.0 m.nodes (begins.top m T) in
+        let s = shows_first.0 m.nodes (begins.top m T).0 in
         record {
           items = s.items;
           owns = s.owns;
@@ -249,14 +258,21 @@ module _ (files : Files) (marks : List Bool) (order : List ℕ) (own : ℕ) (ite
     stand_givers =
         givers_stand w items refl its_own (length items) begins.last_own begins.last begins.front begins.augs within begins.new begins.more begins.spots_are begins.long begins.lie begins.all_lie
 
+    blocks_come : {lo hi c e k last : ℕ} (augs : Augments lo hi c e k last) → AllCome files augments (length items) items bare MadeAt augs → BlocksCome labels bare NodesAt augs
+    blocks_come no_augments come = tt
+    blocks_come (augment mid d names block others) (first, rest) = (
+      λ f (m, given, is). subst (λ z. Comes labels bare _ _ _ _ block z) (sym is) (first m given).0,
+      blocks_come others rest,
+    )
+
     pub block_shows : (k a home : ℕ) (m : Made) → slice_get augments k ≡ Some a → IsHome files a home → Gives files home (a ∷ []) (block_of rows a) m
         → Shows its at_first.groups (group_of_augment labels k) (begins_at its_own expanded.added k) (begins_at its_own expanded.added (suc k)) (given_by a m.nodes)
     block_shows k a home m at home_is G =
         let l = slice_get_within augments k a at in
         let e = expanded.are_added.each in
         let same : 0 + k ≡ k = omega arith in
-        let s0 = shows_at labels bare at_first MadeAt begins.augs expanded.added begins.spans shows_first.1 begins.blocks k m.nodes (omega (arith, l, e))
-        (subst (λ (n : ℕ). MadeAt n m.nodes) (sym same) (a, home, m, at, home_is, G, refl)) in
+        let s0 = shows_at labels bare at_first NodesAt begins.augs expanded.added begins.spans shows_first.1 (blocks_come begins.augs begins.blocks) k m.nodes (omega (arith, l, e))
+        (subst (λ (n : ℕ). NodesAt n m.nodes) (sym same) (m, (a, home, at, home_is, G), refl)) in
         let s : Shows bare at_first.groups (group_of_augment labels k) (begins_at its_own expanded.added k) (begins_at its_own expanded.added (suc k)) m.nodes =
         subst (λ (n : ℕ). Shows bare at_first.groups (group_of_augment labels n) (begins_at its_own expanded.added k) (begins_at its_own expanded.added (suc k)) m.nodes) same s0 in
         record {

@@ -1,17 +1,21 @@
 -- When the item that a refine means has it, the block gives the nodes with it.
-use Rattle.std.proofs.Common.{◌⊎◌, inl, inr, ◌≡◌, ℕ, ◌<◌, ◌≤◌, ◌==◌, Bool, true, false, if◌then◌else◌, List, [], ◌∷◌, ◌++◌, length, refl, sym, ◌∙◌, subst}
+use Rattle.std.proofs.Common.{◌⊎◌, inl, inr, ◌≡◌, ℕ, ◌<◌, ◌≤◌, ◌==◌, Bool, true, false, if◌then◌else◌, List, [], ◌∷◌, ◌++◌, length, refl, sym, ◌∙◌, subst, Some}
 use Rattle.std.specs.List.{Contains}
 use Rattle.std.proofs.lemmas.List.Elements.{Contains-append_cases}
+use Rattle.yv_augments.specs.declared.end.End.TheVariants as end_is
 use Rattle.yv_augments.specs.declared.label.Label.{Label}
 use Rattle.yv_augments.specs.Groups.{members_of}
+use Rattle.yv_augments.specs.Paths.{ended}
 use Rattle.yv_augments.specs.Turns.{State}
 use Rattle.yv_expanded_tree.specs.Nodes.{Forest, Node}
+use Rattle.yv_expanded_tree.specs.Paths.{Leads, Step, at}
 use Rattle.yv_shown_tree.specs.Blocks.{Block, run}
 use Rattle.yv_shown_tree.specs.Comes.{Comes, HasMarks}
 use Rattle.yv_shown_tree.specs.RefinedBlocks.{BlockIsMissed, BlockIsRefined, IsRefinable}
 use Rattle.yv_shown_tree.specs.Refining.{changed}
-use Rattle.yv_shown_tree.specs.Shows.{AreLabels, Items, Shows}
-use Rattle.yv_shown_tree.proofs.Alike.{AreAlike, IsLike, comes_alike, shows_one}
+use Rattle.yv_shown_tree.specs.Shows.{Agree, AreLabels, Items, Shows}
+use Rattle.yv_shown_tree.specs.Under.{Keeps}
+use Rattle.yv_shown_tree.proofs.Alike.{AreAlike, IsLike, Same, comes_alike, shows_one}
 use Rattle.yv_shown_tree.proofs.Changing.{refine_changes, refine_misses}
 use Rattle.yv_shown_tree.proofs.Keeping.{block_keeps}
 use Rattle.yv_shown_tree.proofs.Marking.{run_marks}
@@ -48,8 +52,13 @@ module _ (labels : List Label) (its : Items) (mark : ℕ → Bool) (are : AreLab
     pub has_marks : HasMarks its.given mark (run labels g block st)
     has_marks = run_marks its.given mark labels low g block st r.marked r.marks
 
-  pub block_is_refined : BlockIsRefined labels its mark
-  block_is_refined g lo hi c e limit k block names ss st m below there target r agree leads =
+  -- the block keeps the same items besides
+  pub refined_kept : (g lo hi c e limit k : ℕ) (block : Block lo hi c e) (names : List ℕ) (ss : List Step) (st : State) (m below there : Forest) (target : Node)
+      → (r : IsRefinable labels its mark g lo hi c e limit block st m) → Agree labels its names ss
+      → Leads false ss m (at target below (record target { refines = target.refines ++ k ∷ [] }) below) there
+      → (i : ℕ) × (ended labels (run labels g block st).groups limit names (end_is.Start g) ≡ Some (end_is.Node i)) × (target ≡ its.node_of i) × (lo ≤ i)
+      × (i < hi) × (D : Comes labels (changed its i k) _ _ _ _ block there) × Same (λ x. Keeps D x) (λ x. Keeps r.comes x)
+  refined_kept g lo hi c e limit k block names ss st m below there target r agree leads =
       let S = shows_block g lo hi c e limit block st m r in
       let has = has_marks g lo hi c e limit block st m r in
       let x = refine_changes labels its are (run labels g block st).groups g lo hi limit k names ss m below there target r.within (stand_where g lo hi c e limit block st m r)
@@ -59,7 +68,13 @@ module _ (labels : List Label) (its : Items) (mark : ℕ → Bool) (are : AreLab
       let T : Shows (changed its i k) (run labels g block st).groups g lo hi y.0 =
       block_shows_all labels (changed its i k) mark (changed_labels labels its i k are) low g st y.1 r.marked r.enters r.empty r.marks in
       let same : y.0 ≡ there = shows_one labels (changed its i k) (changed_labels labels its i k are) (run labels g block st).groups g lo hi y.0 there T x.5 in
-      (i, x.1, x.2, x.3, x.4, subst (λ f. Comes labels (changed its i k) _ _ _ _ block f) same y.1)
+      let D = subst (λ f. (D : Comes labels (changed its i k) _ _ _ _ block f) × Same (λ x. Keeps D x) (λ x. Keeps r.comes x)) same (y.1, y.3) in
+      (i, x.1, x.2, x.3, x.4, D.0, D.1)
+
+  pub block_is_refined : BlockIsRefined labels its mark
+  block_is_refined g lo hi c e limit k block names ss st m below there target r agree leads =
+      let x = refined_kept g lo hi c e limit k block names ss st m below there target r agree leads in
+      (x.0, x.1, x.2, x.3, x.4, x.5)
 
   pub block_is_missed : BlockIsMissed labels its mark
   block_is_missed g lo hi c e limit i block names ss st m r agree none is =

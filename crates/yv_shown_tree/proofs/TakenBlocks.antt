@@ -23,7 +23,7 @@ use Rattle.yv_shown_tree.proofs.Kinding.{among_all, either_is, item_kind}
 use Rattle.yv_shown_tree.proofs.Showing.{first_or}
 use Rattle.yv_shown_tree.proofs.StatementMarks.{both_true}
 
-item_no_augment : (r : Row) → is_item r ≡ true → is_augment r ≡ false
+pub item_no_augment : (r : Row) → is_item r ≡ true → is_augment r ≡ false
 unfolding is_item
 item_no_augment r h = elim (either_is _ _ h) [
   | inl a ↦ among_all (λ word. bytes_eq word (codes "augment") ≡ false) nodes r.head.keyword (refl, (refl, (refl, (refl, (refl, (refl, (refl, (refl, (refl, (refl, tt)))))))))) a
@@ -92,7 +92,7 @@ module _ (rows : List Row) (a : ℕ) (q : Row) (node : Kind) (at_a : slice_get r
   in_block r scope =
       ap (λ (n : ℕ). augment_at n (slice_get rows n)) scope ∙ (ap (augment_at a) at_a ∙ ap (λ (b : Bool). if b then Some a else None) is_one)
 
-  scope_of : (r : Row) → augment_around rows (Some r) ≡ Some a → r.scope ≡ a
+  pub scope_of : (r : Row) → augment_around rows (Some r) ≡ Some a → r.scope ≡ a
   scope_of r h = by (slice_get rows r.scope) h
     where
       chosen_one : (b : Bool) → (if b then Some r.scope else None) ≡ Some a → r.scope ≡ a
@@ -118,17 +118,21 @@ module _ (rows : List Row) (a : ℕ) (q : Row) (node : Kind) (at_a : slice_get r
         taken = sym (taken_is x.0 z.0 z.1 z.2) ∙ x.2;
       }
 
+  -- an item around which the augment is stands in its block
+  pub stands_there : (j : ℕ) (r : Row) → slice_get rows j ≡ Some r → is_item r ≡ true → augment_around rows (Some r) ≡ Some a → Contains (block_of rows a) j
+  stands_there j r at item around =
+      let scope : r.scope ≡ a = scope_of r around in
+      let other : r.scope ≢ j =
+      λ same. false≢true (sym (item_no_augment r item)
+      ∙ (ap is_augment (same_Some r q (sym at ∙ (ap (slice_get rows) (let e : j ≡ a = omega (arith, same, scope) in e) ∙ at_a))) ∙ is_one)) in
+      let stands : stands_in a j r ≡ true = both_true (r.scope == a) (not (r.scope == j)) (eq-eqb r.scope a scope) (ap not (ne_eqb r.scope j other)) in
+      numbered (stands_in a) 0 rows j j r (omega arith) at stands
+
   refuses_block : IsNotTaken rows a node → takes_block rows a node ≡ false
   refuses_block n =
-      let scope : n.row.scope ≡ a = scope_of n.row n.around in
-      let other : n.row.scope ≢ n.statement =
-      λ same. false≢true (sym (item_no_augment n.row n.item)
-      ∙ (ap is_augment (same_Some n.row q (sym n.at ∙ (ap (slice_get rows) (let e : n.statement ≡ a = omega (arith, same, scope) in e) ∙ at_a))) ∙ is_one)) in
-      let stands : stands_in a n.statement n.row ≡ true =
-      both_true (n.row.scope == a) (not (n.row.scope == n.statement)) (eq-eqb n.row.scope a scope) (ap not (ne_eqb n.row.scope n.statement other)) in
-      let here : Contains (block_of rows a) n.statement = numbered (stands_in a) 0 rows n.statement n.statement n.row (omega arith) n.at stands in
       all_fail taken_at (those is_item rows (block_of rows a)) n.statement
-      (chosen (is_at is_item rows) (block_of rows a) n.statement here (ap (λ o. unwrap_or (option_map is_item o) false) n.at ∙ n.item))
+      (chosen (is_at is_item rows) (block_of rows a) n.statement (stands_there n.statement n.row n.at n.item n.around)
+      (ap (λ o. unwrap_or (option_map is_item o) false) n.at ∙ n.item))
       (taken_is n.statement n.row n.at n.item ∙ n.taken)
 
 pub targets_take : (rows : List Row) → TargetsTake rows

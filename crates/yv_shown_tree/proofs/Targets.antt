@@ -16,6 +16,7 @@ use Rattle.yv_whole_expansion.specs.Expanded.{augments_of}
 use Rattle.yv_whole_expansion.specs.Expands.{input_of, is_at, is_augment, output_of, part_block, those}
 use Rattle.yv_augmented.specs.Faults.{BadTarget}
 use Rattle.yv_augmented.specs.Grafted.{AreGrafted}
+use Rattle.yv_augmented.specs.Refining.{is_refine}
 use Rattle.yv_augmented.specs.Spots.{whole}
 use Rattle.yv_final_tree.specs.Given.{marks_of, order_of}
 use Rattle.yv_expanded_tree.specs.Expanded.{Tops}
@@ -45,14 +46,6 @@ no_target a = record { code = code.AugmentTarget; statement = a }
 no_wrong : (x : Wrong) → Contains (let none : List Wrong = [] in none) x → ⊥
 no_wrong x (i, l, e) = omega (arith, l)
 
--- one more refusal of another code tells of no target
-pushed_other : (xs : List Wrong) (c : Code) (k b : ℕ) → (c ≡ code.AugmentTarget → ⊥)
-    → Contains (xs ++ record { code = c; statement = k } ∷ []) (no_target b) → Contains xs (no_target b)
-pushed_other xs c k b unlike h = elim (Contains-push_cases xs (record { code = c; statement = k }) (no_target b) h) [
-  | inl x ↦ x
-  | inr same ↦ absurd (unlike (ap (λ (z : Wrong). z.code) same))
-]
-
 module _ (files : Files) where
   abbrev rows : List Row
   rows = rows_of files
@@ -61,31 +54,37 @@ module _ (files : Files) where
   briefs = map brief_of files
 
   -- a statement stands below one that is no root
-  abbrev IsInner : ℕ → Type 0
+  abbrev pub IsInner : ℕ → Type 0
   IsInner a = (r : Row) × (slice_get rows a ≡ Some r) × (length files ≤ r.scope)
 
   abbrev Known : List Wrong → Type 0
-  Known xs = (b : ℕ) → Contains xs (no_target b) → IsInner b
+  Known xs = (e : Wrong) → Contains xs e → IsInner e.statement
 
   both_known : (xs ys : List Wrong) → Known xs → Known ys → Known (xs ++ ys)
-  both_known xs ys p q b h = elim (Contains-append_cases xs ys (no_target b) h) [ inl x ↦ p b x | inr y ↦ q b y ]
+  both_known xs ys p q e h = elim (Contains-append_cases xs ys e h) [ inl x ↦ p e x | inr y ↦ q e y ]
+
+  -- with one more refusal, of a statement that stands so
+  more_known : (xs : List Wrong) (c : Code) (k : ℕ) → IsInner k → Known xs → Known (xs ++ record { code = c; statement = k } ∷ [])
+  more_known xs c k inner known e h = elim (Contains-push_cases xs (record { code = c; statement = k }) e h) [
+    | inl x ↦ known e x
+    | inr same ↦ subst IsInner (ap (λ (z : Wrong). z.statement) same) inner
+  ]
 
   none_known : Known []
-  none_known b h = absurd (no_wrong (no_target b) h)
+  none_known e h = absurd (no_wrong e h)
 
-  refined_known : {home : ℕ} {ks : List ℕ} {m last : Made} → Refined files home ks m last → Known m.wrong → Known last.wrong
-  refined_known all_refined known = known
-  refined_known (changes leads fit later) known = refined_known later known
-  refined_known (unfit {k = k} {m = m} leads fit later) known =
-      refined_known later (λ b h. known b (pushed_other m.wrong code.BadRefine k b (λ e. (let bad : code.BadRefine ≡ code.AugmentTarget = e in cc)) h))
-  refined_known (refine_misses {k = k} {m = m} nowhere later) known =
-      refined_known later (λ b h. known b (pushed_other m.wrong code.RefineTarget k b (λ e. (let bad : code.RefineTarget ≡ code.AugmentTarget = e in cc)) h))
+  refined_known : {home : ℕ} {ks : List ℕ} {m last : Made} → Refined files home ks m last → ((k : ℕ) → Contains ks k → IsInner k) → Known m.wrong → Known last.wrong
+  refined_known all_refined inner known = known
+  refined_known (changes {k = k} {ks = ks} leads fit later) inner known = refined_known later (λ j h. inner j (there_later k j ks h)) known
+  refined_known (unfit {k = k} {ks = ks} {m = m} leads fit later) inner known =
+      refined_known later (λ j h. inner j (there_later k j ks h)) (more_known m.wrong code.BadRefine k (inner k (there_first k ks)) known)
+  refined_known (refine_misses {k = k} {ks = ks} {m = m} nowhere later) inner known =
+      refined_known later (λ j h. inner j (there_later k j ks h)) (more_known m.wrong code.RefineTarget k (inner k (there_first k ks)) known)
 
-  judged_known : (b : Bool) (a : ℕ) (there : Forest) (wrong : List Wrong) → Known wrong
+  judged_known : (b : Bool) (a : ℕ) (there : Forest) (wrong : List Wrong) → IsInner a → Known wrong
       → Known (judged b a (record { nodes = there; wrong = wrong })).wrong
-  judged_known true a there wrong known = known
-  judged_known false a there wrong known =
-      λ b h. known b (pushed_other wrong code.BadAugment a b (λ e. (let bad : code.BadAugment ≡ code.AugmentTarget = e in cc)) h)
+  judged_known true a there wrong inner known = known
+  judged_known false a there wrong inner known = more_known wrong code.BadAugment a inner known
 
   abbrev AllBelow : List ℕ → Type 0
   AllBelow ks = (k : ℕ) → Contains ks k → IsBelow rows k
@@ -94,16 +93,16 @@ module _ (files : Files) where
   part_below None k h = absurd (nothing_stands k h)
   part_below (Some j) k h = block_below rows j k h
 
-  -- an augment of a uses stands below this, which is no root
-  inner_augment : (k a : ℕ) → IsBelow rows k → Contains (those is_augment rows (block_of rows k)) a → IsInner a
-  inner_augment k a (r, at, apart) h =
-      let x = block_scope rows k a (filter_in (is_at is_augment rows) (block_of rows k) a h).0 in
+  -- a refine or an augment of a uses stands below this, which is no root
+  inner_of : (test : Row → Bool) (k a : ℕ) → IsBelow rows k → Contains (those test rows (block_of rows k)) a → IsInner a
+  inner_of test k a (r, at, apart) h =
+      let x = block_scope rows k a (filter_in (is_at test rows) (block_of rows k) a h).0 in
       let past = past_roots files (λ file text. true) k r at apart in
       let scope = x.2 in
       (x.0, x.1, omega (arith, past, scope))
 
   mutual
-    gives_known : {home : ℕ} {under ks : List ℕ} {m : Made} → Gives files home under ks m → AllBelow ks → Known m.wrong
+    pub gives_known : {home : ℕ} {under ks : List ℕ} {m : Made} → Gives files home under ks m → AllBelow ks → Known m.wrong
     gives_known no_statements all = none_known
     gives_known (other {k = k} {ks = ks} at isnt e) all = gives_known e (λ j h. all j (there_later k j ks h))
     gives_known (one_node {k = k} {ks = ks} {below = below} {behind = behind} at is o u known b e) all =
@@ -114,7 +113,8 @@ module _ (files : Files) where
         (gives_known e (λ j h. all j (there_later k j ks h)))
     gives_known (uses {k = k} {d = d} {ks = ks} {given = given} {behind = behind} at is u refers c x y e) all =
         both_known given.wrong behind.wrong
-        (augmented_known y (λ a h. inner_augment k a (all k (there_first k ks)) h) (refined_known x (gives_known c (block_below rows d))))
+        (augmented_known y (λ a h. inner_of is_augment k a (all k (there_first k ks)) h)
+        (refined_known x (λ a h. inner_of is_refine k a (all k (there_first k ks)) h) (gives_known c (block_below rows d))))
         (gives_known e (λ j h. all j (there_later k j ks h)))
 
     augmented_known : {home : ℕ} {under ks : List ℕ} {m last : Made} → Augmented files home under ks m last
@@ -123,14 +123,11 @@ module _ (files : Files) where
     augmented_known all_added inner known = known
     augmented_known (adds {others = others} {a = a} {m = m} {block = block} {there = there} {target = target} e reaches later) inner known =
         augmented_known later (λ b h. inner b (there_later a b others h))
-        (judged_known (takes_block rows a target.kind) a there (m.wrong ++ block.wrong) (both_known m.wrong block.wrong known (gives_known e (block_below rows a))))
+        (judged_known (takes_block rows a target.kind) a there (m.wrong ++ block.wrong) (inner a (there_first a others)) (both_known m.wrong block.wrong known (gives_known e (block_below rows a))))
     augmented_known (untargeted {others = others} {a = a} {m = m} misses later) inner known =
-        augmented_known later (λ b h. inner b (there_later a b others h)) (λ b h. elim (Contains-push_cases m.wrong (no_target a) (no_target b) h) [
-          | inl x ↦ known b x
-          | inr same ↦ subst IsInner (ap (λ (z : Wrong). z.statement) same) (inner a (there_first a others))
-        ])
+        augmented_known later (λ b h. inner b (there_later a b others h)) (more_known m.wrong code.AugmentTarget a (inner a (there_first a others)) known)
 
-  tops_known : {order : List ℕ} {m : Made} → Tops files order m → Known m.wrong
+  pub tops_known : {order : List ℕ} {m : Made} → Tops files order m → Known m.wrong
   tops_known no_files = none_known
   tops_known (one_more_top {file = file} {m = m} {behind = behind} e later) =
       both_known m.wrong behind.wrong (gives_known e (top_below rows briefs file)) (tops_known later)
@@ -155,7 +152,7 @@ module _ (files : Files) where
           let many : length briefs ≡ length files = length-map files brief_of in
           (x.1, ap (slice_get rows) (let e = x.2 in let f : a ≡ x.0 = omega (arith, e) in f) ∙ x.3, omega (arith, scope, home, many))
 
-  near : (marks : List Bool) (k a : ℕ) → slice_get (augments_of briefs rows marks) k ≡ Some a → IsInner a → ⊥
+  pub near : (marks : List Bool) (k a : ℕ) → slice_get (augments_of briefs rows marks) k ≡ Some a → IsInner a → ⊥
   near marks k a at (r, row, far) =
       let x = filter_in (is_at is_augment rows) (given_before briefs rows marks (length briefs)) a (at_there (augments_of briefs rows marks) k a at) in
       let t = top_scope marks (length briefs) a (omega arith) x.0 in
@@ -163,7 +160,7 @@ module _ (files : Files) where
       let l = t.2 in
       omega (arith, far, same, l)
 
-contains_at : (xs : List ℕ) (a : ℕ) → Contains xs a → (k : ℕ) × (slice_get xs k ≡ Some a)
+pub contains_at : (xs : List ℕ) (a : ℕ) → Contains xs a → (k : ℕ) × (slice_get xs k ≡ Some a)
 contains_at [] a h = absurd (nothing_stands a h)
 contains_at (x ∷ xs) a h = elim (first_or x xs a h) [
   | inl same ↦ (0, ap (λ (n : ℕ). Some n) same)
@@ -178,7 +175,7 @@ targets_are_one files one_meant choice f its m r sound roots final tells E =
     let given : AreGiven files marks order = record { sound = sound; roots = roots; marked = order_marked choice files } in
     let grafted = subst (λ a. AreGrafted (whole (map brief_of files) (rows_of files) a (length f.items)) f.items f.state) final.augments final.grafted in
     let known = target_refused files marks order final.own f.items its given final.expanded tells one_meant (IsInner files) (near files marks)
-    (λ a home made G. gives_known files G (block_below (rows_of files) a)) m f.state E grafted (tops_known files E.tops) in
+    (λ a home made G b. gives_known files G (block_below (rows_of files) a) (no_target b)) m f.state E grafted (λ b. tops_known files E.tops (no_target b)) in
     let By : List ℕ → Type 0 = λ a. BadTarget (whole (map brief_of files) (rows_of files) a (length f.items)) f.items f.state r in (
       (λ bad. (let (k, less, a, at, (row, found, (none, is))) = subst By final.augments bad in (a, at_there augments k a at, (known k a at).0 none, row, found, is))),
       (λ (a, there, refused, row, at, is).

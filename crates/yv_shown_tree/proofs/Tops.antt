@@ -16,19 +16,17 @@ use Rattle.yv_augmented.specs.declared.spot.Spot.{Spot}
 use Rattle.yv_expanded_tree.specs.Expanded.{Tops}
 use Rattle.yv_expanded_tree.specs.Expanded.Tops.{no_files, one_more as one_more_top}
 use Rattle.yv_expanded_tree.specs.Gives.{Gives, Made}
-use Rattle.yv_expanded_tree.specs.Nodes.{Forest}
 use Rattle.yv_expanded_tree.specs.Nodes as nodes
 use Rattle.yv_shown_tree.specs.Beginning.{BlocksMarked}
 use Rattle.yv_shown_tree.specs.Blocks.{Augments, Block, augment, no_augments, run_all}
 use Rattle.yv_shown_tree.specs.Blocks as block
-use Rattle.yv_shown_tree.specs.Comes.{Comes, HasMarks}
-use Rattle.yv_shown_tree.specs.Comes.Comes.{no_items as none_come}
+use Rattle.yv_shown_tree.specs.Comes.{HasMarks}
 use Rattle.yv_shown_tree.specs.Expanding.{told}
 use Rattle.yv_shown_tree.specs.Frames.{IsOutside}
 use Rattle.yv_shown_tree.specs.Giving.{ShowNodes, around}
 use Rattle.yv_shown_tree.specs.Marks.{mark_of}
 use Rattle.yv_shown_tree.specs.Shows.{Items}
-use Rattle.yv_shown_tree.proofs.Alike.{AreAlike, comes_same}
+use Rattle.yv_shown_tree.proofs.Alike.{AreAlike}
 use Rattle.yv_shown_tree.proofs.Beginning.{blocks_mark}
 use Rattle.yv_shown_tree.proofs.Finding.{not_none}
 use Rattle.yv_shown_tree.proofs.Givers.{Spans}
@@ -37,24 +35,26 @@ use Rattle.yv_shown_tree.proofs.Keeping.{AllKept, MayAll, all_go_up, all_keep, g
 use Rattle.yv_shown_tree.proofs.Lying.{AllLies, Lies, empty_lies, laid_as, lies_then, map_append, map_length}
 use Rattle.yv_shown_tree.proofs.Making.{IsHere, Makes, MayRun, all_state_is, drop_at, first_stops, low, new_long, node_stays, refined, split_here, stage, state, then_makes}
 use Rattle.yv_shown_tree.proofs.MakingNodes.{PartsMake, all_make}
+use Rattle.yv_shown_tree.proofs.Refusing.{Come, come_as, come_none, come_same}
 use Rattle.yv_shown_tree.proofs.Showing.{may_block, may_others}
 use Rattle.yv_shown_tree.proofs.Staging.{noted_alike}
 
--- the blocks of augments give what this says of each, by its place
-abbrev pub AllCome : List Label → Items → (made : ℕ → Forest → Type 0) → {lo hi c e k own : ℕ} → Augments lo hi c e k own → Type 0
-AllCome labels its made no_augments = Unit {0}
-AllCome labels its made {k = k} (augment mid d names block others) = ((f : Forest) → made k f → Comes labels its _ _ _ _ block f) × AllCome labels its made others
+module _ (files : Files) (augments : List ℕ) (many : ℕ) (items : List Item) where
+  -- the blocks of augments give what this says of each, by its place, and at their items that is refused which is refused of these
+  abbrev pub AllCome : Items → (made : ℕ → Made → Type 0) → {lo hi c e k own : ℕ} → Augments lo hi c e k own → Type 0
+  AllCome now made no_augments = Unit {0}
+  AllCome now made {k = k} (augment mid d names block others) = ((m : Made) → made k m → Come files augments many items now block m.nodes m.wrong) × AllCome now made others
 
--- the same, where what is told of their items is the same
-pub all_come_same : (labels : List Label) (made : ℕ → Forest → Type 0) (its new : Items) → AreAlike its new → {lo hi c e k own : ℕ} (augs : Augments lo hi c e k own)
-    → ((i : ℕ) → lo ≤ i → i < hi → new.node_of i ≡ its.node_of i) → AllCome labels its made augs → AllCome labels new made augs
-all_come_same labels made its new are no_augments same come = tt
-all_come_same labels made its new are (augment mid d names block others) same (first, rest) =
-    let up = goes_up block in let lm = up.0 in
-    let up' = all_go_up others in let mh = up'.0 in (
-      λ f m. comes_same labels its new are (λ i l h. same i l (omega (arith, h, mh))) (first f m),
-      all_come_same labels made its new are others (λ i l h. same i (omega (arith, l, lm)) h) rest,
-    )
+  -- the same, where what is told of their items is the same
+  pub all_come_same : (made : ℕ → Made → Type 0) (its new : Items) → AreAlike its new → {lo hi c e k own : ℕ} (augs : Augments lo hi c e k own)
+      → ((i : ℕ) → lo ≤ i → i < hi → new.node_of i ≡ its.node_of i) → AllCome its made augs → AllCome new made augs
+  all_come_same made its new are no_augments same come = tt
+  all_come_same made its new are (augment mid d names block others) same (first, rest) =
+      let up = goes_up block in let lm = up.0 in
+      let up' = all_go_up others in let mh = up'.0 in (
+        λ m given. come_same files augments many items its new are m.wrong (λ i l h. same i l (omega (arith, h, mh))) (first m given),
+        all_come_same made its new are others (λ i l h. same i (omega (arith, l, lm)) h) rest,
+      )
 
 module _ (files : Files) (augments : List ℕ) (many : ℕ) (items : List Item) (its : Items)
     (facts : ShowNodes files (whole (map brief_of files) (rows_of files) augments many) items (λ i. None) its) (each : length items ≡ many) where
@@ -68,8 +68,8 @@ module _ (files : Files) (augments : List ℕ) (many : ℕ) (items : List Item) 
   labels = labels_of spots
 
   -- what some statements give
-  abbrev pub Given : List ℕ → (home : ℕ) → (under : List ℕ) → Forest → Type 0
-  Given ks home under f = (m : Made) × Gives files home under ks m × (f ≡ m.nodes)
+  abbrev pub Given : List ℕ → (home : ℕ) → (under : List ℕ) → Made → Type 0
+  Given ks home under m = Gives files home under ks m
 
   -- statements of which all items stand in one group, at the top or in that of an augment of a module
   pub record TopPart (ks : List ℕ) (t : Tree) (g home : ℕ) (under : List ℕ) : Type 0 where
@@ -88,26 +88,22 @@ module _ (files : Files) (augments : List ℕ) (many : ℕ) (items : List Item) 
     one_file : {file : ℕ} {order : List ℕ} {t : Tree} {ts : List Tree} → TopPart (top_of w.files w.rows file) t 0 (home_at w.files file) [] → FilesMake order ts
         → FilesMake (file ∷ order) (t ∷ ts)
 
-  abbrev pub TopsGive : List ℕ → Forest → Type 0
-  TopsGive order f = (m : Made) × Tops files order m × (f ≡ m.nodes)
+  abbrev pub TopsGive : List ℕ → Made → Type 0
+  TopsGive order m = Tops files order m
 
-  tops_split : (file : ℕ) (order : List ℕ) (f : Forest) → TopsGive (file ∷ order) f
-      → (a : Forest) × (b : Forest) × Given (top_of w.files w.rows file) (home_at w.files file) [] a × TopsGive order b × (f ≡ nodes.joined a b)
-  tops_split file order f (m, T, is) = (let r = by T in (r.0, r.1, r.2, r.3, is ∙ r.4))
-    where
-      by : {m : Made} → Tops files (file ∷ order) m
-          → (a : Forest) × (b : Forest) × Given (top_of w.files w.rows file) (home_at w.files file) [] a × TopsGive order b × (m.nodes ≡ nodes.joined a b)
-      by (one_more_top {m = x} {behind = behind} G rest) = (x.nodes, behind.nodes, (x, G, refl), (behind, rest, refl), refl)
+  tops_split : {file : ℕ} {order : List ℕ} {m : Made} → TopsGive (file ∷ order) m
+      → (a : Made) × (b : Made) × Given (top_of w.files w.rows file) (home_at w.files file) [] a × TopsGive order b
+      × (m.nodes ≡ nodes.joined a.nodes b.nodes) × (m.wrong ≡ a.wrong ++ b.wrong)
+  tops_split (one_more_top {m = x} {behind = behind} G rest) = (x, behind, G, rest, refl, refl)
 
-  no_tops : (f : Forest) → TopsGive [] f → f ≡ nodes.none
-  no_tops f (m, T, is) = is ∙ by T
-    where
-      by : {m : Made} → Tops files [] m → m.nodes ≡ nodes.none
-      by no_files = refl
+  no_tops : {m : Made} → TopsGive [] m → (m.nodes ≡ nodes.none) × (m.wrong ≡ [])
+  no_tops no_files = (refl, refl)
 
   empty_tops : (l : Laid) (n c : ℕ) (same : l.copies ≡ c) → Makes files augments many items its (empty_lies w labels l 0 n c same) (TopsGive [])
-  empty_tops l n c same f behind rest gives here may =
-      subst (λ z. Comes labels (stage files augments many items its n rest) _ _ _ _ (block.nothing {lo = n} {c = c}) z) (sym (no_tops f gives)) none_come
+  empty_tops l n c same m behind rest gives here may =
+      let none_so = no_tops gives in
+      let now : Items = stage files augments many items its n rest in
+      come_as files augments many items now (block.nothing {lo = n} {c = c}) nodes.none m.nodes [] m.wrong (sym none_so.0) (sym none_so.1) (come_none files augments many items now)
 
   -- what stands at the tops of files gives what these do
   pub tops_make : {order : List ℕ} {trees : List Tree} → FilesMake order trees → (l : Laid) (n hi c : ℕ) → length l.spots ≡ n → l.copies ≡ c → n + count (all_of trees) ≡ hi
@@ -124,7 +120,7 @@ module _ (files : Files) (augments : List ℕ) (many : ℕ) (items : List Item) 
       let pair = subst (λ these. (F : Lies w labels l these 0 n hi c b.0) × Makes files augments many items its F (TopsGive (file ∷ order))) (sym (listed_joined None n t (all_of ts))) (
         lies_then w labels l (listed None n t) (listed None (n + count t) (all_of ts)) 0 n (n + count t) hi c a.0 b.0 A b.1,
         then_makes files augments many items its facts each l (listed None n t) (listed None (n + count t) (all_of ts)) 0 n (n + count t) hi c a.0 b.0 A b.1
-            (Given (top_of w.files w.rows file) (home_at w.files file) []) (TopsGive order) (TopsGive (file ∷ order)) (tops_split file order)
+            (Given (top_of w.files w.rows file) (home_at w.files file) []) (TopsGive order) (TopsGive (file ∷ order)) (λ m T. tops_split T)
             (λ behind stops. first_stops None n (λ p is. absurd (not_none is)) (all_of ts) (n + count t) behind stops) a.2 b.2,
       ) in (b.0, pair.0, pair.1)
 
@@ -135,13 +131,13 @@ module _ (files : Files) (augments : List ℕ) (many : ℕ) (items : List Item) 
     pub marks : HasMarks its.given (mark_of w) st
     pub marked : BlocksMarked labels its.given (mark_of w) augs
 
-  module _ (made : ℕ → Forest → Type 0) where
+  module _ (made : ℕ → Made → Type 0) where
     -- blocks of augments that are laid give what they do
     abbrev pub AllBegin : {l : Laid} {these : List Item} {n hi c e k own : ℕ} {paths : List (List ℕ)} → AllLies w labels l these n hi c e k own paths → Type 0
     AllBegin {l = l} {these = these} {n = n} {hi = hi} {c = c} {e = e} {k = k} {own = own} F =
         (behind : List Item) (rest : List Spot) → IsHere files augments many items its l these behind n c F.new rest
         → MayBegin n hi c e k own F.augments (state files augments many items its hi rest)
-        → AllCome labels (stage files augments many items its n (F.new ++ rest)) made F.augments
+        → AllCome files augments many items (stage files augments many items its n (F.new ++ rest)) made F.augments
 
     -- one block, and those behind it
     module _ (l : Laid) (xs ys : List Item) (n mid hi c d e k own : ℕ) (A : Lies w labels l xs (group_of_augment labels k) n mid c d) (paths : List (List ℕ))
@@ -208,11 +204,11 @@ module _ (files : Files) (augments : List ℕ) (many : ℕ) (items : List Item) 
             ∙ firsts behind here.stops j l
 
         come : Makes files augments many items its A (made k) → AllBegin G
-            → AllCome labels (stage files augments many items its n (A.new ++ (G.new ++ rest))) made (augment mid d [] A.block G.augments)
+            → AllCome files augments many items (stage files augments many items its n (A.new ++ (G.new ++ rest))) made (augment mid d [] A.block G.augments)
         come first later = (
-          λ f m. first f (ys ++ behind) (G.new ++ rest) m both.1
+          λ m given. first m (ys ++ behind) (G.new ++ rest) given both.1
               (subst (MayRun files augments many items its (group_of_augment labels k) n mid c d) (sym (all_state_is files augments many items its facts each G.augments G.new rest G.long G.lie)) may_first),
-          all_come_same labels made (stage files augments many items its mid (G.new ++ rest)) (stage files augments many items its n (A.new ++ (G.new ++ rest)))
+          all_come_same files augments many items made (stage files augments many items its mid (G.new ++ rest)) (stage files augments many items its n (A.new ++ (G.new ++ rest)))
               (noted_alike files spots its (refined files augments many items its mid (G.new ++ rest)) (refined files augments many items its n (A.new ++ (G.new ++ rest)))) G.augments
               (λ i u h. node_stays files augments many items its facts each n mid A.new (G.new ++ rest) A.long (λ j v x. stops_at j v) i u) (later behind rest both.0 may_later),
         )
@@ -220,13 +216,13 @@ module _ (files : Files) (augments : List ℕ) (many : ℕ) (items : List Item) 
       pub begins : ((behind : List Item) → ((j : ℕ) → n ≤ j → is_from_at j (slice_get behind 0) ≡ false) → (j : ℕ) → n ≤ j → is_from_at j (slice_get (ys ++ behind) 0) ≡ false)
           → Makes files augments many items its A (made k) → AllBegin G → AllBegin block_and
       begins firsts first later behind rest here may =
-          subst (λ z. AllCome labels (stage files augments many items its n z) made (augment mid d [] A.block G.augments)) (sym (append_assoc A.new G.new rest)) (come firsts behind rest here may first later)
+          subst (λ z. AllCome files augments many items (stage files augments many items its n z) made (augment mid d [] A.block G.augments)) (sym (append_assoc A.new G.new rest)) (come firsts behind rest here may first later)
 
     -- the augments of modules from a place on
     pub data BlocksMake : ℕ → List Tree → Type 0 where
       no_blocks : {k : ℕ} → BlocksMake k []
       one_block : {k home : ℕ} {ks under : List ℕ} {t : Tree} {ts : List Tree} → TopPart ks t (group_of_augment labels k) home under
-          → ((f : Forest) → made k f → Given ks home under f) → BlocksMake (k + 1) ts → BlocksMake k (t ∷ ts)
+          → ((m : Made) → made k m → Given ks home under m) → BlocksMake (k + 1) ts → BlocksMake k (t ∷ ts)
 
     abbrev empty_blocks : (l : Laid) (n c k : ℕ) → l.copies ≡ c → AllLies w labels l [] n n c c k k []
     empty_blocks l n c k copies = record {
@@ -275,4 +271,4 @@ module _ (files : Files) (augments : List ℕ) (many : ℕ) (items : List Item) 
         subst (λ these. AreBegun l these (t ∷ ts) n hi c k own) (sym (listed_joined None n t (all_of ts)))
         (joined_begun l (listed None n t) (listed None (n + count t) (all_of ts)) t ts n (n + count t) hi c a.0 k own refl A b
         (λ behind stops. first_stops None n (λ p is. absurd (not_none is)) (all_of ts) (n + count t) behind stops)
-        (λ g behind rest m here may. a.2 g behind rest (makes g m) here may))
+        (λ m behind rest given here may. a.2 m behind rest (makes m given) here may))

@@ -102,7 +102,7 @@ module _ (labels : List Label) (its : Items) (are : AreLabels labels its) (k n :
 
   -- where its path hits a node, this is its target
   pub hit_target : (node : Node) (below put there : Forest) → Hits ss m node below put there
-      → (i : ℕ) × (target_of labels (turn labels k 0 (length labels) (n ∷ ns) st).ends k ≡ Some i)
+      → (i : ℕ) × (target_of labels (turn labels k 0 (length labels) (n ∷ ns) st).ends k ≡ Some i) × (node ≡ its.node_of i)
   hit_target node below put there (leads, may) =
       let h = hits labels its are st.groups (length labels) t.whole.stand false ss (n ∷ ns) node below put there leads agree (bound labels its are k (n ∷ ns) ss st m t) in
       let x = are.within h.item h.is_node in (
@@ -110,6 +110,7 @@ module _ (labels : List Label) (its : Items) (are : AreLabels labels its) (k n :
         ap (option_and_then (target labels)) (end_is (end.Node h.item) h.walks)
             ∙ ap (λ (b : Bool). if b then Some h.item else None)
             (ap is_target_by x.1 ∙ (ap may_be_target x.2 ∙ (ap (λ (y : Node). may_be_target y.kind) (sym h.is) ∙ may))),
+        h.is,
       )
 
   -- and where it misses, it has none

@@ -2,7 +2,7 @@
 use Rattle.std.proofs.Common.{◌⊎◌, inl, inr, ◌≡◌, ◌≢◌, ℕ, zero, suc, ◌+◌, ◌<◌, ◌≤◌, ◌==◌, if◌then◌else◌, Bool, true, false, List, [], ◌∷◌, ◌++◌, length, map, get_or, refl, sym, ◌∙◌, ap, subst, arith, Option, Some, None, codes}
 use Rattle.std.specs.List.{Contains, slice_get}
 use Rattle.std.specs.Option.{option_map}
-use Rattle.std.proofs.lemmas.Bool.{cases_lt}
+use Rattle.std.proofs.lemmas.Bool.{cases_lt, false≢true}
 use Rattle.std.proofs.lemmas.List.{length-map}
 use Rattle.std.proofs.lemmas.List.Elements.{Contains-append_cases, Contains-append_left, Contains-append_right, Contains-push, Contains-push_cases}
 use Rattle.std.proofs.lemmas.List.Splits.{length-slice_split}
@@ -25,12 +25,12 @@ use Rattle.yv_augmented.specs.Grafted.{AreGrafted, module_paths, path_in, step_n
 use Rattle.yv_augmented.specs.Spots.{Whole, own_home}
 use Rattle.yv_expanded_tree.specs.Expanded.{Expand, Tops}
 use Rattle.yv_expanded_tree.specs.Gives.{Gives, Made, Wrong, judged, takes_block}
-use Rattle.yv_expanded_tree.specs.Nodes.{Forest, given_by, inserted}
+use Rattle.yv_expanded_tree.specs.Nodes.{Forest, Node, given_by, inserted}
 use Rattle.yv_expanded_tree.specs.Paths.{Leads, Step, at as end_at, path_of}
 use Rattle.yv_expanded_tree.specs.Rounds.{IsHome, Round, Rounds}
 use Rattle.yv_expanded_tree.specs.Rounds.Round.{none_left as round_over, adds as round_adds, untargeted as round_misses, waits as round_waits}
 use Rattle.yv_expanded_tree.specs.Rounds.Rounds.{last as last_round, one_more as one_more_round}
-use Rattle.yv_expanded_tree.proofs.Giving.{RefersToOne}
+use Rattle.yv_expanded_tree.proofs.Giving.{RefersToOne, gives_one}
 use Rattle.yv_shown_tree.specs.Blocks.{run_all}
 use Rattle.yv_shown_tree.specs.Files.{AreGiven, FilesShow, ShowFiles, begins_at, expansion_of, giver_of, labels_in}
 use Rattle.yv_shown_tree.specs.Frames.{Frame, MayEnter}
@@ -51,10 +51,11 @@ use Rattle.yv_shown_tree.proofs.Kinding.{right_is}
 use Rattle.yv_shown_tree.proofs.Making.{are, low}
 use Rattle.yv_shown_tree.proofs.Modules.{MadeAt, all_items, at_first, begins, begins_most, block_shows, facts, have, stand_givers, start_is, top_shows, ungiven, within}
 use Rattle.yv_shown_tree.proofs.Orders.{augment_in, augments_rise, at_there, rises_back, rises_one}
+use Rattle.yv_shown_tree.proofs.Refusing.{IsAsked, judged_alike, not_module, target_alike}
 use Rattle.yv_shown_tree.proofs.Showing.{first_or}
 use Rattle.yv_shown_tree.proofs.Starting.{none_applied, none_there}
 use Rattle.yv_shown_tree.proofs.Telling.{labels_tell, paths_agree, there_is}
-use Rattle.yv_shown_tree.proofs.WholeRounds.{all_missed, missed_of, rounds_by, targets_of}
+use Rattle.yv_shown_tree.proofs.WholeRounds.{AddsTo, AllAddTo, added_of, all_added, all_added_give, all_added_to, all_missed, missed_of, rounds_by, rounds_sort, targets_of}
 
 -- a place for each of a list
 abbrev places_from : {A : Type 0} → ℕ → List A → List ℕ
@@ -65,6 +66,16 @@ all_wait : (st : State) (k : ℕ) (paths : List (List ℕ)) → ((j : ℕ) → k
     → AreWaiting st k paths (places_from k paths)
 all_wait st k [] none = no_places
 all_wait st k (names ∷ others) none = waiting_here (none k (omega arith) (omega arith)) (all_wait st (k + 1) others (λ j l h. none j (omega (arith, l)) (omega (arith, h))))
+
+place_from : {A : Type 0} (n : ℕ) (xs : List A) (k : ℕ) → k < length xs → Contains (places_from n xs) (n + k)
+place_from n [] k l = absurd (omega (arith, l))
+place_from n (x ∷ xs) zero l = subst (Contains (n ∷ places_from (n + 1) xs)) (let e : n ≡ n + 0 = omega arith in e) (there_first n (places_from (n + 1) xs))
+place_from n (x ∷ xs) (suc k) l =
+    there_later n (n + suc k) (places_from (n + 1) xs)
+    (subst (Contains (places_from (n + 1) xs)) (let e : n + 1 + k ≡ n + suc k = omega arith in e) (place_from (n + 1) xs k (omega (arith, l))))
+
+place_in : {A : Type 0} (xs : List A) (k : ℕ) → k < length xs → Contains (places_from 0 xs) k
+place_in xs k l = subst (Contains (places_from 0 xs)) (let e : 0 + k ≡ k = omega arith in e) (place_from 0 xs k l)
 
 got : (xs : List ℕ) (k a : ℕ) → slice_get xs k ≡ Some a → get_or xs k 0 ≡ a
 got [] k a at = absurd (not_none at)
@@ -178,6 +189,13 @@ module _ (files : Files) (marks : List Bool) (order : List ℕ) (own : ℕ) (ite
   unfolding judged_on
   judged_missed true a there wrong R = refl
   judged_missed false a there wrong R = refl
+
+  judged_added : (b : Bool) (a : ℕ) (there : Forest) (wrong : List Wrong) {ks js : List ℕ} {after : Forest}
+      → (R : RoundOn number path block ks (judged b a (record { nodes = there; wrong = wrong })).nodes js after)
+      → added_of (judged_on b a there wrong R) ≡ added_of R
+  unfolding judged_on
+  judged_added true a there wrong R = refl
+  judged_added false a there wrong R = refl
 
   round_on : {waiting still : List ℕ} {m end : Made} → Round files waiting m still end → (ks : List ℕ) → AreAt ks waiting
       → (js : List ℕ) × AreAt js still × RoundOn number path block ks m.nodes js end.nodes
@@ -403,6 +421,143 @@ module _ (files : Files) (marks : List Bool) (order : List ℕ) (own : ℕ) (ite
   abbrev pub untargeted_at : ℕ → Wrong
   untargeted_at a = record { code = code.AugmentTarget; statement = a }
 
+  -- what is refused in what the block of the augment at a place gives
+  abbrev pub BlockWrong : ℕ → Wrong → Type 0
+  BlockWrong k e =
+      (a : ℕ) × (home : ℕ) × (made : Made) × (slice_get augments k ≡ Some a) × IsHome files a home × Gives files home (a ∷ []) (block_of rows a) made × Contains made.wrong e
+
+  -- of refines and of augments of uses that is refused which was, and what is refused in the blocks of augments that add
+  record RefusesIn (old new : List Wrong) (added : List ℕ) : Type 0 where
+    to : (e : Wrong) → IsAsked augments e → Contains new e → Contains old e ⊎ ((k : ℕ) × Contains added k × BlockWrong k e)
+    from : (e : Wrong) → IsAsked augments e → Contains old e ⊎ ((k : ℕ) × Contains added k × BlockWrong k e) → Contains new e
+
+  -- the block of an augment gives one thing
+  block_one : (k a home : ℕ) (made : Made) (e : Wrong) → slice_get augments k ≡ Some a → IsHome files a home → Gives files home (a ∷ []) (block_of rows a) made
+      → BlockWrong k e → Contains made.wrong e
+  block_one k a home made e at (r, row, home_is) G (b, other, other_made, to, (q, row', other_is), H, there) =
+      let same : b ≡ a = same_Some b a (sym to ∙ at) in
+      let same_row : q ≡ r = same_Some q r (sym row' ∙ (ap (slice_get rows) same ∙ row)) in
+      let same_home : other ≡ home = other_is ∙ (ap (λ (z : Row). home_at briefs z.file) same_row ∙ sym home_is) in
+      let H' : Gives files home (a ∷ []) (block_of rows a) other_made =
+      subst (λ (h : ℕ). Gives files h (a ∷ []) (block_of rows a) other_made) same_home (subst (λ (n : ℕ). Gives files other (n ∷ []) (block_of rows n) other_made) same H) in
+      subst (λ (z : Made). Contains z.wrong e) (gives_one files home one_meant H' G) there
+
+  round_refuses : {waiting still : List ℕ} {m end : Made} → (R : Round files waiting m still end) → (ks : List ℕ) → (at : AreAt ks waiting)
+      → RefusesIn m.wrong end.wrong (added_of (round_on R ks at).2)
+  unfolding round_on
+  round_refuses round_over [] at = record { to = λ e of h. inl h; from = λ e of h. elim h [ inl x ↦ x | inr (k, y, z) ↦ absurd (nothing_stands k y) ] }
+  round_refuses round_over (k ∷ ks) at = absurd at
+  round_refuses (round_adds home G reach more) [] at = absurd at
+  round_refuses (round_adds {home = home} {a = a} {m = m} {block = given_block} {last = end} {there = there} {target = target} home_is G reach more) (k ∷ ks) (at, others) =
+      let r = round_refuses more ks others in
+      let b : Bool = takes_block rows a target.kind in
+      let wrong : List Wrong = m.wrong ++ given_block.wrong in
+      let rest : List ℕ = added_of (round_on more ks others).2 in
+      subst (λ z. RefusesIn m.wrong end.wrong (k ∷ z)) (sym (judged_added b a there wrong (round_on more ks others).2)) (record {
+        to = λ e of h. elim (r.to e of h) [
+          | inl x ↦ elim (Contains-append_cases m.wrong given_block.wrong e ((judged_alike augments b a there wrong (at_there augments k a at) e of).0 x)) [
+            | inl y ↦ inl y
+            | inr y ↦ inr (k, there_first k rest, (a, home, given_block, at, home_is, G, y))
+          ]
+          | inr (j, x, y) ↦ inr (j, there_later k j rest x, y)
+        ];
+        from = λ e of h. elim h [
+          | inl x ↦ r.from e of (inl ((judged_alike augments b a there wrong (at_there augments k a at) e of).1 (Contains-append_left m.wrong given_block.wrong e x)))
+          | inr (j, x, y) ↦ elim (first_or k rest j x) [
+            | inl same ↦ r.from e of (inl ((judged_alike augments b a there wrong (at_there augments k a at) e of).1 (Contains-append_right m.wrong given_block.wrong e
+                (block_one k a home given_block e at home_is G (subst (λ (n : ℕ). BlockWrong n e) (sym same) y)))))
+            | inr later ↦ r.from e of (inr (j, later, y))
+          ]
+        ];
+      })
+  round_refuses (round_misses home_is leads missed more) [] at = absurd at
+  round_refuses (round_misses {home = home} {a = a} {m = m} {e = e} {there = there} home_is (row, row_at, leads) missed more) (k ∷ ks) (at, others) =
+      let r = round_refuses more ks others in
+      record {
+        to = λ e of h. elim (r.to e of h) [ inl x ↦ inl ((target_alike augments a m.wrong (at_there augments k a at) e of).0 x) | inr y ↦ inr y ];
+        from = λ e of h. r.from e of (elim h [ inl x ↦ inl ((target_alike augments a m.wrong (at_there augments k a at) e of).1 x) | inr y ↦ inr y ]);
+      }
+  round_refuses (round_waits home_is nowhere more) [] at = absurd at
+  round_refuses (round_waits {home = home} {a = a} {m = m} home_is (row, row_at, nowhere) more) (k ∷ ks) (at, others) = round_refuses more ks others
+
+  none_waiting : (ks numbers : List ℕ) → AreAt ks numbers → (e : Wrong) → IsAsked augments e → Contains (map (λ n. untargeted_at n) numbers) e → ⊥
+  none_waiting ks [] at e asked (i, l, is) = omega (arith, l)
+  none_waiting [] (n ∷ numbers) at e asked h = absurd at
+  none_waiting (k ∷ ks) (n ∷ numbers) (at, others) e asked h = elim (Contains-append_cases (untargeted_at n ∷ []) (map (λ n. untargeted_at n) numbers) e h) [
+    | inl x ↦ elim (Contains-push_cases [] (untargeted_at n) e x) [ inl (i, l, is) ↦ omega (arith, l) | inr same ↦ not_module augments e code.AugmentTarget n asked (inl refl) (at_there augments k n at) same ]
+    | inr x ↦ none_waiting ks numbers others e asked x
+  ]
+
+  rounds_refuse : {waiting : List ℕ} {m end : Made} → (R : Rounds files waiting m end) → (ks : List ℕ) → (at : AreAt ks waiting)
+      → RefusesIn m.wrong end.wrong (all_added (rounds_on R ks at))
+  unfolding rounds_on
+  rounds_refuse {waiting = waiting} {m = m} (last_round R) ks at = record {
+    to = λ e of h. elim (Contains-append_cases m.wrong (map (λ n. untargeted_at n) waiting) e h) [
+      | inl x ↦ inl x
+      | inr x ↦ absurd (none_waiting ks waiting at e of x)
+    ];
+    from = λ e of h. elim h [
+      | inl x ↦ Contains-append_left m.wrong (map (λ n. untargeted_at n) waiting) e x
+      | inr (k, x, y) ↦ absurd (nothing_stands k x)
+    ];
+  }
+  rounds_refuse (one_more_round R less more) ks at =
+      let r = round_on R ks at in
+      let x = round_refuses R ks at in
+      let y = rounds_refuse more r.0 r.1 in
+      let later : List ℕ = all_added (rounds_on more r.0 r.1) in
+      record {
+        to = λ e of h. elim (y.to e of h) [
+          | inl z ↦ elim (x.to e of z) [ inl u ↦ inl u | inr (k, u, v) ↦ inr (k, Contains-append_left (added_of r.2) later k u, v) ]
+          | inr (k, u, v) ↦ inr (k, Contains-append_right (added_of r.2) later k u, v)
+        ];
+        from = λ e of h. y.from e of (elim h [
+          | inl z ↦ inl (x.from e of (inl z))
+          | inr (k, u, v) ↦ elim (Contains-append_cases (added_of r.2) later k u) [
+            | inl a ↦ inl (x.from e of (inr (k, a, v)))
+            | inr c ↦ inr (k, c, v)
+          ]
+        ]);
+      }
+
+  -- an augment of a module that adds to an item, in the end
+  abbrev pub IsApplied : State → ℕ → Type 0
+  IsApplied new k = (k < length augments) × ((i : ℕ) × (turns.target_of labels new.ends k ≡ Some i))
+
+  -- of refines and of augments of uses that is refused in the end which is refused of the modules, and in the blocks of augments that add
+  pub asked_refused : (m : Made) (new : State) → (E : Expand files marks order m) → AreGrafted w items new → (e : Wrong) → IsAsked augments e
+      → (Contains m.wrong e → Contains E.own.wrong e ⊎ ((k : ℕ) × IsApplied new k × BlockWrong k e))
+      × (Contains E.own.wrong e ⊎ ((k : ℕ) × IsApplied new k × BlockWrong k e) → Contains m.wrong e)
+  asked_refused m new E grafted e of =
+      let at = at_places (λ b. path_in w (own_home w.files (slice_get w.rows b)) b) 0 augments (λ j. ap (slice_get augments) (let e : j ≡ 0 + j = omega arith in e)) in
+      let R = rounds_on E.rounds (places_from 0 paths) at in
+      let ts = targets_of labels its (labels_tell w items its tells.told) (giver_of w items) givers number path block first last paths places st new (between E.own E.tops)
+      (all_wait st 0 paths (λ j l h. none_yet j (let e = many_paths in omega (arith, h, e)))) R
+      (subst (λ s. AreApplied labels 0 paths s new) (start_is files marks order own items its given expanded tells one_meant) grafted.applied) in
+      let wrongs = rounds_refuse E.rounds (places_from 0 paths) at in (
+        (λ h. elim (wrongs.to e of h) [ inl x ↦ inl x | inr (k, x, y) ↦ inr (k, (slice_get_within augments k y.0 y.3, (let to = all_added_to R k x in let r = ts.2 k to.0 to.1 in (r.0, r.1))), y) ]),
+        (λ h. wrongs.from e of (elim h [
+          | inl x ↦ inl x
+          | inr (k, (less, (i, aims)), y) ↦ elim (rounds_sort R k (place_in paths k (let e = many_paths in omega (arith, less, e)))) [
+            | inl missed ↦ absurd (not_none (sym (ts.0 k missed) ∙ aims))
+            | inr added ↦ inr (k, added, y)
+          ]
+        ])),
+      )
+
+  -- the block of an augment that adds to an item gives something
+  pub applied_gives : (m : Made) (new : State) → Expand files marks order m → AreGrafted w items new → (k : ℕ) → IsApplied new k → (f : Forest) × block k f
+  applied_gives m new E grafted k (less, (i, aims)) =
+      let at = at_places (λ b. path_in w (own_home w.files (slice_get w.rows b)) b) 0 augments (λ j. ap (slice_get augments) (let e : j ≡ 0 + j = omega arith in e)) in
+      let R = rounds_on E.rounds (places_from 0 paths) at in
+      let ts = targets_of labels its (labels_tell w items its tells.told) (giver_of w items) givers number path block first last paths places st new (between E.own E.tops)
+      (all_wait st 0 paths (λ j l h. none_yet j (let e = many_paths in omega (arith, h, e)))) R
+      (subst (λ s. AreApplied labels 0 paths s new) (start_is files marks order own items its given expanded tells one_meant) grafted.applied) in
+      elim (rounds_sort R k (place_in paths k (let e = many_paths in omega (arith, less, e)))) [
+        | inl missed ↦ absurd (not_none (sym (ts.0 k missed) ∙ aims))
+        | inr added ↦ all_added_give R k added
+      ]
+
   module _ (far : ℕ → Type 0) (near : (k a : ℕ) → slice_get augments k ≡ Some a → far a → ⊥)
       (given_far : (a home : ℕ) (m : Made) → Gives files home (a ∷ []) (block_of rows a) m → (b : ℕ) → Contains m.wrong (untargeted_at b) → far b) where
     -- what is refused for its target before, or is missed, is refused for its target then
@@ -532,6 +687,140 @@ module _ (files : Files) (marks : List Bool) (order : List ℕ) (own : ℕ) (ite
           ]);
         }
 
+    -- an augment of a module is refused for its block
+    abbrev pub untaken_at : ℕ → Wrong
+    untaken_at a = record { code = code.BadAugment; statement = a }
+
+    record RefusesBlock (old new : List Wrong) (adding : ℕ → Node → Type 0) : Type 0 where
+      to : (k a : ℕ) → slice_get augments k ≡ Some a → Contains new (untaken_at a) → Contains old (untaken_at a) ⊎ ((g : Node) × adding k g × (takes_block rows a g.kind ≡ false))
+      from : (k a : ℕ) → slice_get augments k ≡ Some a → Contains old (untaken_at a) ⊎ ((g : Node) × adding k g × (takes_block rows a g.kind ≡ false)) → Contains new (untaken_at a)
+
+    judged_bad : (b : Bool) (a n : ℕ) (there : Forest) (wrong : List Wrong) → Contains (judged b a (record { nodes = there; wrong = wrong })).wrong (untaken_at n)
+        → Contains wrong (untaken_at n) ⊎ ((b ≡ false) × (a ≡ n))
+    judged_bad true a n there wrong h = inl h
+    judged_bad false a n there wrong h = elim (Contains-push_cases wrong _ (untaken_at n) h) [ inl x ↦ inl x | inr same ↦ inr (refl, ap (λ (z : Wrong). z.statement) same) ]
+
+    judged_kept : (b : Bool) (a : ℕ) (there : Forest) (wrong : List Wrong) (x : Wrong) → Contains wrong x → Contains (judged b a (record { nodes = there; wrong = wrong })).wrong x
+    judged_kept true a there wrong x h = h
+    judged_kept false a there wrong x h = Contains-append_left wrong _ x h
+
+    judged_new : (b : Bool) (a : ℕ) (there : Forest) (wrong : List Wrong) → b ≡ false → Contains (judged b a (record { nodes = there; wrong = wrong })).wrong (untaken_at a)
+    judged_new true a there wrong is = absurd (false≢true (sym is))
+    judged_new false a there wrong is = Contains-push wrong (untaken_at a)
+
+    judged_to : (b : Bool) (a : ℕ) (there : Forest) (wrong : List Wrong) {ks js : List ℕ} {after : Forest}
+        → (R : RoundOn number path block ks (judged b a (record { nodes = there; wrong = wrong })).nodes js after) (j : ℕ) (g : Node)
+        → (AddsTo (judged_on b a there wrong R) j g → AddsTo R j g) × (AddsTo R j g → AddsTo (judged_on b a there wrong R) j g)
+    unfolding judged_on
+    judged_to true a there wrong R j g = (λ h. h, λ h. h)
+    judged_to false a there wrong R j g = (λ h. h, λ h. h)
+
+    not_untargeted : (a n : ℕ) → untargeted_at a ≡ untaken_at n → ⊥
+    not_untargeted a n e = (let bad : code.AugmentTarget ≡ code.BadAugment = ap (λ (x : Wrong). x.code) e in cc)
+
+    module _ (blocks_far : (a home : ℕ) (m : Made) → Gives files home (a ∷ []) (block_of rows a) m → (b : ℕ) → Contains m.wrong (untaken_at b) → far b) where
+      round_blocks : {waiting still : List ℕ} {m end : Made} → (R : Round files waiting m still end) → (ks : List ℕ) → (at : AreAt ks waiting)
+          → RefusesBlock m.wrong end.wrong (λ j g. AddsTo (round_on R ks at).2 j g)
+      unfolding round_on
+      round_blocks round_over [] at = record { to = λ k a is h. inl h; from = λ k a is h. elim h [ inl x ↦ x | inr (g, y, z) ↦ absurd y ] }
+      round_blocks round_over (k ∷ ks) at = absurd at
+      round_blocks (round_adds home G reach more) [] at = absurd at
+      round_blocks (round_adds {home = home} {a = a} {m = m} {block = given_block} {last = end} {there = there} {target = target} home_is G reach more) (k ∷ ks) (at, others) =
+          let r = round_blocks more ks others in
+          let b : Bool = takes_block rows a target.kind in
+          let wrong : List Wrong = m.wrong ++ given_block.wrong in
+          let on = judged_to b a there wrong (round_on more ks others).2 in
+          record {
+            to = λ j n is h. elim (r.to j n is h) [
+              | inl x ↦ elim (judged_bad b a n there wrong x) [
+                | inl y ↦ elim (Contains-append_cases m.wrong given_block.wrong (untaken_at n) y) [
+                  | inl z ↦ inl z
+                  | inr z ↦ absurd (near j n is (blocks_far a home given_block G n z))
+                ]
+                | inr (untaken, same) ↦
+                    inr (target, inl (rises_one augments (augments_rise files marks) k j n (at ∙ ap (λ (z : ℕ). Some z) same) is, refl), subst (λ (z : ℕ). takes_block rows z target.kind ≡ false) same untaken)
+              ]
+              | inr (g, x, y) ↦ inr (g, inr ((on j g).1 x), y)
+            ];
+            from = λ j n is h. elim h [
+              | inl x ↦ r.from j n is (inl (judged_kept b a there wrong (untaken_at n) (Contains-append_left m.wrong given_block.wrong (untaken_at n) x)))
+              | inr (g, inl (same, node), y) ↦
+                  let one : a ≡ n = same_Some a n (sym at ∙ (ap (slice_get augments) same ∙ is)) in
+                  let untaken : b ≡ false = ap (λ (z : Node). takes_block rows a z.kind) node ∙ (ap (λ (z : ℕ). takes_block rows z g.kind) one ∙ y) in
+                  r.from j n is (inl (subst (λ (z : ℕ). Contains (judged b a (record { nodes = there; wrong = wrong })).wrong (untaken_at z)) one (judged_new b a there wrong untaken)))
+              | inr (g, inr x, y) ↦ r.from j n is (inr (g, (on j g).0 x, y))
+            ];
+          }
+      round_blocks (round_misses home_is leads missed more) [] at = absurd at
+      round_blocks (round_misses {home = home} {a = a} {m = m} {e = e} {there = there} home_is (row, row_at, leads) missed more) (k ∷ ks) (at, others) =
+          let r = round_blocks more ks others in
+          record {
+            to = λ j n is h. elim (r.to j n is h) [
+              | inl x ↦ elim (Contains-push_cases m.wrong _ (untaken_at n) x) [ inl y ↦ inl y | inr same ↦ absurd (not_untargeted a n same) ]
+              | inr y ↦ inr y
+            ];
+            from = λ j n is h. r.from j n is (elim h [ inl x ↦ inl (Contains-append_left m.wrong (untargeted_at a ∷ []) (untaken_at n) x) | inr y ↦ inr y ]);
+          }
+      round_blocks (round_waits home_is nowhere more) [] at = absurd at
+      round_blocks (round_waits {home = home} {a = a} {m = m} home_is (row, row_at, nowhere) more) (k ∷ ks) (at, others) = round_blocks more ks others
+
+      never_waiting : (numbers : List ℕ) (n : ℕ) → Contains (map (λ z. untargeted_at z) numbers) (untaken_at n) → ⊥
+      never_waiting [] n (i, l, is) = omega (arith, l)
+      never_waiting (z ∷ numbers) n h = elim (Contains-append_cases (untargeted_at z ∷ []) (map (λ z. untargeted_at z) numbers) (untaken_at n) h) [
+        | inl x ↦ elim (Contains-push_cases [] (untargeted_at z) (untaken_at n) x) [ inl (i, l, is) ↦ omega (arith, l) | inr same ↦ not_untargeted z n same ]
+        | inr x ↦ never_waiting numbers n x
+      ]
+
+      rounds_blocks : {waiting : List ℕ} {m end : Made} → (R : Rounds files waiting m end) → (ks : List ℕ) → (at : AreAt ks waiting)
+          → RefusesBlock m.wrong end.wrong (λ j g. AllAddTo (rounds_on R ks at) j g)
+      unfolding rounds_on
+      rounds_blocks {waiting = waiting} {m = m} (last_round R) ks at = record {
+        to = λ k a is h. elim (Contains-append_cases m.wrong (map (λ n. untargeted_at n) waiting) (untaken_at a) h) [ inl x ↦ inl x | inr x ↦ absurd (never_waiting waiting a x) ];
+        from = λ k a is h. elim h [ inl x ↦ Contains-append_left m.wrong (map (λ n. untargeted_at n) waiting) (untaken_at a) x | inr (g, y, z) ↦ absurd y ];
+      }
+      rounds_blocks (one_more_round R less more) ks at =
+          let r = round_on R ks at in
+          let x = round_blocks R ks at in
+          let y = rounds_blocks more r.0 r.1 in
+          record {
+            to = λ k a is h. elim (y.to k a is h) [
+              | inl z ↦ elim (x.to k a is z) [ inl u ↦ inl u | inr (g, u, v) ↦ inr (g, inl u, v) ]
+              | inr (g, u, v) ↦ inr (g, inr u, v)
+            ];
+            from = λ k a is h. y.from k a is (elim h [
+              | inl z ↦ inl (x.from k a is (inl z))
+              | inr (g, inl u, v) ↦ inl (x.from k a is (inr (g, u, v)))
+              | inr (g, inr u, v) ↦ inr (g, u, v)
+            ]);
+          }
+
+      -- it is refused so exactly where it adds to an item that doesn't take its block
+      pub block_refused : (m : Made) (new : State) → (E : Expand files marks order m) → AreGrafted w items new
+          → ((b : ℕ) → Contains E.own.wrong (untaken_at b) → far b)
+          → (k a : ℕ) → slice_get augments k ≡ Some a
+          → (Contains m.wrong (untaken_at a) → (i : ℕ) × (turns.target_of labels new.ends k ≡ Some i) × (takes_block rows a (its.node_of i).kind ≡ false))
+          × ((i : ℕ) → turns.target_of labels new.ends k ≡ Some i → takes_block rows a (its.node_of i).kind ≡ false → Contains m.wrong (untaken_at a))
+      block_refused m new E grafted own_far k a is =
+          let at = at_places (λ b. path_in w (own_home w.files (slice_get w.rows b)) b) 0 augments (λ j. ap (slice_get augments) (let e : j ≡ 0 + j = omega arith in e)) in
+          let R = rounds_on E.rounds (places_from 0 paths) at in
+          let ts = targets_of labels its (labels_tell w items its tells.told) (giver_of w items) givers number path block first last paths places st new (between E.own E.tops)
+          (all_wait st 0 paths (λ j l h. none_yet j (let e = many_paths in omega (arith, h, e)))) R
+          (subst (λ s. AreApplied labels 0 paths s new) (start_is files marks order own items its given expanded tells one_meant) grafted.applied) in
+          let wrongs = rounds_blocks E.rounds (places_from 0 paths) at in (
+            (λ h. elim (wrongs.to k a is h) [
+              | inl x ↦ absurd (near k a is (own_far a x))
+              | inr (g, x, y) ↦ (let r = ts.2 k g x in (r.0, r.1, ap (λ (z : Node). takes_block rows a z.kind) (sym r.2) ∙ y))
+            ]),
+            (λ i aims untaken. elim (rounds_sort R k (place_in paths k (let less = slice_get_within augments k a is in let e = many_paths in omega (arith, less, e)))) [
+              | inl missed ↦ absurd (not_none (sym (ts.0 k missed) ∙ aims))
+              | inr added ↦
+                  let to = all_added_to R k added in
+                  let r = ts.2 k to.0 to.1 in
+                  let same : r.0 ≡ i = same_Some r.0 i (sym r.1 ∙ aims) in
+                  wrongs.from k a is (inr (to.0, to.1, ap (λ (z : Node). takes_block rows a z.kind) r.2 ∙ (ap (λ (n : ℕ). takes_block rows a (its.node_of n).kind) same ∙ untaken)))
+            ]),
+          )
+
     -- an augment of a module has no target exactly where it is refused so
     pub target_refused : (m : Made) (new : State) → (E : Expand files marks order m) → AreGrafted w items new
         → ((b : ℕ) → Contains E.own.wrong (untargeted_at b) → far b)
@@ -550,16 +839,6 @@ module _ (files : Files) (marks : List Bool) (order : List ℕ) (own : ℕ) (ite
           ]),
           (λ h. elim (wrongs.to k a is h) [ inl x ↦ absurd (near k a is (own_far a x)) | inr x ↦ ts.0 k x ]),
         )
-      where
-        place_from : {A : Type 0} (n : ℕ) (xs : List A) (k : ℕ) → k < length xs → Contains (places_from n xs) (n + k)
-        place_from n [] k l = absurd (omega (arith, l))
-        place_from n (x ∷ xs) zero l = subst (Contains (n ∷ places_from (n + 1) xs)) (let e : n ≡ n + 0 = omega arith in e) (there_first n (places_from (n + 1) xs))
-        place_from n (x ∷ xs) (suc k) l =
-            there_later n (n + suc k) (places_from (n + 1) xs)
-            (subst (Contains (places_from (n + 1) xs)) (let e : n + 1 + k ≡ n + suc k = omega arith in e) (place_from (n + 1) xs k (omega (arith, l))))
-
-        place_in : {A : Type 0} (xs : List A) (k : ℕ) → k < length xs → Contains (places_from 0 xs) k
-        place_in xs k l = subst (Contains (places_from 0 xs)) (let e : 0 + k ≡ k = omega arith in e) (place_from 0 xs k l)
 
 pub files_show : (files : Files) → RefersToOne files → FilesShow files
 files_show files one_meant marks order own items its m st given expanded tells E grafted = whole_shows files marks order own items its given expanded tells one_meant m st E grafted

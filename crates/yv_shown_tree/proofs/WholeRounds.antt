@@ -88,10 +88,104 @@ missed_of (adds gives hits more) = missed_of more
 missed_of (untargeted {k = k} leads misses more) = k ∷ missed_of more
 missed_of (waits nowhere more) = missed_of more
 
+-- the augments that add in a round
+abbrev pub added_of : {number : ℕ → ℕ} {path : ℕ → List Step} {block : ℕ → Forest → Type 0} {waiting still : List ℕ} {m after : Forest}
+    → RoundOn number path block waiting m still after → List ℕ
+added_of none_left = []
+added_of (adds {k = k} gives hits more) = k ∷ added_of more
+added_of (untargeted leads misses more) = added_of more
+added_of (waits nowhere more) = added_of more
+
 abbrev pub all_missed : {number : ℕ → ℕ} {path : ℕ → List Step} {block : ℕ → Forest → Type 0} {waiting : List ℕ} {m after : Forest}
     → RoundsOn number path block waiting m after → List ℕ
 all_missed (last_round {waiting = waiting} R) = waiting
 all_missed (one_more R less more) = missed_of R ++ all_missed more
+
+abbrev pub all_added : {number : ℕ → ℕ} {path : ℕ → List Step} {block : ℕ → Forest → Type 0} {waiting : List ℕ} {m after : Forest}
+    → RoundsOn number path block waiting m after → List ℕ
+all_added (last_round {waiting = waiting} R) = []
+all_added (one_more R less more) = added_of R ++ all_added more
+
+-- the blocks of those that add give something
+added_give : {number : ℕ → ℕ} {path : ℕ → List Step} {block : ℕ → Forest → Type 0} {waiting still : List ℕ} {m after : Forest}
+    → (R : RoundOn number path block waiting m still after) → (j : ℕ) → Contains (added_of R) j → (f : Forest) × block j f
+added_give none_left j h = absurd (nothing_stands j h)
+added_give {block = block} (adds {k = k} {b = b} given hits more) j h = elim (first_or k (added_of more) j h) [
+  | inl same ↦ (b, subst (λ (n : ℕ). block n b) same given)
+  | inr rest ↦ added_give more j rest
+]
+added_give (untargeted leads misses more) j h = added_give more j h
+added_give (waits nowhere more) j h = added_give more j h
+
+pub all_added_give : {number : ℕ → ℕ} {path : ℕ → List Step} {block : ℕ → Forest → Type 0} {waiting : List ℕ} {m after : Forest}
+    → (R : RoundsOn number path block waiting m after) → (j : ℕ) → Contains (all_added R) j → (f : Forest) × block j f
+all_added_give (last_round R) j h = absurd (nothing_stands j h)
+all_added_give (one_more R less more) j h = elim (Contains-append_cases (added_of R) (all_added more) j h) [
+  | inl a ↦ added_give R j a
+  | inr b ↦ all_added_give more j b
+]
+
+-- an augment adds to this node
+abbrev pub AddsTo : {number : ℕ → ℕ} {path : ℕ → List Step} {block : ℕ → Forest → Type 0} {waiting still : List ℕ} {m after : Forest}
+    → RoundOn number path block waiting m still after → ℕ → Node → Type 0
+AddsTo none_left j g = ⊥
+AddsTo (adds {k = k} {target = target} given hits more) j g = ((k ≡ j) × (target ≡ g)) ⊎ AddsTo more j g
+AddsTo (untargeted leads misses more) j g = AddsTo more j g
+AddsTo (waits nowhere more) j g = AddsTo more j g
+
+abbrev pub AllAddTo : {number : ℕ → ℕ} {path : ℕ → List Step} {block : ℕ → Forest → Type 0} {waiting : List ℕ} {m after : Forest}
+    → RoundsOn number path block waiting m after → ℕ → Node → Type 0
+AllAddTo (last_round R) j g = ⊥
+AllAddTo (one_more R less more) j g = AddsTo R j g ⊎ AllAddTo more j g
+
+-- each that adds does so to a node
+added_to : {number : ℕ → ℕ} {path : ℕ → List Step} {block : ℕ → Forest → Type 0} {waiting still : List ℕ} {m after : Forest}
+    → (R : RoundOn number path block waiting m still after) → (j : ℕ) → Contains (added_of R) j → (g : Node) × AddsTo R j g
+added_to none_left j h = absurd (nothing_stands j h)
+added_to (adds {k = k} {target = target} given hits more) j h = elim (first_or k (added_of more) j h) [
+  | inl same ↦ (target, inl (same, refl))
+  | inr rest ↦ (let r = added_to more j rest in (r.0, inr r.1))
+]
+added_to (untargeted leads misses more) j h = added_to more j h
+added_to (waits nowhere more) j h = added_to more j h
+
+pub all_added_to : {number : ℕ → ℕ} {path : ℕ → List Step} {block : ℕ → Forest → Type 0} {waiting : List ℕ} {m after : Forest}
+    → (R : RoundsOn number path block waiting m after) → (j : ℕ) → Contains (all_added R) j → (g : Node) × AllAddTo R j g
+all_added_to (last_round R) j h = absurd (nothing_stands j h)
+all_added_to (one_more R less more) j h = elim (Contains-append_cases (added_of R) (all_added more) j h) [
+  | inl a ↦ (let r = added_to R j a in (r.0, inl r.1))
+  | inr b ↦ (let r = all_added_to more j b in (r.0, inr r.1))
+]
+
+-- each that waits is missed, waits on or adds
+pub round_sorts : {number : ℕ → ℕ} {path : ℕ → List Step} {block : ℕ → Forest → Type 0} {waiting still : List ℕ} {m after : Forest}
+    → (R : RoundOn number path block waiting m still after) → (j : ℕ) → Contains waiting j
+    → Contains (missed_of R) j ⊎ (Contains still j ⊎ Contains (added_of R) j)
+round_sorts none_left j h = absurd (nothing_stands j h)
+round_sorts (adds {k = k} {others = others} gives hits more) j h = elim (first_or k others j h) [
+  | inl same ↦ inr (inr (subst (Contains (k ∷ added_of more)) same (there_first k (added_of more))))
+  | inr rest ↦ elim (round_sorts more j rest) [ inl a ↦ inl a | inr (inl b) ↦ inr (inl b) | inr (inr c) ↦ inr (inr (there_later k j (added_of more) c)) ]
+]
+round_sorts (untargeted {k = k} {others = others} leads misses more) j h = elim (first_or k others j h) [
+  | inl same ↦ inl (subst (Contains (k ∷ missed_of more)) same (there_first k (missed_of more)))
+  | inr rest ↦ elim (round_sorts more j rest) [ inl a ↦ inl (there_later k j (missed_of more) a) | inr b ↦ inr b ]
+]
+round_sorts (waits {k = k} {others = others} {still = still} nowhere more) j h = elim (first_or k others j h) [
+  | inl same ↦ inr (inl (subst (Contains (k ∷ still)) same (there_first k still)))
+  | inr rest ↦ elim (round_sorts more j rest) [ inl a ↦ inl a | inr (inl b) ↦ inr (inl (there_later k j still b)) | inr (inr c) ↦ inr (inr c) ]
+]
+
+pub rounds_sort : {number : ℕ → ℕ} {path : ℕ → List Step} {block : ℕ → Forest → Type 0} {waiting : List ℕ} {m after : Forest}
+    → (R : RoundsOn number path block waiting m after) → (j : ℕ) → Contains waiting j → Contains (all_missed R) j ⊎ Contains (all_added R) j
+rounds_sort (last_round R) j h = inl h
+rounds_sort (one_more R less more) j h = elim (round_sorts R j h) [
+  | inl a ↦ inl (Contains-append_left (missed_of R) (all_missed more) j a)
+  | inr (inl b) ↦ elim (rounds_sort more j b) [
+    | inl c ↦ inl (Contains-append_right (missed_of R) (all_missed more) j c)
+    | inr c ↦ inr (Contains-append_right (added_of R) (all_added more) j c)
+  ]
+  | inr (inr b) ↦ inr (Contains-append_left (added_of R) (all_added more) j b)
+]
 
 module _ (labels : List Label) (its : Items) (are : AreLabels labels its) (giver_of : ℕ → Option ℕ) (givers : AreGivers its giver_of) (number : ℕ → ℕ) (path : ℕ → List Step)
     (block : ℕ → Forest → Type 0) (first last : ℕ → ℕ) (paths : List (List ℕ)) (places : ArePlaces labels its number path first last paths) where
@@ -384,14 +478,15 @@ module _ (labels : List Label) (its : Items) (are : AreLabels labels its) (giver
       rounds_stay n (round labels 0 paths st) j (ap is_some same ∙ is) ∙ same
 
   -- what is known of the targets of those that waited, after a round
-  record Aimed (st : State) (waiting still missed : List ℕ) : Type 0 where
+  record Aimed (st : State) (waiting still missed : List ℕ) (adding : ℕ → Node → Type 0) : Type 0 where
     none_there : (j : ℕ) → Contains missed j → (is_applied st j ≡ true) × (target_of labels st.ends j ≡ None)
     one_there : (j : ℕ) → Contains waiting j → Contains missed j ⊎ (Contains still j ⊎ ((i : ℕ) × (target_of labels st.ends j ≡ Some i)))
+    added_there : (j : ℕ) (g : Node) → adding j g → (is_applied st j ≡ true) × ((i : ℕ) × (target_of labels st.ends j ≡ Some i) × (g ≡ its.node_of i))
 
   abbrev AimedLater : (k : ℕ) → List (List ℕ) → Forest → Type 0
   AimedLater k others after =
       (st : State) (m : Forest) (waiting still : List ℕ) → AreWaiting st (k + 1) others waiting → Between st m → (R : RoundOn number path block waiting m still after)
-      → Aimed (round labels (k + 1) others st) waiting still (missed_of R)
+      → Aimed (round labels (k + 1) others st) waiting still (missed_of R) (λ j g. AddsTo R j g)
 
   -- an end that an augment has now it has after the turns of those behind
   settled_later : (k : ℕ) (others : List (List ℕ)) (st : State) → is_applied st k ≡ true
@@ -411,9 +506,9 @@ module _ (labels : List Label) (its : Items) (are : AreLabels labels its) (giver
       → AimedLater k others after
       → (st : State) (m : Forest) {waiting still : List ℕ} → AreWaiting st k (names ∷ others) waiting → Between st m
       → (R : RoundOn number path block waiting m still after)
-      → Aimed (round labels k (names ∷ others) st) waiting still (missed_of R)
+      → Aimed (round labels k (names ∷ others) st) waiting still (missed_of R) (λ j g. AddsTo R j g)
   first_aimed k names others after here l later st m {still = still} (applied {waiting = waiting} is more) b R =
-      subst (λ s. Aimed s waiting still (missed_of R)) (sym (same_then k names others st (applied_still labels k 0 (length labels) names st is)))
+      subst (λ s. Aimed s waiting still (missed_of R) (λ j g. AddsTo R j g)) (sym (same_then k names others st (applied_still labels k 0 (length labels) names st is)))
       (later st m waiting still more b R)
   first_aimed k names others after here l later st m (waiting_here {waiting = waiting} isnt more) b (adds {still = still} {b = f} {below = below} {there = there} {target = aim} gives hits R) =
       let s = places.steps k names here in
@@ -423,8 +518,16 @@ module _ (labels : List Label) (its : Items) (are : AreLabels labels its) (giver
       let now : State = turn labels k 0 (length labels) names st in
       let w = later now there waiting still (waiting_then labels k 0 (length labels) names st (k + 1) others waiting (omega arith) more)
       (added_between k names st m f below there aim l here isnt gives hits b) R in
+      let at_end = settled_later k others now (applied_target now k aimed.0 here_now) in
       record {
         none_there = w.none_there;
+        added_there = λ j g h. elim h [
+          | inl (same, node) ↦
+              subst (λ (n : ℕ). (is_applied (round labels (k + 1) others now) n ≡ true)
+              × ((i : ℕ) × (target_of labels (round labels (k + 1) others now).ends n ≡ Some i) × (g ≡ its.node_of i))) same
+              (at_end.0, (aimed.0, at_end.1 ∙ here_now, sym node ∙ aimed.2))
+          | inr rest ↦ w.added_there j g rest
+        ];
         one_there = λ j h. elim (first_or k waiting j h) [
           | inl same ↦ subst (λ (n : ℕ). Contains (missed_of R) n ⊎ (Contains still n ⊎ ((i : ℕ) × (target_of labels (round labels (k + 1) others now).ends n ≡ Some i)))) same
               (inr (inr (aimed.0, (settled_later k others now (applied_target now k aimed.0 here_now)).1 ∙ here_now)))
@@ -451,6 +554,7 @@ module _ (labels : List Label) (its : Items) (are : AreLabels labels its) (giver
           | inl is ↦ inl (subst (Contains (k ∷ missed_of R)) is (there_first k (missed_of R)))
           | inr rest ↦ elim (w.one_there j rest) [ inl x ↦ inl (there_later k j (missed_of R) x) | inr y ↦ inr y ]
         ];
+        added_there = w.added_there;
       }
   first_aimed k names others after here l later st m (waiting_here {waiting = waiting} isnt more) b (waits {still = still} nowhere R) =
       let s = places.steps k names here in
@@ -458,25 +562,26 @@ module _ (labels : List Label) (its : Items) (are : AreLabels labels its) (giver
       subst (λ z. turn labels k 0 (length labels) z st ≡ st) (sym s.2)
       (round_waits labels its are k s.0 s.1 (path k) st m (awaits k st m l isnt b) (subst (λ z. Agree labels its z (path k)) s.2 (places.agree k names here)) nowhere) in
       let w = later st m waiting still more b R in
-      subst (λ z. Aimed z (k ∷ waiting) (k ∷ still) (missed_of R)) (sym (same_then k names others st same)) (record {
+      subst (λ z. Aimed z (k ∷ waiting) (k ∷ still) (missed_of R) (λ j g. AddsTo R j g)) (sym (same_then k names others st same)) (record {
         none_there = w.none_there;
         one_there = λ j h. elim (first_or k waiting j h) [
           | inl is ↦ inr (inl (subst (Contains (k ∷ still)) is (there_first k still)))
           | inr rest ↦ elim (w.one_there j rest) [ inl x ↦ inl x | inr y ↦ elim y [ inl z ↦ inr (inl (there_later k j still z)) | inr z ↦ inr (inr z) ] ]
         ];
+        added_there = w.added_there;
       })
 
   none_aimed : (k : ℕ) (st : State) (m after : Forest) {waiting still : List ℕ} → AreWaiting st k [] waiting
       → (R : RoundOn number path block waiting m still after)
-      → Aimed st waiting still (missed_of R)
+      → Aimed st waiting still (missed_of R) (λ j g. AddsTo R j g)
   none_aimed k st m after no_places none_left =
-      record { none_there = λ j h. absurd (nothing_stands j h); one_there = λ j h. absurd (nothing_stands j h) }
+      record { none_there = λ j h. absurd (nothing_stands j h); one_there = λ j h. absurd (nothing_stands j h); added_there = λ j g h. absurd h }
 
   aimed : (k : ℕ) (rest : List (List ℕ))
       → ((j : ℕ) (names : List ℕ) → slice_get rest j ≡ Some names → slice_get paths (k + j) ≡ Some names) → k + length rest ≡ length paths
       → (after : Forest) (st : State) (m : Forest) (waiting still : List ℕ) → AreWaiting st k rest waiting → Between st m
       → (R : RoundOn number path block waiting m still after)
-      → Aimed (round labels k rest st) waiting still (missed_of R)
+      → Aimed (round labels k rest st) waiting still (missed_of R) (λ j g. AddsTo R j g)
   aimed k [] at long after st m waiting still ws b R = none_aimed k st m after ws R
   aimed k (names ∷ others) at long after st m waiting still ws b R =
       first_aimed k names others after (ap (slice_get paths) (let e : k ≡ k + 0 = omega arith in e) ∙ at 0 names refl) (omega (arith, long))
@@ -497,17 +602,18 @@ module _ (labels : List Label) (its : Items) (are : AreLabels labels its) (giver
       by (Some x) e = absurd (false≢true (sym e))
 
   -- after all rounds those have no target that were missed, and the others that waited have one
-  record AllAimed (st : State) (waiting missed : List ℕ) : Type 0 where
+  record AllAimed (st : State) (waiting missed : List ℕ) (adding : ℕ → Node → Type 0) : Type 0 where
     none_there : (j : ℕ) → Contains missed j → target_of labels st.ends j ≡ None
     one_there : (j : ℕ) → Contains waiting j → Contains missed j ⊎ ((i : ℕ) × (target_of labels st.ends j ≡ Some i))
+    added_there : (j : ℕ) (g : Node) → adding j g → (i : ℕ) × (target_of labels st.ends j ≡ Some i) × (g ≡ its.node_of i)
 
   rounds_aim : (count : ℕ) (st : State) (m after : Forest) {waiting : List ℕ} → AreWaiting st 0 paths waiting → Between st m
       → (R : RoundsOn number path block waiting m after)
-      → is_any labels 0 paths (rounds labels 0 paths count st) ≡ false → AllAimed (rounds labels 0 paths count st) waiting (all_missed R)
+      → is_any labels 0 paths (rounds labels 0 paths count st) ≡ false → AllAimed (rounds labels 0 paths count st) waiting (all_missed R) (λ j g. AllAddTo R j g)
   rounds_aim count st m after {waiting = waiting} ws b (last_round R) over =
       let w = went 0 paths (λ j n is. ap (slice_get paths) (let e : 0 + j ≡ j = omega arith in e) ∙ is) (omega arith) m st m waiting waiting ws b R in
-      subst (λ (s : State). AllAimed s waiting waiting) (sym (rounds_same count st (w.none_went refl)))
-      (record { none_there = waiting_none st 0 paths waiting ws; one_there = λ j h. inl h })
+      subst (λ (s : State). AllAimed s waiting waiting (λ j g. ⊥)) (sym (rounds_same count st (w.none_went refl)))
+      (record { none_there = waiting_none st 0 paths waiting ws; one_there = λ j h. inl h; added_there = λ j g h. absurd h })
   rounds_aim zero st m after {waiting = waiting} ws b (one_more {still = still} {there = there} R less more) over =
       let w = went 0 paths (λ j n is. ap (slice_get paths) (let e : 0 + j ≡ j = omega arith in e) ∙ is) (omega arith) there st m waiting still ws b R in
       absurd (false≢true (sym over ∙ w.some_went less))
@@ -530,6 +636,10 @@ module _ (labels : List Label) (its : Items) (are : AreLabels labels its) (giver
             | inr z ↦ inr (z.0, stays j (applied_target (round labels 0 paths st) j z.0 z.1) ∙ z.1)
           ]
         ];
+        added_there = λ j g h. elim h [
+          | inl a ↦ (let y = x.added_there j g a in (y.1.0, stays j y.0 ∙ y.1.1, y.1.2))
+          | inr c ↦ r.added_there j g c
+        ];
       }
 
   pub targets_of : {waiting : List ℕ} {m after : Forest} (st new : State) → Between st m → AreWaiting st 0 paths waiting
@@ -537,10 +647,11 @@ module _ (labels : List Label) (its : Items) (are : AreLabels labels its) (giver
       → AreApplied labels 0 paths st new
       → ((j : ℕ) → Contains (all_missed R) j → target_of labels new.ends j ≡ None)
       × ((j : ℕ) → Contains waiting j → Contains (all_missed R) j ⊎ ((i : ℕ) × (target_of labels new.ends j ≡ Some i)))
+      × ((j : ℕ) (g : Node) → AllAddTo R j g → (i : ℕ) × (target_of labels new.ends j ≡ Some i) × (g ≡ its.node_of i))
   targets_of {waiting = waiting} {m = m} {after = after} st new b ws R over =
-      let r = subst (λ (s : State). AllAimed s waiting (all_missed R)) (sym over.is)
+      let r = subst (λ (s : State). AllAimed s waiting (all_missed R) (λ j g. AllAddTo R j g)) (sym over.is)
       (rounds_aim over.count st m after ws b R (subst (λ s. is_any labels 0 paths s ≡ false) over.is over.last)) in
-      (r.none_there, r.one_there)
+      (r.none_there, r.one_there, r.added_there)
 
 -- whatever tells which nodes the blocks give
 pub rounds_by : (labels : List Label) (its : Items) (giver_of : ℕ → Option ℕ) → AreLabels labels its

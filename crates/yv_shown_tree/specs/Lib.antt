@@ -26,5 +26,12 @@ pub mod Impositions
 pub mod Targets
 pub mod Under
 pub mod RefusedRefines
+pub mod Refines
+pub mod UsesTargets
+pub mod UsesBlocks
+pub mod ModuleBlocks
 pub mod PathTargets
 pub mod TakenBlocks
+pub mod Misplacements
+pub mod CopyEnds
+pub mod CopiesGive

@@ -7,6 +7,8 @@ ghost use Rattle.yv_augments.specs.declared.label.Label.{Label};
 ghost use Rattle.yv_augmented.specs.Spots.{Whole};
 ghost use Rattle.yv_shown_tree.specs.Beginning.{BeginningShows};
 ghost use Rattle.yv_shown_tree.specs.Conditions.{FilesAsk, MarksAreConditions, MarksAsk};
+ghost use Rattle.yv_shown_tree.specs.CopiesGive.{CopiesGive};
+ghost use Rattle.yv_shown_tree.specs.CopyEnds.{CopiesEnd};
 ghost use Rattle.yv_shown_tree.specs.Depths.{DepthsAreOne};
 ghost use Rattle.yv_shown_tree.specs.Entering.{BlockKeeps, BlockShows, SpotsEnter};
 ghost use Rattle.yv_shown_tree.specs.Expanding.{ExpansionLies, PlacedIsTold};
@@ -15,8 +17,11 @@ ghost use Rattle.yv_shown_tree.specs.FinalTree.{FinalTreeShows};
 ghost use Rattle.yv_shown_tree.specs.Giving.{StatementsShow};
 ghost use Rattle.yv_shown_tree.specs.Impositions.{ImpositionsAreOne};
 ghost use Rattle.yv_shown_tree.specs.Marks.{BlocksAreMarked};
+ghost use Rattle.yv_shown_tree.specs.Misplacements.{MisplacementsByModulesAreOne};
+ghost use Rattle.yv_shown_tree.specs.ModuleBlocks.{ModuleBlocksAreOne};
 ghost use Rattle.yv_shown_tree.specs.PathTargets.{PathsReach};
 ghost use Rattle.yv_shown_tree.specs.RefinedBlocks.{BlockIsMissed, BlockIsRefined};
+ghost use Rattle.yv_shown_tree.specs.Refines.{RefinesAreOne};
 ghost use Rattle.yv_shown_tree.specs.Refining.{RefineChanges, RefineMisses};
 ghost use Rattle.yv_shown_tree.specs.Rounds.{RoundAdds, RoundMisses, RoundTakes, RoundWaits};
 ghost use Rattle.yv_shown_tree.specs.Schema.{LeftShows};
@@ -28,6 +33,8 @@ ghost use Rattle.yv_shown_tree.specs.Telling.{ExpansionsHaveStatements, LabelsTe
 ghost use Rattle.yv_shown_tree.specs.Trees.{TreeShows};
 ghost use Rattle.yv_shown_tree.specs.Turning.{TurnAdds, TurnMisses};
 ghost use Rattle.yv_shown_tree.specs.Under.{BeginningStands, BlockStands, FinalStands};
+ghost use Rattle.yv_shown_tree.specs.UsesBlocks.{UsesBlocksAreOne};
+ghost use Rattle.yv_shown_tree.specs.UsesTargets.{UsesTargetsAreOne};
 ghost use Rattle.yv_shown_tree.specs.WholeRounds.{RoundsShow};
 
 /// What an augment of a uses gives comes to stand, in its turn, behind what the node has to which its path leads; where the path leads to
@@ -266,3 +273,82 @@ pub fn what_blocks_keep_stands_at_first()
     ensures { (labels : List Label) (its : Items) (mark : ℕ → Bool) → AreLabels labels its
         → ((x : ℕ) → x ≤ length labels → mark x ≡ false) → BeginningStands labels its mark }
 {}
+
+/// A refine is refused by number, at an item of the final tree, exactly where it is refused in what
+/// the files expand to: it means no node, or isn't fit for the one that it means (RFC 7950,
+/// section 7.13.2).
+pub fn refines_are_one()
+    ensures { (files : Files) → RefinesAreOne files }
+{
+    yv_rows::laws::a_name_means_one_thing();
+    items_of_the_final_tree_were_placed();
+}
+
+/// An augment of a uses is refused for its target by number, at its uses in the final tree, exactly
+/// where it is refused so in what the files expand to: in its turn its path leads to no node that
+/// may be its target (RFC 7950, sections 7.13 and 7.17).
+pub fn targets_of_uses_are_one()
+    ensures { (files : Files) → UsesTargetsAreOne files }
+{
+    yv_rows::laws::a_name_means_one_thing();
+    items_of_the_final_tree_were_placed();
+}
+
+/// An augment of a uses is refused for its block in what the files expand to exactly where, at its
+/// uses in the final tree by number, it adds in its turn to an item that doesn't take what is in the
+/// block (RFC 7950, sections 7.13 and 7.17).
+pub fn blocks_of_uses_are_one()
+    ensures { (files : Files) → UsesBlocksAreOne files }
+{
+    yv_rows::laws::a_name_means_one_thing();
+    items_of_the_final_tree_were_placed();
+}
+
+/// An augment of a module is refused for its block in what the files expand to exactly where, by
+/// number, it adds to an item that doesn't take what is in the block (RFC 7950, section 7.17).
+pub fn blocks_of_modules_are_one()
+    ensures { (files : Files) → ModuleBlocksAreOne files }
+{
+    yv_rows::laws::a_name_means_one_thing();
+}
+
+/// An augment of a module is refused by number, at an item of the final tree that stands in its block
+/// and below a node that doesn't take it, exactly where it is refused for its block in what the files
+/// expand to (RFC 7950, section 7.17).
+pub fn misplacements_by_modules_are_one()
+    ensures { (files : Files) → MisplacementsByModulesAreOne files }
+{
+    yv_rows::laws::a_name_means_one_thing();
+    yv_augmented::laws::what_is_given_stands_below_its_target();
+    yv_augments::laws::each_item_stands_once();
+    yv_augments::laws::entering_keeps_groups();
+    yv_augments::laws::items_stand_in_one_group();
+    yv_augments::laws::items_stay_when_others_enter();
+    yv_augments::laws::items_stay_below_their_nodes();
+    items_of_the_final_tree_were_placed();
+    blocks_of_modules_are_one();
+}
+
+/// When all augments were applied, a copy of an augment of a uses adds to the node to which it added
+/// in its turn, and to none where it added to none: what comes later doesn't change that (RFC 7950,
+/// sections 7.13 and 7.17).
+pub fn a_copy_ends_where_its_turn_led()
+    ensures { CopiesEnd }
+{
+    yv_augments::laws::entering_keeps_groups();
+}
+
+/// What a copy of an augment of a uses gives is in the final tree only below the node to which it
+/// added in its turn (RFC 7950, sections 7.13 and 7.17).
+pub fn what_a_copy_gives_stands_below_its_target()
+    ensures { CopiesGive }
+{
+    yv_augments::laws::a_tree_has_no_item_twice();
+    yv_augments::laws::each_item_stands_once();
+    yv_augments::laws::entering_keeps_groups();
+    yv_augments::laws::items_stand_in_one_group();
+    yv_augments::laws::items_stay_when_others_enter();
+    yv_augments::laws::parents_come_first();
+    yv_augments::laws::what_is_given_follows_the_augment();
+    a_copy_ends_where_its_turn_led();
+}
