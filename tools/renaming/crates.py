@@ -52,6 +52,8 @@ class Crates:
                 for _, words, local in lib.leaves if lib else ():
                     entity = self.index.path_in(lib, words)[-1]
                     names[lib.tokens[local].text].add(entity or (member, *words))
+            files = {name for at, name in self.index.code if at in members and name != "lib"}
+            self.faults += [f"{crate}: {name} is a file, and an item for callers" for name in sorted(files & set(names))]
             for name, owners in names.items():
                 if len(owners) > 1:
                     self.faults.append(f"{crate}: two items {name} for callers: " + ", ".join("/".join(it[1:]) for it in sorted(owners)))

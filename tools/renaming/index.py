@@ -367,6 +367,18 @@ class Index:
         found = self.first(file, name, "") if name and name != "Self" else None
         return found if found and found[0] == "type" else None
 
+    def method_of(self, file, folder, name):
+        """The method whose proof is in a folder of a file, that of its type's declaration: the method, its type and its trait."""
+        for fn in self.named.get(name, ()):
+            owner, trait = fn.entity[3], folder[len(fn.entity[3]):]
+            if fn.entity[1] != file.crate or not owner or not folder.startswith(owner):
+                continue
+            own = self.code[fn.entity[1], fn.entity[2]]
+            ty = self.type_named(own, owner)
+            if trait in ("", *(it[2] for it in own.impls)) and (fn.entity[2] == file.name or ty and ty[2] == file.name):
+                return fn.entity, ty, trait
+        return None, None, ""
+
     def type_of(self, ty):
         """What a type is the name of."""
         if ty is None or not ty.path:

@@ -38,16 +38,14 @@ def proof_path(index, new, crate, stem):
     """The path of a proof of a function below `proofs/`, by the new names of its file, type and function."""
     file, found = index.code[crate, stem[0]], list(stem)
     found[0] = new.get(("file", crate, stem[0]), stem[0])
-    for fn in file.fns:
-        owner, name = fn.entity[3], fn.entity[4]
-        if not owner and stem[1] == name and fn.entity in new:
-            found[1] = new[fn.entity]
-        if owner and len(stem) > 2 and stem[2] == name and stem[1].startswith(owner) and stem[1][len(owner):] in ("", *(it[2] for it in file.impls)):
-            ty = index.type_named(file, owner)
-            if ty in new:
-                found[1] = new[ty] + stem[1][len(owner):]
-            if fn.entity in new:
-                found[2] = new[fn.entity]
+    if stem[1][0].isupper() and len(stem) > 2:
+        entity, ty, trait = index.method_of(file, stem[1], stem[2].lstrip("+"))
+        found[1] = new[ty] + trait if ty in new else stem[1]
+        place = 2
+    else:
+        entity, place = file.items.get(stem[1].lstrip("+")), 1
+    if entity in new:
+        found[place] = "+" * (stem[place][0] == "+") + new[entity]
     return found
 
 

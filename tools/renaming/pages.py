@@ -30,6 +30,29 @@ class Pages:
                 self.scan_foreign(path, it[1], it.start(1))
         for path in listing("docs", ".md") + ["README.md", "CONTRIBUTING.md", "tests/README.md"]:
             self.scan_page(path)
+        for path in listing("tests/parts", "") + listing("tools", ""):
+            if "/renaming/" not in path and "__pycache__" not in path and not path.endswith(".exceptions"):
+                self.scan_program(path)
+
+    # Programs.
+
+    def scan_program(self, path):
+        """Changes the places of items that a program of the repository names: `CRATE/FILE.rt: NAME`, and the module of a definition."""
+        text = read(path)
+        for it in re.finditer(r"\b(yv_\w+|yangcheck)/(?:src/)?(\w+)\.rt(?:: |\", \")(\w+)", text):
+            code = self.index.code.get((it[1], it[2]))
+            found = [fn.entity for fn in code.fns if fn.entity[4] == it[3]] if code else []
+            self.rename(path, it.start(2), it[2], ("file", it[1], it[2]))
+            if len({self.new.get(entity) for entity in found}) == 1:
+                self.rename(path, it.start(3), it[3], found[0])
+        for it in re.finditer(r"\"(yv_\w+)\.specs\.(declared\.)?(\w+)(?:\.(\w+))?\", \"(\w+)\"", text):
+            if it[2]:
+                self.rename(path, it.start(3), it[3], ("file", it[1], it[3]))
+                for place in (4, 5):
+                    self.rename(path, it.start(place), it[place], ("type", it[1], it[3], it[place]))
+            else:
+                self.rename(path, it.start(3), it[3], ("specs", it[1], it[3]))
+                self.rename(path, it.start(5), it[5], ("def", it[1], it[3], it[5]))
 
     # Wrong bodies.
 
@@ -167,27 +190,42 @@ class Pages:
 
     def scan_page(self, path):
         """Changes names in backticks and the paths of code and definitions."""
-        text, crate = read(path), None
+        text, crates = read(path), ()
         code = [(it.start(), it.end()) for it in re.finditer(r"^```.*?^```", text, re.M | re.S)]
         for line in re.finditer(r"^.*$", text, re.M):
             if any(start <= line.start() < end for start, end in code):
                 continue
-            crate = self.crate_of(path, line[0], crate)
+            crates = self.crates_of(path, line[0], crates)
             for it in re.finditer(r"`([^`\n]+)`", line[0]):
-                self.is_clause = path.endswith("PROMISES.md") and line[0].startswith("|") and line[0].count("|", 0, it.start()) == 2
-                self.scan_words(path, text, line.start() + it.start(1), it[1], crate, line[0])
+                in_cell = path.endswith("PROMISES.md") and line[0].startswith("|") and line[0].count("|", 0, it.start()) == 2
+                self.is_clause = in_cell or path.endswith("ASSURANCE.md") and self.in_brackets(text, line.start() + it.start())
+                self.scan_words(path, text, line.start() + it.start(1), it[1], crates, line[0])
 
-    def crate_of(self, path, line, crate):
-        """The crate of which a line is: by its heading, or by the first cell of its row."""
-        heading = re.match(r"##+ .*?\b(yv_\w+|yangcheck)\b", line)
-        row = re.match(r"\| `(yv_\w+|yangcheck)` \|", line)
-        if heading and heading[1] in self.index.uses:
-            return heading[1]
-        if row and row[1] in self.index.uses:
-            return row[1]
-        return None if line.startswith("## ") else crate
+    def crates_of(self, path, line, crates):
+        """The crates of which a line is: by its heading, by the first cell of its row, or by the bold words before its paragraph."""
+        head = re.match(r"##+ .*|\| `\w+` \||- \*\*`\w+`.*?\*\*", line)
+        named = tuple(it for it in re.findall(r"\b(?:yv_\w+|yangcheck)\b", head[0]) if it in self.index.uses) if head else ()
+        if path.endswith("LIBRARIES.md") and line.startswith("|"):
+            return crates
+        return named or (() if line.startswith(("## ", "### ")) else crates)
 
-    def scan_words(self, path, text, start, words, crate, line):
+    @staticmethod
+    def in_brackets(text, place):
+        """Whether a place of a page is in brackets, in its paragraph."""
+        start = max(text.rfind("\n\n", 0, place), text.rfind("\n- ", 0, place), 0)
+        before = re.sub(r"`[^`]*`", "", text[start:place])
+        return before.count("(") > before.count(")")
+
+    def owner_of(self, text, end, name, crates):
+        """The crate of which a page means a file of definitions: named behind it, that of the line, or the only one that has it."""
+        behind = re.match(r"`(?:(?:,| and|, and)\s+`\w+\.antt`)*\s+of\s+`(yv_\w+)`", text[end:])
+        if behind:
+            return behind[1]
+        owners = [at for at, file in self.index.defs if file == name]
+        near = [crate for crate in crates if crate in owners]
+        return near[0] if len(near) == 1 else owners[0] if len(owners) == 1 else None
+
+    def scan_words(self, path, text, start, words, crates, line):
         """Changes what is in backticks."""
         place = re.match(r"(\w+)/([\w/]+)(\.rt)?: ([\w.]+)$", words)
         if place and place[1] in self.index.uses:
@@ -198,20 +236,21 @@ class Pages:
         spec = re.match(r"(\w+)\.antt$", words)
         if spec:
             owners = [at for at, name in self.index.defs if name == spec[1] and ("specs", at, name) in self.new]
-            if crate is not None and ("specs", crate, spec[1]) in self.new:
-                self.rename(path, start, spec[1], ("specs", crate, spec[1]))
-            elif owners and (crate is None or (crate, spec[1]) not in self.index.defs):
+            owner = self.owner_of(text, start + len(words), spec[1], crates)
+            if owner is not None:
+                self.rename(path, start, spec[1], ("specs", owner, spec[1]))
+            elif owners:
                 self.work.doubt(path, text, start, words, "a file of definitions of one of " + ", ".join(owners))
             return None
         if path.endswith("RULES.md"):
             return None  # keywords of YANG, and names of cases and wrong bodies
         found = [it for it in re.finditer(r"[A-Za-z_]\w*", words) if it[0] in self.names.words]
         if re.match(r"\| `(yv_\w+|yangcheck)` \|", line) and path.endswith("ARCHITECTURE.md"):
-            for kind in ("file", "specs"):
-                if (kind, crate, words) in self.new:
-                    return self.rename(path, start, words, (kind, crate, words))
+            for kind, known in (("file", self.index.code), ("specs", self.index.defs)):
+                if (crates[0], words) in known:
+                    return self.rename(path, start, words, (kind, crates[0], words))
         for it in found:
-            self.scan_name(path, text, start, words, it, crate)
+            self.scan_name(path, text, start, words, it, crates)
         return None
 
     def rename(self, path, start, word, entity):
@@ -240,15 +279,15 @@ class Pages:
         if len({self.new[it] for it in found}) == 1:
             self.rename(path, start + place.start(4), name, found[0])
 
-    def scan_name(self, path, text, start, words, it, crate):
-        """Changes a name in backticks if the crate of its line, or all crates, have one item of it."""
+    def scan_name(self, path, text, start, words, it, crates):
+        """Changes a name in backticks if the crates of its line, or all crates, have one item of it."""
         name, before = it[0], words[:it.start()]
         if before.endswith("."):
             return self.work.doubt(path, text, start, name, "a field or clause in a page")
         quoted, kinds = re.search(r"(\w+)::$", before), self.kinds_of(name, before, words[it.end():])
         if not kinds:
             return None
-        near = [entity for entity in self.items_named(name, crate) if not quoted or self.is_of(entity, quoted[1])] if crate else []
+        near = [entity for crate in crates for entity in self.items_named(name, crate) if not quoted or self.is_of(entity, quoted[1])]
         found = near or [entity for entity in self.items_named(name, None) if not quoted or self.is_of(entity, quoted[1])]
         found = [entity for entity in found if entity[0] in kinds]
         chosen = {self.new.get(entity) for entity in found}

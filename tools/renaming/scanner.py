@@ -152,7 +152,8 @@ class Scanner:
                 return None
             if bound and (it.text in fn.params or self.is_closure(file, fn, it.text)):
                 return self.work.doubt(file.path, file.text, it.start, it.text, "a variable has the name too")
-            if after not in ("(", ")", ",", ";") or before in ("let", "mut", "|") or after == ":":
+            is_or = at > 1 and before == "|" and tokens[at - 2].text == "|" and tokens[at - 2].end == tokens[at - 1].start
+            if after not in ("(", ")", ",", ";") or before in ("let", "mut", "|") and not is_or or after == ":":
                 return None
             new = self.rename(file.path, it, entity)
             if fn is not None:
@@ -476,9 +477,13 @@ class Scanner:
                 if len(words) > 6:
                     found[6] = ("variants", *found[5][1:]) if found[5] and words[6] == "TheVariants" else None
         elif words[2] == "specs":
-            name = ".".join(words[3:])
-            if (crate, name) in self.index.defs:
-                found[-1] = ("specs", crate, name)
+            for last in range(len(words), 3, -1):
+                name = ".".join(words[3:last])
+                if (crate, name) in self.index.defs:
+                    found[last - 1] = ("specs", crate, name)
+                    if last + 1 == len(words) and words[last] in self.index.defs[crate, name]:
+                        found[last] = ("def", crate, name, words[last])
+                    break
         elif words[2] == "proofs":
             name = ".".join(words[3:])
             if (crate, name) in self.index.lemmas:
@@ -492,19 +497,16 @@ class Scanner:
         found[3] = ("file", crate, words[3])
         file, rest = self.index.code[crate, words[3]], words[4:]
         entity = None
-        if len(rest) > 1 and rest[0][0].isupper() and rest[1][:1].islower():
-            for fn in file.fns:
-                if fn.entity[4] == rest[1] and fn.entity[3] and rest[0].startswith(fn.entity[3]):
-                    entity = fn.entity
-                    ty = self.index.type_named(file, fn.entity[3])
-                    found[4] = ("impl", ty, rest[0][len(fn.entity[3]):]) if ty else None
+        if len(rest) > 1 and rest[0][0].isupper() and rest[1].lstrip("+")[:1].islower():
+            entity, ty, trait = self.index.method_of(file, rest[0], rest[1].lstrip("+"))
+            found[4] = ("impl", ty, trait) if ty else None
             if entity:
-                found[5] = entity
+                found[5] = entity if rest[1][0] != "+" else ("cycle", entity)
             place = 6
         else:
-            entity = file.items.get(rest[0]) if rest else None
+            entity = file.items.get(rest[0].lstrip("+")) if rest else None
             if rest:
-                found[4] = entity
+                found[4] = entity if rest[0][0] != "+" or entity is None else ("cycle", entity)
             place = 5
         if entity and entity[0] == "fn" and place < len(words):
             for at in range(place, len(words)):
@@ -519,6 +521,9 @@ class Scanner:
             return ("def", entity[1], entity[2], name) if name in self.index.defs[entity[1], entity[2]] else None
         if entity[0] == "type":
             return entity if name == entity[3] else None
+        if entity[0] == "def":  # the cases of a type
+            known = self.index.defs[entity[1], entity[2]]
+            return ("def", entity[1], entity[2], name) if known.get(name, ("",))[0] == "case" else None
         if entity[0] == "variants":
             return ("variant", *entity[1:], name)
         if entity[0] == "goals":
@@ -541,6 +546,9 @@ class Scanner:
         if entity[0] == "impl":
             if entity[1] in self.new:
                 self.work.change(path, token.start, token.end, self.new[entity[1]] + entity[2], entity[1])
+        elif entity[0] == "cycle":
+            if entity[1] in self.new:
+                self.work.change(path, token.start, token.end, "+" + self.new[entity[1]], entity[1])
         elif entity[0] == "goal":
             new = self.component(token.text, self.goal_names(entity[1]))
             if new != token.text:
@@ -678,6 +686,8 @@ class Scanner:
             if it.text in self.fields and entity is None and at + 1 < len(tokens) and tokens[at + 1].text == ":":
                 self.scan_part(path, it)
             return None
+        if at + 1 < len(tokens) and tokens[at + 1].text == ":" and self.in_record(tokens, at):
+            return None  # a field of the type of an invariant
         if it.text in variables:
             return self.work.doubt(path, text, it.start, it.text, "a parameter has the name too")
         is_case = entity[0] == "def" and self.index.defs[entity[1], entity[2]][entity[3]][0] == "case"
@@ -814,7 +824,8 @@ class Bound:
                 place = at
                 while place >= 0 and block[place].kind == "word":
                     place -= 1
-                if place >= 0 and block[place].text in ("(", "{"):
+                is_record = place > 0 and block[place].text == "{" and block[place - 1].text == "record"
+                if place >= 0 and block[place].text in ("(", "{") and not is_record:
                     names.update(block[other].text for other in range(place + 1, at + 1))
         return names
 
