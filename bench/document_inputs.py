@@ -97,7 +97,7 @@ VALID = (
          lambda n, count: {"k": str(n), "r": count - 1 - n}, 180_000, make=among),
     Kind("state entries without a key", "container c{config false;list e{leaf v{type int32;}leaf w{type string;}}}",
          lambda n, count: {"v": n, "w": "some text"}),
-    Kind("entries with values of eight types", "identity kind;identity kind-1{base kind;}" + list_of(MIX), mix, 180_000),
+    Kind("entries with values of eight types", "identity kind;identity kind-1{base kind;}" + list_of(MIX), mix, 140_000),
     Kind("entries with unique values in containers",
          list_of('unique "a d/b";leaf a{type int32;}container d{leaf b{type int32;}}'),
          lambda n, count: {"k": name_of(n), "a": 1, "d": {"b": n}}, 100_000),
