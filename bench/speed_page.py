@@ -7,17 +7,20 @@ MOST_SECONDS, MOST_MEGABYTES = 3, 300
 
 HEAD = """# Speed and memory
 
-This page is written by `bench/speed` from the figures in `bench/speed.json`; `bench/speed --measure` measures anew.
+This page is written by `bench/speed` from the figures in `bench/speed.json`;
+`bench/speed --measure` measures anew.
 
-Seconds are processor seconds (user and system), since the clock also counts what else the machine does; they still grow
-by a half on a machine that is busy. MB are 10^6 bytes: the peak memory of the program alone. "Times" is the time of
-yangcheck as a multiple of that of yanglint, where both accept the input. `>` is a run that was stopped.
+Seconds are processor seconds (user and system), since the clock also counts what else the machine
+does; they still grow by a half on a machine that is busy. MB are 10^6 bytes: the peak memory of the
+program alone. "Times" is the time of yangcheck as a multiple of that of yanglint, where both accept
+the input. `>` is a run that was stopped.
 
 """
 
-HOSTILE = """Files from strangers are to take at most {seconds} seconds and {megabytes} MB each. The rows past that are known, and
-`bench/strangers` fails if one of them gets worse. [ASSURANCE](ASSURANCE.md) says under "Open" what their causes are.
-A row in italics was not measured in this run, since it takes long: its figures are those of `bench/known.json`.
+HOSTILE = """Files from strangers are to take at most {seconds} seconds and {megabytes} MB each. The rows past that are
+known, and `bench/strangers` fails if one of them gets worse. [ASSURANCE](ASSURANCE.md) says under
+"Open" what their causes are. A row in italics was not measured in this run, since it takes long:
+its figures are those of `bench/known.json`.
 
 """
 
@@ -88,8 +91,8 @@ def slower(rows):
 def sets_part(figures):
     rows = figures["sets"]
     times = [times_of(row) for row in rows if times_of(row) is not None]
-    said = ("Twenty sets of modules with the addresses, prefixes, names and dates of RFC 6991, compiled (`bench/run`). The median\n"
-            f"of times is {statistics.median(times):.2f}.\n\n")
+    said = ("Twenty sets of modules with the addresses, prefixes, names and dates of RFC 6991, compiled\n"
+            f"(`bench/run`). The median of times is {statistics.median(times):.2f}.\n\n")
     lines = [[row["name"].split(": ")[-1], kilobytes(row["module"]), *compared(row)] for row in rows]
     return "## Sets of modules\n\n" + said + when(figures, "sets") + table(["set", "KB", *COMPARED], lines)
 
@@ -103,9 +106,9 @@ def modules_part(figures):
 
 def documents_part(figures):
     rows = figures["documents"]
-    said = ("Validated (`bench/documents`). \"Reading\" is the time of yangcheck as a multiple of that of a program which only reads\n"
-            "the document by the same `serde_json` and drops it (`bench/floor`). \"Per MB\" is the peak memory of both programs for\n"
-            "each MB of the document.\n\n")
+    said = ("Validated (`bench/documents`). \"Reading\" is the time of yangcheck as a multiple of that of a\n"
+            "program which only reads the document by the same `serde_json` and drops it (`bench/floor`).\n"
+            "\"Per MB\" is the peak memory of both programs for each MB of the document.\n\n")
     lines = []
     for row in rows:
         size = row["document"] / 1e6

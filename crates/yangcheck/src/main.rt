@@ -1,7 +1,7 @@
 //! Compiles YANG modules, draws their trees and validates JSON documents against them.
 #![tactic(auto)]
 
-mod noting;
+mod error_reader;
 mod program;
 
 use std::process::ExitCode;

@@ -1,10 +1,10 @@
 //! The program over a runtime: its words, its files, its standard streams and its exit status.
 ghost use Rattle.std.specs.Prelude.{◌≡◌, ◌≤◌, length, map, string_bytes, IfOk};
-ghost use Rattle.yv_outcome.specs.Status.{exit_of};
+ghost use Rattle.yv_run.specs.Status.{exit_of};
 ghost use Rattle.yv_job.specs.Jobs.{HasFiles, HasLimit};
 ghost use Rattle.yv_streams.specs.Files.{file_of};
 
-use crate::noting::Noting;
+use crate::error_reader::ErrorReader;
 use std::alloc::{AllocError, Global};
 use std::fmt::Display;
 use std::fs::File;
@@ -12,9 +12,8 @@ use std::io::{ErrorKind, Read};
 use std::rt::{Env, Files};
 use std::{env, io};
 use yv_job::{Command, Job, JobFault, read_job};
-use yv_messages::push_shown;
-use yv_outcome::Status;
-use yv_run::{Ended, run_with_note};
+use yv_refusal_notes::push_shown;
+use yv_run::{RunEnd, Status, run_with_note};
 use yv_streams::{Counted, Input, InputFault, read_input};
 
 /// Does what the process's arguments ask for, and answers its exit status.
@@ -22,40 +21,41 @@ pub fn program<R: Env + Files + io::Input + Print + Eprint + AllocGlobal>(rt: &R
     let words: Vec<String> = match env::args(rt) {
         Ok(words) => match words.collect(rt.alloc()) {
             Ok(words) => words,
-            Err(_) => return told(rt, Status::NoMemory),
+            Err(_) => return print_stop(rt, Status::NoMemory),
         },
         Err(error) => return without_words(rt, error.kind()),
     };
     match read_job(rt.alloc(), words.as_slice()) {
         Ok(job) => {
-            let ended = done(rt, &job);
-            explained(rt, &ended)
+            let ended = do_job(rt, &job);
+            print_reason(rt, &ended)
         }
-        Err(JobFault::Help(text)) => helped(rt, text.as_str()),
-        Err(JobFault::Usage(text)) => refused(rt, text.as_str()),
-        Err(JobFault::NoMemory) => told(rt, Status::NoMemory),
+        Err(JobFault::Help(text)) => print_help(rt, text.as_str()),
+        Err(JobFault::Usage(text)) => print_refusal(rt, text.as_str()),
+        Err(JobFault::NoMemory) => print_stop(rt, Status::NoMemory),
     }
 }
 
 // Says why the words can't be read: there was no memory, or one isn't UTF-8.
 fn without_words<R: Eprint + AllocGlobal>(rt: &R, kind: ErrorKind) -> u8 {
     if kind == ErrorKind::OutOfMemory {
-        told(rt, Status::NoMemory)
+        print_stop(rt, Status::NoMemory)
     } else {
-        refused(rt, "yangcheck: usage\nan argument is not UTF-8\n")
+        print_refusal(rt, "yangcheck: usage\nan argument is not UTF-8\n")
     }
 }
 
 // Prints a help text, and answers the exit status.
-fn helped<R: Print + Eprint>(rt: &R, text: &str) -> u8 {
+fn print_help<R: Print + Eprint>(rt: &R, text: &str) -> u8 {
     match rt.print(text) {
         Ok(()) => 0,
-        Err(_) => told(rt, Status::WriteFault),
+        Err(_) => print_stop(rt, Status::WriteFault),
     }
 }
 
-// Prints a refusal of the command line. It may repeat words of the command line, so nothing of it may drive a terminal.
-fn refused<R: Eprint + AllocGlobal>(rt: &R, text: &str) -> u8
+// Prints a refusal of the command line. It may repeat words of the command line, so nothing of it
+// may drive a terminal.
+fn print_refusal<R: Eprint + AllocGlobal>(rt: &R, text: &str) -> u8
     ensures { result ≡ 2 }
 {
     if let Ok(shown) = shown_lines(rt.alloc(), text) {
@@ -64,7 +64,8 @@ fn refused<R: Eprint + AllocGlobal>(rt: &R, text: &str) -> u8
     2
 }
 
-// A text of several lines in which nothing but line feeds, blanks and visible ASCII characters is left.
+// A text of several lines in which nothing but line feeds, blanks and visible ASCII characters is
+// left.
 fn shown_lines(alloc: Global, text: &str) -> Result<String, AllocError> {
     let mut shown = String::new(alloc);
     for (number, line) in text.split('\n').enumerate() {
@@ -77,7 +78,7 @@ fn shown_lines(alloc: Global, text: &str) -> Result<String, AllocError> {
 }
 
 // Prints what stopped a run, and answers the exit status.
-fn told<R: Eprint>(rt: &R, status: Status) -> u8
+fn print_stop<R: Eprint>(rt: &R, status: Status) -> u8
     ensures { result ≡ exit_of status }
 {
     if let Some(text) = status.complaint() {
@@ -87,10 +88,10 @@ fn told<R: Eprint>(rt: &R, status: Status) -> u8
 }
 
 // Prints what stopped a run and what helps a person, and answers the exit status.
-fn explained<R: Eprint>(rt: &R, ended: &Ended) -> u8
+fn print_reason<R: Eprint>(rt: &R, ended: &RunEnd) -> u8
     ensures { result ≡ exit_of ended.now.status }
 {
-    let exit = told(rt, ended.status);
+    let exit = print_stop(rt, ended.status);
     if let Ok(Some(note)) = &ended.note {
         let _ = rt.eprint(note.as_str());
     }
@@ -98,27 +99,28 @@ fn explained<R: Eprint>(rt: &R, ended: &Ended) -> u8
 }
 
 // Does the job.
-fn done<R: Files + io::Input + Print + AllocGlobal>(rt: &R, job: &Job) -> Ended
+fn do_job<R: Files + io::Input + Print + AllocGlobal>(rt: &R, job: &Job) -> RunEnd
     requires files { HasFiles job.now }
     requires limit { HasLimit job.now }
 {
     match inputs(rt, job) {
-        Ok(inputs) => ran(rt, job, inputs.as_slice()),
+        Ok(inputs) => run_files(rt, job, inputs.as_slice()),
         Err(ended) => ended,
     }
 }
 
 // A run that found no memory.
-fn without_memory() -> Ended {
-    Ended {
+fn without_memory() -> RunEnd {
+    RunEnd {
         status: Status::NoMemory,
         note: Ok(None),
     }
 }
 
-// A run that is stopped by a file that can't be opened or read, with the file's name and the system's reason.
-fn unread<R: AllocGlobal, D: Display + Drop>(rt: &R, name: &str, reason: D) -> Ended {
-    Ended {
+// A run that is stopped by a file that can't be opened or read, with the file's name and the
+// system's reason.
+fn read_failure<R: AllocGlobal, D: Display + Drop>(rt: &R, name: &str, reason: D) -> RunEnd {
+    RunEnd {
         status: Status::ReadFault,
         note: unread_note(rt.alloc(), name, reason).map(Some),
     }
@@ -138,15 +140,19 @@ fn unread_note<D: Display + Drop>(
 }
 
 // A run that is stopped by a file that was opened, and whose reading failed.
-fn unreadable<R: AllocGlobal, D>(rt: &R, name: &str, reader: &Noting<D>) -> Ended {
+fn unreadable<R: AllocGlobal, D>(rt: &R, name: &str, reader: &ErrorReader<D>) -> RunEnd {
     match reader.failure() {
-        Some(error) => unread(rt, name, error),
-        None => unread(rt, name, "reading it failed"),
+        Some(error) => read_failure(rt, name, error),
+        None => read_failure(rt, name, "reading it failed"),
     }
 }
 
 // Runs the job over its files, and over the document where it names one.
-fn ran<R: Files + io::Input + Print + AllocGlobal>(rt: &R, job: &Job, inputs: &[Input]) -> Ended
+fn run_files<R: Files + io::Input + Print + AllocGlobal>(
+    rt: &R,
+    job: &Job,
+    inputs: &[Input],
+) -> RunEnd
     requires files { HasFiles job.now }
     requires limit { HasLimit job.now }
     requires each { length inputs.now ≡ length job.now.files.items }
@@ -157,7 +163,7 @@ fn ran<R: Files + io::Input + Print + AllocGlobal>(rt: &R, job: &Job, inputs: &[
         }
         Command::Validate(file) => match File::open(rt, file.as_str()) {
             Ok(data) => run_over(rt, job, inputs, file.as_str(), data),
-            Err(error) => unread(rt, file.as_str(), error),
+            Err(error) => read_failure(rt, file.as_str(), error),
         },
         Command::Compile | Command::Tree(_) => run_over(rt, job, inputs, "", io::empty()),
     }
@@ -170,12 +176,12 @@ fn run_over<R: Print + AllocGlobal, D: Read + Drop>(
     inputs: &[Input],
     name: &str,
     data: D,
-) -> Ended
+) -> RunEnd
     requires files { HasFiles job.now }
     requires limit { HasLimit job.now }
     requires each { length inputs.now ≡ length job.now.files.items }
 {
-    let mut reader = Counted::new(Noting::new(data));
+    let mut reader = Counted::new(ErrorReader::new(data));
     let mut writer = Counted::new(io::writer(rt));
     let ended = run_with_note(rt.alloc(), job, inputs, &mut reader, &mut writer);
     if ended.status == Status::ReadFault {
@@ -186,13 +192,13 @@ fn run_over<R: Print + AllocGlobal, D: Read + Drop>(
 }
 
 // The job's files, read in order, under the names that the job gives them.
-fn inputs<R: Files + AllocGlobal>(rt: &R, job: &Job) -> Result<Vec<Input>, Ended>
+fn inputs<R: Files + AllocGlobal>(rt: &R, job: &Job) -> Result<Vec<Input>, RunEnd>
     ensures each { IfOk result (λ v. length v.items ≡ length job.now.files.items) }
     ensures names { IfOk result (λ v. map (λ i. (file_of i).name) v.items ≡ map string_bytes job.now.files.items) }
 {
     let mut inputs = Vec::new(rt.alloc());
     for name in job.files.iter() {
-        let input = opened(rt, name.as_str())?;
+        let input = open_file(rt, name.as_str())?;
         if inputs.push(input).is_err() {
             return Err(without_memory());
         }
@@ -201,18 +207,18 @@ fn inputs<R: Files + AllocGlobal>(rt: &R, job: &Job) -> Result<Vec<Input>, Ended
 }
 
 // The file of this name, read.
-fn opened<R: Files + AllocGlobal>(rt: &R, name: &str) -> Result<Input, Ended>
+fn open_file<R: Files + AllocGlobal>(rt: &R, name: &str) -> Result<Input, RunEnd>
     ensures { IfOk result (λ i. (file_of i).name ≡ name.now) }
 {
     match File::open(rt, name) {
         Ok(file) => {
-            let mut reader = Counted::new(Noting::new(file));
+            let mut reader = Counted::new(ErrorReader::new(file));
             match read_input(rt.alloc(), name, &mut reader) {
                 Ok(input) => Ok(input),
                 Err(InputFault::Read) => Err(unreadable(rt, name, &reader.into_inner())),
                 Err(InputFault::NoMemory) => Err(without_memory()),
             }
         }
-        Err(error) => Err(unread(rt, name, error)),
+        Err(error) => Err(read_failure(rt, name, error)),
     }
 }

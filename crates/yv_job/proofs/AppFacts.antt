@@ -6,7 +6,7 @@ use Rattle.clap.specs.declared.error.Error.{Error}
 use Rattle.clap.proofs.OnLiterals.{clap_on_literals}
 use Rattle.yv_job.specs.CommandLine.{yangcheck_app}
 use Rattle.yv_job.specs.Asks.{IsAsked}
-use Rattle.yv_job.specs.Jobs.{Asked, Compiles, Draws, Checks}
+use Rattle.yv_job.specs.Jobs.{CommandAsked, Compiles, Draws, Checks}
 
 pub app_simple : is_simple yangcheck_app ≡ true
 unfolding clap_on_literals
@@ -30,12 +30,12 @@ matches_here a words r e kinds matches =
     (subst (λ b. IfOk r (HasMatchesOf b words)) e matches)
 
 -- a command that lacks its name is none
-pub no_module : (name : Text) (rows : List Row) → name ≡ codes "tree" → None ≡ first_of (codes "module") rows → (a : Asked) → IsAsked name rows a → ⊥
+pub no_module : (name : Text) (rows : List Row) → name ≡ codes "tree" → None ≡ first_of (codes "module") rows → (a : CommandAsked) → IsAsked name rows a → ⊥
 no_module name rows e f Compiles h = let g : codes "compile" ≡ codes "tree" = sym h ∙ e in cc
 no_module name rows e f (Draws m) h = let g : None ≡ Some m = f ∙ h.1 in cc
 no_module name rows e f (Checks d) h = let g : codes "validate" ≡ codes "tree" = sym h.0 ∙ e in cc
 
-pub no_data : (name : Text) (rows : List Row) → name ≡ codes "validate" → None ≡ first_of (codes "data") rows → (a : Asked) → IsAsked name rows a → ⊥
+pub no_data : (name : Text) (rows : List Row) → name ≡ codes "validate" → None ≡ first_of (codes "data") rows → (a : CommandAsked) → IsAsked name rows a → ⊥
 no_data name rows e f Compiles h = let g : codes "compile" ≡ codes "validate" = sym h ∙ e in cc
 no_data name rows e f (Draws m) h = let g : codes "tree" ≡ codes "validate" = sym h.0 ∙ e in cc
 no_data name rows e f (Checks d) h = let g : None ≡ Some d = f ∙ h.1 in cc

@@ -8,14 +8,14 @@ use Rattle.std.proofs.Math.Dec.{eqb}
 use Rattle.clap.specs.Words.{Text, Row, subcommand_of}
 use Rattle.yv_job.specs.Asks.{IsAsked, IsLimit, IsSupportFor, IsImportsFor, IsKindFor, IsChoice, IsFiles, Asks, AsksIn, WordsAsk}
 use Rattle.yv_job.specs.CommandLine.{yangcheck_app}
-use Rattle.yv_job.specs.Jobs.{Task, Asked, Compiles, Draws, Checks}
-use Rattle.yv_selection.specs.Choice.{Choice, Entry}
-use Rattle.yv_selection.specs.declared.kind.Kind.{Kind}
-use Rattle.yv_selection.specs.declared.kind.Kind.TheVariants.{All, ConfigOnly}
+use Rattle.yv_job.specs.Jobs.{Task, CommandAsked, Compiles, Draws, Checks}
+use Rattle.yv_statement.specs.Selection.{Selected, Entry}
+use Rattle.yv_statement.specs.declared.document_kind.Kind.{Kind}
+use Rattle.yv_statement.specs.declared.document_kind.Kind.TheVariants.{All, ConfigOnly}
 use Rattle.yv_job.specs.Names.{JoinsNames, IsNames, IsIdentifier, HasIdentifiers, entry_text}
 use Rattle.yv_job.proofs.NameLemmas.{free_name, split_names, split_entries}
 
-same_asked : (name : Text) (rows : List Row) (a b : Asked) → IsAsked name rows a → IsAsked name rows b → a ≡ b
+same_asked : (name : Text) (rows : List Row) (a b : CommandAsked) → IsAsked name rows a → IsAsked name rows b → a ≡ b
 same_asked name rows Compiles Compiles h i = refl
 same_asked name rows Compiles (Draws m) h i = let e : codes "compile" ≡ codes "tree" = sym h ∙ i.0 in cc
 same_asked name rows Compiles (Checks f) h i = let e : codes "compile" ≡ codes "validate" = sym h ∙ i.0 in cc
@@ -94,7 +94,7 @@ same_support (Some t) es fs h i =
     same_entries es fs (recursion_from_All HasIdentifiers es h.each) (recursion_from_All HasIdentifiers fs i.each)
     (sym (split_entries t es h) ∙ split_entries t fs i)
 
-same_choice : (rows : List Row) (c d : Choice) → IsChoice rows c → IsChoice rows d → c ≡ d
+same_choice : (rows : List Row) (c d : Selected) → IsChoice rows c → IsChoice rows d → c ≡ d
 same_choice rows c d h i =
     ap₂ (λ (s : List Entry) (n : List (List ℕ)). record { support = s; imports = n })
     (same_support _ c.support d.support h.support i.support) (same_imports _ c.imports d.imports h.imports i.imports)
@@ -106,8 +106,8 @@ same_task name rows t u h i =
     let limit = same_limit _ t.limit u.limit h.limit i.limit in
     let choice = same_choice rows t.choice u.choice h.choice i.choice in
     let kind = same_kind _ t.kind u.kind h.kind i.kind in
-    ap₂ (λ (a : Asked) (fs : List (List ℕ)). record { asked = a; files = fs; limit = t.limit; choice = t.choice; kind = t.kind }) asked files
-    ∙ ap₂ (λ (n : ℕ) (c : Choice). record { asked = u.asked; files = u.files; limit = n; choice = c; kind = t.kind }) limit choice
+    ap₂ (λ (a : CommandAsked) (fs : List (List ℕ)). record { asked = a; files = fs; limit = t.limit; choice = t.choice; kind = t.kind }) asked files
+    ∙ ap₂ (λ (n : ℕ) (c : Selected). record { asked = u.asked; files = u.files; limit = n; choice = c; kind = t.kind }) limit choice
     ∙ ap (λ (k : Kind). record { asked = u.asked; files = u.files; limit = u.limit; choice = u.choice; kind = k }) kind
 
 same_in : (found : Option (Text × List Row)) (t u : Task) → AsksIn found t → AsksIn found u → t ≡ u

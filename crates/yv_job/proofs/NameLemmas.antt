@@ -8,9 +8,9 @@ use Rattle.std.proofs.lemmas.List.Splits.{slice_split_none, slice_split_at, join
 use Rattle.std.proofs.lemmas.List.Folds.{list_all-map}
 use Rattle.std.proofs.Math.Dec.{eqb}
 use Rattle.std.proofs.lemmas.Bool.{eqb-true, eq-eqb}
-use Rattle.yv_condition.specs.Names.{is_identifier, is_part, is_start}
+use Rattle.yv_text_if_feature.specs.Names.{is_identifier, is_part, is_start}
 use Rattle.yv_job.specs.Names.{IsIdentifier, IsNames, entry_text, HasIdentifiers, IsEntry, IsSupport}
-use Rattle.yv_selection.specs.Choice.{Entry}
+use Rattle.yv_statement.specs.Selection.{Entry}
 
 both : (a b : Bool) → (a && b) ≡ true → (a ≡ true) × (b ≡ true)
 both true true h = (refl, refl)

@@ -2,15 +2,15 @@
 use Rattle.std.specs.Prelude.{◌≡◌, ◌≤◌, ℕ, List, [], Option, Some, None, codes, length}
 use Rattle.std.specs.Str.Parse.{IsNumeral, digits_value}
 use Rattle.clap.specs.Words.{Text, Row, all_of, first_of, fault_of, subcommand_of}
-use Rattle.yv_job.specs.Jobs.{Task, Asked, Compiles, Draws, Checks}
-use Rattle.yv_selection.specs.Choice.{Choice, Entry}
-use Rattle.yv_selection.specs.declared.kind.Kind.{Kind}
-use Rattle.yv_selection.specs.declared.kind.Kind.TheVariants.{All, ConfigOnly}
+use Rattle.yv_job.specs.Jobs.{Task, CommandAsked, Compiles, Draws, Checks}
+use Rattle.yv_statement.specs.Selection.{Selected, Entry}
+use Rattle.yv_statement.specs.declared.document_kind.Kind.{Kind}
+use Rattle.yv_statement.specs.declared.document_kind.Kind.TheVariants.{All, ConfigOnly}
 use Rattle.yv_job.specs.CommandLine.{yangcheck_app}
 use Rattle.yv_job.specs.Names.{IsNames, IsSupport}
 
 -- the command of this name, with the values of its arguments, compiles, draws or checks
-abbrev pub IsAsked : Text → List Row → Asked → Type 0
+abbrev pub IsAsked : Text → List Row → CommandAsked → Type 0
 IsAsked name rows Compiles = name ≡ codes "compile"
 IsAsked name rows (Draws m) = (name ≡ codes "tree") × (first_of (codes "module") rows ≡ Some m)
 IsAsked name rows (Checks f) = (name ≡ codes "validate") × (first_of (codes "data") rows ≡ Some f)
@@ -45,7 +45,7 @@ IsKindFor None k = k ≡ All
 IsKindFor (Some t) k = t ≡ kind_word k
 
 -- the choice is that of `--support` and `--import-only`
-pub record IsChoice (rows : List Row) (c : Choice) : Type 0 where
+pub record IsChoice (rows : List Row) (c : Selected) : Type 0 where
   pub support : IsSupportFor (first_of (codes "support") rows) c.support
   pub imports : IsImportsFor (first_of (codes "import-only") rows) c.imports
 

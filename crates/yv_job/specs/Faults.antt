@@ -7,9 +7,9 @@ use Rattle.clap.specs.declared.error.kind.ErrorKind.{ErrorKind}
 use Rattle.clap.specs.declared.error.kind.ErrorKind.TheVariants as kind
 use Rattle.yv_job.specs.Asks.{WordsAsk, IsAsked, IsFiles, IsLimit, IsSupportFor, IsImportsFor, IsKindFor}
 use Rattle.yv_job.specs.CommandLine.{yangcheck_app}
-use Rattle.yv_job.specs.Jobs.{Task, Asked}
-use Rattle.yv_selection.specs.Choice.{Entry}
-use Rattle.yv_selection.specs.declared.kind.Kind.{Kind}
+use Rattle.yv_job.specs.Jobs.{Task, CommandAsked}
+use Rattle.yv_statement.specs.Selection.{Entry}
+use Rattle.yv_statement.specs.declared.document_kind.Kind.{Kind}
 use Rattle.yv_job.specs.declared.job.JobFault.{JobFault}
 use Rattle.yv_job.specs.declared.job.JobFault.TheVariants.{Usage, Help, NoMemory}
 
@@ -60,7 +60,7 @@ pub data IsReason (name : Text) (rows : List Row) (line : Text) : Type 0 where
       → line ≡ value_line (codes "import-only") (codes "MODULE,MODULE") (first_of (codes "import-only") rows)
       → IsReason name rows line
   of_files : ((fs : List Text) → IsFiles rows fs → ⊥) → line ≡ files_line (all_of (codes "file") rows) → IsReason name rows line
-  of_command : ((a : Asked) → IsAsked name rows a → ⊥) → line ≡ command_line → IsReason name rows line
+  of_command : ((a : CommandAsked) → IsAsked name rows a → ⊥) → line ≡ command_line → IsReason name rows line
 
 -- the text is the first line, and the reason why the command that was found asks for no task
 abbrev pub TellsReason : Option (Text × List Row) → Text → Type 0

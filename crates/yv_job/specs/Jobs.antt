@@ -3,24 +3,24 @@ use Rattle.std.specs.Prelude.{◌≤◌, length, ℕ, List, map, string_bytes}
 use Rattle.yv_job.specs.declared.job.Job.{Job}
 use Rattle.yv_job.specs.declared.job.Command.{Command}
 use Rattle.yv_job.specs.declared.job.Command.TheVariants.{Compile, Tree, Validate}
-use Rattle.yv_selection.specs.Choice.{Choice, choice_of}
-use Rattle.yv_selection.specs.declared.kind.Kind.{Kind}
+use Rattle.yv_statement.specs.Selection.{Selected, selected_of}
+use Rattle.yv_statement.specs.declared.document_kind.Kind.{Kind}
 
 -- a command: it compiles, or it draws the tree of a module, or it checks the document of a file
-pub data Asked : Type 0 where
-  Compiles : Asked
-  Draws : List ℕ → Asked
-  Checks : List ℕ → Asked
+pub data CommandAsked : Type 0 where
+  Compiles : CommandAsked
+  Draws : List ℕ → CommandAsked
+  Checks : List ℕ → CommandAsked
 
 -- a job, as clauses see it
 pub record Task : Type 0 where
-  pub asked : Asked
+  pub asked : CommandAsked
   pub files : List (List ℕ)
   pub limit : ℕ
-  pub choice : Choice
+  pub choice : Selected
   pub kind : Kind
 
-abbrev pub asked_of : Command → Asked
+abbrev pub asked_of : Command → CommandAsked
 asked_of Compile = Compiles
 asked_of (Tree m) = Draws (string_bytes m)
 asked_of (Validate f) = Checks (string_bytes f)
@@ -30,7 +30,7 @@ task_of j = record {
   asked = asked_of j.command;
   files = map string_bytes j.files.items;
   limit = j.limit;
-  choice = choice_of j.selection;
+  choice = selected_of j.selection;
   kind = j.kind;
 }
 

@@ -3,4 +3,4 @@ pub mod Jobs
 pub mod CommandLine
 pub mod Asks
 pub mod Faults
-pub mod Matched
+pub mod Matches

@@ -1,8 +1,8 @@
 -- Names and lists of them, as a command line spells them.
 use Rattle.std.specs.Prelude.{◌≡◌, ◌<◌, ℕ, true, List, ◌∷◌, ◌++◌, length, map}
 use Rattle.std.specs.List.{All, join_with_byte}
-use Rattle.yv_condition.specs.Names.{is_identifier}
-use Rattle.yv_selection.specs.Choice.{Entry}
+use Rattle.yv_text_if_feature.specs.Names.{is_identifier}
+use Rattle.yv_statement.specs.Selection.{Entry}
 
 -- the text is an identifier (RFC 7950, section 6.2)
 abbrev pub IsIdentifier : List ℕ → Type 0

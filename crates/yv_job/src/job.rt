@@ -2,7 +2,7 @@
 
 use std::alloc::AllocError;
 use thiserror::Error;
-use yv_selection::{Kind, Selection};
+use yv_statement::{Kind, Selection};
 
 /// What is to be done with the modules.
 #[derive(Debug, Drop)]

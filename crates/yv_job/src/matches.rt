@@ -2,18 +2,18 @@
 ghost use Rattle.std.specs.Prelude.{◌≡◌, ◌≤◌, ℕ, List, length, IfSome, IfOk, IfErr, MatchOption, map, option_map, string_bytes};
 ghost use Rattle.clap.specs.Words.{subcommand_rows_of, found_of, rows_of, all_of, first_of};
 ghost use Rattle.yv_job.specs.Asks.{AsksIn, Asks, IsChoice, IsAsked, IsFiles};
-ghost use Rattle.yv_job.specs.Jobs.{Asked, task_of, asked_of, HasFiles, HasLimit};
-ghost use Rattle.yv_selection.specs.Choice.{Choice, choice_of};
+ghost use Rattle.yv_job.specs.Jobs.{CommandAsked, task_of, asked_of, HasFiles, HasLimit};
+ghost use Rattle.yv_statement.specs.Selection.{Selected, selected_of};
 ghost use Rattle.yv_job.specs.Faults.{IsReason, TellsReason};
-ghost use Rattle.yv_job.specs.Matched.{AsksForNothing};
+ghost use Rattle.yv_job.specs.Matches.{AsksForNothing};
 
 use crate::job::{Command, Job};
-use crate::names::copied;
-use crate::options::{imports_for, kind_for, limit_of, support_for};
+use crate::names::copy_texts;
+use crate::options::{imports_value, kind_value, limit_of, support_value};
 use crate::reasons::{COMMAND, IMPORTS, KINDS, NODES, SUPPORT, files_line, usage, value_line};
 use clap::ArgMatches;
 use std::alloc::{AllocError, Global};
-use yv_selection::Selection;
+use yv_statement::Selection;
 
 const MOST_FILES: usize = 256;
 
@@ -38,7 +38,7 @@ fn command_of(
     below: &ArgMatches<'_>,
 ) -> Result<Option<Command>, AllocError>
     ensures { let rows = rows_of (found_of below.now) in
-        IfOk result (λ o. MatchOption o ((a : Asked) → IsAsked name.now rows a → ⊥)
+        IfOk result (λ o. MatchOption o ((a : CommandAsked) → IsAsked name.now rows a → ⊥)
         (λ c. IsAsked name.now rows (asked_of c))) }
 {
     if name == "compile" {
@@ -68,7 +68,7 @@ fn files_of(alloc: Global, below: &ArgMatches<'_>) -> Result<Option<Vec<String>>
 {
     match all(below, "file") {
         Some(files) if !files.is_empty() && files.len() <= MOST_FILES => {
-            Ok(Some(copied(alloc, files)?))
+            Ok(Some(copy_texts(alloc, files)?))
         }
         _ => Ok(None),
     }
@@ -80,18 +80,18 @@ fn selection_of(
     below: &ArgMatches<'_>,
 ) -> Result<Result<Selection, String>, AllocError>
     ensures choice { let rows = rows_of (found_of below.now) in
-        IfOk result (λ r. IfOk r (λ s. IsChoice rows (choice_of s))) }
+        IfOk result (λ r. IfOk r (λ s. IsChoice rows (selected_of s))) }
     ensures nothing { let rows = rows_of (found_of below.now) in
-        IfOk result (λ r. IfErr r (λ _. (c : Choice) → IsChoice rows c → ⊥)) }
+        IfOk result (λ r. IfErr r (λ _. (c : Selected) → IsChoice rows c → ⊥)) }
     ensures reason { let rows = rows_of (found_of below.now) in
         IfOk result (λ r. IfErr r (λ line. (name : List ℕ) → IsReason name rows (string_bytes line))) }
 {
     let written = first(below, "support");
-    let Some(support) = support_for(alloc, written)? else {
+    let Some(support) = support_value(alloc, written)? else {
         return Ok(Err(value_line(alloc, "support", SUPPORT, written)?));
     };
     let names = first(below, "import-only");
-    let Some(import_only) = imports_for(alloc, names)? else {
+    let Some(import_only) = imports_value(alloc, names)? else {
         return Ok(Err(value_line(alloc, "import-only", IMPORTS, names)?));
     };
     Ok(Ok(Selection {
@@ -101,7 +101,7 @@ fn selection_of(
 }
 
 // The job that the command of this name asks for, or a line about what is wrong.
-fn job_for(
+fn job_of_command(
     alloc: Global,
     name: &str,
     below: &ArgMatches<'_>,
@@ -120,7 +120,7 @@ fn job_for(
         return Ok(Err(value_line(alloc, "max-nodes", NODES, nodes)?));
     };
     let word = first(below, "kind");
-    let Some(kind) = kind_for(word) else {
+    let Some(kind) = kind_value(word) else {
         return Ok(Err(value_line(alloc, "kind", KINDS, word)?));
     };
     let Some(command) = command_of(alloc, name, below)? else {
@@ -154,7 +154,7 @@ pub fn job_of(alloc: Global, matches: &ArgMatches<'_>) -> Result<Result<Job, Str
     ensures limit { IfOk result (λ r. IfOk r HasLimit) }
 {
     match matches.subcommand() {
-        Some((name, below)) => match job_for(alloc, name, below)? {
+        Some((name, below)) => match job_of_command(alloc, name, below)? {
             Ok(job) => Ok(Ok(job)),
             Err(line) => Ok(Err(usage(alloc, line.as_str())?)),
         },

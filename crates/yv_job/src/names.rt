@@ -1,12 +1,12 @@
 //! Names and lists of them in a text of the command line.
 ghost use Rattle.std.specs.Prelude.{◌≡◌, ◌<◌, ◌==◌, ◌++◌, ◌∷◌, ℕ, List, map, length, IfOk, IfSome, MatchOption, string_bytes};
 ghost use Rattle.std.specs.List.{All, AllZip, list_all, slice_split};
-ghost use Rattle.yv_condition.specs.Names.{is_identifier};
+ghost use Rattle.yv_text_if_feature.specs.Names.{is_identifier};
 ghost use Rattle.yv_job.specs.Names.{IsIdentifier, IsNames, JoinsNames, IsEntry, IsSupport};
-ghost use Rattle.yv_selection.specs.Choice.{Entry, entry_of};
+ghost use Rattle.yv_statement.specs.Selection.{Entry, entry_of};
 
 use std::alloc::{AllocError, Global};
-use yv_condition::is_identifier;
+use yv_text_if_feature::is_identifier;
 
 // The parts of a text between the places where a character stands.
 fn pieces<'a>(alloc: Global, text: &'a str, at: char) -> Result<Vec<&'a str>, AllocError>
@@ -29,7 +29,7 @@ fn all_names(parts: &[&str]) -> bool
 }
 
 /// The texts, each in memory of its own.
-pub fn copied(alloc: Global, texts: &[&str]) -> Result<Vec<String>, AllocError>
+pub fn copy_texts(alloc: Global, texts: &[&str]) -> Result<Vec<String>, AllocError>
     ensures { IfOk result (λ v. map string_bytes v.items ≡ map (λ t. t.now) texts.now) }
 {
     let mut copies = Vec::new(alloc);
@@ -46,7 +46,7 @@ pub fn names_of(alloc: Global, text: &str) -> Result<Option<Vec<String>>, AllocE
 {
     let parts = pieces(alloc, text, ',')?;
     if all_names(&parts) {
-        Ok(Some(copied(alloc, &parts)?))
+        Ok(Some(copy_texts(alloc, &parts)?))
     } else {
         Ok(None)
     }
@@ -66,7 +66,7 @@ fn features_of(alloc: Global, text: &str) -> Result<Option<Vec<String>>, AllocEr
 
 // What stands before a text's first colon, and after it.
 fn cut(text: &str) -> Option<(&str, &str)>
-    ensures joined { IfSome result (λ p. p.0.now ++ (58 ∷ p.1.now) ≡ text.now) }
+    ensures joins { IfSome result (λ p. p.0.now ++ (58 ∷ p.1.now) ≡ text.now) }
     ensures first { (before after : List ℕ) → IsIdentifier before
         → before ++ (58 ∷ after) ≡ text.now
         → MatchOption result ⊥ (λ p. (p.0.now ≡ before) × (p.1.now ≡ after)) }

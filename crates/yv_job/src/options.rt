@@ -1,12 +1,12 @@
 //! The values of the options that all commands share.
 ghost use Rattle.std.specs.Prelude.{◌≡◌, ◌≤◌, ◌==◌, ℕ, List, slice_index, IfSome, IfOk, MatchOption, map, option_map, string_bytes};
 ghost use Rattle.yv_job.specs.Asks.{IsDecimal, IsLimit, IsSupportFor, IsImportsFor, IsKindFor};
-ghost use Rattle.yv_selection.specs.Choice.{Entry, entry_of};
-ghost use Rattle.yv_selection.specs.declared.kind.Kind.{Kind as TheKind};
+ghost use Rattle.yv_statement.specs.Selection.{Entry, entry_of};
+ghost use Rattle.yv_statement.specs.declared.document_kind.Kind.{Kind as TheKind};
 
 use crate::names::{names_of, support_of};
 use std::alloc::{AllocError, Global};
-use yv_selection::Kind;
+use yv_statement::Kind;
 
 const MOST_NODES: u32 = 1_000_000;
 
@@ -50,7 +50,7 @@ pub fn limit_of(value: Option<&str>) -> Option<u32>
 }
 
 /// The entries of the value of `--support`.
-pub fn support_for(
+pub fn support_value(
     alloc: Global,
     value: Option<&str>,
 ) -> Result<Option<Vec<(String, Vec<String>)>>, AllocError>
@@ -65,7 +65,7 @@ pub fn support_for(
 }
 
 /// The modules of the value of `--import-only`.
-pub fn imports_for(alloc: Global, value: Option<&str>) -> Result<Option<Vec<String>>, AllocError>
+pub fn imports_value(alloc: Global, value: Option<&str>) -> Result<Option<Vec<String>>, AllocError>
     ensures { let text = option_map (λ t. t.now) value.entry in
         IfOk result (λ o. MatchOption o ((ns : List (List ℕ)) → IsImportsFor text ns → ⊥)
         (λ v. IsImportsFor text (map string_bytes v.items))) }
@@ -77,7 +77,7 @@ pub fn imports_for(alloc: Global, value: Option<&str>) -> Result<Option<Vec<Stri
 }
 
 /// What the value of `--kind` asks for: all data where there is none.
-pub fn kind_for(value: Option<&str>) -> Option<Kind>
+pub fn kind_value(value: Option<&str>) -> Option<Kind>
     ensures { let text = option_map (λ t. t.now) value.entry in
         MatchOption result ((k : TheKind) → IsKindFor text k → ⊥) (IsKindFor text) }
 {

@@ -21,7 +21,7 @@ fn option<'a>(alloc: Global, id: &'a str, value: &'a str, help: &'a str) -> Arg<
 }
 
 // `--id VALUE`, exactly once.
-fn required<'a>(alloc: Global, id: &'a str, value: &'a str, help: &'a str) -> Arg<'a>
+fn required_option<'a>(alloc: Global, id: &'a str, value: &'a str, help: &'a str) -> Arg<'a>
     ensures rule { rule_of result ≡ required_rule id.entry.now }
     ensures local { result.global ≡ false }
 {
@@ -79,7 +79,7 @@ fn with_command<'a>(command: Command<'a>, below: Command<'a>) -> Result<Command<
 }
 
 // The command with what all commands take.
-fn shared<'a>(alloc: Global, command: Command<'a>) -> Result<Command<'a>, AllocError>
+fn with_shared_options<'a>(alloc: Global, command: Command<'a>) -> Result<Command<'a>, AllocError>
     requires { (fields_of command).has_globals ≡ false }
     ensures app { IfOk result (λ c. app_of c ≡ with_shared (app_of command.entry)) }
     ensures local { IfOk result (λ c. (fields_of c).has_globals ≡ false) }
@@ -104,7 +104,7 @@ fn compile<'a>(alloc: Global) -> Result<Command<'a>, AllocError>
         help::COMPILE_DETAILS,
         help::COMPILE_CLOSING,
     );
-    shared(alloc, command)
+    with_shared_options(alloc, command)
 }
 
 fn tree<'a>(alloc: Global) -> Result<Command<'a>, AllocError>
@@ -118,9 +118,9 @@ fn tree<'a>(alloc: Global) -> Result<Command<'a>, AllocError>
         help::TREE_DETAILS,
         help::TREE_CLOSING,
     );
-    let module = required(alloc, "module", "M", help::MODULE);
+    let module = required_option(alloc, "module", "M", help::MODULE);
     let drawing = with_arg(command, module)?;
-    shared(alloc, drawing)
+    with_shared_options(alloc, drawing)
 }
 
 fn validate<'a>(alloc: Global) -> Result<Command<'a>, AllocError>
@@ -134,11 +134,11 @@ fn validate<'a>(alloc: Global) -> Result<Command<'a>, AllocError>
         help::VALIDATE_DETAILS,
         help::VALIDATE_CLOSING,
     );
-    let data = required(alloc, "data", "F", help::DATA);
+    let data = required_option(alloc, "data", "F", help::DATA);
     let kind = option(alloc, "kind", "K", help::KIND);
     let checking = with_arg(command, data)?;
     let asking = with_arg(checking, kind)?;
-    shared(alloc, asking)
+    with_shared_options(alloc, asking)
 }
 
 // The program with none of its commands.

@@ -5,7 +5,7 @@ ghost use Rattle.yv_job.specs.Asks.{WordsAsk, AreUnderstood};
 ghost use Rattle.yv_job.specs.CommandLine.{yangcheck_app};
 ghost use Rattle.yv_job.specs.Faults.{IfUsage, OnHelp, AskForNothing, AskForHelp, AreRefused, TellsReason};
 ghost use Rattle.yv_job.specs.Jobs.{task_of, HasFiles, HasLimit};
-ghost use Rattle.yv_job.specs.Matched.{IsFaultFor};
+ghost use Rattle.yv_job.specs.Matches.{IsFaultFor};
 
 use crate::job::{Job, JobFault};
 use crate::matches::job_of;
@@ -14,7 +14,7 @@ use clap::error::ErrorKind;
 use clap::{ArgMatches, Error};
 use std::alloc::Global;
 
-fn matched<'a>(alloc: Global, words: &'a [String]) -> Result<ArgMatches<'a>, Error>
+fn match_words<'a>(alloc: Global, words: &'a [String]) -> Result<ArgMatches<'a>, Error>
     ensures ok { IfOk result (λ m. (fault_of yangcheck_app (map string_bytes words.now) ≡ [])
         × (subcommand_rows_of m ≡ subcommand_of yangcheck_app (map string_bytes words.now))) }
     ensures err { IfErr result (HasKind (fault_of yangcheck_app (map string_bytes words.now))) }
@@ -24,7 +24,7 @@ fn matched<'a>(alloc: Global, words: &'a [String]) -> Result<ArgMatches<'a>, Err
 }
 
 // What clap's error comes to.
-fn refused(alloc: Global, error: &Error) -> JobFault
+fn job_fault(alloc: Global, error: &Error) -> JobFault
     ensures { IsFaultFor (kind_of error.now) result }
 {
     if error.kind() == ErrorKind::OutOfMemory {
@@ -51,11 +51,11 @@ pub fn read_job(alloc: Global, words: &[String]) -> Result<Job, JobFault>
         AreUnderstood (map string_bytes words.now) ⊎ AreRefused (map string_bytes words.now))) }
     ensures help { IfErr result (λ f. OnHelp f (AskForHelp (map string_bytes words.now))) }
 {
-    match matched(alloc, words) {
+    match match_words(alloc, words) {
         Ok(matches) => match job_of(alloc, &matches)? {
             Ok(job) => Ok(job),
             Err(text) => Err(JobFault::Usage(text)),
         },
-        Err(error) => Err(refused(alloc, &error)),
+        Err(error) => Err(job_fault(alloc, &error)),
     }
 }

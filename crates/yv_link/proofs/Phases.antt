@@ -7,12 +7,12 @@ use Rattle.yv_statement.specs.declared.refusal.Code.{Code}
 use Rattle.yv_statement.specs.declared.refusal.Code.TheVariants as code
 use Rattle.yv_statement.specs.Order.{IsLeast, Stands, refusal_at}
 use Rattle.yv_statement.proofs.Least.{least_lesser}
-use Rattle.yv_rows.specs.Files.{Briefs, Files, brief_of}
-use Rattle.yv_rows.specs.Listed.{rows_of}
-use Rattle.yv_rows.specs.Rows.{Row}
-use Rattle.yv_modules.specs.Modules.{BadModules}
-use Rattle.yv_features.specs.Faults.{BadFeatures}
-use Rattle.yv_identities.specs.Faults.{BadIdentities}
+use Rattle.yv_link_scopes.specs.Files.{Briefs, Files, brief_of}
+use Rattle.yv_link_scopes.specs.RowList.{rows_of}
+use Rattle.yv_link_scopes.specs.Rows.{Row}
+use Rattle.yv_link_modules.specs.Modules.{BadModules}
+use Rattle.yv_link_features.specs.Refusals.{BadFeatures}
+use Rattle.yv_link_identities.specs.Refusals.{BadIdentities}
 use Rattle.yv_link.specs.Links.{BadLinks}
 
 abbrev failed : (A E : Type 0) → E → Result A E

@@ -1,3 +1,3 @@
 pub mod Modules
 pub mod Links
-pub mod Linked
+pub mod LinkedFiles

@@ -1,11 +1,11 @@
 -- What is wrong with modules, features and identities.
 use Rattle.std.specs.Prelude.{◌⊎◌, map}
 use Rattle.yv_statement.specs.declared.refusal.Refusal.{Refusal}
-use Rattle.yv_rows.specs.Files.{Files, brief_of}
-use Rattle.yv_rows.specs.Listed.{rows_of}
-use Rattle.yv_modules.specs.Modules.{BadModules}
-use Rattle.yv_features.specs.Faults.{BadFeatures}
-use Rattle.yv_identities.specs.Faults.{BadIdentities}
+use Rattle.yv_link_scopes.specs.Files.{Files, brief_of}
+use Rattle.yv_link_scopes.specs.RowList.{rows_of}
+use Rattle.yv_link_modules.specs.Modules.{BadModules}
+use Rattle.yv_link_features.specs.Refusals.{BadFeatures}
+use Rattle.yv_link_identities.specs.Refusals.{BadIdentities}
 
 -- f is wrong with the files: with modules, imports, prefixes and submodules; with features; or with identities
 abbrev pub BadLinks : Files → Refusal → Type 0

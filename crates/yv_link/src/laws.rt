@@ -2,19 +2,19 @@
 ghost use Rattle.std.specs.Prelude.{◌≡◌, ◌≤◌, ℕ, List};
 ghost use Rattle.yv_statement.specs.Codes.{phase_of};
 ghost use Rattle.yv_statement.specs.declared.refusal.Refusal.{Refusal};
-ghost use Rattle.yv_selection.specs.Choice.{Choice};
-ghost use Rattle.yv_rows.specs.Files.{Files};
-ghost use Rattle.yv_features.specs.On.{Holds};
+ghost use Rattle.yv_statement.specs.Selection.{Selected};
+ghost use Rattle.yv_link_scopes.specs.Files.{Files};
+ghost use Rattle.yv_link_features.specs.On.{Holds};
 ghost use Rattle.yv_link.specs.Links.{BadLinks};
-ghost use Rattle.yv_link.specs.Linked.{AreLinked, truth_in};
-ghost use Rattle.yv_link.specs.declared.linked.Linked.{Linked};
+ghost use Rattle.yv_link.specs.LinkedFiles.{AreLinked, truth_in};
+ghost use Rattle.yv_link.specs.declared.linked_files.Linked.{Linked};
 
 /// What linked files answer for an expression is its truth, whatever the file and the text.
 pub fn linked_files_tell_what_holds()
-    ensures { (files : Files) (choice : Choice) (linked : Linked) → AreLinked files choice linked
+    ensures { (files : Files) (choice : Selected) (linked : Linked) → AreLinked files choice linked
         → (file : ℕ) (text : List ℕ) → Holds files choice file text (truth_in linked file text) }
 {
-    yv_features::laws::features_tell_what_holds();
+    yv_link_features::laws::features_tell_what_holds();
 }
 
 /// What is wrong with modules, features and identities is refused in the phases 3, 4 and 5.

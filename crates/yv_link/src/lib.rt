@@ -3,12 +3,12 @@
 #![tactic(auto)]
 
 pub mod laws;
-mod linked;
-mod linking;
+mod link_files;
+mod linked_files;
 mod modules;
 
-pub use linked::Linked;
-pub use linking::link;
+pub use link_files::link;
+pub use linked_files::Linked;
 pub use modules::ModuleRef;
-pub use yv_identities::IdentityRef;
-pub use yv_selection::Selection;
+pub use yv_link_identities::IdentityRef;
+pub use yv_statement::Selection;

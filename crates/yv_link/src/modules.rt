@@ -1,13 +1,13 @@
 //! The modules among the files.
 ghost use Rattle.std.specs.Prelude.{◌≡◌, map, IfOk};
-ghost use Rattle.yv_selection.specs.Choice.{choice_of};
-ghost use Rattle.yv_rows.specs.Files.{brief};
-ghost use Rattle.yv_rows.specs.Lent.{files_in};
+ghost use Rattle.yv_statement.specs.Selection.{selected_of};
+ghost use Rattle.yv_link_scopes.specs.Files.{brief};
+ghost use Rattle.yv_link_scopes.specs.Views.{files_in};
 ghost use Rattle.yv_link.specs.Modules.{AreModules, ref_at, ref_of};
 
 use std::alloc::{AllocError, Global};
-use yv_rows::{File, Rows};
-use yv_selection::Selection;
+use yv_link_scopes::{File, Rows};
+use yv_statement::Selection;
 
 /// A module among the given files.
 #[derive(Clone, Copy, Debug, PartialEq, Eq)]
@@ -20,7 +20,7 @@ pub struct ModuleRef {
 
 // The module whose file this is, if it is one.
 fn module_ref(number: u32, file: &File<'_, '_>, selection: &Selection) -> Option<ModuleRef>
-    ensures { result ≡ ref_of (choice_of selection.now) number (brief file.now) }
+    ensures { result ≡ ref_of (selected_of selection.now) number (brief file.now) }
 {
     if file.is_module {
         Some(ModuleRef {
@@ -34,7 +34,7 @@ fn module_ref(number: u32, file: &File<'_, '_>, selection: &Selection) -> Option
 
 // The module whose file has this number, if it is one.
 fn module_at(rows: &Rows<'_, '_>, selection: &Selection, number: usize) -> Option<ModuleRef>
-    ensures { result ≡ ref_at (choice_of selection.now) (files_in rows.now) number }
+    ensures { result ≡ ref_at (selected_of selection.now) (files_in rows.now) number }
 {
     let file = rows.files().get(number)?;
     module_ref(number as u32, file, selection)
@@ -46,7 +46,7 @@ pub(crate) fn read_modules(
     rows: &Rows<'_, '_>,
     selection: &Selection,
 ) -> Result<Vec<Option<ModuleRef>>, AllocError>
-    ensures { IfOk result (λ modules. AreModules (choice_of selection.now) (files_in rows.now) modules.items) }
+    ensures { IfOk result (λ modules. AreModules (selected_of selection.now) (files_in rows.now) modules.items) }
 {
     let mut modules = Vec::new(alloc);
     for number in 0..rows.files().len() {

@@ -1,2 +1,3 @@
 mod Retyping
 pub mod Behind
+mod Keyed

@@ -4,8 +4,8 @@ use Rattle.std.proofs.lemmas.Option.{slice_get_past}
 use Rattle.yv_values.specs.Types.{Plain}
 use Rattle.yv_nodes.specs.declared.node.NodeId.{NodeId}
 use Rattle.yv_nodes.specs.Rows.{Row, blank_row, root}
-use Rattle.yv_nodes.specs.Typed.{typed_row, typed_rows, types_at, types_from}
-use Rattle.yv_nodes.specs.InnerTyped.{retyped}
+use Rattle.yv_nodes.specs.NodeTypes.{typed_row, typed_rows, types_at, types_from}
+use Rattle.yv_nodes.specs.InnerTypes.{with_own_types}
 
 same : (b : Option Row) → option_map (λ (r : Row). r) b ≡ b
 same None = refl
@@ -14,7 +14,7 @@ same (Some r) = refl
 -- the last of these types are given to the row of their number: the others are still to be given
 pub last_given : (lists : List (List Plain)) (types : List Plain) (n : ℕ) (a b : Option Row)
     → (n ≡ length lists → a ≡ option_map (typed_row types) b) → (n ≢ length lists → a ≡ b)
-    → option_map (retyped lists n) a ≡ option_map (retyped (lists ++ types ∷ []) n) b
+    → option_map (with_own_types lists n) a ≡ option_map (with_own_types (lists ++ types ∷ []) n) b
 last_given [] types zero a b here elsewhere = same a ∙ here refl
 last_given [] types (suc m) a b here elsewhere = ap (option_map (λ (r : Row). r)) (elsewhere (λ e. omega (arith, e)))
 last_given (first ∷ lists) types zero a b here elsewhere = ap (option_map (typed_row first)) (elsewhere (λ e. omega (arith, e)))
@@ -22,7 +22,7 @@ last_given (first ∷ lists) types (suc m) a b here elsewhere =
     last_given lists types m a b (λ e. here (ap suc e)) (λ n. elsewhere (λ e. n (omega (arith, e))))
 
 -- where none is left, all are given
-pub all_given : (n : ℕ) (a : Option Row) → option_map (retyped [] n) a ≡ a
+pub all_given : (n : ℕ) (a : Option Row) → option_map (with_own_types [] n) a ≡ a
 all_given n a = ap (λ (t : Option (List Plain)). option_map (λ (row : Row). elim t [ None ↦ row | Some types ↦ typed_row types row ]) a) (slice_get_past [] n (omega arith)) ∙ same a
 
 some_one : (a b : Row) → Some a ≡ Some b → a ≡ b
@@ -31,7 +31,7 @@ some_one a b e = let h : Some a ≡ Some b = e in cc
 -- rows that are these row by row
 pub by_number : (types : ℕ → List Plain) (first : ℕ) (lists : List (List Plain)) (old new : List Row) → length lists ≡ length old → length new ≡ length old
     → ((n : ℕ) (t : List Plain) → slice_get lists n ≡ Some t → t ≡ types (first + n))
-    → ((n : ℕ) → slice_get new n ≡ option_map (retyped lists n) (slice_get old n)) → new ≡ typed_rows types first old
+    → ((n : ℕ) → slice_get new n ≡ option_map (with_own_types lists n) (slice_get old n)) → new ≡ typed_rows types first old
 by_number types first [] [] [] long short told each = refl
 by_number types first (t ∷ lists) (o ∷ old) (n ∷ new) long short told each =
     ap₂ (λ (r : Row) (rs : List Row). r ∷ rs)

@@ -4,7 +4,9 @@ pub mod Link
 pub mod Rows
 pub mod Numbers
 pub mod Member
-pub mod Refused
+pub mod Refusals
 pub mod Defaults
-pub mod Typed
-pub mod InnerTyped
+pub mod NodeTypes
+pub mod InnerTypes
+pub mod Labels
+pub mod Above

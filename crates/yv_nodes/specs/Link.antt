@@ -1,8 +1,8 @@
 -- Where the paths of leafrefs lead (RFC 7950, section 9.9.2).
 use Rattle.std.specs.Prelude.{◌≡◌, ℕ, ◌+◌, ◌-◌, ◌==◌, ◌&&◌, ◌||◌, if◌then◌else◌, List, [], ◌∷◌, ◌⊎◌, Bool, false, Option, Some, None}
 use Rattle.std.specs.List.{slice_index_or}
-use Rattle.yv_properties.specs.declared.kind.NodeKind.{NodeKind}
-use Rattle.yv_properties.specs.declared.kind.NodeKind.TheVariants as kind
+use Rattle.yv_node_definition.specs.declared.kind.NodeKind.{NodeKind}
+use Rattle.yv_node_definition.specs.declared.kind.NodeKind.TheVariants as kind
 use Rattle.yv_nodes.specs.Tree.{count, node, Forest, no_trees, tree}
 
 -- the path of a leafref: how many `../` it begins with, or None where it is absolute; the numbers of the data nodes on its way down, and
@@ -14,9 +14,9 @@ pub record Link : Type 0 where
   pub is_required : Bool
 
 -- what as many `../` climb to, of what is around a node from the closest on, or the top: each `../` leaves one data node
-abbrev pub climbed : {A : Type 0} → A → Option ℕ → List A → A
-climbed top None up = top
-climbed top (Some k) up = slice_index_or up (k - 1) top
+abbrev pub climb : {A : Type 0} → A → Option ℕ → List A → A
+climb top None up = top
+climb top (Some k) up = slice_index_or up (k - 1) top
 
 -- the trees below a node, and the number of the first node in them
 pub record Ground : Type 0 where
@@ -45,7 +45,7 @@ Leads first (tree (node l kids) ts) path target =
 -- `up` is below each of the data nodes around, from the closest on
 abbrev pub IsLinked : Option Link → Ground → List Ground → Type 0
 IsLinked None top up = Unit {0}
-IsLinked (Some link) top up = let from = climbed top link.climbs up in Leads from.first from.trees link.steps link.target
+IsLinked (Some link) top up = let from = climb top link.climbs up in Leads from.first from.trees link.steps link.target
 
 abbrev pub KindLinked : NodeKind → Option Link → Ground → List Ground → Ground → (List Ground → Type 0) → Type 0
 KindLinked kind.Leaf link top up own Below = IsLinked link top up

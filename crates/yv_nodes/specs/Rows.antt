@@ -2,7 +2,7 @@
 use Rattle.std.specs.Prelude.{◌≡◌, ℕ, ◌+◌, ◌-◌, ◌<◌, ◌≤◌, ◌==◌, List, [], ◌∷◌, length, drop, Bool, false, Option, Some, if◌then◌else◌, slice_get}
 use Rattle.std.specs.List.{slice_index_or}
 use Rattle.yv_nodes.specs.declared.node.NodeId.{NodeId}
-use Rattle.yv_properties.specs.Defined.{blank as blank_defined}
+use Rattle.yv_node_definition.specs.Definition.{blank as blank_defined}
 use Rattle.yv_nodes.specs.Link.{Link}
 use Rattle.yv_nodes.specs.Tree.{Label, Tree, node, Forest, no_trees, tree}
 
@@ -13,7 +13,7 @@ pub record Row : Type 0 where
   pub children : List NodeId
 
 -- rows within a limit, and how many of them the memory that was asked for has room for
-pub record Bounded : Type 0 where
+pub record WithinLimit : Type 0 where
   pub limit : ℕ
   pub capacity : ℕ
   pub rows : List Row
@@ -22,12 +22,12 @@ pub record Bounded : Type 0 where
 pub record Module : Type 0 where
   pub name : List ℕ
   pub prefix : List ℕ
-  pub home : ℕ
+  pub module_file : ℕ
 
--- an `augment` statement at the top of a module, the number of whose file is `home`: its argument, the node to which that leads, and
+-- an `augment` statement at the top of a module, the number of whose file is `module_file`: its argument, the node to which that leads, and
 -- the nodes that it adds below it
 pub record Note : Type 0 where
-  pub home : ℕ
+  pub module_file : ℕ
   pub argument : List ℕ
   pub target : NodeId
   pub nodes : List NodeId
@@ -51,7 +51,7 @@ abbrev pub blank_row : Row
 blank_row = record {
   label = record {
     defined = blank_defined;
-    home = 0;
+    module_file = 0;
     module_name = [];
     member = [];
     is_config = false;

@@ -6,7 +6,7 @@ ghost use Rattle.std.specs.Rc.{rc_slice_items, rc_str_bytes};
 use std::alloc::{AllocError, Global};
 use std::marker::Model;
 use std::rc::{RcSlice, RcStr};
-use yv_properties::{Definition, NodeKind, NodeStatus, PathPiece, PathStep, WrittenText};
+use yv_node_definition::{Definition, NodeKind, NodeStatus, PathPiece, PathStep, WrittenText};
 use yv_statement::{Code, Refusal};
 use yv_values::{Defaults, PlainType, Value};
 
@@ -25,7 +25,7 @@ impl NodeId {
 
 /// The place of a node in the schema tree: what the nodes above it make of it.
 #[derive(Clone, Copy, Debug, PartialEq, Eq)]
-pub struct Standing {
+pub struct NodePlace {
     /// Whether a JSON member of the node has the module's name in front.
     pub is_qualified: bool,
     /// Whether the node is configuration.
@@ -40,9 +40,9 @@ pub struct Standing {
 #[derive(Drop)]
 pub struct Node {
     definition: Definition,
-    home: u32,
+    module_file: u32,
     module: RcStr,
-    standing: Standing,
+    standing: NodePlace,
     parent: NodeId,
     children: Vec<NodeId>,
 }
@@ -54,33 +54,33 @@ impl Model for Node {
 
     ghost Value = { Row };
 
-    ghost view = { λ n. row_with n.definition n.home (rc_str_bytes n.module) n.standing n.parent n.children.items };
+    ghost view = { λ n. row_with n.definition n.module_file (rc_str_bytes n.module) n.standing n.parent n.children.items };
 }
 
 impl Node {
     ghost use Rattle.yv_values.specs.Types.{plain_of};
     ghost use Rattle.yv_values.specs.Same.{has_same};
-    ghost use Rattle.yv_properties.specs.Defined.{defaults_said, is_empty, own_default, paths_in, written_of};
+    ghost use Rattle.yv_node_definition.specs.Definition.{defaults_said, is_empty, own_default, paths_in, written_of};
     ghost use Rattle.yv_nodes.specs.Defaults.{defaults_of, width};
-    ghost use Rattle.yv_nodes.specs.Refused.{refusal_of};
+    ghost use Rattle.yv_nodes.specs.Refusals.{refusal_of};
     ghost use Rattle.yv_nodes.specs.Member.{behind, row_with};
-    ghost use Rattle.yv_nodes.specs.Typed.{typed_row};
+    ghost use Rattle.yv_nodes.specs.NodeTypes.{typed_row};
 
-    /// The node that a statement defines, in the namespace of the module of this name, the number of whose file is `home`, which
+    /// The node that a statement defines, in the namespace of the module of this name, the number of whose file is `module_file`, which
     /// has this place in the tree, with these numbers of the node above it and of those below it.
     pub fn new(
         definition: Definition,
-        home: u32,
+        module_file: u32,
         module_name: RcStr,
-        standing: Standing,
+        standing: NodePlace,
         parent: NodeId,
         children: Vec<NodeId>,
     ) -> Node
-        ensures { result ≡ row_with definition home (rc_str_bytes module_name) standing parent children.items }
+        ensures { result ≡ row_with definition module_file (rc_str_bytes module_name) standing parent children.items }
     {
         Node {
             definition,
-            home,
+            module_file,
             module: module_name,
             standing,
             parent,
@@ -110,7 +110,7 @@ impl Node {
     }
 
     /// The refusal of this code at the statement that defines the node, where it is wrong.
-    pub fn refused(&self, is_wrong: bool, code: Code) -> Option<Refusal>
+    pub fn refusal_if(&self, is_wrong: bool, code: Code) -> Option<Refusal>
         ensures { result ≡ (if is_wrong then Some (refusal_of code self.now.label) else None) }
     {
         if is_wrong {
@@ -133,10 +133,10 @@ impl Node {
     }
 
     /// The number of the file of the module whose namespace the node is in. Nodes of one module have one number.
-    pub fn home(&self) -> u32
-        ensures { result ≡ self.now.label.home }
+    pub fn module_file(&self) -> u32
+        ensures { result ≡ self.now.label.module_file }
     {
-        self.home
+        self.module_file
     }
 
     /// The name of the module whose namespace the node is in.
@@ -177,7 +177,7 @@ impl Node {
 
     /// The name of the module before the name of such a member, over the text that its nodes share, where there is one.
     pub fn shared_qualifier(&self) -> Result<Option<RcStr>, AllocError>
-        ensures { IfOk result (λ home. self.now.label.member ≡ behind (option_map rc_str_bytes home) self.now.label.defined.name) }
+        ensures { IfOk result (λ module_file. self.now.label.member ≡ behind (option_map rc_str_bytes module_file) self.now.label.defined.name) }
     {
         if self.standing.is_qualified {
             Ok(Some(self.module.clone()?))

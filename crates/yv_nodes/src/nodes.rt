@@ -1,8 +1,8 @@
 //! Numbered nodes.
 ghost use Rattle.std.specs.Prelude.{◌≡◌, ◌≢◌, ◌<◌, ◌≤◌, All, ℕ, [], ◌∷◌, ◌++◌, length, map, slice_get, IfErr, IfOk, OnErr, OnOk};
 ghost use Rattle.std.specs.Option.{option_map};
-ghost use Rattle.yv_nodes.specs.Typed.{typed_row, types_at};
-ghost use Rattle.yv_nodes.specs.InnerTyped.{retyped, types_in};
+ghost use Rattle.yv_nodes.specs.NodeTypes.{typed_row, types_at};
+ghost use Rattle.yv_nodes.specs.InnerTypes.{with_own_types, types_in};
 
 use crate::node::{Node, NodeId};
 use std::alloc::{AllocError, Global};
@@ -31,7 +31,7 @@ fn types_of(
 fn set_types(nodes: &mut Vec<Node>, mut lists: Vec<RcSlice<PlainType>>)
     requires { length lists.items ≡ length nodes.now.items }
     ensures each { length nodes.new.items ≡ length nodes.old.items }
-    ensures rows { (n : ℕ) → slice_get nodes.new.items n ≡ option_map (retyped (map types_in lists.items) n) (slice_get nodes.old.items n) }
+    ensures rows { (n : ℕ) → slice_get nodes.new.items n ≡ option_map (with_own_types (map types_in lists.items) n) (slice_get nodes.old.items n) }
 {
     while let Some(types) = lists.pop() {
         retype(nodes, lists.len(), types);
@@ -58,9 +58,9 @@ pub struct Nodes {
 
 impl Model for Nodes {
     ghost use Rattle.std.specs.Prelude.{◌≤◌, length, vec_capacity};
-    ghost use Rattle.yv_nodes.specs.Rows.{Bounded, StandBehind};
+    ghost use Rattle.yv_nodes.specs.Rows.{WithinLimit, StandBehind};
 
-    ghost Value = { Bounded };
+    ghost Value = { WithinLimit };
 
     ghost view = { λ a. record { limit = a.limit; capacity = vec_capacity a.nodes; rows = a.nodes.items } };
 
@@ -70,7 +70,7 @@ impl Model for Nodes {
 impl Nodes {
     ghost use Rattle.std.specs.List.{slice_index_or};
     ghost use Rattle.yv_nodes.specs.Rows.{StandBehind, blank_row, rank};
-    ghost use Rattle.yv_nodes.specs.Typed.{typed_rows, types_from};
+    ghost use Rattle.yv_nodes.specs.NodeTypes.{typed_rows, types_from};
 
     /// No nodes.
     pub fn new(alloc: Global, limit: u32) -> Nodes
@@ -106,7 +106,7 @@ impl Nodes {
         requires room { length self.old.rows < self.old.limit }
         requires parent { rank node.parent ≤ length self.old.rows }
         ensures rows { OnOk result (self.new.rows ≡ self.old.rows ++ node ∷ []) }
-        ensures kept { OnErr result (self.new.rows ≡ self.old.rows) }
+        ensures keeps { OnErr result (self.new.rows ≡ self.old.rows) }
         ensures full { OnErr result (self.old.capacity ≤ length self.old.rows) }
         ensures limit { self.new.limit ≡ self.old.limit }
     {
@@ -121,7 +121,7 @@ impl Nodes {
         requires within { All (λ origin. origin.0 < length self.now.rows) origins.now }
         ensures rows { OnOk result (self.new.rows ≡ typed_rows (types_from self.old.rows origins.now) 0 self.old.rows) }
         ensures limit { self.new.limit ≡ self.old.limit }
-        ensures kept { IfErr result (λ error. self.new.rows ≡ self.old.rows) }
+        ensures keeps { IfErr result (λ error. self.new.rows ≡ self.old.rows) }
     {
         let types = types_of(alloc, &self.nodes, origins)?;
         set_types(&mut self.nodes, types);

@@ -7,7 +7,7 @@ use Rattle.std.proofs.lemmas.Bool.{eqb-true}
 use Rattle.yv_pattern.specs.declared.mark.Mark.{Mark}
 use Rattle.yv_pattern.specs.declared.mark.Mark.TheVariants as mark
 use Rattle.yv_pattern.specs.declared.part.Part.TheVariants as part
-use Rattle.yv_pattern.specs.declared.part.Found.{Found}
+use Rattle.yv_pattern.specs.declared.part.FoundPart.{FoundPart}
 use Rattle.yv_pattern.specs.declared.place.Place.{Place}
 use Rattle.yv_pattern.specs.declared.place.Place.TheVariants.{Outside, First, Inside}
 use Rattle.yv_pattern.specs.Classes as class
@@ -17,10 +17,10 @@ use Rattle.yv_pattern.specs.Atoms.{IsSingle, begins_turned}
 use Rattle.yv_pattern.specs.Counts.{IsTimes}
 use Rattle.yv_pattern.specs.Grammar as grammar
 use Rattle.yv_pattern.specs.InnerGrammar as inner
-use Rattle.yv_pattern.specs.InnerClasses.{sized, closes, item_or_end}
-use Rattle.yv_pattern.specs.InnerParts.{part_at, place_after, after_item, mark_of, mark_outside, written}
-use Rattle.yv_pattern.specs.InnerCut as cut
-use Rattle.yv_pattern.specs.InnerCut.{Item, Cut, item_of, marks, IsReadAs}
+use Rattle.yv_pattern.specs.InnerClasses.{part_of_size, closes, item_or_end}
+use Rattle.yv_pattern.specs.InnerParts.{part_at, place_after, after_item, mark_of, mark_outside, translation}
+use Rattle.yv_pattern.specs.InnerItems as cut
+use Rattle.yv_pattern.specs.InnerItems.{Item, ReadsAs, item_of, marks, IsReadAs}
 use Rattle.yv_pattern.proofs.Taken.{IsToken, single, times, opening, closing, bar, TokenFound, PartFound, part_sound, ItemFound, item_sound}
 use Rattle.yv_pattern.proofs.Items.{item_opens}
 use Rattle.yv_pattern.proofs.Tests.{test, some_is}
@@ -69,53 +69,53 @@ taken : (xs own rest : List ℕ) (n : ℕ) → xs ≡ own ++ rest → n ≡ leng
 taken xs own rest n e z = (λ i. take (z i) (e i)) ∙ take-append_seam own rest
 
 -- an item before what goes on in the class
-more_items : (first : Bool) (p : Place) (xs : List ℕ) (f : Found) (is : List Item) → mark_of p f.part ≡ None → (i : ItemFound first xs f) → Means Inside i.rest is → InClass first xs (item_of p f xs ∷ is)
+more_items : (first : Bool) (p : Place) (xs : List ℕ) (f : FoundPart) (is : List Item) → mark_of p f.part ≡ None → (i : ItemFound first xs f) → Means Inside i.rest is → InClass first xs (item_of p f xs ∷ is)
 more_items first p xs f is m i (inl c) =
     let shut : closes i.rest ≡ true = ap closes c.cs_is in
     record {
       own = i.own;
-      bytes = written f.part i.own;
+      bytes = translation f.part i.own;
       rest = c.rest;
       out = c.out;
       cs_is = i.is ∙ ap (λ (x : List ℕ). i.own ++ x) c.cs_is;
-      spelled = class.one first i.own (written f.part i.own) (subst (λ (b : Bool). IsItem first b i.own (written f.part i.own)) shut i.spelled);
+      spelled = class.one first i.own (translation f.part i.own) (subst (λ (b : Bool). IsItem first b i.own (translation f.part i.own)) shut i.spelled);
       tokens = subst (λ (o : Option Mark). AreTokens c.rest (option_to_list o ++ marks is) c.out) (sym m) c.tokens;
-      out_is = ap (λ (x : List ℕ). written f.part x ++ bytes_of is) (taken xs i.own i.rest f.size i.is i.size) ∙ ap (λ (x : List ℕ). written f.part i.own ++ x) c.out_is;
+      out_is = ap (λ (x : List ℕ). translation f.part x ++ bytes_of is) (taken xs i.own i.rest f.size i.is i.size) ∙ ap (λ (x : List ℕ). translation f.part i.own ++ x) c.out_is;
     }
 more_items first p xs f is m i (inr c) =
     let shut : closes i.rest ≡ false = ap closes c.cs_is ∙ items_open false c.own c.bytes (93 ∷ c.rest) c.spelled in
     record {
       own = i.own ++ c.own;
-      bytes = written f.part i.own ++ c.bytes;
+      bytes = translation f.part i.own ++ c.bytes;
       rest = c.rest;
       out = c.out;
       cs_is = i.is ∙ ap (λ (x : List ℕ). i.own ++ x) c.cs_is ∙ sym (append_assoc i.own c.own (93 ∷ c.rest));
-      spelled = class.more first i.own (written f.part i.own) c.own c.bytes (subst (λ (b : Bool). IsItem first b i.own (written f.part i.own)) shut i.spelled) c.spelled;
+      spelled = class.more first i.own (translation f.part i.own) c.own c.bytes (subst (λ (b : Bool). IsItem first b i.own (translation f.part i.own)) shut i.spelled) c.spelled;
       tokens = subst (λ (o : Option Mark). AreTokens c.rest (option_to_list o ++ marks is) c.out) (sym m) c.tokens;
-      out_is = ap (λ (x : List ℕ). written f.part x ++ bytes_of is) (taken xs i.own i.rest f.size i.is i.size) ∙ ap (λ (x : List ℕ). written f.part i.own ++ x) c.out_is ∙ sym (append_assoc (written f.part i.own) c.bytes (93 ∷ c.out));
+      out_is = ap (λ (x : List ℕ). translation f.part x ++ bytes_of is) (taken xs i.own i.rest f.size i.is i.size) ∙ ap (λ (x : List ℕ). translation f.part i.own ++ x) c.out_is ∙ sym (append_assoc (translation f.part i.own) c.bytes (93 ∷ c.out));
     }
 
-from_item : (first : Bool) (p : Place) (xs : List ℕ) (f : Found) (is : List Item) → mark_of p f.part ≡ None → after_item p ≡ Inside → ItemFound first xs f → Means (place_after p f.part) (drop f.size xs) is → InClass first xs (item_of p f xs ∷ is)
+from_item : (first : Bool) (p : Place) (xs : List ℕ) (f : FoundPart) (is : List Item) → mark_of p f.part ≡ None → after_item p ≡ Inside → ItemFound first xs f → Means (place_after p f.part) (drop f.size xs) is → InClass first xs (item_of p f xs ∷ is)
 from_item first p xs f is m a i s =
     more_items first p xs f is m i (subst (λ (q : Place). Means q i.rest is) (i.place p ∙ a) (subst (λ (ys : List ℕ). Means (place_after p f.part) ys is) (left xs i.own i.rest f.size i.is i.size) s))
 
-step_inside : (xs : List ℕ) (f : Found) (is : List Item) → item_or_end xs ≡ Some f → Means (place_after Inside f.part) (drop f.size xs) is → Means Inside xs (item_of Inside f xs ∷ is)
+step_inside : (xs : List ℕ) (f : FoundPart) (is : List Item) → item_or_end xs ≡ Some f → Means (place_after Inside f.part) (drop f.size xs) is → Means Inside xs (item_of Inside f xs ∷ is)
 step_inside [] f is e s = absurd (cc)
 step_inside (c ∷ cs) f is e s =
     test (c == 93) _ _ _ e
     (λ t e. inl (ended (eqb-true c 93 t) (some_is _ f e) s))
     (λ t e. inr (from_item false Inside (c ∷ cs) f is refl refl (item_sound false (c ∷ cs) f e) s))
   where
-    ended : c ≡ 93 → sized 1 part.ClassEnd ≡ f → Means (place_after Inside f.part) (drop f.size (c ∷ cs)) is → Closed (c ∷ cs) (item_of Inside f (c ∷ cs) ∷ is)
-    ended k g s = subst (λ (h : Found). Means (place_after Inside h.part) (drop h.size (c ∷ cs)) is → Closed (c ∷ cs) (item_of Inside h (c ∷ cs) ∷ is)) g (λ s. record { rest = cs; out = bytes_of is; cs_is = ap (λ (x : ℕ). x ∷ cs) k; tokens = s; out_is = refl }) s
+    ended : c ≡ 93 → part_of_size 1 part.ClassEnd ≡ f → Means (place_after Inside f.part) (drop f.size (c ∷ cs)) is → Closed (c ∷ cs) (item_of Inside f (c ∷ cs) ∷ is)
+    ended k g s = subst (λ (h : FoundPart). Means (place_after Inside h.part) (drop h.size (c ∷ cs)) is → Closed (c ∷ cs) (item_of Inside h (c ∷ cs) ∷ is)) g (λ s. record { rest = cs; out = bytes_of is; cs_is = ap (λ (x : ℕ). x ∷ cs) k; tokens = s; out_is = refl }) s
 
 -- a class as one token
-class_token : (opens bytes xs rest : List ℕ) (f : Found) (is : List Item) → xs ≡ opens ++ rest → f.size ≡ length opens → written f.part opens ≡ bytes → mark_outside f.part ≡ mark.Atom → (c : InClass true rest is) → IsSingle (opens ++ (c.own ++ 93 ∷ [])) (bytes ++ (c.bytes ++ 93 ∷ [])) → AreTokens xs (marks (item_of Outside f xs ∷ is)) (bytes_of (item_of Outside f xs ∷ is))
+class_token : (opens bytes xs rest : List ℕ) (f : FoundPart) (is : List Item) → xs ≡ opens ++ rest → f.size ≡ length opens → translation f.part opens ≡ bytes → mark_outside f.part ≡ mark.Atom → (c : InClass true rest is) → IsSingle (opens ++ (c.own ++ 93 ∷ [])) (bytes ++ (c.bytes ++ 93 ∷ [])) → AreTokens xs (marks (item_of Outside f xs ∷ is)) (bytes_of (item_of Outside f xs ∷ is))
 class_token opens bytes xs rest f is e z w m c s =
     let text : (opens ++ (c.own ++ 93 ∷ [])) ++ c.rest ≡ xs = append_assoc opens (c.own ++ 93 ∷ []) c.rest ∙ ap (λ (x : List ℕ). opens ++ x) (append_assoc c.own (93 ∷ []) c.rest ∙ sym c.cs_is) ∙ sym e in
-    let said : (bytes ++ (c.bytes ++ 93 ∷ [])) ++ c.out ≡ written f.part (take f.size xs) ++ bytes_of is =
-    append_assoc bytes (c.bytes ++ 93 ∷ []) c.out ∙ ap (λ (x : List ℕ). bytes ++ x) (append_assoc c.bytes (93 ∷ []) c.out ∙ sym c.out_is) ∙ ap (λ (x : List ℕ). x ++ bytes_of is) (sym w ∙ ap (written f.part) (sym (taken xs opens rest f.size e z))) in
-    subst (λ (ys : List ℕ). AreTokens ys (mark_outside f.part ∷ marks is) (written f.part (take f.size xs) ++ bytes_of is)) text
+    let said : (bytes ++ (c.bytes ++ 93 ∷ [])) ++ c.out ≡ translation f.part (take f.size xs) ++ bytes_of is =
+    append_assoc bytes (c.bytes ++ 93 ∷ []) c.out ∙ ap (λ (x : List ℕ). bytes ++ x) (append_assoc c.bytes (93 ∷ []) c.out ∙ sym c.out_is) ∙ ap (λ (x : List ℕ). x ++ bytes_of is) (sym w ∙ ap (translation f.part) (sym (taken xs opens rest f.size e z))) in
+    subst (λ (ys : List ℕ). AreTokens ys (mark_outside f.part ∷ marks is) (translation f.part (take f.size xs) ++ bytes_of is)) text
     (subst (λ (bs : List ℕ). AreTokens ((opens ++ (c.own ++ 93 ∷ [])) ++ c.rest) (mark_outside f.part ∷ marks is) bs) said
     (subst (λ (n : Mark). AreTokens ((opens ++ (c.own ++ 93 ∷ [])) ++ c.rest) (n ∷ marks is) ((bytes ++ (c.bytes ++ 93 ∷ [])) ++ c.out)) (sym m)
     (token _ _ c.rest c.out mark.Atom (marks is) (single _ _ s) c.tokens)))
@@ -124,33 +124,33 @@ not_turned : (xs own rest : List ℕ) → xs ≡ own ++ 93 ∷ rest → begins_t
 not_turned xs [] rest e h = refl
 not_turned xs (c ∷ cs) rest e h = sym (ap begins_turned e) ∙ h
 
-step_token : (xs : List ℕ) (f : Found) (is : List Item) (t : TokenFound xs f) → AreTokens t.rest (marks is) (bytes_of is) → AreTokens xs (marks (item_of Outside f xs ∷ is)) (bytes_of (item_of Outside f xs ∷ is))
+step_token : (xs : List ℕ) (f : FoundPart) (is : List Item) (t : TokenFound xs f) → AreTokens t.rest (marks is) (bytes_of is) → AreTokens xs (marks (item_of Outside f xs ∷ is)) (bytes_of (item_of Outside f xs ∷ is))
 step_token xs f is t s =
-    subst (λ (ys : List ℕ). AreTokens ys (mark_outside f.part ∷ marks is) (written f.part (take f.size xs) ++ bytes_of is)) (sym t.is)
-    (subst (λ (ys : List ℕ). AreTokens (t.own ++ t.rest) (mark_outside f.part ∷ marks is) (written f.part ys ++ bytes_of is)) (sym (taken xs t.own t.rest f.size t.is t.size))
-    (token t.own (written f.part t.own) t.rest (bytes_of is) (mark_outside f.part) (marks is) t.token s))
+    subst (λ (ys : List ℕ). AreTokens ys (mark_outside f.part ∷ marks is) (translation f.part (take f.size xs) ++ bytes_of is)) (sym t.is)
+    (subst (λ (ys : List ℕ). AreTokens (t.own ++ t.rest) (mark_outside f.part ∷ marks is) (translation f.part ys ++ bytes_of is)) (sym (taken xs t.own t.rest f.size t.is t.size))
+    (token t.own (translation f.part t.own) t.rest (bytes_of is) (mark_outside f.part) (marks is) t.token s))
 
-step_outside : (xs : List ℕ) (f : Found) (is : List Item) → PartFound xs f → Means (place_after Outside f.part) (drop f.size xs) is → Means Outside xs (item_of Outside f xs ∷ is)
+step_outside : (xs : List ℕ) (f : FoundPart) (is : List Item) → PartFound xs f → Means (place_after Outside f.part) (drop f.size xs) is → Means Outside xs (item_of Outside f xs ∷ is)
 step_outside xs f is (inl t) s =
     step_token xs f is t (subst (λ (q : Place). Means q t.rest is) t.place (subst (λ (ys : List ℕ). Means (place_after Outside f.part) ys is) (left xs t.own t.rest f.size t.is t.size) s))
 step_outside xs f is (inr (inl o)) s =
-    subst (λ (g : Found). Means (place_after Outside g.part) (drop g.size xs) is → Means Outside xs (item_of Outside g xs ∷ is)) (sym o.found)
+    subst (λ (g : FoundPart). Means (place_after Outside g.part) (drop g.size xs) is → Means Outside xs (item_of Outside g xs ∷ is)) (sym o.found)
     (λ s.
     let c = subst (λ (ys : List ℕ). InClass true ys is) (left xs (91 ∷ []) o.rest 1 o.is refl) s in
-    class_token (91 ∷ []) (91 ∷ []) xs o.rest (sized 1 part.Class) is o.is refl refl refl c (atom.class c.own c.bytes c.spelled (not_turned o.rest c.own c.rest c.cs_is o.plain))) s
+    class_token (91 ∷ []) (91 ∷ []) xs o.rest (part_of_size 1 part.Class) is o.is refl refl refl c (atom.class c.own c.bytes c.spelled (not_turned o.rest c.own c.rest c.cs_is o.plain))) s
 step_outside xs f is (inr (inr o)) s =
-    subst (λ (g : Found). Means (place_after Outside g.part) (drop g.size xs) is → Means Outside xs (item_of Outside g xs ∷ is)) (sym o.found)
+    subst (λ (g : FoundPart). Means (place_after Outside g.part) (drop g.size xs) is → Means Outside xs (item_of Outside g xs ∷ is)) (sym o.found)
     (λ s.
     let c = subst (λ (ys : List ℕ). InClass true ys is) (left xs (91 ∷ 94 ∷ []) o.rest 2 o.is refl) s in
-    class_token (91 ∷ 94 ∷ []) (91 ∷ 94 ∷ []) xs o.rest (sized 2 part.NotClass) is o.is refl refl refl c (atom.turned c.own c.bytes c.spelled)) s
+    class_token (91 ∷ 94 ∷ []) (91 ∷ 94 ∷ []) xs o.rest (part_of_size 2 part.NotClass) is o.is refl refl refl c (atom.inverted_class c.own c.bytes c.spelled)) s
 
-step : (p : Place) (xs : List ℕ) (f : Found) (is : List Item) → part_at p xs ≡ Some f → Means (place_after p f.part) (drop f.size xs) is → Means p xs (item_of p f xs ∷ is)
+step : (p : Place) (xs : List ℕ) (f : FoundPart) (is : List Item) → part_at p xs ≡ Some f → Means (place_after p f.part) (drop f.size xs) is → Means p xs (item_of p f xs ∷ is)
 step Outside xs f is e s = step_outside xs f is (part_sound xs f e) s
 step First xs f is e s = from_item true First xs f is refl refl (item_sound true xs f e) s
 step Inside xs f is e s = step_inside xs f is e s
 
-means : (p : Place) (cs : List ℕ) (is : List Item) → Cut p cs is → Means p cs is
-means _ _ _ cut.done = end
+means : (p : Place) (cs : List ℕ) (is : List Item) → ReadsAs p cs is → Means p cs is
+means _ _ _ cut.nothing = end
 means _ _ _ (cut.more p cs f is q c) = step p cs f is q (means (place_after p f.part) (drop f.size cs) is c)
 
 -- what begins the characters, and the tokens behind it
@@ -222,12 +222,12 @@ mutual
       let x = says_atom k ms a cs (ls ++ ns) bs (again ms ls ns t) in
       let y = says_branch k ls b x.rest ns x.out x.tokens in
       joined x y (grammar.piece x.own x.bytes y.own y.bytes x.spelled y.spelled)
-  says_branch k _ (inner.repeated ms ls a b) cs ns bs t =
+  says_branch k _ (inner.repetition ms ls a b) cs ns bs t =
       let x = says_atom k ms a cs (mark.Times ∷ ls ++ ns) bs (again ms (mark.Times ∷ ls) ns t) in
       let h = first_token x.rest mark.Times (ls ++ ns) x.out x.tokens in
       let y = says_branch k ls b h.rest ns h.out h.tokens in
       let e = times_of h.own h.bytes h.spelled in
-      let z = joined {R = λ xs ys. grammar.IsBranch k (x.own ++ xs) (x.bytes ++ ys)} h y (both_are (λ xs ys. grammar.IsBranch k (x.own ++ (xs ++ y.own)) (x.bytes ++ (ys ++ y.bytes))) _ _ _ _ refl e.1 (grammar.repeated x.own x.bytes h.own y.own y.bytes x.spelled e.0 y.spelled)) in
+      let z = joined {R = λ xs ys. grammar.IsBranch k (x.own ++ xs) (x.bytes ++ ys)} h y (both_are (λ xs ys. grammar.IsBranch k (x.own ++ (xs ++ y.own)) (x.bytes ++ (ys ++ y.bytes))) _ _ _ _ refl e.1 (grammar.repetition x.own x.bytes h.own y.own y.bytes x.spelled e.0 y.spelled)) in
       joined x z z.spelled
 
   says_atom : (k : ℕ) (ms : List Mark) → inner.IsAtom k ms → (cs : List ℕ) (ns : List Mark) (bs : List ℕ) → AreTokens cs (ms ++ ns) bs → Begun (grammar.IsAtom k) cs ns bs

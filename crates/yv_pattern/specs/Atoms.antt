@@ -12,7 +12,7 @@ begins_turned (c ∷ cs) = c == 94
 
 pub data IsSingle : List ℕ → List ℕ → Type 0 where
   plain : (c : ℕ) → list_any (λ x. c == x) (codes ".\\?*+{}()[]|") ≡ false → IsSingle (c ∷ []) (literal c)
-  escaped : (c d : ℕ) → Escapes c d → IsSingle (92 ∷ c ∷ []) (literal d)
+  escape : (c d : ℕ) → Escapes c d → IsSingle (92 ∷ c ∷ []) (literal d)
   any : IsSingle (codes ".") (codes "[^\\n\\r]")
   digit : IsSingle (codes "\\d") (codes "\\p{Nd}")
   not_digit : IsSingle (codes "\\D") (codes "\\P{Nd}")
@@ -26,4 +26,4 @@ pub data IsSingle : List ℕ → List ℕ → Type 0 where
       IsSingle (codes "\\P{" ++ name ++ codes "}") (encode_utf8_all (codes "\\P{" ++ name ++ codes "}"))
   class : (cs bs : List ℕ) → AreItems true cs bs → begins_turned cs ≡ false →
       IsSingle (codes "[" ++ cs ++ codes "]") (codes "[" ++ bs ++ codes "]")
-  turned : (cs bs : List ℕ) → AreItems true cs bs → IsSingle (codes "[^" ++ cs ++ codes "]") (codes "[^" ++ bs ++ codes "]")
+  inverted_class : (cs bs : List ℕ) → AreItems true cs bs → IsSingle (codes "[^" ++ cs ++ codes "]") (codes "[^" ++ bs ++ codes "]")

@@ -13,7 +13,7 @@ mutual
   pub data IsBranch : ℕ → List Mark → Type 0 where
     none : {k : ℕ} → IsBranch k []
     piece : {k : ℕ} (ms ns : List Mark) → IsAtom k ms → IsBranch k ns → IsBranch k (ms ++ ns)
-    repeated : {k : ℕ} (ms ns : List Mark) → IsAtom k ms → IsBranch k ns → IsBranch k (ms ++ Times ∷ ns)
+    repetition : {k : ℕ} (ms ns : List Mark) → IsAtom k ms → IsBranch k ns → IsBranch k (ms ++ Times ∷ ns)
 
   -- a plain one, or a pattern in parentheses
   pub data IsAtom : ℕ → List Mark → Type 0 where

@@ -6,7 +6,6 @@ mod category;
 mod character;
 mod class;
 mod count;
-mod expected;
 pub mod laws;
 mod mark;
 mod matchers;
@@ -16,6 +15,7 @@ mod patterns;
 mod place;
 mod reader;
 mod ready;
+mod size_estimate;
 
 pub use matchers::Matchers;
 pub use pattern::Pattern;

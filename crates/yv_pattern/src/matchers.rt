@@ -79,14 +79,14 @@ impl<'p> Matchers<'p> {
     ) -> Result<bool, AllocError>
         ensures { IfOk result (λ found. found ≡ verdict pattern.now text.now) }
     {
-        match self.slot_for(pattern, text) {
+        match self.slot_of(pattern, text) {
             Some(slot) => self.is_match_at(alloc, slot, pattern, text),
             None => pattern.is_match(alloc, text),
         }
     }
 
     // Where the matcher of a pattern is kept, if it is.
-    fn slot_for(&self, pattern: &Pattern, text: &str) -> Option<usize> {
+    fn slot_of(&self, pattern: &Pattern, text: &str) -> Option<usize> {
         let is_small = pattern.tables() <= MOST_TABLES && pattern.source().len() <= MOST_SOURCE;
         if !self.keeps || !is_small || text.len() > MOST_READ {
             return None;
@@ -105,7 +105,7 @@ impl<'p> Matchers<'p> {
         ensures { IfOk result (λ found. found ≡ verdict pattern.now text.now) }
     {
         self.turn_to(text)?;
-        let mut ready = self.ready_for(alloc, slot, pattern, text)?;
+        let mut ready = self.charge(alloc, slot, pattern, text)?;
         ready.note_turn(self.turn);
         let is_match = ready.is_match(text);
         self.keep(slot, ready)?;
@@ -127,7 +127,7 @@ impl<'p> Matchers<'p> {
     }
 
     // The matcher of a pattern, which is charged for what it may learn from the text.
-    fn ready_for(
+    fn charge(
         &mut self,
         alloc: Global,
         slot: usize,
@@ -136,18 +136,18 @@ impl<'p> Matchers<'p> {
     ) -> Result<Box<Ready<'p>>, AllocError>
         ensures { IfOk result (λ ready. ready.value ≡ pattern.now) }
     {
-        if let Some(ready) = self.taken(slot, pattern, text) {
-            let rows = self.rows_for(ready.turn(), text);
+        if let Some(ready) = self.take_from(slot, pattern, text) {
+            let rows = self.rows_of(ready.turn(), text);
             if self.charges(rows.saturating_mul(row(pattern))) {
                 return Ok(ready);
             }
         }
-        self.made(alloc, pattern, text)
+        self.make(alloc, pattern, text)
     }
 
     // How many rows a matcher may learn from a text, which read another one in this turn: one for each byte, and one for the end. What it
     // read then leads to rows that it has.
-    fn rows_for(&self, turn: u64, text: &str) -> usize {
+    fn rows_of(&self, turn: u64, text: &str) -> usize {
         if turn == self.turn {
             return 0;
         }
@@ -160,7 +160,7 @@ impl<'p> Matchers<'p> {
     }
 
     // Takes the matcher in a slot, where it is of this pattern and may read this text; another is dropped.
-    fn taken(&mut self, slot: usize, pattern: &Pattern, text: &str) -> Option<Box<Ready<'p>>>
+    fn take_from(&mut self, slot: usize, pattern: &Pattern, text: &str) -> Option<Box<Ready<'p>>>
         ensures { IfSome result (λ ready. ready.value ≡ pattern.now) }
     {
         let ready = self.slots.get_mut(slot)?.take()?;
@@ -173,7 +173,7 @@ impl<'p> Matchers<'p> {
     }
 
     // A new matcher, before which all others are dropped where they would hold too much together.
-    fn made(
+    fn make(
         &mut self,
         alloc: Global,
         pattern: &'p Pattern,

@@ -3,7 +3,7 @@ ghost use Rattle.std.specs.Prelude.{◌≡◌, ◌≢◌, ℕ, List, IfOk, IfErr
 ghost use Rattle.std.specs.Str.{chars};
 ghost use Rattle.yv_statement.specs.declared.refusal.Stop.TheVariants.{NoMemory};
 ghost use Rattle.yv_pattern.specs.Meaning.{verdict};
-ghost use Rattle.yv_pattern.specs.Spells.{Translates, IsRefusedAs, anchored, bad_pattern};
+ghost use Rattle.yv_pattern.specs.Spells.{Translates, IsRefusedAs, anchor, bad_pattern};
 
 use crate::reader::translate;
 use regex::{Error, Regex, RegexBuilder};
@@ -43,8 +43,8 @@ impl Pattern {
     /// place isn't known here. `PatternBuild` says that `regex` doesn't build the translation of a text of the dialect, as where
     /// it would take too much room.
     pub fn read(alloc: Global, text: &str) -> Result<Pattern, Stop>
-        ensures read { IfOk result (Translates text.now) }
-        ensures refused { IfErr result (IsRefusedAs text.now) }
+        ensures reads { IfOk result (Translates text.now) }
+        ensures refuses { IfErr result (IsRefusedAs text.now) }
     {
         match source_of(alloc, text)? {
             Some(source) => Pattern::within(alloc, source.as_str(), MOST_TABLES, None),
@@ -122,13 +122,13 @@ pub(crate) fn source_of(alloc: Global, text: &str) -> Result<Option<String>, All
 {
     let characters = characters_of(alloc, text)?;
     match translate(alloc, characters.as_slice())? {
-        Some(written) => Ok(Some(anchored(alloc, written.as_str())?)),
+        Some(written) => Ok(Some(anchor(alloc, written.as_str())?)),
         None => Ok(None),
     }
 }
 
-fn anchored(alloc: Global, written: &str) -> Result<String, AllocError>
-    ensures { IfOk result (λ s. string_bytes s ≡ anchored written.now) }
+fn anchor(alloc: Global, written: &str) -> Result<String, AllocError>
+    ensures { IfOk result (λ s. string_bytes s ≡ anchor written.now) }
 {
     let mut source = String::from_str(alloc, "\\A(?:")?;
     source.push_str(written)?;

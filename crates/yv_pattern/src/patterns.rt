@@ -2,8 +2,8 @@
 ghost use Rattle.std.specs.Prelude.{◌≡◌, ◌≢◌, ◌≤◌, IfOk, IfErr, IfSome, OnErr, string_bytes};
 ghost use Rattle.yv_pattern.specs.Spells.{Translates, IsRefusedAs};
 
-use crate::expected::expected_tables;
 use crate::pattern::{Pattern, bad_pattern, characters_of, source_of};
+use crate::size_estimate::expected_tables;
 use std::alloc::{AllocError, Global};
 use std::collections::BTreeMap;
 use std::marker::Model;
@@ -33,9 +33,9 @@ pub struct Patterns {
 
 impl Model for Patterns {
     ghost use Rattle.std.specs.Prelude.{map, string_bytes};
-    ghost use Rattle.yv_pattern.specs.Kept.{Kept};
+    ghost use Rattle.yv_pattern.specs.Store.{StoreView};
 
-    ghost Value = { Kept };
+    ghost Value = { StoreView };
 
     ghost view = { λ p. record { sources = map (λ e. string_bytes e.0) p.built.entries; room = p.room } };
 }
@@ -55,8 +55,8 @@ impl Patterns {
     /// which is 256 MiB for all patterns together, each taking 8 KiB at least. What was read before can be read again. After an
     /// error all is as before.
     pub fn read(&mut self, alloc: Global, text: &str) -> Result<Rc<Pattern>, Stop>
-        ensures read { IfOk result (λ p. Translates text.now p.value) }
-        ensures refused { IfErr result (IsRefusedAs text.now) }
+        ensures reads { IfOk result (λ p. Translates text.now p.value) }
+        ensures refuses { IfErr result (IsRefusedAs text.now) }
         ensures same { OnErr result (self.new ≡ self.old) }
     {
         match source_of(alloc, text)? {
@@ -71,12 +71,12 @@ impl Patterns {
         ensures kind { IfErr result (λ stop. (refusal : Refusal) → stop ≢ Stop.Fault refusal) }
         ensures same { OnErr result (self.new ≡ self.old) }
     {
-        if let Some(pattern) = self.known(source.as_str())? {
+        if let Some(pattern) = self.find(source.as_str())? {
             return Ok(pattern);
         }
-        let limits = limits_for(alloc, text, source.as_str())?;
+        let limits = limits_of(alloc, text, source.as_str())?;
         let number = self.built.len();
-        let (pattern, taken) = built(alloc, source.as_str(), limits, number, self.room)?;
+        let (pattern, taken) = build_within(alloc, source.as_str(), limits, number, self.room)?;
         let pattern = Rc::new(alloc, pattern)?;
         let copy = pattern.clone()?;
         self.built.insert(source, copy)?;
@@ -85,7 +85,7 @@ impl Patterns {
     }
 
     // The pattern that was built of a source. That it is the one of this source is looked at, and not kept as a fact.
-    fn known(&self, source: &str) -> Result<Option<Rc<Pattern>>, AllocError>
+    fn find(&self, source: &str) -> Result<Option<Rc<Pattern>>, AllocError>
         ensures { IfOk result (λ found. IfSome found (λ p. p.value ≡ source.now)) }
     {
         match self.built.get(source) {
@@ -102,7 +102,7 @@ impl Patterns {
 }
 
 // The pattern of a source, with this number, and the room that it is charged: the first of these limits with which `regex` builds it.
-fn built(
+fn build_within(
     alloc: Global,
     source: &str,
     limits: &[usize],
@@ -128,7 +128,7 @@ fn built(
 }
 
 // The limits that are worth trying for a text and its source, since each try reads it anew: tables aren't much smaller than what they are of.
-fn limits_for(alloc: Global, text: &str, source: &str) -> Result<&'static [usize], AllocError> {
+fn limits_of(alloc: Global, text: &str, source: &str) -> Result<&'static [usize], AllocError> {
     let characters = characters_of(alloc, text)?;
     let least = expected_tables(alloc, characters.as_slice())?.max(source.len());
     let skipped = LIMITS

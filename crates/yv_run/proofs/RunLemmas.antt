@@ -5,21 +5,21 @@ use Rattle.std.specs.declared.option.Option.TheVariants.{None, Some}
 use Rattle.std.specs.Option.{option_map}
 use Rattle.std.proofs.KnownBytes.{Consumes-nil}
 use Rattle.yv_statement.specs.declared.refusal.Refusal.{Refusal}
-use Rattle.yv_job.specs.Jobs.{Asked, Compiles, Draws, Checks, Task}
-use Rattle.yv_selection.specs.declared.kind.Kind.{Kind}
+use Rattle.yv_job.specs.Jobs.{CommandAsked, Compiles, Draws, Checks, Task}
+use Rattle.yv_statement.specs.declared.document_kind.Kind.{Kind}
 use Rattle.yv_nodes.specs.Rows.{Rows, whole}
 use Rattle.yv_validate.specs.Flaw.{Flaw}
 use Rattle.yv_streams.specs.Files.{File}
 use Rattle.yv_streams.specs.Stream.{TakesAtMost}
-use Rattle.yv_outcome.specs.Compiles.{FilesCompile, RefusedAt, Built}
-use Rattle.yv_outcome.specs.Document.{Reading, reading}
-use Rattle.yv_outcome.specs.Output.{Gives, IsStopped, Printed, ReadsData, count_printed, diagram_printed, refusal_printed}
-use Rattle.yv_outcome.specs.Told.{NotesData, NotesDiagram, NotesReading, faults_in}
-use Rattle.yv_outcome.specs.declared.status.Status.{Status}
+use Rattle.yv_run.specs.Compiles.{FilesCompile, RefusedAt, HasSchema}
+use Rattle.yv_run.specs.Document.{DocumentText, document_text}
+use Rattle.yv_run.specs.Output.{Gives, IsStopped, Page, ReadsData, count_printed, diagram_printed, refusal_printed}
+use Rattle.yv_run.specs.PersonNotes.{NotesData, NotesDiagram, NotesReading, faults_in}
+use Rattle.yv_run.specs.declared.status.Status.{Status}
 use Rattle.yv_run.specs.InnerRun.{HasNote, RunsData, RunsSchema}
 use Rattle.yv_run.specs.Notes.{RunsWithNote, TellsRefusal}
 use Rattle.yv_run.specs.Runs.{Runs, Writes}
-use Rattle.yv_run.specs.declared.running.Ended.{Ended}
+use Rattle.yv_run.specs.declared.whole_run.RunEnd.{RunEnd}
 
 -- some bytes are what a reader gives
 some_given : (known : Option (List ℕ)) → (given : List ℕ) × Gives known given
@@ -35,7 +35,7 @@ both P Q S (Err e) f p q = tt
 pub takes_none : (limit : ℕ) (known : Option (List ℕ)) → TakesAtMost limit known known
 takes_none limit known = record { taken = []; consumed = Consumes-nil known; few = zero-le }
 
-module _ (old new : Option (List ℕ)) (ended : Ended) where
+module _ (old new : Option (List ℕ)) (ended : RunEnd) where
   -- a refusal is written whatever the document is
   pub runs_refused : (known : Option (List ℕ)) (task : Task) (files : List File) (r : Refusal) → FilesCompile task.choice task.limit files (RefusedAt r)
       → Writes (refusal_printed files r) ended.status old new → HasNote (λ note. IsSomeAnd note (TellsRefusal files r)) ended
@@ -48,33 +48,33 @@ module _ (old new : Option (List ℕ)) (ended : Ended) where
       }
 
   -- and what was asked of a schema is written, where the files give one
-  pub runs_built : (unread rest : Option (List ℕ)) (task : Task) (files : List File) (s : Rows) → FilesCompile task.choice task.limit files (Built s)
+  pub runs_built : (unread rest : Option (List ℕ)) (task : Task) (files : List File) (s : Rows) → FilesCompile task.choice task.limit files (HasSchema s)
       → RunsSchema task.asked task.kind s ended unread rest old new → RunsWithNote task files ended unread rest old new
   runs_built unread rest task files s compiles runs = record {
-    runs = record { given = runs.given; gives = runs.gives; compiled = Built s; compiles = compiles; consumed = runs.consumed; writes = runs.writes };
+    runs = record { given = runs.given; gives = runs.gives; compiled = HasSchema s; compiles = compiles; consumed = runs.consumed; writes = runs.writes };
     noted = runs.noted;
   }
 
   -- the number of nodes is that of any document
-  pub runs_count : (known : Option (List ℕ)) (asked : Asked) (k : Kind) (s : Rows) → asked ≡ Compiles → Writes (count_printed (whole s)) ended.status old new
+  pub runs_count : (known : Option (List ℕ)) (asked : CommandAsked) (k : Kind) (s : Rows) → asked ≡ Compiles → Writes (count_printed (whole s)) ended.status old new
       → HasNote (λ note. note ≡ None) ended → RunsSchema asked k s ended known known old new
   runs_count known asked k s is writes noted =
       let d = some_given known in
       let runs : RunsSchema Compiles k s ended known known old new =
       record { given = d.0; gives = d.1; consumed = Consumes-nil known; writes = writes; noted = noted } in
-      subst (λ (a : Asked). RunsSchema a k s ended known known old new) (sym is) runs
+      subst (λ (a : CommandAsked). RunsSchema a k s ended known known old new) (sym is) runs
 
   -- and so is a diagram
-  pub runs_diagram : (known : Option (List ℕ)) (asked : Asked) (name : List ℕ) (k : Kind) (s : Rows) → asked ≡ Draws name
+  pub runs_diagram : (known : Option (List ℕ)) (asked : CommandAsked) (name : List ℕ) (k : Kind) (s : Rows) → asked ≡ Draws name
       → Writes (diagram_printed s name) ended.status old new → HasNote (NotesDiagram s name) ended → RunsSchema asked k s ended known known old new
   runs_diagram known asked name k s is writes noted =
       let d = some_given known in
       let runs : RunsSchema (Draws name) k s ended known known old new =
       record { given = d.0; gives = d.1; consumed = Consumes-nil known; writes = writes; noted = noted } in
-      subst (λ (a : Asked). RunsSchema a k s ended known known old new) (sym is) runs
+      subst (λ (a : CommandAsked). RunsSchema a k s ended known known old new) (sym is) runs
 
   -- what is said of a document is said where one is read
-  pub runs_document : (unread rest : Option (List ℕ)) (asked : Asked) (k : Kind) (s : Rows) → ReadsData asked → RunsData k s ended unread rest old new
+  pub runs_document : (unread rest : Option (List ℕ)) (asked : CommandAsked) (k : Kind) (s : Rows) → ReadsData asked → RunsData k s ended unread rest old new
       → RunsSchema asked k s ended unread rest old new
   runs_document unread rest Compiles k s reads runs = absurd reads
   runs_document unread rest (Draws name) k s reads runs = absurd reads
@@ -82,20 +82,20 @@ module _ (old new : Option (List ℕ)) (ended : Ended) where
       record { given = runs.given; gives = runs.gives; consumed = runs.consumed; writes = runs.writes; noted = runs.noted }
 
 -- a run without its note
-pub without_note : (task : Task) (files : List File) (ended : Ended) (unread rest old new : Option (List ℕ)) → IsStopped ended.status ⊎ RunsWithNote task files ended unread rest old new
+pub without_note : (task : Task) (files : List File) (ended : RunEnd) (unread rest old new : Option (List ℕ)) → IsStopped ended.status ⊎ RunsWithNote task files ended unread rest old new
     → IsStopped ended.status ⊎ Runs task files ended.status unread rest old new
 without_note task files ended unread rest old new (inl stopped) = inl stopped
 without_note task files ended unread rest old new (inr run) = inr run.runs
 
 -- what was written of one thing was written of what is the same
-pub writes_same : (status : Status) (old new : Option (List ℕ)) (p q : Printed) → p ≡ q → Writes p status old new → Writes q status old new
-writes_same status old new p q e writes = subst (λ (x : Printed). Writes x status old new) e writes
+pub writes_same : (status : Status) (old new : Option (List ℕ)) (p q : Page) → p ≡ q → Writes p status old new → Writes q status old new
+writes_same status old new p q e writes = subst (λ (x : Page). Writes x status old new) e writes
 
 -- the note on what was found of some bytes is the one on these
-pub notes_data : {A E : Type 0} (bytes_of : A → List ℕ) (k : Kind) (s : Rows) (given : List ℕ) (found : Reading) (fs : List Flaw) (r : Result (Option A) E)
-    → found ≡ reading given → fs ≡ faults_in k s (reading given) → IfOk r (λ o. NotesReading found fs given (option_map bytes_of o))
+pub notes_data : {A E : Type 0} (bytes_of : A → List ℕ) (k : Kind) (s : Rows) (given : List ℕ) (found : DocumentText) (fs : List Flaw) (r : Result (Option A) E)
+    → found ≡ document_text given → fs ≡ faults_in k s (document_text given) → IfOk r (λ o. NotesReading found fs given (option_map bytes_of o))
     → IfOk r (λ o. NotesData k s given (option_map bytes_of o))
 notes_data bytes_of k s given found fs r is same noted =
-    let whole : IfOk r (λ o. NotesReading found (faults_in k s (reading given)) given (option_map bytes_of o)) =
+    let whole : IfOk r (λ o. NotesReading found (faults_in k s (document_text given)) given (option_map bytes_of o)) =
     subst (λ (xs : List Flaw). IfOk r (λ o. NotesReading found xs given (option_map bytes_of o))) same noted in
-    subst (λ (x : Reading). IfOk r (λ o. NotesReading x (faults_in k s (reading given)) given (option_map bytes_of o))) is whole
+    subst (λ (x : DocumentText). IfOk r (λ o. NotesReading x (faults_in k s (document_text given)) given (option_map bytes_of o))) is whole

@@ -4,20 +4,20 @@ use Rattle.std.specs.Option.{option_map}
 use Rattle.std.specs.declared.option.Option.{Option}
 use Rattle.std.specs.Io.KnownBytes.{Consumes}
 use Rattle.yv_nodes.specs.Rows.{Rows}
-use Rattle.yv_job.specs.Jobs.{Asked}
-use Rattle.yv_selection.specs.declared.kind.Kind.{Kind}
-use Rattle.yv_outcome.specs.Output.{Gives, data_printed, schema_printed}
-use Rattle.yv_outcome.specs.Told.{NotesData}
+use Rattle.yv_job.specs.Jobs.{CommandAsked}
+use Rattle.yv_statement.specs.declared.document_kind.Kind.{Kind}
+use Rattle.yv_run.specs.Output.{Gives, data_printed, schema_printed}
+use Rattle.yv_run.specs.PersonNotes.{NotesData}
 use Rattle.yv_run.specs.Notes.{NotesSchema}
 use Rattle.yv_run.specs.Runs.{Writes, schema_read}
-use Rattle.yv_run.specs.declared.running.Ended.{Ended}
+use Rattle.yv_run.specs.declared.whole_run.RunEnd.{RunEnd}
 
 -- the note of a run, where there was memory for it, is this
-abbrev pub HasNote : (Option (List ℕ) → Type 0) → Ended → Type 0
+abbrev pub HasNote : (Option (List ℕ) → Type 0) → RunEnd → Type 0
 HasNote IsNote ended = IfOk ended.note (λ note. IsNote (option_map string_bytes note))
 
 -- what is said of some bytes was written, which the reader gave, and which are gone from it
-pub record RunsData (k : Kind) (s : Rows) (ended : Ended) (unread rest old new : Option (List ℕ)) : Type 0 where
+pub record RunsData (k : Kind) (s : Rows) (ended : RunEnd) (unread rest old new : Option (List ℕ)) : Type 0 where
   pub given : List ℕ
   pub gives : Gives unread given
   pub consumed : Consumes unread rest given
@@ -25,7 +25,7 @@ pub record RunsData (k : Kind) (s : Rows) (ended : Ended) (unread rest old new :
   pub noted : HasNote (NotesData k s given) ended
 
 -- what was asked of a schema was written
-pub record RunsSchema (asked : Asked) (k : Kind) (s : Rows) (ended : Ended) (unread rest old new : Option (List ℕ)) : Type 0 where
+pub record RunsSchema (asked : CommandAsked) (k : Kind) (s : Rows) (ended : RunEnd) (unread rest old new : Option (List ℕ)) : Type 0 where
   pub given : List ℕ
   pub gives : Gives unread given
   pub consumed : Consumes unread rest (schema_read asked given)

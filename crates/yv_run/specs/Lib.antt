@@ -1,3 +1,10 @@
+pub mod Lines
+pub mod InnerNumbers
+pub mod Document
+pub mod Status
+pub mod Compiles
+pub mod Output
+pub mod PersonNotes
 pub mod InnerRun
 pub mod Notes
 pub mod Runs

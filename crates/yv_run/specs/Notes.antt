@@ -5,16 +5,16 @@ use Rattle.std.specs.declared.option.Option.{Option}
 use Rattle.std.specs.declared.option.Option.TheVariants.{None}
 use Rattle.yv_statement.specs.declared.refusal.Refusal.{Refusal}
 use Rattle.yv_nodes.specs.Rows.{Rows}
-use Rattle.yv_job.specs.Jobs.{Asked, Compiles, Draws, Checks, Task}
-use Rattle.yv_selection.specs.declared.kind.Kind.{Kind}
+use Rattle.yv_job.specs.Jobs.{CommandAsked, Compiles, Draws, Checks, Task}
+use Rattle.yv_statement.specs.declared.document_kind.Kind.{Kind}
 use Rattle.yv_streams.specs.Files.{File}
-use Rattle.yv_messages.specs.Excerpt.{Explains}
-use Rattle.yv_messages.specs.Explained.{Speaks, bytes_at}
-use Rattle.yv_messages.specs.Unbuilt.{TellsPattern}
-use Rattle.yv_outcome.specs.Compiles.{Compiled, Built, RefusedAt}
-use Rattle.yv_outcome.specs.Told.{NotesData, NotesDiagram}
+use Rattle.yv_refusal_notes.specs.Excerpt.{Explains}
+use Rattle.yv_refusal_notes.specs.Explanations.{Speaks, bytes_at}
+use Rattle.yv_refusal_notes.specs.PatternFailure.{TellsPattern}
+use Rattle.yv_run.specs.Compiles.{Compilation, HasSchema, RefusedAt}
+use Rattle.yv_run.specs.PersonNotes.{NotesData, NotesDiagram}
 use Rattle.yv_run.specs.Runs.{Runs}
-use Rattle.yv_run.specs.declared.running.Ended.{Ended}
+use Rattle.yv_run.specs.declared.whole_run.RunEnd.{RunEnd}
 
 -- the text says why the files are refused
 pub record TellsRefusal (files : List File) (r : Refusal) (text : List ℕ) : Type 0 where
@@ -26,17 +26,18 @@ abbrev pub NotesPattern : List File → (note : Option (List ℕ)) → Type 0
 NotesPattern files note = IsSomeAnd note (TellsPattern files)
 
 -- the note on what was asked of a schema: none on the number of nodes
-abbrev pub NotesSchema : Asked → Kind → Rows → (given : List ℕ) → (note : Option (List ℕ)) → Type 0
+abbrev pub NotesSchema : CommandAsked → Kind → Rows → (given : List ℕ) → (note : Option (List ℕ)) → Type 0
 NotesSchema Compiles k s given note = note ≡ None
 NotesSchema (Draws name) k s given note = NotesDiagram s name note
 NotesSchema (Checks f) k s given note = NotesData k s given note
 
--- the note on what files come to: why they are refused, or the one on what was asked of their schema
-abbrev pub NotesCompiled : Task → List File → Compiled → (given : List ℕ) → (note : Option (List ℕ)) → Type 0
+-- the note on what files come to: why they are refused, or the one on what was asked of their
+-- schema
+abbrev pub NotesCompiled : Task → List File → Compilation → (given : List ℕ) → (note : Option (List ℕ)) → Type 0
 NotesCompiled task files (RefusedAt r) given note = IsSomeAnd note (TellsRefusal files r)
-NotesCompiled task files (Built s) given note = NotesSchema task.asked task.kind s given note
+NotesCompiled task files (HasSchema s) given note = NotesSchema task.asked task.kind s given note
 
 -- a run, and the note on what it wrote, unless there was no memory for the note
-pub record RunsWithNote (task : Task) (files : List File) (ended : Ended) (unread rest old new : Option (List ℕ)) : Type 0 where
+pub record RunsWithNote (task : Task) (files : List File) (ended : RunEnd) (unread rest old new : Option (List ℕ)) : Type 0 where
   pub runs : Runs task files ended.status unread rest old new
   pub noted : IfOk ended.note (λ note. NotesCompiled task files runs.compiled runs.given (option_map string_bytes note))

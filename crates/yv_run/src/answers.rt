@@ -1,26 +1,27 @@
-//! What a run answers on files that were compiled: it is written, and only then the note for a person is made.
+//! What a run answers on files that were compiled: it is written, and only then the note for a
+//! person is made.
 ghost use Rattle.std.specs.Prelude.{◌≡◌, ◌↔◌, ◌⊎◌, true, map, IfErr, IfOk, IsErrOf, IsSomeAnd, OnErr, None, option_map, string_bytes};
 ghost use Rattle.yv_job.specs.Jobs.{asked_of};
 ghost use Rattle.yv_nodes.specs.Rows.{whole};
 ghost use Rattle.yv_streams.specs.Stream.{stream_inner, has_failed, IsFresh, FailsOnceAtMost, TakesAtMost};
 ghost use Rattle.yv_streams.specs.Files.{file_of};
-ghost use Rattle.yv_outcome.specs.Output.{ReadsData, IsStopped, count_printed, data_printed, diagram_printed, refusal_printed};
-ghost use Rattle.yv_outcome.specs.Told.{NotesData, NotesDiagram};
-ghost use Rattle.yv_outcome.specs.declared.status.Status.{Status};
+ghost use Rattle.yv_run.specs.Output.{ReadsData, IsStopped, count_printed, data_printed, diagram_printed, refusal_printed};
+ghost use Rattle.yv_run.specs.PersonNotes.{NotesData, NotesDiagram};
+ghost use Rattle.yv_run.specs.declared.status.Status.{Status};
 ghost use Rattle.yv_run.specs.InnerRun.{HasNote, RunsData, RunsSchema};
 ghost use Rattle.yv_run.specs.Notes.{TellsRefusal};
 ghost use Rattle.yv_run.specs.Runs.{Writes, most_read};
 
-use crate::running::{Ended, Halt};
-use crate::writing::write_output;
+use crate::notes::diagram_note;
+use crate::output::write_output;
+use crate::print::{of_count, of_data, of_diagram, of_refusal};
+use crate::whole_run::{Halt, RunEnd};
 use std::alloc::{AllocError, Global};
 use std::io::{Read, Write};
 use yv_job::{Command, Job};
-use yv_messages::{Bounds, explanation};
-use yv_outcome::{diagram_note, of_count, of_data, of_diagram, of_refusal};
+use yv_refusal_notes::{Bounds, explanation};
 use yv_schema::Schema;
-use yv_selection::Kind;
-use yv_statement::Refusal;
+use yv_statement::{Kind, Refusal};
 use yv_streams::{Counted, Input, InputFault, read_up_to};
 
 /// What is read of a document: one byte more than it may have, so that its being too large shows.
@@ -33,21 +34,21 @@ pub(crate) fn write_refusal<W: Write>(
     inputs: &[Input],
     refusal: &Refusal,
     writer: &mut Counted<W>,
-) -> Result<Ended, Halt>
+) -> Result<RunEnd, Halt>
     requires { IsFresh writer.old }
     ensures writes { IfOk result (λ e. Writes (refusal_printed (map file_of inputs.now) refusal.now) e.status
         (W.contents (stream_inner writer.old)) (W.contents (stream_inner writer.new))) }
-    ensures noted { IfOk result (HasNote (λ note. IsSomeAnd note (TellsRefusal (map file_of inputs.now) refusal.now))) }
-    ensures ended { IfOk result (λ e. IsStopped e.status → ⊥) }
+    ensures notes { IfOk result (HasNote (λ note. IsSomeAnd note (TellsRefusal (map file_of inputs.now) refusal.now))) }
+    ensures ends { IfOk result (λ e. IsStopped e.status → ⊥) }
     ensures write_fault { IfOk result (λ e. e.status ≡ Status.WriteFault ↔ (has_failed writer.new ≡ true)) }
     ensures writer_once { FailsOnceAtMost writer.new }
-    ensures untouched { OnErr result (writer.new ≡ writer.old) }
+    ensures rest { OnErr result (writer.new ≡ writer.old) }
     ensures no_memory { IfErr result (λ h. h ≡ Halt.NoMemory) }
 {
     let output = of_refusal(alloc, inputs, refusal)?;
     let status = write_output(&output, writer);
     let note = refusal_note(alloc, job, inputs, refusal);
-    Ok(Ended { status, note })
+    Ok(RunEnd { status, note })
 }
 
 // What helps a person to fix a file that is refused.
@@ -74,18 +75,18 @@ pub(crate) fn write_answer<R: Read, W: Write>(
     schema: &Schema,
     reader: &mut Counted<R>,
     writer: &mut Counted<W>,
-) -> Result<Ended, Halt>
+) -> Result<RunEnd, Halt>
     requires reader { IsFresh reader.old }
     requires writer { IsFresh writer.old }
     ensures runs { IfOk result (λ e. RunsSchema (asked_of job.now.command) job.now.kind schema.now e (R.remaining (stream_inner reader.old))
         (R.remaining (stream_inner reader.new)) (W.contents (stream_inner writer.old)) (W.contents (stream_inner writer.new))) }
-    ensures ended { IfOk result (λ e. IsStopped e.status → ⊥) }
+    ensures ends { IfOk result (λ e. IsStopped e.status → ⊥) }
     ensures write_fault { IfOk result (λ e. e.status ≡ Status.WriteFault ↔ (has_failed writer.new ≡ true)) }
     ensures writer_once { FailsOnceAtMost writer.new }
-    ensures untouched { OnErr result (writer.new ≡ writer.old) }
-    ensures unread { ReadsData (asked_of job.now.command) ⊎ (reader.new ≡ reader.old) }
+    ensures rest { OnErr result (writer.new ≡ writer.old) }
+    ensures reads_on { ReadsData (asked_of job.now.command) ⊎ (reader.new ≡ reader.old) }
     ensures read_fault { IsErrOf result Halt.Read ↔ (has_failed reader.new ≡ true) }
-    ensures taken { TakesAtMost most_read (R.remaining (stream_inner reader.old)) (R.remaining (stream_inner reader.new)) }
+    ensures takes { TakesAtMost most_read (R.remaining (stream_inner reader.old)) (R.remaining (stream_inner reader.new)) }
     ensures reader_once { FailsOnceAtMost reader.new }
     ensures never_built { IsErrOf result Halt.PatternBuild → ⊥ }
 {
@@ -101,18 +102,18 @@ fn write_count<W: Write>(
     alloc: Global,
     schema: &Schema,
     writer: &mut Counted<W>,
-) -> Result<Ended, Halt>
+) -> Result<RunEnd, Halt>
     requires { IsFresh writer.old }
     ensures writes { IfOk result (λ e. Writes (count_printed (whole schema.now)) e.status (W.contents (stream_inner writer.old)) (W.contents (stream_inner writer.new))) }
-    ensures noted { IfOk result (HasNote (λ note. note ≡ None)) }
-    ensures ended { IfOk result (λ e. IsStopped e.status → ⊥) }
+    ensures notes { IfOk result (HasNote (λ note. note ≡ None)) }
+    ensures ends { IfOk result (λ e. IsStopped e.status → ⊥) }
     ensures write_fault { IfOk result (λ e. e.status ≡ Status.WriteFault ↔ (has_failed writer.new ≡ true)) }
     ensures writer_once { FailsOnceAtMost writer.new }
-    ensures untouched { OnErr result (writer.new ≡ writer.old) }
+    ensures rest { OnErr result (writer.new ≡ writer.old) }
     ensures no_memory { IfErr result (λ h. h ≡ Halt.NoMemory) }
 {
     let output = of_count(alloc, schema)?;
-    Ok(Ended {
+    Ok(RunEnd {
         status: write_output(&output, writer),
         note: Ok(None),
     })
@@ -125,20 +126,20 @@ fn write_diagram<W: Write>(
     schema: &Schema,
     name: &str,
     writer: &mut Counted<W>,
-) -> Result<Ended, Halt>
+) -> Result<RunEnd, Halt>
     requires { IsFresh writer.old }
     ensures writes { IfOk result (λ e. Writes (diagram_printed schema.now name.now) e.status (W.contents (stream_inner writer.old)) (W.contents (stream_inner writer.new))) }
-    ensures noted { IfOk result (HasNote (NotesDiagram schema.now name.now)) }
-    ensures ended { IfOk result (λ e. IsStopped e.status → ⊥) }
+    ensures notes { IfOk result (HasNote (NotesDiagram schema.now name.now)) }
+    ensures ends { IfOk result (λ e. IsStopped e.status → ⊥) }
     ensures write_fault { IfOk result (λ e. e.status ≡ Status.WriteFault ↔ (has_failed writer.new ≡ true)) }
     ensures writer_once { FailsOnceAtMost writer.new }
-    ensures untouched { OnErr result (writer.new ≡ writer.old) }
+    ensures rest { OnErr result (writer.new ≡ writer.old) }
     ensures no_memory { IfErr result (λ h. h ≡ Halt.NoMemory) }
 {
     let output = of_diagram(alloc, schema, name)?;
     let status = write_output(&output, writer);
     let note = diagram_note(alloc, schema, &job.selection, name, &output);
-    Ok(Ended { status, note })
+    Ok(RunEnd { status, note })
 }
 
 // Reads a document, and writes what is said of it.
@@ -148,17 +149,17 @@ fn validate_document<R: Read, W: Write>(
     kind: Kind,
     reader: &mut Counted<R>,
     writer: &mut Counted<W>,
-) -> Result<Ended, Halt>
+) -> Result<RunEnd, Halt>
     requires reader { IsFresh reader.old }
     requires writer { IsFresh writer.old }
     ensures runs { IfOk result (λ e. RunsData kind schema.now e (R.remaining (stream_inner reader.old)) (R.remaining (stream_inner reader.new))
         (W.contents (stream_inner writer.old)) (W.contents (stream_inner writer.new))) }
-    ensures ended { IfOk result (λ e. IsStopped e.status → ⊥) }
+    ensures ends { IfOk result (λ e. IsStopped e.status → ⊥) }
     ensures write_fault { IfOk result (λ e. e.status ≡ Status.WriteFault ↔ (has_failed writer.new ≡ true)) }
     ensures writer_once { FailsOnceAtMost writer.new }
-    ensures untouched { OnErr result (writer.new ≡ writer.old) }
+    ensures rest { OnErr result (writer.new ≡ writer.old) }
     ensures read_fault { IsErrOf result Halt.Read ↔ (has_failed reader.new ≡ true) }
-    ensures taken { TakesAtMost most_read (R.remaining (stream_inner reader.old)) (R.remaining (stream_inner reader.new)) }
+    ensures takes { TakesAtMost most_read (R.remaining (stream_inner reader.old)) (R.remaining (stream_inner reader.new)) }
     ensures reader_once { FailsOnceAtMost reader.new }
     ensures never_built { IsErrOf result Halt.PatternBuild → ⊥ }
 {
@@ -176,18 +177,18 @@ fn write_findings<W: Write>(
     bytes: &[u8],
     kind: Kind,
     writer: &mut Counted<W>,
-) -> Result<Ended, Halt>
+) -> Result<RunEnd, Halt>
     requires { IsFresh writer.old }
     ensures writes { IfOk result (λ e. Writes (data_printed kind schema.now bytes.now) e.status (W.contents (stream_inner writer.old)) (W.contents (stream_inner writer.new))) }
-    ensures noted { IfOk result (HasNote (NotesData kind schema.now bytes.now)) }
-    ensures ended { IfOk result (λ e. IsStopped e.status → ⊥) }
+    ensures notes { IfOk result (HasNote (NotesData kind schema.now bytes.now)) }
+    ensures ends { IfOk result (λ e. IsStopped e.status → ⊥) }
     ensures write_fault { IfOk result (λ e. e.status ≡ Status.WriteFault ↔ (has_failed writer.new ≡ true)) }
     ensures writer_once { FailsOnceAtMost writer.new }
-    ensures untouched { OnErr result (writer.new ≡ writer.old) }
+    ensures rest { OnErr result (writer.new ≡ writer.old) }
     ensures no_memory { IfErr result (λ h. h ≡ Halt.NoMemory) }
 {
     let answer = of_data(alloc, schema, bytes, kind)?;
     let status = write_output(&answer.output, writer);
     let note = answer.note(alloc, schema, bytes);
-    Ok(Ended { status, note })
+    Ok(RunEnd { status, note })
 }

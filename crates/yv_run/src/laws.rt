@@ -1,15 +1,21 @@
 //! Laws about the definitions only. These functions do nothing: the contract of each is the law.
-ghost use Rattle.yv_rows.specs.Files.{Files};
-ghost use Rattle.yv_rows.specs.Listed.{rows_of};
-ghost use Rattle.yv_rows.specs.Rows.{Row};
-ghost use Rattle.yv_restricted_types.specs.Types.{HasTypePattern};
-ghost use Rattle.yv_messages.specs.Unbuilt.{IsPatternAmong};
+ghost use Rattle.std.specs.Prelude.{◌≡◌, ℕ, List};
+ghost use Rattle.yv_job.specs.Jobs.{Task};
+ghost use Rattle.yv_streams.specs.Files.{File};
+ghost use Rattle.yv_run.specs.Output.{Page, IsOutput};
 
-use yv_rows::laws::statements_have_their_rows;
+use yv_schema::laws::files_have_one_schema;
+use yv_source::laws::{a_bad_file_is_refused_once, a_text_is_spelled_or_refused_once};
+use yv_statement::laws::order_tells_refusals_apart;
 
-/// A pattern of a type is among the numbered statements of the files.
-pub(crate) fn a_pattern_of_a_type_is_listed()
-    ensures { (files : Files) → HasTypePattern files → (r : Row) × IsPatternAmong (rows_of files) r }
+/// A task, files and a document's bytes have one output at most, so that text and status are a
+/// function of them.
+pub fn a_run_has_one_output()
+    ensures { (task : Task) (files : List File) (given : List ℕ) (p q : Page)
+        → IsOutput task files given p → IsOutput task files given q → p ≡ q }
 {
-    statements_have_their_rows();
+    a_bad_file_is_refused_once();
+    a_text_is_spelled_or_refused_once();
+    files_have_one_schema();
+    order_tells_refusals_apart();
 }

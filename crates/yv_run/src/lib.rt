@@ -1,14 +1,25 @@
-//! A run over files that were read: their schema or what is refused of them, the text of it written, and
-//! what helps a person to fix a file that is refused.
+//! A run over files that were read: their schema or what is refused of them, the text of it
+//! written, and what helps a person to fix a file that is refused.
 #![tactic(auto)]
 
 mod answers;
-mod compiling;
-mod laws;
-mod running;
-mod writing;
+mod compilation;
+mod document;
+pub mod laws;
+mod lines;
+mod modules;
+mod notes;
+mod output;
+mod pattern_laws;
+mod print;
+mod status;
+mod whole_run;
 
-pub use running::{Ended, run, run_with_note};
+pub use document::{Document, read_document};
+pub use lines::write_faults;
+pub use notes::diagram_note;
+pub use print::{Body, CheckResult, Output, of_count, of_data, of_diagram, of_refusal};
+pub use status::{Status, Verdict};
+pub use whole_run::{RunEnd, run, run_with_note};
 pub use yv_job::{Command, Job, JobFault, read_job};
-pub use yv_outcome::Status;
 pub use yv_streams::{Counted, Input, InputFault, read_input};

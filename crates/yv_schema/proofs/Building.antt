@@ -2,24 +2,24 @@
 use Rattle.std.proofs.Common.{◌≡◌, ℕ, List, [], refl, sym, ap, ◌∙◌, subst, map, false, true, Option, Some, None, All}
 use Rattle.std.specs.List.{slice_get}
 use Rattle.yv_statement.specs.Tree.{Tree}
-use Rattle.yv_selection.specs.Choice.{Choice}
-use Rattle.yv_rows.specs.Files.{Files}
-use Rattle.yv_rows.specs.Listed.{rows_of, statements_of}
-use Rattle.yv_expansion.specs.Tree.{Item, Node, Nodes, listed}
-use Rattle.yv_augmented.specs.Kinds.{is_uses, kind_of}
-use Rattle.yv_augmented.specs.declared.spot.Spot.{Spot}
-use Rattle.yv_item_marks.specs.Conditions.{Truth}
-use Rattle.yv_final_tree.specs.Final.{Final, IsFinal, spots_of}
-use Rattle.yv_final_tree.specs.Given.{HaveHomes, is_given}
-use Rattle.yv_final_tree.specs.Left.{AreLeft}
+use Rattle.yv_statement.specs.Selection.{Selected}
+use Rattle.yv_link_scopes.specs.Files.{Files}
+use Rattle.yv_link_scopes.specs.RowList.{rows_of, statements_of}
+use Rattle.yv_expand.specs.Tree.{Item, Node, Nodes, item_list}
+use Rattle.yv_expand_augments.specs.Kinds.{is_uses, kind_of}
+use Rattle.yv_expand_augments.specs.declared.spot.Spot.{Spot}
+use Rattle.yv_expand_changes.specs.IfFeatures.{Truth}
+use Rattle.yv_expand_tree.specs.Final.{Final, IsFinal, spots_of}
+use Rattle.yv_expand_tree.specs.FileOrder.{HaveModuleFiles, is_given}
+use Rattle.yv_expand_tree.specs.Remains.{AreLeft}
 use Rattle.yv_nodes.specs.declared.node.NodeId.{NodeId}
 use Rattle.yv_nodes.specs.Link.{AreLinked, Link, reference_in}
 use Rattle.yv_nodes.specs.Numbers.{numbers_from, rows_from}
 use Rattle.yv_nodes.specs.Rows.{Module, Note, Row, blank_row}
 use Rattle.yv_nodes.specs.Tree.{Forest}
-use Rattle.yv_leafrefs.specs.Resolved.{IsTyped}
-use Rattle.yv_tables.specs.Numbered.{AreFormed, AreModules, AreNumbered, made_of}
-use Rattle.yv_tables.specs.Sound.{IsNote}
+use Rattle.yv_node_leafrefs.specs.Resolution.{IsTyped}
+use Rattle.yv_schema_tables.specs.NodeNumbers.{AreFormed, AreModules, AreNumbered, made_of}
+use Rattle.yv_schema_tables.specs.Sound.{IsNote}
 use Rattle.yv_schema.specs.InnerBuild.{AreNames}
 use Rattle.yv_schema.specs.InnerContext.{TellsOf}
 use Rattle.yv_schema.specs.Module.{Basis, leafrefs_of, modules_of, stated_of}
@@ -33,23 +33,23 @@ use Rattle.yv_schema.proofs.Telling.{NoneTwice, StandBelow, final_is, follows, l
 
 -- an item belongs to a module that is implemented
 abbrev pub AreOfModules : Type 0
-AreOfModules = (choice : Choice) (files : Files) (f : Final) (item : ℕ) (s : Spot) → HaveHomes choice files → IsFinal choice files f → slice_get (spots_of files f) item ≡ Some s
-    → (home : Tree) × (slice_get files s.home ≡ Some home) × (is_given choice home ≡ true)
+AreOfModules = (choice : Selected) (files : Files) (f : Final) (item : ℕ) (s : Spot) → HaveModuleFiles choice files → IsFinal choice files f → slice_get (spots_of files f) item ≡ Some s
+    → (module_file : Tree) × (slice_get files s.module_file ≡ Some module_file) × (is_given choice module_file ≡ true)
 
 -- what is left are items that are no uses
 abbrev pub AreNodes : Type 0
-AreNodes = (choice : Choice) (files : Files) (truth : Truth) (f : Final) (nodes : Nodes) (place : ℕ) (x : Node) → IsFinal choice files f → AreLeft truth files f nodes
-    → slice_get (listed None 0 nodes) place ≡ Some x → (s : Spot) × (item : Item) × (slice_get (spots_of files f) x.origin ≡ Some s) × (slice_get f.items x.origin ≡ Some item)
+AreNodes = (choice : Selected) (files : Files) (truth : Truth) (f : Final) (nodes : Nodes) (place : ℕ) (x : Node) → IsFinal choice files f → AreLeft truth files f nodes
+    → slice_get (item_list None 0 nodes) place ≡ Some x → (s : Spot) × (item : Item) × (slice_get (spots_of files f) x.origin ≡ Some s) × (slice_get f.items x.origin ≡ Some item)
     × (is_uses (kind_of (rows_of files) item.origin) ≡ false)
 
 -- a statement has the head of its row
 abbrev pub HaveRows : Type 0
 HaveRows = (files : Files) → map (λ t. t.head) (statements_of files) ≡ map (λ r. r.head) (rows_of files)
 
-pub modules_in_order : (choice : Choice) (files : Files) (modules : List Module) → AreNames choice files → modules ≡ modules_of choice files → AreModules modules
+pub modules_in_order : (choice : Selected) (files : Files) (modules : List Module) → AreNames choice files → modules ≡ modules_of choice files → AreModules modules
 modules_in_order choice files modules names are = subst AreModules (sym are) (are_modules choice files names.plain names.differ)
 
-module _ (choice : Choice) (files : Files) (c : Context) (names : AreNames choice files) (told : TellsOf choice files c) where
+module _ (choice : Selected) (files : Files) (c : Context) (names : AreNames choice files) (told : TellsOf choice files c) where
   abbrev b : Basis
   b = told.basis
 
@@ -57,11 +57,11 @@ module _ (choice : Choice) (files : Files) (c : Context) (names : AreNames choic
   own_names = subst (AreNames choice) (sym told.of_files) names
 
   own_final : IsFinal choice b.files b.final
-  own_final = subst (λ (x : Choice). IsFinal x b.files b.final) told.chosen (final_is b c told.tells)
+  own_final = subst (λ (x : Selected). IsFinal x b.files b.final) told.chosen (final_is b c told.tells)
 
   pub formed : AreOfModules → AreNodes → HaveRows → AreFormed (modules_of choice b.files) [] (stated_of b)
   formed of_modules nodes rows =
-      are_formed choice b (record { fine = own_names.fine; heads = rows b.files }) (λ i s at. of_modules choice b.files b.final i s own_names.homes own_final at)
+      are_formed choice b (record { fine = own_names.fine; heads = rows b.files }) (λ i s at. of_modules choice b.files b.final i s own_names.module_files own_final at)
       (λ k x at. nodes choice b.files b.truth b.final b.nodes k x own_final (left_is b c told.tells) at)
 
   pub numbered_in_order : AreOfModules → AreNodes → HaveRows → TopsStay → FormsStay → (modules : List Module) (nodes : List Row) (top : List NodeId) (links : List (Option Link)) (whole : Forest)

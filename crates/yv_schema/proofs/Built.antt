@@ -10,9 +10,9 @@ use Rattle.yv_statement.specs.declared.refusal.Stop.TheVariants.{Fault}
 use Rattle.yv_statement.proofs.Least.{least_lesser}
 use Rattle.yv_nodes.specs.Rows.{Rows}
 use Rattle.yv_nodes.specs.Tree.{Forest}
-use Rattle.yv_tables.specs.Bad.{BadRows}
-use Rattle.yv_tree_checks.specs.Bad.{BadTree}
-use Rattle.yv_leafrefs.specs.Bad.{BadLeafrefs}
+use Rattle.yv_schema_tables.specs.Bad.{BadRows}
+use Rattle.yv_node_checks.specs.Bad.{BadTree}
+use Rattle.yv_node_leafrefs.specs.Bad.{BadLeafrefs}
 use Rattle.yv_schema.specs.Module.{Basis, leafrefs_of}
 use Rattle.yv_schema.specs.Refuses.{BadNodes}
 use Rattle.yv_schema.specs.InnerBuild.{IsFirst, of_tree, of_both}
@@ -40,15 +40,15 @@ least_other b top wrong fault both p q lesser = least_lesser (BadTree top) (BadL
 
 -- nothing is wrong with a tree
 pub both_clear : (b : Basis) (top : Forest) → IsLeast (BadRows top) None → IsLeast (BadOther b top) None → IsLeast (BadNodes b top) None
-both_clear b top doubled wrong = least_lesser (BadRows top) (BadOther b top) None None None refl doubled wrong
+both_clear b top duplicate wrong = least_lesser (BadRows top) (BadOther b top) None None None refl duplicate wrong
 
 -- the first refusal is the least of all that is wrong with a tree
 pub first_stands : (b : Basis) (top : Forest) (numbered : Result Rows Stop) (wrong : Option Refusal) (r : Refusal) → OnOk numbered (IsLeast (BadRows top) None)
     → ((d : Refusal) → numbered ≡ Err (Fault d) → IsLeast (BadRows top) (Some d)) → IsLeast (BadOther b top) wrong → IsFirst numbered wrong r → IsLeast (BadNodes b top) (Some r)
-first_stands b top numbered wrong r clear doubled least (of_tree s is told) =
+first_stands b top numbered wrong r clear duplicate least (of_tree s is told) =
     least_lesser (BadRows top) (BadOther b top) None (Some r) (Some r) refl (subst (λ (o : Result Rows Stop). OnOk o (IsLeast (BadRows top) None)) is clear) (subst (λ (o : Option Refusal). IsLeast (BadOther b top) o) told least)
-first_stands b top numbered wrong r clear doubled least (of_both d is lesser) =
-    least_lesser (BadRows top) (BadOther b top) (Some d) wrong (Some r) lesser (doubled d is) least
+first_stands b top numbered wrong r clear duplicate least (of_both d is lesser) =
+    least_lesser (BadRows top) (BadOther b top) (Some d) wrong (Some r) lesser (duplicate d is) least
 
 -- what stopped a call
 abbrev pub stop_in : {A : Type 0} → Result A Stop → Stop → Stop

@@ -1,11 +1,11 @@
 -- How many nodes a schema tree has.
 use Rattle.std.proofs.Common.{◌≡◌, List, ◌∷◌, refl, arith}
-use Rattle.yv_expansion.specs.Tree as left
-use Rattle.yv_expansion.specs.Tree.{Nodes}
+use Rattle.yv_expand.specs.Tree as left
+use Rattle.yv_expand.specs.Tree.{Nodes}
 use Rattle.yv_nodes.specs.Tree.{Label, count}
-use Rattle.yv_schema.specs.Module.{Basis, label_at, labelled}
+use Rattle.yv_schema.specs.Module.{Basis, label_at, with_labels}
 
-pub count_labelled : (b : Basis) (above : List Label) (t : Nodes) → count (labelled b above t) ≡ left.count t
+pub count_labelled : (b : Basis) (above : List Label) (t : Nodes) → count (with_labels b above t) ≡ left.count t
 count_labelled b above left.none = refl
 count_labelled b above (left.item i below behind) =
     let inner = count_labelled b (label_at b above i ∷ above) below in

@@ -1,10 +1,13 @@
+mod Hanging
+pub mod ReferralNumbering
+pub mod Beginning
 pub mod Blocks
 pub mod Told
 pub mod TypePhases
 pub mod Plain
 pub mod Called
 pub mod Rowing
-pub mod HomesGiven
+pub mod ModuleFilesGiven
 pub mod Targeting
 pub mod Parenting
 pub mod Numbering
@@ -13,7 +16,7 @@ pub mod Forming
 pub mod Telling
 pub mod Built
 pub mod Building
-pub mod Phases
+pub mod PhaseLemmas
 pub mod Resolving
 pub mod Typing
 pub mod Unlinked

@@ -7,22 +7,22 @@ use Rattle.std.proofs.lemmas.Bool.{false≢true}
 use Rattle.std.proofs.lemmas.Bool.Decides.{nat_tests}
 use Rattle.std.proofs.lemmas.List.{at_drop_all}
 use Rattle.std.proofs.lemmas.Option.{same_Some, slice_get-get_or, slice_get_within}
-use Rattle.yv_families.proofs.Listing.{family_at}
-use Rattle.yv_families.specs.Families.{by_place, is_place, numbers_at, numbers_from}
-use Rattle.yv_rows.specs.Files.{brief_of, home_at}
-use Rattle.yv_rows.specs.Listed.{rows_of}
-use Rattle.yv_rows.specs.Rows.{Row as Statement, name_in}
-use Rattle.yv_expansion.specs.Tree.{Node}
-use Rattle.yv_augmented.specs.declared.spot.Spot.{Spot}
-use Rattle.yv_final_tree.specs.Final.{spots_of}
-use Rattle.yv_final_tree.specs.Kept.{giver_at, targets_of}
+use Rattle.yv_base_tables.proofs.Listing.{family_at}
+use Rattle.yv_base_tables.specs.Families.{by_place, is_place, numbers_at, numbers_from}
+use Rattle.yv_link_scopes.specs.Files.{brief_of, module_file_at}
+use Rattle.yv_link_scopes.specs.RowList.{rows_of}
+use Rattle.yv_link_scopes.specs.Rows.{Row as Statement, name_in}
+use Rattle.yv_expand.specs.Tree.{Node}
+use Rattle.yv_expand_augments.specs.declared.spot.Spot.{Spot}
+use Rattle.yv_expand_tree.specs.Final.{spots_of}
+use Rattle.yv_expand_tree.specs.FinalTree.{source_at, targets_of}
 use Rattle.yv_nodes.specs.declared.node.NodeId.{NodeId}
 use Rattle.yv_nodes.specs.Rows.{Note, Rows, blank_row, is_root, rank}
-use Rattle.yv_tables.specs.Sound.{IsChild, IsNote}
-use Rattle.yv_schema.specs.InnerRowing.{number_at, parent_of}
-use Rattle.yv_schema.specs.InnerRowing as rowing
+use Rattle.yv_schema_tables.specs.Sound.{IsChild, IsNote}
+use Rattle.yv_schema.specs.InnerRows.{number_at, parent_of}
+use Rattle.yv_schema.specs.InnerRows as rowing
 use Rattle.yv_schema.specs.Module.{Basis, nodes_in}
-use Rattle.yv_schema.specs.Notes.{added_by, note_by, notes_from, notes_of, target_of}
+use Rattle.yv_schema.specs.Notes.{nodes_added, note_of_augment, notes_from, notes_of, target_of}
 use Rattle.yv_schema.proofs.Parenting.{in_one, made_at, parent_first}
 use Rattle.yv_schema.proofs.Targeting.{target_known}
 
@@ -53,31 +53,31 @@ each_at ps place k n at =
     subst (λ (m : ℕ). slice_get ps m ≡ Some (Some place)) same found.2
 
 -- an augment of which nothing is left isn't noted
-pub none_noted : (b : Basis) (o : Option Statement) (target : Option ℕ) → note_by b o target [] ≡ []
+pub none_noted : (b : Basis) (o : Option Statement) (target : Option ℕ) → note_of_augment b o target [] ≡ []
 none_noted b None target = refl
 none_noted b (Some r) None = refl
 none_noted b (Some r) (Some target) = refl
 
-pub untold : (b : Basis) (o : Option Statement) (target : Option ℕ) (nodes : List NodeId) → o ≡ None → note_by b o target nodes ≡ []
-untold b o target nodes none = ap (λ (o : Option Statement). note_by b o target nodes) none
+pub untold : (b : Basis) (o : Option Statement) (target : Option ℕ) (nodes : List NodeId) → o ≡ None → note_of_augment b o target nodes ≡ []
+untold b o target nodes none = ap (λ (o : Option Statement). note_of_augment b o target nodes) none
 
-pub untargeted : (b : Basis) (o : Option Statement) (target : Option ℕ) (nodes : List NodeId) → target ≡ None → note_by b o target nodes ≡ []
+pub untargeted : (b : Basis) (o : Option Statement) (target : Option ℕ) (nodes : List NodeId) → target ≡ None → note_of_augment b o target nodes ≡ []
 untargeted b None target nodes none = refl
-untargeted b (Some r) target nodes none = ap (λ (t : Option ℕ). note_by b (Some r) t nodes) none
+untargeted b (Some r) target nodes none = ap (λ (t : Option ℕ). note_of_augment b (Some r) t nodes) none
 
 -- one that adds nodes is noted so
-pub noted : (b : Basis) (o : Option Statement) (r : Statement) (target : Option ℕ) (place : ℕ) (nodes : List ℕ) (home : ℕ) (argument : List ℕ) (at : NodeId) (adds : List NodeId) → o ≡ Some r → target ≡ Some place
-    → (nodes ≡ [] → ⊥) → home ≡ home_at (map brief_of b.files) r.file → argument ≡ name_in r → at ≡ number_at place → adds ≡ rowing.numbers_at nodes
-    → record { home = home; argument = argument; target = at; nodes = adds } ∷ [] ≡ note_by b o target (rowing.numbers_at nodes)
-noted b o r target place [] home argument at adds is to filled at_home told there are = absurd (filled refl)
-noted b o r target place (n ∷ ns) home argument at adds is to filled at_home told there are =
+pub noted : (b : Basis) (o : Option Statement) (r : Statement) (target : Option ℕ) (place : ℕ) (nodes : List ℕ) (module_file : ℕ) (argument : List ℕ) (at : NodeId) (adds : List NodeId) → o ≡ Some r → target ≡ Some place
+    → (nodes ≡ [] → ⊥) → module_file ≡ module_file_at (map brief_of b.files) r.file → argument ≡ name_in r → at ≡ number_at place → adds ≡ rowing.numbers_at nodes
+    → record { module_file = module_file; argument = argument; target = at; nodes = adds } ∷ [] ≡ note_of_augment b o target (rowing.numbers_at nodes)
+noted b o r target place [] module_file argument at adds is to filled at_module_file told there are = absurd (filled refl)
+noted b o r target place (n ∷ ns) module_file argument at adds is to filled at_module_file told there are =
     let all : List NodeId = rowing.numbers_at (n ∷ ns) in
-    ap (λ (m : ℕ). let x : Note = record { home = m; argument = argument; target = at; nodes = adds } in x ∷ []) at_home
-    ∙ ap (λ (text : List ℕ). let x : Note = record { home = home_at (map brief_of b.files) r.file; argument = text; target = at; nodes = adds } in x ∷ []) told
-    ∙ ap (λ (p : NodeId). let x : Note = record { home = home_at (map brief_of b.files) r.file; argument = name_in r; target = p; nodes = adds } in x ∷ []) there
-    ∙ ap (λ (cs : List NodeId). let x : Note = record { home = home_at (map brief_of b.files) r.file; argument = name_in r; target = number_at place; nodes = cs } in x ∷ []) are
-    ∙ ap (λ (t : Option ℕ). note_by b (Some r) t all) (sym to)
-    ∙ ap (λ (o : Option Statement). note_by b o target all) (sym is)
+    ap (λ (m : ℕ). let x : Note = record { module_file = m; argument = argument; target = at; nodes = adds } in x ∷ []) at_module_file
+    ∙ ap (λ (text : List ℕ). let x : Note = record { module_file = module_file_at (map brief_of b.files) r.file; argument = text; target = at; nodes = adds } in x ∷ []) told
+    ∙ ap (λ (p : NodeId). let x : Note = record { module_file = module_file_at (map brief_of b.files) r.file; argument = name_in r; target = p; nodes = adds } in x ∷ []) there
+    ∙ ap (λ (cs : List NodeId). let x : Note = record { module_file = module_file_at (map brief_of b.files) r.file; argument = name_in r; target = number_at place; nodes = cs } in x ∷ []) are
+    ∙ ap (λ (t : Option ℕ). note_of_augment b (Some r) t all) (sym to)
+    ∙ ap (λ (o : Option Statement). note_of_augment b o target all) (sym is)
 
 pub rank_up_to : (p : NodeId) (n : ℕ) → p.0 < n → rank p ≤ n
 rank_up_to p n lt = by (is_root p)
@@ -88,35 +88,35 @@ rank_up_to p n lt = by (is_root p)
 
 -- what the laws of final trees say of a basis
 pub record Follows (b : Basis) : Type 0 where
-  pub given : (place giver : ℕ) (x : Node) → slice_get (nodes_in b) place ≡ Some x → giver_at (spots_of b.files b.final) b.final.augments x.origin ≡ Some giver
+  pub given : (place giver : ℕ) (x : Node) → slice_get (nodes_in b) place ≡ Some x → source_at (spots_of b.files b.final) b.final.augments x.origin ≡ Some giver
       → (target : ℕ) × (node : Node) × (x.parent ≡ Some target) × (slice_get (nodes_in b) target ≡ Some node)
       × (slice_index_or (targets_of b.files b.final) giver None ≡ Some node.origin)
   pub once : (i k : ℕ) (x y : Node) → slice_get (nodes_in b) i ≡ Some x → slice_get (nodes_in b) k ≡ Some y → x.origin ≡ y.origin → i ≡ k
 
 module _ (b : Basis) (follows : Follows b) where
   abbrev pub givers : List (Option ℕ)
-  givers = map (λ (x : Node). giver_at (spots_of b.files b.final) b.final.augments x.origin) (nodes_in b)
+  givers = map (λ (x : Node). source_at (spots_of b.files b.final) b.final.augments x.origin) (nodes_in b)
 
   -- a node that an augment adds
   added : (place k n : ℕ) → slice_get (numbers_at givers place) k ≡ Some n → (x : Node) × (q : ℕ) × (slice_get (nodes_in b) n ≡ Some x) × (x.parent ≡ Some q) × (target_of b place ≡ Some q)
   added place k n at =
-      let (x, there, is) = made_at (λ (x : Node). giver_at (spots_of b.files b.final) b.final.augments x.origin) (nodes_in b) n (Some place) (each_at givers place k n at) in
+      let (x, there, is) = made_at (λ (x : Node). source_at (spots_of b.files b.final) b.final.augments x.origin) (nodes_in b) n (Some place) (each_at givers place k n at) in
       let (q, parent, target) = target_known b follows.given follows.once n place x there is in
       (x, q, there, parent, target)
 
   -- the node above the first that an augment adds is its target
   pub first_above : (o : Option Statement) (place : ℕ) (nodes : List ℕ) → nodes ≡ numbers_at givers place
-      → note_by b o (option_and_then (λ (x : Node). x.parent) (option_and_then (slice_get (nodes_in b)) (slice_get nodes 0))) (rowing.numbers_at nodes)
-      ≡ note_by b o (target_of b place) (added_by b place)
-  first_above o place [] are = none_noted b o _ ∙ sym (none_noted b o (target_of b place)) ∙ ap (λ (ns : List ℕ). note_by b o (target_of b place) (rowing.numbers_at ns)) are
+      → note_of_augment b o (option_and_then (λ (x : Node). x.parent) (option_and_then (slice_get (nodes_in b)) (slice_get nodes 0))) (rowing.numbers_at nodes)
+      ≡ note_of_augment b o (target_of b place) (nodes_added b place)
+  first_above o place [] are = none_noted b o _ ∙ sym (none_noted b o (target_of b place)) ∙ ap (λ (ns : List ℕ). note_of_augment b o (target_of b place) (rowing.numbers_at ns)) are
   first_above o place (n ∷ ns) are =
       let (x, q, there, parent, target) = added place 0 n (ap (λ (ms : List ℕ). slice_get ms 0) (sym are)) in
       let same : option_and_then (λ (x : Node). x.parent) (slice_get (nodes_in b) n) ≡ target_of b place = ap (option_and_then (λ (x : Node). x.parent)) there ∙ parent ∙ sym target in
-      ap (λ (t : Option ℕ). note_by b o t (rowing.numbers_at (n ∷ ns))) same ∙ ap (λ (ms : List ℕ). note_by b o (target_of b place) (rowing.numbers_at ms)) are
+      ap (λ (t : Option ℕ). note_of_augment b o t (rowing.numbers_at (n ∷ ns))) same ∙ ap (λ (ms : List ℕ). note_of_augment b o (target_of b place) (rowing.numbers_at ms)) are
 
   -- the notes so far and those behind
   pub notes_more : (augments : List ℕ) (i a : ℕ) (old new one all : List Note) → i < length augments → a ≡ get_or augments i 0 → new ≡ old ++ one
-      → one ≡ note_by b (slice_get (rows_of b.files) a) (target_of b i) (added_by b i) → old ++ notes_from b i (drop i augments) ≡ all → new ++ notes_from b (i + 1) (drop (i + 1) augments) ≡ all
+      → one ≡ note_of_augment b (slice_get (rows_of b.files) a) (target_of b i) (nodes_added b i) → old ++ notes_from b i (drop i augments) ≡ all → new ++ notes_from b (i + 1) (drop (i + 1) augments) ≡ all
   notes_more augments i a old new one all lt is grew made so_far =
       let behind : List Note = notes_from b (i + 1) (drop (i + 1) augments) in
       let next : drop i augments ≡ a ∷ drop (i + 1) augments =
@@ -155,13 +155,13 @@ module _ (b : Basis) (follows : Follows b) where
         subst (IsChild s (number_at t)) is (child place k n t there to)
 
     one_note : (o : Option Statement) (place : ℕ) (target : Option ℕ) (nodes : List ℕ) → target ≡ target_of b place → nodes ≡ numbers_at givers place
-        → (k : ℕ) (n : Note) → slice_get (note_by b o target (rowing.numbers_at nodes)) k ≡ Some n → IsNote s n
+        → (k : ℕ) (n : Note) → slice_get (note_of_augment b o target (rowing.numbers_at nodes)) k ≡ Some n → IsNote s n
     one_note None place target nodes to are k n at = cc
     one_note (Some r) place None nodes to are k n at = cc
     one_note (Some r) place (Some t) [] to are k n at = cc
     one_note (Some r) place (Some t) (m ∷ ms) to are (suc k) n at = cc
     one_note (Some r) place (Some t) (m ∷ ms) to are zero n at =
-        let made : Note = record { home = home_at (map brief_of b.files) r.file; argument = name_in r; target = number_at t; nodes = rowing.numbers_at (m ∷ ms) } in
+        let made : Note = record { module_file = module_file_at (map brief_of b.files) r.file; argument = name_in r; target = number_at t; nodes = rowing.numbers_at (m ∷ ms) } in
         let first : slice_get (numbers_at givers place) 0 ≡ Some m = ap (λ (ns : List ℕ). slice_get ns 0) (sym are) in
         let note : IsNote s made = record {
           target = within place 0 m t first (sym to);
@@ -172,7 +172,7 @@ module _ (b : Basis) (follows : Follows b) where
     each_note : (place : ℕ) (augments : List ℕ) (k : ℕ) (n : Note) → slice_get (notes_from b place augments) k ≡ Some n → IsNote s n
     each_note place [] k n at = cc
     each_note place (a ∷ others) k n at =
-        elim (in_one (note_by b (slice_get (rows_of b.files) a) (target_of b place) (added_by b place)) (notes_from b (place + 1) others) k n at) [
+        elim (in_one (note_of_augment b (slice_get (rows_of b.files) a) (target_of b place) (nodes_added b place)) (notes_from b (place + 1) others) k n at) [
           | inl here ↦ one_note (slice_get (rows_of b.files) a) place (target_of b place) (numbers_at givers place) refl refl k n here
           | inr there ↦ each_note (place + 1) others there.0 n there.2
         ]
@@ -190,11 +190,11 @@ pub record Kept (b : Basis) (spots : List Spot) (augments : List ℕ) (left : Li
   pub left_are : left ≡ nodes_in b
 
 pub givers_kept : (b : Basis) (follows : Follows b) (spots : List Spot) (augments : List ℕ) (left : List Node) → Kept b spots augments left
-    → map (λ (x : Node). giver_at spots augments x.origin) left ≡ givers b follows
+    → map (λ (x : Node). source_at spots augments x.origin) left ≡ givers b follows
 givers_kept b follows spots augments left k =
-    ap (λ (ss : List Spot). map (λ (x : Node). giver_at ss augments x.origin) left) k.spots_are
-    ∙ ap (λ (ns : List ℕ). map (λ (x : Node). giver_at (spots_of b.files b.final) ns x.origin) left) k.augments_are
-    ∙ ap (map (λ (x : Node). giver_at (spots_of b.files b.final) b.final.augments x.origin)) k.left_are
+    ap (λ (ss : List Spot). map (λ (x : Node). source_at ss augments x.origin) left) k.spots_are
+    ∙ ap (λ (ns : List ℕ). map (λ (x : Node). source_at (spots_of b.files b.final) ns x.origin) left) k.augments_are
+    ∙ ap (map (λ (x : Node). source_at (spots_of b.files b.final) b.final.augments x.origin)) k.left_are
 
 -- the nodes that an augment adds, as they are found by place
 pub family_is : (b : Basis) (follows : Follows b) (found : List (Option ℕ)) (count place : ℕ) (families : List (List ℕ)) (nodes : List ℕ) → found ≡ givers b follows → families ≡ by_place found count
@@ -210,12 +210,12 @@ any_default (x ∷ xs) (suc i) d e lt = any_default xs i d e (omega (arith, lt))
 -- the note of the augment at a place
 pub note_is : (b : Basis) (so : Follows b) (rows : List Statement) (list : List ℕ) (i d : ℕ) (left : List Node) (target : Option ℕ) (nodes : List ℕ) (one : List Note) → rows_of b.files ≡ rows
     → list ≡ b.final.augments → i < length list → left ≡ nodes_in b → target ≡ option_and_then (λ (x : Node). x.parent) (option_and_then (slice_get left) (slice_get nodes 0))
-    → nodes ≡ numbers_at (givers b so) i → one ≡ note_by b (slice_get rows (get_or list i d)) target (rowing.numbers_at nodes)
-    → one ≡ note_by b (slice_get (rows_of b.files) (get_or b.final.augments i 0)) (target_of b i) (added_by b i)
+    → nodes ≡ numbers_at (givers b so) i → one ≡ note_of_augment b (slice_get rows (get_or list i d)) target (rowing.numbers_at nodes)
+    → one ≡ note_of_augment b (slice_get (rows_of b.files) (get_or b.final.augments i 0)) (target_of b i) (nodes_added b i)
 note_is b so rows list i d left target nodes one of_files are lt left_are to adds told =
     told
-    ∙ ap (λ (rs : List Statement). note_by b (slice_get rs (get_or list i d)) target (rowing.numbers_at nodes)) (sym of_files)
-    ∙ ap (λ (a : ℕ). note_by b (slice_get (rows_of b.files) a) target (rowing.numbers_at nodes)) (any_default list i d 0 lt ∙ ap (λ (ns : List ℕ). get_or ns i 0) are)
-    ∙ ap (λ (t : Option ℕ). note_by b (slice_get (rows_of b.files) (get_or b.final.augments i 0)) t (rowing.numbers_at nodes))
+    ∙ ap (λ (rs : List Statement). note_of_augment b (slice_get rs (get_or list i d)) target (rowing.numbers_at nodes)) (sym of_files)
+    ∙ ap (λ (a : ℕ). note_of_augment b (slice_get (rows_of b.files) a) target (rowing.numbers_at nodes)) (any_default list i d 0 lt ∙ ap (λ (ns : List ℕ). get_or ns i 0) are)
+    ∙ ap (λ (t : Option ℕ). note_of_augment b (slice_get (rows_of b.files) (get_or b.final.augments i 0)) t (rowing.numbers_at nodes))
     (to ∙ ap (λ (xs : List Node). option_and_then (λ (x : Node). x.parent) (option_and_then (slice_get xs) (slice_get nodes 0))) left_are)
     ∙ first_above b so (slice_get (rows_of b.files) (get_or b.final.augments i 0)) i nodes adds

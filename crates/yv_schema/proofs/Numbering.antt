@@ -6,14 +6,14 @@ use Rattle.std.proofs.lemmas.Bool.{cases_lt}
 use Rattle.std.proofs.lemmas.List.{get_or_past, length-map}
 use Rattle.std.proofs.lemmas.List.Elements.{All-append, All-cons, All-from_get_or, All-get_or, All-nil}
 use Rattle.std.proofs.lemmas.Option.{slice_get-get_or, slice_get_within}
-use Rattle.yv_expansion.specs.Tree as items
-use Rattle.yv_expansion.specs.Tree.{Node}
-use Rattle.yv_children.specs.Families as families
-use Rattle.yv_families.specs.Families.{numbers_at}
-use Rattle.yv_final_tree.specs.Final.{spots_of}
-use Rattle.yv_final_tree.specs.Kept.{giver_at}
+use Rattle.yv_expand.specs.Tree as items
+use Rattle.yv_expand.specs.Tree.{Node}
+use Rattle.yv_schema.specs.Families as families
+use Rattle.yv_base_tables.specs.Families.{numbers_at}
+use Rattle.yv_expand_tree.specs.Final.{spots_of}
+use Rattle.yv_expand_tree.specs.FinalTree.{source_at}
 use Rattle.yv_nodes.specs.Rows.{rank}
-use Rattle.yv_schema.specs.InnerRowing.{IsWithin, number_at, parent_of}
+use Rattle.yv_schema.specs.InnerRows.{IsWithin, number_at, parent_of}
 use Rattle.yv_schema.specs.Module.{Basis, nodes_in}
 use Rattle.yv_schema.proofs.Noting.{Follows, each_at, givers, rank_up_to}
 use Rattle.yv_schema.proofs.Parenting.{before_each}
@@ -70,7 +70,7 @@ above_before left n (Some k) each = above_one left n k (slice_get left k) (each 
 
 -- each node has its giver, or none
 pub givers_many : (b : Basis) (follows : Follows b) → length (givers b follows) ≡ length (nodes_in b)
-givers_many b follows = length-map (nodes_in b) (λ (x : Node). giver_at (spots_of b.files b.final) b.final.augments x.origin)
+givers_many b follows = length-map (nodes_in b) (λ (x : Node). source_at (spots_of b.files b.final) b.final.augments x.origin)
 
 -- the numbers at a place are those of what has it
 pub family_before : (places : List (Option ℕ)) (place n : ℕ) → length places ≤ n → AllBefore n (numbers_at places place)

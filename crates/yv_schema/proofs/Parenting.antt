@@ -4,14 +4,14 @@ use Rattle.std.specs.List.{slice_get}
 use Rattle.std.specs.Option.{option_map}
 use Rattle.std.proofs.lemmas.List.{length-map, map-append}
 use Rattle.std.proofs.lemmas.Option.{get_or_from_slice_get, slice_get-map}
-use Rattle.yv_expansion.specs.Tree as items
-use Rattle.yv_expansion.specs.Tree.{Node}
+use Rattle.yv_expand.specs.Tree as items
+use Rattle.yv_expand.specs.Tree.{Node}
 use Rattle.yv_nodes.specs.declared.node.NodeId.{NodeId}
 use Rattle.yv_nodes.specs.Numbers.{rows_below, rows_from}
 use Rattle.yv_nodes.specs.Rows.{Row}
 use Rattle.yv_nodes.specs.Tree.{count, Label}
-use Rattle.yv_schema.specs.InnerRowing.{IsWithin, number_at, parent_of}
-use Rattle.yv_schema.specs.Module.{Basis, label_at, labelled, stated_of, nodes_in}
+use Rattle.yv_schema.specs.InnerRows.{IsWithin, number_at, parent_of}
+use Rattle.yv_schema.specs.Module.{Basis, label_at, with_labels, stated_of, nodes_in}
 use Rattle.yv_schema.proofs.Rowing.{count_labelled, within_more}
 
 -- what stands in one list behind another stands in one of them
@@ -29,24 +29,24 @@ made_at f [] k y at = cc
 made_at f (x ∷ xs) zero y at = let same : f x ≡ y = cc in (x, refl, same)
 made_at f (x ∷ xs) (suc k) y at = made_at f xs k y at
 
-pub length_listed : (parent : Option ℕ) (first : ℕ) (t : items.Nodes) → length (items.listed parent first t) ≡ items.count t
+pub length_listed : (parent : Option ℕ) (first : ℕ) (t : items.Nodes) → length (items.item_list parent first t) ≡ items.count t
 length_listed parent first items.none = refl
 length_listed parent first (items.item number below behind) =
     omega (
       arith,
-      length-append (items.listed (Some first) (first + 1) below) (items.listed parent (first + 1 + items.count below) behind),
+      length-append (items.item_list (Some first) (first + 1) below) (items.item_list parent (first + 1 + items.count below) behind),
       length_listed (Some first) (first + 1) below,
       length_listed parent (first + 1 + items.count below) behind,
     )
 
 -- the node above each stands before it
-pub before_each : (parent : Option ℕ) (first : ℕ) (t : items.Nodes) → IsWithin parent first → (k : ℕ) (x : Node) → slice_get (items.listed parent first t) k ≡ Some x → IsWithin x.parent (first + k)
+pub before_each : (parent : Option ℕ) (first : ℕ) (t : items.Nodes) → IsWithin parent first → (k : ℕ) (x : Node) → slice_get (items.item_list parent first t) k ≡ Some x → IsWithin x.parent (first + k)
 before_each parent first items.none within k x at = cc
 before_each parent first (items.item number below behind) within zero x at =
     let same : parent ≡ x.parent = cc in subst (λ (p : Option ℕ). IsWithin p (first + 0)) same (within_more parent first (first + 0) (omega arith) within)
 before_each parent first (items.item number below behind) within (suc k) x at =
-    let inside : List Node = items.listed (Some first) (first + 1) below in
-    elim (in_one inside (items.listed parent (first + 1 + items.count below) behind) k x at) [
+    let inside : List Node = items.item_list (Some first) (first + 1) below in
+    elim (in_one inside (items.item_list parent (first + 1 + items.count below) behind) k x at) [
       | inl here ↦ within_more x.parent (first + 1 + k) (first + suc k) (omega arith) (before_each (Some first) (first + 1) below (omega arith) k x here)
       | inr there ↦
           within_more x.parent (first + 1 + items.count below + there.0) (first + suc k) (omega (arith, there.1, length_listed (Some first) (first + 1) below))
@@ -61,19 +61,19 @@ module _ (b : Basis) where
 
   -- the parents of the rows of a schema tree are those of its nodes
   row_parents : (parent : Option ℕ) (first : ℕ) (above : List Label) (t : items.Nodes)
-      → map (λ (r : Row). r.parent) (rows_below (parent_of parent) first (labelled b above t)) ≡ map (λ (x : Node). parent_of x.parent) (items.listed parent first t)
+      → map (λ (r : Row). r.parent) (rows_below (parent_of parent) first (with_labels b above t)) ≡ map (λ (x : Node). parent_of x.parent) (items.item_list parent first t)
   row_parents parent first above items.none = refl
   row_parents parent first above (items.item number below behind) =
       let line : List Label = label_at b above number ∷ above in
-      let inner : List Row = rows_below (number_at first) (first + 1) (labelled b line below) in
+      let inner : List Row = rows_below (number_at first) (first + 1) (with_labels b line below) in
       let second : ℕ = first + 1 + items.count below in
-      let place : first + 1 + count (labelled b line below) ≡ second = omega (arith, count_labelled b line below) in
+      let place : first + 1 + count (with_labels b line below) ≡ second = omega (arith, count_labelled b line below) in
       ap (λ (ps : List NodeId). parent_of parent ∷ ps)
-      (map-append (λ (r : Row). r.parent) inner (rows_below (parent_of parent) (first + 1 + count (labelled b line below)) (labelled b above behind))
-      ∙ ap (λ (n : ℕ). map (λ (r : Row). r.parent) inner ++ map (λ (r : Row). r.parent) (rows_below (parent_of parent) n (labelled b above behind))) place
-      ∙ ap (λ (ps : List NodeId). ps ++ map (λ (r : Row). r.parent) (rows_below (parent_of parent) second (labelled b above behind))) (row_parents (Some first) (first + 1) line below)
-      ∙ ap (λ (ps : List NodeId). map (λ (x : Node). parent_of x.parent) (items.listed (Some first) (first + 1) below) ++ ps) (row_parents parent second above behind)
-      ∙ sym (map-append (λ (x : Node). parent_of x.parent) (items.listed (Some first) (first + 1) below) (items.listed parent second behind)))
+      (map-append (λ (r : Row). r.parent) inner (rows_below (parent_of parent) (first + 1 + count (with_labels b line below)) (with_labels b above behind))
+      ∙ ap (λ (n : ℕ). map (λ (r : Row). r.parent) inner ++ map (λ (r : Row). r.parent) (rows_below (parent_of parent) n (with_labels b above behind))) place
+      ∙ ap (λ (ps : List NodeId). ps ++ map (λ (r : Row). r.parent) (rows_below (parent_of parent) second (with_labels b above behind))) (row_parents (Some first) (first + 1) line below)
+      ∙ ap (λ (ps : List NodeId). map (λ (x : Node). parent_of x.parent) (items.item_list (Some first) (first + 1) below) ++ ps) (row_parents parent second above behind)
+      ∙ sym (map-append (λ (x : Node). parent_of x.parent) (items.item_list (Some first) (first + 1) below) (items.item_list parent second behind)))
 
   pub count_rows : (rows : List Row) → rows ≡ rows_from 0 (stated_of b) → length rows ≡ length (nodes_in b)
   count_rows rows are =

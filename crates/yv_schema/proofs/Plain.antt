@@ -13,24 +13,24 @@ use Rattle.yv_statement.specs.declared.refusal.Code.TheVariants as code
 use Rattle.yv_statement.specs.Order.{refusal_at}
 use Rattle.yv_statement.specs.declared.keyword.Keyword.{Keyword}
 use Rattle.yv_statement.specs.declared.keyword.Keyword.TheVariants as word
-use Rattle.yv_conform.specs.declared.form.Form.TheVariants as form
+use Rattle.yv_text_grammar.specs.declared.form.Form.TheVariants as form
 use Rattle.yv_statement.specs.Keywords.{keyword_in, keyword_of, names}
-use Rattle.yv_conform.specs.Argument.{argument_has}
-use Rattle.yv_conform.specs.Faults.{Bad, Faulty, is_module, keyword_at, own, below}
-use Rattle.yv_conform.specs.Forms.{form_of}
-use Rattle.yv_conform.specs.Texts.{is_identifier, is_part, is_start}
-use Rattle.yv_definitions.specs.Defined.{kind_of, node_name, refined}
-use Rattle.yv_definitions.specs.Kinds.{Typing}
-use Rattle.yv_expansion.specs.declared.item.Origin.{Origin}
-use Rattle.yv_expansion.specs.declared.item.Origin.TheVariants as origin
-use Rattle.yv_stated.specs.Statements.{no_statement}
-use Rattle.yv_augments.specs.declared.label.Kind.{Kind}
-use Rattle.yv_augments.specs.declared.label.Kind.TheVariants as kind
-use Rattle.yv_augmented.specs.Kinds.{is_uses, kind_of as item_kind, kind_at, kind_by, kind_in, kinds}
-use Rattle.yv_tables.specs.Numbered.{HasNoColon}
-use Rattle.yv_rows.specs.Files.{Files}
-use Rattle.yv_rows.specs.Rows.{Row, is_extended}
-use Rattle.yv_rows.specs.Listed.{inner_statements, rows_of, statements_in, statements_of}
+use Rattle.yv_text_grammar.specs.Argument.{argument_has}
+use Rattle.yv_text_grammar.specs.Refusals.{Bad, Faulty, is_module, keyword_at, own, below}
+use Rattle.yv_text_grammar.specs.Forms.{form_of}
+use Rattle.yv_text_grammar.specs.Texts.{is_identifier, is_part, is_start}
+use Rattle.yv_node_statements.specs.Definitions.{kind_of, node_name, refined_definition}
+use Rattle.yv_node_statements.specs.Kinds.{TypeMeanings}
+use Rattle.yv_expand.specs.declared.item.Origin.{Origin}
+use Rattle.yv_expand.specs.declared.item.Origin.TheVariants as origin
+use Rattle.yv_node_properties.specs.Statements.{no_statement}
+use Rattle.yv_expand_rounds.specs.declared.label.ItemKind.{ItemKind}
+use Rattle.yv_expand_rounds.specs.declared.label.ItemKind.TheVariants as kind
+use Rattle.yv_expand_augments.specs.Kinds.{is_uses, kind_of as item_kind, kind_at, kind_of_keyword, kind_in, kinds}
+use Rattle.yv_schema_tables.specs.NodeNumbers.{HasNoColon}
+use Rattle.yv_link_scopes.specs.Files.{Files}
+use Rattle.yv_link_scopes.specs.Rows.{Row, is_extended}
+use Rattle.yv_link_scopes.specs.RowList.{inner_statements, rows_of, statements_in, statements_of}
 
 first : (a b : Bool) → (a || b) ≡ false → a ≡ false
 first true b h = h
@@ -177,10 +177,10 @@ plain_node word.Output parent a d h = refl
 plain_node _ parent a d h = absurd (false≢true d)
 
 -- items but for uses are of these keywords
-abbrev is_good : List ℕ × Kind → Bool
+abbrev is_good : List ℕ × ItemKind → Bool
 is_good n = is_uses n.1 || defines (keyword_of n.0)
 
-good_in : (ns : List (List ℕ × Kind)) (text : List ℕ) → list_all is_good ns ≡ true → is_uses (unwrap_or (kind_in ns text) kind.Uses) ≡ false → defines (keyword_of text) ≡ true
+good_in : (ns : List (List ℕ × ItemKind)) (text : List ℕ) → list_all is_good ns ≡ true → is_uses (unwrap_or (kind_in ns text) kind.Uses) ≡ false → defines (keyword_of text) ≡ true
 good_in [] text good h = absurd (false≢true (sym h))
 good_in (n ∷ ns) text good h = by (bytes_eq n.0 text) refl (good_in ns text (and_second (is_good n) (list_all is_good ns) good)) h
   where
@@ -199,8 +199,8 @@ good_kinds : list_all is_good kinds ≡ true
 unfolding keyword_of
 good_kinds = refl
 
-defining : (text : List ℕ) → is_uses (unwrap_or (kind_by text) kind.Uses) ≡ false → defines (keyword_of text) ≡ true
-unfolding kind_by
+defining : (text : List ℕ) → is_uses (unwrap_or (kind_of_keyword text) kind.Uses) ≡ false → defines (keyword_of text) ≡ true
+unfolding kind_of_keyword
 defining text h = good_in kinds text good_kinds h
 
 not_extension : (k : Keyword) → defines k ≡ true → k ≢ word.Extended
@@ -240,8 +240,8 @@ plain_statement files are k None (Some t) absent at h = absurd (none_some (sym (
 plain_statement files are k (Some r) (Some t) row at h = plain_at files are.fine are.heads k r t row at h
 
 -- the name of a node of an origin, as refines change it, has no colon
-pub plain_refined : (typing : Typing) (files : Files) → Fine files → (from : Origin) (refines : List ℕ) → is_uses (item_kind (rows_of files) from) ≡ false
-    → HasNoColon (refined typing files from refines).name
+pub plain_refined : (typing : TypeMeanings) (files : Files) → Fine files → (from : Origin) (refines : List ℕ) → is_uses (item_kind (rows_of files) from) ≡ false
+    → HasNoColon (refined_definition typing files from refines).name
 plain_refined typing files are (origin.Statement k) refines h =
     subst (λ t. HasNoColon (node_name (kind_of (keyword_at t)) (name_of t.head))) (unwrap_or-slice_get (statements_of files) k no_statement)
     (plain_statement files are k (slice_get (rows_of files) k) (slice_get (statements_of files) k) refl refl h)

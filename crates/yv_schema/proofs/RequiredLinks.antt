@@ -7,29 +7,29 @@ use Rattle.yv_statement.specs.Tree.{Tree}
 use Rattle.yv_statement.specs.Order.{IsLeast}
 use Rattle.yv_statement.specs.declared.refusal.Refusal.{Refusal}
 use Rattle.yv_statement.specs.declared.refusal.Code.TheVariants as code
-use Rattle.yv_conform.specs.Faults.{Bad}
-use Rattle.yv_conform.specs.Fits.{Fits}
-use Rattle.yv_selection.specs.Choice.{Choice}
-use Rattle.yv_rows.specs.Files.{Files}
-use Rattle.yv_expansion.specs.Tree.{Node}
+use Rattle.yv_text_grammar.specs.Refusals.{Bad}
+use Rattle.yv_text_grammar.specs.Fits.{Fits}
+use Rattle.yv_statement.specs.Selection.{Selected}
+use Rattle.yv_link_scopes.specs.Files.{Files}
+use Rattle.yv_expand.specs.Tree.{Node}
 use Rattle.yv_nodes.specs.Link.{Link, link_in, reference_in}
-use Rattle.yv_nodes.specs.Refused.{refusal_of}
+use Rattle.yv_nodes.specs.Refusals.{refusal_of}
 use Rattle.yv_nodes.specs.Rows.{Row}
 use Rattle.yv_nodes.specs.Tree.{Forest}
-use Rattle.yv_leafrefs.specs.Bad.{BadLeafrefs}
-use Rattle.yv_leafrefs.specs.Resolved.{IsTyped, refused, resolved}
-use Rattle.yv_leafrefs.specs.Schema.{Referral, Schema}
-use Rattle.yv_leafrefs.specs.Targets.{HasTypesOf, IsLeafref, RefersTo, along, own}
-use Rattle.yv_final_tree.specs.Kept.{origin_at}
+use Rattle.yv_node_leafrefs.specs.Bad.{BadLeafrefs}
+use Rattle.yv_node_leafrefs.specs.Resolution.{IsTyped, with_refusal, with_targets}
+use Rattle.yv_node_leafrefs.specs.Schema.{Referral, Schema}
+use Rattle.yv_node_leafrefs.specs.Targets.{HasTypesOf, IsLeafref, RefersTo, along, own}
+use Rattle.yv_expand_tree.specs.FinalTree.{origin_at}
 use Rattle.yv_schema.specs.Module.{Basis, leafrefs_of, nodes_in, said_of, stated_of}
 use Rattle.yv_schema.specs.Refuses.{Refuses, in_file}
 use Rattle.yv_schema.specs.Schema.{AreReferences, IsBasis, IsSchema}
-use Rattle.yv_leafref_links.specs.Links.{AreLinks}
-use Rattle.yv_leafref_links.proofs.Required.{has_link, has_reference}
-use Rattle.yv_referrals.proofs.Beginning.{Conform, Headed, Origins, begins, no_value}
+use Rattle.yv_node_leafrefs.specs.Links.{AreLinks}
+use Rattle.yv_node_leafrefs.proofs.Required.{has_link, has_reference}
+use Rattle.yv_schema.proofs.Beginning.{Conform, Headed, Origins, begins, no_value}
 use Rattle.yv_schema.proofs.Interior.{NothingBelow, basis_inner}
 
-module _ (choice : Choice) (b : Basis) (is : IsBasis choice b) (fine : Conform b.files) (headed : Headed b.files) (origins : Origins) where
+module _ (choice : Selected) (b : Basis) (is : IsBasis choice b) (fine : Conform b.files) (headed : Headed b.files) (origins : Origins) where
   at_node : (x : Option Node) (ref : Referral) → option_and_then (said_of b) x ≡ Some ref → ref.climbs ≢ Some 0
   at_node None ref says = absurd (no_value ref says)
   at_node (Some x) ref says = begins b.files b.typing fine headed origins is.typing.referrals (origin_at b.final.items x.origin) ref says
@@ -41,7 +41,7 @@ module _ (choice : Choice) (b : Basis) (is : IsBasis choice b) (fine : Conform b
 abbrev pub Spared : Type 0
 Spared = (t : Tree) → ((f : Refusal) → Bad t f → ⊥) → Fits t
 
-conform_of : Spared → (choice : Choice) (files : Files) (limit : ℕ) → IsLeast (Refuses choice files limit) None → Conform files
+conform_of : Spared → (choice : Selected) (files : Files) (limit : ℕ) → IsLeast (Refuses choice files limit) None → Conform files
 conform_of spared choice files limit clear n root at =
     spared root (λ f bad. clear (in_file n f) (inl (inl (n, slice_get_within files n root at, root, at, record { own = f; stands = bad; is = refl }))))
 
@@ -52,14 +52,14 @@ types_refer s (along {target = t} refers rest) found = (t, refers)
 
 refers_of : (s : Schema) (stated tree : Forest) → IsTyped s stated tree → ((f : Refusal) → BadLeafrefs s f → ⊥) → (n : ℕ) (row : Row) (ref : Referral)
     → IsLeafref s n row ref → (target : ℕ) × RefersTo s n target
-refers_of s stated tree (resolved least is) clear n row ref leafref =
+refers_of s stated tree (with_targets least is) clear n row ref leafref =
     let within : n < length s.rows = slice_get_within s.rows n row leafref.at in
     types_refer s (is.each n within)
     (λ lost. clear (refusal_of code.BadPath row.label)
     (n, within, row, leafref.at, inl (record { ref = ref; is_leafref = leafref; lost = lost }, refl)))
-refers_of s stated tree (refused {f = f} bad) clear n row ref leafref = absurd (clear f bad)
+refers_of s stated tree (with_refusal {f = f} bad) clear n row ref leafref = absurd (clear f bad)
 
-module _ (headed : (files : Files) → Headed files) (origins : Origins) (spared : Spared) (below : NothingBelow) (choice : Choice) (files : Files) (limit : ℕ)
+module _ (headed : (files : Files) → Headed files) (origins : Origins) (spared : Spared) (below : NothingBelow) (choice : Selected) (files : Files) (limit : ℕ)
     (clear : IsLeast (Refuses choice files limit) None) where
   pub all_led : (links : List (Option Link)) (are : AreReferences choice files links) (n target : ℕ) (refers : RefersTo (leafrefs_of are.basis) n target)
       → (link : Link) × (reference_in links n ≡ Some link) × (link.target ≡ target) × (link.is_required ≡ refers.ref.is_required)

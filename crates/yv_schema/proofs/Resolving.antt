@@ -9,30 +9,30 @@ use Rattle.yv_statement.specs.Order.{IsLeast}
 use Rattle.yv_statement.specs.declared.refusal.Refusal.{Refusal}
 use Rattle.yv_statement.specs.Tree.{Tree, name_of as name_of_head}
 use Rattle.yv_statement.specs.Keywords.{keyword_of}
-use Rattle.yv_rows.specs.Files.{Files}
-use Rattle.yv_rows.specs.Listed.{rows_of, statements_of}
-use Rattle.yv_rows.specs.Rows.{Row as Statement}
-use Rattle.yv_stated.specs.Statements.{no_statement, statement_at}
-use Rattle.yv_expansion.specs.Tree as items
-use Rattle.yv_expansion.specs.Tree.{Item, Node}
-use Rattle.yv_expansion.specs.declared.item.Origin.{Origin}
-use Rattle.yv_expansion.specs.declared.item.Origin.TheVariants as origin
-use Rattle.yv_definitions.specs.Defined.{defined, kind_of, node_name}
-use Rattle.yv_definitions.specs.Kinds.{Typing}
-use Rattle.yv_final_tree.specs.Final.{Final}
-use Rattle.yv_final_tree.specs.Kept.{origin_at}
+use Rattle.yv_link_scopes.specs.Files.{Files}
+use Rattle.yv_link_scopes.specs.RowList.{rows_of, statements_of}
+use Rattle.yv_link_scopes.specs.Rows.{Row as Statement}
+use Rattle.yv_node_properties.specs.Statements.{no_statement, statement_at}
+use Rattle.yv_expand.specs.Tree as items
+use Rattle.yv_expand.specs.Tree.{Item, Node}
+use Rattle.yv_expand.specs.declared.item.Origin.{Origin}
+use Rattle.yv_expand.specs.declared.item.Origin.TheVariants as origin
+use Rattle.yv_node_statements.specs.Definitions.{definition_of, kind_of, node_name}
+use Rattle.yv_node_statements.specs.Kinds.{TypeMeanings}
+use Rattle.yv_expand_tree.specs.Final.{Final}
+use Rattle.yv_expand_tree.specs.FinalTree.{origin_at}
 use Rattle.yv_nodes.specs.declared.node.NodeId.{NodeId}
 use Rattle.yv_nodes.specs.Numbers.{rows_below, rows_from}
 use Rattle.yv_nodes.specs.Rows.{Row, root}
 use Rattle.yv_nodes.specs.Tree.{count, Label}
 use Rattle.yv_nodes.specs.Link.{Link}
-use Rattle.yv_leafrefs.specs.Bad.{BadLeafrefs}
-use Rattle.yv_leafrefs.specs.Named.{AreNamed}
-use Rattle.yv_leafrefs.specs.Schema.{AreAlike, Referral, Schema, said_by}
-use Rattle.yv_leafref_links.specs.Links.{AreLinks}
-use Rattle.yv_referrals.specs.Said.{said}
-use Rattle.yv_schema.specs.InnerResolved.{origins_of, schema_by, statement_number}
-use Rattle.yv_schema.specs.Module.{Basis, label_at, labelled, leafrefs_of, nodes_in, said_of, stated_of}
+use Rattle.yv_node_leafrefs.specs.Bad.{BadLeafrefs}
+use Rattle.yv_node_leafrefs.specs.DefiningStatements.{AreNamed}
+use Rattle.yv_node_leafrefs.specs.Schema.{AreAlike, Referral, Schema, leafref_of_row}
+use Rattle.yv_node_leafrefs.specs.Links.{AreLinks}
+use Rattle.yv_schema.specs.Referrals.{referral_at}
+use Rattle.yv_schema.specs.InnerResolution.{origins_of, schema_of_rows, statement_number}
+use Rattle.yv_schema.specs.Module.{Basis, label_at, with_labels, leafrefs_of, nodes_in, said_of, stated_of}
 use Rattle.yv_schema.specs.InnerContext.{Tells}
 use Rattle.yv_schema.specs.declared.context.Context.{Context}
 use Rattle.yv_schema.proofs.Parenting.{count_rows, made_at}
@@ -53,12 +53,12 @@ past_all : (files : Files) (m n : ℕ) → length (statements_of files) ≤ m �
 past_all files m n past too = get_or_past (statements_of files) m no_statement past ∙ sym (get_or_past (statements_of files) n no_statement too)
 
 -- nodes of one number have one name
-same_name : (typing : Typing) (files : Files) (count : ℕ) (p q : Origin) → count ≡ length (statements_of files) → statement_number count p ≡ statement_number count q
-    → (defined typing files p).name ≡ (defined typing files q).name
+same_name : (typing : TypeMeanings) (files : Files) (count : ℕ) (p q : Origin) → count ≡ length (statements_of files) → statement_number count p ≡ statement_number count q
+    → (definition_of typing files p).name ≡ (definition_of typing files q).name
 same_name typing files count (origin.Statement m) (origin.Statement n) many same = by (cases_lt m count) (cases_lt n count)
   where
-    by : (m < count) ⊎ (count ≤ m) → (n < count) ⊎ (count ≤ n) → (defined typing files (origin.Statement m)).name ≡ (defined typing files (origin.Statement n)).name
-    by (inl here) (inl too) = let is : m ≡ n = omega (arith, same, here, too) in ap (λ k. (defined typing files (origin.Statement k)).name) is
+    by : (m < count) ⊎ (count ≤ m) → (n < count) ⊎ (count ≤ n) → (definition_of typing files (origin.Statement m)).name ≡ (definition_of typing files (origin.Statement n)).name
+    by (inl here) (inl too) = let is : m ≡ n = omega (arith, same, here, too) in ap (λ k. (definition_of typing files (origin.Statement k)).name) is
     by (inl here) (inr past) = absurd (omega (arith, same, here, past))
     by (inr past) (inl here) = absurd (omega (arith, same, here, past))
     by (inr past) (inr too) =
@@ -77,24 +77,24 @@ module _ (b : Basis) where
   origin_of x = origin_at b.final.items x.origin
 
   abbrev name_of : Node → List ℕ
-  name_of x = (defined b.typing b.files (origin_of x)).name
+  name_of x = (definition_of b.typing b.files (origin_of x)).name
 
   -- the names of the rows of a tree are those that the statements of its nodes say
   row_names : (parent : NodeId) (place : Option ℕ) (first : ℕ) (above : List Label) (t : items.Nodes)
-      → map (λ (r : Row). r.label.defined.name) (rows_below parent first (labelled b above t)) ≡ map name_of (items.listed place first t)
+      → map (λ (r : Row). r.label.defined.name) (rows_below parent first (with_labels b above t)) ≡ map name_of (items.item_list place first t)
   row_names parent place first above items.none = refl
   row_names parent place first above (items.item number below behind) =
       let line : List Label = label_at b above number ∷ above in
       let own : NodeId = record { 0 = first } in
-      let inner : List Row = rows_below own (first + 1) (labelled b line below) in
+      let inner : List Row = rows_below own (first + 1) (with_labels b line below) in
       let second : ℕ = first + 1 + items.count below in
-      let at : first + 1 + count (labelled b line below) ≡ second = omega (arith, count_labelled b line below) in
+      let at : first + 1 + count (with_labels b line below) ≡ second = omega (arith, count_labelled b line below) in
       ap (λ (ns : List (List ℕ)). (label_at b above number).defined.name ∷ ns)
-      (map-append (λ (r : Row). r.label.defined.name) inner (rows_below parent (first + 1 + count (labelled b line below)) (labelled b above behind))
-      ∙ ap (λ (n : ℕ). map (λ (r : Row). r.label.defined.name) inner ++ map (λ (r : Row). r.label.defined.name) (rows_below parent n (labelled b above behind))) at
-      ∙ ap (λ (ns : List (List ℕ)). ns ++ map (λ (r : Row). r.label.defined.name) (rows_below parent second (labelled b above behind))) (row_names own (Some first) (first + 1) line below)
-      ∙ ap (λ (ns : List (List ℕ)). map name_of (items.listed (Some first) (first + 1) below) ++ ns) (row_names parent place second above behind)
-      ∙ sym (map-append name_of (items.listed (Some first) (first + 1) below) (items.listed place second behind)))
+      (map-append (λ (r : Row). r.label.defined.name) inner (rows_below parent (first + 1 + count (with_labels b line below)) (with_labels b above behind))
+      ∙ ap (λ (n : ℕ). map (λ (r : Row). r.label.defined.name) inner ++ map (λ (r : Row). r.label.defined.name) (rows_below parent n (with_labels b above behind))) at
+      ∙ ap (λ (ns : List (List ℕ)). ns ++ map (λ (r : Row). r.label.defined.name) (rows_below parent second (with_labels b above behind))) (row_names own (Some first) (first + 1) line below)
+      ∙ ap (λ (ns : List (List ℕ)). map name_of (items.item_list (Some first) (first + 1) below) ++ ns) (row_names parent place second above behind)
+      ∙ sym (map-append name_of (items.item_list (Some first) (first + 1) below) (items.item_list place second behind)))
 
   -- a row has the name of its node
   row_name : (rows : List Row) (n : ℕ) (r : Row) (x : Node) → rows ≡ rows_from 0 (stated_of b) → slice_get rows n ≡ Some r → slice_get (nodes_in b) n ≡ Some x → r.label.defined.name ≡ name_of x
@@ -125,17 +125,17 @@ module _ (b : Basis) where
 
   -- what is read of the nodes' origins is what the nodes say
   pub are_alike : (rows : List Row) (of : List (Option ℕ)) (leafrefs : List Referral) → rows ≡ rows_from 0 (stated_of b)
-      → ((n : ℕ) → said_by of leafrefs n ≡ option_and_then (said b.typing b.files) (slice_get (origins_of b) n)) → AreAlike (schema_by rows of leafrefs) (leafrefs_of b)
+      → ((n : ℕ) → leafref_of_row of leafrefs n ≡ option_and_then (referral_at b.typing b.files) (slice_get (origins_of b) n)) → AreAlike (schema_of_rows rows of leafrefs) (leafrefs_of b)
   are_alike rows of leafrefs are told = record {
     rows = are;
-    says = λ n. told n ∙ ap (option_and_then (said b.typing b.files)) (slice_get-map origin_of (nodes_in b) n) ∙ then_mapped origin_of (said b.typing b.files) (slice_get (nodes_in b) n);
+    says = λ n. told n ∙ ap (option_and_then (referral_at b.typing b.files)) (slice_get-map origin_of (nodes_in b) n) ∙ then_mapped origin_of (referral_at b.typing b.files) (slice_get (nodes_in b) n);
   }
 
 -- the origins of the nodes that are left, as a context tells them
 pub origins_told : (b : Basis) (c : Context) → Tells b c → map (λ (x : Node). origin_at c.tree.now.items x.origin) c.tree.now.left ≡ origins_of b
 origins_told b c tells =
     ap (λ (is : List Item). map (λ (x : Node). origin_at is x.origin) c.tree.now.left) (tells.kept.items ∙ ap (λ (f : Final). f.items) tells.final)
-    ∙ ap (map (λ (x : Node). origin_at b.final.items x.origin)) (tells.kept.left ∙ ap (items.listed None 0) tells.nodes)
+    ∙ ap (map (λ (x : Node). origin_at b.final.items x.origin)) (tells.kept.left ∙ ap (items.item_list None 0) tells.nodes)
 
 -- links are those of the leafrefs where nothing is wrong with these, and else there are none
 pub links_are : (b : Basis) (s : Schema) (o : Option Refusal) (links : List (Option Link)) → IsLeast (BadLeafrefs (leafrefs_of b)) o → (AreLinks s links → AreLinks (leafrefs_of b) links)

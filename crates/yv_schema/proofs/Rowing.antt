@@ -1,20 +1,20 @@
 -- The rows of the nodes that are left are those of the schema tree.
 use Rattle.std.proofs.Common.{◌≡◌, ℕ, zero, suc, ◌+◌, ◌<◌, ◌≤◌, List, [], ◌∷◌, ◌++◌, length, get_or, drop, drop-cons, add-one, map, refl, sym, ap, ◌∙◌, subst, arith, append_assoc, append-nil, length-append, Option, Some, None}
 use Rattle.std.proofs.Math.Seq.{get_or-append_seam}
-use Rattle.yv_expansion.specs.Tree as items
-use Rattle.yv_expansion.specs.Tree.{Node}
-use Rattle.yv_children.specs.Families as families
+use Rattle.yv_expand.specs.Tree as items
+use Rattle.yv_expand.specs.Tree.{Node}
+use Rattle.yv_schema.specs.Families as families
 use Rattle.yv_nodes.specs.declared.node.NodeId.{NodeId}
-use Rattle.yv_nodes.specs.declared.node.Standing.{Standing}
+use Rattle.yv_nodes.specs.declared.node.NodePlace.{NodePlace}
 use Rattle.yv_nodes.specs.Tree.{count, Forest, Label}
 use Rattle.yv_nodes.specs.Rows.{Row}
 use Rattle.yv_nodes.specs.Member.{row_with}
-use Rattle.yv_properties.specs.Defined.{Defined}
-use Rattle.yv_above.specs.Above.{Seen, seen_of}
-use Rattle.yv_above.specs.Labels.{label_of}
-use Rattle.yv_schema.specs.Module.{Basis, label_at, labelled, stated_of}
+use Rattle.yv_node_definition.specs.Definition.{Definition}
+use Rattle.yv_nodes.specs.Above.{View, seen_of}
+use Rattle.yv_nodes.specs.Labels.{label_of}
+use Rattle.yv_schema.specs.Module.{Basis, label_at, with_labels, stated_of}
 use Rattle.yv_nodes.specs.Numbers.{numbers_from, rows_below, rows_from}
-use Rattle.yv_schema.specs.InnerRowing.{AreSeen, IsWithin, line_at, line_of, number_at, numbers_at, parent_of, row_of, rows_for}
+use Rattle.yv_schema.specs.InnerRows.{AreSeen, IsWithin, line_at, line_of, number_at, numbers_at, parent_of, row_of, rows_of_items}
 
 length_below : (first : ℕ) (t : items.Nodes) → length (families.below_from first t) ≡ items.count t
 length_below first items.none = refl
@@ -36,7 +36,7 @@ line_stays lines more None h = refl
 line_stays lines more (Some place) h = left_stays lines more place h
 
 module _ (b : Basis) where
-  pub count_labelled : (above : List Label) (t : items.Nodes) → count (labelled b above t) ≡ items.count t
+  pub count_labelled : (above : List Label) (t : items.Nodes) → count (with_labels b above t) ≡ items.count t
   count_labelled above items.none = refl
   count_labelled above (items.item number below behind) = omega (arith, count_labelled (label_at b above number ∷ above) below, count_labelled above behind)
 
@@ -52,30 +52,30 @@ module _ (b : Basis) where
       let line : List Label = label_at b above number ∷ above in
       omega (arith, length-append (lines_from line below) (lines_from above behind), length_lines line below, length_lines above behind)
 
-  pub numbers_labelled : (above : List Label) (first : ℕ) (t : items.Nodes) → numbers_at (families.numbers_from first t) ≡ numbers_from first (labelled b above t)
+  pub numbers_labelled : (above : List Label) (first : ℕ) (t : items.Nodes) → numbers_at (families.numbers_from first t) ≡ numbers_from first (with_labels b above t)
   numbers_labelled above first items.none = refl
   numbers_labelled above first (items.item number below behind) =
       let line : List Label = label_at b above number ∷ above in
-      let place : (first + 1 + items.count below) ≡ first + 1 + count (labelled b line below) = omega (arith, count_labelled line below) in
+      let place : (first + 1 + items.count below) ≡ first + 1 + count (with_labels b line below) = omega (arith, count_labelled line below) in
       ap (λ (cs : List NodeId). number_at first ∷ cs)
-      (numbers_labelled above (first + 1 + items.count below) behind ∙ ap (λ (n : ℕ). numbers_from n (labelled b above behind)) place)
+      (numbers_labelled above (first + 1 + items.count below) behind ∙ ap (λ (n : ℕ). numbers_from n (with_labels b above behind)) place)
 
   -- the row of one item, and those of the items behind
   pub row_next : (below : List (List ℕ)) (lines : List (List Label)) (xs : List Node) (i : ℕ) (x : Node) → i < length xs
-      → rows_for b below lines i (drop i xs)
+      → rows_of_items b below lines i (drop i xs)
       ≡ row_of b (line_at lines (get_or xs i x).parent) (get_or xs i x) (parent_of (get_or xs i x).parent) (numbers_at (get_or below i []))
-      ∷ rows_for b below (lines ++ line_of b lines (get_or xs i x) ∷ []) (i + 1) (drop (i + 1) xs)
-  row_next below lines xs i x lt = ap (rows_for b below lines i) (drop-cons xs i x lt ∙ ap (λ (n : ℕ). get_or xs i x ∷ drop n xs) (sym (add-one i)))
+      ∷ rows_of_items b below (lines ++ line_of b lines (get_or xs i x) ∷ []) (i + 1) (drop (i + 1) xs)
+  row_next below lines xs i x lt = ap (rows_of_items b below lines i) (drop-cons xs i x lt ∙ ap (λ (n : ℕ). get_or xs i x ∷ drop n xs) (sym (add-one i)))
 
   pub rows_labelled : (parent : Option ℕ) (above : List Label) (first : ℕ) (t : items.Nodes) (front back : List (List ℕ)) (lines : List (List Label)) (rest : List Node)
       → length front ≡ first → length lines ≡ first → IsWithin parent first → line_at lines parent ≡ above
-      → rows_for b (front ++ families.below_from first t ++ back) lines first (items.listed parent first t ++ rest)
-      ≡ rows_below (parent_of parent) first (labelled b above t)
-      ++ rows_for b (front ++ families.below_from first t ++ back) (lines ++ lines_from above t) (first + items.count t) rest
+      → rows_of_items b (front ++ families.below_from first t ++ back) lines first (items.item_list parent first t ++ rest)
+      ≡ rows_below (parent_of parent) first (with_labels b above t)
+      ++ rows_of_items b (front ++ families.below_from first t ++ back) (lines ++ lines_from above t) (first + items.count t) rest
   rows_labelled parent above first items.none front back lines rest many long within e =
       let all : List (List ℕ) = front ++ [] ++ back in
-      ap (λ (ls : List (List Label)). rows_for b all ls first rest) (sym (append-nil lines))
-      ∙ ap (λ (n : ℕ). rows_for b all (lines ++ []) n rest) (omega arith)
+      ap (λ (ls : List (List Label)). rows_of_items b all ls first rest) (sym (append-nil lines))
+      ∙ ap (λ (n : ℕ). rows_of_items b all (lines ++ []) n rest) (omega arith)
   rows_labelled parent above first (items.item number below behind) front back lines rest many long within e =
       let own : List ℕ = families.numbers_from (first + 1) below in
       let kids : List (List ℕ) = families.below_from (first + 1) below in
@@ -93,13 +93,13 @@ module _ (b : Basis) where
       let mine : Label = label_at b above number in
       let line : List Label = mine ∷ above in
       let second : ℕ = first + 1 + items.count below in
-      let inside : Forest = labelled b line below in
-      let after : Forest = labelled b above behind in
-      let first_items : List Node = items.listed (Some first) (first + 1) below in
-      let second_items : List Node = items.listed parent second behind in
+      let inside : Forest = with_labels b line below in
+      let after : Forest = with_labels b above behind in
+      let first_items : List Node = items.item_list (Some first) (first + 1) below in
+      let second_items : List Node = items.item_list parent second behind in
       let first_lines : List (List Label) = lines ++ line ∷ [] in
       let second_lines : List (List Label) = first_lines ++ lines_from line below in
-      let end : List Row = rows_for b all (lines ++ lines_from above (items.item number below behind)) (first + items.count (items.item number below behind)) rest in
+      let end : List Row = rows_of_items b all (lines ++ lines_from above (items.item number below behind)) (first + items.count (items.item number below behind)) rest in
       let same : line_of b lines x ≡ line = ap (λ (ls : List Label). label_at b ls number ∷ ls) e in
       let long_first : length first_lines ≡ first + 1 = omega (arith, long, length-append lines (line ∷ [])) in
       let long_second : length second_lines ≡ second = omega (arith, long_first, length-append first_lines (lines_from line below), length_lines line below) in
@@ -108,38 +108,38 @@ module _ (b : Basis) where
       let stays : line_at second_lines parent ≡ above =
       line_stays first_lines (lines_from line below) parent (within_more parent first (length first_lines) (omega (arith, long_first)) within)
       ∙ line_stays lines (line ∷ []) parent (within_more parent first (length lines) (omega (arith, long)) within) ∙ e in
-      let inner : rows_for b all first_lines (first + 1) (first_items ++ (second_items ++ rest)) ≡ rows_below own_id (first + 1) inside ++ rows_for b all second_lines second (second_items ++ rest) =
-      subst (λ (bs : List (List ℕ)). rows_for b bs first_lines (first + 1) (first_items ++ (second_items ++ rest)) ≡ rows_below own_id (first + 1) inside ++ rows_for b bs second_lines second (second_items ++ rest)) first_split
+      let inner : rows_of_items b all first_lines (first + 1) (first_items ++ (second_items ++ rest)) ≡ rows_below own_id (first + 1) inside ++ rows_of_items b all second_lines second (second_items ++ rest) =
+      subst (λ (bs : List (List ℕ)). rows_of_items b bs first_lines (first + 1) (first_items ++ (second_items ++ rest)) ≡ rows_below own_id (first + 1) inside ++ rows_of_items b bs second_lines second (second_items ++ rest)) first_split
       (rows_labelled (Some first) line (first + 1) below (front ++ own ∷ []) (others ++ back) first_lines (second_items ++ rest) (omega (arith, many, length-append front (own ∷ []))) long_first (omega arith) found) in
-      let outer : rows_for b all second_lines second (second_items ++ rest) ≡ rows_below above_id second after ++ rows_for b all (second_lines ++ lines_from above behind) (second + items.count behind) rest =
-      subst (λ (bs : List (List ℕ)). rows_for b bs second_lines second (second_items ++ rest) ≡ rows_below above_id second after ++ rows_for b bs (second_lines ++ lines_from above behind) (second + items.count behind) rest) second_split
+      let outer : rows_of_items b all second_lines second (second_items ++ rest) ≡ rows_below above_id second after ++ rows_of_items b all (second_lines ++ lines_from above behind) (second + items.count behind) rest =
+      subst (λ (bs : List (List ℕ)). rows_of_items b bs second_lines second (second_items ++ rest) ≡ rows_below above_id second after ++ rows_of_items b bs (second_lines ++ lines_from above behind) (second + items.count behind) rest) second_split
       (rows_labelled parent above second behind (front ++ own ∷ kids) back second_lines rest (omega (arith, many, length-append front (own ∷ kids), length_below (first + 1) below)) long_second (within_more parent first second (omega arith) within) stays) in
       let all_lines : second_lines ++ lines_from above behind ≡ lines ++ lines_from above (items.item number below behind) = simp append_assoc in
-      let ended : rows_for b all (second_lines ++ lines_from above behind) (second + items.count behind) rest ≡ end =
-      ap (λ (ls : List (List Label)). rows_for b all ls (second + items.count behind) rest) all_lines
-      ∙ ap (λ (n : ℕ). rows_for b all (lines ++ lines_from above (items.item number below behind)) n rest) (omega arith) in
+      let ended : rows_of_items b all (second_lines ++ lines_from above behind) (second + items.count behind) rest ≡ end =
+      ap (λ (ls : List (List Label)). rows_of_items b all ls (second + items.count behind) rest) all_lines
+      ∙ ap (λ (n : ℕ). rows_of_items b all (lines ++ lines_from above (items.item number below behind)) n rest) (omega arith) in
       let a_rows : List Row = rows_below own_id (first + 1) inside in
       let b_rows : List Row = rows_below above_id (first + 1 + count inside) after in
       let b_same : rows_below above_id second after ≡ b_rows = ap (λ (n : ℕ). rows_below above_id n after) (omega (arith, count_labelled line below)) in
-      let tail : rows_for b all (lines ++ line_of b lines x ∷ []) (first + 1) ((first_items ++ second_items) ++ rest) ≡ (a_rows ++ b_rows) ++ end =
-      ap (λ (l : List Label). rows_for b all (lines ++ l ∷ []) (first + 1) ((first_items ++ second_items) ++ rest)) same
-      ∙ ap (rows_for b all first_lines (first + 1)) (append_assoc first_items second_items rest)
+      let tail : rows_of_items b all (lines ++ line_of b lines x ∷ []) (first + 1) ((first_items ++ second_items) ++ rest) ≡ (a_rows ++ b_rows) ++ end =
+      ap (λ (l : List Label). rows_of_items b all (lines ++ l ∷ []) (first + 1) ((first_items ++ second_items) ++ rest)) same
+      ∙ ap (rows_of_items b all first_lines (first + 1)) (append_assoc first_items second_items rest)
       ∙ inner
-      ∙ ap (λ (rs : List Row). a_rows ++ rs) (outer ∙ ap (λ (rs : List Row). rs ++ rows_for b all (second_lines ++ lines_from above behind) (second + items.count behind) rest) b_same ∙ ap (λ (rs : List Row). b_rows ++ rs) ended)
+      ∙ ap (λ (rs : List Row). a_rows ++ rs) (outer ∙ ap (λ (rs : List Row). rs ++ rows_of_items b all (second_lines ++ lines_from above behind) (second + items.count behind) rest) b_same ∙ ap (λ (rs : List Row). b_rows ++ rs) ended)
       ∙ sym (append_assoc a_rows b_rows end) in
       let children : numbers_at (get_or all first []) ≡ numbers_from (first + 1) inside =
       ap numbers_at here ∙ numbers_labelled line (first + 1) below in
       let head : row_of b (line_at lines parent) x above_id (numbers_at (get_or all first [])) ≡ row_of b above x above_id (numbers_from (first + 1) inside) =
       ap (λ (ls : List Label). row_of b ls x above_id (numbers_at (get_or all first []))) e ∙ ap (row_of b above x above_id) children in
-      ap (λ (r : Row). r ∷ rows_for b all (lines ++ line_of b lines x ∷ []) (first + 1) ((first_items ++ second_items) ++ rest)) head
+      ap (λ (r : Row). r ∷ rows_of_items b all (lines ++ line_of b lines x ∷ []) (first + 1) ((first_items ++ second_items) ++ rest)) head
       ∙ ap (λ (rs : List Row). row_of b above x above_id (numbers_from (first + 1) inside) ∷ rs) tail
 
   -- the rows of all items are those of the schema tree
-  pub rows_whole : (xs : List Node) (below : List (List ℕ)) → xs ≡ items.listed None 0 b.nodes → below ≡ families.below_from 0 b.nodes → rows_for b below [] 0 xs ≡ rows_from 0 (stated_of b)
+  pub rows_whole : (xs : List Node) (below : List (List ℕ)) → xs ≡ items.item_list None 0 b.nodes → below ≡ families.below_from 0 b.nodes → rows_of_items b below [] 0 xs ≡ rows_from 0 (stated_of b)
   rows_whole xs below are hung =
       let flat : below ≡ [] ++ families.below_from 0 b.nodes ++ [] = hung ∙ sym (append-nil (families.below_from 0 b.nodes)) in
-      ap (λ (bs : List (List ℕ)). rows_for b bs [] 0 xs) flat
-      ∙ ap (rows_for b ([] ++ families.below_from 0 b.nodes ++ []) [] 0) (are ∙ sym (append-nil (items.listed None 0 b.nodes)))
+      ap (λ (bs : List (List ℕ)). rows_of_items b bs [] 0 xs) flat
+      ∙ ap (rows_of_items b ([] ++ families.below_from 0 b.nodes ++ []) [] 0) (are ∙ sym (append-nil (items.item_list None 0 b.nodes)))
       ∙ rows_labelled None [] 0 b.nodes [] [] [] [] refl refl tt refl ∙ append-nil _
 
   -- the numbers of those at the top are those of its nodes at the top
@@ -148,21 +148,21 @@ module _ (b : Basis) where
 
 map_one : (lines : List (List Label)) (line : List Label) → map seen_of (lines ++ line ∷ []) ≡ map seen_of lines ++ seen_of line ∷ []
 map_one [] line = refl
-map_one (l ∷ lines) line = ap (λ (ss : List Seen). seen_of l ∷ ss) (map_one lines line)
+map_one (l ∷ lines) line = ap (λ (ss : List View). seen_of l ∷ ss) (map_one lines line)
 
 -- the line of one more item is seen
-pub seen_more : (lines : List (List Label)) (line : List Label) (old new : List Seen) (one : Seen) → AreSeen lines old → one ≡ seen_of line → new ≡ old ++ one ∷ [] → AreSeen (lines ++ line ∷ []) new
+pub seen_more : (lines : List (List Label)) (line : List Label) (old new : List View) (one : View) → AreSeen lines old → one ≡ seen_of line → new ≡ old ++ one ∷ [] → AreSeen (lines ++ line ∷ []) new
 seen_more lines line old new one h is grew =
-    record { are = grew ∙ ap (λ (ss : List Seen). ss ++ one ∷ []) h.are ∙ ap (λ (s : Seen). map seen_of lines ++ s ∷ []) is ∙ sym (map_one lines line) }
+    record { are = grew ∙ ap (λ (ss : List View). ss ++ one ∷ []) h.are ∙ ap (λ (s : View). map seen_of lines ++ s ∷ []) is ∙ sym (map_one lines line) }
 
 -- the rows and lines of the items so far
-pub record Kept (b : Basis) (below : List (List ℕ)) (seen : List Seen) (i : ℕ) (xs : List Node) (now old : List Row) : Type 0 where
+pub record Kept (b : Basis) (below : List (List ℕ)) (seen : List View) (i : ℕ) (xs : List Node) (now old : List Row) : Type 0 where
   pub lines : List (List Label)
   pub are : AreSeen lines seen
-  pub rows : now ++ rows_for b below lines i (drop i xs) ≡ old ++ rows_for b below [] 0 xs
+  pub rows : now ++ rows_of_items b below lines i (drop i xs) ≡ old ++ rows_of_items b below [] 0 xs
 
 -- one item more
-pub kept_more : (b : Basis) (below : List (List ℕ)) (seen next : List Seen) (one : Seen) (i : ℕ) (xs : List Node) (blank : Node) (now new old : List Row) (row : Row)
+pub kept_more : (b : Basis) (below : List (List ℕ)) (seen next : List View) (one : View) (i : ℕ) (xs : List Node) (blank : Node) (now new old : List Row) (row : Row)
     → (k : Kept b below seen i xs now old) → i < length xs → next ≡ seen ++ one ∷ [] → new ≡ now ++ row ∷ []
     → row ≡ row_of b (line_at k.lines (get_or xs i blank).parent) (get_or xs i blank) (parent_of (get_or xs i blank).parent) (numbers_at (get_or below i []))
     → one ≡ seen_of (line_of b k.lines (get_or xs i blank)) → Kept b below next (i + 1) xs new old
@@ -171,7 +171,7 @@ kept_more b below seen next one i xs blank now new old row k lt grew added is to
     let above : List Label = line_at k.lines x.parent in
     let line : List Label = line_of b k.lines x in
     let made : Row = row_of b above x (parent_of x.parent) (numbers_at (get_or below i [])) in
-    let rest : List Row = rows_for b below (k.lines ++ line ∷ []) (i + 1) (drop (i + 1) xs) in
+    let rest : List Row = rows_of_items b below (k.lines ++ line ∷ []) (i + 1) (drop (i + 1) xs) in
     record {
       lines = k.lines ++ line ∷ [];
       are = seen_more k.lines line seen next one k.are told grew;
@@ -180,17 +180,17 @@ kept_more b below seen next one i xs blank now new old row k lt grew added is to
           ∙ ap (λ (rs : List Row). now ++ rs) (sym (row_next b below k.lines xs i blank lt)) ∙ k.rows;
     }
 
--- the row of a node that is made for an item of this definition, in the namespace of the module of its home
-pub row_is : (b : Basis) (ls : List Label) (x : Node) (parent : NodeId) (children : List NodeId) (d : Defined) (home : ℕ) (name : List ℕ) (standing : Standing)
-    → label_of d home name ls ≡ label_at b ls x.origin → (row_with d home name standing parent children).label ≡ label_of d home name ls
-    → row_with d home name standing parent children ≡ row_of b ls x parent children
-row_is b ls x parent children d home name standing is e = ap (λ (l : Label). let r : Row = record { label = l; parent = parent; children = children } in r) (e ∙ is)
+-- the row of a node that is made for an item of this definition, in the namespace of the module of its module_file
+pub row_is : (b : Basis) (ls : List Label) (x : Node) (parent : NodeId) (children : List NodeId) (d : Definition) (module_file : ℕ) (name : List ℕ) (standing : NodePlace)
+    → label_of d module_file name ls ≡ label_at b ls x.origin → (row_with d module_file name standing parent children).label ≡ label_of d module_file name ls
+    → row_with d module_file name standing parent children ≡ row_of b ls x parent children
+row_is b ls x parent children d module_file name standing is e = ap (λ (l : Label). let r : Row = record { label = l; parent = parent; children = children } in r) (e ∙ is)
 
 -- what is seen below an item's node
-pub seen_below : (b : Basis) (ls : List Label) (seen : Seen) (x : Node) (d : Defined) (home : ℕ) (name : List ℕ) (standing : Standing) (above : Seen) (parent : NodeId) (children : List NodeId)
-    → label_of d home name ls ≡ label_at b ls x.origin → (row_with d home name standing parent children).label ≡ label_of d home name ls
-    → ((l : Label) → seen ≡ seen_of ls → l.defined ≡ d → l.home ≡ home → l.is_config ≡ standing.is_config → l.is_input ≡ standing.is_input → above ≡ seen_of (l ∷ ls))
+pub seen_below : (b : Basis) (ls : List Label) (seen : View) (x : Node) (d : Definition) (module_file : ℕ) (name : List ℕ) (standing : NodePlace) (above : View) (parent : NodeId) (children : List NodeId)
+    → label_of d module_file name ls ≡ label_at b ls x.origin → (row_with d module_file name standing parent children).label ≡ label_of d module_file name ls
+    → ((l : Label) → seen ≡ seen_of ls → l.defined ≡ d → l.module_file ≡ module_file → l.is_config ≡ standing.is_config → l.is_input ≡ standing.is_input → above ≡ seen_of (l ∷ ls))
     → seen ≡ seen_of ls → above ≡ seen_of (label_at b ls x.origin ∷ ls)
-seen_below b ls seen x d home name standing above parent children is e below same =
-    below (label_of d home name ls) same refl refl (sym (ap (λ (l : Label). l.is_config) e)) (sym (ap (λ (l : Label). l.is_input) e))
+seen_below b ls seen x d module_file name standing above parent children is e below same =
+    below (label_of d module_file name ls) same refl refl (sym (ap (λ (l : Label). l.is_config) e)) (sym (ap (λ (l : Label). l.is_input) e))
     ∙ ap (λ (l : Label). seen_of (l ∷ ls)) is

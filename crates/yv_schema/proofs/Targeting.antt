@@ -4,9 +4,9 @@ use Rattle.std.specs.List.{position_from, slice_get, slice_index_or}
 use Rattle.std.specs.Option.{option_and_then}
 use Rattle.std.proofs.lemmas.Bool.Decides.{nat_tests}
 use Rattle.std.proofs.lemmas.Option.{same_Some}
-use Rattle.yv_expansion.specs.Tree.{Node}
-use Rattle.yv_final_tree.specs.Final.{spots_of}
-use Rattle.yv_final_tree.specs.Kept.{giver_at, targets_of}
+use Rattle.yv_expand.specs.Tree.{Node}
+use Rattle.yv_expand_tree.specs.Final.{spots_of}
+use Rattle.yv_expand_tree.specs.FinalTree.{source_at, targets_of}
 use Rattle.yv_schema.specs.Module.{Basis, nodes_in}
 use Rattle.yv_schema.specs.Notes.{node_of, target_of}
 
@@ -23,7 +23,7 @@ only p i (y ∷ ys) (suc k) x at is alone =
     by false e others = others ∙ ap Some (omega (arith))
 
 module _ (b : Basis)
-    (given : (place giver : ℕ) (x : Node) → slice_get (nodes_in b) place ≡ Some x → giver_at (spots_of b.files b.final) b.final.augments x.origin ≡ Some giver
+    (given : (place giver : ℕ) (x : Node) → slice_get (nodes_in b) place ≡ Some x → source_at (spots_of b.files b.final) b.final.augments x.origin ≡ Some giver
     → (target : ℕ) × (node : Node) × (x.parent ≡ Some target) × (slice_get (nodes_in b) target ≡ Some node)
     × (slice_index_or (targets_of b.files b.final) giver None ≡ Some node.origin))
     (once : (i k : ℕ) (x y : Node) → slice_get (nodes_in b) i ≡ Some x → slice_get (nodes_in b) k ≡ Some y → x.origin ≡ y.origin → i ≡ k) where
@@ -40,7 +40,7 @@ module _ (b : Basis)
       same m n h = grind (arith, nat_tests)
 
   -- a node that an augment adds stands below the augment's target
-  pub target_known : (n giver : ℕ) (x : Node) → slice_get (nodes_in b) n ≡ Some x → giver_at (spots_of b.files b.final) b.final.augments x.origin ≡ Some giver
+  pub target_known : (n giver : ℕ) (x : Node) → slice_get (nodes_in b) n ≡ Some x → source_at (spots_of b.files b.final) b.final.augments x.origin ≡ Some giver
       → (q : ℕ) × (x.parent ≡ Some q) × (target_of b giver ≡ Some q)
   target_known n giver x at is =
       let found = given n giver x at is in

@@ -1,13 +1,13 @@
 -- What a context tells of its basis.
 use Rattle.std.proofs.Common.{◌≡◌, ℕ, ap, ◌∙◌, subst, Some, None}
 use Rattle.std.specs.List.{slice_get, slice_index_or}
-use Rattle.yv_selection.specs.Choice.{Choice}
-use Rattle.yv_rows.specs.Files.{Files}
-use Rattle.yv_expansion.specs.Tree.{Node, Nodes, listed}
-use Rattle.yv_item_marks.specs.Conditions.{Truth}
-use Rattle.yv_final_tree.specs.Final.{Final, IsFinal, spots_of}
-use Rattle.yv_final_tree.specs.Kept.{giver_at, targets_of}
-use Rattle.yv_final_tree.specs.Left.{AreLeft}
+use Rattle.yv_statement.specs.Selection.{Selected}
+use Rattle.yv_link_scopes.specs.Files.{Files}
+use Rattle.yv_expand.specs.Tree.{Node, Nodes, item_list}
+use Rattle.yv_expand_changes.specs.IfFeatures.{Truth}
+use Rattle.yv_expand_tree.specs.Final.{Final, IsFinal, spots_of}
+use Rattle.yv_expand_tree.specs.FinalTree.{source_at, targets_of}
+use Rattle.yv_expand_tree.specs.Remains.{AreLeft}
 use Rattle.yv_schema.specs.InnerContext.{Tells}
 use Rattle.yv_schema.specs.Module.{Basis}
 use Rattle.yv_schema.specs.declared.context.Context.{Context}
@@ -15,14 +15,14 @@ use Rattle.yv_schema.proofs.Noting.{Follows, Kept}
 
 -- a node that an augment gives stands below its target
 abbrev pub StandBelow : Type 0
-StandBelow = (choice : Choice) (files : Files) (truth : Truth) (f : Final) (nodes : Nodes) (place giver : ℕ) (x : Node) → IsFinal choice files f → AreLeft truth files f nodes
-    → slice_get (listed None 0 nodes) place ≡ Some x → giver_at (spots_of files f) f.augments x.origin ≡ Some giver
-    → (target : ℕ) × (node : Node) × (x.parent ≡ Some target) × (slice_get (listed None 0 nodes) target ≡ Some node) × (slice_index_or (targets_of files f) giver None ≡ Some node.origin)
+StandBelow = (choice : Selected) (files : Files) (truth : Truth) (f : Final) (nodes : Nodes) (place giver : ℕ) (x : Node) → IsFinal choice files f → AreLeft truth files f nodes
+    → slice_get (item_list None 0 nodes) place ≡ Some x → source_at (spots_of files f) f.augments x.origin ≡ Some giver
+    → (target : ℕ) × (node : Node) × (x.parent ≡ Some target) × (slice_get (item_list None 0 nodes) target ≡ Some node) × (slice_index_or (targets_of files f) giver None ≡ Some node.origin)
 
 -- no item is left twice
 abbrev pub NoneTwice : Type 0
-NoneTwice = (choice : Choice) (files : Files) (truth : Truth) (f : Final) (nodes : Nodes) (i k : ℕ) (x y : Node) → IsFinal choice files f → AreLeft truth files f nodes
-    → slice_get (listed None 0 nodes) i ≡ Some x → slice_get (listed None 0 nodes) k ≡ Some y → x.origin ≡ y.origin → i ≡ k
+NoneTwice = (choice : Selected) (files : Files) (truth : Truth) (f : Final) (nodes : Nodes) (i k : ℕ) (x y : Node) → IsFinal choice files f → AreLeft truth files f nodes
+    → slice_get (item_list None 0 nodes) i ≡ Some x → slice_get (item_list None 0 nodes) k ≡ Some y → x.origin ≡ y.origin → i ≡ k
 
 module _ (b : Basis) (c : Context) (tells : Tells b c) where
   pub final_is : IsFinal tells.choice b.files b.final
@@ -43,5 +43,5 @@ module _ (b : Basis) (c : Context) (tells : Tells b c) where
   kept = record {
     spots_are = tells.kept.spots ∙ ap (spots_of b.files) tells.final;
     augments_are = tells.kept.augments ∙ ap (λ (f : Final). f.augments) tells.final;
-    left_are = tells.kept.left ∙ ap (listed None 0) tells.nodes;
+    left_are = tells.kept.left ∙ ap (item_list None 0) tells.nodes;
   }

@@ -8,7 +8,7 @@ use Rattle.yv_statement.specs.declared.refusal.Code.{Code}
 use Rattle.yv_statement.specs.declared.refusal.Code.TheVariants as code
 use Rattle.yv_statement.specs.Order.{IsLeast, IsUpTo, Stands, refusal_at}
 use Rattle.yv_statement.specs.declared.keyword.Keyword.{Keyword}
-use Rattle.yv_conform.specs.Faults.{Bad, Faulty, own, number, below}
+use Rattle.yv_text_grammar.specs.Refusals.{Bad, Faulty, own, number, below}
 use Rattle.yv_schema.specs.Refuses.{BadFile, in_file}
 
 -- it is of the second phase, and names the file as 0

@@ -6,16 +6,16 @@ use Rattle.yv_statement.specs.declared.refusal.Refusal.{Refusal}
 use Rattle.yv_statement.specs.declared.refusal.Code.{Code}
 use Rattle.yv_statement.specs.declared.refusal.Code.TheVariants as code
 use Rattle.yv_statement.specs.Order.{Stands, refusal_at}
-use Rattle.yv_rows.specs.Files.{Files}
-use Rattle.yv_names.specs.Faults.{BadNames}
-use Rattle.yv_bases.specs.Faults.{BadKinds}
-use Rattle.yv_numbers.specs.Intervals.{Interval}
+use Rattle.yv_link_scopes.specs.Files.{Files}
+use Rattle.yv_link_definitions.specs.Refusals.{BadNames}
+use Rattle.yv_type_chains.specs.Refusals.{BadKinds}
+use Rattle.yv_base_numbers.specs.Intervals.{Interval}
 use Rattle.yv_values.specs.Types.{Plain, wholes, decimals, strings, octets}
-use Rattle.yv_facets.specs.Faults.{BadFacets, BadPatterns, BadRestriction}
-use Rattle.yv_restricted_types.specs.Faults.{BadFaceted}
-use Rattle.yv_assigned_types.specs.Types.{IsFaultBy, Start, Truth, new, from}
-use Rattle.yv_assigned_types.specs.Faults.{BadLists}
-use Rattle.yv_types.specs.Faults.{BadTypes}
+use Rattle.yv_type_restrictions.specs.FacetRefusals.{BadFacets, BadPatterns, BadRestriction}
+use Rattle.yv_type_restrictions.specs.Refusals.{BadFaceted}
+use Rattle.yv_type_enums.specs.Types.{IsFaultBy, Start, Truth, new, from}
+use Rattle.yv_type_enums.specs.Refusals.{BadLists}
+use Rattle.yv_types.specs.Refusals.{BadTypes}
 
 at_phase : (n : ℕ) (P : Type 0) (c : Code) (file : ℕ) (h : Head) (f : Refusal) → phase_of c ≡ n → Stands P (refusal_at c file h) f → phase_of f.code ≡ n
 at_phase n P c file h f phase s = ap (λ (r : Refusal). phase_of r.code) s.1 ∙ phase

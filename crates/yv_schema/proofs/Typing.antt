@@ -7,15 +7,15 @@ use Rattle.yv_nodes.specs.Link.{AreLinked, AreLinkedBelow, Ground, KindLinked, L
 use Rattle.yv_nodes.specs.Numbers.{numbers_from, rows_from}
 use Rattle.yv_nodes.specs.Rows.{Module, Note, Row}
 use Rattle.yv_nodes.specs.Tree.{count, Forest, node, no_trees, tree}
-use Rattle.yv_nodes.specs.Typed.{typed_from, typed_rows, types_at}
-use Rattle.yv_properties.specs.declared.kind.NodeKind.{NodeKind}
-use Rattle.yv_properties.specs.declared.kind.NodeKind.TheVariants as kind
-use Rattle.yv_leafrefs.specs.Bad.{BadLeafrefs}
-use Rattle.yv_leafrefs.specs.Resolved.{IsTyped, refused, resolved}
-use Rattle.yv_leafrefs.specs.Schema.{Schema}
-use Rattle.yv_leafref_links.specs.Links.{AreLinks}
-use Rattle.yv_tables.specs.Numbered.{AreFormed, made_of}
-use Rattle.yv_tables.specs.Sound.{IsNote}
+use Rattle.yv_nodes.specs.NodeTypes.{typed_from, typed_rows, types_at}
+use Rattle.yv_node_definition.specs.declared.kind.NodeKind.{NodeKind}
+use Rattle.yv_node_definition.specs.declared.kind.NodeKind.TheVariants as kind
+use Rattle.yv_node_leafrefs.specs.Bad.{BadLeafrefs}
+use Rattle.yv_node_leafrefs.specs.Resolution.{IsTyped, with_refusal, with_targets}
+use Rattle.yv_node_leafrefs.specs.Schema.{Schema}
+use Rattle.yv_node_leafrefs.specs.Links.{AreLinks}
+use Rattle.yv_schema_tables.specs.NodeNumbers.{AreFormed, made_of}
+use Rattle.yv_schema_tables.specs.Sound.{IsNote}
 
 -- types don't change how many nodes there are
 count_typed : (types : ℕ → List Plain) (first : ℕ) (ts : Forest) → count (typed_from types first ts) ≡ count ts
@@ -46,25 +46,25 @@ abbrev pub LinksLead : Type 0
 LinksLead = (s : Schema) (ts : Forest) (links : List (Option Link)) → s.rows ≡ rows_from 0 ts → AreLinks s links → AreLinked (reference_in links) ts
 
 pub count_resolved : (s : Schema) (stated top : Forest) → IsTyped s stated top → count top ≡ count stated
-count_resolved s stated top (resolved least is) = ap count is.is ∙ count_typed (λ n. types_at s.rows (is.origin n)) 0 stated
-count_resolved s stated top (refused bad) = refl
+count_resolved s stated top (with_targets least is) = ap count is.is ∙ count_typed (λ n. types_at s.rows (is.origin n)) 0 stated
+count_resolved s stated top (with_refusal bad) = refl
 
 pub tops_resolved : TopsStay → (s : Schema) (stated top : Forest) → IsTyped s stated top → numbers_from 0 top ≡ numbers_from 0 stated
-tops_resolved stay s stated top (resolved least is) = ap (numbers_from 0) is.is ∙ stay (λ n. types_at s.rows (is.origin n)) stated
-tops_resolved stay s stated top (refused bad) = refl
+tops_resolved stay s stated top (with_targets least is) = ap (numbers_from 0) is.is ∙ stay (λ n. types_at s.rows (is.origin n)) stated
+tops_resolved stay s stated top (with_refusal bad) = refl
 
 pub forms_resolved : FormsStay → (s : Schema) (modules : List Module) (stated top : Forest) → IsTyped s stated top → AreFormed modules [] stated → AreFormed modules [] top
-forms_resolved stay s modules stated top (resolved least is) formed =
+forms_resolved stay s modules stated top (with_targets least is) formed =
     subst (AreFormed modules []) (sym is.is) (stay modules (λ n. types_at s.rows (is.origin n)) stated formed)
-forms_resolved stay s modules stated top (refused bad) formed = formed
+forms_resolved stay s modules stated top (with_refusal bad) formed = formed
 
 pub notes_resolved : RowsStay → NotesStay → (s : Schema) (stated top : Forest) (tops : List NodeId) (limit : ℕ) (modules : List Module) (notes : List Note) (links : List (Option Link)) → IsTyped s stated top
     → All (IsNote (made_of (rows_from 0 stated) tops limit modules notes links)) notes → All (IsNote (made_of (rows_from 0 top) tops limit modules notes links)) notes
-notes_resolved rows stay s stated top tops limit modules notes links (resolved least is) given =
+notes_resolved rows stay s stated top tops limit modules notes links (with_targets least is) given =
     let types : ℕ → List Plain = λ n. types_at s.rows (is.origin n) in
     subst (λ (rs : List Row). All (IsNote (made_of rs tops limit modules notes links)) notes) (sym (ap (rows_from 0) is.is ∙ rows types stated))
     (stay types (rows_from 0 stated) tops limit modules notes links given)
-notes_resolved rows stay s stated top tops limit modules notes links (refused bad) given = given
+notes_resolved rows stay s stated top tops limit modules notes links (with_refusal bad) given = given
 
 -- no link leads astray
 kind_none : (k : NodeKind) (top : Ground) (up : List Ground) (own : Ground) (Below : List Ground → Type 0) → ((us : List Ground) → Below us) → KindLinked k None top up own Below
@@ -96,6 +96,6 @@ none_linked links ts none = subst (λ (ls : List (Option Link)). AreLinked (refe
 pub links_resolved : LinksLead → LinksStay → (s : Schema) (stated top : Forest) (links : List (Option Link)) → s.rows ≡ rows_from 0 stated → IsTyped s stated top
     → (IsLeast (BadLeafrefs s) None × AreLinks s links) ⊎ (links ≡ []) → AreLinked (reference_in links) top
 links_resolved lead stay s stated top links rows is (inr none) = none_linked links top none
-links_resolved lead stay s stated top links rows (resolved least is) (inl h) =
+links_resolved lead stay s stated top links rows (with_targets least is) (inl h) =
     subst (AreLinked (reference_in links)) (sym is.is) (stay (λ n. types_at s.rows (is.origin n)) (reference_in links) stated (lead s stated links rows h.1))
-links_resolved lead stay s stated top links rows (refused {f = f} bad) (inl h) = absurd (h.0 f bad)
+links_resolved lead stay s stated top links rows (with_refusal {f = f} bad) (inl h) = absurd (h.0 f bad)

@@ -10,14 +10,14 @@ use Rattle.yv_nodes.specs.declared.node.NodeId.{NodeId}
 use Rattle.yv_nodes.specs.Numbers.{numbers_from, rows_below, rows_from}
 use Rattle.yv_nodes.specs.Rows.{blank_row, root, Row}
 use Rattle.yv_nodes.specs.Tree.{count, Forest, no_trees, node, tree}
-use Rattle.yv_nodes.specs.Typed.{typed, typed_from, types_at}
-use Rattle.yv_leafrefs.specs.Schema.{Referral, Schema, said_by}
-use Rattle.yv_leafrefs.specs.Targets.{LeadsTo, RefersTo, own, by_step, by_way}
-use Rattle.yv_leafrefs.specs.Bad.{BadLeafref, BadLeafrefs}
-use Rattle.yv_leafrefs.specs.Resolved.{IsTyped, resolved}
+use Rattle.yv_nodes.specs.NodeTypes.{label_with_types, typed_from, types_at}
+use Rattle.yv_node_leafrefs.specs.Schema.{Referral, Schema, leafref_of_row}
+use Rattle.yv_node_leafrefs.specs.Targets.{LeadsTo, RefersTo, own, by_step, by_way}
+use Rattle.yv_node_leafrefs.specs.Bad.{BadLeafref, BadLeafrefs}
+use Rattle.yv_node_leafrefs.specs.Resolution.{IsTyped, with_targets}
 use Rattle.yv_nodes.specs.Link.{Link, reference_in}
-use Rattle.yv_leafref_links.specs.Links.{AreLinks, IsLinkOf}
-use Rattle.yv_schema.specs.InnerResolved.{no_links}
+use Rattle.yv_node_leafrefs.specs.Links.{AreLinks, IsLinkOf}
+use Rattle.yv_schema.specs.InnerResolution.{no_links}
 
 module _ (s : Schema) (silent : (n : ℕ) → s.says n ≡ None) where
   unsaid : (n : ℕ) (ref : Referral) → s.says n ≡ Some ref → ⊥
@@ -33,7 +33,7 @@ module _ (s : Schema) (silent : (n : ℕ) → s.says n ≡ None) where
 
   bad_nowhere : (n : ℕ) (row : Row) (f : Refusal) → BadLeafref s n row f → ⊥
   bad_nowhere n row f (inl lost) = unsaid n lost.0.ref lost.0.is_leafref.says
-  bad_nowhere n row f (inr circle) = leads_nowhere n n circle.0
+  bad_nowhere n row f (inr cycle) = leads_nowhere n n cycle.0
 
   -- nothing is wrong
   pub nothing_wrong : IsLeast (BadLeafrefs s) None
@@ -74,12 +74,12 @@ own_types rows parent first (tree (node l kids) ts) has =
     let long : length inside ≡ count kids = rows_long me (first + 1) kids in
     let others : HasRows rows parent (first + 1 + count kids) ts = λ k r e.
     ap (slice_get rows) (omega (arith, long)) ∙ has (suc (length inside + k)) r (right_of inside beside k ∙ e) in
-    ap (λ (ps : List Plain). tree (node (typed ps l) (typed_from (types_at rows) (first + 1) kids)) (typed_from (types_at rows) (first + 1 + count kids) ts)) types
+    ap (λ (ps : List Plain). tree (node (label_with_types ps l) (typed_from (types_at rows) (first + 1) kids)) (typed_from (types_at rows) (first + 1 + count kids) ts)) types
     ∙ ap₂ (λ (a b : Forest). tree (node l a) b) (own_types rows me (first + 1) kids below) (own_types rows parent (first + 1 + count kids) ts others)
 
 -- the tree is as it is stated
 pub stays : (s : Schema) (stated : Forest) → ((n : ℕ) → s.says n ≡ None) → s.rows ≡ rows_from 0 stated → IsTyped s stated stated
-stays s stated silent rows = resolved (nothing_wrong s silent) (record {
+stays s stated silent rows = with_targets (nothing_wrong s silent) (record {
   rows = rows;
   origin = λ n. n;
   each = λ n within. own (refers_nowhere s silent n);
@@ -95,7 +95,7 @@ nothing_at leafrefs None none = refl
 nothing_at leafrefs (Some k) none = ap (λ (refs : List Referral). slice_get refs k) none ∙ slice_get_past [] k (omega arith)
 
 -- of no leafrefs nothing is said
-pub said_nowhere : (of : List (Option ℕ)) (leafrefs : List Referral) → leafrefs ≡ [] → (n : ℕ) → said_by of leafrefs n ≡ None
+pub said_nowhere : (of : List (Option ℕ)) (leafrefs : List Referral) → leafrefs ≡ [] → (n : ℕ) → leafref_of_row of leafrefs n ≡ None
 said_nowhere of leafrefs none n = nothing_at leafrefs (slice_index_or of n None) none
 
 none_there : (many n : ℕ) → reference_in (no_links many) n ≡ None

@@ -1,17 +1,17 @@
 -- Only private clauses cite this: what is known of files before their nodes are built.
 use Rattle.std.specs.Prelude.{◌≡◌}
-use Rattle.yv_selection.specs.Choice.{Choice}
-use Rattle.yv_rows.specs.Files.{Files}
-use Rattle.yv_definitions.specs.Known.{files_in, typing_in}
-use Rattle.yv_definitions.specs.declared.definitions.Definitions.{Definitions}
-use Rattle.yv_refined_definitions.specs.Known.{files_of, sequences_of, typing_of}
-use Rattle.yv_refined_definitions.specs.declared.refined.RefinedDefinitions.{RefinedDefinitions}
-use Rattle.yv_final_tree.specs.Kept.{AreKept, Kept}
+use Rattle.yv_statement.specs.Selection.{Selected}
+use Rattle.yv_link_scopes.specs.Files.{Files}
+use Rattle.yv_node_statements.specs.Context.{files_in, typing_in}
+use Rattle.yv_node_statements.specs.declared.definitions.Definitions.{Definitions}
+use Rattle.yv_node_statements.specs.RefinedContext.{files_of, sequences_of, typing_of}
+use Rattle.yv_node_statements.specs.declared.refined_definitions.RefinedDefinitions.{RefinedDefinitions}
+use Rattle.yv_expand_tree.specs.FinalTree.{AreKept, FinalTreeView}
 use Rattle.yv_schema.specs.Module.{Basis}
 use Rattle.yv_schema.specs.declared.context.Context.{Context}
 
 -- these are the definitions of nodes as the refines of a tree change them
-pub record IsRefinedOf (definitions : Definitions) (tree : Kept) (refined : RefinedDefinitions) : Type 0 where
+pub record IsRefinedOf (definitions : Definitions) (tree : FinalTreeView) (refined : RefinedDefinitions) : Type 0 where
   pub files : files_of refined ≡ files_in definitions
   pub typing : typing_of refined ≡ typing_in definitions
   pub sequences : sequences_of refined ≡ tree.changes.sequences
@@ -21,7 +21,7 @@ pub record Tells (b : Basis) (c : Context) : Type 0 where
   pub files : files_in c.definitions.now ≡ b.files
   pub typing : typing_in c.definitions.now ≡ b.typing
   pub refined : IsRefinedOf c.definitions.now c.tree.now c.refined.now
-  pub choice : Choice
+  pub choice : Selected
   pub kept : AreKept choice b.files b.truth c.tree.now
   pub final : kept.final ≡ b.final
   pub nodes : kept.nodes ≡ b.nodes
@@ -32,7 +32,7 @@ pub record IsTold (c : Context) : Type 0 where
   pub tells : Tells basis c
 
 -- the context tells of a basis with these files, of which this was chosen
-pub record TellsOf (choice : Choice) (files : Files) (c : Context) : Type 0 where
+pub record TellsOf (choice : Selected) (files : Files) (c : Context) : Type 0 where
   pub basis : Basis
   pub of_files : basis.files ≡ files
   pub tells : Tells basis c

@@ -1,3 +1,8 @@
+pub mod Families
+pub mod InnerChildren
+pub mod Referrals
+pub mod InnerNumbers
+pub mod InnerDraft
 pub mod Truth
 pub mod Module
 pub mod Notes
@@ -5,7 +10,7 @@ pub mod Schema
 pub mod Refuses
 pub mod InnerContext
 pub mod InnerBuild
-pub mod InnerResolved
-pub mod InnerRowing
-pub mod InnerHomes
+pub mod InnerResolution
+pub mod InnerRows
+pub mod InnerModuleNames
 pub mod InnerPhases

@@ -1,22 +1,22 @@
 -- The augments of modules that add nodes (RFC 7950, section 7.17).
 use Rattle.std.specs.Prelude.{ℕ, ◌+◌, ◌==◌, List, [], ◌∷◌, ◌++◌, map, Option, Some, None, slice_get, slice_index_or}
 use Rattle.std.specs.Option.{option_and_then}
-use Rattle.yv_families.specs.Families.{numbers_at}
-use Rattle.yv_rows.specs.Files.{brief_of, home_at}
-use Rattle.yv_rows.specs.Listed.{rows_of}
-use Rattle.yv_rows.specs.Names.{first_where}
-use Rattle.yv_rows.specs.Rows.{Row, name_in}
-use Rattle.yv_expansion.specs.Tree.{Node}
+use Rattle.yv_base_tables.specs.Families.{numbers_at}
+use Rattle.yv_link_scopes.specs.Files.{brief_of, module_file_at}
+use Rattle.yv_link_scopes.specs.RowList.{rows_of}
+use Rattle.yv_link_scopes.specs.Names.{first_where}
+use Rattle.yv_link_scopes.specs.Rows.{Row, name_in}
+use Rattle.yv_expand.specs.Tree.{Node}
 use Rattle.yv_nodes.specs.declared.node.NodeId.{NodeId}
 use Rattle.yv_nodes.specs.Rows.{Note}
-use Rattle.yv_final_tree.specs.Final.{spots_of}
-use Rattle.yv_final_tree.specs.Kept.{giver_at, targets_of}
+use Rattle.yv_expand_tree.specs.Final.{spots_of}
+use Rattle.yv_expand_tree.specs.FinalTree.{source_at, targets_of}
 use Rattle.yv_schema.specs.Module.{Basis, nodes_in}
 
 -- the nodes that the augment at this place among those of modules adds, and that are left
-abbrev pub added_by : Basis → (place : ℕ) → List NodeId
-added_by b place =
-    map (λ number. record { 0 = number }) (numbers_at (map (λ x. giver_at (spots_of b.files b.final) b.final.augments x.origin) (nodes_in b)) place)
+abbrev pub nodes_added : Basis → (place : ℕ) → List NodeId
+nodes_added b place =
+    map (λ number. record { 0 = number }) (numbers_at (map (λ x. source_at (spots_of b.files b.final) b.final.augments x.origin) (nodes_in b)) place)
 
 -- the node of a numbered item, if it is left
 abbrev pub node_of : Basis → (item : ℕ) → Option ℕ
@@ -26,18 +26,19 @@ node_of b item = first_where (λ (x : Node). x.origin == item) (nodes_in b)
 abbrev pub target_of : Basis → (place : ℕ) → Option ℕ
 target_of b place = option_and_then (node_of b) (slice_index_or (targets_of b.files b.final) place None)
 
--- an augment statement that adds these nodes below a target is noted by its module and argument; one of which nothing is left isn't
-abbrev pub note_by : Basis → Option Row → (target : Option ℕ) → List NodeId → List Note
-note_by b None target nodes = []
-note_by b (Some r) None nodes = []
-note_by b (Some r) (Some target) [] = []
-note_by b (Some r) (Some target) (n ∷ ns) =
-    record { home = home_at (map brief_of b.files) r.file; argument = name_in r; target = record { 0 = target }; nodes = n ∷ ns } ∷ []
+-- an augment statement that adds these nodes below a target is noted by its module and argument;
+-- one of which nothing is left isn't
+abbrev pub note_of_augment : Basis → Option Row → (target : Option ℕ) → List NodeId → List Note
+note_of_augment b None target nodes = []
+note_of_augment b (Some r) None nodes = []
+note_of_augment b (Some r) (Some target) [] = []
+note_of_augment b (Some r) (Some target) (n ∷ ns) =
+    record { module_file = module_file_at (map brief_of b.files) r.file; argument = name_in r; target = record { 0 = target }; nodes = n ∷ ns } ∷ []
 
 abbrev pub notes_from : Basis → (place : ℕ) → (augments : List ℕ) → List Note
 notes_from b place [] = []
 notes_from b place (a ∷ others) =
-    note_by b (slice_get (rows_of b.files) a) (target_of b place) (added_by b place) ++ notes_from b (place + 1) others
+    note_of_augment b (slice_get (rows_of b.files) a) (target_of b place) (nodes_added b place) ++ notes_from b (place + 1) others
 
 -- the augments at the tops of modules and submodules of which a node is left, by file and statement
 abbrev pub notes_of : Basis → List Note

@@ -1,53 +1,55 @@
 -- The schema of files under a choice (RFC 7950, section 5.6.5).
 use Rattle.std.specs.Prelude.{◌≡◌, ℕ, List, length, map, Option}
-use Rattle.yv_selection.specs.Choice.{Choice}
-use Rattle.yv_rows.specs.Files.{Files, brief_of}
-use Rattle.yv_rows.specs.Listed.{rows_of}
-use Rattle.yv_units.specs.Limit.{given_before}
-use Rattle.yv_units.specs.Weigh.{Weigh}
-use Rattle.yv_definitions.specs.Kinds.{AreTyped}
+use Rattle.yv_statement.specs.Selection.{Selected}
+use Rattle.yv_link_scopes.specs.Files.{Files, brief_of}
+use Rattle.yv_link_scopes.specs.RowList.{rows_of}
+use Rattle.yv_expand.specs.Limit.{given_before}
+use Rattle.yv_expand.specs.Weigh.{Weigh}
+use Rattle.yv_node_statements.specs.Kinds.{AreTyped}
 use Rattle.yv_nodes.specs.Link.{Link}
 use Rattle.yv_nodes.specs.Rows.{Note}
 use Rattle.yv_nodes.specs.Tree.{Forest}
-use Rattle.yv_final_tree.specs.Final.{IsFinal}
-use Rattle.yv_final_tree.specs.Given.{marks_of}
-use Rattle.yv_final_tree.specs.Left.{AreLeft}
-use Rattle.yv_leafrefs.specs.Resolved.{IsTyped}
-use Rattle.yv_leafref_links.specs.Links.{AreLinks}
+use Rattle.yv_expand_tree.specs.Final.{IsFinal}
+use Rattle.yv_expand_tree.specs.FileOrder.{marks_of}
+use Rattle.yv_expand_tree.specs.Remains.{AreLeft}
+use Rattle.yv_node_leafrefs.specs.Resolution.{IsTyped}
+use Rattle.yv_node_leafrefs.specs.Links.{AreLinks}
 use Rattle.yv_schema.specs.Module.{Basis, leafrefs_of, stated_of}
 use Rattle.yv_schema.specs.Notes.{notes_of}
 use Rattle.yv_schema.specs.Truth.{IsTruth}
 
--- a basis is that of files under a choice: their conditions hold so, their `type` statements stand for this, this is what the modules that
--- are implemented come to, and these nodes are left of it
-pub record IsBasis (choice : Choice) (b : Basis) : Type 0 where
+-- a basis is that of files under a choice: their conditions hold so, their `type` statements stand
+-- for this, this is what the modules that are implemented come to, and these nodes are left of it
+pub record IsBasis (choice : Selected) (b : Basis) : Type 0 where
   pub truth : IsTruth b.files choice b.truth
   pub typing : AreTyped b.files choice b.truth b.typing
   pub final : IsFinal choice b.files b.final
   pub nodes : AreLeft b.truth b.files b.final b.nodes
 
--- this is the schema tree of the files: the one that their statements say, with its leafrefs resolved (section 9.9)
-pub record IsSchema (choice : Choice) (files : Files) (tree : Forest) : Type 0 where
+-- this is the schema tree of the files: the one that their statements say, with its leafrefs
+-- resolved (section 9.9)
+pub record IsSchema (choice : Selected) (files : Files) (tree : Forest) : Type 0 where
   pub basis : Basis
   pub of_files : basis.files ≡ files
   pub is_basis : IsBasis choice basis
   pub is : IsTyped (leafrefs_of basis) (stated_of basis) tree
 
 -- these are the augments of the files' modules that add nodes to the schema tree
-pub record AreNotes (choice : Choice) (files : Files) (notes : List Note) : Type 0 where
+pub record AreNotes (choice : Selected) (files : Files) (notes : List Note) : Type 0 where
   pub basis : Basis
   pub of_files : basis.files ≡ files
   pub is_basis : IsBasis choice basis
   pub are : notes ≡ notes_of basis
 
--- this is where the paths of the leafrefs lead that require an instance, each at the number of its node (sections 9.9.2 and 9.9.3)
-pub record AreReferences (choice : Choice) (files : Files) (links : List (Option Link)) : Type 0 where
+-- this is where the paths of the leafrefs lead that require an instance, each at the number of its
+-- node (sections 9.9.2 and 9.9.3)
+pub record AreReferences (choice : Selected) (files : Files) (links : List (Option Link)) : Type 0 where
   pub basis : Basis
   pub of_files : basis.files ≡ files
   pub is_basis : IsBasis choice basis
   pub are : AreLinks (leafrefs_of basis) links
 
 -- the files of the implemented modules take so many units
-abbrev pub TakeUnits : Choice → Files → ℕ → Type 0
+abbrev pub TakeUnits : Selected → Files → ℕ → Type 0
 TakeUnits choice files units =
     Weigh (map brief_of files) (rows_of files) (given_before (map brief_of files) (rows_of files) (marks_of choice files) (length files)) units

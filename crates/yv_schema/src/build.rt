@@ -3,35 +3,34 @@ ghost use Rattle.std.specs.Prelude.{◌≡◌, ◌≢◌, ◌≤◌, length, IfO
 ghost use Rattle.yv_statement.specs.declared.refusal.Refusal.{Refusal};
 ghost use Rattle.yv_statement.specs.declared.refusal.Stop.TheVariants.{Fault, PatternBuild};
 ghost use Rattle.yv_statement.specs.Order.{IsLesser};
-ghost use Rattle.yv_selection.specs.Choice.{choice_of};
-ghost use Rattle.yv_rows.specs.Lent.{lent_in};
+ghost use Rattle.yv_statement.specs.Selection.{selected_of};
+ghost use Rattle.yv_link_scopes.specs.Views.{lent_in};
 ghost use Rattle.yv_schema.specs.Module.{Basis, leafrefs_of, modules_of, stated_of};
 ghost use Rattle.yv_schema.specs.Notes.{notes_of};
 ghost use Rattle.yv_nodes.specs.Rows.{whole};
-ghost use Rattle.yv_leafrefs.specs.Resolved.{IsTyped};
-ghost use Rattle.yv_leafref_links.specs.Links.{AreLinks};
-ghost use Rattle.yv_tables.specs.Sound.{IsSound};
+ghost use Rattle.yv_node_leafrefs.specs.Resolution.{IsTyped};
+ghost use Rattle.yv_node_leafrefs.specs.Links.{AreLinks};
+ghost use Rattle.yv_schema_tables.specs.Sound.{IsSound};
 ghost use Rattle.yv_schema.specs.InnerContext.{Tells, TellsOf};
 ghost use Rattle.yv_schema.specs.InnerBuild.{AreNames, HasLeast, IsFirst};
 
 use crate::context::Context;
-use crate::homes::{Homes, modules};
+use crate::leafrefs::{ResolvedLeafrefs, resolve};
+use crate::module_names::{ModuleNames, modules};
 use crate::notes::notes;
-use crate::resolved::{Resolved, resolve};
-use crate::tree::{Builder, Numbered};
+use crate::tree::{Builder, NumberedNodes};
 use std::alloc::Global;
-use yv_final_tree::laws::{
-    given_nodes_stand_below_their_target, homes_are_of_modules, no_item_is_left_twice,
+use yv_expand_tree::laws::{
+    given_nodes_stand_below_their_target, module_files_are_of_modules, no_item_is_left_twice,
     what_is_left_are_nodes,
 };
-use yv_leafrefs::laws::{rows_are_typed, tops_are_typed};
-use yv_rows::Rows;
-use yv_rows::laws::statements_have_their_rows;
-use yv_selection::Selection;
-use yv_statement::{Refusal, Stop, lesser};
-use yv_tables::Schema;
-use yv_tables::laws::{types_leave_forms, types_leave_notes};
-use yv_tree_checks::least_in_tree;
+use yv_link_scopes::Rows;
+use yv_link_scopes::laws::statements_have_their_rows;
+use yv_node_checks::least_in_tree;
+use yv_node_leafrefs::laws::{rows_are_typed, tops_are_typed};
+use yv_schema_tables::Schema;
+use yv_schema_tables::laws::{types_leave_forms, types_leave_notes};
+use yv_statement::{Refusal, Selection, Stop, lesser};
 
 /// The schema of the implemented modules, or the least refusal of what is wrong with its nodes.
 pub(crate) fn build<'a>(
@@ -42,22 +41,22 @@ pub(crate) fn build<'a>(
     limit: u32,
 ) -> Result<Schema, Stop>
     requires few { length (lent_in rows.now) ≤ 4294967296 }
-    requires names { AreNames (choice_of selection.now) (lent_in rows.now) }
-    requires basis { TellsOf (choice_of selection.now) (lent_in rows.now) context.now }
+    requires names { AreNames (selected_of selection.now) (lent_in rows.now) }
+    requires basis { TellsOf (selected_of selection.now) (lent_in rows.now) context.now }
     requires room { length context.now.tree.now.left ≤ limit }
     ensures schema { (b : Basis) → Tells b context.now → b.files ≡ lent_in rows.now
         → IfOk result (λ s. IsTyped (leafrefs_of b) (stated_of b) (whole s)) }
     ensures limit { IfOk result (λ s. s.limit ≡ limit) }
-    ensures modules { IfOk result (λ s. s.modules ≡ modules_of (choice_of selection.now) (lent_in rows.now)) }
+    ensures modules { IfOk result (λ s. s.modules ≡ modules_of (selected_of selection.now) (lent_in rows.now)) }
     ensures augments { (b : Basis) → Tells b context.now → b.files ≡ lent_in rows.now → IfOk result (λ s. s.augments ≡ notes_of b) }
     ensures references { (b : Basis) → Tells b context.now → b.files ≡ lent_in rows.now → IfOk result (λ s. AreLinks (leafrefs_of b) s.links) }
     ensures sound { IfOk result IsSound }
     ensures clear { (b : Basis) → Tells b context.now → b.files ≡ lent_in rows.now → OnOk result (HasLeast b None) }
     ensures refusal { (b : Basis) → Tells b context.now → b.files ≡ lent_in rows.now
         → (r : Refusal) → result ≡ Err (Fault r) → HasLeast b (Some r) }
-    ensures built { result ≢ Err PatternBuild }
+    ensures builds { result ≢ Err PatternBuild }
 {
-    homes_are_of_modules();
+    module_files_are_of_modules();
     what_is_left_are_nodes();
     given_nodes_stand_below_their_target();
     no_item_is_left_twice();
@@ -66,23 +65,23 @@ pub(crate) fn build<'a>(
     tops_are_typed();
     types_leave_forms();
     types_leave_notes();
-    let homes = Homes::read(alloc, rows)?;
+    let module_files = ModuleNames::read(alloc, rows)?;
     let builder = Builder {
         alloc,
         context: &*context,
-        homes: &homes,
+        module_files: &module_files,
     };
-    let Numbered { nodes: stated, top } = builder.numbered(limit)?;
-    let Resolved {
+    let NumberedNodes { nodes: stated, top } = builder.number_nodes(limit)?;
+    let ResolvedLeafrefs {
         nodes,
         links,
         fault,
     } = resolve(alloc, rows, context, stated)?;
-    let modules = modules(alloc, rows, &homes, selection)?;
+    let modules = modules(alloc, rows, &module_files, selection)?;
     let notes = notes(alloc, rows, context)?;
     let wrong = lesser(least_in_tree(alloc, &nodes)?, fault);
     with_refusal(
-        Schema::numbered(alloc, nodes, top, modules, notes, links),
+        Schema::number_nodes(alloc, nodes, top, modules, notes, links),
         wrong,
     )
 }
@@ -92,7 +91,7 @@ fn with_refusal(numbered: Result<Schema, Stop>, wrong: Option<Refusal>) -> Resul
     ensures clear { IfOk result (λ s. (numbered ≡ Ok s) × (wrong ≡ None)) }
     ensures sound { IfOk result IsSound }
     ensures refusal { (r : Refusal) → result ≡ Err (Fault r) → IsFirst numbered wrong r }
-    ensures built { numbered ≢ Err PatternBuild → result ≢ Err PatternBuild }
+    ensures builds { numbered ≢ Err PatternBuild → result ≢ Err PatternBuild }
 {
     match numbered {
         Ok(schema) => {
@@ -109,11 +108,13 @@ fn with_refusal(numbered: Result<Schema, Stop>, wrong: Option<Refusal>) -> Resul
 
 // What stops the building of a schema, or the lesser of both refusals where that is one.
 fn first_stop(stop: Stop, wrong: Option<Refusal>) -> Stop
-    ensures refusal { (r : Refusal) → result ≡ Fault r → (doubled : Refusal) × (stop ≡ Fault doubled) × IsLesser (Some doubled) wrong (Some r) }
-    ensures built { result ≡ PatternBuild → stop ≡ PatternBuild }
+    ensures refusal { (r : Refusal) → result ≡ Fault r → (duplicate : Refusal) × (stop ≡ Fault duplicate) × IsLesser (Some duplicate) wrong (Some r) }
+    ensures builds { result ≡ PatternBuild → stop ≡ PatternBuild }
 {
     match stop {
-        Stop::Fault(doubled) => { Stop::Fault(lesser(Some(doubled), wrong).unwrap_or(doubled)) }
+        Stop::Fault(duplicate) => {
+            Stop::Fault(lesser(Some(duplicate), wrong).unwrap_or(duplicate))
+        }
         other => other,
     }
 }

@@ -3,48 +3,49 @@ ghost use Rattle.std.specs.Prelude.{◌≡◌, ◌<◌, ◌≤◌, length, IfOk,
 ghost use Rattle.yv_statement.specs.declared.refusal.Refusal.{Refusal};
 ghost use Rattle.yv_statement.specs.declared.refusal.Stop.TheVariants.{Fault, NoMemory, PatternBuild};
 ghost use Rattle.yv_statement.specs.Order.{IsLeast};
-ghost use Rattle.yv_selection.specs.Choice.{choice_of};
-ghost use Rattle.yv_rows.specs.Listed.{rows_of};
-ghost use Rattle.yv_restricted_types.specs.Types.{HasTypePattern};
+ghost use Rattle.yv_statement.specs.Selection.{selected_of};
+ghost use Rattle.yv_link_scopes.specs.RowList.{rows_of};
+ghost use Rattle.yv_type_restrictions.specs.Types.{HasTypePattern};
 ghost use Rattle.yv_schema.specs.Refuses.{Refuses, RefusesBeforeTypes};
 ghost use Rattle.yv_nodes.specs.Rows.{whole};
-ghost use Rattle.yv_tables.specs.Sound.{IsSound};
+ghost use Rattle.yv_schema_tables.specs.Sound.{IsSound};
 ghost use Rattle.yv_schema.specs.Module.{modules_of};
 ghost use Rattle.yv_schema.specs.Schema.{AreNotes, AreReferences, IsSchema};
 
 use crate::conformance::first_bad_file;
-use crate::linked::of_linked;
+use crate::phases::of_linked;
 use std::alloc::Global;
-use yv_final_tree::laws::refusals_of_expansions_have_phases;
+use yv_expand_tree::laws::refusals_of_expansions_have_phases;
 use yv_link::laws::links_have_phases;
 use yv_link::link;
-use yv_selection::Selection;
-use yv_statement::{Statement, Stop};
-use yv_tables::Schema;
+use yv_schema_tables::Schema;
+use yv_statement::{Selection, Statement, Stop};
 
-/// The schema of the modules that are implemented, by the statements of the files of all modules (RFC 7950, sections 5.1 and 7.1),
-/// or the least refusal by phase, file, offset and code. Statements that are outside the profile, such as `must`, are refused as
-/// `Unsupported`. If these modules expand to more units than the limit, they are refused as `TooManyNodes` before anything is
-/// built. `PatternBuild` says that the library of regular expressions doesn't build a pattern of the dialect. More than 2^32
-/// files are answered as if memory ran out; so are more than 2^32 - 3 statements that fit the tables of the language.
+/// The schema of the modules that are implemented, by the statements of the files of all modules
+/// (RFC 7950, sections 5.1 and 7.1), or the least refusal by phase, file, offset and code.
+/// Statements that are outside the profile, such as `must`, are refused as `Unsupported`. If these
+/// modules expand to more units than the limit, they are refused as `TooManyNodes` before anything
+/// is built. `PatternBuild` says that the library of regular expressions doesn't build a pattern of
+/// the dialect. More than 2^32 files are answered as if memory ran out; so are more than 2^32 - 3
+/// statements that fit the tables of the language.
 pub fn compile(
     alloc: Global,
     files: &[Statement<'_>],
     selection: &Selection,
     limit: u32,
 ) -> Result<Schema, Stop>
-    ensures schema { IfOk result (λ s. IsSchema (choice_of selection.now) files.now (whole s)) }
+    ensures schema { IfOk result (λ s. IsSchema (selected_of selection.now) files.now (whole s)) }
     ensures limit { IfOk result (λ s. s.limit ≡ limit) }
-    ensures modules { IfOk result (λ s. s.modules ≡ modules_of (choice_of selection.now) files.now) }
-    ensures augments { IfOk result (λ s. AreNotes (choice_of selection.now) files.now s.augments) }
-    ensures references { IfOk result (λ s. AreReferences (choice_of selection.now) files.now s.links) }
+    ensures modules { IfOk result (λ s. s.modules ≡ modules_of (selected_of selection.now) files.now) }
+    ensures augments { IfOk result (λ s. AreNotes (selected_of selection.now) files.now s.augments) }
+    ensures references { IfOk result (λ s. AreReferences (selected_of selection.now) files.now s.links) }
     ensures sound { IfOk result IsSound }
-    ensures clear { OnOk result (IsLeast (Refuses (choice_of selection.now) files.now limit) None) }
+    ensures clear { OnOk result (IsLeast (Refuses (selected_of selection.now) files.now limit) None) }
     ensures refusal { (r : Refusal) → result ≡ Err (Fault r)
-        → IsLeast (Refuses (choice_of selection.now) files.now limit) (Some r) }
-    ensures built { result ≡ Err PatternBuild → HasTypePattern files.now }
+        → IsLeast (Refuses (selected_of selection.now) files.now limit) (Some r) }
+    ensures builds { result ≡ Err PatternBuild → HasTypePattern files.now }
     ensures before { result ≡ Err PatternBuild
-        → IsLeast (RefusesBeforeTypes (choice_of selection.now) files.now limit) None }
+        → IsLeast (RefusesBeforeTypes (selected_of selection.now) files.now limit) None }
     ensures many { 4294967296 < length files.now → result ≡ Err NoMemory }
     ensures few { OnOk result (length (rows_of files.now) ≤ 4294967293) }
 {

@@ -4,8 +4,8 @@ ghost use Rattle.std.specs.Option.{option_map};
 ghost use Rattle.yv_statement.specs.Order.{Among, IsLeast};
 ghost use Rattle.yv_schema.specs.Refuses.{BadFile, in_file};
 
-use yv_conform::conform;
 use yv_statement::{Refusal, Statement, lesser};
+use yv_text_grammar::conform;
 
 /// The least refusal of statements that aren't as the tables of the language say.
 pub(crate) fn first_bad_file(files: &[Statement<'_>]) -> Option<Refusal>

@@ -1,23 +1,23 @@
 //! What is known of files before their nodes are built.
 ghost use Rattle.std.specs.Prelude.{◌≡◌, [], None, IfOk, slice_index_or};
-ghost use Rattle.yv_expansion.specs.Tree.{listed};
-ghost use Rattle.yv_selection.specs.Choice.{Choice};
-ghost use Rattle.yv_definitions.specs.Defined.{refined};
-ghost use Rattle.yv_definitions.specs.Known.{files_in, typing_in};
-ghost use Rattle.yv_final_tree.specs.Final.{changes_of};
-ghost use Rattle.yv_final_tree.specs.Kept.{AreKept, origin_at};
-ghost use Rattle.yv_schema.specs.Module.{Basis, home_of};
+ghost use Rattle.yv_expand.specs.Tree.{item_list};
+ghost use Rattle.yv_statement.specs.Selection.{Selected};
+ghost use Rattle.yv_node_statements.specs.Definitions.{refined_definition};
+ghost use Rattle.yv_node_statements.specs.Context.{files_in, typing_in};
+ghost use Rattle.yv_expand_tree.specs.Final.{changes_of};
+ghost use Rattle.yv_expand_tree.specs.FinalTree.{AreKept, origin_at};
+ghost use Rattle.yv_schema.specs.Module.{Basis, module_file_of};
 ghost use Rattle.yv_schema.specs.InnerContext.{IsRefinedOf, Tells};
 
 use std::alloc::{AllocError, Global};
-use yv_definitions::Definitions;
-use yv_expansion::Node;
-use yv_final_tree::FinalTree;
-use yv_properties::Definition;
-use yv_refined_definitions::RefinedDefinitions;
+use yv_expand::RemainingNode;
+use yv_expand_tree::FinalTree;
+use yv_node_definition::Definition;
+use yv_node_statements::{Definitions, RefinedDefinitions};
 use yv_values::Matchers;
 
-/// What the statements of files say of the nodes of a tree, once for each way in which refines change one.
+/// What the statements of files say of the nodes of a tree, once for each way in which refines
+/// change one.
 pub(crate) fn refined_definitions<'c, 'a, 'b>(
     alloc: Global,
     definitions: &'c Definitions<'c, 'a, 'b>,
@@ -52,7 +52,7 @@ impl<'c, 'a, 'b> Context<'c, 'a, 'b> {
         tree: &'c FinalTree,
     ) -> Context<'c, 'a, 'b>
         ensures tree { result.tree.now ≡ tree.now }
-        ensures tells { (b : Basis) (choice : Choice) → files_in definitions.now ≡ b.files → typing_in definitions.now ≡ b.typing
+        ensures tells { (b : Basis) (choice : Selected) → files_in definitions.now ≡ b.files → typing_in definitions.now ≡ b.typing
             → IsRefinedOf definitions.now tree.now refined.now
             → (k : AreKept choice b.files b.truth tree.now) → k.final ≡ b.final → k.nodes ≡ b.nodes
             → (tells : Tells b result) × (tells.choice ≡ choice) }
@@ -65,11 +65,11 @@ impl<'c, 'a, 'b> Context<'c, 'a, 'b> {
     }
 
     /// The nodes that are left.
-    pub(crate) fn left(&self) -> &'c [Node]
+    pub(crate) fn remaining_nodes(&self) -> &'c [RemainingNode]
         ensures own { result.now ≡ self.now.tree.now.left }
-        ensures told { (b : Basis) → Tells b self.now → result.now ≡ listed None 0 b.nodes }
+        ensures tells { (b : Basis) → Tells b self.now → result.now ≡ item_list None 0 b.nodes }
     {
-        self.tree.left()
+        self.tree.remaining_nodes()
     }
 
     /// What statements say of nodes.
@@ -80,16 +80,16 @@ impl<'c, 'a, 'b> Context<'c, 'a, 'b> {
     }
 
     /// The number of the file of the module to which an item belongs.
-    pub(crate) fn home(&self, item: usize) -> u32
-        ensures { (b : Basis) → Tells b self.now → result ≡ home_of b item }
+    pub(crate) fn module_file(&self, item: usize) -> u32
+        ensures { (b : Basis) → Tells b self.now → result ≡ module_file_of b item }
     {
-        self.tree.home(item)
+        self.tree.module_file(item)
     }
 
     /// What is said of the node of an item.
     pub(crate) fn definition(&self, item: usize) -> Result<Definition, AllocError>
         ensures { (b : Basis) → Tells b self.now → IfOk result (λ d. d
-            ≡ refined b.typing b.files (origin_at b.final.items item) (slice_index_or (changes_of b.files b.final) item [])) }
+            ≡ refined_definition b.typing b.files (origin_at b.final.items item) (slice_index_or (changes_of b.files b.final) item [])) }
     {
         let sequence = self.tree.changes().sequence(item);
         self.refined.of(self.tree.origin(item), sequence)

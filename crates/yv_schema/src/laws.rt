@@ -3,89 +3,90 @@ ghost use Rattle.std.specs.Prelude.{◌≡◌, ◌≤◌, ◌⊎◌, ℕ, List, 
 ghost use Rattle.yv_statement.specs.Codes.{phase_of};
 ghost use Rattle.yv_statement.specs.Order.{IsLeast};
 ghost use Rattle.yv_statement.specs.declared.refusal.Refusal.{Refusal};
-ghost use Rattle.yv_selection.specs.Choice.{Choice};
-ghost use Rattle.yv_rows.specs.Files.{Files};
+ghost use Rattle.yv_statement.specs.Selection.{Selected};
+ghost use Rattle.yv_link_scopes.specs.Files.{Files};
 ghost use Rattle.yv_schema.specs.Refuses.{Refuses, RefusesBeforeTypes};
 ghost use Rattle.yv_schema.specs.Schema.{AreNotes, AreReferences, IsSchema, TakeUnits};
 ghost use Rattle.yv_schema.specs.Module.{leafrefs_of};
-ghost use Rattle.yv_leafrefs.specs.Schema.{Referral};
-ghost use Rattle.yv_leafrefs.specs.Targets.{IsLeafref, RefersTo};
+ghost use Rattle.yv_node_leafrefs.specs.Schema.{Referral};
+ghost use Rattle.yv_node_leafrefs.specs.Targets.{IsLeafref, RefersTo};
 ghost use Rattle.yv_nodes.specs.Link.{Link, link_in, reference_in};
 ghost use Rattle.yv_nodes.specs.Rows.{Note, Row};
 ghost use Rattle.yv_nodes.specs.Tree.{Forest, count};
 
-/// Where nothing is refused, files have one schema tree under a choice, their augments add to it in one way, and its leafrefs lead one
-/// way.
+/// Where nothing is refused, files have one schema tree under a choice, their augments add to it in
+/// one way, and its leafrefs lead one way.
 pub fn files_have_one_schema()
-    ensures tree { (choice : Choice) (files : Files) (limit : ℕ) (a b : Forest) → IsLeast (Refuses choice files limit) None
+    ensures tree { (choice : Selected) (files : Files) (limit : ℕ) (a b : Forest) → IsLeast (Refuses choice files limit) None
         → IsSchema choice files a → IsSchema choice files b → a ≡ b }
-    ensures augments { (choice : Choice) (files : Files) (limit : ℕ) (a b : List Note) → IsLeast (Refuses choice files limit) None
+    ensures augments { (choice : Selected) (files : Files) (limit : ℕ) (a b : List Note) → IsLeast (Refuses choice files limit) None
         → AreNotes choice files a → AreNotes choice files b → a ≡ b }
-    ensures references { (choice : Choice) (files : Files) (limit : ℕ) (a b : List (Option Link)) → IsLeast (Refuses choice files limit) None
+    ensures references { (choice : Selected) (files : Files) (limit : ℕ) (a b : List (Option Link)) → IsLeast (Refuses choice files limit) None
         → AreReferences choice files a → AreReferences choice files b → a ≡ b }
 {
-    yv_features::laws::an_expression_has_one_truth();
-    yv_definitions::laws::files_have_one_typing();
-    yv_final_tree::laws::files_have_one_final_tree();
-    yv_final_tree::laws::what_is_left_is_one();
-    yv_leafrefs::laws::a_tree_is_typed_once();
-    yv_leafref_links::laws::a_schema_has_one_list_of_links();
+    yv_link_features::laws::an_expression_has_one_truth();
+    yv_node_statements::laws::files_have_one_typing();
+    yv_expand_tree::laws::files_have_one_final_tree();
+    yv_expand_tree::laws::what_is_left_is_one();
+    yv_node_leafrefs::laws::a_tree_is_typed_once();
+    yv_node_leafrefs::link_laws::a_schema_has_one_list_of_links();
 }
 
 /// A schema tree has no more nodes than the files of the implemented modules take units.
 pub fn nodes_are_within_units()
-    ensures { (choice : Choice) (files : Files) (tree : Forest) (units : ℕ) → IsSchema choice files tree
+    ensures { (choice : Selected) (files : Files) (tree : Forest) (units : ℕ) → IsSchema choice files tree
         → TakeUnits choice files units → count tree ≤ units }
 {
-    yv_final_tree::laws::nodes_are_within_units();
+    yv_expand_tree::laws::nodes_are_within_units();
 }
 
 /// What is refused only with types, or with the schema tree, comes in phase 9 or later.
 pub fn types_and_trees_come_late()
-    ensures { (choice : Choice) (files : Files) (limit : ℕ) (f : Refusal) → Refuses choice files limit f
+    ensures { (choice : Selected) (files : Files) (limit : ℕ) (f : Refusal) → Refuses choice files limit f
         → RefusesBeforeTypes choice files limit f ⊎ (9 ≤ phase_of f.code) }
 {}
 
-/// Where nothing is refused, a leafref has its link to what it refers to, and the link says whether an instance is required (RFC 7950,
-/// sections 9.9.2 and 9.9.3).
+/// Where nothing is refused, a leafref has its link to what it refers to, and the link says whether
+/// an instance is required (RFC 7950, sections 9.9.2 and 9.9.3).
 pub fn leafrefs_have_links()
-    ensures { (choice : Choice) (files : Files) (limit : ℕ) (links : List (Option Link)) → IsLeast (Refuses choice files limit) None
+    ensures { (choice : Selected) (files : Files) (limit : ℕ) (links : List (Option Link)) → IsLeast (Refuses choice files limit) None
         → (are : AreReferences choice files links) → (n target : ℕ) → (refers : RefersTo (leafrefs_of are.basis) n target)
         → (link : Link) × (reference_in links n ≡ Some link) × (link.target ≡ target) × (link.is_required ≡ refers.ref.is_required) }
 {
-    yv_fitting::laws::what_is_not_refused_fits();
-    yv_rows::laws::statements_have_their_rows();
-    yv_final_tree::laws::nothing_stands_below_a_leaf();
-    yv_leafref_types::laws::an_origin_is_a_leafref();
+    yv_expand::conformance_laws::what_is_not_refused_fits();
+    yv_link_scopes::laws::statements_have_their_rows();
+    yv_expand_tree::laws::nothing_stands_below_a_leaf();
+    yv_types::leafref_laws::an_origin_is_a_leafref();
 }
 
-/// Where nothing is refused, a leafref that requires an instance has its link to what it refers to (RFC 7950, sections 9.9.2 and 9.9.3).
+/// Where nothing is refused, a leafref that requires an instance has its link to what it refers to
+/// (RFC 7950, sections 9.9.2 and 9.9.3).
 pub fn required_leafrefs_have_links()
-    ensures { (choice : Choice) (files : Files) (limit : ℕ) (links : List (Option Link)) → IsLeast (Refuses choice files limit) None
+    ensures { (choice : Selected) (files : Files) (limit : ℕ) (links : List (Option Link)) → IsLeast (Refuses choice files limit) None
         → (are : AreReferences choice files links) → (n target : ℕ) → (refers : RefersTo (leafrefs_of are.basis) n target)
         → refers.ref.is_required ≡ true → (link : Link) × (link_in links n ≡ Some link) × (link.target ≡ target) }
 {
-    yv_fitting::laws::what_is_not_refused_fits();
-    yv_rows::laws::statements_have_their_rows();
-    yv_final_tree::laws::nothing_stands_below_a_leaf();
-    yv_leafref_types::laws::an_origin_is_a_leafref();
+    yv_expand::conformance_laws::what_is_not_refused_fits();
+    yv_link_scopes::laws::statements_have_their_rows();
+    yv_expand_tree::laws::nothing_stands_below_a_leaf();
+    yv_types::leafref_laws::an_origin_is_a_leafref();
 }
 
-/// Where nothing is refused, each leafref outside operations and notifications refers to a node, and its link leads there and says whether
-/// an instance is required.
+/// Where nothing is refused, each leafref outside operations and notifications refers to a node,
+/// and its link leads there and says whether an instance is required.
 pub fn each_leafref_has_its_link()
-    ensures { (choice : Choice) (files : Files) (limit : ℕ) (tree : Forest) (links : List (Option Link))
+    ensures { (choice : Selected) (files : Files) (limit : ℕ) (tree : Forest) (links : List (Option Link))
         → IsLeast (Refuses choice files limit) None → (schema : IsSchema choice files tree) → AreReferences choice files links
         → (n : ℕ) (row : Row) (ref : Referral) → IsLeafref (leafrefs_of schema.basis) n row ref
         → (link : Link) × (reference_in links n ≡ Some link) × RefersTo (leafrefs_of schema.basis) n link.target
         × (link.is_required ≡ ref.is_required) }
 {
-    yv_fitting::laws::what_is_not_refused_fits();
-    yv_rows::laws::statements_have_their_rows();
-    yv_features::laws::an_expression_has_one_truth();
-    yv_definitions::laws::files_have_one_typing();
-    yv_final_tree::laws::files_have_one_final_tree();
-    yv_final_tree::laws::nothing_stands_below_a_leaf();
-    yv_final_tree::laws::what_is_left_is_one();
-    yv_leafref_types::laws::an_origin_is_a_leafref();
+    yv_expand::conformance_laws::what_is_not_refused_fits();
+    yv_link_scopes::laws::statements_have_their_rows();
+    yv_link_features::laws::an_expression_has_one_truth();
+    yv_node_statements::laws::files_have_one_typing();
+    yv_expand_tree::laws::files_have_one_final_tree();
+    yv_expand_tree::laws::nothing_stands_below_a_leaf();
+    yv_expand_tree::laws::what_is_left_is_one();
+    yv_types::leafref_laws::an_origin_is_a_leafref();
 }

@@ -3,10 +3,10 @@ ghost use Rattle.std.specs.Prelude.{◌≡◌};
 ghost use Rattle.std.specs.Option.{option_map};
 ghost use Rattle.yv_statement.specs.declared.keyword.Keyword.TheVariants as word;
 ghost use Rattle.yv_statement.specs.Tree.{name_of as name_at};
-ghost use Rattle.yv_stated.specs.Statements.{argument_of, first_of, is_of};
+ghost use Rattle.yv_node_properties.specs.Statements.{argument_of, first_of, is_of};
 
-use yv_conform::Keyword;
 use yv_statement::Statement;
+use yv_text_grammar::Keyword;
 
 /// The statement's argument, or no text where it has none.
 pub(crate) fn name_of<'s>(statement: &'s Statement<'_>) -> &'s str

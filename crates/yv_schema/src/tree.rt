@@ -2,29 +2,28 @@
 ghost use Rattle.std.specs.Prelude.{◌≡◌, ◌<◌, ◌≤◌, ◌+◌, [], ◌∷◌, ◌++◌, ℕ, All, List, Some, length, IfOk, IfErr, OnOk, slice_get, slice_index_or};
 ghost use Rattle.std.specs.Rc.{rc_str_bytes};
 ghost use Rattle.yv_statement.specs.declared.refusal.Stop.TheVariants.{NoMemory};
-ghost use Rattle.yv_children.specs.Families.{lists_of};
-ghost use Rattle.yv_expansion.specs.Tree.{Node as Left};
+ghost use Rattle.yv_schema.specs.Families.{lists_of};
+ghost use Rattle.yv_expand.specs.Tree.{Node as Left};
 ghost use Rattle.yv_nodes.specs.Numbers.{numbers_from, rows_from};
 ghost use Rattle.yv_nodes.specs.Tree.{Label};
-ghost use Rattle.yv_above.specs.Above.{seen_of};
+ghost use Rattle.yv_nodes.specs.Above.{seen_of};
 ghost use Rattle.yv_schema.specs.Module.{Basis, label_at, stated_of};
 ghost use Rattle.yv_schema.specs.InnerContext.{IsTold, Tells};
-ghost use Rattle.yv_schema.specs.InnerHomes.{AreHomes};
-ghost use Rattle.yv_schema.specs.InnerRowing.{AreSeen, IsWithin, line_at, number_at, numbers_at, parent_of, row_of, rows_for};
+ghost use Rattle.yv_schema.specs.InnerModuleNames.{AreModuleNames};
+ghost use Rattle.yv_schema.specs.InnerRows.{AreSeen, IsWithin, line_at, number_at, numbers_at, parent_of, row_of, rows_of_items};
 
 use crate::context::Context;
-use crate::homes::Homes;
+use crate::families::families_of;
+use crate::module_names::ModuleNames;
 use std::alloc::{AllocError, Global};
-use yv_above::Above;
-use yv_children::families_of;
-use yv_expansion::Node as LeftNode;
-use yv_nodes::{Node, NodeId, Nodes};
+use yv_expand::RemainingNode as LeftNode;
+use yv_nodes::{Above, Node, NodeId, Nodes};
+use yv_schema_tables::Schema;
 use yv_statement::Stop;
-use yv_tables::Schema;
 
 /// The nodes of a final tree, numbered, and the numbers of those at the top.
 #[derive(Drop)]
-pub(crate) struct Numbered {
+pub(crate) struct NumberedNodes {
     pub(crate) nodes: Nodes,
     pub(crate) top: Vec<NodeId>,
 }
@@ -34,27 +33,28 @@ pub(crate) struct Numbered {
 pub(crate) struct Builder<'c, 'a, 'b> {
     pub(crate) alloc: Global,
     pub(crate) context: &'c Context<'c, 'a, 'b>,
-    pub(crate) homes: &'c Homes,
+    pub(crate) module_files: &'c ModuleNames,
 }
 
 impl Builder<'_, '_, '_> {
-    /// The nodes that are left, each before those below it, of which there are no more than the limit.
-    pub(crate) fn numbered(&self, limit: u32) -> Result<Numbered, Stop>
+    /// The nodes that are left, each before those below it, of which there are no more than the
+    /// limit.
+    pub(crate) fn number_nodes(&self, limit: u32) -> Result<NumberedNodes, Stop>
         requires room { length self.now.context.now.tree.now.left ≤ limit }
-        requires told { IsTold self.now.context.now }
-        ensures rows { (b : Basis) → Tells b self.now.context.now → AreHomes b.files self.now.homes.now
+        requires tells { IsTold self.now.context.now }
+        ensures rows { (b : Basis) → Tells b self.now.context.now → AreModuleNames b.files self.now.module_files.now
             → IfOk result (λ n. n.nodes.rows ≡ rows_from 0 (stated_of b)) }
-        ensures top { (b : Basis) → Tells b self.now.context.now → AreHomes b.files self.now.homes.now
+        ensures top { (b : Basis) → Tells b self.now.context.now → AreModuleNames b.files self.now.module_files.now
             → IfOk result (λ n. n.top.items ≡ numbers_from 0 (stated_of b)) }
         ensures limit { IfOk result (λ n. n.nodes.limit ≡ limit) }
         ensures memory { IfErr result (λ stop. stop ≡ NoMemory) }
     {
-        let left = self.context.left();
+        let left = self.context.remaining_nodes();
         let families = families_of(self.alloc, left)?;
         let mut nodes = Nodes::new(self.alloc, limit);
         self.add_nodes(left, &families.below, &mut nodes)?;
         let top = numbers_at(self.alloc, &families.top)?;
-        Ok(Numbered { nodes, top })
+        Ok(NumberedNodes { nodes, top })
     }
 
     // Adds the nodes of items, below which stand those in these places.
@@ -68,8 +68,8 @@ impl Builder<'_, '_, '_> {
         requires few { length items.now ≤ 4294967296 }
         requires parents { (place : ℕ) (item : Left) → slice_get items.now place ≡ Some item → IsWithin item.parent place }
         requires children { (place : ℕ) → All (λ child. child < 4294967296) (slice_index_or (lists_of below.now) place []) }
-        ensures rows { (b : Basis) → Tells b self.now.context.now → AreHomes b.files self.now.homes.now → OnOk result (nodes.new.rows
-            ≡ nodes.old.rows ++ rows_for b (lists_of below.now) [] 0 items.now) }
+        ensures rows { (b : Basis) → Tells b self.now.context.now → AreModuleNames b.files self.now.module_files.now → OnOk result (nodes.new.rows
+            ≡ nodes.old.rows ++ rows_of_items b (lists_of below.now) [] 0 items.now) }
         ensures limit { nodes.new.limit ≡ nodes.old.limit }
         ensures memory { IfErr result (λ stop. stop ≡ NoMemory) }
     {
@@ -93,20 +93,20 @@ impl Builder<'_, '_, '_> {
         above: &Above,
         parent: NodeId,
         children: Vec<NodeId>,
-    ) -> Result<Made, AllocError>
-        ensures node { (b : Basis) (ls : List Label) → Tells b self.now.context.now → AreHomes b.files self.now.homes.now
+    ) -> Result<MadeNodes, AllocError>
+        ensures node { (b : Basis) (ls : List Label) → Tells b self.now.context.now → AreModuleNames b.files self.now.module_files.now
             → above.now ≡ seen_of ls → IfOk result (λ made. made.node ≡ row_of b ls item.now parent children.items) }
-        ensures above { (b : Basis) (ls : List Label) → Tells b self.now.context.now → AreHomes b.files self.now.homes.now
+        ensures above { (b : Basis) (ls : List Label) → Tells b self.now.context.now → AreModuleNames b.files self.now.module_files.now
             → above.now ≡ seen_of ls → IfOk result (λ made. made.above_others ≡ seen_of (label_at b ls item.now.origin ∷ ls)) }
         ensures parent { IfOk result (λ made. made.node.parent ≡ parent) }
     {
         let definition = self.context.definition(item.origin)?;
-        let home = self.context.home(item.origin);
-        let name = self.homes.name(home)?;
-        let standing = above.standing(&definition, home)?;
-        let above_others = above.below(&definition, home, standing)?;
-        Ok(Made {
-            node: Node::new(definition, home, name, standing, parent, children),
+        let module_file = self.context.module_file(item.origin);
+        let name = self.module_files.name(module_file)?;
+        let standing = above.place_of(&definition, module_file)?;
+        let above_others = above.below(&definition, module_file, standing)?;
+        Ok(MadeNodes {
+            node: Node::new(definition, module_file, name, standing, parent, children),
             above_others,
         })
     }
@@ -114,12 +114,13 @@ impl Builder<'_, '_, '_> {
 
 // What an item gives: its node, and what this and the nodes above it make of those below.
 #[derive(Drop)]
-struct Made {
+struct MadeNodes {
     node: Node,
     above_others: Above,
 }
 
-// What the nodes above an item make of it, by the place of the item above it; none are above one at the top.
+// What the nodes above an item make of it, by the place of the item above it; none are above one at
+// the top.
 fn above_at<'k>(top: &'k Above, aboves: &'k [Above], parent: Option<usize>) -> &'k Above
     ensures { (lines : List (List Label)) → top.now ≡ seen_of [] → AreSeen lines aboves.now
         → result.now ≡ seen_of (line_at lines parent) }

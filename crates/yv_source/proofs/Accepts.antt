@@ -3,8 +3,8 @@ use Rattle.std.proofs.Common.{◌≡◌, ℕ, ◌+◌, ◌<◌, ◌≤◌, Bool,
 use Rattle.yv_statement.specs.Tree.{Head, Forest, End, Then, Tree}
 use Rattle.yv_source.specs.Pieces.{Piece, Blank, LineComment, BlockComment, Word, Single, Double, Semicolon, Open, Close, Plus, Token}
 use Rattle.yv_source.specs.Grammar.{IsHead, Says, IsJoined, IsArgument, IsBody, Spells, SpellsOne, depth}
-use Rattle.yv_source.specs.Inner.Machine.{is_keyword, Step, Next, Wrong, Deep, finish, between, argued, said, joined, named, step, run}
-use Rattle.yv_statement.specs.Building.{join_forests, push_child, with_argument, with_more, extended}
+use Rattle.yv_source.specs.Inner.Machine.{is_keyword, Step, Next, Wrong, Deep, finish, between, after_argument, after_quoted, after_plus, after_keyword, step, run_tokens}
+use Rattle.yv_statement.specs.Builder.{join_forests, push_child, with_argument, with_more, extend}
 use Rattle.yv_source.specs.Place.{column_of}
 use Rattle.yv_source.specs.declared.machine.Phase.{Phase}
 use Rattle.yv_source.specs.declared.machine.Phase.TheVariants.{Between, Named, Argued, Said, Joined, Done}
@@ -65,7 +65,7 @@ WantsText Joined = Unit {0}
 WantsText Done = ⊥
 
 -- a quoted text
-named_takes : (front : List ℕ) (p : Piece) (text : List ℕ) (t : Tree) (below : List Tree) → Says front p text → named (column_of front) (t ∷ below) p ≡ Next (with_more text t ∷ below) Said
+named_takes : (front : List ℕ) (p : Piece) (text : List ℕ) (t : Tree) (below : List Tree) → Says front p text → after_keyword (column_of front) (t ∷ below) p ≡ Next (with_more text t ∷ below) Said
 named_takes front (Word w) text t below s = absurd s
 named_takes front (Single w) text t below s = ap (λ x. Next (with_more x t ∷ below) Said) (sym s)
 named_takes front (Double w) text t below s = ap (λ x. Next (with_more x t ∷ below) Said) (sym s)
@@ -77,7 +77,7 @@ named_takes front Open text t below s = absurd s
 named_takes front Close text t below s = absurd s
 named_takes front Plus text t below s = absurd s
 
-joined_takes : (front : List ℕ) (p : Piece) (text : List ℕ) (t : Tree) (below : List Tree) → Says front p text → joined (column_of front) (t ∷ below) p ≡ Next (with_more text t ∷ below) Said
+joined_takes : (front : List ℕ) (p : Piece) (text : List ℕ) (t : Tree) (below : List Tree) → Says front p text → after_plus (column_of front) (t ∷ below) p ≡ Next (with_more text t ∷ below) Said
 joined_takes front (Word w) text t below s = absurd s
 joined_takes front (Single w) text t below s = ap (λ x. Next (with_more x t ∷ below) Said) (sym s)
 joined_takes front (Double w) text t below s = ap (λ x. Next (with_more x t ∷ below) Said) (sym s)
@@ -97,59 +97,59 @@ takes_text limit Said k text t below w s = absurd w
 takes_text limit Joined k text t below w s = joined_takes k.front k.piece text t below s
 takes_text limit Done k text t below w s = absurd w
 
-extended-append : (o : Option (List ℕ)) (a b : List ℕ) → extended (Some (extended o a)) b ≡ extended o (a ++ b)
+extended-append : (o : Option (List ℕ)) (a b : List ℕ) → extend (Some (extend o a)) b ≡ extend o (a ++ b)
 extended-append None a b = refl
 extended-append (Some x) a b = append_assoc x a b
 
 -- quoted texts that are joined
-takes_joined : (limit : ℕ) (phase : Phase) (ts : List Token) (text : List ℕ) (t : Tree) (below : List Tree) (more : List Token) → WantsText phase → IsJoined ts text → run limit (Next (t ∷ below) phase) (ts ++ more) ≡ run limit (Next (with_more text t ∷ below) Said) more
+takes_joined : (limit : ℕ) (phase : Phase) (ts : List Token) (text : List ℕ) (t : Tree) (below : List Tree) (more : List Token) → WantsText phase → IsJoined ts text → run_tokens limit (Next (t ∷ below) phase) (ts ++ more) ≡ run_tokens limit (Next (with_more text t ∷ below) Said) more
 takes_joined limit phase [] text t below more w s = absurd s
 takes_joined limit phase (k ∷ []) text t below more w s =
-    ap (λ (x : Step). run limit x more) (takes_text limit phase k text t below w s)
+    ap (λ (x : Step). run_tokens limit x more) (takes_text limit phase k text t below w s)
 takes_joined limit phase (k ∷ p ∷ ts) text t below more w (first, others, is, says, plus, rest) =
-    ap (λ (x : Step). run limit x (p ∷ (ts ++ more))) (takes_text limit phase k first t below w says)
-    ∙ ap (λ (q : Piece). run limit (said (with_more first t ∷ below) q) (ts ++ more)) plus
+    ap (λ (x : Step). run_tokens limit x (p ∷ (ts ++ more))) (takes_text limit phase k first t below w says)
+    ∙ ap (λ (q : Piece). run_tokens limit (after_quoted (with_more first t ∷ below) q) (ts ++ more)) plus
     ∙ takes_joined limit Joined ts others (with_more first t) below more tt rest
-    ∙ ap (λ (x : List ℕ). run limit (Next (with_argument x t ∷ below) Said) more) (extended-append t.head.argument first others ∙ ap (extended t.head.argument) (sym is))
+    ∙ ap (λ (x : List ℕ). run_tokens limit (Next (with_argument x t ∷ below) Said) more) (extended-append t.head.argument first others ∙ ap (extend t.head.argument) (sym is))
 
 -- an argument, or none
 abbrev Taken : ℕ → Head → List Tree → List Token → List Token → Type 0
 Taken limit h stack argument more =
-    (phase : Phase) × IsReady phase × (run limit (Next (opened h ∷ stack) Named) (argument ++ more) ≡ run limit (Next (tree h End ∷ stack) phase) more)
+    (phase : Phase) × IsReady phase × (run_tokens limit (Next (opened h ∷ stack) Named) (argument ++ more) ≡ run_tokens limit (Next (tree h End ∷ stack) phase) more)
 
 takes_argument : (limit : ℕ) (h : Head) (stack : List Tree) (argument : List Token) (o : Option (List ℕ)) (more : List Token) → h.argument ≡ o → IsArgument argument o → Taken limit h stack argument more
 takes_argument limit h stack [] None more e s =
-    (Named, tt, ap (λ (x : Option (List ℕ)). run limit (Next (tree (record { keyword = h.keyword; argument = x; line = h.line; offset = h.offset }) End ∷ stack) Named) more) (sym e))
+    (Named, tt, ap (λ (x : Option (List ℕ)). run_tokens limit (Next (tree (record { keyword = h.keyword; argument = x; line = h.line; offset = h.offset }) End ∷ stack) Named) more) (sym e))
 takes_argument limit h stack [] (Some text) more e s = absurd s
 takes_argument limit h stack (t ∷ ts) None more e s = absurd s
 takes_argument limit h stack (t ∷ ts) (Some text) more e (inl (is, none)) = (
   Argued,
   tt,
-  ap (λ (l : List Token). run limit (named (column_of t.front) (opened h ∷ stack) t.piece) (l ++ more)) none
-      ∙ ap (λ (p : Piece). run limit (named (column_of t.front) (opened h ∷ stack) p) more) is
-      ∙ ap (λ (x : Option (List ℕ)). run limit (Next (tree (record { keyword = h.keyword; argument = x; line = h.line; offset = h.offset }) End ∷ stack) Argued) more) (sym e),
+  ap (λ (l : List Token). run_tokens limit (after_keyword (column_of t.front) (opened h ∷ stack) t.piece) (l ++ more)) none
+      ∙ ap (λ (p : Piece). run_tokens limit (after_keyword (column_of t.front) (opened h ∷ stack) p) more) is
+      ∙ ap (λ (x : Option (List ℕ)). run_tokens limit (Next (tree (record { keyword = h.keyword; argument = x; line = h.line; offset = h.offset }) End ∷ stack) Argued) more) (sym e),
 )
 takes_argument limit h stack (t ∷ ts) (Some text) more e (inr s) = (
   Said,
   tt,
   takes_joined limit Named (t ∷ ts) text (opened h) stack more tt s
-      ∙ ap (λ (x : Option (List ℕ)). run limit (Next (tree (record { keyword = h.keyword; argument = x; line = h.line; offset = h.offset }) End ∷ stack) Said) more) (sym e),
+      ∙ ap (λ (x : Option (List ℕ)). run_tokens limit (Next (tree (record { keyword = h.keyword; argument = x; line = h.line; offset = h.offset }) End ∷ stack) Said) more) (sym e),
 )
 
 -- a semicolon or an opened block, with or without an argument
-takes_mark : (limit : ℕ) (t : Tree) (stack : List Tree) (phase : Phase) (k : Token) (more : List Token) → IsReady phase → k.piece ≡ Semicolon → run limit (Next (t ∷ stack) phase) (k ∷ more) ≡ run limit (finish t stack) more
+takes_mark : (limit : ℕ) (t : Tree) (stack : List Tree) (phase : Phase) (k : Token) (more : List Token) → IsReady phase → k.piece ≡ Semicolon → run_tokens limit (Next (t ∷ stack) phase) (k ∷ more) ≡ run_tokens limit (finish t stack) more
 takes_mark limit t stack Between k more r e = absurd r
-takes_mark limit t stack Named k more r e = ap (λ (p : Piece). run limit (named (column_of k.front) (t ∷ stack) p) more) e
-takes_mark limit t stack Argued k more r e = ap (λ (p : Piece). run limit (argued (t ∷ stack) p) more) e
-takes_mark limit t stack Said k more r e = ap (λ (p : Piece). run limit (said (t ∷ stack) p) more) e
+takes_mark limit t stack Named k more r e = ap (λ (p : Piece). run_tokens limit (after_keyword (column_of k.front) (t ∷ stack) p) more) e
+takes_mark limit t stack Argued k more r e = ap (λ (p : Piece). run_tokens limit (after_argument (t ∷ stack) p) more) e
+takes_mark limit t stack Said k more r e = ap (λ (p : Piece). run_tokens limit (after_quoted (t ∷ stack) p) more) e
 takes_mark limit t stack Joined k more r e = absurd r
 takes_mark limit t stack Done k more r e = absurd r
 
-takes_open : (limit : ℕ) (t : Tree) (stack : List Tree) (phase : Phase) (k : Token) (more : List Token) → IsReady phase → k.piece ≡ Open → run limit (Next (t ∷ stack) phase) (k ∷ more) ≡ run limit (Next (t ∷ stack) Between) more
+takes_open : (limit : ℕ) (t : Tree) (stack : List Tree) (phase : Phase) (k : Token) (more : List Token) → IsReady phase → k.piece ≡ Open → run_tokens limit (Next (t ∷ stack) phase) (k ∷ more) ≡ run_tokens limit (Next (t ∷ stack) Between) more
 takes_open limit t stack Between k more r e = absurd r
-takes_open limit t stack Named k more r e = ap (λ (p : Piece). run limit (named (column_of k.front) (t ∷ stack) p) more) e
-takes_open limit t stack Argued k more r e = ap (λ (p : Piece). run limit (argued (t ∷ stack) p) more) e
-takes_open limit t stack Said k more r e = ap (λ (p : Piece). run limit (said (t ∷ stack) p) more) e
+takes_open limit t stack Named k more r e = ap (λ (p : Piece). run_tokens limit (after_keyword (column_of k.front) (t ∷ stack) p) more) e
+takes_open limit t stack Argued k more r e = ap (λ (p : Piece). run_tokens limit (after_argument (t ∷ stack) p) more) e
+takes_open limit t stack Said k more r e = ap (λ (p : Piece). run_tokens limit (after_quoted (t ∷ stack) p) more) e
 takes_open limit t stack Joined k more r e = absurd r
 takes_open limit t stack Done k more r e = absurd r
 
@@ -157,40 +157,40 @@ takes_open limit t stack Done k more r e = absurd r
 abbrev GoesOver : Forest → Type 0
 GoesOver f =
     (limit : ℕ) (p : Tree) (below : List Tree) (ts more : List Token) → Spells f ts → depth f + (1 + length below) ≤ limit →
-    run limit (Next (p ∷ below) Between) (ts ++ more) ≡ run limit (Next (with_children p f ∷ below) Between) more
+    run_tokens limit (Next (p ∷ below) Between) (ts ++ more) ≡ run_tokens limit (Next (with_children p f ∷ below) Between) more
 
-takes_body : (limit : ℕ) (h : Head) (c : Forest) (stack : List Tree) (phase : Phase) (body more : List Token) → IsReady phase → GoesOver c → IsBody (Spells c) c body → depth c + (1 + length stack) ≤ limit → run limit (Next (tree h End ∷ stack) phase) (body ++ more) ≡ run limit (finish (tree h c) stack) more
+takes_body : (limit : ℕ) (h : Head) (c : Forest) (stack : List Tree) (phase : Phase) (body more : List Token) → IsReady phase → GoesOver c → IsBody (Spells c) c body → depth c + (1 + length stack) ≤ limit → run_tokens limit (Next (tree h End ∷ stack) phase) (body ++ more) ≡ run_tokens limit (finish (tree h c) stack) more
 takes_body limit h c stack phase body more ready over (inl (t, is, mark, none)) d =
-    ap (λ (l : List Token). run limit (Next (tree h End ∷ stack) phase) (l ++ more)) is
+    ap (λ (l : List Token). run_tokens limit (Next (tree h End ∷ stack) phase) (l ++ more)) is
     ∙ takes_mark limit (tree h End) stack phase t more ready mark
-    ∙ ap (λ (f : Forest). run limit (finish (tree h f) stack) more) (sym none)
+    ∙ ap (λ (f : Forest). run_tokens limit (finish (tree h f) stack) more) (sym none)
 takes_body limit h c stack phase body more ready over (inr (t, inner, u, is, opens, closes, spells)) d =
-    ap (λ (l : List Token). run limit (Next (tree h End ∷ stack) phase) (l ++ more)) is
+    ap (λ (l : List Token). run_tokens limit (Next (tree h End ∷ stack) phase) (l ++ more)) is
     ∙ takes_open limit (tree h End) stack phase t ((inner ++ u ∷ []) ++ more) ready opens
-    ∙ ap (λ (l : List Token). run limit (Next (tree h End ∷ stack) Between) l) (append_assoc inner (u ∷ []) more)
+    ∙ ap (λ (l : List Token). run_tokens limit (Next (tree h End ∷ stack) Between) l) (append_assoc inner (u ∷ []) more)
     ∙ over limit (tree h End) stack inner (u ∷ more) spells d
-    ∙ ap (λ (p : Piece). run limit (between limit (tree h c ∷ stack) u.front p) more) closes
+    ∙ ap (λ (p : Piece). run_tokens limit (between limit (tree h c ∷ stack) u.front p) more) closes
 
-takes_one : (limit : ℕ) (h : Head) (c : Forest) (stack : List Tree) (k : Token) (argument body more : List Token) → GoesOver c → IsHead k h → IsArgument argument h.argument → IsBody (Spells c) c body → depth c + (1 + length stack) ≤ limit → run limit (Next stack Between) (k ∷ (argument ++ (body ++ more))) ≡ run limit (finish (tree h c) stack) more
+takes_one : (limit : ℕ) (h : Head) (c : Forest) (stack : List Tree) (k : Token) (argument body more : List Token) → GoesOver c → IsHead k h → IsArgument argument h.argument → IsBody (Spells c) c body → depth c + (1 + length stack) ≤ limit → run_tokens limit (Next stack Between) (k ∷ (argument ++ (body ++ more))) ≡ run_tokens limit (finish (tree h c) stack) more
 takes_one limit h c stack k argument body more over head says is_body d =
     let a = takes_argument limit h stack argument h.argument (body ++ more) refl says in
-    ap (λ (s : Step). run limit s (argument ++ (body ++ more))) (takes_head limit stack k h head (omega (arith, d)))
+    ap (λ (s : Step). run_tokens limit s (argument ++ (body ++ more))) (takes_head limit stack k h head (omega (arith, d)))
     ∙ a.2
     ∙ takes_body limit h c stack a.0 body more a.1 over is_body d
 
 pub goes_over : (f : Forest) → GoesOver f
 goes_over End limit p below ts more s d =
-    ap (λ (l : List Token). run limit (Next (p ∷ below) Between) (l ++ more)) s
-    ∙ ap (λ (f : Forest). run limit (Next (record { head = p.head; children = f } ∷ below) Between) more) (sym (join_forests-end p.children))
+    ap (λ (l : List Token). run_tokens limit (Next (p ∷ below) Between) (l ++ more)) s
+    ∙ ap (λ (f : Forest). run_tokens limit (Next (record { head = p.head; children = f } ∷ below) Between) more) (sym (join_forests-end p.children))
 goes_over (Then h c o) limit p below ts more (k, argument, body, others, is, head, says, is_body, rest) d =
-    ap (λ (l : List Token). run limit (Next (p ∷ below) Between) (l ++ more)) is
-    ∙ ap (λ (l : List Token). run limit (Next (p ∷ below) Between) l) (regroup k argument body others more)
+    ap (λ (l : List Token). run_tokens limit (Next (p ∷ below) Between) (l ++ more)) is
+    ∙ ap (λ (l : List Token). run_tokens limit (Next (p ∷ below) Between) l) (regroup k argument body others more)
     ∙ takes_one limit h c (p ∷ below) k argument body (others ++ more) (goes_over c) head says is_body (grind arith)
     ∙ goes_over o limit (push_child p (tree h c)) below others more rest (grind arith)
-    ∙ ap (λ (f : Forest). run limit (Next (record { head = p.head; children = f } ∷ below) Between) more) (join_forests-assoc p.children (Then h c End) o)
+    ∙ ap (λ (f : Forest). run_tokens limit (Next (record { head = p.head; children = f } ∷ below) Between) more) (join_forests-assoc p.children (Then h c End) o)
 
 -- The machine reads a statement from its tokens, where the limit allows its depth.
-pub accepts : (limit : ℕ) (t : Tree) (ts : List Token) → SpellsOne t ts → depth t.children + 1 ≤ limit → run limit (Next [] Between) ts ≡ Next (t ∷ []) Done
+pub accepts : (limit : ℕ) (t : Tree) (ts : List Token) → SpellsOne t ts → depth t.children + 1 ≤ limit → run_tokens limit (Next [] Between) ts ≡ Next (t ∷ []) Done
 accepts limit t ts (k, argument, body, others, is, head, says, is_body, rest) d =
-    ap (run limit (Next [] Between)) (is ∙ ap (λ l. k ∷ (argument ++ (body ++ l))) rest)
+    ap (run_tokens limit (Next [] Between)) (is ∙ ap (λ l. k ∷ (argument ++ (body ++ l))) rest)
     ∙ takes_one limit t.head t.children [] k argument body [] (goes_over t.children) head says is_body (omega (arith, d))

@@ -4,7 +4,7 @@ use Rattle.std.proofs.Math.Seq.{take-append_seam}
 use Rattle.std.proofs.Common.{length-append}
 use Rattle.std.proofs.lemmas.Bool.{cases_Bool}
 use Rattle.yv_source.specs.Pieces.{until, begins}
-use Rattle.yv_condition.specs.Names.{is_identifier}
+use Rattle.yv_text_if_feature.specs.Names.{is_identifier}
 use Rattle.yv_source.specs.Inner.Machine.{is_keyword, behind_colon}
 use Rattle.yv_source.proofs.Cutting.{until_from}
 use Rattle.yv_source.specs.Inner.Scan.{from}

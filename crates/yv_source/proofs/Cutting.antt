@@ -1,8 +1,8 @@
 -- The scanner's first piece is the one that may stand at a place.
 use Rattle.std.proofs.Common.{◌≡◌, ◌≢◌, ℕ, Bool, true, false, cond, ◌==◌, ◌&&◌, ◌||◌, List, [], ◌∷◌, ◌++◌, Some, None, refl, sym, ◌∙◌, ap, subst, inl, inr, ◌⊎◌, append_assoc}
 use Rattle.std.proofs.lemmas.Bool.{eqb-true, cases_Bool}
-use Rattle.yv_source.specs.Pieces.{Piece, Blank, LineComment, BlockComment, Word, Single, Double, Semicolon, Open, Close, Plus, slice, is_blank, begins, begins_two, until, ends_word, up_to_quote, Before, Apart, Unquoted, Quoted, MayStand}
-use Rattle.yv_source.specs.Inner.Scan.{from, from_quote, tail, First, closed, closed_by_two, unless_unquoted, word, word_or_plus, first}
+use Rattle.yv_source.specs.Pieces.{Piece, Blank, LineComment, BlockComment, Word, Single, Double, Semicolon, Open, Close, Plus, slice, is_blank, begins, begins_two, until, ends_word, up_to_quote, Before, Apart, UnquotedWord, QuotedText, MayStand}
+use Rattle.yv_source.specs.Inner.Scan.{from, from_quote, tail, First, closed_piece, closed_by_two, unless_unquoted, word, word_or_plus, first}
 use Rattle.yv_source.proofs.Keyword.{false_true, and_first, and_second}
 
 -- until and from
@@ -143,15 +143,15 @@ quote_from false (b ∷ t) = quote_from_step b t (b == 34) (quote_from (b == 92)
 from_quote_behind : (t rest : List ℕ) → up_to_quote false (t ++ rest) ≡ t → from_quote false (t ++ rest) ≡ rest
 from_quote_behind t rest e = cancel t (from_quote false (t ++ rest)) rest (ap (λ l. l ++ from_quote false (t ++ rest)) (sym e) ∙ quote_from false (t ++ rest))
 
-may_quote : (before : Before) (f : First) → before ≢ Unquoted → unless_unquoted before f ≡ f
+may_quote : (before : Before) (f : First) → before ≢ UnquotedWord → unless_unquoted before f ≡ f
 may_quote Apart f n = refl
-may_quote Unquoted f n = absurd (n refl)
-may_quote Quoted f n = refl
+may_quote UnquotedWord f n = absurd (n refl)
+may_quote QuotedText f n = refl
 
-word_not_plus : (before : Before) (text : List ℕ) → (before ≡ Quoted → begins 43 text ≡ false) → word_or_plus before text ≡ word text
+word_not_plus : (before : Before) (text : List ℕ) → (before ≡ QuotedText → begins 43 text ≡ false) → word_or_plus before text ≡ word text
 word_not_plus Apart text h = refl
-word_not_plus Unquoted text h = refl
-word_not_plus Quoted text h = cond_false (begins 43 text) _ _ (h refl)
+word_not_plus UnquotedWord text h = refl
+word_not_plus QuotedText text h = cond_false (begins 43 text) _ _ (h refl)
 
 word_case : (before : Before) (t more : List ℕ) → MayStand before (Word t) more → first before (t ++ more) ≡ Some (Word t, more)
 word_case before [] more (some, run, join) = absurd (some refl)
@@ -177,12 +177,12 @@ complete before (BlockComment t) more h =
 complete before (Word t) more h = word_case before t more h
 complete before (Single t) more h =
     may_quote before _ h.0
-    ∙ ap (λ (l : List ℕ). closed (Single (until (begins 39) l)) (from (begins 39) l)) (append_assoc t (39 ∷ []) more)
-    ∙ ap (λ (x : List ℕ × List ℕ). closed (Single x.0) x.1) (λ i. (h.1 i, from_behind (begins 39) t (39 ∷ more) h.1 i))
+    ∙ ap (λ (l : List ℕ). closed_piece (Single (until (begins 39) l)) (from (begins 39) l)) (append_assoc t (39 ∷ []) more)
+    ∙ ap (λ (x : List ℕ × List ℕ). closed_piece (Single x.0) x.1) (λ i. (h.1 i, from_behind (begins 39) t (39 ∷ more) h.1 i))
 complete before (Double t) more h =
     may_quote before _ h.0
-    ∙ ap (λ (l : List ℕ). closed (Double (up_to_quote false l)) (from_quote false l)) (append_assoc t (34 ∷ []) more)
-    ∙ ap (λ (x : List ℕ × List ℕ). closed (Double x.0) x.1) (λ i. (h.1 i, from_quote_behind t (34 ∷ more) h.1 i))
+    ∙ ap (λ (l : List ℕ). closed_piece (Double (up_to_quote false l)) (from_quote false l)) (append_assoc t (34 ∷ []) more)
+    ∙ ap (λ (x : List ℕ × List ℕ). closed_piece (Double x.0) x.1) (λ i. (h.1 i, from_quote_behind t (34 ∷ more) h.1 i))
 complete before Semicolon more h = refl
 complete before Open more h = refl
 complete before Close more h = refl
@@ -217,17 +217,17 @@ from_quote_is false (b ∷ t) =
     ]
 
 -- a text closed by one byte
-closed_may : (before : Before) (opener closer : ℕ) (make : List ℕ → Piece) (rest inner after : List ℕ) → ((t : List ℕ) → slice (make t) ≡ opener ∷ (t ++ closer ∷ [])) → inner ++ after ≡ rest → (after ≡ []) ⊎ (after ≡ closer ∷ tail after) → (inner ++ closer ∷ tail after ≡ rest → MayStand before (make inner) (tail after)) → IsFirst before (opener ∷ rest) (closed (make inner) after)
+closed_may : (before : Before) (opener closer : ℕ) (make : List ℕ → Piece) (rest inner after : List ℕ) → ((t : List ℕ) → slice (make t) ≡ opener ∷ (t ++ closer ∷ [])) → inner ++ after ≡ rest → (after ≡ []) ⊎ (after ≡ closer ∷ tail after) → (inner ++ closer ∷ tail after ≡ rest → MayStand before (make inner) (tail after)) → IsFirst before (opener ∷ rest) (closed_piece (make inner) after)
 closed_may before opener closer make rest inner [] is whole stop may = tt
 closed_may before opener closer make rest inner (b ∷ after) is whole (inl e) may = absurd (empty_cons b after (sym e))
 closed_may before opener closer make rest inner (b ∷ after) is whole (inr e) may =
     let w : inner ++ closer ∷ after ≡ rest = ap (λ l. inner ++ l) (sym e) ∙ whole in
     (ap (λ l. opener ∷ l) (sym w ∙ sym (append_assoc inner (closer ∷ []) after)) ∙ ap (λ l. l ++ after) (sym (is inner)), may w)
 
-unless_may : (before : Before) (text : List ℕ) (f : First) → (before ≢ Unquoted → IsFirst before text f) → IsFirst before text (unless_unquoted before f)
+unless_may : (before : Before) (text : List ℕ) (f : First) → (before ≢ UnquotedWord → IsFirst before text f) → IsFirst before text (unless_unquoted before f)
 unless_may Apart text f h = h (λ e. cc)
-unless_may Unquoted text f h = tt
-unless_may Quoted text f h = h (λ e. cc)
+unless_may UnquotedWord text f h = tt
+unless_may QuotedText text f h = h (λ e. cc)
 
 stop_one : (b : ℕ) (t : List ℕ) → (from (begins b) t ≡ []) ⊎ (from (begins b) t ≡ b ∷ tail (from (begins b) t))
 stop_one b t = elim (from_stops (begins b) t) [ inl e ↦ inl e | inr e ↦ inr (begins_is b (from (begins b) t) e) ]
@@ -242,7 +242,7 @@ block_may before rest inner (b ∷ after) whole (inr e) u =
     let w : inner ++ 42 ∷ 47 ∷ tail after ≡ rest = ap (λ l. inner ++ l) (sym e) ∙ whole in
     (ap (λ l. 47 ∷ 42 ∷ l) (sym w ∙ sym (append_assoc inner (42 ∷ 47 ∷ []) (tail after))), ap (until (begins_two 42 47)) w ∙ u)
 
-word_may : (before : Before) (b : ℕ) (rest : List ℕ) → NoEnd b rest → (before ≡ Quoted → (b == 43) ≡ false) → IsFirst before (b ∷ rest) (word (b ∷ rest))
+word_may : (before : Before) (b : ℕ) (rest : List ℕ) → NoEnd b rest → (before ≡ QuotedText → (b == 43) ≡ false) → IsFirst before (b ∷ rest) (word (b ∷ rest))
 word_may before b rest n join =
     let no = untests b rest n in
     let u : until ends_word (b ∷ rest) ≡ b ∷ until ends_word rest = cond_false (ends_word (b ∷ rest)) [] (b ∷ until ends_word rest) no in (
@@ -256,11 +256,11 @@ word_may before b rest n join =
 
 last_may : (before : Before) (b : ℕ) (rest : List ℕ) → NoEnd b rest → IsFirst before (b ∷ rest) (word_or_plus before (b ∷ rest))
 last_may Apart b rest n = word_may Apart b rest n (λ e. cc)
-last_may Unquoted b rest n = word_may Unquoted b rest n (λ e. cc)
-last_may Quoted b rest n =
-    cond_by (IsFirst Quoted (b ∷ rest)) (b == 43) (Some (Plus, rest)) (word (b ∷ rest))
+last_may UnquotedWord b rest n = word_may UnquotedWord b rest n (λ e. cc)
+last_may QuotedText b rest n =
+    cond_by (IsFirst QuotedText (b ∷ rest)) (b == 43) (Some (Plus, rest)) (word (b ∷ rest))
     (λ e. (ap (λ x. x ∷ rest) (eqb-true b 43 e), refl))
-    (λ e. word_may Quoted b rest n (λ _. e))
+    (λ e. word_may QuotedText b rest n (λ _. e))
 
 line_may : (before : Before) (b : ℕ) (rest : List ℕ) → (b == 47 && begins 47 rest) ≡ true → IsFirst before (b ∷ rest) (Some (LineComment (until (begins 10) (tail rest)), from (begins 10) (tail rest)))
 line_may before b rest h =

@@ -3,10 +3,10 @@ use Rattle.std.proofs.Common.{◌≡◌, ℕ, ◌+◌, ◌<◌, ◌≤◌, max, 
 use Rattle.yv_statement.specs.Tree.{Forest, End, Then, Tree}
 use Rattle.yv_source.specs.Pieces.{Piece, Blank, LineComment, BlockComment, Word, Single, Double, Semicolon, Open, Close, Plus, Token}
 use Rattle.yv_source.specs.Grammar.{depth, GoesWithin}
-use Rattle.yv_source.specs.Inner.Machine.{is_keyword, Step, Next, Wrong, Deep, leaf, finish, close, between, give_word, give_quoted, argued, said, joined, named, step, run}
-use Rattle.yv_statement.specs.Building.{join_forests, push_child, with_more}
+use Rattle.yv_source.specs.Inner.Machine.{is_keyword, Step, Next, Wrong, Deep, leaf, finish, close, between, give_word, give_quoted, after_argument, after_quoted, after_plus, after_keyword, step, run_tokens}
+use Rattle.yv_statement.specs.Builder.{join_forests, push_child, with_more}
 use Rattle.yv_source.specs.Place.{column_of}
-use Rattle.yv_source.specs.Quoted.{quoted}
+use Rattle.yv_source.specs.Quotes.{quoted_value}
 use Rattle.yv_source.specs.declared.machine.Phase.{Phase}
 use Rattle.yv_source.specs.declared.machine.Phase.TheVariants.{Between, Named, Argued, Said, Joined, Done}
 use Rattle.yv_source.proofs.Means.{Behind, BehindStep, run_keeps}
@@ -54,7 +54,7 @@ between_fits limit stack front Semicolon h = tt
 between_fits limit stack front Open h = tt
 between_fits limit stack front Plus h = tt
 
-argued_fits : (limit : ℕ) (stack : List Tree) (p : Piece) → Fits limit stack → FitsStep limit (argued stack p)
+argued_fits : (limit : ℕ) (stack : List Tree) (p : Piece) → Fits limit stack → FitsStep limit (after_argument stack p)
 argued_fits limit stack Semicolon h = close_fits limit stack h
 argued_fits limit stack Open h = h
 argued_fits limit stack Close h = tt
@@ -70,19 +70,19 @@ quote_fits : (limit : ℕ) (text : List ℕ) (stack : List Tree) → Fits limit 
 quote_fits limit text [] h = tt
 quote_fits limit text (t ∷ below) h = h
 
-named_fits : (limit column : ℕ) (stack : List Tree) (p : Piece) → Fits limit stack → FitsStep limit (named column stack p)
+named_fits : (limit column : ℕ) (stack : List Tree) (p : Piece) → Fits limit stack → FitsStep limit (after_keyword column stack p)
 named_fits limit column stack Semicolon h = close_fits limit stack h
 named_fits limit column stack Open h = h
 named_fits limit column stack Close h = tt
 named_fits limit column stack Plus h = tt
 named_fits limit column stack (Word w) h = give_fits limit w stack h
 named_fits limit column stack (Single w) h = quote_fits limit w stack h
-named_fits limit column stack (Double w) h = quote_fits limit (quoted column w) stack h
+named_fits limit column stack (Double w) h = quote_fits limit (quoted_value column w) stack h
 named_fits limit column stack (Blank b) h = tt
 named_fits limit column stack (LineComment b) h = tt
 named_fits limit column stack (BlockComment b) h = tt
 
-said_fits : (limit : ℕ) (stack : List Tree) (p : Piece) → Fits limit stack → FitsStep limit (said stack p)
+said_fits : (limit : ℕ) (stack : List Tree) (p : Piece) → Fits limit stack → FitsStep limit (after_quoted stack p)
 said_fits limit stack Semicolon h = close_fits limit stack h
 said_fits limit stack Open h = h
 said_fits limit stack Close h = tt
@@ -94,14 +94,14 @@ said_fits limit stack (Blank b) h = tt
 said_fits limit stack (LineComment b) h = tt
 said_fits limit stack (BlockComment b) h = tt
 
-joined_fits : (limit column : ℕ) (stack : List Tree) (p : Piece) → Fits limit stack → FitsStep limit (joined column stack p)
+joined_fits : (limit column : ℕ) (stack : List Tree) (p : Piece) → Fits limit stack → FitsStep limit (after_plus column stack p)
 joined_fits limit column stack Semicolon h = tt
 joined_fits limit column stack Open h = tt
 joined_fits limit column stack Close h = tt
 joined_fits limit column stack Plus h = tt
 joined_fits limit column stack (Word w) h = tt
 joined_fits limit column stack (Single w) h = quote_fits limit w stack h
-joined_fits limit column stack (Double w) h = quote_fits limit (quoted column w) stack h
+joined_fits limit column stack (Double w) h = quote_fits limit (quoted_value column w) stack h
 joined_fits limit column stack (Blank b) h = tt
 joined_fits limit column stack (LineComment b) h = tt
 joined_fits limit column stack (BlockComment b) h = tt
@@ -114,7 +114,7 @@ step_fits limit stack Said t h = said_fits limit stack t.piece h
 step_fits limit stack Joined t h = joined_fits limit (column_of t.front) stack t.piece h
 step_fits limit stack Done t h = tt
 
-pub run_fits : (limit : ℕ) (s : Step) (ts : List Token) → FitsStep limit s → FitsStep limit (run limit s ts)
+pub run_fits : (limit : ℕ) (s : Step) (ts : List Token) → FitsStep limit s → FitsStep limit (run_tokens limit s ts)
 run_fits limit s [] h = h
 run_fits limit (Next stack phase) (t ∷ ts) h = run_fits limit (step limit stack phase t) ts (step_fits limit stack phase t h)
 run_fits limit Wrong (t ∷ ts) h = tt
@@ -122,7 +122,7 @@ run_fits limit Deep (t ∷ ts) h = tt
 
 -- A state that can be led to the end of a statement.
 abbrev Ends : ℕ → Step → Type 0
-Ends limit s = (more : List Token) × (u : Tree) × (run limit s more ≡ Next (u ∷ []) Done)
+Ends limit s = (more : List Token) × (u : Tree) × (run_tokens limit s more ≡ Next (u ∷ []) Done)
 
 abbrev mark : Piece → Token
 mark p = record { front = []; piece = p }
@@ -138,7 +138,7 @@ ends limit [] Between ts l h =
     let e : nat_lt 0 limit ≡ true = grind arith in (
       mark (Word (97 ∷ [])) ∷ mark Semicolon ∷ [],
       leaf [] (97 ∷ []),
-      ap (λ (b : Bool). run limit (cond b (Next (leaf [] (97 ∷ []) ∷ []) Named) Deep) (mark Semicolon ∷ [])) e,
+      ap (λ (b : Bool). run_tokens limit (cond b (Next (leaf [] (97 ∷ []) ∷ []) Named) Deep) (mark Semicolon ∷ [])) e,
     )
 ends limit (t ∷ below) Between ts l h = let r = ends_finish limit t below in (mark Close ∷ r.0, r.1, r.2)
 ends limit [] Named ts l h = absurd h
@@ -164,15 +164,15 @@ begins_statement limit stack phase ts l h f =
     let d : depth r.1.children + (1 + 0) ≤ limit = fits.0 in
     (r.1, r.0, spells, omega (arith, d))
 
-pub run_wrong : (limit : ℕ) (us : List Token) → run limit Wrong us ≡ Wrong
+pub run_wrong : (limit : ℕ) (us : List Token) → run_tokens limit Wrong us ≡ Wrong
 run_wrong limit [] = refl
 run_wrong limit (u ∷ us) = refl
 
-pub run_deep : (limit : ℕ) (us : List Token) → run limit Deep us ≡ Deep
+pub run_deep : (limit : ℕ) (us : List Token) → run_tokens limit Deep us ≡ Deep
 run_deep limit [] = refl
 run_deep limit (u ∷ us) = refl
 
-pub run-append : (limit : ℕ) (s : Step) (ts us : List Token) → run limit s (ts ++ us) ≡ run limit (run limit s ts) us
+pub run-append : (limit : ℕ) (s : Step) (ts us : List Token) → run_tokens limit s (ts ++ us) ≡ run_tokens limit (run_tokens limit s ts) us
 run-append limit s [] us = refl
 run-append limit (Next stack phase) (t ∷ ts) us = run-append limit (step limit stack phase t) ts us
 run-append limit Wrong (t ∷ ts) us = sym (run_wrong limit us)

@@ -3,7 +3,7 @@ use Rattle.std.proofs.Common.{◌≡◌, ℕ, Bool, true, false, cond, ◌==◌,
 use Rattle.std.proofs.lemmas.Bool.{eqb-true, or_cases, cases_Bool}
 use Rattle.std.specs.List.{list_all}
 use Rattle.yv_source.specs.Pieces.{until, begins}
-use Rattle.yv_condition.specs.Names.{is_identifier, is_part, is_start}
+use Rattle.yv_text_if_feature.specs.Names.{is_identifier, is_part, is_start}
 use Rattle.yv_source.specs.Keywords.{IsKeyword}
 use Rattle.yv_source.specs.Inner.Machine.{is_keyword, behind_colon}
 

@@ -14,17 +14,17 @@ use Rattle.yv_statement.specs.declared.refusal.Code.{Code}
 use Rattle.yv_statement.specs.declared.refusal.Code.TheVariants as code
 use Rattle.yv_statement.specs.declared.refusal.Stop.{Stop}
 use Rattle.yv_statement.specs.declared.refusal.Stop.TheVariants.{Fault}
-use Rattle.yv_source.specs.Pieces.{Piece, Blank, LineComment, BlockComment, Word, Single, Double, Semicolon, Open, Close, Plus, slice, is_blank, Before, Apart, Unquoted, Quoted, past_gap, MayStand}
+use Rattle.yv_source.specs.Pieces.{Piece, Blank, LineComment, BlockComment, Word, Single, Double, Semicolon, Open, Close, Plus, slice, is_blank, Before, Apart, UnquotedWord, QuotedText, past_gap, MayStand}
 use Rattle.yv_source.specs.Place.{mark_len, line_of, columns, column_past, column_of}
-use Rattle.yv_source.specs.Outcome.{Outcome, ComesTo, BadToken, BadSyntax, TooDeep, BadEscape, Spelled}
+use Rattle.yv_source.specs.Outcome.{Outcome, ComesTo, BadToken, BadSyntax, TooDeep, BadEscape, Statement}
 use Rattle.yv_source.specs.Answer.{refusal_in, IsRefusalOf}
-use Rattle.yv_source.specs.Inner.Place.{place_of, passed, IsPastGap}
+use Rattle.yv_source.specs.Inner.Place.{place_of, place_after, IsPastGap}
 use Rattle.yv_source.specs.Inner.Machine.{Step, Next, Wrong, Deep}
 use Rattle.yv_source.specs.Inner.Scan.{before_of, ahead_in}
 use Rattle.yv_source.specs.Inner.Turn.{opener, inner, length_of, past_found, turn}
 use Rattle.yv_source.specs.Inner.Pairs.{bad_on, bad_found}
 use Rattle.yv_source.specs.Inner.Steps.{Gives}
-use Rattle.yv_source.specs.Inner.Ending.{Comes, ended_in, refused_by, IsChecked, IsEnd}
+use Rattle.yv_source.specs.Inner.End.{Comes, ended_in, refusal_of_halt, IsChecked, IsEnd}
 use Rattle.yv_source.specs.declared.place.Place.{Place}
 use Rattle.yv_source.specs.declared.machine.Phase.{Phase}
 use Rattle.yv_source.specs.declared.machine.Phase.TheVariants.{Between}
@@ -34,8 +34,8 @@ use Rattle.yv_source.specs.declared.scan.Before.{Before as Left}
 use Rattle.yv_source.specs.declared.scan.Before.TheVariants as left
 use Rattle.yv_source.specs.declared.scan.Ahead.{Ahead}
 use Rattle.yv_source.specs.declared.scan.Ahead.TheVariants as ahead
-use Rattle.yv_source.specs.declared.scan.Found.{Found}
-use Rattle.yv_source.specs.declared.scan.Found.TheVariants as found
+use Rattle.yv_source.specs.declared.scan.FoundPiece.{FoundPiece}
+use Rattle.yv_source.specs.declared.scan.FoundPiece.TheVariants as found
 use Rattle.yv_source.proofs.Keyword.{and_first, and_second}
 use Rattle.yv_source.proofs.Meaning.{MeansAhead, means}
 use Rattle.yv_source.proofs.Reading.{ReadsTo, spelling, spelled_by, HasMark, columns_most, count-cons}
@@ -115,7 +115,7 @@ module _ {text bytes : List ℕ} {place : Place} {bad : Option ℕ} {left : Left
   -- what is answered at the end
   comes_whole : r.rest ≡ [] → (u : Tree) → ended_in phase stack ≡ Some u → (answer : Result Tree Stop) → IsChecked text bad u answer → Comes text answer
   comes_whole e u is (Ok t) (as_it_is, none) =
-      let P : Tree → Type 0 = λ x. ComesTo front body (Spelled x) in
+      let P : Tree → Type 0 = λ x. ComesTo front body (Statement x) in
       subst P (sym as_it_is) (outcomes.ends_here front body place bad left stack phase r u e is none)
   comes_whole e u is (Err stop) (new, n, some, as_it_is) =
       let P : Stop → Type 0 = λ x. Comes text (Err x) in
@@ -144,7 +144,7 @@ module _ {text bytes : List ℕ} {place : Place} {bad : Option ℕ} {left : Left
     comes_nothing stop is e =
         comes_fault code.BadToken stop (BadToken place.at) e (outcomes.uncut_here front body place bad left stack phase r (meant ahead.Nothing is)) refl
 
-    module _ {f : Found} (is : a ≡ ahead.Piece f) where
+    module _ {f : FoundPiece} (is : a ≡ ahead.Piece f) where
       sees : Looks (front ++ body) done r.rest place (before_of left) stack phase f
       sees = looks (front ++ body) done r.rest place (before_of left) stack phase (halves ∙ whole) r.utf8 place_is f (meant (ahead.Piece f) is)
 
@@ -164,7 +164,7 @@ module _ {text bytes : List ℕ} {place : Place} {bad : Option ℕ} {left : Left
       pub goes_on : 0 < length_of f
       goes_on = let s = not_empty (before_of left) sees.piece sees.begins.more sees.begins.may in omega (arith, s, sees.len)
 
-      pub passed_at : (place' : Place) → place' ≡ passed place (take (length_of f) (drop place.at bytes)) → place'.at ≡ place.at + length_of f
+      pub passed_at : (place' : Place) → place' ≡ place_after place (take (length_of f) (drop place.at bytes)) → place'.at ≡ place.at + length_of f
       passed_at place' e =
           let p : place'.at ≡ place.at + length (take (length_of f) (drop place.at bytes)) = ap (λ (x : Place). x.at) e in
           let l = length-take (length_of f) (drop place.at bytes) in
@@ -175,7 +175,7 @@ module _ {text bytes : List ℕ} {place : Place} {bad : Option ℕ} {left : Left
       turned s e = ap (λ l. turn l f stack phase place) halves ∙ e
 
       -- the token isn't taken
-      pub comes_halt : (h : Halt) (stop : Stop) (stack' : List Tree) → Gives (Err h) stack' (turn text f stack phase place) → stop ≡ refused_by h bytes place.at → Comes text (Err stop)
+      pub comes_halt : (h : Halt) (stop : Stop) (stack' : List Tree) → Gives (Err h) stack' (turn text f stack phase place) → stop ≡ refusal_of_halt h bytes place.at → Comes text (Err stop)
       comes_halt halt.Wrong stop stack' g e =
           comes_fault code.BadSyntax stop (BadSyntax place.at) e (outcomes.wrong_here front body place bad left stack phase r f sees (turned Wrong g)) refl
       comes_halt halt.Deep stop stack' g e =
@@ -183,12 +183,12 @@ module _ {text bytes : List ℕ} {place : Place} {bad : Option ℕ} {left : Left
       comes_halt halt.NoMemory stop stack' g e = let P : Stop → Type 0 = λ x. Comes text (Err x) in subst P (sym e) tt
 
       -- it is taken
-      pub read_on : (place' : Place) (bad' : Option ℕ) (left' : Left) (stack' : List Tree) (phase' : Phase) → place' ≡ passed place (take (length_of f) (drop place.at bytes)) → bad' ≡ bad_found bad place.at f bytes → IfSome bad' (λ n. n ≤ length bytes) → before_of left' ≡ past_found (before_of left) f → turn text f stack phase place ≡ Next stack' phase' → Reads text place' bad' left' stack' phase'
+      pub read_on : (place' : Place) (bad' : Option ℕ) (left' : Left) (stack' : List Tree) (phase' : Phase) → place' ≡ place_after place (take (length_of f) (drop place.at bytes)) → bad' ≡ bad_found bad place.at f bytes → IfSome bad' (λ n. n ≤ length bytes) → before_of left' ≡ past_found (before_of left) f → turn text f stack phase place ≡ Next stack' phase' → Reads text place' bad' left' stack' phase'
       read_on place' bad' left' stack' phase' pe be bound le e =
           let slice_is : take (length_of f) (drop place.at bytes) ≡ slice sees.piece =
           ap (λ x. take x (drop place.at bytes)) sees.len ∙ ap (take (length (slice sees.piece))) (ap (drop place.at) same ∙ rest_is ∙ sees.begins.is) ∙ take-append_seam (slice sees.piece) sees.begins.more
           in
-          let place_to : place' ≡ passed place (slice sees.piece) = pe ∙ ap (passed place) slice_is in
+          let place_to : place' ≡ place_after place (slice sees.piece) = pe ∙ ap (place_after place) slice_is in
           let bad_to : bad' ≡ bad_on bad (length done) sees.piece = be ∙ ap (bad_found bad place.at f) (same ∙ sym halves) ∙ sees.bad bad in
           let P : Place × Option ℕ → Type 0 = λ x. ReadsTo front body x.0 x.1 left' stack' phase' in
           let B : List ℕ → Type 0 = λ l. IfSome bad' (λ n. n ≤ length l) in
@@ -248,10 +248,10 @@ starts text start stack u start_is stack_is =
     subst P (λ i. (sym start_is i, sym stack_is i)) (record { reads = begins_text text u; bound = tt })
 
 -- ---- blanks in a row
-passed_none : (p : Place) → passed p [] ≡ p
+passed_none : (p : Place) → place_after p [] ≡ p
 passed_none p = let a : p.at + 0 ≡ p.at = omega arith in let l : p.line + 0 ≡ p.line = omega arith in λ i. record { at = a i; line = l i; column = p.column }
 
-pub passed_on : (p : Place) (x : ℕ) (ys : List ℕ) → passed (passed p (x ∷ [])) ys ≡ passed p (x ∷ ys)
+pub passed_on : (p : Place) (x : ℕ) (ys : List ℕ) → place_after (place_after p (x ∷ [])) ys ≡ place_after p (x ∷ ys)
 passed_on p x ys =
     let a : p.at + length (x ∷ []) + length ys ≡ p.at + length (x ∷ ys) = omega arith in
     let l : p.line + count_by (λ b. b == 10) (x ∷ []) + count_by (λ b. b == 10) ys ≡ p.line + count_by (λ b. b == 10) (x ∷ ys) =
@@ -262,12 +262,12 @@ passed_on p x ys =
 blank_ahead : (before : Before) (x : ℕ) (rest : List ℕ) → is_blank x ≡ true → ahead.Piece found.Blank ≡ ahead_in before (x ∷ rest)
 blank_ahead before x rest e = rw e refl
 
-stays_apart : (left : Left) → (before_of left ≡ Unquoted → ⊥) → before_of left ≡ past_gap (before_of left)
+stays_apart : (left : Left) → (before_of left ≡ UnquotedWord → ⊥) → before_of left ≡ past_gap (before_of left)
 stays_apart left.Apart n = refl
 stays_apart left.Unquoted n = absurd (n refl)
 stays_apart left.Quoted n = refl
 
-pub blanks_read : (n : ℕ) {text bytes : List ℕ} {place : Place} {bad : Option ℕ} {left : Left} {stack : List Tree} {phase : Phase} → bytes ≡ text → Reads text place bad left stack phase → (before_of left ≡ Unquoted → ⊥) → n ≤ length (drop place.at bytes) → list_all is_blank (take n (drop place.at bytes)) ≡ true → Reads text (passed place (take n (drop place.at bytes))) bad left stack phase
+pub blanks_read : (n : ℕ) {text bytes : List ℕ} {place : Place} {bad : Option ℕ} {left : Left} {stack : List Tree} {phase : Phase} → bytes ≡ text → Reads text place bad left stack phase → (before_of left ≡ UnquotedWord → ⊥) → n ≤ length (drop place.at bytes) → list_all is_blank (take n (drop place.at bytes)) ≡ true → Reads text (place_after place (take n (drop place.at bytes))) bad left stack phase
 blanks_read zero {text} {bytes} {place} {bad} {left} {stack} {phase} same so_far apart le h =
     let P : Place → Type 0 = λ p. Reads text p bad left stack phase in
     subst P (sym (passed_none place)) so_far
@@ -281,17 +281,17 @@ blanks_read (suc n) {text} {bytes} {place} {bad} {left} {stack} {phase} same so_
     let here : is_blank x ≡ true = and_first (is_blank x) (list_all is_blank (take n more)) hs.1 in
     let others : list_all is_blank (take n more) ≡ true = and_second (is_blank x) (list_all is_blank (take n more)) hs.1 in
     let one = read_on same so_far (blank_ahead (before_of left) x more here ∙ ap (ahead_in (before_of left)) (sym cut)) refl
-    (passed place (x ∷ [])) bad left stack phase (ap (λ l. passed place (take 1 l)) (sym cut)) refl (bad_bound same so_far) (stays_apart left apart) refl
+    (place_after place (x ∷ [])) bad left stack phase (ap (λ l. place_after place (take 1 l)) (sym cut)) refl (bad_bound same so_far) (stays_apart left apart) refl
     in
     let room : n ≤ length more = omega (arith, hs.0) in
     let all = blanks_read n same one apart room others in
     let P : Place → Type 0 = λ p. Reads text p bad left stack phase in
-    subst P (passed_on place x (take n more) ∙ ap (λ l. passed place (take (suc n) l)) (sym cut)) all
+    subst P (passed_on place x (take n more) ∙ ap (λ l. place_after place (take (suc n) l)) (sym cut)) all
 
-apart_not : Apart ≡ Unquoted → ⊥
+apart_not : Apart ≡ UnquotedWord → ⊥
 apart_not h = cc
 
-quoted_not : Quoted ≡ Unquoted → ⊥
+quoted_not : QuotedText ≡ UnquotedWord → ⊥
 quoted_not h = cc
 
 -- behind the blanks, where there may be more than one

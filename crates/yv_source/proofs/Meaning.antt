@@ -5,11 +5,11 @@ use Rattle.std.proofs.Math.Seq.{drop-append_seam, get_or-append_seam}
 use Rattle.std.proofs.lemmas.Str.{IsUtf8-drop, IsCharBoundary-after_ascii, IsCharBoundary-before_ascii, IsCharBoundary-end}
 use Rattle.std.proofs.lemmas.Bool.{cases_Bool, eqb-true}
 use Rattle.yv_source.specs.Pieces.{Piece, Blank, LineComment, BlockComment, Word, Single, Double, Semicolon, Open, Close, Plus, slice, is_blank, begins, ends_word, Before, MayStand, IsUncut}
-use Rattle.yv_source.specs.Inner.Scan.{First, first, shown, ahead_in}
+use Rattle.yv_source.specs.Inner.Scan.{First, first, ahead_of, ahead_in}
 use Rattle.yv_source.specs.declared.scan.Ahead.{Ahead}
 use Rattle.yv_source.specs.declared.scan.Ahead.TheVariants as ahead
-use Rattle.yv_source.specs.declared.scan.Found.{Found}
-use Rattle.yv_source.specs.declared.scan.Found.TheVariants as found
+use Rattle.yv_source.specs.declared.scan.FoundPiece.{FoundPiece}
+use Rattle.yv_source.specs.declared.scan.FoundPiece.TheVariants as found
 use Rattle.yv_source.proofs.Keyword.{false_true}
 use Rattle.yv_source.proofs.Cutting.{may_begin, IsFirst, complete, untests}
 use Rattle.yv_source.proofs.Until.{not_equal}
@@ -25,7 +25,7 @@ pub record Begins (before : Before) (text : List ℕ) (p : Piece) : Type 0 where
   pub may : MayStand before p more
 
 -- what was found stands first
-abbrev pub Means : Before → List ℕ → Found → Type 0
+abbrev pub Means : Before → List ℕ → FoundPiece → Type 0
 Means before text found.Blank = (b : ℕ) × Begins before text (Blank b)
 Means before text (found.LineComment n) = (t : List ℕ) × (n ≡ length t) × Begins before text (LineComment t)
 Means before text (found.BlockComment n) = (t : List ℕ) × (n ≡ length t) × Begins before text (BlockComment t)
@@ -55,7 +55,7 @@ none_some x e = cc
 uncut : (before : Before) (b : ℕ) (rest : List ℕ) → first before (b ∷ rest) ≡ None → IsUncut before (b ∷ rest)
 uncut before b rest e = (λ n. cons_empty b rest n, λ p m. none_some (p, m.0) (sym e ∙ ap (first before) m.1 ∙ complete before p m.0 m.2))
 
-shows : (before : Before) (b : ℕ) (rest : List ℕ) (f : First) → first before (b ∷ rest) ≡ f → MeansAhead before (b ∷ rest) (shown f)
+shows : (before : Before) (b : ℕ) (rest : List ℕ) (f : First) → first before (b ∷ rest) ≡ f → MeansAhead before (b ∷ rest) (ahead_of f)
 shows before b rest None e = uncut before b rest e
 shows before b rest (Some (Blank x, more)) e = (x, begins_by before (b ∷ rest) (Blank x) more e)
 shows before b rest (Some (LineComment t, more)) e = (t, refl, begins_by before (b ∷ rest) (LineComment t) more e)

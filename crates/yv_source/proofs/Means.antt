@@ -3,10 +3,10 @@ use Rattle.std.proofs.Common.{◌≡◌, ℕ, Bool, true, false, cond, List, [],
 use Rattle.yv_statement.specs.Tree.{Forest, End, Then, Tree}
 use Rattle.yv_source.specs.Pieces.{Piece, Blank, LineComment, BlockComment, Word, Single, Double, Semicolon, Open, Close, Plus, Token}
 use Rattle.yv_source.specs.Grammar.{IsHead, Says, IsJoined, IsArgument, IsBody, Spells, SpellsOne}
-use Rattle.yv_source.specs.Inner.Machine.{is_keyword, Step, Next, Wrong, Deep, finish, close, between, give_word, give_quoted, argued, said, joined, named, step, run}
-use Rattle.yv_statement.specs.Building.{join_forests, extended}
+use Rattle.yv_source.specs.Inner.Machine.{is_keyword, Step, Next, Wrong, Deep, finish, close, between, give_word, give_quoted, after_argument, after_quoted, after_plus, after_keyword, step, run_tokens}
+use Rattle.yv_statement.specs.Builder.{join_forests, extend}
 use Rattle.yv_source.specs.Place.{column_of}
-use Rattle.yv_source.specs.Quoted.{quoted}
+use Rattle.yv_source.specs.Quotes.{quoted_value}
 use Rattle.yv_source.specs.declared.machine.Phase.{Phase}
 use Rattle.yv_source.specs.declared.machine.Phase.TheVariants.{Between, Named, Argued, Said, Joined, Done}
 use Rattle.yv_source.proofs.Keyword.{keyword_means}
@@ -115,7 +115,7 @@ open_keeps (s ∷ below) ts t e (front, k, argument, is, inside, head, says, non
     let P : Forest → Type 0 = λ f. Spells f [] in
     (front, k, argument, t, [], ap (λ l. l ++ t ∷ []) is ∙ append_assoc front (k ∷ argument) (t ∷ []), inside, head, says, e, subst P (sym none) refl)
 
-argued_keeps : (stack : List Tree) (ts : List Token) (t : Token) (p : Piece) → t.piece ≡ p → HasBegun stack ts → BehindStep (argued stack p) (ts ++ t ∷ [])
+argued_keeps : (stack : List Tree) (ts : List Token) (t : Token) (p : Piece) → t.piece ≡ p → HasBegun stack ts → BehindStep (after_argument stack p) (ts ++ t ∷ [])
 argued_keeps stack ts t Semicolon e h = mark_keeps stack ts t e h
 argued_keeps stack ts t Open e h = open_keeps stack ts t e h
 argued_keeps stack ts t Close e h = tt
@@ -142,7 +142,7 @@ joined_append (k ∷ q ∷ ts) a b p t (first, others, is, s, plus', rest) plus 
 quote_keeps : (stack : List Tree) (ts : List Token) (t : Token) (text : List ℕ) → Says t.front t.piece text → Behind Named stack ts → BehindStep (give_quoted text stack) (ts ++ t ∷ [])
 quote_keeps [] ts t text says h = absurd h
 quote_keeps (s ∷ below) ts t text says (front, k, is, inside, head, none, empty) =
-    (front, k, t ∷ [], ap (λ l. l ++ t ∷ []) is ∙ append_assoc front (k ∷ []) (t ∷ []), inside, head, (text, ap (λ o. Some (extended o text)) none, says), empty)
+    (front, k, t ∷ [], ap (λ l. l ++ t ∷ []) is ∙ append_assoc front (k ∷ []) (t ∷ []), inside, head, (text, ap (λ o. Some (extend o text)) none, says), empty)
 
 -- one more
 extend_keeps : (stack : List Tree) (ts : List Token) (t : Token) (text : List ℕ) → Says t.front t.piece text → Behind Joined stack ts → BehindStep (give_quoted text stack) (ts ++ t ∷ [])
@@ -154,7 +154,7 @@ extend_keeps (s ∷ below) ts t text says (front, k, argument, p, is, inside, he
   ap (λ l. l ++ t ∷ []) is ∙ append_assoc front (k ∷ (argument ++ p ∷ [])) (t ∷ []) ∙ ap (λ l. front ++ (k ∷ l)) (append_assoc argument (p ∷ []) (t ∷ [])),
   inside,
   head,
-  (whole ++ text, ap (λ o. Some (extended o text)) said_is, joined_append argument whole text p t chain plus says),
+  (whole ++ text, ap (λ o. Some (extend o text)) said_is, joined_append argument whole text p t chain plus says),
   empty,
 )
 
@@ -182,10 +182,10 @@ has_said (s ∷ below) ts (front, k, argument, is, inside, head, (text, said_is,
 says_by : (t : Token) (p : Piece) (text : List ℕ) → t.piece ≡ p → Says t.front p text → Says t.front t.piece text
 says_by t p text e s = let P : Piece → Type 0 = λ q. Says t.front q text in subst P (sym e) s
 
-named_keeps : (stack : List Tree) (ts : List Token) (t : Token) (p : Piece) → t.piece ≡ p → Behind Named stack ts → BehindStep (named (column_of t.front) stack p) (ts ++ t ∷ [])
+named_keeps : (stack : List Tree) (ts : List Token) (t : Token) (p : Piece) → t.piece ≡ p → Behind Named stack ts → BehindStep (after_keyword (column_of t.front) stack p) (ts ++ t ∷ [])
 named_keeps stack ts t (Word w) e h = give_keeps stack ts t w e h
 named_keeps stack ts t (Single w) e h = quote_keeps stack ts t w (says_by t (Single w) w e refl) h
-named_keeps stack ts t (Double w) e h = quote_keeps stack ts t (quoted (column_of t.front) w) (says_by t (Double w) (quoted (column_of t.front) w) e refl) h
+named_keeps stack ts t (Double w) e h = quote_keeps stack ts t (quoted_value (column_of t.front) w) (says_by t (Double w) (quoted_value (column_of t.front) w) e refl) h
 named_keeps stack ts t Semicolon e h = mark_keeps stack ts t e (has_begun stack ts h)
 named_keeps stack ts t Open e h = open_keeps stack ts t e (has_begun stack ts h)
 named_keeps stack ts t Close e h = tt
@@ -194,7 +194,7 @@ named_keeps stack ts t (Blank b) e h = tt
 named_keeps stack ts t (LineComment b) e h = tt
 named_keeps stack ts t (BlockComment b) e h = tt
 
-said_keeps : (stack : List Tree) (ts : List Token) (t : Token) (p : Piece) → t.piece ≡ p → Behind Said stack ts → BehindStep (said stack p) (ts ++ t ∷ [])
+said_keeps : (stack : List Tree) (ts : List Token) (t : Token) (p : Piece) → t.piece ≡ p → Behind Said stack ts → BehindStep (after_quoted stack p) (ts ++ t ∷ [])
 said_keeps stack ts t (Word w) e h = tt
 said_keeps stack ts t (Single w) e h = tt
 said_keeps stack ts t (Double w) e h = tt
@@ -206,10 +206,10 @@ said_keeps stack ts t (Blank b) e h = tt
 said_keeps stack ts t (LineComment b) e h = tt
 said_keeps stack ts t (BlockComment b) e h = tt
 
-joined_keeps : (stack : List Tree) (ts : List Token) (t : Token) (p : Piece) → t.piece ≡ p → Behind Joined stack ts → BehindStep (joined (column_of t.front) stack p) (ts ++ t ∷ [])
+joined_keeps : (stack : List Tree) (ts : List Token) (t : Token) (p : Piece) → t.piece ≡ p → Behind Joined stack ts → BehindStep (after_plus (column_of t.front) stack p) (ts ++ t ∷ [])
 joined_keeps stack ts t (Word w) e h = tt
 joined_keeps stack ts t (Single w) e h = extend_keeps stack ts t w (says_by t (Single w) w e refl) h
-joined_keeps stack ts t (Double w) e h = extend_keeps stack ts t (quoted (column_of t.front) w) (says_by t (Double w) (quoted (column_of t.front) w) e refl) h
+joined_keeps stack ts t (Double w) e h = extend_keeps stack ts t (quoted_value (column_of t.front) w) (says_by t (Double w) (quoted_value (column_of t.front) w) e refl) h
 joined_keeps stack ts t Semicolon e h = tt
 joined_keeps stack ts t Open e h = tt
 joined_keeps stack ts t Close e h = tt
@@ -226,10 +226,10 @@ step_keeps limit stack Said ts t h = said_keeps stack ts t t.piece refl h
 step_keeps limit stack Joined ts t h = joined_keeps stack ts t t.piece refl h
 step_keeps limit stack Done ts t h = tt
 
-pub run_keeps : (limit : ℕ) (s : Step) (ts us : List Token) → BehindStep s ts → BehindStep (run limit s us) (ts ++ us)
+pub run_keeps : (limit : ℕ) (s : Step) (ts us : List Token) → BehindStep s ts → BehindStep (run_tokens limit s us) (ts ++ us)
 run_keeps limit s ts [] h = let P : List Token → Type 0 = λ l. BehindStep s l in subst P (sym (append_nil ts)) h
 run_keeps limit (Next stack phase) ts (u ∷ us) h =
-    let P : List Token → Type 0 = λ l. BehindStep (run limit (step limit stack phase u) us) l in
+    let P : List Token → Type 0 = λ l. BehindStep (run_tokens limit (step limit stack phase u) us) l in
     subst P (append_assoc ts (u ∷ []) us) (run_keeps limit (step limit stack phase u) (ts ++ u ∷ []) us (step_keeps limit stack phase ts u h))
 run_keeps limit Wrong ts (u ∷ us) h = tt
 run_keeps limit Deep ts (u ∷ us) h = tt

@@ -7,7 +7,7 @@ use Rattle.yv_statement.specs.declared.refusal.Code.TheVariants as code
 use Rattle.yv_statement.specs.declared.refusal.Refusal.{Refusal}
 use Rattle.yv_source.specs.Answer.{refusal_in, IsBadFile, IsRefusalOf, IsSpelled, IsRefused}
 use Rattle.yv_source.specs.Legal.{is_legal, IsLegalFile}
-use Rattle.yv_source.specs.Outcome.{Outcome, Spelled}
+use Rattle.yv_source.specs.Outcome.{Outcome, Statement}
 use Rattle.yv_source.proofs.Keyword.{false_true, and_first, and_second}
 use Rattle.yv_source.proofs.Legality.{one_illegal}
 use Rattle.yv_source.proofs.Unique.{one_outcome, one_refusal, spelled_same}
@@ -35,7 +35,7 @@ bad_or_legal bytes r (inr (inr (t, at, (f, c, rest, e, h, i, p), is))) l =
     false_true (sym i ∙ legal_inside f rest c (subst (λ cs. IsTrue (list_all is_legal cs)) e l.1.1))
 
 pub one_spelled : (text : List ℕ) (t u : Tree) → IsSpelled text t → IsSpelled text u → t ≡ u
-one_spelled text t u a b = spelled_same t u (one_outcome _ _ (Spelled t) (Spelled u) a b)
+one_spelled text t u a b = spelled_same t u (one_outcome _ _ (Statement t) (Statement u) a b)
 
 pub one_refused : (text : List ℕ) (r s : Refusal) → IsRefused text r → IsRefused text s → r ≡ s
 one_refused text r s a b =
@@ -45,4 +45,4 @@ one_refused text r s a b =
 pub spelled_or_refused : (text : List ℕ) (t : Tree) (r : Refusal) → IsSpelled text t → IsRefused text r → ⊥
 spelled_or_refused text t r a b =
     let P : Outcome → Type 0 = λ x. IsRefusalOf text x r in
-    subst P (one_outcome _ _ b.0 (Spelled t) b.1 a) b.2
+    subst P (one_outcome _ _ b.0 (Statement t) b.1 a) b.2

@@ -4,9 +4,9 @@ use Rattle.std.specs.Prelude.{IfOk}
 use Rattle.yv_statement.specs.Tree.{Forest, End, Then, Tree}
 use Rattle.yv_source.specs.Pieces.{Piece, Blank, LineComment, BlockComment, Word, Single, Double, Semicolon, Open, Close, Plus, slice, Before, Apart, past, Cuts, Token, token, tokens}
 use Rattle.yv_source.specs.Grammar.{Spells}
-use Rattle.yv_source.specs.Outcome.{ComesTo, Spelled}
+use Rattle.yv_source.specs.Outcome.{ComesTo, Statement}
 use Rattle.yv_source.specs.Order.{offsets, Ascends, IsInOrder}
-use Rattle.yv_source.specs.Inner.Ending.{Comes}
+use Rattle.yv_source.specs.Inner.End.{Comes}
 use Rattle.yv_statement.specs.declared.refusal.Stop.{Stop}
 use Rattle.yv_source.proofs.Loop.{not_empty}
 
@@ -106,7 +106,7 @@ between_pieces b front text rest (p ∷ ps) (more, is, may, others) =
     let s : Between (length (front ++ slice p)) (tokens (front ++ slice p) ps) (length front + length text) = subst P e r in
     token_before front p (length front + length text) (tokens (front ++ slice p) ps) (wider (length (front ++ slice p)) (length front + 1) (length front + length text) (tokens (front ++ slice p) ps) (omega (arith, l3, n)) s)
 
-pub in_order : (front text : List ℕ) (t : Tree) → ComesTo front text (Spelled t) → IsInOrder t
+pub in_order : (front text : List ℕ) (t : Tree) → ComesTo front text (Statement t) → IsInOrder t
 in_order front text t c =
     let b = between_pieces Apart front text c.rest c.pieces c.cut in
     let r = rises (Then t.head t.children End) (length front) (length front + length text) (tokens front c.pieces) c.why.1 b in

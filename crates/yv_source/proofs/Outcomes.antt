@@ -4,19 +4,19 @@ use Rattle.yv_statement.specs.Tree.{Tree}
 use Rattle.yv_source.specs.Pieces.{slice, Before, Apart, MayStand, behind, IsUncut, Token, token, tokens}
 use Rattle.yv_source.specs.Grammar.{depth, SpellsOne, Goes, GoesWithin}
 use Rattle.yv_source.specs.Escapes.{IsNewer}
-use Rattle.yv_source.specs.Outcome.{Outcome, Spelled, BadToken, BadSyntax, TooDeep, BadEscape, ComesTo, Why, StandsAt}
-use Rattle.yv_source.specs.Inner.Place.{passed}
+use Rattle.yv_source.specs.Outcome.{Outcome, Statement, BadToken, BadSyntax, TooDeep, BadEscape, ComesTo, Why, StandsAt}
+use Rattle.yv_source.specs.Inner.Place.{place_after}
 use Rattle.yv_source.specs.declared.place.Place.{Place}
-use Rattle.yv_source.specs.Inner.Machine.{Step, Next, Wrong, Deep, step, run}
+use Rattle.yv_source.specs.Inner.Machine.{Step, Next, Wrong, Deep, step, run_tokens}
 use Rattle.yv_source.specs.Inner.Scan.{before_of}
 use Rattle.yv_source.specs.Inner.Turn.{past_found, turn}
 use Rattle.yv_source.specs.Inner.Pairs.{bad_on}
 use Rattle.yv_source.proofs.Pairs.{IsFirstBad}
-use Rattle.yv_source.specs.Inner.Ending.{ended_in}
+use Rattle.yv_source.specs.Inner.End.{ended_in}
 use Rattle.yv_source.specs.declared.machine.Phase.{Phase}
 use Rattle.yv_source.specs.declared.machine.Phase.TheVariants.{Between, Named, Argued, Said, Joined, Done}
 use Rattle.yv_source.specs.declared.scan.Before.{Before as Left}
-use Rattle.yv_source.specs.declared.scan.Found.{Found}
+use Rattle.yv_source.specs.declared.scan.FoundPiece.{FoundPiece}
 use Rattle.yv_source.proofs.Reading.{ReadsTo, spelling, spelled_by, tokens-append, tokens_one, advances}
 use Rattle.yv_source.proofs.Turns.{Looks}
 use Rattle.yv_source.proofs.Verdict.{Stands, goes_so_far, goes_no_further, goes_too_deep, deep_goes, spelled_end, done_end, behind_all}
@@ -79,11 +79,11 @@ module _ (front body : List ℕ) (place : Place) (bad : Option ℕ) (left : Left
   whole_here : (u : Tree) → ended_in phase stack ≡ Some u → SpellsOne u (tokens front r.pieces) × (depth u.children + 1 ≤ 64)
   whole_here u is = done_end (tokens front r.pieces) u (ended_stands (tokens front r.pieces) stack phase u r.stands is)
 
-  pub ends_here : (u : Tree) → r.rest ≡ [] → ended_in phase stack ≡ Some u → (IsNewer u.children → bad ≡ None) → ComesTo front body (Spelled u)
+  pub ends_here : (u : Tree) → r.rest ≡ [] → ended_in phase stack ≡ Some u → (IsNewer u.children → bad ≡ None) → ComesTo front body (Statement u)
   ends_here u e is none =
       let d = whole_here u is in
       let P : Option ℕ → Type 0 = λ b. IsFirstBad b (tokens front r.pieces) in
-      comes (Spelled u) (e, d.0, d.1, λ n. subst P (none n) r.bad_is) tt
+      comes (Statement u) (e, d.0, d.1, λ n. subst P (none n) r.bad_is) tt
 
   pub escapes_here : (u : Tree) (n : ℕ) → r.rest ≡ [] → ended_in phase stack ≡ Some u → IsNewer u.children → bad ≡ Some n → ComesTo front body (BadEscape n)
   escapes_here u n e is new some =
@@ -97,24 +97,24 @@ module _ (front body : List ℕ) (place : Place) (bad : Option ℕ) (left : Left
       (inl (e, λ t spells. none_some t (sym is ∙ ended_by stack phase t (spelled_end (tokens front r.pieces) stack phase t r.stands spells)))) stands_at
 
   -- the token that is refused
-  next_token : (f : Found) (l : Looks (front ++ body) done r.rest place (before_of left) stack phase f) → (run 64 (Next stack phase) (token done l.piece) ≡ Next stack phase → ⊥) → tokens front (r.pieces ++ l.piece ∷ []) ≡ tokens front r.pieces ++ record { front = done; piece = l.piece } ∷ []
+  next_token : (f : FoundPiece) (l : Looks (front ++ body) done r.rest place (before_of left) stack phase f) → (run_tokens 64 (Next stack phase) (token done l.piece) ≡ Next stack phase → ⊥) → tokens front (r.pieces ++ l.piece ∷ []) ≡ tokens front r.pieces ++ record { front = done; piece = l.piece } ∷ []
   next_token f l moves =
       tokens-append front r.pieces (l.piece ∷ []) ∙ ap (λ x. tokens front r.pieces ++ x) (tokens_one done l.piece)
       ∙ elim l.kind [
-        | inl e ↦ absurd (moves (ap (run 64 (Next stack phase)) e))
+        | inl e ↦ absurd (moves (ap (run_tokens 64 (Next stack phase)) e))
         | inr e ↦ ap (λ x. tokens front r.pieces ++ x) e
       ]
 
-  steps : (f : Found) (l : Looks (front ++ body) done r.rest place (before_of left) stack phase f) → (run 64 (Next stack phase) (token done l.piece) ≡ Next stack phase → ⊥) → step 64 stack phase (record { front = done; piece = l.piece }) ≡ turn (front ++ body) f stack phase place
+  steps : (f : FoundPiece) (l : Looks (front ++ body) done r.rest place (before_of left) stack phase f) → (run_tokens 64 (Next stack phase) (token done l.piece) ≡ Next stack phase → ⊥) → step 64 stack phase (record { front = done; piece = l.piece }) ≡ turn (front ++ body) f stack phase place
   steps f l moves =
       elim l.kind [
-        | inl e ↦ absurd (moves (ap (run 64 (Next stack phase)) e))
-        | inr e ↦ sym (l.does ∙ ap (run 64 (Next stack phase)) e)
+        | inl e ↦ absurd (moves (ap (run_tokens 64 (Next stack phase)) e))
+        | inr e ↦ sym (l.does ∙ ap (run_tokens 64 (Next stack phase)) e)
       ]
 
-  pub wrong_here : (f : Found) (l : Looks (front ++ body) done r.rest place (before_of left) stack phase f) → turn (front ++ body) f stack phase place ≡ Wrong → ComesTo front body (BadSyntax place.at)
+  pub wrong_here : (f : FoundPiece) (l : Looks (front ++ body) done r.rest place (before_of left) stack phase f) → turn (front ++ body) f stack phase place ≡ Wrong → ComesTo front body (BadSyntax place.at)
   wrong_here f l e =
-      let moves : run 64 (Next stack phase) (token done l.piece) ≡ Next stack phase → ⊥ = λ x. wrong_next stack phase (sym e ∙ l.does ∙ x) in
+      let moves : run_tokens 64 (Next stack phase) (token done l.piece) ≡ Next stack phase → ⊥ = λ x. wrong_next stack phase (sym e ∙ l.does ∙ x) in
       let M : Before → Type 0 = λ b. MayStand b l.piece l.begins.more in
       let G : List Token → Type 0 = λ ts. Goes ts in
       comes (BadSyntax place.at)
@@ -125,9 +125,9 @@ module _ (front body : List ℕ) (place : Place) (bad : Option ℕ) (left : Left
       ))
       stands_at
 
-  pub deep_here : (f : Found) (l : Looks (front ++ body) done r.rest place (before_of left) stack phase f) → turn (front ++ body) f stack phase place ≡ Deep → ComesTo front body (TooDeep place.at)
+  pub deep_here : (f : FoundPiece) (l : Looks (front ++ body) done r.rest place (before_of left) stack phase f) → turn (front ++ body) f stack phase place ≡ Deep → ComesTo front body (TooDeep place.at)
   deep_here f l e =
-      let moves : run 64 (Next stack phase) (token done l.piece) ≡ Next stack phase → ⊥ = λ x. deep_next stack phase (sym e ∙ l.does ∙ x) in
+      let moves : run_tokens 64 (Next stack phase) (token done l.piece) ≡ Next stack phase → ⊥ = λ x. deep_next stack phase (sym e ∙ l.does ∙ x) in
       let M : Before → Type 0 = λ b. MayStand b l.piece l.begins.more in
       let G : List Token → Type 0 = λ ts. Goes ts in
       let W : List Token → Type 0 = λ ts. GoesWithin 64 ts in
@@ -142,6 +142,6 @@ module _ (front body : List ℕ) (place : Place) (bad : Option ℕ) (left : Left
       stands_at
 
   -- one piece on
-  pub on : (f : Found) (l : Looks (front ++ body) done r.rest place (before_of left) stack phase f) (left' : Left) (stack' : List Tree) (phase' : Phase) → before_of left' ≡ past_found (before_of left) f → turn (front ++ body) f stack phase place ≡ Next stack' phase' → ReadsTo front body (passed place (slice l.piece)) (bad_on bad (length done) l.piece) left' stack' phase'
+  pub on : (f : FoundPiece) (l : Looks (front ++ body) done r.rest place (before_of left) stack phase f) (left' : Left) (stack' : List Tree) (phase' : Phase) → before_of left' ≡ past_found (before_of left) f → turn (front ++ body) f stack phase place ≡ Next stack' phase' → ReadsTo front body (place_after place (slice l.piece)) (bad_on bad (length done) l.piece) left' stack' phase'
   on f l left' stack' phase' b e =
       advances front body place bad left stack phase r l.piece l.begins.more left' stack' phase' l.begins.is l.begins.may l.utf8 (sym (b ∙ l.next)) (sym l.does ∙ e)

@@ -7,7 +7,7 @@ use Rattle.yv_statement.specs.Tree.{Forest, End, Then, trees}
 use Rattle.yv_source.specs.Pieces.{Piece, Blank, LineComment, BlockComment, Word, Single, Double, Semicolon, Open, Close, Plus, Token, token}
 use Rattle.yv_source.specs.Escapes.{is_escape, begins_escape, all_pairs_good, IsBadPair}
 use Rattle.yv_source.specs.Escapes.{inside_double, HasNoBadPair, HasBadPair, IsNewer, yang_version, newer}
-use Rattle.yv_source.specs.Inner.Pairs.{bad_pair, placed, bad_on, is_newer_text, is_newer}
+use Rattle.yv_source.specs.Inner.Pairs.{bad_pair, offset_in_file, bad_on, is_newer_text, is_newer}
 use Rattle.yv_source.proofs.Accepts.{append_nil}
 use Rattle.yv_source.proofs.Keyword.{false_true, and_first, and_second}
 use Rattle.std.proofs.lemmas.List.{drop-drop, drop_all, length-drop}
@@ -79,7 +79,7 @@ kept : (bad : Option ℕ) (ts us : List Token) → IsFirstBad bad ts → HasNoBa
 kept None ts us h k = none_more ts us h k
 kept (Some n) ts us h k = bad_more ts us n h
 
-new_pair : (ts : List Token) (done t : List ℕ) (r : Option ℕ) → HasNoBadPair ts → HasPair r t → IsFirstBad (placed (length done) r) (ts ++ record { front = done; piece = Double t } ∷ [])
+new_pair : (ts : List Token) (done t : List ℕ) (r : Option ℕ) → HasNoBadPair ts → HasPair r t → IsFirstBad (offset_in_file (length done) r) (ts ++ record { front = done; piece = Double t } ∷ [])
 new_pair ts done t None h p = none_more ts (record { front = done; piece = Double t } ∷ []) h (p, tt)
 new_pair ts done t (Some n) h p =
     record { before = ts; token = record { front = done; piece = Double t }; others = []; place = n; is = refl; good = h; bad = p; offset_is = refl }

@@ -5,7 +5,7 @@ use Rattle.std.specs.Str.{chars}
 use Rattle.std.specs.List.{list_all}
 use Rattle.std.proofs.lemmas.Str.{encodes-chars}
 use Rattle.yv_source.specs.Pieces.{begins}
-use Rattle.yv_source.specs.Quoted.{is_gap, onto_first, lines_of, without_indent, breaks, without_trailing, unescaped, stripped, quoted}
+use Rattle.yv_source.specs.Quotes.{is_gap, onto_first, lines_of, without_indent, breaks, without_trailing, unescape, strip, quoted_value}
 use Rattle.yv_source.specs.Inner.Plain.{is_plain}
 use Rattle.yv_source.proofs.Accepts.{append_nil}
 
@@ -61,16 +61,16 @@ none_trail (c ∷ rest) h =
     let f = first_is c rest h in
     kept_by (is_gap c) (breaks rest) c (without_trailing rest) (without_trailing rest) (no_break rest f.others) ∙ ap (λ l. c ∷ l) (none_trail rest f.others)
 
-none_escaped : (cs : List ℕ) → list_all is_plain cs ≡ true → unescaped false cs ≡ cs
+none_escaped : (cs : List ℕ) → list_all is_plain cs ≡ true → unescape false cs ≡ cs
 none_escaped [] h = refl
 none_escaped (c ∷ rest) h =
     let f = first_is c rest h in
     rw f.no_slash (ap (λ l. c ∷ l) (none_escaped rest f.others))
 
 -- stripping and escapes leave such a text as it is
-pub plain_says : (column : ℕ) (text : List ℕ) → IsUtf8 text → list_all is_plain (chars text) ≡ true → text ≡ quoted column text
+pub plain_says : (column : ℕ) (text : List ℕ) → IsUtf8 text → list_all is_plain (chars text) ≡ true → text ≡ quoted_value column text
 plain_says column text utf8 h =
     let cs = chars text in
     let unindented : without_indent (column + 1) cs ≡ cs = rw (one_line cs h) (append_nil cs) in
-    let whole : stripped column text ≡ cs = ap without_trailing unindented ∙ none_trail cs h in
-    sym (ap (λ l. encode_utf8_all (unescaped false l)) whole ∙ ap encode_utf8_all (none_escaped cs h) ∙ encodes-chars text utf8)
+    let whole : strip column text ≡ cs = ap without_trailing unindented ∙ none_trail cs h in
+    sym (ap (λ l. encode_utf8_all (unescape false l)) whole ∙ ap encode_utf8_all (none_escaped cs h) ∙ encodes-chars text utf8)

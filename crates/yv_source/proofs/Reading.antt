@@ -10,9 +10,9 @@ use Rattle.yv_source.specs.Pieces.{Piece, slice, Token, Before, Apart, past, May
 use Rattle.yv_source.specs.Inner.Pairs.{bad_on}
 use Rattle.yv_source.proofs.Pairs.{IsFirstBad, bad_goes_on}
 use Rattle.yv_source.specs.Place.{columns, column_of, column_past}
-use Rattle.yv_source.specs.Inner.Place.{passed}
+use Rattle.yv_source.specs.Inner.Place.{place_after}
 use Rattle.yv_source.specs.declared.place.Place.{Place}
-use Rattle.yv_source.specs.Inner.Machine.{Next, run}
+use Rattle.yv_source.specs.Inner.Machine.{Next, run_tokens}
 use Rattle.yv_source.specs.Place.{line_of}
 use Rattle.yv_source.specs.Inner.Scan.{before_of}
 use Rattle.yv_source.specs.declared.machine.Phase.{Phase}
@@ -94,7 +94,7 @@ count-append xs ys = fold-append 0 xs ys ∙ fold_from (fold add_lf 0 xs) ys
 pub count-cons : (x : ℕ) (xs : List ℕ) → count_by (λ b. b == 10) (x ∷ xs) ≡ cond (x == 10) 1 0 + count_by (λ b. b == 10) xs
 count-cons x xs = omega (arith, fold_from (add_lf 0 x) xs)
 
-pub advances : (front body : List ℕ) (place : Place) (bad : Option ℕ) (left : Left) (stack : List Tree) (phase : Phase) (r : ReadsTo front body place bad left stack phase) (p : Piece) (more : List ℕ) (left' : Left) (stack' : List Tree) (phase' : Phase) → r.rest ≡ slice p ++ more → MayStand (before_of left) p more → IsUtf8 more → past (before_of left) p ≡ before_of left' → run 64 (Next stack phase) (token (front ++ spelling r.pieces) p) ≡ Next stack' phase' → ReadsTo front body (passed place (slice p)) (bad_on bad (length (front ++ spelling r.pieces)) p) left' stack' phase'
+pub advances : (front body : List ℕ) (place : Place) (bad : Option ℕ) (left : Left) (stack : List Tree) (phase : Phase) (r : ReadsTo front body place bad left stack phase) (p : Piece) (more : List ℕ) (left' : Left) (stack' : List Tree) (phase' : Phase) → r.rest ≡ slice p ++ more → MayStand (before_of left) p more → IsUtf8 more → past (before_of left) p ≡ before_of left' → run_tokens 64 (Next stack phase) (token (front ++ spelling r.pieces) p) ≡ Next stack' phase' → ReadsTo front body (place_after place (slice p)) (bad_on bad (length (front ++ spelling r.pieces)) p) left' stack' phase'
 advances front body place bad left stack phase r p more left' stack' phase' is may u left_is runs =
     let done : List ℕ = front ++ spelling r.pieces in
     let grown : front ++ spelling (r.pieces ++ p ∷ []) ≡ done ++ slice p =
@@ -115,7 +115,7 @@ advances front body place bad left stack phase r p more left' stack' phase' is m
       marked = r.marked;
       bad_is = (let B : List Token → Type 0 = λ l. IsFirstBad (bad_on bad (length done) p) l in subst B (sym ts) (bad_goes_on bad (tokens front r.pieces) done p r.bad_is));
       before = behind-append Apart r.pieces p ∙ ap (λ b. past b p) r.before ∙ left_is;
-      stands = record { runs = ap (run 64 fresh) ts ∙ run-append 64 fresh (tokens front r.pieces) (token done p) ∙ ap (λ s. run 64 s (token done p)) r.stands.runs ∙ runs };
+      stands = record { runs = ap (run_tokens 64 fresh) ts ∙ run-append 64 fresh (tokens front r.pieces) (token done p) ∙ ap (λ s. run_tokens 64 s (token done p)) r.stands.runs ∙ runs };
       utf8 = u;
     }
 
@@ -132,17 +132,17 @@ columns_last xs at start m r is h e =
     ∙ ap (columns start) (take-append-drop at xs)
 
 -- one more byte
-pub passed_more : (p : Place) (xs : List ℕ) (i : ℕ) → i < length xs → passed (passed p (take i xs)) (get_or xs i 0 ∷ []) ≡ passed p (take (i + 1) xs)
+pub passed_more : (p : Place) (xs : List ℕ) (i : ℕ) → i < length xs → place_after (place_after p (take i xs)) (get_or xs i 0 ∷ []) ≡ place_after p (take (i + 1) xs)
 passed_more p xs i lt =
     let t : List ℕ = take i xs in
     let x : ℕ = get_or xs i 0 in
     let more : take (i + 1) xs ≡ t ++ x ∷ [] = take_more xs i 0 lt in
     let a : p.at + length t + length (x ∷ []) ≡ p.at + length (t ++ x ∷ []) = omega (arith, length-append t (x ∷ [])) in
     let l : p.line + count_by (λ b. b == 10) t + count_by (λ b. b == 10) (x ∷ []) ≡ p.line + count_by (λ b. b == 10) (t ++ x ∷ []) = omega (arith, count-append t (x ∷ [])) in
-    let is : passed (passed p t) (x ∷ []) ≡ passed p (t ++ x ∷ []) = λ i. record { at = a i; line = l i; column = sym (columns-append p.column t (x ∷ [])) i } in
-    is ∙ ap (passed p) (sym more)
+    let is : place_after (place_after p t) (x ∷ []) ≡ place_after p (t ++ x ∷ []) = λ i. record { at = a i; line = l i; column = sym (columns-append p.column t (x ∷ [])) i } in
+    is ∙ ap (place_after p) (sym more)
 
-pub passed_most : (p q : Place) (x : ℕ) → q ≡ passed p (x ∷ []) → (q.line ≤ p.line + 1) × (q.column ≤ p.column + 8)
+pub passed_most : (p q : Place) (x : ℕ) → q ≡ place_after p (x ∷ []) → (q.line ≤ p.line + 1) × (q.column ≤ p.column + 8)
 passed_most p q x e =
     let l : q.line ≡ p.line + count_by (λ b. b == 10) (x ∷ []) = ap (λ (r : Place). r.line) e in
     let c : q.column ≡ columns p.column (x ∷ []) = ap (λ (r : Place). r.column) e in

@@ -13,8 +13,8 @@ use Rattle.memchr.specs.Find.{IsFirstByte, is_byte2, is_byte3}
 use Rattle.yv_source.specs.Inner.Plain.{is_plain}
 use Rattle.std.proofs.lemmas.Str.{encodes-chars, encode_ascii, length-encode, len_utf8_bounds, chars-nil, chars-append, chars_past_char, IsUtf8-take, IsUtf8-drop, IsUtf8-past_char, IsCharBoundary-at_seam}
 use Rattle.yv_source.specs.Pieces.{begins}
-use Rattle.yv_source.specs.Quoted.{is_gap, breaks, without_trailing, unescaped, quoted, lines_of}
-use Rattle.yv_source.specs.Inner.Writing.{Written, take_in, trail, all_of, fresh, is_in_run, ends_well, is_at_rest, with_run, Runs}
+use Rattle.yv_source.specs.Quotes.{is_gap, breaks, without_trailing, unescape, quoted_value, lines_of}
+use Rattle.yv_source.specs.Inner.Writer.{WriterState, take_in, trail, all_of, fresh, is_in_run, ends_well, is_at_rest, with_run, Runs}
 use Rattle.yv_source.proofs.Accepts.{append_nil}
 use Rattle.yv_source.proofs.Keyword.{false_true, and_first, and_second}
 use Rattle.yv_source.proofs.Writing.{AllGap, is_gap_means, gap_ascii, read, crs, value, other_breaks, other_stays, lead, takes, ends, lead_lines, first_stays}
@@ -117,7 +117,7 @@ read_run : (cs t : List ℕ) → list_all is_in_run cs ≡ true → read false (
 read_run [] t h = refl
 read_run (c ∷ cs) t h =
     let f = in_run c cs h in
-    ap (λ v. encode_utf8_all (cond v (unescaped true (cs ++ t)) (c ∷ unescaped false (cs ++ t)))) f.no_slash
+    ap (λ v. encode_utf8_all (cond v (unescape true (cs ++ t)) (c ∷ unescape false (cs ++ t)))) f.no_slash
     ∙ ap (λ l. encode_utf8 c ++ l) (read_run cs t f.others)
     ∙ sym (append_assoc (encode_utf8 c) (encode_utf8_all cs) (read false t))
 
@@ -136,7 +136,7 @@ rest_is left gap cr escaped h =
       not_gap escaped (and_second (((left == 0) && (length gap == 0)) && not cr) (not escaped) h),
     )
 
-runs_value : (n : ℕ) (w : Written) (cs t : List ℕ) → is_at_rest w ≡ true → list_all is_in_run cs ≡ true → ends_well cs ≡ true → value (with_run (encode_utf8_all cs) w) (lead n w.left t) ≡ value w (lead n w.left (cs ++ t))
+runs_value : (n : ℕ) (w : WriterState) (cs t : List ℕ) → is_at_rest w ≡ true → list_all is_in_run cs ≡ true → ends_well cs ≡ true → value (with_run (encode_utf8_all cs) w) (lead n w.left t) ≡ value w (lead n w.left (cs ++ t))
 runs_value n w cs t rest h e =
     let r = rest_is w.left w.gap w.cr w.escaped rest in
     let Plain : List ℕ → List ℕ → List ℕ → ℕ × (List ℕ × (Bool × Bool)) → Type 0 =
@@ -208,7 +208,7 @@ plain_text text None v u h n t =
     (ap (list_all is_plain) (encodes-chars text u ∙ sym (take_all (length text) text (omega arith))) ∙ bytes)
 
 -- how far a text was written
-pub record WritesTo (indent : ℕ) (text : List ℕ) (at : ℕ) (w : Written) : Type 0 where
+pub record WritesTo (indent : ℕ) (text : List ℕ) (at : ℕ) (w : WriterState) : Type 0 where
   pub front : List ℕ
   pub rest : List ℕ
   pub is : text ≡ front ++ rest
@@ -220,7 +220,7 @@ pub record WritesTo (indent : ℕ) (text : List ℕ) (at : ℕ) (w : Written) : 
 pub writes_start : (indent : ℕ) (text : List ℕ) → IsUtf8 text → WritesTo indent text 0 fresh
 writes_start indent text u = record { front = []; rest = text; is = refl; at_is = refl; rest_utf8 = u; gap = tt; says = refl }
 
-module _ {indent : ℕ} {text : List ℕ} {at : ℕ} {w : Written} (so_far : WritesTo indent text at w) where
+module _ {indent : ℕ} {text : List ℕ} {at : ℕ} {w : WriterState} (so_far : WritesTo indent text at w) where
   pub writes_rest : drop at text ≡ so_far.rest
   writes_rest = ap (λ n. drop n text) so_far.at_is ∙ ap (drop (length so_far.front)) so_far.is ∙ drop_at so_far.front so_far.rest (length so_far.front) refl
 
@@ -232,7 +232,7 @@ module _ {indent : ℕ} {text : List ℕ} {at : ℕ} {w : Written} (so_far : Wri
   pub writes_within : at ≤ length text
   writes_within = omega (arith, so_far.at_is, ap length so_far.is, length-append so_far.front so_far.rest)
 
-  writes_on : (more rest : List ℕ) (x : Written) → so_far.rest ≡ more ++ rest → IsUtf8 rest → AllGap x.gap → value x (lead indent x.left (chars rest)) ≡ value w (lead indent w.left (chars so_far.rest)) → WritesTo indent text (at + length more) x
+  writes_on : (more rest : List ℕ) (x : WriterState) → so_far.rest ≡ more ++ rest → IsUtf8 rest → AllGap x.gap → value x (lead indent x.left (chars rest)) ≡ value w (lead indent w.left (chars so_far.rest)) → WritesTo indent text (at + length more) x
   writes_on more rest x e v g s =
       record {
         front = so_far.front ++ more;
@@ -245,13 +245,13 @@ module _ {indent : ℕ} {text : List ℕ} {at : ℕ} {w : Written} (so_far : Wri
       }
 
   -- a run
-  ran : (run more : List ℕ) (x : Written) → so_far.rest ≡ run ++ more → IsUtf8 run → IsUtf8 more → Runs w run x → WritesTo indent text (at + length run) x
+  ran : (run more : List ℕ) (x : WriterState) → so_far.rest ≡ run ++ more → IsUtf8 run → IsUtf8 more → Runs w run x → WritesTo indent text (at + length run) x
   ran run more x e u v (inl (none, same)) =
-      let P : Written → Type 0 = λ y. WritesTo indent text (at + length run) y in
+      let P : WriterState → Type 0 = λ y. WritesTo indent text (at + length run) y in
       let all : chars more ≡ chars so_far.rest = sym (ap chars (e ∙ ap (λ l. l ++ more) none)) in
       subst P (sym same) (writes_on run more w e v so_far.gap (ap (λ l. value w (lead indent w.left l)) all))
   ran run more x e u v (inr (rest, inside, well, same)) =
-      let P : Written → Type 0 = λ y. WritesTo indent text (at + length run) y in
+      let P : WriterState → Type 0 = λ y. WritesTo indent text (at + length run) y in
       let cs : List ℕ = chars run in
       let run_is : encode_utf8_all cs ≡ run = encodes-chars run u in
       let all : chars so_far.rest ≡ cs ++ chars more = ap chars e ∙ chars-append run more u in
@@ -263,7 +263,7 @@ module _ {indent : ℕ} {text : List ℕ} {at : ℕ} {w : Written} (so_far : Wri
       (writes_on run more (with_run run w) e v so_far.gap
       (ap (λ l. value (with_run l w) (lead indent w.left (chars more))) (sym run_is) ∙ s ∙ ap (λ l. value w (lead indent w.left l)) (sym all)))
 
-  writes_behind : (n : ℕ) (x : Written) → IsCharBoundary (drop at text) n → Runs w (take n (drop at text)) x → WritesTo indent text (at + n) x
+  writes_behind : (n : ℕ) (x : WriterState) → IsCharBoundary (drop at text) n → Runs w (take n (drop at text)) x → WritesTo indent text (at + n) x
   writes_behind n x b r =
       let U : List ℕ → Type 0 = λ l. IsUtf8 l in
       let u = subst U (sym writes_rest) so_far.rest_utf8 in
@@ -271,7 +271,7 @@ module _ {indent : ℕ} {text : List ℕ} {at : ℕ} {w : Written} (so_far : Wri
       subst P (length-take-le n (drop at text) b.0)
       (ran (take n (drop at text)) (drop n (drop at text)) x (sym writes_rest ∙ sym (take-append-drop n (drop at text))) (IsUtf8-take (drop at text) n u b) (IsUtf8-drop (drop at text) n u b) r)
 
-  pub writes_run : (ys : List ℕ) (n : ℕ) (x : Written) → ys ≡ drop at text → IsCharBoundary ys n → Runs w (take n ys) x → WritesTo indent text (at + n) x
+  pub writes_run : (ys : List ℕ) (n : ℕ) (x : WriterState) → ys ≡ drop at text → IsCharBoundary ys n → Runs w (take n ys) x → WritesTo indent text (at + n) x
   writes_run ys n x same b r =
       let P : List ℕ → Type 0 = λ l. IsCharBoundary l n × Runs w (take n l) x in
       let p = subst P same (b, r) in
@@ -293,7 +293,7 @@ module _ {indent : ℕ} {text : List ℕ} {at : ℕ} {w : Written} (so_far : Wri
       omega (arith, so_far.at_is, ap length so_far.is, length-append so_far.front so_far.rest, ap length is, length-append (encode_utf8 c) more, length-encode c)
 
 -- at the end
-pub writes_all : (column : ℕ) {text : List ℕ} {at : ℕ} {w : Written} → WritesTo (column + 1) text at w → drop at text ≡ [] → all_of (trail w) ≡ quoted column text
+pub writes_all : (column : ℕ) {text : List ℕ} {at : ℕ} {w : WriterState} → WritesTo (column + 1) text at w → drop at text ≡ [] → all_of (trail w) ≡ quoted_value column text
 writes_all column {text} {at} {w} so_far e =
     let none : chars so_far.rest ≡ [] = ap chars (sym (writes_rest so_far) ∙ e) ∙ chars-nil in
     ends w so_far.gap

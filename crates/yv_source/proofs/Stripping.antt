@@ -8,7 +8,7 @@ use Rattle.std.proofs.lemmas.Bool.{eqb-true, or_cases, cases_Bool, cases_lt}
 use Rattle.std.proofs.lemmas.Str.{encodes-chars, encode_ascii}
 use Rattle.yv_source.proofs.Until.{not_equal}
 use Rattle.yv_source.specs.Pieces.{begins}
-use Rattle.yv_source.specs.Quoted.{is_gap, spaces, lines_of, without_indent, breaks, without_trailing, stripped}
+use Rattle.yv_source.specs.Quotes.{is_gap, spaces, lines_of, without_indent, breaks, without_trailing, strip}
 use Rattle.yv_source.specs.Escapes.{is_escape, all_pairs_good}
 use Rattle.yv_source.proofs.Writing.{lead, lead_lines, first_stays}
 use Rattle.yv_source.proofs.Keyword.{false_true, and_first, and_second}
@@ -173,6 +173,6 @@ bytes_pairs (c ∷ cs) e =
     ]
 
 -- what is left of a text has bad pairs exactly where the text has
-pub stripped_pairs : (column : ℕ) (text : List ℕ) → IsUtf8 text → all_pairs_good false (stripped column text) ≡ all_pairs_good false text
+pub stripped_pairs : (column : ℕ) (text : List ℕ) → IsUtf8 text → all_pairs_good false (strip column text) ≡ all_pairs_good false text
 stripped_pairs column text u =
     stripping_keeps (column + 1) (chars text) ∙ sym (bytes_pairs (chars text) false) ∙ ap (all_pairs_good false) (encodes-chars text u)

@@ -5,14 +5,14 @@ use Rattle.std.proofs.Math.Seq.{take-append_seam, drop-append_seam}
 use Rattle.std.proofs.lemmas.Str.{IsCharBoundary-at_seam}
 use Rattle.yv_statement.specs.Tree.{Tree}
 use Rattle.yv_source.specs.Pieces.{Piece, Blank, LineComment, BlockComment, Word, Single, Double, Semicolon, Open, Close, Plus, slice, until, begins, ends_word, Before, past, MayStand, token}
-use Rattle.yv_source.specs.Inner.Machine.{Next, step_at, run}
+use Rattle.yv_source.specs.Inner.Machine.{Next, step_at, run_tokens}
 use Rattle.yv_source.specs.Inner.Place.{place_of}
 use Rattle.yv_source.specs.declared.place.Place.{Place}
 use Rattle.yv_source.specs.Inner.Turn.{opener, inner, length_of, past_found, token_at, maybe_step, turn}
 use Rattle.yv_source.specs.Inner.Pairs.{bad_found, bad_on}
 use Rattle.yv_source.specs.declared.machine.Phase.{Phase}
-use Rattle.yv_source.specs.declared.scan.Found.{Found}
-use Rattle.yv_source.specs.declared.scan.Found.TheVariants as found
+use Rattle.yv_source.specs.declared.scan.FoundPiece.{FoundPiece}
+use Rattle.yv_source.specs.declared.scan.FoundPiece.TheVariants as found
 use Rattle.yv_source.proofs.Cutting.{from_stops, from_behind}
 use Rattle.yv_source.proofs.Meaning.{cons_empty, Means, Begins, AsciiHead, seam_utf8, tail_utf8, blank_ascii, word_head, is_ascii}
 
@@ -52,12 +52,12 @@ utf8_behind before Close more m u = tail_utf8 125 more (lit< tt) u
 utf8_behind before Plus more m u = tail_utf8 43 more (lit< tt) u
 
 -- what a turn meets
-pub record Looks (text done rest : List ℕ) (place : Place) (before : Before) (stack : List Tree) (phase : Phase) (f : Found) : Type 0 where
+pub record Looks (text done rest : List ℕ) (place : Place) (before : Before) (stack : List Tree) (phase : Phase) (f : FoundPiece) : Type 0 where
   pub piece : Piece
   pub begins : Begins before rest piece
   pub len : length_of f ≡ length (slice piece)
   pub next : past_found before f ≡ past before piece
-  pub does : turn text f stack phase place ≡ run 64 (Next stack phase) (token done piece)
+  pub does : turn text f stack phase place ≡ run_tokens 64 (Next stack phase) (token done piece)
   pub kind : (token done piece ≡ []) ⊎ (token done piece ≡ record { front = done; piece = piece } ∷ [])
   pub lower : IsCharBoundary text (place.at + opener f)
   pub upper : IsCharBoundary text (place.at + opener f + inner f)
@@ -93,7 +93,7 @@ module _ (text done rest : List ℕ) (place : Place) (before : Before) (stack : 
   placed : (p : Piece) → step_at 64 stack phase place p ≡ step_at 64 stack phase (place_of done) p
   placed p = ap (λ (x : Place). step_at 64 stack phase x p) place_is
 
-  gap : (f : Found) (p : Piece) (b : Begins before rest p) → length_of f ≡ length (slice p) → past_found before f ≡ past before p → turn text f stack phase place ≡ Next stack phase → token done p ≡ [] → opener f ≡ 0 → inner f ≡ 0 → ((b : Option ℕ) → bad_found b place.at f text ≡ bad_on b (length done) p) → Looks text done rest place before stack phase f
+  gap : (f : FoundPiece) (p : Piece) (b : Begins before rest p) → length_of f ≡ length (slice p) → past_found before f ≡ past before p → turn text f stack phase place ≡ Next stack phase → token done p ≡ [] → opener f ≡ 0 → inner f ≡ 0 → ((b : Option ℕ) → bad_found b place.at f text ≡ bad_on b (length done) p) → Looks text done rest place before stack phase f
   gap f p b len next does none o n bads =
       let P : ℕ × ℕ → Type 0 = λ x. IsCharBoundary text (place.at + x.0 + x.1) in
       let Q : ℕ → Type 0 = λ x. IsCharBoundary text (place.at + x) in
@@ -102,7 +102,7 @@ module _ (text done rest : List ℕ) (place : Place) (before : Before) (stack : 
         begins = b;
         len = len;
         next = next;
-        does = does ∙ sym (ap (run 64 (Next stack phase)) none);
+        does = does ∙ sym (ap (run_tokens 64 (Next stack phase)) none);
         kind = inl none;
         lower = subst Q (sym o) here;
         upper = subst P (λ i. (sym o i, sym n i)) here_too;
@@ -110,14 +110,14 @@ module _ (text done rest : List ℕ) (place : Place) (before : Before) (stack : 
         bad = bads;
       }
 
-  mark : (f : Found) (p : Piece) (b : Begins before rest p) → length_of f ≡ length (slice p) → past_found before f ≡ past before p → turn text f stack phase place ≡ step_at 64 stack phase place p → token done p ≡ record { front = done; piece = p } ∷ [] → IsCharBoundary text (place.at + opener f) → IsCharBoundary text (place.at + opener f + inner f) → ((b : Option ℕ) → bad_found b place.at f text ≡ bad_on b (length done) p) → Looks text done rest place before stack phase f
+  mark : (f : FoundPiece) (p : Piece) (b : Begins before rest p) → length_of f ≡ length (slice p) → past_found before f ≡ past before p → turn text f stack phase place ≡ step_at 64 stack phase place p → token done p ≡ record { front = done; piece = p } ∷ [] → IsCharBoundary text (place.at + opener f) → IsCharBoundary text (place.at + opener f + inner f) → ((b : Option ℕ) → bad_found b place.at f text ≡ bad_on b (length done) p) → Looks text done rest place before stack phase f
   mark f p b len next does one lower upper bads =
       record {
         piece = p;
         begins = b;
         len = len;
         next = next;
-        does = does ∙ placed p ∙ sym (ap (run 64 (Next stack phase)) one);
+        does = does ∙ placed p ∙ sym (ap (run_tokens 64 (Next stack phase)) one);
         kind = inr one;
         lower = lower;
         upper = upper;
@@ -133,7 +133,7 @@ module _ (text done rest : List ℕ) (place : Place) (before : Before) (stack : 
       (ap (λ (l : List ℕ). step_at 64 stack phase place (Word l)) (part done t b.more (place.at + 0) n w (omega (arith, at_is)) e))
       refl here (bound (done ++ t) b.more (place.at + 0 + n) w' (rest_utf8 (Word t) b) (omega (arith, at_is, e, length-append done t))) (λ x. refl)
 
-  quoted_looks : (f : Found) (make : List ℕ → Piece) (q n : ℕ) (t : List ℕ) (b : Begins before rest (make t)) → q < 128 → n ≡ length t → slice (make t) ≡ q ∷ (t ++ q ∷ []) → length_of f ≡ n + 2 → past_found before f ≡ past before (make t) → ((l : List ℕ) → token_at f l ≡ Some (make l)) → opener f ≡ 1 → inner f ≡ n → token done (make t) ≡ record { front = done; piece = make t } ∷ [] → ((x : Option ℕ) → bad_found x place.at f text ≡ bad_on x place.at (make (take (inner f) (drop (place.at + opener f) text)))) → Looks text done rest place before stack phase f
+  quoted_looks : (f : FoundPiece) (make : List ℕ → Piece) (q n : ℕ) (t : List ℕ) (b : Begins before rest (make t)) → q < 128 → n ≡ length t → slice (make t) ≡ q ∷ (t ++ q ∷ []) → length_of f ≡ n + 2 → past_found before f ≡ past before (make t) → ((l : List ℕ) → token_at f l ≡ Some (make l)) → opener f ≡ 1 → inner f ≡ n → token done (make t) ≡ record { front = done; piece = make t } ∷ [] → ((x : Option ℕ) → bad_found x place.at f text ≡ bad_on x place.at (make (take (inner f) (drop (place.at + opener f) text)))) → Looks text done rest place before stack phase f
   quoted_looks f make q n t b small e is len next tok o i one bads =
       let P : List ℕ → Type 0 = λ l. IsUtf8 l in
       let r : rest ≡ q ∷ ((t ++ q ∷ []) ++ b.more) = b.is ∙ ap (λ l. l ++ b.more) is in
@@ -154,7 +154,7 @@ module _ (text done rest : List ℕ) (place : Place) (before : Before) (stack : 
       (bound ((done ++ q ∷ []) ++ t) (q ∷ b.more) (place.at + opener f + inner f) w' us.1 (omega (arith, at_is, o, i, e, l1, l2)))
       (λ x. bads x ∙ ap (λ l. bad_on x place.at (make l)) text_is ∙ ap (λ k. bad_on x k (make t)) at_is)
 
-  pub looks : (f : Found) → Means before rest f → Looks text done rest place before stack phase f
+  pub looks : (f : FoundPiece) → Means before rest f → Looks text done rest place before stack phase f
   looks found.Blank (x, b) = gap found.Blank (Blank x) b refl refl refl refl refl refl (λ x. refl)
   looks (found.LineComment n) (t, e, b) = gap (found.LineComment n) (LineComment t) b (omega (arith, e)) refl refl refl refl refl (λ x. refl)
   looks (found.BlockComment n) (t, e, b) =

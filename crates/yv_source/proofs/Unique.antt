@@ -4,7 +4,7 @@ use Rattle.yv_statement.specs.Tree.{Tree}
 use Rattle.yv_source.specs.Pieces.{Piece, slice, Before, Apart, past, MayStand, Cuts, behind, Token, tokens}
 use Rattle.yv_source.specs.Grammar.{SpellsOne, Goes, GoesWithin}
 use Rattle.yv_source.specs.Escapes.{IsNewer}
-use Rattle.yv_source.specs.Outcome.{Outcome, Spelled, BadToken, BadSyntax, TooDeep, BadEscape, ComesTo, Why, StandsAt}
+use Rattle.yv_source.specs.Outcome.{Outcome, Statement, BadToken, BadSyntax, TooDeep, BadEscape, ComesTo, Why, StandsAt}
 use Rattle.yv_source.specs.Inner.Scan.{First, first}
 use Rattle.yv_source.proofs.Pairs.{one_escape, not_both}
 use Rattle.yv_source.proofs.Cutting.{complete}
@@ -12,7 +12,7 @@ use Rattle.yv_source.proofs.Reading.{tokens-append}
 use Rattle.yv_source.proofs.Verdict.{one_statement}
 use Rattle.yv_source.proofs.Loop.{not_empty}
 use Rattle.yv_source.specs.Answer.{IsSpelled, IsRefused, IsRefusalOf}
-use Rattle.yv_source.specs.Inner.Ending.{Comes}
+use Rattle.yv_source.specs.Inner.End.{Comes}
 use Rattle.yv_statement.specs.declared.refusal.Refusal.{Refusal}
 use Rattle.yv_statement.specs.declared.refusal.Stop.{Stop}
 use Rattle.yv_statement.specs.declared.refusal.Stop.TheVariants.{Fault, PatternBuild, NoMemory}
@@ -79,7 +79,7 @@ goes_front : (ts us : List Token) → GoesWithin 64 (ts ++ us) → GoesWithin 64
 goes_front ts us (t, more, spells, d) = let P : List Token → Type 0 = λ l. SpellsOne t l in (t, us ++ more, subst P (append_assoc ts us more) spells, d)
 
 reason : (front : List ℕ) (ps : List Piece) (rest : List ℕ) (o : Outcome) → Why front ps (behind Apart ps) rest o → (q : Piece) (left : List ℕ) → rest ≡ slice q ++ left → MayStand (behind Apart ps) q left → GoesWithin 64 (tokens front (ps ++ q ∷ [])) → ⊥
-reason front ps rest (Spelled t) (none, spells, d, kept) q left is may go = no_rest (behind Apart ps) q left may (sym none ∙ is)
+reason front ps rest (Statement t) (none, spells, d, kept) q left is may go = no_rest (behind Apart ps) q left may (sym none ∙ is)
 reason front ps rest (BadToken at) (some, uncut) q left is may go = uncut q (left, is, may)
 reason front ps rest (BadSyntax at) (inl (none, spells)) q left is may go = no_rest (behind Apart ps) q left may (sym none ∙ is)
 reason front ps rest (BadSyntax at) (inr (p, (more, is', may'), not)) q left is may (t, others, spells, d) =
@@ -97,18 +97,18 @@ abbrev Both : List ℕ → List Piece → List ℕ → ℕ → Outcome → Outco
 Both front ps rest at o u = Why front ps (behind Apart ps) rest o → StandsAt at o → Why front ps (behind Apart ps) rest u → StandsAt at u → o ≡ u
 
 one_reason : (front : List ℕ) (ps : List Piece) (rest : List ℕ) (at : ℕ) (o u : Outcome) → Both front ps rest at o u
-one_reason front ps rest at (Spelled t) (Spelled v) w a x b = ap Spelled (one_statement (tokens front ps) t v w.1 x.1)
-one_reason front ps rest at (Spelled t) (BadToken k) w a x b = absurd (x.0 w.0)
-one_reason front ps rest at (Spelled t) (BadSyntax k) w a (inl x) b = absurd (x.1 t w.1)
-one_reason front ps rest at (Spelled t) (BadSyntax k) w a (inr x) b = absurd (no_rest (behind Apart ps) x.0 x.1.0 x.1.2 (sym w.0 ∙ x.1.1))
-one_reason front ps rest at (Spelled t) (TooDeep k) w a x b = absurd (no_rest (behind Apart ps) x.0 x.1.0 x.1.2 (sym w.0 ∙ x.1.1))
-one_reason front ps rest at (BadToken k) (Spelled t) w a x b = absurd (w.0 x.0)
+one_reason front ps rest at (Statement t) (Statement v) w a x b = ap Statement (one_statement (tokens front ps) t v w.1 x.1)
+one_reason front ps rest at (Statement t) (BadToken k) w a x b = absurd (x.0 w.0)
+one_reason front ps rest at (Statement t) (BadSyntax k) w a (inl x) b = absurd (x.1 t w.1)
+one_reason front ps rest at (Statement t) (BadSyntax k) w a (inr x) b = absurd (no_rest (behind Apart ps) x.0 x.1.0 x.1.2 (sym w.0 ∙ x.1.1))
+one_reason front ps rest at (Statement t) (TooDeep k) w a x b = absurd (no_rest (behind Apart ps) x.0 x.1.0 x.1.2 (sym w.0 ∙ x.1.1))
+one_reason front ps rest at (BadToken k) (Statement t) w a x b = absurd (w.0 x.0)
 one_reason front ps rest at (BadToken k) (BadToken j) w a x b = ap BadToken (a ∙ sym b)
 one_reason front ps rest at (BadToken k) (BadSyntax j) w a (inl x) b = absurd (w.0 x.0)
 one_reason front ps rest at (BadToken k) (BadSyntax j) w a (inr x) b = absurd (w.1 x.0 x.1)
 one_reason front ps rest at (BadToken k) (TooDeep j) w a x b = absurd (w.1 x.0 x.1)
-one_reason front ps rest at (BadSyntax k) (Spelled t) (inl w) a x b = absurd (w.1 t x.1)
-one_reason front ps rest at (BadSyntax k) (Spelled t) (inr w) a x b = absurd (no_rest (behind Apart ps) w.0 w.1.0 w.1.2 (sym x.0 ∙ w.1.1))
+one_reason front ps rest at (BadSyntax k) (Statement t) (inl w) a x b = absurd (w.1 t x.1)
+one_reason front ps rest at (BadSyntax k) (Statement t) (inr w) a x b = absurd (no_rest (behind Apart ps) w.0 w.1.0 w.1.2 (sym x.0 ∙ w.1.1))
 one_reason front ps rest at (BadSyntax k) (BadToken j) (inl w) a x b = absurd (x.0 w.0)
 one_reason front ps rest at (BadSyntax k) (BadToken j) (inr w) a x b = absurd (x.1 w.0 w.1)
 one_reason front ps rest at (BadSyntax k) (BadSyntax j) w a x b = ap BadSyntax (a ∙ sym b)
@@ -117,7 +117,7 @@ one_reason front ps rest at (BadSyntax k) (TooDeep j) (inr w) a x b =
     let e = one_piece (behind Apart ps) rest w.0 x.0 w.1.0 x.1.0 w.1.1 w.1.2 x.1.1 x.1.2 in
     let G : Piece × List ℕ → Type 0 = λ y. Goes (tokens front (ps ++ y.0 ∷ [])) in
     absurd (w.2 (subst G (sym e) x.2))
-one_reason front ps rest at (TooDeep k) (Spelled t) w a x b = absurd (no_rest (behind Apart ps) w.0 w.1.0 w.1.2 (sym x.0 ∙ w.1.1))
+one_reason front ps rest at (TooDeep k) (Statement t) w a x b = absurd (no_rest (behind Apart ps) w.0 w.1.0 w.1.2 (sym x.0 ∙ w.1.1))
 one_reason front ps rest at (TooDeep k) (BadToken j) w a x b = absurd (x.1 w.0 w.1)
 one_reason front ps rest at (TooDeep k) (BadSyntax j) w a (inl x) b = absurd (no_rest (behind Apart ps) w.0 w.1.0 w.1.2 (sym x.0 ∙ w.1.1))
 one_reason front ps rest at (TooDeep k) (BadSyntax j) w a (inr x) b =
@@ -125,10 +125,10 @@ one_reason front ps rest at (TooDeep k) (BadSyntax j) w a (inr x) b =
     let G : Piece × List ℕ → Type 0 = λ y. Goes (tokens front (ps ++ y.0 ∷ [])) in
     absurd (x.2 (subst G e w.2))
 one_reason front ps rest at (TooDeep k) (TooDeep j) w a x b = ap TooDeep (a ∙ sym b)
-one_reason front ps rest at (Spelled t) (BadEscape k) w a x b =
+one_reason front ps rest at (Statement t) (BadEscape k) w a x b =
     let N : Tree → Type 0 = λ v. IsNewer v.children in
     absurd (not_both (tokens front ps) k x.5 (w.3 (subst N (one_statement (tokens front ps) x.1 t x.2 w.1) x.4)))
-one_reason front ps rest at (BadEscape k) (Spelled t) w a x b =
+one_reason front ps rest at (BadEscape k) (Statement t) w a x b =
     let N : Tree → Type 0 = λ v. IsNewer v.children in
     absurd (not_both (tokens front ps) k w.5 (x.3 (subst N (one_statement (tokens front ps) w.1 t w.2 x.1) w.4)))
 one_reason front ps rest at (BadToken k) (BadEscape j) w a x b = absurd (w.0 x.0)
@@ -167,12 +167,12 @@ one_outcome front text o u c d =
           ]
     ]
 
-pub spelled_same : (s t : Tree) → Spelled s ≡ Spelled t → s ≡ t
+pub spelled_same : (s t : Tree) → Statement s ≡ Statement t → s ≡ t
 spelled_same s t e = cc
 
 -- an outcome has one refusal at most
 pub one_refusal : (text : List ℕ) (o : Outcome) (q r : Refusal) → IsRefusalOf text o q → IsRefusalOf text o r → q ≡ r
-one_refusal text (Spelled t) q r e f = absurd e
+one_refusal text (Statement t) q r e f = absurd e
 one_refusal text (BadToken at) q r e f = e ∙ sym f
 one_refusal text (BadSyntax at) q r e f = e ∙ sym f
 one_refusal text (TooDeep at) q r e f = e ∙ sym f
@@ -180,17 +180,17 @@ one_refusal text (BadEscape at) q r e f = e ∙ sym f
 
 -- what a text comes to is answered
 pub only_spelled : (text : List ℕ) (answer : Result Tree Stop) → Comes text answer → (t : Tree) → IsSpelled text t → (answer ≡ Ok t) ⊎ (answer ≡ Err NoMemory)
-only_spelled text (Ok s) c t d = inl (ap Ok (spelled_same s t (one_outcome _ _ (Spelled s) (Spelled t) c d)))
+only_spelled text (Ok s) c t d = inl (ap Ok (spelled_same s t (one_outcome _ _ (Statement s) (Statement t) c d)))
 only_spelled text (Err (Fault r)) c t d =
     let P : Outcome → Type 0 = λ x. IsRefusalOf text x r in
-    absurd (subst P (one_outcome _ _ c.0 (Spelled t) c.1 d) c.2)
+    absurd (subst P (one_outcome _ _ c.0 (Statement t) c.1 d) c.2)
 only_spelled text (Err PatternBuild) c t d = absurd c
 only_spelled text (Err NoMemory) c t d = inr refl
 
 pub only_refused : (text : List ℕ) (answer : Result Tree Stop) → Comes text answer → (r : Refusal) → IsRefused text r → (answer ≡ Err (Fault r)) ⊎ (answer ≡ Err NoMemory)
 only_refused text (Ok s) c r d =
     let P : Outcome → Type 0 = λ x. IsRefusalOf text x r in
-    absurd (subst P (one_outcome _ _ d.0 (Spelled s) d.1 c) d.2)
+    absurd (subst P (one_outcome _ _ d.0 (Statement s) d.1 c) d.2)
 only_refused text (Err (Fault q)) c r d =
     let P : Outcome → Type 0 = λ x. IsRefusalOf text x q in
     inl (ap (λ (x : Refusal). Err (Fault x)) (one_refusal text d.0 q r (subst P (one_outcome _ _ c.0 d.0 c.1 d.1) c.2) d.2))

@@ -1,7 +1,7 @@
 -- How far a scan goes, place by place.
 use Rattle.std.proofs.Common.{◌≡◌, ◌≢◌, ℕ, zero, suc, ◌+◌, ◌<◌, ◌≤◌, Option, subst, Bool, true, false, cond, ◌==◌, List, [], ◌∷◌, ◌++◌, length, drop, get_or, refl, sym, ◌∙◌, ap, arith, drop-cons, add-one, Some, None, length-append}
-use Rattle.yv_source.specs.Pieces.{Piece, begins, begins_two, until, up_to_quote, Before, Apart, Unquoted, Quoted}
-use Rattle.yv_source.specs.Inner.Scan.{First, tail, closed, closed_by_two, unless_unquoted, is_unquoted, begins_mark, ends_comment, pair_len}
+use Rattle.yv_source.specs.Pieces.{Piece, begins, begins_two, until, up_to_quote, Before, Apart, UnquotedWord, QuotedText}
+use Rattle.yv_source.specs.Inner.Scan.{First, tail, closed_piece, closed_by_two, unless_unquoted, is_unquoted, begins_mark, ends_comment, pair_len}
 use Rattle.yv_source.proofs.Accepts.{append_nil}
 use Rattle.yv_source.proofs.Keyword.{false_true}
 use Rattle.std.proofs.lemmas.Bool.Decides.{eqb_tells}
@@ -46,11 +46,11 @@ give_quoted-kept xs i h e inv =
     rw add-one (omega (arith, inv, m))
 
 -- a text that is closed, or not
-pub closed_none : (p : Piece) (inner after rest : List ℕ) → inner ++ after ≡ rest → length inner ≡ length rest → closed p after ≡ None
+pub closed_none : (p : Piece) (inner after rest : List ℕ) → inner ++ after ≡ rest → length inner ≡ length rest → closed_piece p after ≡ None
 closed_none p inner [] rest w e = refl
 closed_none p inner (b ∷ after) rest w e = absurd (let n = ap length w in omega (arith, e, n, length-append inner (b ∷ after)))
 
-pub closed_some : (p : Piece) (inner after rest : List ℕ) → inner ++ after ≡ rest → length inner ≢ length rest → (more : List ℕ) × (closed p after ≡ Some (p, more))
+pub closed_some : (p : Piece) (inner after rest : List ℕ) → inner ++ after ≡ rest → length inner ≢ length rest → (more : List ℕ) × (closed_piece p after ≡ Some (p, more))
 closed_some p inner [] rest w e = absurd (e (ap length (sym (append_nil inner)) ∙ ap length w))
 closed_some p inner (b ∷ after) rest w e = (after, refl)
 
@@ -64,18 +64,18 @@ closed_by_two_some p inner (b ∷ after) rest w e = (tail after, refl)
 
 pub unless_none : (before : Before) → unless_unquoted before None ≡ None
 unless_none Apart = refl
-unless_none Unquoted = refl
-unless_none Quoted = refl
+unless_none UnquotedWord = refl
+unless_none QuotedText = refl
 
 pub unless_apart : (before : Before) (f : First) → is_unquoted before ≡ false → unless_unquoted before f ≡ f
 unless_apart Apart f e = refl
-unless_apart Unquoted f e = absurd (false_true (sym e))
-unless_apart Quoted f e = refl
+unless_apart UnquotedWord f e = absurd (false_true (sym e))
+unless_apart QuotedText f e = refl
 
 pub unless_inside : (before : Before) (f : First) → is_unquoted before ≡ true → unless_unquoted before f ≡ None
 unless_inside Apart f e = absurd (false_true e)
-unless_inside Unquoted f e = refl
-unless_inside Quoted f e = absurd (false_true e)
+unless_inside UnquotedWord f e = refl
+unless_inside QuotedText f e = absurd (false_true e)
 
 pub not_equal : (a b : ℕ) → (a ≡ b → ⊥) → (a == b) ≡ false
 not_equal a b n = elim (eqb_tells a b) [ inl e ↦ absurd (n e.1) | inr e ↦ e.0 ]

@@ -4,10 +4,10 @@ use Rattle.std.proofs.lemmas.Bool.{cases_Bool}
 use Rattle.yv_statement.specs.Tree.{Tree}
 use Rattle.yv_source.specs.Pieces.{Piece, Blank, LineComment, BlockComment, Word, Single, Double, Semicolon, Open, Close, Plus, Token}
 use Rattle.yv_source.specs.Grammar.{SpellsOne, depth, Goes, GoesWithin}
-use Rattle.yv_source.specs.Inner.Machine.{is_keyword, Step, Next, Wrong, Deep, leaf, finish, start, close, between, give_word, give_quoted, argued, said, joined, named, step, run}
-use Rattle.yv_statement.specs.Building.{push_child}
+use Rattle.yv_source.specs.Inner.Machine.{is_keyword, Step, Next, Wrong, Deep, leaf, finish, start, close, between, give_word, give_quoted, after_argument, after_quoted, after_plus, after_keyword, step, run_tokens}
+use Rattle.yv_statement.specs.Builder.{push_child}
 use Rattle.yv_source.specs.Place.{column_of}
-use Rattle.yv_source.specs.Quoted.{quoted}
+use Rattle.yv_source.specs.Quotes.{quoted_value}
 use Rattle.yv_source.specs.declared.machine.Phase.{Phase}
 use Rattle.yv_source.specs.declared.machine.Phase.TheVariants.{Between, Named, Argued, Said, Joined, Done}
 use Rattle.yv_source.proofs.Accepts.{accepts}
@@ -19,14 +19,14 @@ fresh = Next [] Between
 
 -- the machine stands so behind these tokens
 pub record Stands (ts : List Token) (stack : List Tree) (phase : Phase) : Type 0 where
-  pub runs : run 64 fresh ts ≡ Next stack phase
+  pub runs : run_tokens 64 fresh ts ≡ Next stack phase
 
-pub behind_all : (limit : ℕ) (ts : List Token) (stack : List Tree) (phase : Phase) → run limit fresh ts ≡ Next stack phase → Behind phase stack ts
+pub behind_all : (limit : ℕ) (ts : List Token) (stack : List Tree) (phase : Phase) → run_tokens limit fresh ts ≡ Next stack phase → Behind phase stack ts
 behind_all limit ts stack phase e =
     let P : Step → Type 0 = λ s. BehindStep s ts in
     subst P e (run_keeps limit fresh [] ts refl)
 
-fits_all : (limit : ℕ) (ts : List Token) (stack : List Tree) (phase : Phase) → run limit fresh ts ≡ Next stack phase → Fits limit stack
+fits_all : (limit : ℕ) (ts : List Token) (stack : List Tree) (phase : Phase) → run_tokens limit fresh ts ≡ Next stack phase → Fits limit stack
 fits_all limit ts stack phase e =
     let P : Step → Type 0 = λ s. FitsStep limit s in
     subst P e (run_fits limit fresh ts tt)
@@ -75,16 +75,16 @@ step_agrees l m stack Said t le = inl refl
 step_agrees l m stack Joined t le = inl refl
 step_agrees l m stack Done t le = inl refl
 
-runs_agree : (l m : ℕ) (s : Step) (ts : List Token) → l ≤ m → (run l s ts ≡ run m s ts) ⊎ (run l s ts ≡ Deep)
+runs_agree : (l m : ℕ) (s : Step) (ts : List Token) → l ≤ m → (run_tokens l s ts ≡ run_tokens m s ts) ⊎ (run_tokens l s ts ≡ Deep)
 runs_agree l m s [] le = inl refl
 runs_agree l m (Next stack phase) (t ∷ ts) le =
     elim (step_agrees l m stack phase t le) [
       | inl e ↦
           elim (runs_agree l m (step l stack phase t) ts le) [
-            | inl f ↦ inl (f ∙ ap (λ s. run m s ts) e)
+            | inl f ↦ inl (f ∙ ap (λ s. run_tokens m s ts) e)
             | inr f ↦ inr f
           ]
-      | inr e ↦ inr (ap (λ s. run l s ts) e ∙ run_deep l ts)
+      | inr e ↦ inr (ap (λ s. run_tokens l s ts) e ∙ run_deep l ts)
     ]
 runs_agree l m Wrong (t ∷ ts) le = inl refl
 runs_agree l m Deep (t ∷ ts) le = inl refl
@@ -99,16 +99,16 @@ wrong_deep : Wrong ≡ Deep → ⊥
 wrong_deep e = cc
 
 -- the run over one more token, and more
-run_on : (l : ℕ) (ts : List Token) (stack : List Tree) (phase : Phase) (t : Token) (more : List Token) → run l fresh ts ≡ Next stack phase → run l fresh ((ts ++ t ∷ []) ++ more) ≡ run l (step l stack phase t) more
+run_on : (l : ℕ) (ts : List Token) (stack : List Tree) (phase : Phase) (t : Token) (more : List Token) → run_tokens l fresh ts ≡ Next stack phase → run_tokens l fresh ((ts ++ t ∷ []) ++ more) ≡ run_tokens l (step l stack phase t) more
 run_on l ts stack phase t more e =
     run-append l fresh (ts ++ t ∷ []) more
-    ∙ ap (λ s. run l s more) (run-append l fresh ts (t ∷ []) ∙ ap (λ s. run l s (t ∷ [])) e)
+    ∙ ap (λ s. run_tokens l s more) (run-append l fresh ts (t ∷ []) ∙ ap (λ s. run_tokens l s (t ∷ [])) e)
 
 pub goes_no_further : (ts : List Token) (stack : List Tree) (phase : Phase) (t : Token) → Stands ts stack phase → step 64 stack phase t ≡ Wrong → Goes (ts ++ t ∷ []) → ⊥
 goes_no_further ts stack phase t s e (u, more, spells) =
     let m : ℕ = 64 + (depth u.children + 1) in
     let whole = accepts m u ((ts ++ t ∷ []) ++ more) spells (omega arith) in
-    let here : run 64 fresh ((ts ++ t ∷ []) ++ more) ≡ Wrong = run_on 64 ts stack phase t more s.runs ∙ ap (λ x. run 64 x more) e ∙ run_wrong 64 more in
+    let here : run_tokens 64 fresh ((ts ++ t ∷ []) ++ more) ≡ Wrong = run_on 64 ts stack phase t more s.runs ∙ ap (λ x. run_tokens 64 x more) e ∙ run_wrong 64 more in
     elim (runs_agree 64 m fresh ((ts ++ t ∷ []) ++ more) (omega arith)) [
       | inl f ↦ wrong_next (u ∷ []) Done (sym here ∙ f ∙ whole)
       | inr f ↦ wrong_deep (sym here ∙ f)
@@ -117,7 +117,7 @@ goes_no_further ts stack phase t s e (u, more, spells) =
 pub goes_too_deep : (ts : List Token) (stack : List Tree) (phase : Phase) (t : Token) → Stands ts stack phase → step 64 stack phase t ≡ Deep → GoesWithin 64 (ts ++ t ∷ []) → ⊥
 goes_too_deep ts stack phase t s e (u, more, spells, d) =
     let whole = accepts 64 u ((ts ++ t ∷ []) ++ more) spells d in
-    let here : run 64 fresh ((ts ++ t ∷ []) ++ more) ≡ Deep = run_on 64 ts stack phase t more s.runs ∙ ap (λ x. run 64 x more) e ∙ run_deep 64 more in
+    let here : run_tokens 64 fresh ((ts ++ t ∷ []) ++ more) ≡ Deep = run_on 64 ts stack phase t more s.runs ∙ ap (λ x. run_tokens 64 x more) e ∙ run_deep 64 more in
     deep_next (u ∷ []) Done (sym here ∙ whole)
 
 -- where only the limit refuses
@@ -136,7 +136,7 @@ give_not_deep : (text : List ℕ) (stack : List Tree) → give_word text stack �
 give_not_deep text [] e = wrong_deep e
 give_not_deep text (t ∷ below) e = deep_next _ Argued (sym e)
 
-argued_not_deep : (stack : List Tree) (p : Piece) → argued stack p ≡ Deep → ⊥
+argued_not_deep : (stack : List Tree) (p : Piece) → after_argument stack p ≡ Deep → ⊥
 argued_not_deep stack Semicolon e = close_not_deep stack e
 argued_not_deep stack Open e = deep_next stack Between (sym e)
 argued_not_deep stack Close e = wrong_deep e
@@ -152,19 +152,19 @@ quote_not_deep : (text : List ℕ) (stack : List Tree) → give_quoted text stac
 quote_not_deep text [] e = wrong_deep e
 quote_not_deep text (t ∷ below) e = deep_next _ Said (sym e)
 
-named_not_deep : (column : ℕ) (stack : List Tree) (p : Piece) → named column stack p ≡ Deep → ⊥
+named_not_deep : (column : ℕ) (stack : List Tree) (p : Piece) → after_keyword column stack p ≡ Deep → ⊥
 named_not_deep column stack Semicolon e = close_not_deep stack e
 named_not_deep column stack Open e = deep_next stack Between (sym e)
 named_not_deep column stack Close e = wrong_deep e
 named_not_deep column stack Plus e = wrong_deep e
 named_not_deep column stack (Word w) e = give_not_deep w stack e
 named_not_deep column stack (Single w) e = quote_not_deep w stack e
-named_not_deep column stack (Double w) e = quote_not_deep (quoted column w) stack e
+named_not_deep column stack (Double w) e = quote_not_deep (quoted_value column w) stack e
 named_not_deep column stack (Blank b) e = wrong_deep e
 named_not_deep column stack (LineComment b) e = wrong_deep e
 named_not_deep column stack (BlockComment b) e = wrong_deep e
 
-said_not_deep : (stack : List Tree) (p : Piece) → said stack p ≡ Deep → ⊥
+said_not_deep : (stack : List Tree) (p : Piece) → after_quoted stack p ≡ Deep → ⊥
 said_not_deep stack Semicolon e = close_not_deep stack e
 said_not_deep stack Open e = deep_next stack Between (sym e)
 said_not_deep stack Close e = wrong_deep e
@@ -176,14 +176,14 @@ said_not_deep stack (Blank b) e = wrong_deep e
 said_not_deep stack (LineComment b) e = wrong_deep e
 said_not_deep stack (BlockComment b) e = wrong_deep e
 
-joined_not_deep : (column : ℕ) (stack : List Tree) (p : Piece) → joined column stack p ≡ Deep → ⊥
+joined_not_deep : (column : ℕ) (stack : List Tree) (p : Piece) → after_plus column stack p ≡ Deep → ⊥
 joined_not_deep column stack Semicolon e = wrong_deep e
 joined_not_deep column stack Open e = wrong_deep e
 joined_not_deep column stack Close e = wrong_deep e
 joined_not_deep column stack Plus e = wrong_deep e
 joined_not_deep column stack (Word w) e = wrong_deep e
 joined_not_deep column stack (Single w) e = quote_not_deep w stack e
-joined_not_deep column stack (Double w) e = quote_not_deep (quoted column w) stack e
+joined_not_deep column stack (Double w) e = quote_not_deep (quoted_value column w) stack e
 joined_not_deep column stack (Blank b) e = wrong_deep e
 joined_not_deep column stack (LineComment b) e = wrong_deep e
 joined_not_deep column stack (BlockComment b) e = wrong_deep e
@@ -227,15 +227,15 @@ fits_length l (t ∷ below) (d, rest) = omega (arith, d)
 
 pub deep_goes : (ts : List Token) (stack : List Tree) (phase : Phase) (t : Token) → Stands ts stack phase → step 64 stack phase t ≡ Deep → Goes (ts ++ t ∷ [])
 deep_goes ts stack phase t s e =
-    let long : run 65 fresh ts ≡ Next stack phase =
+    let long : run_tokens 65 fresh ts ≡ Next stack phase =
     elim (runs_agree 64 65 fresh ts (omega arith)) [
       | inl f ↦ sym f ∙ s.runs
       | inr f ↦ absurd (deep_next stack phase (sym f ∙ s.runs))
     ]
     in
     let one = step_one_more 64 stack phase t (fits_length 64 stack (fits_all 64 ts stack phase s.runs)) e in
-    let all : run 65 fresh (ts ++ t ∷ []) ≡ Next one.0 one.1 =
-    run-append 65 fresh ts (t ∷ []) ∙ ap (λ x. run 65 x (t ∷ [])) long ∙ one.2
+    let all : run_tokens 65 fresh (ts ++ t ∷ []) ≡ Next one.0 one.1 =
+    run-append 65 fresh ts (t ∷ []) ∙ ap (λ x. run_tokens 65 x (t ∷ [])) long ∙ one.2
     in
     let g = begins_statement 65 one.0 one.1 (ts ++ t ∷ []) (omega arith) (behind_all 65 (ts ++ t ∷ []) one.0 one.1 all) (fits_all 65 (ts ++ t ∷ []) one.0 one.1 all) in
     (g.0, g.1, g.2)

@@ -5,13 +5,13 @@ use Rattle.std.specs.Char.{encode_utf8}
 use Rattle.std.proofs.lemmas.Bool.{eqb-true, or_cases}
 use Rattle.std.proofs.lemmas.Str.{encodes-append, encode_ascii}
 use Rattle.yv_source.specs.Pieces.{begins}
-use Rattle.yv_source.specs.Quoted.{is_gap, spaces, unindented, onto_first, lines_of, all_unindented, but_the_first, breaks, without_trailing, escape, unescaped}
-use Rattle.yv_source.specs.Inner.Writing.{Written, escape_bytes, put, gap_bytes, is_behind, flush, without_gap, with_gap, with_left, keep, keep_plain, keep_spaces, settle, take_in, trail, all_of}
+use Rattle.yv_source.specs.Quotes.{is_gap, spaces, unindent, onto_first, lines_of, all_unindented, but_the_first, breaks, without_trailing, escape, unescape}
+use Rattle.yv_source.specs.Inner.Writer.{WriterState, escape_bytes, put_character, gap_bytes, is_behind, flush, without_gap, with_gap, with_left, keep, keep_plain, keep_spaces, settle, take_in, trail, all_of}
 use Rattle.yv_source.proofs.Accepts.{append_nil}
 
 -- the bytes of a text with its escapes read
 abbrev pub read : Bool → List ℕ → List ℕ
-read e t = encode_utf8_all (unescaped e t)
+read e t = encode_utf8_all (unescape e t)
 
 abbrev put_out : Bool → ℕ → List ℕ
 put_out e c = cond e (escape_bytes c) (cond (c == 92) [] (encode_utf8 c))
@@ -29,13 +29,13 @@ escape_bytes_is c =
     (escape_by c (c == 116) _ _ _ _ (append_nil (encode_utf8 9))
     (escape_by c (c == 34 || c == 92) _ _ _ _ (append_nil (encode_utf8 c)) (ap (λ l. encode_utf8 92 ++ l) (append_nil (encode_utf8 c)))))
 
-plain_puts : (v : Bool) (c : ℕ) (t : List ℕ) → cond v [] (encode_utf8 c) ++ read v t ≡ encode_utf8_all (cond v (unescaped true t) (c ∷ unescaped false t))
+plain_puts : (v : Bool) (c : ℕ) (t : List ℕ) → cond v [] (encode_utf8 c) ++ read v t ≡ encode_utf8_all (cond v (unescape true t) (c ∷ unescape false t))
 plain_puts true c t = refl
 plain_puts false c t = refl
 
 puts : (e : Bool) (c : ℕ) (t : List ℕ) → put_out e c ++ read (put_next e c) t ≡ read e (c ∷ t)
 puts false c t = plain_puts (c == 92) c t
-puts true c t = ap (λ l. l ++ read false t) (sym (escape_bytes_is c)) ∙ sym (encodes-append (escape c) (unescaped false t))
+puts true c t = ap (λ l. l ++ read false t) (sym (escape_bytes_is c)) ∙ sym (encodes-append (escape c) (unescape false t))
 
 -- spaces and tabs
 abbrev IsGap : ℕ → Type 0
@@ -102,15 +102,15 @@ abbrev pub crs : Bool → List ℕ
 crs true = 13 ∷ []
 crs false = []
 
-abbrev pub value : Written → List ℕ → List ℕ
+abbrev pub value : WriterState → List ℕ → List ℕ
 value w t = w.out ++ read w.escaped (without_trailing (w.gap ++ (crs w.cr ++ t)))
 
-record Keeps (c : ℕ) (w x : Written) : Type 0 where
+record Keeps (c : ℕ) (w x : WriterState) : Type 0 where
   gap : AllGap x.gap
   left : x.left ≡ w.left
   says : (t : List ℕ) → value x t ≡ value w (c ∷ t)
 
-by_cond : (P : Written → Type 0) (b : Bool) (x y : Written) → (b ≡ true → P x) → (b ≡ false → P y) → P (cond b x y)
+by_cond : (P : WriterState → Type 0) (b : Bool) (x y : WriterState) → (b ≡ true → P x) → (b ≡ false → P y) → P (cond b x y)
 by_cond P true x y f g = f refl
 by_cond P false x y f g = g refl
 
@@ -123,10 +123,10 @@ out_on out a e c t u h =
 out_one : (out : List ℕ) (e : Bool) (c : ℕ) (t : List ℕ) → (out ++ put_out e c) ++ read (put_next e c) t ≡ out ++ read e (c ∷ t)
 out_one out e c t = append_assoc out (put_out e c) (read (put_next e c) t) ∙ ap (λ l. out ++ l) (puts e c t)
 
-no_cr : (w : Written) (t : List ℕ) → w.cr ≡ false → value w t ≡ w.out ++ read w.escaped (without_trailing (w.gap ++ t))
+no_cr : (w : WriterState) (t : List ℕ) → w.cr ≡ false → value w t ≡ w.out ++ read w.escaped (without_trailing (w.gap ++ t))
 no_cr w t e = ap (λ v. w.out ++ read w.escaped (without_trailing (w.gap ++ (crs v ++ t)))) e
 
-a_cr : (w : Written) (t : List ℕ) → w.cr ≡ true → value w t ≡ w.out ++ read w.escaped (without_trailing (w.gap ++ 13 ∷ t))
+a_cr : (w : WriterState) (t : List ℕ) → w.cr ≡ true → value w t ≡ w.out ++ read w.escaped (without_trailing (w.gap ++ 13 ∷ t))
 a_cr w t e = ap (λ v. w.out ++ read w.escaped (without_trailing (w.gap ++ (crs v ++ t)))) e
 
 -- a character that is no blank and no part of a line break
@@ -137,7 +137,7 @@ other_breaks c t g r l =
 pub other_stays : (c : ℕ) (t : List ℕ) → is_gap c ≡ false → without_trailing (c ∷ t) ≡ c ∷ without_trailing t
 other_stays c t g = ap (λ v. cond (v && breaks t) (without_trailing t) (c ∷ without_trailing t)) g
 
-keeps_plain : (c : ℕ) (w : Written) → AllGap w.gap → w.cr ≡ false → Keeps c w (keep_plain c w)
+keeps_plain : (c : ℕ) (w : WriterState) → AllGap w.gap → w.cr ≡ false → Keeps c w (keep_plain c w)
 keeps_plain c w h e =
     by_cond (Keeps c w) (is_gap c) _ _
     (λ g. let gap = is_gap_means c g in
@@ -159,7 +159,7 @@ keeps_plain c w h e =
       gap = tt;
       left = refl;
       says = λ t.
-          no_cr (put 10 (without_gap w)) t e
+          no_cr (put_character 10 (without_gap w)) t e
           ∙ out_one w.out w.escaped 10 (without_trailing t)
           ∙ ap (λ x. w.out ++ read w.escaped x) (sym (gaps_go w.gap (10 ∷ t) h refl))
           ∙ ap (λ x. w.out ++ read w.escaped (without_trailing (w.gap ++ x ∷ t))) (sym (eqb-true c 10 l))
@@ -169,18 +169,18 @@ keeps_plain c w h e =
       gap = tt;
       left = refl;
       says = λ t.
-          no_cr (put c (flush w)) t e
+          no_cr (put_character c (flush w)) t e
           ∙ out_on w.out (gap_bytes w.escaped w.gap) (is_behind w.escaped w.gap) c (without_trailing t) _ (flushes w.escaped w.gap (c ∷ without_trailing t) h)
           ∙ ap (λ x. w.out ++ read w.escaped x) (sym (gaps_stay w.gap (c ∷ t) h (other_breaks c t g r l) ∙ ap (λ x. w.gap ++ x) (other_stays c t g)))
           ∙ sym (no_cr w (c ∷ t) e);
     })))
 
-settles : (w : Written) (t : List ℕ) → AllGap w.gap → begins 10 t ≡ false → value (settle w) t ≡ w.out ++ read w.escaped (without_trailing (w.gap ++ 13 ∷ t))
+settles : (w : WriterState) (t : List ℕ) → AllGap w.gap → begins 10 t ≡ false → value (settle w) t ≡ w.out ++ read w.escaped (without_trailing (w.gap ++ 13 ∷ t))
 settles w t h b =
     out_on w.out (gap_bytes w.escaped w.gap) (is_behind w.escaped w.gap) 13 (without_trailing t) _ (flushes w.escaped w.gap (13 ∷ without_trailing t) h)
     ∙ ap (λ x. w.out ++ read w.escaped x) (sym (gaps_stay w.gap (13 ∷ t) h (ap (λ v. v || false) b)))
 
-keeps : (c : ℕ) (w : Written) → AllGap w.gap → Keeps c w (keep c w)
+keeps : (c : ℕ) (w : WriterState) → AllGap w.gap → Keeps c w (keep c w)
 keeps c w h =
     by_cond (Keeps c w) w.cr _ _
     (λ e. by_cond (Keeps c w) (c == 10) _ _
@@ -203,12 +203,12 @@ keeps c w h =
     (λ e. keeps_plain c w h e)
 
 -- spaces
-record Spaced (n : ℕ) (w x : Written) : Type 0 where
+record Spaced (n : ℕ) (w x : WriterState) : Type 0 where
   gap : AllGap x.gap
   left : x.left ≡ w.left
   says : (t : List ℕ) → value x t ≡ value w (spaces n ++ t)
 
-spaced : (n : ℕ) (w : Written) → AllGap w.gap → Spaced n w (keep_spaces n w)
+spaced : (n : ℕ) (w : WriterState) → AllGap w.gap → Spaced n w (keep_spaces n w)
 spaced zero w h = record { gap = h; left = refl; says = λ t. refl }
 spaced (suc n) w h =
     let k = keeps 32 w h in
@@ -225,22 +225,22 @@ lead n left (c ∷ rest) =
     (cond (c == 9) (spaces (8 - left) ++ lead n (left - 8) rest)
     (c ∷ lead n 0 rest))))
 
-pub record Leads (indent c : ℕ) (t : List ℕ) (w x : Written) (u : List ℕ) : Type 0 where
+pub record Leads (indent c : ℕ) (t : List ℕ) (w x : WriterState) (u : List ℕ) : Type 0 where
   pub gap : AllGap x.gap
   pub says : value x (lead indent x.left t) ≡ value w u
 
 -- both sides of one choice
-by_both : (P : Written → List ℕ → Type 0) (b : Bool) (x y : Written) (u v : List ℕ) → (b ≡ true → P x u) → (b ≡ false → P y v) → P (cond b x y) (cond b u v)
+by_both : (P : WriterState → List ℕ → Type 0) (b : Bool) (x y : WriterState) (u v : List ℕ) → (b ≡ true → P x u) → (b ≡ false → P y v) → P (cond b x y) (cond b u v)
 by_both P true x y u v f g = f refl
 by_both P false x y u v f g = g refl
 
-led : (indent c : ℕ) (t : List ℕ) (w x : Written) (n : ℕ) → x.left ≡ n → Keeps c w x → Leads indent c t w x (c ∷ lead indent n t)
+led : (indent c : ℕ) (t : List ℕ) (w x : WriterState) (n : ℕ) → x.left ≡ n → Keeps c w x → Leads indent c t w x (c ∷ lead indent n t)
 led indent c t w x n e k =
     record { gap = k.gap; says = ap (λ m. value x (lead indent m t)) e ∙ k.says (lead indent n t) }
 
-pub takes : (indent c : ℕ) (t : List ℕ) (w : Written) → AllGap w.gap → Leads indent c t w (take_in indent c w) (lead indent w.left (c ∷ t))
+pub takes : (indent c : ℕ) (t : List ℕ) (w : WriterState) → AllGap w.gap → Leads indent c t w (take_in indent c w) (lead indent w.left (c ∷ t))
 takes indent c t w h =
-    let P : Written → List ℕ → Type 0 = λ x u. Leads indent c t w x u in
+    let P : WriterState → List ℕ → Type 0 = λ x u. Leads indent c t w x u in
     by_both P (c == 10) _ _ _ _
     (λ e.
     let k = keeps 10 w h in
@@ -262,7 +262,7 @@ rest_of : (b : Bool) → cond b (encode_utf8 92) [] ≡ read b []
 rest_of true = sym (append_nil (encode_utf8 92))
 rest_of false = refl
 
-ends_flushed : (w : Written) → AllGap w.gap → w.cr ≡ false → all_of (flush w) ≡ value w []
+ends_flushed : (w : WriterState) → AllGap w.gap → w.cr ≡ false → all_of (flush w) ≡ value w []
 ends_flushed w h e =
     append_assoc w.out (gap_bytes w.escaped w.gap) (cond (is_behind w.escaped w.gap) (encode_utf8 92) [])
     ∙ ap (λ l. w.out ++ (gap_bytes w.escaped w.gap ++ l)) (rest_of (is_behind w.escaped w.gap))
@@ -270,9 +270,9 @@ ends_flushed w h e =
     ∙ ap (λ l. w.out ++ read w.escaped l) (sym (gaps_stay w.gap [] h refl))
     ∙ sym (no_cr w [] e)
 
-pub ends : (w : Written) → AllGap w.gap → all_of (trail w) ≡ value w []
+pub ends : (w : WriterState) → AllGap w.gap → all_of (trail w) ≡ value w []
 ends w h =
-    let P : Written → Type 0 = λ x. all_of (flush x) ≡ value w [] in
+    let P : WriterState → Type 0 = λ x. all_of (flush x) ≡ value w [] in
     by_cond P w.cr (settle w) w
     (λ e. ends_flushed (settle w) tt refl ∙ settles w [] h refl ∙ sym (a_cr w [] e))
     (λ e. ends_flushed w h e)
@@ -280,20 +280,20 @@ ends w h =
 -- lines
 abbrev first_unindented : ℕ → ℕ → List (List ℕ) → List ℕ
 first_unindented n left [] = []
-first_unindented n left (line ∷ others) = unindented left line ++ all_unindented n others
+first_unindented n left (line ∷ others) = unindent left line ++ all_unindented n others
 
-unindented_none : (line : List ℕ) → unindented 0 line ≡ line
+unindented_none : (line : List ℕ) → unindent 0 line ≡ line
 unindented_none [] = refl
 unindented_none (c ∷ line) = refl
 
-onto_line : (c left : ℕ) (line others : List ℕ) (r : ℕ → List ℕ) → ((m : ℕ) → r m ≡ unindented m line ++ others) → (x y z : Bool) → (x ≡ true → left ≡ 0)
+onto_line : (c left : ℕ) (line others : List ℕ) (r : ℕ → List ℕ) → ((m : ℕ) → r m ≡ unindent m line ++ others) → (x y z : Bool) → (x ≡ true → left ≡ 0)
     → cond x (c ∷ r left) (cond y (r (left - 1)) (cond z (spaces (8 - left) ++ r (left - 8)) (c ∷ r 0)))
-    ≡ cond x (c ∷ line) (cond y (unindented (left - 1) line) (cond z (spaces (8 - left) ++ unindented (left - 8) line) (c ∷ line))) ++ others
+    ≡ cond x (c ∷ line) (cond y (unindent (left - 1) line) (cond z (spaces (8 - left) ++ unindent (left - 8) line) (c ∷ line))) ++ others
 onto_line c left line others r h true y z e =
-    ap (λ l. c ∷ l) (h left ∙ ap (λ n. unindented n line ++ others) (e refl) ∙ ap (λ l. l ++ others) (unindented_none line))
+    ap (λ l. c ∷ l) (h left ∙ ap (λ n. unindent n line ++ others) (e refl) ∙ ap (λ l. l ++ others) (unindented_none line))
 onto_line c left line others r h false true z e = h (left - 1)
 onto_line c left line others r h false false true e =
-    ap (λ l. spaces (8 - left) ++ l) (h (left - 8)) ∙ sym (append_assoc (spaces (8 - left)) (unindented (left - 8) line) others)
+    ap (λ l. spaces (8 - left) ++ l) (h (left - 8)) ∙ sym (append_assoc (spaces (8 - left)) (unindent (left - 8) line) others)
 onto_line c left line others r h false false false e =
     ap (λ l. c ∷ l) (h 0 ∙ ap (λ l. l ++ others) (unindented_none line))
 
@@ -320,7 +320,7 @@ lead_lines n [] left = refl
 lead_lines n (c ∷ t) left =
     by_choice (c == 10) _ _ (first_unindented n left) _ _
     (λ e.
-    let P : ℕ → Type 0 = λ x. x ∷ lead n n t ≡ unindented left (x ∷ []) ++ all_unindented n (lines_of t) in
+    let P : ℕ → Type 0 = λ x. x ∷ lead n n t ≡ unindent left (x ∷ []) ++ all_unindented n (lines_of t) in
     subst P (sym (eqb-true c 10 e))
     (ap (λ l. 10 ∷ l) (lead_lines n t n ∙ next_lines n (lines_of t)) ∙ ap (λ l. l ++ all_unindented n (lines_of t)) (sym (break_stays (left == 0)))))
     (λ e. onto_lines n c left (lines_of t) (λ m. lead n m t) (λ m. lead_lines n t m))

@@ -24,7 +24,7 @@ IsBadFile bytes r =
 
 -- the refusal of an outcome
 abbrev pub IsRefusalOf : List ℕ → Outcome → Refusal → Type 0
-IsRefusalOf text (outcome.Spelled t) r = ⊥
+IsRefusalOf text (outcome.Statement t) r = ⊥
 IsRefusalOf text (outcome.BadToken offset) r = r ≡ refusal_in text code.BadToken offset
 IsRefusalOf text (outcome.BadSyntax offset) r = r ≡ refusal_in text code.BadSyntax offset
 IsRefusalOf text (outcome.TooDeep offset) r = r ≡ refusal_in text code.TooDeep offset
@@ -32,7 +32,7 @@ IsRefusalOf text (outcome.BadEscape offset) r = r ≡ refusal_in text code.BadEs
 
 -- a text spells this statement, and nothing in it is refused
 abbrev pub IsSpelled : List ℕ → Tree → Type 0
-IsSpelled text t = TextComesTo text (outcome.Spelled t)
+IsSpelled text t = TextComesTo text (outcome.Statement t)
 
 -- a text is refused so
 abbrev pub IsRefused : List ℕ → Refusal → Type 0

@@ -2,7 +2,7 @@
 use Rattle.std.specs.Prelude.{◌≡◌, ℕ, ◌+◌, ◌≤◌, max, List, [], ◌∷◌, ◌++◌, length, Option, Some, None, ◌⊎◌}
 use Rattle.yv_statement.specs.Tree.{Head, Forest, End, Then, Tree}
 use Rattle.yv_source.specs.Place.{line_of, column_of}
-use Rattle.yv_source.specs.Quoted.{quoted}
+use Rattle.yv_source.specs.Quotes.{quoted_value}
 use Rattle.yv_source.specs.Keywords.{IsKeyword}
 use Rattle.yv_source.specs.Pieces.{Piece, Word, Single, Double, Semicolon, Open, Close, Plus, Token}
 
@@ -13,7 +13,7 @@ IsHead t h = (t.piece ≡ Word h.keyword) × IsKeyword h.keyword × (h.line ≡ 
 -- what a quoted text says that has this text in front; a single-quoted one has no escapes (section 6.1.3)
 abbrev pub Says : List ℕ → Piece → List ℕ → Type 0
 Says front (Single t) text = text ≡ t
-Says front (Double t) text = text ≡ quoted (column_of front) t
+Says front (Double t) text = text ≡ quoted_value (column_of front) t
 Says front _ text = ⊥
 
 -- what quoted texts say that are joined by +

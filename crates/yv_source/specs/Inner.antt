@@ -1,5 +1,5 @@
 -- What private clauses cite: the states and answers of the code, and no meaning of a text.
-pub mod Ending
+pub mod End
 pub mod Machine
 pub mod Pairs
 pub mod Plain
@@ -7,4 +7,4 @@ pub mod Place
 pub mod Scan
 pub mod Steps
 pub mod Turn
-pub mod Writing
+pub mod Writer

@@ -10,10 +10,12 @@ pub mod Order
 pub mod Outcome
 pub mod Pieces
 pub mod Place
-pub mod Quoted
+pub mod Quotes
 -- what private clauses alone cite
 pub mod Inner
 -- statements as trees, how they are built, and the codes of refusals
 pub use Rattle.yv_statement.specs.Tree
-pub use Rattle.yv_statement.specs.Building
+pub use Rattle.yv_statement.specs.Builder
 pub use Rattle.yv_statement.specs.Codes
+pub mod FileStatements
+pub mod Texts

@@ -8,7 +8,7 @@ use Rattle.yv_source.specs.Escapes.{IsNewer, HasNoBadPair, HasBadPair}
 
 -- what a text comes to: a statement, or a refusal at an offset
 pub data Outcome : Type 0 where
-  Spelled : Tree → Outcome
+  Statement : Tree → Outcome
   BadToken : (offset : ℕ) → Outcome
   BadSyntax : (offset : ℕ) → Outcome
   TooDeep : (offset : ℕ) → Outcome
@@ -25,7 +25,7 @@ most_deep = 64
 -- TooDeep: a piece may stand there with which its tokens begin only statements that are too deep.
 -- BadEscape: its tokens are those of a statement of a YANG 1.1 file, and their first bad pair stands at the offset.
 abbrev pub Why : List ℕ → List Piece → Before → List ℕ → Outcome → Type 0
-Why front ps before rest (Spelled t) =
+Why front ps before rest (Statement t) =
     (rest ≡ []) × SpellsOne t (tokens front ps) × (depth t.children + 1 ≤ most_deep)
     × (IsNewer t.children → HasNoBadPair (tokens front ps))
 Why front ps before rest (BadToken offset) = IsUncut before rest
@@ -41,7 +41,7 @@ Why front ps before rest (BadEscape offset) =
 
 -- an outcome's offset is that of the place where the cut ends; a bad pair has its own
 abbrev pub StandsAt : ℕ → Outcome → Type 0
-StandsAt at (Spelled t) = Unit {0}
+StandsAt at (Statement t) = Unit {0}
 StandsAt at (BadToken offset) = offset ≡ at
 StandsAt at (BadSyntax offset) = offset ≡ at
 StandsAt at (TooDeep offset) = offset ≡ at

@@ -66,23 +66,23 @@ up_to_quote false (b ∷ rest) = cond (b == double_quote) [] (b ∷ up_to_quote 
 -- and comments, or neither
 pub data Before : Type 0 where
   Apart : Before
-  Unquoted : Before
-  Quoted : Before
+  UnquotedWord : Before
+  QuotedText : Before
 
 -- what stands in front behind a blank or a comment
 abbrev pub past_gap : Before → Before
 past_gap Apart = Apart
-past_gap Unquoted = Apart
-past_gap Quoted = Quoted
+past_gap UnquotedWord = Apart
+past_gap QuotedText = QuotedText
 
 -- what stands in front behind a piece
 abbrev pub past : Before → Piece → Before
 past before (Blank b) = past_gap before
 past before (LineComment t) = past_gap before
 past before (BlockComment t) = past_gap before
-past before (Word t) = Unquoted
-past before (Single t) = Quoted
-past before (Double t) = Quoted
+past before (Word t) = UnquotedWord
+past before (Single t) = QuotedText
+past before (Double t) = QuotedText
 past before Semicolon = Apart
 past before Open = Apart
 past before Close = Apart
@@ -96,13 +96,13 @@ MayStand before (Blank b) rest = IsTrue (is_blank b)
 MayStand before (LineComment t) rest = until (begins line_feed) (t ++ rest) ≡ t
 MayStand before (BlockComment t) rest = until (begins_two asterisk slash) (t ++ asterisk ∷ slash ∷ rest) ≡ t
 MayStand before (Word t) rest =
-    (t ≢ []) × (until ends_word (t ++ rest) ≡ t) × ((before ≡ Quoted) → begins plus_sign t ≡ false)
-MayStand before (Single t) rest = (before ≢ Unquoted) × (until (begins single_quote) (t ++ single_quote ∷ rest) ≡ t)
-MayStand before (Double t) rest = (before ≢ Unquoted) × (up_to_quote false (t ++ double_quote ∷ rest) ≡ t)
+    (t ≢ []) × (until ends_word (t ++ rest) ≡ t) × ((before ≡ QuotedText) → begins plus_sign t ≡ false)
+MayStand before (Single t) rest = (before ≢ UnquotedWord) × (until (begins single_quote) (t ++ single_quote ∷ rest) ≡ t)
+MayStand before (Double t) rest = (before ≢ UnquotedWord) × (up_to_quote false (t ++ double_quote ∷ rest) ≡ t)
 MayStand before Semicolon rest = Unit {0}
 MayStand before Open rest = Unit {0}
 MayStand before Close rest = Unit {0}
-MayStand before Plus rest = before ≡ Quoted
+MayStand before Plus rest = before ≡ QuotedText
 
 -- a piece may stand at a place, and what is left of the text begins with it
 abbrev pub MayBegin : Before → List ℕ → Piece → Type 0

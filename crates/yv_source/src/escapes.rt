@@ -6,18 +6,23 @@ ghost use Rattle.yv_source.specs.Escapes.{begins_escape, is_escape};
 ghost use Rattle.yv_source.specs.Inner.Turn.{length_of};
 ghost use Rattle.yv_source.specs.Inner.Pairs.{bad_found, bad_pair, is_newer, is_version};
 
-use crate::scan::{Found, first_byte};
+use crate::scan::{FoundPiece, first_byte};
 use yv_statement::Statement;
 
 /// Where the first bad backslash pair is, of those so far and of the piece at a place.
-pub(crate) fn bad_found(bad: Option<usize>, bytes: &[u8], found: Found, at: usize) -> Option<usize>
-    requires found { at + length_of found ≤ length bytes.now }
+pub(crate) fn bad_found(
+    bad: Option<usize>,
+    bytes: &[u8],
+    found: FoundPiece,
+    at: usize,
+) -> Option<usize>
+    requires finds { at + length_of found ≤ length bytes.now }
     requires so_far { IfSome bad (λ n. n ≤ length bytes.now) }
     ensures place { result ≡ bad_found bad at found bytes.now }
     ensures within { IfSome result (λ n. n ≤ length bytes.now) }
 {
     match (bad, found) {
-        (None, Found::Double(len)) => {
+        (None, FoundPiece::Double(len)) => {
             let place = bad_pair(&bytes[at + 1..at + 1 + len])?;
             Some(at + 1 + place)
         }

@@ -4,7 +4,7 @@ ghost use Rattle.std.specs.Prelude.{◌≡◌};
 ghost use Rattle.yv_source.specs.Inner.Machine.{is_keyword};
 
 use crate::scan::first_byte;
-use yv_condition::is_identifier;
+use yv_text_if_feature::is_identifier;
 
 /// Whether the bytes are an identifier, or two joined by a colon.
 pub(crate) fn is_keyword(bytes: &[u8]) -> bool

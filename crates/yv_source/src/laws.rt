@@ -13,7 +13,7 @@ pub fn a_bad_file_is_refused_once()
 
 /// A text spells one statement at most, or is refused in one way, and not both.
 pub fn a_text_is_spelled_or_refused_once()
-    ensures spelled { (text : List ℕ) (t u : Tree) → IsSpelled text t → IsSpelled text u → t ≡ u }
-    ensures refused { (text : List ℕ) (r s : Refusal) → IsRefused text r → IsRefused text s → r ≡ s }
+    ensures spells { (text : List ℕ) (t u : Tree) → IsSpelled text t → IsSpelled text u → t ≡ u }
+    ensures refuses { (text : List ℕ) (r s : Refusal) → IsRefused text r → IsRefused text s → r ≡ s }
     ensures not_both { (text : List ℕ) (t : Tree) (r : Refusal) → IsSpelled text t → IsRefused text r → ⊥ }
 {}

@@ -2,19 +2,22 @@
 //! else what is refused first, with its offset and line.
 #![tactic(auto)]
 
+mod double_quotes;
 mod escapes;
 mod fault;
 mod identifier;
 pub mod laws;
 mod machine;
 mod place;
-mod quoted;
 mod reader;
 mod scan;
 mod source;
+mod statements;
+mod texts;
 mod turn;
 
 pub use reader::parse;
 pub use source::{MOST_BYTES, Source};
-pub use yv_conform::conform;
+pub use texts::Texts;
 pub use yv_statement::{Code, Refusal, Statement, Stop};
+pub use yv_text_grammar::conform;

@@ -2,13 +2,13 @@
 
 ghost use Rattle.std.specs.Prelude.{◌≡◌, ◌<◌, ◌^◌, IfOk, reverse, MatchResult};
 ghost use Rattle.std.specs.Cow.{cow_str_bytes};
-ghost use Rattle.yv_source.specs.Inner.Machine.{Next, step_at, between_at, start_at, named, argued, said, joined, give_word, give_quoted, close, finish};
+ghost use Rattle.yv_source.specs.Inner.Machine.{Next, step_at, between_at, start_at, after_keyword, after_argument, after_quoted, after_plus, give_word, give_quoted, close, finish};
 ghost use Rattle.yv_source.specs.Inner.Steps.{Gives, piece_of};
 ghost use Rattle.yv_source.specs.Outcome.{most_deep};
 
+use crate::double_quotes::read_quoted;
 use crate::identifier::is_keyword;
 use crate::place::Place;
-use crate::quoted::said;
 use std::alloc::{AllocError, AllocFailed, Global};
 use std::borrow::CowStr;
 use yv_statement::Statement;
@@ -96,7 +96,7 @@ pub(crate) fn step<'a>(
             give_quoted(alloc, stack, CowStr::Borrowed(text))
         }
         (Phase::Named | Phase::Joined, Token::Double(text)) => {
-            give_quoted(alloc, stack, said(alloc, text, place.column)?)
+            give_quoted(alloc, stack, read_quoted(alloc, text, place.column)?)
         }
         (Phase::Named | Phase::Argued | Phase::Said, Token::Semicolon) => close(stack),
         (Phase::Named | Phase::Argued | Phase::Said, Token::Open) => Ok(Phase::Between),

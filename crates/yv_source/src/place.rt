@@ -5,10 +5,10 @@ ghost use Rattle.yv_source.specs.Characters.{line_feed};
 ghost use Rattle.yv_source.specs.Legal.{most_bytes};
 ghost use Rattle.yv_source.specs.Place.{mark_len, columns, column_past};
 ghost use Rattle.yv_source.specs.Pieces.{is_blank};
-ghost use Rattle.yv_source.specs.Inner.Place.{passed, IsPastBlanks};
+ghost use Rattle.yv_source.specs.Inner.Place.{place_after, IsPastBlanks};
 ghost use Rattle.yv_source.specs.Inner.Turn.{length_of};
 
-use crate::scan::Found;
+use crate::scan::FoundPiece;
 use memchr::memrchr;
 
 /// A place in a text.
@@ -24,12 +24,12 @@ pub(crate) struct Place {
 
 impl Place {
     /// The place after a piece that is at this one.
-    pub(crate) fn past(self, bytes: &[u8], found: Found) -> Place
+    pub(crate) fn past(self, bytes: &[u8], found: FoundPiece) -> Place
         requires size { length bytes.now ≤ most_bytes }
         requires within { self.at + length_of found ≤ length bytes.now }
         requires line { self.line ≤ self.at + 1 }
         requires column { self.column ≤ 8 * self.at }
-        ensures { result ≡ passed self (take (length_of found) (drop self.at bytes.now)) }
+        ensures { result ≡ place_after self (take (length_of found) (drop self.at bytes.now)) }
     {
         let piece = piece_at(bytes, self.at, found.length());
         Place {
@@ -60,7 +60,7 @@ impl Place {
         requires at { self.at < 2 ^ 40 }
         requires line { self.line < 2 ^ 40 }
         requires column { self.column < 2 ^ 40 }
-        ensures { result ≡ passed self (byte ∷ []) }
+        ensures { result ≡ place_after self (byte ∷ []) }
     {
         Place {
             at: self.at + 1,

@@ -9,7 +9,7 @@ ghost use Rattle.yv_source.specs.Order.{IsInOrder};
 ghost use Rattle.yv_source.specs.Place.{mark_len};
 ghost use Rattle.yv_source.specs.Inner.Place.{IsPastGap};
 ghost use Rattle.yv_source.specs.Inner.Scan.{before_of};
-ghost use Rattle.yv_source.specs.Inner.Ending.{Comes, ended_in, refused_by, IsChecked, IsEnd};
+ghost use Rattle.yv_source.specs.Inner.End.{Comes, ended_in, refusal_of_halt, IsChecked, IsEnd};
 
 use crate::escapes::{bad_found, is_newer};
 use crate::fault::refuse;
@@ -26,8 +26,8 @@ use yv_statement::{Code, Statement, Stop};
 /// keyword of depth 65; and where none of these applies, BadEscape at the first backslash pair that YANG 1.1 doesn't know, in a
 /// file of that version. An offset counts bytes, a line is counted from 1.
 pub fn parse<'a>(alloc: Global, source: &'a Source) -> Result<Statement<'a>, Stop>
-    ensures spelled { IfOk result (IsSpelled source.now.text) }
-    ensures refused { (r : Refusal) → result ≡ Err (Stop.Fault r) → IsRefused source.now.text r }
+    ensures spells { IfOk result (IsSpelled source.now.text) }
+    ensures refuses { (r : Refusal) → result ≡ Err (Stop.Fault r) → IsRefused source.now.text r }
     ensures never_built { result ≡ Err Stop.PatternBuild → ⊥ }
 
     // The text spells one statement at most, or is refused in one way: that is answered, unless memory runs out.
@@ -66,7 +66,7 @@ fn read<'a>(alloc: Global, text: &'a str, start: usize) -> Result<Statement<'a>,
         };
         phase = match turn(alloc, &mut stack, phase, text, found, place) {
             Ok(next) => next,
-            Err(halt) => return Err(refused_by(halt, bytes, place.at)),
+            Err(halt) => return Err(refusal_of_halt(halt, bytes, place.at)),
         };
         bad = bad_found(bad, bytes, found, place.at);
         before = before.past(found);
@@ -101,14 +101,14 @@ fn at_end<'a>(
     requires bad { IfSome bad (λ n. n ≤ length bytes.now) }
     ensures { IsEnd bytes.now bad at (ended_in phase (reverse stack.entry.items)) result }
 {
-    match ended(stack, phase) {
+    match whole_statement(stack, phase) {
         None => Err(refuse(Code::BadSyntax, bytes, at)),
-        Some(statement) => checked(statement, bad, bytes),
+        Some(statement) => check_escapes(statement, bad, bytes),
     }
 }
 
 // The statement, where it stands whole.
-fn ended<'a>(mut stack: Vec<Statement<'a>>, phase: Phase) -> Option<Statement<'a>>
+fn whole_statement<'a>(mut stack: Vec<Statement<'a>>, phase: Phase) -> Option<Statement<'a>>
     ensures { result ≡ ended_in phase (reverse stack.entry.items) }
 {
     if !matches!(phase, Phase::Done) {
@@ -118,7 +118,7 @@ fn ended<'a>(mut stack: Vec<Statement<'a>>, phase: Phase) -> Option<Statement<'a
 }
 
 // The statement, where it has no bad backslash pair that counts.
-fn checked<'a>(
+fn check_escapes<'a>(
     statement: Statement<'a>,
     bad: Option<usize>,
     bytes: &[u8],
@@ -133,9 +133,9 @@ fn checked<'a>(
 }
 
 // The refusal of a token at a place.
-fn refused_by(halt: Halt, bytes: &[u8], at: usize) -> Stop
+fn refusal_of_halt(halt: Halt, bytes: &[u8], at: usize) -> Stop
     requires { at ≤ length bytes.now }
-    ensures { result ≡ refused_by halt bytes.now at }
+    ensures { result ≡ refusal_of_halt halt bytes.now at }
 {
     match halt {
         Halt::Wrong => refuse(Code::BadSyntax, bytes, at),

@@ -4,7 +4,7 @@ ghost use Rattle.std.specs.Prelude.{◌≡◌, ◌<◌, ◌≤◌, ◌^◌, leng
 ghost use Rattle.yv_source.specs.Characters.{single_quote, asterisk, slash};
 ghost use Rattle.yv_source.specs.Pieces.{begins, begins_two, until, ends_word, up_to_quote, past_gap};
 ghost use Rattle.yv_source.specs.Pieces as Piece;
-ghost use Rattle.yv_source.specs.Inner.Scan.{ahead_in, before_of, shown, is_unquoted, unless_unquoted, closed, closed_by_two, word_or_plus, from, from_quote, begins_mark, ends_comment, pair_len};
+ghost use Rattle.yv_source.specs.Inner.Scan.{ahead_in, before_of, ahead_of, is_unquoted, unless_unquoted, closed_piece, closed_by_two, word_or_plus, from, from_quote, begins_mark, ends_comment, pair_len};
 ghost use Rattle.yv_source.specs.Inner.Turn.{length_of, past_found};
 
 use memchr::{memchr, memchr2};
@@ -22,7 +22,7 @@ pub(crate) enum Before {
 
 /// A piece of a text, by the length in bytes of the text inside its marks.
 #[derive(Clone, Copy)]
-pub(crate) enum Found {
+pub(crate) enum FoundPiece {
     Blank,
     LineComment(usize),
     BlockComment(usize),
@@ -42,34 +42,41 @@ pub(crate) enum Ahead {
     End,
     /// Nothing that is allowed there.
     Nothing,
-    Piece(Found),
+    Piece(FoundPiece),
 }
 
-impl Found {
+impl FoundPiece {
     /// How many bytes the piece has.
     pub(crate) fn length(self) -> usize
         requires { length_of self < 2 ^ 64 }
         ensures { result ≡ length_of self }
     {
         match self {
-            Found::Blank | Found::Semicolon | Found::Open | Found::Close | Found::Plus => 1,
-            Found::Word(len) => len,
-            Found::LineComment(len) | Found::Single(len) | Found::Double(len) => len + 2,
-            Found::BlockComment(len) => len + 4,
+            FoundPiece::Blank
+            | FoundPiece::Semicolon
+            | FoundPiece::Open
+            | FoundPiece::Close
+            | FoundPiece::Plus => 1,
+            FoundPiece::Word(len) => len,
+            FoundPiece::LineComment(len) | FoundPiece::Single(len) | FoundPiece::Double(len) => len
+                + 2,
+            FoundPiece::BlockComment(len) => len + 4,
         }
     }
 }
 
 impl Before {
     /// What is before the place after a piece.
-    pub(crate) fn past(self, found: Found) -> Before
+    pub(crate) fn past(self, found: FoundPiece) -> Before
         ensures { before_of result ≡ past_found (before_of self) found }
     {
         match found {
-            Found::Blank | Found::LineComment(_) | Found::BlockComment(_) => self.past_gap(),
-            Found::Word(_) => Before::Unquoted,
-            Found::Single(_) | Found::Double(_) => Before::Quoted,
-            Found::Semicolon | Found::Open | Found::Close | Found::Plus => Before::Apart,
+            FoundPiece::Blank | FoundPiece::LineComment(_) | FoundPiece::BlockComment(_) =>
+                self.past_gap(),
+            FoundPiece::Word(_) => Before::Unquoted,
+            FoundPiece::Single(_) | FoundPiece::Double(_) => Before::Quoted,
+            FoundPiece::Semicolon | FoundPiece::Open | FoundPiece::Close | FoundPiece::Plus =>
+                Before::Apart,
         }
     }
 
@@ -102,13 +109,13 @@ fn first_piece(before: Before, bytes: &[u8]) -> Ahead
 {
     match bytes {
         [] => Ahead::End,
-        [b' ' | b'\t' | b'\r' | b'\n', ..] => Ahead::Piece(Found::Blank),
+        [b' ' | b'\t' | b'\r' | b'\n', ..] => Ahead::Piece(FoundPiece::Blank),
         [b'"', rest @ ..] => double(before, rest),
         [b'\'', rest @ ..] => single(before, rest),
-        [b';', ..] => Ahead::Piece(Found::Semicolon),
-        [b'{', ..] => Ahead::Piece(Found::Open),
-        [b'}', ..] => Ahead::Piece(Found::Close),
-        [b'/', b'/', rest @ ..] => Ahead::Piece(Found::LineComment(first_byte(b'\n', rest))),
+        [b';', ..] => Ahead::Piece(FoundPiece::Semicolon),
+        [b'{', ..] => Ahead::Piece(FoundPiece::Open),
+        [b'}', ..] => Ahead::Piece(FoundPiece::Close),
+        [b'/', b'/', rest @ ..] => Ahead::Piece(FoundPiece::LineComment(first_byte(b'\n', rest))),
         [b'/', b'*', rest @ ..] => block_comment(rest),
         [b'*', b'/', ..] => Ahead::Nothing,
         _ => word(before, bytes),
@@ -208,7 +215,7 @@ fn first_mark(bytes: &[u8]) -> usize
 // A double-quoted text, from behind its first quote.
 fn double(before: Before, rest: &[u8]) -> Ahead
     ensures { let piece = Piece.Double (up_to_quote false rest.now) in
-        result ≡ shown (unless_unquoted (before_of before) (closed piece (from_quote false rest.now))) }
+        result ≡ ahead_of (unless_unquoted (before_of before) (closed_piece piece (from_quote false rest.now))) }
 {
     if before.is_unquoted() {
         return Ahead::Nothing;
@@ -217,14 +224,14 @@ fn double(before: Before, rest: &[u8]) -> Ahead
     if len == rest.len() {
         Ahead::Nothing
     } else {
-        Ahead::Piece(Found::Double(len))
+        Ahead::Piece(FoundPiece::Double(len))
     }
 }
 
 // A single-quoted text, from behind its first quote.
 fn single(before: Before, rest: &[u8]) -> Ahead
     ensures { let piece = Piece.Single (until (begins single_quote) rest.now) in
-        result ≡ shown (unless_unquoted (before_of before) (closed piece (from (begins single_quote) rest.now))) }
+        result ≡ ahead_of (unless_unquoted (before_of before) (closed_piece piece (from (begins single_quote) rest.now))) }
 {
     if before.is_unquoted() {
         return Ahead::Nothing;
@@ -233,29 +240,29 @@ fn single(before: Before, rest: &[u8]) -> Ahead
     if len == rest.len() {
         Ahead::Nothing
     } else {
-        Ahead::Piece(Found::Single(len))
+        Ahead::Piece(FoundPiece::Single(len))
     }
 }
 
 // A comment, from behind its first two bytes.
 fn block_comment(rest: &[u8]) -> Ahead
     ensures { let piece = Piece.BlockComment (until (begins_two asterisk slash) rest.now) in
-        result ≡ shown (closed_by_two piece (from (begins_two asterisk slash) rest.now)) }
+        result ≡ ahead_of (closed_by_two piece (from (begins_two asterisk slash) rest.now)) }
 {
     let len = comment_len(rest);
     if len == rest.len() {
         Ahead::Nothing
     } else {
-        Ahead::Piece(Found::BlockComment(len))
+        Ahead::Piece(FoundPiece::BlockComment(len))
     }
 }
 
 // An unquoted text, or the sign that joins quoted ones.
 fn word(before: Before, bytes: &[u8]) -> Ahead
-    ensures { result ≡ shown (word_or_plus (before_of before) bytes.now) }
+    ensures { result ≡ ahead_of (word_or_plus (before_of before) bytes.now) }
 {
     match (before, bytes) {
-        (Before::Quoted, [b'+', ..]) => Ahead::Piece(Found::Plus),
-        _ => Ahead::Piece(Found::Word(word_len(bytes))),
+        (Before::Quoted, [b'+', ..]) => Ahead::Piece(FoundPiece::Plus),
+        _ => Ahead::Piece(FoundPiece::Word(word_len(bytes))),
     }
 }

@@ -48,7 +48,7 @@ impl Source {
     pub fn new(alloc: Global, name: &str, bytes: &[u8]) -> Result<Source, Stop>
         ensures source { IfOk result (λ source. source ≡ record { name = name.now; text = bytes.now }) }
         ensures legal { OnOk result (IsLegalFile bytes.now) }
-        ensures refused { (r : Refusal) → (result ≡ Err (Stop.Fault r)) ↔ IsBadFile bytes.now r }
+        ensures refuses { (r : Refusal) → (result ≡ Err (Stop.Fault r)) ↔ IsBadFile bytes.now r }
         ensures never_built { result ≡ Err Stop.PatternBuild → ⊥ }
 
         // A legal file's text is given, unless memory runs out.
@@ -89,7 +89,7 @@ impl Source {
 // The offset of the first character that isn't legal. Only characters that aren't common are decoded.
 fn first_illegal(text: &str) -> Option<usize>
     requires { length text.now ≤ most_bytes }
-    ensures found { IfSome result (IsIllegalAt text.now) }
+    ensures finds { IfSome result (IsIllegalAt text.now) }
     ensures within { IfSome result (λ at. at ≤ length text.now) }
     ensures none { IfNone result (IsTrue (list_all is_legal (chars text.now))) }
 {

@@ -7,7 +7,7 @@ ghost use Rattle.yv_source.specs.Inner.Turn.{opener, inner, token_at, turn};
 
 use crate::machine::{Halt, Phase, Token, step};
 use crate::place::Place;
-use crate::scan::Found;
+use crate::scan::FoundPiece;
 use std::alloc::Global;
 use yv_statement::Statement;
 
@@ -17,7 +17,7 @@ pub(crate) fn turn<'a>(
     stack: &mut Vec<Statement<'a>>,
     phase: Phase,
     text: &'a str,
-    found: Found,
+    found: FoundPiece,
     place: Place,
 ) -> Result<Phase, Halt>
     requires column { place.column < 2 ^ 40 }
@@ -31,19 +31,19 @@ pub(crate) fn turn<'a>(
     }
 }
 
-fn token_of<'a>(text: &'a str, found: Found, at: usize) -> Option<Token<'a>>
+fn token_of<'a>(text: &'a str, found: FoundPiece, at: usize) -> Option<Token<'a>>
     requires from { IsCharBoundary text.now (at + opener found) }
     requires to { IsCharBoundary text.now (at + opener found + inner found) }
     ensures { option_map piece_of result ≡ token_at found (take (inner found) (drop (at + opener found) text.now)) }
 {
     match found {
-        Found::Word(len) => Some(Token::Word(&text[at..at + len])),
-        Found::Single(len) => Some(Token::Single(&text[at + 1..at + 1 + len])),
-        Found::Double(len) => Some(Token::Double(&text[at + 1..at + 1 + len])),
-        Found::Semicolon => Some(Token::Semicolon),
-        Found::Open => Some(Token::Open),
-        Found::Close => Some(Token::Close),
-        Found::Plus => Some(Token::Plus),
-        Found::Blank | Found::LineComment(_) | Found::BlockComment(_) => None,
+        FoundPiece::Word(len) => Some(Token::Word(&text[at..at + len])),
+        FoundPiece::Single(len) => Some(Token::Single(&text[at + 1..at + 1 + len])),
+        FoundPiece::Double(len) => Some(Token::Double(&text[at + 1..at + 1 + len])),
+        FoundPiece::Semicolon => Some(Token::Semicolon),
+        FoundPiece::Open => Some(Token::Open),
+        FoundPiece::Close => Some(Token::Close),
+        FoundPiece::Plus => Some(Token::Plus),
+        FoundPiece::Blank | FoundPiece::LineComment(_) | FoundPiece::BlockComment(_) => None,
     }
 }

@@ -1,8 +1,9 @@
 pub mod Legal
 pub mod Tree
-pub mod Seen
-pub mod Building
+pub mod View
+pub mod Builder
 pub mod Codes
 pub mod Order
 pub mod Keywords
 pub mod InnerKeywords
+pub mod Selection

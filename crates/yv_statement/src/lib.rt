@@ -2,13 +2,17 @@
 //! several refusals comes first.
 #![tactic(auto)]
 
+mod document_kind;
 mod keyword;
 pub mod laws;
 mod legal;
 mod refusal;
+mod selection;
 mod statement;
 
+pub use document_kind::Kind;
 pub use keyword::Keyword;
 pub use legal::{is_legal, is_legal_text};
-pub use refusal::{Code, Refusal, Stop, lesser, refused};
+pub use refusal::{Code, Refusal, Stop, lesser, refusal_if};
+pub use selection::Selection;
 pub use statement::Statement;

@@ -248,7 +248,7 @@ pub fn lesser(first: Option<Refusal>, second: Option<Refusal>) -> Option<Refusal
 }
 
 /// The refusal of this statement of a file, where it is bad.
-pub fn refused(bad: bool, code: Code, file: u32, statement: &Statement) -> Option<Refusal>
+pub fn refusal_if(bad: bool, code: Code, file: u32, statement: &Statement) -> Option<Refusal>
     ensures { result ≡ (if bad then Some (refusal_at code file statement.now.head) else None) }
 {
     if bad {

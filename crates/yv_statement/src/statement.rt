@@ -3,7 +3,7 @@ ghost use Rattle.std.specs.Cow.{cow_str_bytes};
 ghost use Rattle.std.specs.Option.{option_map};
 ghost use Rattle.yv_statement.specs.Keywords.{keyword_of};
 ghost use Rattle.yv_statement.specs.Tree.{trees};
-ghost use Rattle.yv_statement.specs.Building.{bare, push_child, with_argument, with_more};
+ghost use Rattle.yv_statement.specs.Builder.{bare, push_child, with_argument, with_more};
 
 use crate::keyword::Keyword;
 use std::alloc::{AllocError, Global};
@@ -31,12 +31,12 @@ impl<'a> Model for Statement<'a> {
 
     ghost coded = { tree_code };
 
-    ghost use Rattle.yv_statement.specs.Seen.{seen};
+    ghost use Rattle.yv_statement.specs.View.{tree_of};
     ghost use Rattle.yv_statement.specs.Keywords.{keyword_of};
 
     ghost invariant = { λ a. a.kind ≡ keyword_of a.keyword.now };
 
-    ghost view = { seen };
+    ghost view = { tree_of };
 
     ghost size = { λ t. count t.children + 1 };
 

@@ -1,7 +1,7 @@
 -- What a clause reads of a `Counted`, and what its calls count.
 use Rattle.std.specs.Prelude.{◌≡◌, ◌≤◌, ◌+◌, ◌-◌, ◌^◌, ◌||◌, ℕ, Bool, true, List, length, Option, ltb, min}
 use Rattle.std.specs.Io.KnownBytes.{Consumes}
-use Rattle.yv_streams.specs.declared.counted.Counted.{Counted}
+use Rattle.yv_streams.specs.declared.counted_stream.Counted.{Counted}
 
 -- the reader or writer that is wrapped
 abbrev pub stream_inner : {T : Type 0} → Counted T → T

@@ -4,7 +4,7 @@ ghost use Rattle.std.specs.Io.KnownBytes.{Consumes};
 ghost use Rattle.yv_streams.specs.Files.{file_of, file_limit};
 ghost use Rattle.yv_streams.specs.Stream.{stream_inner, has_failed, IsFresh, FailsOnceAtMost, TakesAtMost};
 
-use crate::counted::Counted;
+use crate::counted_stream::Counted;
 use crate::stream::{InputFault, read_up_to};
 use std::alloc::Global;
 use std::io::Read;
@@ -30,12 +30,12 @@ pub fn read_input<R: Read>(
     ensures name { IfOk result (λ i. (file_of i).name ≡ name.now) }
     ensures bytes { IfOk result (λ i. IfSome (R.remaining (stream_inner reader.old))
         (λ xs. (file_of i).bytes ≡ take (file_limit + 1) xs)) }
-    ensures consumed { IfOk result (λ i. Consumes (R.remaining (stream_inner reader.old))
+    ensures consumes { IfOk result (λ i. Consumes (R.remaining (stream_inner reader.old))
         (R.remaining (stream_inner reader.new)) (file_of i).bytes) }
     ensures bound { IfOk result (λ i. length (file_of i).bytes ≤ file_limit + 1) }
     ensures fault { IsErrOf result InputFault.Read ↔ (has_failed reader.new ≡ true) }
     ensures once { FailsOnceAtMost reader.new }
-    ensures taken { TakesAtMost (file_limit + 1) (R.remaining (stream_inner reader.old)) (R.remaining (stream_inner reader.new)) }
+    ensures takes { TakesAtMost (file_limit + 1) (R.remaining (stream_inner reader.old)) (R.remaining (stream_inner reader.new)) }
 {
     let name = String::from_str(alloc, name)?;
     let bytes = read_up_to(alloc, FILE_BYTES, reader)?;

@@ -4,7 +4,7 @@ ghost use Rattle.std.specs.Io.{StartsWith};
 ghost use Rattle.std.specs.Io.KnownBytes.{Appends, Consumes, IsAtEnd};
 ghost use Rattle.yv_streams.specs.Stream.{stream_inner, stream_interrupts, has_failed, FailsOnceAtMost, TakesAtMost};
 
-use crate::counted::Counted;
+use crate::counted_stream::Counted;
 use std::alloc::{AllocError, Global};
 use std::io::{Read, Write};
 use thiserror::Error;
@@ -41,14 +41,14 @@ pub fn read_up_to<R: Read>(
     reader: &mut Counted<R>,
 ) -> Result<Vec<u8>, InputFault>
     requires { has_failed reader.old ≡ false }
-    ensures given { IfOk result (λ v. Consumes (R.remaining (stream_inner reader.old))
+    ensures gives { IfOk result (λ v. Consumes (R.remaining (stream_inner reader.old))
         (R.remaining (stream_inner reader.new)) v.items) }
     ensures bound { IfOk result (λ v. length v.items ≤ limit) }
     ensures end { IfOk result (λ v. length v.items < limit
         → IsAtEnd (R.remaining (stream_inner reader.new))) }
     ensures fault { IsErrOf result InputFault.Read ↔ (has_failed reader.new ≡ true) }
     ensures once { FailsOnceAtMost reader.new }
-    ensures taken { TakesAtMost limit (R.remaining (stream_inner reader.old)) (R.remaining (stream_inner reader.new)) }
+    ensures takes { TakesAtMost limit (R.remaining (stream_inner reader.old)) (R.remaining (stream_inner reader.new)) }
 {
     let mut bytes = Vec::new(alloc);
     while bytes.len() < limit {
@@ -70,7 +70,7 @@ fn read_some<R: Read>(
     requires works { has_failed reader.old ≡ false }
     ensures fits { OnOk result (vec_len bytes.new ≤ vec_len bytes.old + room) }
     ensures front { StartsWith bytes.new.items bytes.old.items }
-    ensures given { OnOk result (Consumes (R.remaining (stream_inner reader.old))
+    ensures gives { OnOk result (Consumes (R.remaining (stream_inner reader.old))
         (R.remaining (stream_inner reader.new)) (drop (length bytes.old.items) bytes.new.items)) }
     ensures end { result ≡ Ok false → IsAtEnd (R.remaining (stream_inner reader.new)) }
     ensures moves { result ≡ Ok true → vec_len bytes.old + stream_interrupts reader.old
@@ -78,7 +78,7 @@ fn read_some<R: Read>(
     ensures grows { stream_interrupts reader.old ≤ stream_interrupts reader.new }
     ensures fault { IsErrOf result InputFault.Read ↔ (has_failed reader.new ≡ true) }
     ensures once { FailsOnceAtMost reader.new }
-    ensures taken { TakesAtMost room (R.remaining (stream_inner reader.old)) (R.remaining (stream_inner reader.new)) }
+    ensures takes { TakesAtMost room (R.remaining (stream_inner reader.old)) (R.remaining (stream_inner reader.new)) }
 {
     let mut chunk = [0u8; CHUNK];
     let most = room.min(CHUNK);
@@ -107,7 +107,7 @@ fn goes_on<R>(reader: &Counted<R>) -> Result<bool, InputFault>
 /// Writes the bytes from the first to the last, and answers whether all were taken.
 pub fn write_whole<W: Write>(writer: &mut Counted<W>, bytes: &[u8]) -> bool
     requires { has_failed writer.old ≡ false }
-    ensures done { result ≡ true → Appends (W.contents (stream_inner writer.old))
+    ensures ends { result ≡ true → Appends (W.contents (stream_inner writer.old))
         (W.contents (stream_inner writer.new)) bytes.now }
     ensures part { (n : ℕ) × Appends (W.contents (stream_inner writer.old))
         (W.contents (stream_inner writer.new)) (take n bytes.now) }
@@ -129,7 +129,7 @@ fn write_some<W: Write>(writer: &mut Counted<W>, bytes: &[u8]) -> usize
     requires some { 0 < length bytes.now }
     requires works { has_failed writer.old ≡ false }
     ensures bound { result ≤ length bytes.now }
-    ensures held { Appends (W.contents (stream_inner writer.old))
+    ensures holds { Appends (W.contents (stream_inner writer.old))
         (W.contents (stream_inner writer.new)) (take result bytes.now) }
     ensures moves { has_failed writer.new ≡ false
         → stream_interrupts writer.old < result + stream_interrupts writer.new }

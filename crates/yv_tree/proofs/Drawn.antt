@@ -2,16 +2,16 @@
 use Rattle.std.proofs.Common.{◌≡◌, ℕ, true, List, ◌++◌, sym, ap, ◌∙◌, append_assoc, subst}
 use Rattle.std.specs.declared.option.Option.{Option}
 use Rattle.std.proofs.lemmas.Bool.{false≢true}
-use Rattle.yv_page.specs.Paged.{Adds, Held, IsPaged}
+use Rattle.yv_streams.specs.Pages.{Adds, Output, IsPaged}
 use Rattle.yv_tree.specs.InnerDraw.{Leaves}
 
 -- the first of what was left was put
-pub left_less : (all first rest : List ℕ) (old mid new : Held) → Leaves all (first ++ rest) old mid → Adds first mid new → Leaves all rest old new
+pub left_less : (all first rest : List ℕ) (old mid new : Output) → Leaves all (first ++ rest) old mid → Adds first mid new → Leaves all rest old new
 left_less all first rest old mid new before put = λ last a. before last
     (λ start text h. subst (λ (l : List ℕ). IsPaged start l last) (append_assoc text first rest) (a start (text ++ first) (put start text h)))
 
 -- once a paper has failed, any bytes may be put
-pub lost : (start : Option (List ℕ)) (text bytes : List ℕ) (h : Held) → h.has_failed ≡ true → IsPaged start text h → IsPaged start (text ++ bytes) h
+pub lost : (start : Option (List ℕ)) (text bytes : List ℕ) (h : Output) → h.has_failed ≡ true → IsPaged start text h → IsPaged start (text ++ bytes) h
 lost start text bytes h fails paged = record {
   written = paged.written;
   others = paged.others ++ bytes;

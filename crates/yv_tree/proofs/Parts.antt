@@ -4,7 +4,7 @@ use Rattle.std.specs.List.{flat_map}
 use Rattle.std.proofs.lemmas.Grind.{flat_map-append}
 use Rattle.yv_nodes.specs.declared.node.NodeId.{NodeId}
 use Rattle.yv_nodes.specs.Rows.{Module, Rows, forest}
-use Rattle.yv_page.specs.Paged.{Adds, Held, IsPaged}
+use Rattle.yv_streams.specs.Pages.{Adds, Output, IsPaged}
 use Rattle.yv_tree.specs.Lines.{forest_lines}
 use Rattle.yv_tree.specs.Diagram.{augment_section, diagram_lines, section, text_of, tops}
 use Rattle.yv_tree.specs.InnerDraw.{trees_text}
@@ -12,17 +12,17 @@ use Rattle.yv_tree.specs.InnerTops.{AreReady}
 use Rattle.yv_tree.specs.declared.sections.Part.TheVariants.{Data, Rpcs, Notifications}
 
 -- one text was put and then another: both were put
-pub adds_both : (first rest : List ℕ) (old mid new : Held) → Adds first old mid → Adds rest mid new → Adds (first ++ rest) old new
+pub adds_both : (first rest : List ℕ) (old mid new : Output) → Adds first old mid → Adds rest mid new → Adds (first ++ rest) old new
 adds_both first rest old mid new put others = λ start text h.
     subst (λ (l : List ℕ). IsPaged start l new) (append_assoc text first rest) (others start (text ++ first) (put start text h))
 
 -- some lines were put and then others: all of them were put
-pub lines_both : (first rest : List (List ℕ)) (old mid new : Held) → Adds (text_of first) old mid → Adds (text_of rest) mid new → Adds (text_of (first ++ rest)) old new
+pub lines_both : (first rest : List (List ℕ)) (old mid new : Output) → Adds (text_of first) old mid → Adds (text_of rest) mid new → Adds (text_of (first ++ rest)) old new
 lines_both first rest old mid new put others = subst (λ (l : List ℕ). Adds l old new) (sym (flat_map-append (λ line. line ++ 10 ∷ []) first rest))
     (adds_both (text_of first) (text_of rest) old mid new put others)
 
 -- the header, the data nodes and the sections were put: the diagram was
-pub all_put : (s : Rows) (name : List ℕ) (own : ℕ) (h0 h1 h2 h3 h4 h5 : Held) → Adds (codes "module: " ++ name ++ codes "\n") h0 h1
+pub all_put : (s : Rows) (name : List ℕ) (own : ℕ) (h0 h1 h2 h3 h4 h5 : Output) → Adds (codes "module: " ++ name ++ codes "\n") h0 h1
     → Adds (trees_text s s.modules own (codes "  ") (forest s (tops s own Data))) h1 h2 → Adds (text_of (flat_map (augment_section s own) s.augments)) h2 h3
     → Adds (text_of (section s own (codes "rpcs") (tops s own Rpcs))) h3 h4 → Adds (text_of (section s own (codes "notifications") (tops s own Notifications))) h4 h5
     → Adds (text_of (diagram_lines s name own)) h0 h5
@@ -36,19 +36,19 @@ all_put s name own h0 h1 h2 h3 h4 h5 header nodes augments rpcs notifications =
     (lines_both (top ++ added) called h0 h3 h4 (lines_both top added h0 h2 h3 upper augments) rpcs) notifications
 
 -- the same of what is at hand before a diagram is drawn
-pub ready_put : (s : Rows) (m : Module) (modules : List Module) (own : ℕ) (name value : List ℕ) (data_nodes rpcs notifications ds rs ns : List NodeId) (h0 h1 h2 h3 h4 h5 : Held)
-    → AreReady s m.home modules data_nodes rpcs notifications → text_of (diagram_lines s m.name m.home) ≡ value → own ≡ m.home → name ≡ m.name
+pub ready_put : (s : Rows) (m : Module) (modules : List Module) (own : ℕ) (name value : List ℕ) (data_nodes rpcs notifications ds rs ns : List NodeId) (h0 h1 h2 h3 h4 h5 : Output)
+    → AreReady s m.module_file modules data_nodes rpcs notifications → text_of (diagram_lines s m.name m.module_file) ≡ value → own ≡ m.module_file → name ≡ m.name
     → ds ≡ data_nodes → rs ≡ rpcs → ns ≡ notifications → Adds (codes "module: " ++ name ++ codes "\n") h0 h1
     → Adds (trees_text s modules own (codes "  ") (forest s ds)) h1 h2 → Adds (text_of (flat_map (augment_section s own) s.augments)) h2 h3
     → Adds (text_of (section s own (codes "rpcs") rs)) h3 h4 → Adds (text_of (section s own (codes "notifications") ns)) h4 h5 → Adds value h0 h5
 ready_put s m modules own name value data_nodes rpcs notifications ds rs ns h0 h1 h2 h3 h4 h5 ready value_is own_is name_is ds_are rs_are ns_are header nodes augments called told =
-    subst (λ (l : List ℕ). Adds l h0 h5) value_is (all_put s m.name m.home h0 h1 h2 h3 h4 h5
+    subst (λ (l : List ℕ). Adds l h0 h5) value_is (all_put s m.name m.module_file h0 h1 h2 h3 h4 h5
     (subst (λ (l : List ℕ). Adds (codes "module: " ++ l ++ codes "\n") h0 h1) name_is header)
-    (subst (λ (l : List NodeId). Adds (trees_text s s.modules m.home (codes "  ") (forest s l)) h1 h2) (ds_are ∙ ready.data_tops.all)
-    (subst (λ (l : List Module). Adds (trees_text s l m.home (codes "  ") (forest s ds)) h1 h2) ready.known
+    (subst (λ (l : List NodeId). Adds (trees_text s s.modules m.module_file (codes "  ") (forest s l)) h1 h2) (ds_are ∙ ready.data_tops.all)
+    (subst (λ (l : List Module). Adds (trees_text s l m.module_file (codes "  ") (forest s ds)) h1 h2) ready.known
     (subst (λ (o : ℕ). Adds (trees_text s modules o (codes "  ") (forest s ds)) h1 h2) own_is nodes)))
     (subst (λ (o : ℕ). Adds (text_of (flat_map (augment_section s o) s.augments)) h2 h3) own_is augments)
-    (subst (λ (l : List NodeId). Adds (text_of (section s m.home (codes "rpcs") l)) h3 h4) (rs_are ∙ ready.rpc_tops.all)
+    (subst (λ (l : List NodeId). Adds (text_of (section s m.module_file (codes "rpcs") l)) h3 h4) (rs_are ∙ ready.rpc_tops.all)
     (subst (λ (o : ℕ). Adds (text_of (section s o (codes "rpcs") rs)) h3 h4) own_is called))
-    (subst (λ (l : List NodeId). Adds (text_of (section s m.home (codes "notifications") l)) h4 h5) (ns_are ∙ ready.notification_tops.all)
+    (subst (λ (l : List NodeId). Adds (text_of (section s m.module_file (codes "notifications") l)) h4 h5) (ns_are ∙ ready.notification_tops.all)
     (subst (λ (o : ℕ). Adds (text_of (section s o (codes "notifications") ns)) h4 h5) own_is told)))

@@ -4,11 +4,11 @@ use Rattle.std.specs.declared.option.Option.{Option}
 use Rattle.std.specs.declared.option.Option.TheVariants.{Some}
 use Rattle.std.proofs.KnownBytes.{Appends-trans}
 use Rattle.std.proofs.lemmas.Bool.{false≢true}
-use Rattle.yv_page.specs.Paged.{held, IsPaged}
+use Rattle.yv_streams.specs.Pages.{output_of, IsPaged}
 
 -- a piece was put behind what there was, or the text has failed and is as before
 pub pushed : (start : Option (List ℕ)) (text before after piece : List ℕ) (had has : Bool) → had ≡ false → (has ≡ false → after ≡ before ++ piece) → (has ≡ true → after ≡ before)
-    → IsPaged start text (held (Some before) had 0 []) → IsPaged start (text ++ piece) (held (Some after) has 0 [])
+    → IsPaged start text (output_of (Some before) had 0 []) → IsPaged start (text ++ piece) (output_of (Some after) has 0 [])
 pushed start text before after piece had false works more same h = record {
   written = h.written ++ piece;
   others = [];

@@ -4,8 +4,8 @@ use Rattle.yv_nodes.specs.declared.node.NodeId.{NodeId}
 use Rattle.yv_nodes.specs.Tree.{Forest, count, no_trees, node, tree}
 use Rattle.yv_nodes.specs.Numbers.{rows_below}
 use Rattle.yv_nodes.specs.Rows.{Row, Rows, blank_row, is_root, rank, root, row_at, whole}
-use Rattle.yv_tables.specs.Sound.{IsSound}
-use Rattle.yv_tree.specs.Diagram.{first_home, homes_from}
+use Rattle.yv_schema_tables.specs.Sound.{IsSound}
+use Rattle.yv_tree.specs.Diagram.{first_module_file, module_files_from}
 
 -- the row of each of these numbers has a parent before it
 abbrev pub AreBehind : ℕ → List Row → Type 0
@@ -73,14 +73,14 @@ right_behind (x ∷ xs) y d = right_behind xs y d
 
 -- what a row adds
 abbrev pub added : List ℕ → Row → ℕ
-added done r = if is_root r.parent then r.label.home else get_or done r.parent.0 0
+added done r = if is_root r.parent then r.label.module_file else get_or done r.parent.0 0
 
 length_more : {X : Type 0} (xs : List X) (y : X) → length (xs ++ y ∷ []) ≡ suc (length xs)
 length_more [] y = refl
 length_more (x ∷ xs) y = ap suc (length_more xs y)
 
 -- what stands there stays
-kept : (done : List ℕ) (rs : List Row) (k : ℕ) → k < length done → get_or (homes_from done rs) k 0 ≡ get_or done k 0
+kept : (done : List ℕ) (rs : List Row) (k : ℕ) → k < length done → get_or (module_files_from done rs) k 0 ≡ get_or done k 0
 kept done [] k lt = refl
 kept done (r ∷ rs) k lt =
     let more : length (done ++ added done r ∷ []) ≡ suc (length done) = length_more done (added done r) in
@@ -92,40 +92,40 @@ same_added false m u v h = h refl
 
 -- of a row here, where its parent stands before it
 at_row : (done : List ℕ) (rs : List Row) (k : ℕ) → k < length rs → (is_root (get_or rs k blank_row).parent ≡ false → (get_or rs k blank_row).parent.0 < length done + k)
-    → get_or (homes_from done rs) (length done + k) 0 ≡ added (homes_from done rs) (get_or rs k blank_row)
+    → get_or (module_files_from done rs) (length done + k) 0 ≡ added (module_files_from done rs) (get_or rs k blank_row)
 at_row done [] k lt before = absurd (omega arith)
 at_row done (r ∷ rs) zero lt before =
     let x : ℕ = added done r in
     let more : length (done ++ x ∷ []) ≡ suc (length done) = length_more done x in
     let here : length done + zero ≡ length done = omega arith in
-    let own : get_or (homes_from (done ++ x ∷ []) rs) (length done) 0 ≡ x =
+    let own : get_or (module_files_from (done ++ x ∷ []) rs) (length done) 0 ≡ x =
     kept (done ++ x ∷ []) rs (length done) (omega arith) ∙ right_behind done x 0 in
-    let up : is_root r.parent ≡ false → get_or done r.parent.0 0 ≡ get_or (homes_from (done ++ x ∷ []) rs) r.parent.0 0 =
+    let up : is_root r.parent ≡ false → get_or done r.parent.0 0 ≡ get_or (module_files_from (done ++ x ∷ []) rs) r.parent.0 0 =
     λ inner. let low : r.parent.0 < length done + zero = before inner in
     sym (kept (done ++ x ∷ []) rs r.parent.0 (omega arith) ∙ in_front done (x ∷ []) r.parent.0 0 (omega arith)) in
-    ap (λ n. get_or (homes_from (done ++ x ∷ []) rs) n 0) here ∙ own ∙ same_added (is_root r.parent) r.label.home _ _ up
+    ap (λ n. get_or (module_files_from (done ++ x ∷ []) rs) n 0) here ∙ own ∙ same_added (is_root r.parent) r.label.module_file _ _ up
 at_row done (r ∷ rs) (suc k) lt before =
     let x : ℕ = added done r in
     let more : length (done ++ x ∷ []) ≡ suc (length done) = length_more done x in
     let shifted : length done + suc k ≡ length (done ++ x ∷ []) + k = omega arith in
     let low : is_root (get_or rs k blank_row).parent ≡ false → (get_or rs k blank_row).parent.0 < length (done ++ x ∷ []) + k =
     λ inner. let b : (get_or rs k blank_row).parent.0 < length done + suc k = before inner in omega arith in
-    ap (λ n. get_or (homes_from (done ++ x ∷ []) rs) n 0) shifted ∙ at_row (done ++ x ∷ []) rs k (omega arith) low
+    ap (λ n. get_or (module_files_from (done ++ x ∷ []) rs) n 0) shifted ∙ at_row (done ++ x ∷ []) rs k (omega arith) low
 
 -- what stands at a node
-at_node : (s : Rows) (c : NodeId) → IsSound s → c.0 < length s.nodes → first_home s c ≡ added (homes_from [] s.nodes) (row_at s c)
+at_node : (s : Rows) (c : NodeId) → IsSound s → c.0 < length s.nodes → first_module_file s c ≡ added (module_files_from [] s.nodes) (row_at s c)
 at_node s c sound lt =
     let from_zero : c.0 ≡ 0 + c.0 = omega arith in
     let low : is_root (row_at s c).parent ≡ false → (row_at s c).parent.0 < 0 + c.0 =
     λ inner. let before : (row_at s c).parent.0 < c.0 = parent_before s c sound lt inner in omega arith in
-    ap (λ n. get_or (homes_from [] s.nodes) n 0) from_zero ∙ at_row [] s.nodes c.0 lt low
+    ap (λ n. get_or (module_files_from [] s.nodes) n 0) from_zero ∙ at_row [] s.nodes c.0 lt low
 
 -- the module at the top of the way to a node is that of the way to its parent
 pub one_up : (s : Rows) (c : NodeId) → IsSound s → c.0 < length s.nodes → is_root (row_at s c).parent ≡ false
-    → first_home s c ≡ first_home s (row_at s c).parent
-one_up s c sound lt inner = at_node s c sound lt ∙ ap (λ b. if b then (row_at s c).label.home else first_home s (row_at s c).parent) inner
+    → first_module_file s c ≡ first_module_file s (row_at s c).parent
+one_up s c sound lt inner = at_node s c sound lt ∙ ap (λ b. if b then (row_at s c).label.module_file else first_module_file s (row_at s c).parent) inner
 
 -- and that of the node at the top
 pub at_top : (s : Rows) (c : NodeId) → IsSound s → c.0 < length s.nodes → is_root (row_at s c).parent ≡ true
-    → first_home s c ≡ (row_at s c).label.home
-at_top s c sound lt top = at_node s c sound lt ∙ ap (λ b. if b then (row_at s c).label.home else first_home s (row_at s c).parent) top
+    → first_module_file s c ≡ (row_at s c).label.module_file
+at_top s c sound lt top = at_node s c sound lt ∙ ap (λ b. if b then (row_at s c).label.module_file else first_module_file s (row_at s c).parent) top

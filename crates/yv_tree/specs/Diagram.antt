@@ -3,8 +3,8 @@ use Rattle.std.specs.Prelude.{ℕ, List, [], ◌∷◌, ◌++◌, Bool, true, fa
 use Rattle.std.specs.List.{flat_map, slice_index_or}
 use Rattle.std.specs.Option.{option_map}
 use Rattle.std.specs.Str.{bytes_eq}
-use Rattle.yv_properties.specs.declared.kind.NodeKind.{NodeKind}
-use Rattle.yv_properties.specs.declared.kind.NodeKind.TheVariants.{Rpc, Notification}
+use Rattle.yv_node_definition.specs.declared.kind.NodeKind.{NodeKind}
+use Rattle.yv_node_definition.specs.declared.kind.NodeKind.TheVariants.{Rpc, Notification}
 use Rattle.yv_nodes.specs.declared.node.NodeId.{NodeId}
 use Rattle.yv_nodes.specs.Rows.{Row, Rows, Module, Note, row_at, is_root, forest}
 use Rattle.yv_tree.specs.Lines.{forest_lines}
@@ -22,24 +22,24 @@ belongs _ _ = false
 
 -- a node at the top is one of this module, and belongs to this part. Modules go by the numbers of their files
 abbrev pub is_top : Rows → (own : ℕ) → Part → NodeId → Bool
-is_top s own part c = (row_at s c).label.home == own && belongs (row_at s c).label.defined.kind part
+is_top s own part c = (row_at s c).label.module_file == own && belongs (row_at s c).label.defined.kind part
 
 -- the nodes of a module at the top that belong to a part, in order
 abbrev pub tops : Rows → (own : ℕ) → Part → List NodeId
 tops s own part = filter (is_top s own part) s.top
 
 -- the module of each node at the top, and below it the one of the node above: parents stand before their children
-abbrev pub homes_from : (done : List ℕ) → List Row → List ℕ
-homes_from done [] = done
-homes_from done (r ∷ rs) = homes_from (done ++ (if is_root r.parent then r.label.home else slice_index_or done r.parent.0 0) ∷ []) rs
+abbrev pub module_files_from : (done : List ℕ) → List Row → List ℕ
+module_files_from done [] = done
+module_files_from done (r ∷ rs) = module_files_from (done ++ (if is_root r.parent then r.label.module_file else slice_index_or done r.parent.0 0) ∷ []) rs
 
 -- the module of the node at the top of the way to a node: the module of the first name of a path to it
-abbrev pub first_home : Rows → NodeId → ℕ
-first_home s c = slice_index_or (homes_from [] s.nodes) c.0 0
+abbrev pub first_module_file : Rows → NodeId → ℕ
+first_module_file s c = slice_index_or (module_files_from [] s.nodes) c.0 0
 
 -- an augment of this module adds to another one: the first name of its path and its target are of other modules
 abbrev pub is_shown : Rows → (own : ℕ) → Note → Bool
-is_shown s own a = a.home == own && not (first_home s a.target == own) && not ((row_at s a.target).label.home == own)
+is_shown s own a = a.module_file == own && not (first_module_file s a.target == own) && not ((row_at s a.target).label.module_file == own)
 
 -- behind an empty line a title at two blanks, and nodes at four; nothing without nodes
 abbrev pub section : Rows → (own : ℕ) → (title : List ℕ) → List NodeId → List (List ℕ)
@@ -69,4 +69,4 @@ module_in (m ∷ ms) name = if bytes_eq m.name name then Some m else module_in m
 
 -- the diagram of the implemented module of this name: none where there is none
 abbrev pub diagram_of : Rows → (name : List ℕ) → Option (List ℕ)
-diagram_of s name = option_map (λ m. text_of (diagram_lines s m.name m.home)) (module_in s.modules name)
+diagram_of s name = option_map (λ m. text_of (diagram_lines s m.name m.module_file)) (module_in s.modules name)

@@ -3,8 +3,8 @@ use Rattle.std.specs.Prelude.{◌≡◌, ℕ, List, [], Bool, true, Option, Some
 use Rattle.yv_nodes.specs.declared.node.NodeId.{NodeId}
 use Rattle.yv_nodes.specs.Tree.{Forest, tree}
 use Rattle.yv_nodes.specs.Rows.{Module, Rows, tree_of}
-use Rattle.yv_tables.specs.Sound.{IsChild}
-use Rattle.yv_page.specs.Paged.{Adds, Held}
+use Rattle.yv_schema_tables.specs.Sound.{IsChild}
+use Rattle.yv_streams.specs.Pages.{Adds, Output}
 use Rattle.yv_tree.specs.Lines.{has_line, tree_lines, forest_lines}
 use Rattle.yv_tree.specs.Diagram.{text_of}
 
@@ -22,9 +22,9 @@ abbrev pub trees_text : Rows → List Module → (own : ℕ) → (margin : List 
 trees_text s modules own margin ts = text_of (forest_lines modules own margin ts)
 
 -- these trees behind the tree of a node that waits
-abbrev pub waiting : Rows → Option NodeId → Forest → Forest
-waiting s None ts = ts
-waiting s (Some c) ts = tree (tree_of s c) ts
+abbrev pub waiting_trees : Rows → Option NodeId → Forest → Forest
+waiting_trees s None ts = ts
+waiting_trees s (Some c) ts = tree (tree_of s c) ts
 
 -- a child of a node, which has a line
 pub record IsShown (s : Rows) (p c : NodeId) : Type 0 where
@@ -32,5 +32,5 @@ pub record IsShown (s : Rows) (p c : NodeId) : Type 0 where
   pub shown : has_line (tree_of s c) ≡ true
 
 -- all these bytes are put as soon as the rest of them is
-abbrev pub Leaves : (all rest : List ℕ) → (old new : Held) → Type 0
-Leaves all rest old new = (last : Held) → Adds rest new last → Adds all old last
+abbrev pub Leaves : (all rest : List ℕ) → (old new : Output) → Type 0
+Leaves all rest old new = (last : Output) → Adds rest new last → Adds all old last

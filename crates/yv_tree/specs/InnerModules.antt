@@ -5,10 +5,10 @@ use Rattle.std.specs.Ordering.{nat_cmp}
 use Rattle.yv_nodes.specs.Rows.{Module}
 
 -- the place of the first of these modules that has this number, where they begin with the place `first`
-abbrev pub place_from : (first : ℕ) → List Module → (home : ℕ) → Option ℕ
-place_from first [] home = None
-place_from first (m ∷ ms) home = if m.home == home then Some first else place_from (first + 1) ms home
+abbrev pub place_from : (first : ℕ) → List Module → (module_file : ℕ) → Option ℕ
+place_from first [] module_file = None
+place_from first (m ∷ ms) module_file = if m.module_file == module_file then Some first else place_from (first + 1) ms module_file
 
 -- a map has the place of the first module of each number
 abbrev pub ArePlaces : List Module → BTreeMap ℕ ℕ → Type 0
-ArePlaces modules places = (home : ℕ) → get nat_cmp places home ≡ place_from 0 modules home
+ArePlaces modules places = (module_file : ℕ) → get nat_cmp places module_file ≡ place_from 0 modules module_file

@@ -2,7 +2,7 @@
 use Rattle.std.specs.Prelude.{◌≡◌, ℕ, List, All}
 use Rattle.yv_nodes.specs.declared.node.NodeId.{NodeId}
 use Rattle.yv_nodes.specs.Rows.{AreTrees, Module, Rows, root}
-use Rattle.yv_tables.specs.Sound.{IsChild}
+use Rattle.yv_schema_tables.specs.Sound.{IsChild}
 use Rattle.yv_tree.specs.Diagram.{tops}
 use Rattle.yv_tree.specs.declared.sections.Part.{Part}
 use Rattle.yv_tree.specs.declared.sections.Part.TheVariants.{Data, Rpcs, Notifications}

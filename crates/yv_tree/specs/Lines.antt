@@ -1,11 +1,11 @@
 -- The lines of schema nodes in a tree diagram (RFC 8340, section 2.6).
 use Rattle.std.specs.Prelude.{ℕ, List, [], ◌∷◌, ◌++◌, Bool, true, false, ◌||◌, ◌==◌, Option, Some, None, map, if◌then◌else◌, codes}
 use Rattle.std.specs.List.{flat_map}
-use Rattle.yv_properties.specs.Steps.{Piece, Step, is_home}
-use Rattle.yv_properties.specs.declared.kind.NodeKind.{NodeKind}
-use Rattle.yv_properties.specs.declared.kind.NodeKind.TheVariants as kinds
-use Rattle.yv_properties.specs.declared.kind.NodeStatus.{NodeStatus}
-use Rattle.yv_properties.specs.declared.kind.NodeStatus.TheVariants.{Current, Deprecated, Obsolete}
+use Rattle.yv_node_definition.specs.Steps.{Piece, Step, is_module_file}
+use Rattle.yv_node_definition.specs.declared.kind.NodeKind.{NodeKind}
+use Rattle.yv_node_definition.specs.declared.kind.NodeKind.TheVariants as kinds
+use Rattle.yv_node_definition.specs.declared.kind.NodeStatus.{NodeStatus}
+use Rattle.yv_node_definition.specs.declared.kind.NodeStatus.TheVariants.{Current, Deprecated, Obsolete}
 use Rattle.yv_nodes.specs.Tree.{Label, Tree, node, Forest, no_trees, tree}
 use Rattle.yv_nodes.specs.Rows.{Module}
 
@@ -26,21 +26,21 @@ flags kinds.Notification l = codes "-n"
 flags _ l = access l
 
 -- the flags and a blank, or the colon of a case, which has no flags
-abbrev pub opening : NodeKind → Label → List ℕ
-opening kinds.Case l = codes ":"
-opening kind l = flags kind l ++ codes " "
+abbrev pub line_start : NodeKind → Label → List ℕ
+line_start kinds.Case l = codes ":"
+line_start kind l = flags kind l ++ codes " "
 
 -- the prefix of the module of this number, in its own file: nothing where there is no such module
-abbrev pub prefix_in : List Module → (home : ℕ) → List ℕ
-prefix_in [] home = []
-prefix_in (m ∷ ms) home = if m.home == home then m.prefix else prefix_in ms home
+abbrev pub prefix_in : List Module → (module_file : ℕ) → List ℕ
+prefix_in [] module_file = []
+prefix_in (m ∷ ms) module_file = if m.module_file == module_file then m.prefix else prefix_in ms module_file
 
 -- the prefix of the module of a node and a colon, where that isn't the module of the diagram
-abbrev pub lead : List Module → (own : ℕ) → (home : ℕ) → List ℕ
-lead modules own home = if home == own then [] else prefix_in modules home ++ codes ":"
+abbrev pub lead : List Module → (own : ℕ) → (module_file : ℕ) → List ℕ
+lead modules own module_file = if module_file == own then [] else prefix_in modules module_file ++ codes ":"
 
 abbrev pub full_name : List Module → (own : ℕ) → Label → List ℕ
-full_name modules own l = lead modules own l.home ++ l.defined.name
+full_name modules own l = lead modules own l.module_file ++ l.defined.name
 
 -- the name, between parentheses at a choice and a case
 abbrev pub shown_name : NodeKind → List Module → (own : ℕ) → Label → List ℕ
@@ -91,24 +91,24 @@ written_prefix None = []
 written_prefix (Some prefix) = prefix ++ codes ":"
 
 -- a piece of the path of a leafref as it is written, but without a prefix that stands for the module of the leaf itself
-abbrev pub shown_piece : (home : ℕ) → Piece → List ℕ
-shown_piece home p = (if is_home (Some home) p.home then [] else written_prefix p.prefix) ++ p.name
+abbrev pub shown_piece : (module_file : ℕ) → Piece → List ℕ
+shown_piece module_file p = (if is_module_file (Some module_file) p.module_file then [] else written_prefix p.prefix) ++ p.name
 
 -- a leafref is shown as an arrow and its path, any other type as it is written
 abbrev pub shown_type : (path : List Piece) → Label → List ℕ
 shown_type [] l = l.defined.type_text
-shown_type (p ∷ ps) l = codes "-> " ++ between (codes "/") (map (shown_piece l.home) (p ∷ ps))
+shown_type (p ∷ ps) l = codes "-> " ++ between (codes "/") (map (shown_piece l.module_file) (p ∷ ps))
 
 -- the field of the if-features, or nothing without any
-abbrev pub condition : List ℕ → List ℕ
-condition [] = []
-condition (b ∷ bs) = codes " {" ++ b ∷ bs ++ codes "}?"
+abbrev pub if_features : List ℕ → List ℕ
+if_features [] = []
+if_features (b ∷ bs) = codes " {" ++ b ∷ bs ++ codes "}?"
 
 -- `<status>--<flags> <name><opts> <type> <if-features>`, and of a case `<status>--:(name) <if-features>`
 abbrev pub line : List Module → (own : ℕ) → Label → List ℕ
 line modules own l =
-    status_mark l.defined.status ++ codes "--" ++ opening l.defined.kind l ++ shown_name l.defined.kind modules own l
-    ++ options l.defined.kind l ++ behind (shown_type l.defined.path l) ++ condition l.defined.features
+    status_mark l.defined.status ++ codes "--" ++ line_start l.defined.kind l ++ shown_name l.defined.kind modules own l
+    ++ options l.defined.kind l ++ behind (shown_type l.defined.path l) ++ if_features l.defined.features
 
 -- there is a tree
 abbrev pub are_some : Forest → Bool

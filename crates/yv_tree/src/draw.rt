@@ -1,8 +1,8 @@
 //! Nodes and those below them, drawn line by line.
 ghost use Rattle.std.specs.Prelude.{◌≡◌, ◌++◌, ◌<◌, All, IfSome, codes, length};
 ghost use Rattle.yv_nodes.specs.Rows.{AreTrees, below, forest, row_at, tree_of};
-ghost use Rattle.yv_tables.specs.Sound.{IsChild};
-ghost use Rattle.yv_page.specs.Paged.{Adds};
+ghost use Rattle.yv_schema_tables.specs.Sound.{IsChild};
+ghost use Rattle.yv_streams.specs.Pages.{Adds};
 ghost use Rattle.yv_tree.specs.InnerDraw.{tree_text, trees_text, waiting_text, IsShown};
 ghost use Rattle.yv_tree.specs.InnerMargin.{margin_text};
 ghost use Rattle.yv_tree.specs.Lines.{are_some, has_line, line};
@@ -11,9 +11,9 @@ use crate::line::put_line;
 use crate::margin::{Margin, put_margin};
 use crate::modules::Modules;
 use crate::paper::Paper;
+use yv_node_definition::NodeKind;
 use yv_nodes::NodeId;
-use yv_properties::NodeKind;
-use yv_tables::Schema;
+use yv_schema_tables::Schema;
 
 /// What a diagram is drawn of: a schema, its modules, and the number of the file of one of these.
 #[derive(Clone, Copy)]
@@ -45,15 +45,15 @@ impl Drawing<'_> {
         let mut last = None;
         for id in ids {
             if self.has_line(*id) {
-                self.waiting(parent, last, true, margin, paper, page);
+                self.draw_waiting(parent, last, true, margin, paper, page);
                 last = Some(*id);
             }
         }
-        self.waiting(parent, last, false, margin, paper, page);
+        self.draw_waiting(parent, last, false, margin, paper, page);
     }
 
     #[cycle(draw)]
-    fn waiting<P: Paper>(
+    fn draw_waiting<P: Paper>(
         &self,
         parent: NodeId,
         last: Option<NodeId>,

@@ -1,13 +1,13 @@
 //! A node's line.
 ghost use Rattle.std.specs.Prelude.{◌≡◌, ◌++◌, Some, codes, map};
-ghost use Rattle.yv_properties.specs.Steps.{is_home};
-ghost use Rattle.yv_page.specs.Paged.{Adds};
-ghost use Rattle.yv_tree.specs.Lines.{status_mark, access, flags, opening, lead, full_name, shown_name, options, optional, list_options, key_name, between, behind, behind_each, written_prefix, shown_piece, shown_type, condition, line};
+ghost use Rattle.yv_node_definition.specs.Steps.{is_module_file};
+ghost use Rattle.yv_streams.specs.Pages.{Adds};
+ghost use Rattle.yv_tree.specs.Lines.{status_mark, access, flags, line_start, lead, full_name, shown_name, options, optional, list_options, key_name, between, behind, behind_each, written_prefix, shown_piece, shown_type, if_features, line};
 
 use crate::modules::Modules;
 use crate::paper::Paper;
+use yv_node_definition::{NodeKind, NodeStatus, PathPiece, PathStep};
 use yv_nodes::Node;
-use yv_properties::{NodeKind, NodeStatus, PathPiece, PathStep};
 
 /// Puts the line of a node in a diagram of the module of this number, without its margin and
 /// its line feed.
@@ -34,7 +34,7 @@ fn put_front<P: Paper>(
     page: &mut P::Page,
 )
     ensures { Adds (status_mark node.now.label.defined.status ++ codes "--"
-        ++ opening node.now.label.defined.kind node.now.label
+        ++ line_start node.now.label.defined.kind node.now.label
         ++ shown_name node.now.label.defined.kind modules.now own node.now.label)
         (P.output page.old paper.old) (P.output page.new paper.new) }
 {
@@ -48,12 +48,12 @@ fn put_front<P: Paper>(
 fn put_fields<P: Paper>(node: &Node, paper: &mut P, page: &mut P::Page)
     ensures { Adds (options node.now.label.defined.kind node.now.label
         ++ behind (shown_type node.now.label.defined.path node.now.label)
-        ++ condition node.now.label.defined.features)
+        ++ if_features node.now.label.defined.features)
         (P.output page.old paper.old) (P.output page.new paper.new) }
 {
     put_options(node, paper, page);
     put_type(node, paper, page);
-    put_condition(node.features(), paper, page);
+    put_if_features(node.features(), paper, page);
 }
 
 fn mark_of(status: NodeStatus) -> &'static str
@@ -89,7 +89,7 @@ fn access_of(node: &Node) -> &'static str
 }
 
 fn put_opening<P: Paper>(node: &Node, paper: &mut P, page: &mut P::Page)
-    ensures { Adds (opening node.now.label.defined.kind node.now.label)
+    ensures { Adds (line_start node.now.label.defined.kind node.now.label)
         (P.output page.old paper.old) (P.output page.new paper.new) }
 {
     match node.kind() {
@@ -136,17 +136,23 @@ fn put_full_name<P: Paper>(
     ensures { Adds (full_name modules.now own node.now.label)
         (P.output page.old paper.old) (P.output page.new paper.new) }
 {
-    put_lead(modules, own, node.home(), paper, page);
+    put_lead(modules, own, node.module_file(), paper, page);
     paper.put(page, node.name());
 }
 
 // The prefix of a node's module and a colon, where that isn't the module of the diagram.
-fn put_lead<P: Paper>(modules: &Modules<'_>, own: u32, home: u32, paper: &mut P, page: &mut P::Page)
-    ensures { Adds (lead modules.now own home)
+fn put_lead<P: Paper>(
+    modules: &Modules<'_>,
+    own: u32,
+    module_file: u32,
+    paper: &mut P,
+    page: &mut P::Page,
+)
+    ensures { Adds (lead modules.now own module_file)
         (P.output page.old paper.old) (P.output page.new paper.new) }
 {
-    if home != own {
-        paper.put(page, modules.prefix(home));
+    if module_file != own {
+        paper.put(page, modules.prefix(module_file));
         paper.put(page, ":");
     }
 }
@@ -240,48 +246,48 @@ fn put_type<P: Paper>(node: &Node, paper: &mut P, page: &mut P::Page)
     match node.path().split_first() {
         Some((first, others)) => {
             paper.put(page, " -> ");
-            put_piece(node.home(), first, paper, page);
-            put_pieces(node.home(), others, paper, page);
+            put_piece(node.module_file(), first, paper, page);
+            put_pieces(node.module_file(), others, paper, page);
         }
         None => put_field(node.type_text(), paper, page),
     }
 }
 
 // Pieces of the path of a leafref of the module of this number, each behind a slash.
-fn put_pieces<P: Paper>(home: u32, pieces: &[PathPiece], paper: &mut P, page: &mut P::Page)
-    ensures { Adds (behind_each (codes "/") (map (shown_piece home) pieces.now))
+fn put_pieces<P: Paper>(module_file: u32, pieces: &[PathPiece], paper: &mut P, page: &mut P::Page)
+    ensures { Adds (behind_each (codes "/") (map (shown_piece module_file) pieces.now))
         (P.output page.old paper.old) (P.output page.new paper.new) }
 {
     for piece in pieces {
-        put_other_piece(home, piece, paper, page);
+        put_other_piece(module_file, piece, paper, page);
     }
 }
 
 // A further piece behind its slash.
-fn put_other_piece<P: Paper>(home: u32, piece: &PathPiece, paper: &mut P, page: &mut P::Page)
-    ensures { Adds (codes "/" ++ shown_piece home piece.now)
+fn put_other_piece<P: Paper>(module_file: u32, piece: &PathPiece, paper: &mut P, page: &mut P::Page)
+    ensures { Adds (codes "/" ++ shown_piece module_file piece.now)
         (P.output page.old paper.old) (P.output page.new paper.new) }
 {
     paper.put(page, "/");
-    put_piece(home, piece, paper, page);
+    put_piece(module_file, piece, paper, page);
 }
 
-fn put_piece<P: Paper>(home: u32, piece: &PathPiece, paper: &mut P, page: &mut P::Page)
-    ensures { Adds (shown_piece home piece.now)
+fn put_piece<P: Paper>(module_file: u32, piece: &PathPiece, paper: &mut P, page: &mut P::Page)
+    ensures { Adds (shown_piece module_file piece.now)
         (P.output page.old paper.old) (P.output page.new paper.new) }
 {
-    if !is_of(piece, home) {
+    if !is_of(piece, module_file) {
         put_prefix(piece, paper, page);
     }
     paper.put(page, piece.name());
 }
 
 // Whether a piece has a prefix that stands for the module of this number.
-fn is_of(piece: &PathPiece, home: u32) -> bool
-    ensures { result ≡ is_home (Some home) piece.now.home }
+fn is_of(piece: &PathPiece, module_file: u32) -> bool
+    ensures { result ≡ is_module_file (Some module_file) piece.now.module_file }
 {
-    match piece.home() {
-        Some(of) => home == of,
+    match piece.module_file() {
+        Some(of) => module_file == of,
         None => false,
     }
 }
@@ -296,8 +302,8 @@ fn put_prefix<P: Paper>(piece: &PathPiece, paper: &mut P, page: &mut P::Page)
     }
 }
 
-fn put_condition<P: Paper>(features: &str, paper: &mut P, page: &mut P::Page)
-    ensures { Adds (condition features.now)
+fn put_if_features<P: Paper>(features: &str, paper: &mut P, page: &mut P::Page)
+    ensures { Adds (if_features features.now)
         (P.output page.old paper.old) (P.output page.new paper.new) }
 {
     if !features.is_empty() {

@@ -6,7 +6,7 @@ ghost use Rattle.yv_tree.specs.InnerModules.{ArePlaces};
 use std::alloc::{AllocError, Global};
 use std::collections::BTreeMap;
 use std::marker::Model;
-use yv_tables::Module;
+use yv_schema_tables::Module;
 
 /// Modules, found by the numbers of their files: a line compares no names, since these may be as long as a file. Contracts see
 /// the list of modules.
@@ -38,10 +38,10 @@ impl<'a> Modules<'a> {
     }
 
     /// The prefix of the module of this number, in its own file. It is empty where there is no such module.
-    pub(crate) fn prefix(&self, home: u32) -> &str
-        ensures { result.now ≡ prefix_in self.now home }
+    pub(crate) fn prefix(&self, module_file: u32) -> &str
+        ensures { result.now ≡ prefix_in self.now module_file }
     {
-        match self.places.get(&home).copied() {
+        match self.places.get(&module_file).copied() {
             Some(place) => {
                 let found = &self.modules[place];
                 found.prefix.as_str()
@@ -60,7 +60,7 @@ fn places_of(alloc: Global, modules: &[Module]) -> Result<BTreeMap<u32, usize>, 
     while left > 0 {
         left -= 1;
         let first = &modules[left];
-        places.insert(first.home, left)?;
+        places.insert(first.module_file, left)?;
     }
     Ok(places)
 }

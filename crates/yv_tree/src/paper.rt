@@ -1,10 +1,9 @@
 //! What a diagram is drawn on.
 ghost use Rattle.std.specs.Prelude.{◌≡◌};
-ghost use Rattle.yv_page.specs.Paged.{Adds, Held};
+ghost use Rattle.yv_streams.specs.Pages.{Adds, Output};
 
 use std::io::Write;
-use yv_page::Page;
-use yv_streams::Counted;
+use yv_streams::{Counted, Page};
 
 /// What takes a text piece by piece: a stream behind its page, or a text in memory. Once it has
 /// failed it takes no more.
@@ -12,7 +11,7 @@ pub(crate) trait Paper {
     /// What holds the last pieces.
     type Page;
 
-    ghost output: { Self.Page → Self → Held };
+    ghost output: { Self.Page → Self → Output };
 
     /// Puts a piece behind the others.
     fn put(&mut self, page: &mut Self::Page, piece: &str)
@@ -25,12 +24,12 @@ pub(crate) trait Paper {
 
 impl<W: Write> Paper for Counted<W> {
     ghost use Rattle.yv_streams.specs.Stream.{has_failed, stream_failures, stream_inner};
-    ghost use Rattle.yv_page.specs.Paged.{held};
+    ghost use Rattle.yv_streams.specs.Pages.{output_of};
 
     type Page = Page;
 
     ghost output = { λ page w.
-        held (W.contents (stream_inner w)) (has_failed w) (stream_failures w) page };
+        output_of (W.contents (stream_inner w)) (has_failed w) (stream_failures w) page };
 
     fn put(&mut self, page: &mut Page, piece: &str) {
         page.put(self, piece.as_bytes());

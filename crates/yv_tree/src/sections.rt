@@ -1,19 +1,19 @@
 //! The parts of a diagram.
 ghost use Rattle.std.specs.Prelude.{◌≡◌, ◌==◌, [], ◌++◌, ◌<◌, All, IfOk, flat_map, length};
 ghost use Rattle.yv_nodes.specs.Rows.{row_at, AreTrees};
-ghost use Rattle.yv_tables.specs.Sound.{IsChild, IsNote, IsSound};
-ghost use Rattle.yv_page.specs.Paged.{Adds};
-ghost use Rattle.yv_tree.specs.Diagram.{augment_section, belongs, first_home, is_shown, is_top, section, text_of, tops};
+ghost use Rattle.yv_schema_tables.specs.Sound.{IsChild, IsNote, IsSound};
+ghost use Rattle.yv_streams.specs.Pages.{Adds};
+ghost use Rattle.yv_tree.specs.Diagram.{augment_section, belongs, first_module_file, is_shown, is_top, section, text_of, tops};
 ghost use Rattle.yv_tree.specs.InnerTops.{AreTops};
 
 use crate::draw::Drawing;
 use crate::margin::Margin;
 use crate::paper::Paper;
 use std::alloc::{AllocError, Global};
+use yv_node_definition::NodeKind;
 use yv_nodes::NodeId;
-use yv_properties::NodeKind;
-use yv_tables::laws::children_are_trees;
-use yv_tables::{AugmentNote, Schema};
+use yv_schema_tables::laws::children_are_trees;
+use yv_schema_tables::{AugmentNote, Schema};
 
 /// A part of a diagram.
 #[derive(Clone, Copy)]
@@ -109,7 +109,7 @@ impl Drawing<'_> {
         requires { IsNote self.now.schema.now augment.now }
         ensures { result ≡ is_shown self.now.schema.now self.now.own augment.now }
     {
-        augment.home == self.own
+        augment.module_file == self.own
             && !self.is_own(self.first(augment.target))
             && !self.is_own(augment.target)
     }
@@ -117,16 +117,16 @@ impl Drawing<'_> {
     // Whether a node is in the namespace of the module.
     fn is_own(&self, id: NodeId) -> bool
         requires { id.0 < length self.now.schema.now.nodes }
-        ensures { result ≡ ((row_at self.now.schema.now id).label.home == self.now.own) }
+        ensures { result ≡ ((row_at self.now.schema.now id).label.module_file == self.now.own) }
     {
-        self.schema.node(id).home() == self.own
+        self.schema.node(id).module_file() == self.own
     }
 
     // The node at the top of the way to this one.
     fn first(&self, id: NodeId) -> NodeId
         requires { id.0 < length self.now.schema.now.nodes }
         ensures within { result.0 < length self.now.schema.now.nodes }
-        ensures value { first_home self.now.schema.now id ≡ (row_at self.now.schema.now result).label.home }
+        ensures value { first_module_file self.now.schema.now id ≡ (row_at self.now.schema.now result).label.module_file }
     {
         let parent = self.schema.node(id).parent();
         if parent == Schema::ROOT {

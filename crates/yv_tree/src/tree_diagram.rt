@@ -2,7 +2,7 @@
 ghost use Rattle.std.specs.Prelude.{◌≡◌, ◌++◌, ◌∷◌, [], ◌↔◌, ℕ, true, false, Some, IfOk, codes, option_map, string_bytes, take};
 ghost use Rattle.std.specs.Io.KnownBytes.{Appends};
 ghost use Rattle.yv_streams.specs.Stream.{has_failed, stream_inner, FailsOnceAtMost};
-ghost use Rattle.yv_page.specs.Paged.{Adds};
+ghost use Rattle.yv_streams.specs.Pages.{Adds};
 ghost use Rattle.yv_tree.specs.Diagram.{diagram_lines, diagram_of, module_in, text_of};
 
 use crate::draw::Drawing;
@@ -15,9 +15,8 @@ use std::alloc::{AllocError, Global};
 use std::io::Write;
 use std::marker::Model;
 use yv_nodes::NodeId;
-use yv_page::Page;
-use yv_streams::Counted;
-use yv_tables::{Module, Schema};
+use yv_schema_tables::{Module, Schema};
+use yv_streams::{Counted, Page};
 
 /// The tree diagram of a module (RFC 8340), before it is drawn: all that wants memory is at hand.
 /// Contracts see its text.
@@ -38,10 +37,10 @@ impl<'a> Model for TreeDiagram<'a> {
 
     ghost Value = { List ℕ };
 
-    ghost view = { λ d. text_of (diagram_lines d.schema.now d.shown.now.name d.shown.now.home) };
+    ghost view = { λ d. text_of (diagram_lines d.schema.now d.shown.now.name d.shown.now.module_file) };
 
     ghost invariant = { λ d.
-        AreReady d.schema.now d.shown.now.home d.modules
+        AreReady d.schema.now d.shown.now.module_file d.modules
         d.data_nodes.items d.rpcs.items d.notifications.items };
 }
 
@@ -57,7 +56,7 @@ pub fn diagram(alloc: Global, schema: &Schema, name: &str) -> Result<Option<Stri
 }
 
 // The first of these modules that has this name.
-fn implemented<'a>(modules: &'a [Module], name: &str) -> Option<&'a Module>
+fn module_named<'a>(modules: &'a [Module], name: &str) -> Option<&'a Module>
     ensures { option_map (λ found. found.now) result ≡ module_in modules.now name.now }
 {
     for known in modules {
@@ -77,7 +76,7 @@ impl<'a> TreeDiagram<'a> {
     ) -> Result<Option<TreeDiagram<'a>>, AllocError>
         ensures { IfOk result (λ found. found ≡ diagram_of schema.now name.now) }
     {
-        match implemented(schema.modules(), name) {
+        match module_named(schema.modules(), name) {
             Some(shown) => Ok(Some(TreeDiagram::ready(alloc, schema, shown)?)),
             None => Ok(None),
         }
@@ -90,13 +89,13 @@ impl<'a> TreeDiagram<'a> {
         shown: &'a Module,
     ) -> Result<TreeDiagram<'a>, AllocError>
         ensures { IfOk result (λ found. found
-            ≡ text_of (diagram_lines schema.now shown.now.name shown.now.home)) }
+            ≡ text_of (diagram_lines schema.now shown.now.name shown.now.module_file)) }
     {
         let modules = Modules::of(alloc, schema.modules())?;
         let drawing = Drawing {
             schema,
             modules: &modules,
-            own: shown.home,
+            own: shown.module_file,
         };
         let data_nodes = drawing.tops(alloc, Part::Data)?;
         let rpcs = drawing.tops(alloc, Part::Rpcs)?;
@@ -145,7 +144,7 @@ impl<'a> TreeDiagram<'a> {
         let drawing = Drawing {
             schema: self.schema,
             modules: &self.modules,
-            own: shown.home,
+            own: shown.module_file,
         };
         let data_nodes = self.data_nodes.as_slice();
         put_header(shown.name.as_str(), paper, page);

@@ -5,15 +5,15 @@ use Rattle.std.specs.Option.{option_and_then}
 use Rattle.std.proofs.lemmas.List.{append-nil, append_assoc}
 use Rattle.std.proofs.lemmas.List.Elements.{Contains-append_cases}
 use Rattle.std.proofs.lemmas.Option.{same_Some}
-use Rattle.yv_selection.specs.Choice.{Choice}
-use Rattle.yv_rows.specs.Files.{Files}
-use Rattle.yv_rows.specs.Rows.{Row}
-use Rattle.yv_bases.specs.Types.{IsMember, is_type_in, is_union, types_from, types_in}
+use Rattle.yv_statement.specs.Selection.{Selected}
+use Rattle.yv_link_scopes.specs.Files.{Files}
+use Rattle.yv_link_scopes.specs.Rows.{Row}
+use Rattle.yv_type_chains.specs.Types.{IsMember, is_type_in, is_union, types_from, types_in}
 use Rattle.yv_values.specs.Types.{Plain}
-use Rattle.yv_assigned_types.specs.Types.{Truth}
+use Rattle.yv_type_enums.specs.Types.{Truth}
 use Rattle.yv_types.specs.Spaces.{Space, Spaces, none, more}
 use Rattle.yv_types.specs.InnerTables.{IsSpace, joined_from, plains_at}
-use Rattle.yv_types.specs.declared.table.Shared.{Shared}
+use Rattle.yv_types.specs.declared.table.SharedTypes.{SharedTypes}
 
 first_in : (b : Bool) (n m : ℕ) → Contains (cond b (n ∷ []) []) m → (b ≡ true) × (n ≡ m)
 first_in true n m (zero, l, e) = (refl, e)
@@ -43,7 +43,7 @@ no_list rs e = cc
 some_list : (rs : List Plain) → Some rs ≡ None → ⊥
 some_list rs e = cc
 
-module _ (files : Files) (truth : Truth) (choice : Choice) (spaces : List (Option Shared)) where
+module _ (files : Files) (truth : Truth) (choice : Selected) (spaces : List (Option SharedTypes)) where
   -- the table has the plain types of these
   abbrev pub HasAll : List ℕ → Type 0
   HasAll ms = (m : ℕ) → Contains ms m → IsSpace files truth choice m (plains_at spaces m)

@@ -3,10 +3,10 @@ use Rattle.std.proofs.Common.{◌≡◌, ℕ, ◌+◌, ◌&&◌, ◌==◌, inl, 
 use Rattle.std.specs.List.{slice_get, position_from}
 use Rattle.std.proofs.lemmas.Bool.{cases_Bool}
 use Rattle.std.proofs.lemmas.Option.{same_Some}
-use Rattle.yv_rows.specs.Rows.{Row}
-use Rattle.yv_names.specs.Refers.{is_type}
-use Rattle.yv_names.specs.References.{is_at, number_at}
-use Rattle.yv_bases.specs.Types.{IsTypeAt}
+use Rattle.yv_link_scopes.specs.Rows.{Row}
+use Rattle.yv_link_definitions.specs.Refers.{is_type}
+use Rattle.yv_link_definitions.specs.References.{is_at, number_at}
+use Rattle.yv_type_chains.specs.Types.{IsTypeAt}
 
 -- what stands at the place that is found
 found_at : {X : Type 0} (p : X → Bool) (k d : ℕ) (xs : List X) → position_from p k xs ≡ Some d → (x : X) × (i : ℕ) × (d ≡ k + i) × (slice_get xs i ≡ Some x) × (p x ≡ true)

@@ -3,18 +3,18 @@ use Rattle.std.proofs.Common.{◌≡◌, ℕ, List, Option, Some, None, refl, sy
 use Rattle.std.specs.List.{slice_get}
 use Rattle.std.specs.Option.{option_and_then, option_map}
 use Rattle.yv_values.specs.Types.{Plain}
-use Rattle.yv_defaults.specs.Known.{found_in, text_in, typedef_in}
+use Rattle.yv_types.specs.TypeDefaults.{found_in, text_in, typedef_in}
 use Rattle.yv_types.specs.InnerPlaces.{placed_in}
 use Rattle.yv_types.specs.InnerTables.{AreNumbered, entry_at, entry_of, plains, plains_at}
-use Rattle.yv_types.specs.Known.{default_at, sharing_at, sharing_of, space_at}
-use Rattle.yv_types.specs.declared.known.Types.{Types}
-use Rattle.yv_types.specs.declared.table.Shared.{Shared}
+use Rattle.yv_types.specs.Types.{default_at, sharing_at, sharing_of, space_at}
+use Rattle.yv_types.specs.declared.type_table.Types.{Types}
+use Rattle.yv_types.specs.declared.table.SharedTypes.{SharedTypes}
 
 -- the plain types at a place are those of its entry
-plains_in : (spaces : List (Option Shared)) (k : ℕ) → plains_at spaces k ≡ option_map (λ (x : ℕ × List Plain). x.1) (entry_at spaces k)
+plains_in : (spaces : List (Option SharedTypes)) (k : ℕ) → plains_at spaces k ≡ option_map (λ (x : ℕ × List Plain). x.1) (entry_at spaces k)
 plains_in spaces k = by (slice_get spaces k)
   where
-    by : (o : Option (Option Shared)) → option_and_then (option_map plains) o ≡ option_map (λ (x : ℕ × List Plain). x.1) (option_and_then (option_map entry_of) o)
+    by : (o : Option (Option SharedTypes)) → option_and_then (option_map plains) o ≡ option_map (λ (x : ℕ × List Plain). x.1) (option_and_then (option_map entry_of) o)
     by None = refl
     by (Some None) = refl
     by (Some (Some s)) = refl

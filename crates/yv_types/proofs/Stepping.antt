@@ -7,19 +7,19 @@ use Rattle.std.proofs.lemmas.Bool.{false≢true}
 use Rattle.std.specs.Option.{option_map}
 use Rattle.std.proofs.lemmas.Option.{same_Some, slice_get-map, slice_get_read}
 use Rattle.std.proofs.lemmas.Slice.Eq.{bytes_eq-Decides}
-use Rattle.yv_selection.specs.Choice.{Choice}
-use Rattle.yv_rows.specs.Files.{Files, brief_of}
-use Rattle.yv_rows.specs.Rows.{Row, name_in}
-use Rattle.yv_rows.specs.Listed.{rows_of}
-use Rattle.yv_names.specs.BuiltIn.{is_built_in}
-use Rattle.yv_names.specs.Refers.{is_type}
-use Rattle.yv_bases.specs.Types.{Follows, is_kind, types_in, RestsOn}
+use Rattle.yv_statement.specs.Selection.{Selected}
+use Rattle.yv_link_scopes.specs.Files.{Files, brief_of}
+use Rattle.yv_link_scopes.specs.Rows.{Row, name_in}
+use Rattle.yv_link_scopes.specs.RowList.{rows_of}
+use Rattle.yv_link_definitions.specs.BuiltIn.{is_built_in}
+use Rattle.yv_link_definitions.specs.Refers.{is_type}
+use Rattle.yv_type_chains.specs.Types.{Follows, is_kind, types_in, RestsOn}
 use Rattle.yv_values.specs.Types.{Plain}
-use Rattle.yv_assigned_types.specs.Types.{HasNames, Told, Truth}
-use Rattle.yv_restricted_types.specs.Types.{HasPlainType}
-use Rattle.yv_types.specs.Spaces.{Space, Spaces, faceted, listed, identityref, leafref, union, derived}
+use Rattle.yv_type_enums.specs.Types.{HasNames, NamesView, Truth}
+use Rattle.yv_type_restrictions.specs.Types.{HasPlainType}
+use Rattle.yv_types.specs.Spaces.{Space, Spaces, plain_type, names_type, identityref, leafref, union, through_typedef}
 use Rattle.yv_types.specs.InnerTables.{AreKnown, FollowsNone, IsBare, IsSpace, joined_from, plains_at}
-use Rattle.yv_types.specs.declared.table.Shared.{Shared}
+use Rattle.yv_types.specs.declared.table.SharedTypes.{SharedTypes}
 use Rattle.yv_types.proofs.Joining.{joined_full, joined_sound, member_in}
 
 no_list : (ps : List Plain) → None ≡ Some ps → ⊥
@@ -61,7 +61,7 @@ union_built = refl
 no_plain : (p : Plain) → None ≡ Some p → ⊥
 no_plain p e = cc
 
-no_told : (t : Told) → None ≡ Some t → ⊥
+no_told : (t : NamesView) → None ≡ Some t → ⊥
 no_told t e = cc
 
 pub no_number : (j : ℕ) → None ≡ Some j → ⊥
@@ -80,7 +80,7 @@ pub row_past : {A B : Type 0} (f : A → B) (xs : List A) (ys : List B) (k : ℕ
 row_past f xs ys k e h = ap (λ l. slice_get l k) (sym e) ∙ slice_get-map f xs k ∙ ap (option_map f) (past xs k h)
 
 -- nothing of its own is known of it
-pub bare_by : (files : Files) (truth : Truth) (k : ℕ) → ((p : Plain) → (None ≡ Some p) ↔ HasPlainType files k p) → ((t : Told) → (None ≡ Some t) ↔ HasNames files truth k t) → IsBare files truth k
+pub bare_by : (files : Files) (truth : Truth) (k : ℕ) → ((p : Plain) → (None ≡ Some p) ↔ HasPlainType files k p) → ((t : NamesView) → (None ≡ Some t) ↔ HasNames files truth k t) → IsBare files truth k
 bare_by files truth k plain names = record { plain = λ p h. no_plain p ((plain p).1 h); names = λ t h. no_told t ((names t).1 h) }
 
 -- what names a built-in type follows none
@@ -90,7 +90,7 @@ apart files k j r word known at is f =
     let built : is_built_in (name_in f.refers.statement) ≡ true = subst (λ (x : Row). is_built_in (name_in x) ≡ true) (sym same) (named_is word r known is) in
     not_both (is_built_in (name_in f.refers.statement)) built (both_true (is_type f.refers.statement) (not (is_built_in (name_in f.refers.statement))) f.refers.names)
 
-module _ (files : Files) (truth : Truth) (choice : Choice) (k : ℕ) where
+module _ (files : Files) (truth : Truth) (choice : Selected) (k : ℕ) where
   -- what it has is known
   pub has_some : (o : Option (List Plain)) (ps : List Plain) → o ≡ Some ps → Space files truth choice k ps → IsSpace files truth choice k o
   has_some o ps is s = record {
@@ -101,28 +101,28 @@ module _ (files : Files) (truth : Truth) (choice : Choice) (k : ℕ) where
   -- a derived type has what the type has that it follows
   module _ (bare : IsBare files truth k) (j : ℕ) (f : Follows (map brief_of files) (rows_of files) k j) (one : (i : ℕ) → Follows (map brief_of files) (rows_of files) k i → i ≡ j) where
     follows_space : (ps : List Plain) → Space files truth choice k ps → Space files truth choice j ps
-    follows_space ps (faceted h) = absurd (bare.plain _ h)
-    follows_space ps (listed told ns h up same) = absurd (bare.names told h)
+    follows_space ps (plain_type h) = absurd (bare.plain _ h)
+    follows_space ps (names_type told ns h up same) = absurd (bare.names told h)
     follows_space ps (identityref {r = r} at is up ids) = absurd (apart files k j r (codes "identityref") identityref_built at is f)
     follows_space ps (leafref {r = r} at is) = absurd (apart files k j r (codes "leafref") leafref_built at is f)
     follows_space ps (union {r = r} at is all) = absurd (apart files k j r (codes "union") union_built at is f)
-    follows_space ps (derived {j = i} g np nn s) = subst (λ n. Space files truth choice n ps) (one i g) s
+    follows_space ps (through_typedef {j = i} g np nn s) = subst (λ n. Space files truth choice n ps) (one i g) s
 
     pub has_followed : (o : Option (List Plain)) → IsSpace files truth choice j o → IsSpace files truth choice k o
     has_followed o known = record {
-      sound = λ ps e. derived f bare.plain bare.names (known.sound ps e);
+      sound = λ ps e. through_typedef f bare.plain bare.names (known.sound ps e);
       full = λ e ps h. known.full e ps (follows_space ps h);
     }
 
   module _ (bare : IsBare files truth k) (alone : FollowsNone files k) where
     -- a number without a statement
     out_space : slice_get (rows_of files) k ≡ None → (ps : List Plain) → Space files truth choice k ps → ⊥
-    out_space out ps (faceted h) = bare.plain _ h
-    out_space out ps (listed told ns h up same) = bare.names told h
+    out_space out ps (plain_type h) = bare.plain _ h
+    out_space out ps (names_type told ns h up same) = bare.names told h
     out_space out ps (identityref {r = r} at is up ids) = let bad : None ≡ Some r = sym out ∙ at in cc
     out_space out ps (leafref {r = r} at is) = let bad : None ≡ Some r = sym out ∙ at in cc
     out_space out ps (union {r = r} at is all) = let bad : None ≡ Some r = sym out ∙ at in cc
-    out_space out ps (derived {j = i} g np nn s) = alone i g
+    out_space out ps (through_typedef {j = i} g np nn s) = alone i g
 
     pub has_out : (o : Option (List Plain)) → o ≡ None → slice_get (rows_of files) k ≡ None → IsSpace files truth choice k o
     has_out o is out = record {
@@ -135,12 +135,12 @@ module _ (files : Files) (truth : Truth) (choice : Choice) (k : ℕ) where
       row_is word s there is = subst (λ (x : Row). is_kind word x ≡ true) (same_Some s r (sym there ∙ at)) is
 
       other_space : is_kind (codes "leafref") r ≡ false → is_kind (codes "identityref") r ≡ false → is_kind (codes "union") r ≡ false → (ps : List Plain) → Space files truth choice k ps → ⊥
-      other_space l i u ps (faceted h) = bare.plain _ h
-      other_space l i u ps (listed told ns h up same) = bare.names told h
+      other_space l i u ps (plain_type h) = bare.plain _ h
+      other_space l i u ps (names_type told ns h up same) = bare.names told h
       other_space l i u ps (identityref {r = s} there is up ids) = false≢true (sym i ∙ row_is (codes "identityref") s there is)
       other_space l i u ps (leafref {r = s} there is) = false≢true (sym l ∙ row_is (codes "leafref") s there is)
       other_space l i u ps (union {r = s} there is all) = false≢true (sym u ∙ row_is (codes "union") s there is)
-      other_space l i u ps (derived {j = j} g np nn s) = alone j g
+      other_space l i u ps (through_typedef {j = j} g np nn s) = alone j g
 
       -- any other type
       pub has_none : (o : Option (List Plain)) → o ≡ None → is_kind (codes "leafref") r ≡ false → is_kind (codes "identityref") r ≡ false → is_kind (codes "union") r ≡ false → IsSpace files truth choice k o
@@ -150,15 +150,15 @@ module _ (files : Files) (truth : Truth) (choice : Choice) (k : ℕ) where
       }
 
       union_space : is_kind (codes "leafref") r ≡ false → is_kind (codes "identityref") r ≡ false → (ps : List Plain) → Space files truth choice k ps → Spaces files truth choice (types_in (rows_of files) k) ps
-      union_space l i ps (faceted h) = absurd (bare.plain _ h)
-      union_space l i ps (listed told ns h up same) = absurd (bare.names told h)
+      union_space l i ps (plain_type h) = absurd (bare.plain _ h)
+      union_space l i ps (names_type told ns h up same) = absurd (bare.names told h)
       union_space l i ps (identityref {r = s} there is up ids) = absurd (false≢true (sym i ∙ row_is (codes "identityref") s there is))
       union_space l i ps (leafref {r = s} there is) = absurd (false≢true (sym l ∙ row_is (codes "leafref") s there is))
       union_space l i ps (union {r = s} there is all) = all
-      union_space l i ps (derived {j = j} g np nn s) = absurd (alone j g)
+      union_space l i ps (through_typedef {j = j} g np nn s) = absurd (alone j g)
 
       -- a union
-      pub has_joined : (spaces : List (Option Shared)) (o : Option (List Plain)) → is_kind (codes "leafref") r ≡ false → is_kind (codes "identityref") r ≡ false → is_kind (codes "union") r ≡ true → AreKnown files truth choice (RestsOn (map brief_of files) (rows_of files) k) spaces → o ≡ joined_from spaces [] (types_in (rows_of files) k) → IsSpace files truth choice k o
+      pub has_joined : (spaces : List (Option SharedTypes)) (o : Option (List Plain)) → is_kind (codes "leafref") r ≡ false → is_kind (codes "identityref") r ≡ false → is_kind (codes "union") r ≡ true → AreKnown files truth choice (RestsOn (map brief_of files) (rows_of files) k) spaces → o ≡ joined_from spaces [] (types_in (rows_of files) k) → IsSpace files truth choice k o
       has_joined spaces o l i u known is =
           let members : (m : ℕ) → Contains (types_in (rows_of files) k) m → IsSpace files truth choice m (plains_at spaces m) = λ m c. known m (inr (member_in (rows_of files) k m r at u c)) in
           record {

@@ -1,22 +1,22 @@
 -- What is told of the type statements at places.
 use Rattle.std.proofs.Common.{◌≡◌, ℕ, List, Option, Some, None, refl, sym, ◌∙◌, subst, codes}
 use Rattle.std.specs.Option.{option_and_then}
-use Rattle.yv_selection.specs.Choice.{Choice}
-use Rattle.yv_rows.specs.Files.{Files}
-use Rattle.yv_rows.specs.Listed.{rows_of}
-use Rattle.yv_names.specs.References.{number_at}
-use Rattle.yv_bases.specs.Types.{IsTypeAt}
-use Rattle.yv_assigned_types.specs.Types.{Truth}
+use Rattle.yv_statement.specs.Selection.{Selected}
+use Rattle.yv_link_scopes.specs.Files.{Files}
+use Rattle.yv_link_scopes.specs.RowList.{rows_of}
+use Rattle.yv_link_definitions.specs.References.{number_at}
+use Rattle.yv_type_chains.specs.Types.{IsTypeAt}
+use Rattle.yv_type_enums.specs.Types.{Truth}
 use Rattle.yv_values.specs.Types.{Plain}
 use Rattle.yv_types.specs.InnerPlaces.{placed_in}
 use Rattle.yv_types.specs.InnerTables.{AreSpaces, plains_at}
-use Rattle.yv_types.specs.Known.{AreTypes, IsTold, space_at}
-use Rattle.yv_types.specs.declared.known.Types.{Types}
-use Rattle.yv_types.specs.declared.table.Shared.{Shared}
+use Rattle.yv_types.specs.Types.{AreTypes, IsTold, space_at}
+use Rattle.yv_types.specs.declared.type_table.Types.{Types}
+use Rattle.yv_types.specs.declared.table.SharedTypes.{SharedTypes}
 use Rattle.yv_types.proofs.Placing.{type_there}
 
-module _ (files : Files) (choice : Choice) (truth : Truth) where
-  told_of : (spaces : List (Option Shared)) (number : Option ℕ) → AreSpaces files truth choice spaces → ((k : ℕ) → number ≡ Some k → IsTypeAt (rows_of files) k)
+module _ (files : Files) (choice : Selected) (truth : Truth) where
+  told_of : (spaces : List (Option SharedTypes)) (number : Option ℕ) → AreSpaces files truth choice spaces → ((k : ℕ) → number ≡ Some k → IsTypeAt (rows_of files) k)
       → IsTold files choice truth number (option_and_then (plains_at spaces) number)
   told_of spaces None are types = tt
   told_of spaces (Some k) are types = by (plains_at spaces k) refl

@@ -6,15 +6,15 @@ use Rattle.std.specs.List.{find}
 use Rattle.std.specs.Option.{is_some, option_map, option_copied}
 use Rattle.std.proofs.lemmas.Bool.{false≢true}
 use Rattle.yv_statement.specs.Tree.{Tree, trees}
-use Rattle.yv_selection.specs.Choice.{Choice}
-use Rattle.yv_rows.specs.Files.{Files, brief_of}
-use Rattle.yv_rows.specs.Listed.{rows_of}
-use Rattle.yv_bases.specs.Types.{Follows}
-use Rattle.yv_assigned_types.specs.Types.{Truth}
+use Rattle.yv_statement.specs.Selection.{Selected}
+use Rattle.yv_link_scopes.specs.Files.{Files, brief_of}
+use Rattle.yv_link_scopes.specs.RowList.{rows_of}
+use Rattle.yv_type_chains.specs.Types.{Follows}
+use Rattle.yv_type_enums.specs.Types.{Truth}
 use Rattle.yv_values.specs.Types.{Plain, wholes, decimals, strings, booleans, names, flags, octets, identities, empties}
-use Rattle.yv_facets.specs.Facets.{AreTests, Leaves, Narrows, child, has_word}
-use Rattle.yv_restricted_types.specs.Types.{HasPlainType, derived, left}
-use Rattle.yv_types.specs.Spaces.{Space, faceted}
+use Rattle.yv_type_restrictions.specs.Facets.{AreTests, Leaves, Narrows, child, has_word}
+use Rattle.yv_type_restrictions.specs.Types.{HasPlainType, through_typedef, after_restriction}
+use Rattle.yv_types.specs.Spaces.{Space, plain_type}
 use Rattle.yv_types.specs.InnerTables.{IsUnrestricted}
 
 no_child : (word : List ℕ) (t : Tree) → trees t.children ≡ [] → child word t ≡ None
@@ -36,11 +36,11 @@ narrows_nothing t none (identities ids) = refl
 narrows_nothing t none empties = refl
 
 -- such a type has the list of the type that it follows, if that has a plain type
-pub followed_space : (files : Files) (truth : Truth) (choice : Choice) (k j : ℕ) → IsUnrestricted files k → Follows (map brief_of files) (rows_of files) k j
+pub followed_space : (files : Files) (truth : Truth) (choice : Selected) (k j : ℕ) → IsUnrestricted files k → Follows (map brief_of files) (rows_of files) k j
     → (p : Plain) → HasPlainType files j p → ((qs rs : List Plain) → Space files truth choice j qs → Space files truth choice j rs → qs ≡ rs)
     → (ps : List Plain) → Space files truth choice j ps → Space files truth choice k ps
 followed_space files truth choice k j is f p h one ps s =
-    subst (Space files truth choice k) (one (p ∷ []) ps (faceted h) s) (faceted (left (derived is.1 f h) (narrows_nothing is.0 is.2 p)))
+    subst (Space files truth choice k) (one (p ∷ []) ps (plain_type h) s) (plain_type (after_restriction (through_typedef is.1 f h) (narrows_nothing is.0 is.2 p)))
 
 -- a view of what there is
 pub some_of : {A B : Type 0} (g : A → B) (o : Option (Bor A)) → is_some o ≡ true → (b : B) × (option_map g (option_copied o) ≡ Some b)

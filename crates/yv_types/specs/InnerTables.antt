@@ -2,68 +2,68 @@
 use Rattle.std.specs.Prelude.{◌≡◌, ◌<◌, ◌⊎◌, ℕ, List, [], ◌∷◌, ◌++◌, Option, Some, None, map, slice_get}
 use Rattle.std.specs.Option.{option_and_then, option_map}
 use Rattle.std.specs.Rc.{rc_slice_items}
-use Rattle.yv_selection.specs.Choice.{Choice}
-use Rattle.yv_rows.specs.Files.{Files, brief_of}
-use Rattle.yv_rows.specs.Listed.{rows_of}
+use Rattle.yv_statement.specs.Selection.{Selected}
+use Rattle.yv_link_scopes.specs.Files.{Files, brief_of}
+use Rattle.yv_link_scopes.specs.RowList.{rows_of}
 use Rattle.yv_values.specs.Types.{Plain, plain_of}
-use Rattle.yv_values.specs.Sorted.{Rises, is_named}
-use Rattle.yv_bases.specs.Types.{Follows, IsTypeAt}
+use Rattle.yv_values.specs.NameOrder.{Rises, is_named}
+use Rattle.yv_type_chains.specs.Types.{Follows, IsTypeAt}
 use Rattle.yv_statement.specs.Tree.{Tree, trees}
-use Rattle.yv_restricted_types.specs.Types.{HasPlainType, IsTypeAt as IsType}
-use Rattle.yv_assigned_types.specs.Types.{HasNames, Told, Truth}
+use Rattle.yv_type_restrictions.specs.Types.{HasPlainType, IsTypeAt as IsType}
+use Rattle.yv_type_enums.specs.Types.{HasNames, NamesView, Truth}
 use Rattle.yv_types.specs.Spaces.{Space, of_kind}
-use Rattle.yv_types.specs.declared.table.Shared.{Shared}
+use Rattle.yv_types.specs.declared.table.SharedTypes.{SharedTypes}
 
 -- the plain types of a list
-abbrev pub plains : Shared → List Plain
+abbrev pub plains : SharedTypes → List Plain
 plains shared = map plain_of (rc_slice_items shared.types)
 
 -- the number of a list, and its plain types
-abbrev pub entry_of : Shared → ℕ × List Plain
+abbrev pub entry_of : SharedTypes → ℕ × List Plain
 entry_of shared = (shared.list, plains shared)
 
 -- those at a place, if there are some
-abbrev pub entry_at : List (Option Shared) → ℕ → Option (ℕ × List Plain)
+abbrev pub entry_at : List (Option SharedTypes) → ℕ → Option (ℕ × List Plain)
 entry_at spaces k = option_and_then (option_map entry_of) (slice_get spaces k)
 
 -- lists of one number have the same plain types
-abbrev pub AreNumbered : List (Option Shared) → Type 0
+abbrev pub AreNumbered : List (Option SharedTypes) → Type 0
 AreNumbered spaces = (j k : ℕ) (x y : ℕ × List Plain) → entry_at spaces j ≡ Some x → entry_at spaces k ≡ Some y → x.0 ≡ y.0 → x.1 ≡ y.1
 
 -- their numbers are below this one
-abbrev pub AreBelow : List (Option Shared) → ℕ → Type 0
+abbrev pub AreBelow : List (Option SharedTypes) → ℕ → Type 0
 AreBelow spaces next = (k : ℕ) (x : ℕ × List Plain) → entry_at spaces k ≡ Some x → x.0 < next
 
 -- a list has this number, or it is one of those that are there
-abbrev pub IsNewOrThere : List (Option Shared) → ℕ → Option Shared → Type 0
+abbrev pub IsNewOrThere : List (Option SharedTypes) → ℕ → Option SharedTypes → Type 0
 IsNewOrThere spaces next space = (x : ℕ × List Plain) → option_map entry_of space ≡ Some x → (x.0 ≡ next) ⊎ ((k : ℕ) × (entry_at spaces k ≡ Some x))
 
 -- the plain types at a place, if there are some
-abbrev pub plains_at : List (Option Shared) → ℕ → Option (List Plain)
+abbrev pub plains_at : List (Option SharedTypes) → ℕ → Option (List Plain)
 plains_at spaces k = option_and_then (option_map plains) (slice_get spaces k)
 
 -- plain types and those of members behind them, if each has some
-abbrev pub joined_from : List (Option Shared) → List Plain → List ℕ → Option (List Plain)
+abbrev pub joined_from : List (Option SharedTypes) → List Plain → List ℕ → Option (List Plain)
 joined_from spaces all [] = Some all
 joined_from spaces all (m ∷ ms) = option_and_then (λ ps. joined_from spaces (all ++ ps) ms) (plains_at spaces m)
 
 -- these are the plain types of the numbered statement, or it has none
-pub record IsSpace (files : Files) (truth : Truth) (choice : Choice) (k : ℕ) (space : Option (List Plain)) : Type 0 where
+pub record IsSpace (files : Files) (truth : Truth) (choice : Selected) (k : ℕ) (space : Option (List Plain)) : Type 0 where
   pub sound : (ps : List Plain) → space ≡ Some ps → Space files truth choice k ps
   pub full : space ≡ None → (ps : List Plain) → Space files truth choice k ps → ⊥
 
 -- the table has the plain types of those
-abbrev pub AreKnown : Files → Truth → Choice → (ℕ → Type 0) → List (Option Shared) → Type 0
+abbrev pub AreKnown : Files → Truth → Selected → (ℕ → Type 0) → List (Option SharedTypes) → Type 0
 AreKnown files truth choice Those spaces = (k : ℕ) → Those k → IsSpace files truth choice k (plains_at spaces k)
 
 -- an enumeration or bits of the names that are values
-abbrev pub IsListed : Told → Plain → Type 0
+abbrev pub IsListed : NamesView → Plain → Type 0
 IsListed told p = (ns : List (List ℕ)) × (p ≡ of_kind told.kind ns) × Rises ns × ((s : List ℕ) → is_named ns s ≡ told.value s)
 
 -- the numbered statement has no plain type of its own and no names
 pub record IsBare (files : Files) (truth : Truth) (k : ℕ) : Type 0 where
   pub plain : (p : Plain) → HasPlainType files k p → ⊥
-  pub names : (told : Told) → HasNames files truth k told → ⊥
+  pub names : (told : NamesView) → HasNames files truth k told → ⊥
 
 -- and it follows none
 abbrev pub FollowsNone : Files → ℕ → Type 0
@@ -74,6 +74,6 @@ abbrev pub IsUnrestricted : Files → ℕ → Type 0
 IsUnrestricted files k = (t : Tree) × IsType files k t × (trees t.children ≡ [])
 
 -- the table has the plain types of all types, and of nothing else
-pub record AreSpaces (files : Files) (truth : Truth) (choice : Choice) (spaces : List (Option Shared)) : Type 0 where
+pub record AreSpaces (files : Files) (truth : Truth) (choice : Selected) (spaces : List (Option SharedTypes)) : Type 0 where
   pub sound : (k : ℕ) (ps : List Plain) → plains_at spaces k ≡ Some ps → Space files truth choice k ps
   pub full : (k : ℕ) → IsTypeAt (rows_of files) k → plains_at spaces k ≡ None → (ps : List Plain) → Space files truth choice k ps → ⊥

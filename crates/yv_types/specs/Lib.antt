@@ -1,5 +1,14 @@
-pub mod Faults
+pub mod Defaults
+pub mod Values
+pub mod Scopes
+pub mod TypeDefaults
+pub mod InnerDefaultTables
+pub mod InnerScopes
+pub mod Referrals
+pub mod LeafrefTypes
+pub mod InnerLeafrefTables
+pub mod Refusals
 pub mod Spaces
-pub mod Known
+pub mod Types
 pub mod InnerPlaces
 pub mod InnerTables

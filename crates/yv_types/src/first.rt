@@ -3,17 +3,17 @@ ghost use Rattle.std.specs.Prelude.{◌≡◌, ◌≢◌, Err, IfOk};
 ghost use Rattle.yv_statement.specs.Order.{IsLeast};
 ghost use Rattle.yv_statement.specs.declared.refusal.Refusal.{Refusal};
 ghost use Rattle.yv_statement.specs.declared.refusal.Stop.TheVariants.{Fault, PatternBuild};
-ghost use Rattle.yv_selection.specs.Choice.{Choice};
-ghost use Rattle.yv_rows.specs.Files.{Files};
-ghost use Rattle.yv_names.specs.Known.{AreNames};
-ghost use Rattle.yv_restricted_types.specs.Types.{HasTypePattern};
-ghost use Rattle.yv_link.specs.Linked.{AreLinked, truth_in};
-ghost use Rattle.yv_types.specs.Faults.{BadTypes};
+ghost use Rattle.yv_statement.specs.Selection.{Selected};
+ghost use Rattle.yv_link_scopes.specs.Files.{Files};
+ghost use Rattle.yv_link_definitions.specs.Meanings.{AreNames};
+ghost use Rattle.yv_type_restrictions.specs.Types.{HasTypePattern};
+ghost use Rattle.yv_link.specs.LinkedFiles.{AreLinked, truth_in};
+ghost use Rattle.yv_types.specs.Refusals.{BadTypes};
 
 use crate::layers::Layers;
 use std::alloc::Global;
 use yv_link::Linked;
-use yv_names::Names;
+use yv_link_definitions::Names;
 use yv_statement::{Refusal, Stop};
 
 /// The least that is wrong with the types of linked files, the names being theirs (RFC 7950, section 9): a substatement
@@ -28,14 +28,14 @@ pub fn first_bad_type(
     linked: &Linked<'_, '_>,
     names: &Names,
 ) -> Result<Option<Refusal>, Stop>
-    ensures least { IfOk result (λ fault. (files : Files) (choice : Choice) → AreLinked files choice linked.now → AreNames files names.now
+    ensures least { IfOk result (λ fault. (files : Files) (choice : Selected) → AreLinked files choice linked.now → AreNames files names.now
         → IsLeast (BadTypes files (truth_in linked.now)) fault) }
     ensures faultless { (r : Refusal) → result ≢ Err (Fault r) }
-    ensures built { result ≡ Err PatternBuild
-        → (files : Files) (choice : Choice) → AreLinked files choice linked.now → HasTypePattern files }
+    ensures builds { result ≡ Err PatternBuild
+        → (files : Files) (choice : Selected) → AreLinked files choice linked.now → HasTypePattern files }
 {
     match Layers::read(alloc, linked, names) {
-        Ok(layers) => Ok(layers.fault()),
+        Ok(layers) => Ok(layers.refusal()),
         Err(stop) => Err(stop),
     }
 }

@@ -3,17 +3,38 @@
 //! the plain types that the values of each may have, unions opened.
 #![tactic(auto)]
 
+mod build;
+pub mod default_laws;
+mod default_lookup;
+mod default_table;
+mod defaults;
 mod first;
-mod known;
 pub mod laws;
 mod layers;
+pub mod leafref_laws;
+mod leafref_lookup;
+mod leafref_path;
+mod leafref_table;
+mod leafref_types;
+mod path;
 mod places;
-mod read;
+mod require_instance;
+mod rows;
+mod scopes;
 mod spaces;
 mod step;
 mod table;
+mod type_table;
+mod typedef_defaults;
+mod values;
 
+pub use build::types;
+pub use defaults::TypedefDefaults;
 pub use first::first_bad_type;
-pub use known::Types;
-pub use read::types;
-pub use yv_names::{Names, names};
+pub use leafref_path::TypeLeafref;
+pub use leafref_types::LeafrefTypes;
+pub use path::{PathText, path_of};
+pub use scopes::scopes_of;
+pub use type_table::Types;
+pub use values::default_value;
+pub use yv_link_definitions::{Names, names};

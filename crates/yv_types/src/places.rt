@@ -1,28 +1,28 @@
 //! Where type statements are.
 ghost use Rattle.std.specs.Prelude.{◌≡◌, ℕ, codes, OnOk, IfOk};
-ghost use Rattle.yv_rows.specs.Rows.{row};
-ghost use Rattle.yv_rows.specs.Lent.{rows_in};
-ghost use Rattle.yv_names.specs.Refers.{is_type};
-ghost use Rattle.yv_names.specs.References.{number_at};
-ghost use Rattle.yv_names.specs.InnerPlaces.{kept};
+ghost use Rattle.yv_link_scopes.specs.Rows.{row};
+ghost use Rattle.yv_link_scopes.specs.Views.{rows_in};
+ghost use Rattle.yv_link_definitions.specs.Refers.{is_type};
+ghost use Rattle.yv_link_definitions.specs.References.{number_at};
+ghost use Rattle.yv_link_definitions.specs.InnerPlaces.{keep_first};
 ghost use Rattle.yv_types.specs.InnerPlaces.{placed_in};
 
 use std::alloc::{AllocError, Global};
 use std::collections::BTreeMap;
-use yv_rows::{Entry, Rows};
+use yv_link_scopes::{Entry, Rows};
 
 /// For each place in a file the number of the first type statement there.
 #[derive(Drop)]
-pub(crate) struct Places {
+pub(crate) struct TypePlaces {
     map: BTreeMap<(u32, u64), usize>,
 }
 
-impl Places {
+impl TypePlaces {
     /// The places of the type statements.
-    pub(crate) fn read(alloc: Global, rows: &Rows<'_, '_>) -> Result<Places, AllocError>
+    pub(crate) fn read(alloc: Global, rows: &Rows<'_, '_>) -> Result<TypePlaces, AllocError>
         ensures { IfOk result (λ places. (f o : ℕ) → placed_in places f o ≡ number_at (rows_in rows.now) (codes "type") f o) }
     {
-        let mut places = Places {
+        let mut places = TypePlaces {
             map: BTreeMap::new(alloc),
         };
         for (number, entry) in rows.entries().iter().enumerate() {
@@ -42,7 +42,7 @@ impl Places {
 
     // Puts a number at a place, where there is none yet.
     fn keep(&mut self, file: u32, offset: u64, number: usize) -> Result<(), AllocError>
-        ensures { OnOk result ((f o : ℕ) → placed_in self.new f o ≡ kept (placed_in self.old) file offset number f o) }
+        ensures { OnOk result ((f o : ℕ) → placed_in self.new f o ≡ keep_first (placed_in self.old) file offset number f o) }
     {
         if self.get(file, offset).is_none() {
             self.map.insert((file, offset), number)?;

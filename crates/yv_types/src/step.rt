@@ -1,39 +1,38 @@
 //! The plain types of one type.
 ghost use Rattle.std.specs.Prelude.{◌≡◌, ℕ, List, [], Some, true, map, slice_get, IfOk, IfSome};
 ghost use Rattle.std.specs.Option.{option_map};
-ghost use Rattle.yv_selection.specs.Choice.{Choice};
-ghost use Rattle.yv_rows.specs.Files.{Files, brief_of};
-ghost use Rattle.yv_rows.specs.Rows.{row};
-ghost use Rattle.yv_rows.specs.Listed.{rows_of};
-ghost use Rattle.yv_bases.specs.Types.{RestsOn, is_kind, types_in};
-ghost use Rattle.yv_assigned_types.specs.Told.{told_of};
-ghost use Rattle.yv_link.specs.Linked.{AreLinked, truth_in};
+ghost use Rattle.yv_statement.specs.Selection.{Selected};
+ghost use Rattle.yv_link_scopes.specs.Files.{Files, brief_of};
+ghost use Rattle.yv_link_scopes.specs.Rows.{row};
+ghost use Rattle.yv_link_scopes.specs.RowList.{rows_of};
+ghost use Rattle.yv_type_chains.specs.Types.{RestsOn, is_kind, types_in};
+ghost use Rattle.yv_type_enums.specs.TypeNames.{told_of};
+ghost use Rattle.yv_link.specs.LinkedFiles.{AreLinked, truth_in};
 ghost use Rattle.yv_values.specs.Types.{Plain, plain_of};
-ghost use Rattle.yv_bases.specs.InnerTables.{items_at};
-ghost use Rattle.yv_identityref.specs.Known.{AreIdentities};
-ghost use Rattle.yv_types.specs.Known.{AreLayers};
+ghost use Rattle.yv_type_chains.specs.InnerTables.{items_at};
+ghost use Rattle.yv_type_identities.specs.Identities.{AreIdentities};
+ghost use Rattle.yv_types.specs.Types.{AreLayers};
 ghost use Rattle.yv_types.specs.Spaces.{Space};
 ghost use Rattle.yv_types.specs.InnerTables.{AreKnown, FollowsNone, IsBare, IsListed, IsNewOrThere, IsSpace, IsUnrestricted, entry_at, entry_of, plains};
 
 use crate::layers::Layers;
-use crate::table::{Shared, joined, list_at, one};
+use crate::table::{SharedTypes, join_members, list_at, one};
 use std::alloc::{AllocError, Global};
 use std::rc::RcSlice;
-use yv_assigned_names::Kind;
-use yv_assigned_types::TypeNames;
-use yv_identityref::Identities;
 use yv_link::Linked;
-use yv_rows::{Entry, name_of};
+use yv_link_scopes::{Entry, name_of};
+use yv_type_enums::{NumberKind, TypeNames};
+use yv_type_identities::IdentityLists;
 use yv_values::PlainType;
 
 // The plain type of an enumeration or of bits.
-fn listed(names: &TypeNames<'_>) -> Result<PlainType, AllocError>
+fn names_type(names: &TypeNames<'_>) -> Result<PlainType, AllocError>
     ensures { IfOk result (λ p. IsListed (told_of names.now) (plain_of p)) }
 {
     let values = names.names.values()?;
     match names.kind {
-        Kind::Enumeration => Ok(PlainType::Enumeration(values)),
-        Kind::Bits => Ok(PlainType::Bits(values)),
+        NumberKind::Enumeration => Ok(PlainType::Enumeration(values)),
+        NumberKind::Bits => Ok(PlainType::Bits(values)),
     }
 }
 
@@ -45,26 +44,26 @@ fn is_kind(name: &str, entry: &Entry<'_, '_>) -> bool
 }
 
 // No types: a list with this number.
-fn nothing(alloc: Global, list: usize) -> Result<Shared, AllocError>
+fn nothing(alloc: Global, list: usize) -> Result<SharedTypes, AllocError>
     ensures types { IfOk result (λ s. plains s ≡ []) }
     ensures number { IfOk result (λ s. s.list ≡ list) }
 {
     let types = RcSlice::from_vec(Vec::new(alloc))?;
-    Ok(Shared { types, list })
+    Ok(SharedTypes { types, list })
 }
 
 // The types of a type that names a built-in type without facets or names: a list with this number.
 fn built_in(
     alloc: Global,
     linked: &Linked<'_, '_>,
-    identities: &mut Identities,
-    spaces: &[Option<Shared>],
+    identities: &mut IdentityLists,
+    spaces: &[Option<SharedTypes>],
     members: &[usize],
     number: usize,
     list: usize,
     entry: &Entry<'_, '_>,
-) -> Result<Option<Shared>, AllocError>
-    ensures space { AreIdentities linked.now identities.old → IfOk result (λ s. (files : Files) (choice : Choice) → AreLinked files choice linked.now
+) -> Result<Option<SharedTypes>, AllocError>
+    ensures space { AreIdentities linked.now identities.old → IfOk result (λ s. (files : Files) (choice : Selected) → AreLinked files choice linked.now
         → slice_get (rows_of files) number ≡ Some (row entry.now) → members.now ≡ types_in (rows_of files) number
         → IsBare files (truth_in linked.now) number → FollowsNone files number
         → AreKnown files (truth_in linked.now) choice (RestsOn (map brief_of files) (rows_of files) number) spaces.now
@@ -80,7 +79,7 @@ fn built_in(
         return Ok(Some(one(alloc, PlainType::Identity(values), list)?));
     }
     if is_kind("union", entry) {
-        joined(alloc, spaces, members, list)
+        join_members(alloc, spaces, members, list)
     } else {
         Ok(None)
     }
@@ -98,7 +97,7 @@ fn members_of(inside: &[Vec<usize>], number: usize) -> &[usize]
 
 // Whether the numbered statement is a type that says nothing but a name.
 fn is_unrestricted(linked: &Linked<'_, '_>, number: usize) -> bool
-    ensures { (files : Files) (choice : Choice) → AreLinked files choice linked.now → result ≡ true → IsUnrestricted files number }
+    ensures { (files : Files) (choice : Selected) → AreLinked files choice linked.now → result ≡ true → IsUnrestricted files number }
 {
     match linked.rows().statement(number) {
         Some(statement) => statement.keyword() == "type" && statement.children().is_empty(),
@@ -111,10 +110,10 @@ impl Layers<'_> {
     fn shared_types(
         &self,
         linked: &Linked<'_, '_>,
-        spaces: &[Option<Shared>],
+        spaces: &[Option<SharedTypes>],
         number: usize,
-    ) -> Result<Option<Shared>, AllocError>
-        ensures space { IfOk result (λ s. (files : Files) (choice : Choice) → AreLinked files choice linked.now
+    ) -> Result<Option<SharedTypes>, AllocError>
+        ensures space { IfOk result (λ s. (files : Files) (choice : Selected) → AreLinked files choice linked.now
             → AreLayers files (truth_in linked.now) self.now
             → AreKnown files (truth_in linked.now) choice (RestsOn (map brief_of files) (rows_of files) number) spaces.now
             → (ps : List Plain) → option_map plains s ≡ Some ps → Space files (truth_in linked.now) choice number ps) }
@@ -136,13 +135,13 @@ impl Layers<'_> {
         &self,
         alloc: Global,
         linked: &Linked<'_, '_>,
-        identities: &mut Identities,
+        identities: &mut IdentityLists,
         inside: &[Vec<usize>],
-        spaces: &[Option<Shared>],
+        spaces: &[Option<SharedTypes>],
         number: usize,
         list: usize,
-    ) -> Result<Option<Shared>, AllocError>
-        ensures space { AreIdentities linked.now identities.old → IfOk result (λ s. (files : Files) (choice : Choice) → AreLinked files choice linked.now
+    ) -> Result<Option<SharedTypes>, AllocError>
+        ensures space { AreIdentities linked.now identities.old → IfOk result (λ s. (files : Files) (choice : Selected) → AreLinked files choice linked.now
             → AreLayers files (truth_in linked.now) self.now
             → ((block : ℕ) → items_at inside.now block ≡ types_in (rows_of files) block)
             → AreKnown files (truth_in linked.now) choice (RestsOn (map brief_of files) (rows_of files) number) spaces.now
@@ -157,7 +156,7 @@ impl Layers<'_> {
             return Ok(Some(one(alloc, plain.copy()?, list)?));
         }
         if let Some(names) = self.lists.names(number) {
-            return Ok(Some(one(alloc, listed(names)?, list)?));
+            return Ok(Some(one(alloc, names_type(names)?, list)?));
         }
         if let Some(followed) = self.bases.follows(number) {
             return list_at(spaces, followed);

@@ -10,18 +10,18 @@ use yv_values::PlainType;
 
 /// The plain types of a type. Those that share them have one list.
 #[derive(Drop)]
-pub(crate) struct Shared {
+pub(crate) struct SharedTypes {
     pub types: RcSlice<PlainType>,
     /// A number of this list, which no other list has.
     pub list: usize,
 }
 
-impl Shared {
+impl SharedTypes {
     /// The same types once more, over the same list.
-    pub(crate) fn copy(&self) -> Result<Shared, AllocError>
+    pub(crate) fn copy(&self) -> Result<SharedTypes, AllocError>
         ensures { IfOk result (λ copy. entry_of copy ≡ entry_of self.now) }
     {
-        Ok(Shared {
+        Ok(SharedTypes {
             types: self.types.clone()?,
             list: self.list,
         })
@@ -29,7 +29,7 @@ impl Shared {
 }
 
 /// So many places, none with types.
-pub(crate) fn no_spaces(alloc: Global, count: usize) -> Result<Vec<Option<Shared>>, AllocError>
+pub(crate) fn no_spaces(alloc: Global, count: usize) -> Result<Vec<Option<SharedTypes>>, AllocError>
     ensures { IfOk result (λ spaces. (length spaces.items ≡ count) × ((k : ℕ) → plains_at spaces.items k ≡ None)
         × ((k : ℕ) → entry_at spaces.items k ≡ None)) }
 {
@@ -41,7 +41,7 @@ pub(crate) fn no_spaces(alloc: Global, count: usize) -> Result<Vec<Option<Shared
 }
 
 /// The types at a place.
-pub(crate) fn get(spaces: &[Option<Shared>], place: usize) -> Option<&Shared>
+pub(crate) fn get(spaces: &[Option<SharedTypes>], place: usize) -> Option<&SharedTypes>
     ensures types { option_map plains (option_copied result) ≡ plains_at spaces.now place }
     ensures entry { option_map entry_of (option_copied result) ≡ entry_at spaces.now place }
 {
@@ -49,7 +49,10 @@ pub(crate) fn get(spaces: &[Option<Shared>], place: usize) -> Option<&Shared>
 }
 
 /// The types at a place once more.
-pub(crate) fn list_at(spaces: &[Option<Shared>], place: usize) -> Result<Option<Shared>, AllocError>
+pub(crate) fn list_at(
+    spaces: &[Option<SharedTypes>],
+    place: usize,
+) -> Result<Option<SharedTypes>, AllocError>
     ensures types { IfOk result (λ s. option_map plains s ≡ plains_at spaces.now place) }
     ensures entry { IfOk result (λ s. option_map entry_of s ≡ entry_at spaces.now place) }
 {
@@ -60,7 +63,7 @@ pub(crate) fn list_at(spaces: &[Option<Shared>], place: usize) -> Result<Option<
 }
 
 /// Puts types, or none, at a place that there is.
-pub(crate) fn put(spaces: &mut Vec<Option<Shared>>, place: usize, space: Option<Shared>)
+pub(crate) fn put(spaces: &mut Vec<Option<SharedTypes>>, place: usize, space: Option<SharedTypes>)
     ensures each { length spaces.new.items ≡ length spaces.old.items }
     ensures here { place < length spaces.old.items → plains_at spaces.new.items place ≡ option_map plains space }
     ensures elsewhere { (k : ℕ) → k ≢ place → plains_at spaces.new.items k ≡ plains_at spaces.old.items k }
@@ -73,14 +76,14 @@ pub(crate) fn put(spaces: &mut Vec<Option<Shared>>, place: usize, space: Option<
 }
 
 /// A list of one type, with this number.
-pub(crate) fn one(alloc: Global, plain: PlainType, list: usize) -> Result<Shared, AllocError>
+pub(crate) fn one(alloc: Global, plain: PlainType, list: usize) -> Result<SharedTypes, AllocError>
     ensures types { IfOk result (λ shared. plains shared ≡ plain_of plain ∷ []) }
     ensures number { IfOk result (λ shared. shared.list ≡ list) }
 {
     let mut all = Vec::new(alloc);
     all.push(plain)?;
     let types = RcSlice::from_vec(all)?;
-    Ok(Shared { types, list })
+    Ok(SharedTypes { types, list })
 }
 
 // Puts copies of types behind others.
@@ -94,12 +97,12 @@ fn extend(all: &mut Vec<PlainType>, types: &[PlainType]) -> Result<(), AllocErro
 }
 
 /// The types of members, one after the other, if each has some: a list with this number.
-pub(crate) fn joined(
+pub(crate) fn join_members(
     alloc: Global,
-    spaces: &[Option<Shared>],
+    spaces: &[Option<SharedTypes>],
     members: &[usize],
     list: usize,
-) -> Result<Option<Shared>, AllocError>
+) -> Result<Option<SharedTypes>, AllocError>
     ensures types { IfOk result (λ shared. option_map plains shared ≡ joined_from spaces.now [] members.now) }
     ensures number { IfOk result (λ shared. IfSome shared (λ s. s.list ≡ list)) }
 {
@@ -111,5 +114,5 @@ pub(crate) fn joined(
         extend(&mut all, &space.types)?;
     }
     let types = RcSlice::from_vec(all)?;
-    Ok(Some(Shared { types, list }))
+    Ok(Some(SharedTypes { types, list }))
 }

@@ -1,12 +1,12 @@
 -- No two members of one object have one name, by the trees.
 use Rattle.std.proofs.Common.{◌≡◌, ◌≢◌, ℕ, zero, suc, ◌+◌, List, [], ◌∷◌, ◌++◌, length, map, Bool, true, false, cond, Some, refl, sym, ap, subst, ◌∙◌, arith}
 use Rattle.std.specs.List.{AllByRecursion, slice_get}
-use Rattle.yv_properties.specs.Kinds.{is_data, is_passed}
+use Rattle.yv_node_definition.specs.Kinds.{is_data, is_passed}
 use Rattle.yv_nodes.specs.Tree.{Label, Forest, no_trees, tree, node, labels}
 use Rattle.yv_nodes.specs.Places.{Place, places_below}
-use Rattle.yv_tables.specs.Groups.{joined}
-use Rattle.yv_tables.specs.Opened.{opened_trees}
-use Rattle.yv_tables.specs.Sound.{DifferInMember, MembersDiffer}
+use Rattle.yv_schema_tables.specs.Groups.{join}
+use Rattle.yv_schema_tables.specs.DataChildren.{opened_trees}
+use Rattle.yv_schema_tables.specs.Sound.{DifferInMember, MembersDiffer}
 
 -- what the members of an object may be called that has these trees below it, through choices and cases
 abbrev pub members : Forest → List (List ℕ)
@@ -30,7 +30,7 @@ AreApart ts = AreDistinct (members ts) × AreApartBelow ts
 abbrev names_in : List Label → List (List ℕ)
 names_in ls = map (λ (l : Label). l.member) ls
 
-labels_both : (ts us : Forest) → labels (joined ts us) ≡ labels ts ++ labels us
+labels_both : (ts us : Forest) → labels (join ts us) ≡ labels ts ++ labels us
 labels_both no_trees us = refl
 labels_both (tree (node l kids) ts) us = ap (λ (ls : List Label). l ∷ ls) (labels_both ts us)
 

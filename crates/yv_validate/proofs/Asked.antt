@@ -10,7 +10,7 @@ use Rattle.std.proofs.lemmas.Bool.{cases_Bool, true≢false}
 use Rattle.std.proofs.lemmas.Map.Lookups.{exact_unsigned}
 use Rattle.yv_nodes.specs.declared.node.NodeId.{NodeId}
 use Rattle.yv_nodes.specs.Rows.{Rows}
-use Rattle.yv_validate.specs.InnerNamed.{are_named, is_named, keys_at, list_names, named_before, some_named, uniques_at}
+use Rattle.yv_validate.specs.InnerNames.{are_named, is_named, keys_at, list_names, named_before, some_named, uniques_at}
 
 pub or_left : (a b : Bool) → a ≡ true → (a || b) ≡ true
 or_left true b e = refl

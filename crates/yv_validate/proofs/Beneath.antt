@@ -5,19 +5,19 @@ use Rattle.std.proofs.lemmas.Bool.{true≢false}
 use Rattle.std.proofs.lemmas.Bool.Decides.{nat_tests}
 use Rattle.std.proofs.lemmas.List.Elements.{recursion_from_All}
 use Rattle.serde_json.specs.Data.{Data, array, Items, no_items, item, Members}
-use Rattle.yv_properties.specs.Kinds.{is_data}
-use Rattle.yv_properties.specs.declared.kind.NodeKind.{NodeKind}
-use Rattle.yv_properties.specs.declared.kind.NodeKind.TheVariants as kind
-use Rattle.yv_selection.specs.declared.kind.Kind.{Kind}
+use Rattle.yv_node_definition.specs.Kinds.{is_data}
+use Rattle.yv_node_definition.specs.declared.kind.NodeKind.{NodeKind}
+use Rattle.yv_node_definition.specs.declared.kind.NodeKind.TheVariants as kind
+use Rattle.yv_statement.specs.declared.document_kind.Kind.{Kind}
 use Rattle.yv_nodes.specs.declared.node.NodeId.{NodeId}
 use Rattle.yv_nodes.specs.Numbers.{numbers_from}
 use Rattle.yv_nodes.specs.Rows.{AreTrees, Rows, below, children_of, forest, rank, tree_of}
 use Rattle.yv_nodes.specs.Tree.{count, Forest, Label, Tree, tree}
-use Rattle.yv_tables.specs.Sound.{IsChild, IsSound}
-use Rattle.yv_walk.specs.Standing.{count_standing, is_there}
-use Rattle.yv_references.specs.declared.scope.Scope.{Scope}
-use Rattle.yv_references.specs.InUse.{is_asked}
-use Rattle.yv_references.specs.Meetings.{at, entered, entries_met, entry_met, found_of, kind_met, Meeting, meetings, met, Node, Spot}
+use Rattle.yv_schema_tables.specs.Sound.{IsChild, IsSound}
+use Rattle.yv_walk.specs.Existence.{count_standing, is_there}
+use Rattle.yv_leafref_values.specs.declared.scope.RuleScope.{RuleScope}
+use Rattle.yv_leafref_values.specs.InUse.{is_asked}
+use Rattle.yv_leafref_values.specs.Meetings.{at, count_entered, entries_met, entry_met, found_of, kind_met, Meeting, meetings, at_node, Node, Spot}
 use Rattle.yv_validate.specs.Faults.{choice_faults, faults_at, flaw_if, kind_faults, node_faults, state_faults}
 use Rattle.yv_validate.specs.Flaw.{Flaw}
 use Rattle.yv_validate.specs.declared.fault.FaultKind.TheVariants.{State}
@@ -58,15 +58,15 @@ split_of s at c cs trees are =
     }
 
 -- nodes by their numbers are met as their trees
-ones_from : (k : Kind) (s : Rows) (scope_of : ℕ → Tree → Scope) (spot : Spot) (next : ℕ) (ms : Members) (at : ℕ) (cs : List NodeId) → IsSound s → AllByRecursion (λ (c : NodeId). c.0 < length s.nodes) cs
+ones_from : (k : Kind) (s : Rows) (scope_of : ℕ → Tree → RuleScope) (spot : Spot) (next : ℕ) (ms : Members) (at : ℕ) (cs : List NodeId) → IsSound s → AllByRecursion (λ (c : NodeId). c.0 < length s.nodes) cs
     → AreTrees s cs → cs ≡ numbers_from at (forest s cs) → ones_met k s scope_of cs ms spot next ≡ meetings k s scope_of spot next at (forest s cs) ms
 ones_from k s scope_of spot next ms at [] sound within trees are = refl
 ones_from k s scope_of spot next ms at (c ∷ cs) sound within trees are =
     let h : Splits s at c cs = split_of s at c cs trees are in
-    let scope : Scope = scope_at k s (scope_of c.0 (tree_of s c)) c in
-    ap (λ r. let here : List Meeting = one_from k s scope c r ms spot next in here ++ ones_met k s scope_of cs ms spot (next + entered here)) (rank_is s c sound within.0)
+    let scope : RuleScope = scope_at k s (scope_of c.0 (tree_of s c)) c in
+    ap (λ r. let here : List Meeting = one_from k s scope c r ms spot next in here ++ ones_met k s scope_of cs ms spot (next + count_entered here)) (rank_is s c sound within.0)
     ∙ ap (λ (xs : List Meeting). one_from k s scope c (c.0 + 1) ms spot next ++ xs)
-    (ones_from k s scope_of spot (next + entered (one_from k s scope c (c.0 + 1) ms spot next)) ms (c.0 + 1 + count (below s c)) cs sound within.1 (trees_behind s c cs trees) h.later)
+    (ones_from k s scope_of spot (next + count_entered (one_from k s scope c (c.0 + 1) ms spot next)) ms (c.0 + 1 + count (below s c)) cs sound within.1 (trees_behind s c cs trees) h.later)
     ∙ ap (λ n. meetings k s scope_of spot next n (tree (tree_of s c) (forest s cs)) ms) (sym h.first)
     ∙ ap (λ ts. meetings k s scope_of spot next at ts ms) (sym h.here)
 
@@ -83,7 +83,7 @@ pub record AreKids (s : Rows) (p : NodeId) (cs : List NodeId) : Type 0 where
   pub sound : IsSound s
   pub numbers : children_of s p ≡ numbers_from (rank p) (below s p)
 
-pub ones_start : (k : Kind) (s : Rows) (p : NodeId) (cs : List NodeId) (scope_of : ℕ → Tree → Scope) (spot : Spot) (next : ℕ) (ms : Members) → AreKids s p cs
+pub ones_start : (k : Kind) (s : Rows) (p : NodeId) (cs : List NodeId) (scope_of : ℕ → Tree → RuleScope) (spot : Spot) (next : ℕ) (ms : Members) → AreKids s p cs
     → ones_met k s scope_of cs ms spot next ≡ meetings k s scope_of spot next (rank p) (below s p) ms
 ones_start k s p cs scope_of spot next ms h =
     ones_from k s scope_of spot next ms (rank p) cs h.sound (children_within s p cs (recursion_from_All (IsChild s p) cs h.each)) h.trees
@@ -94,21 +94,21 @@ ones_start k s p cs scope_of spot next ms h =
 pub split_at : (cs : List NodeId) (i : ℕ) (d : NodeId) → i < length cs → drop i cs ≡ get_or cs i d ∷ drop (i + 1) cs
 split_at cs i d lt = rw (add-one) (drop-cons cs i d lt)
 
-pub ones_drop : (k : Kind) (s : Rows) (scope_of : ℕ → Tree → Scope) (spot : Spot) (next : ℕ) (cs : List NodeId) (i : ℕ) (d : NodeId) (ms : Members) → i < length cs
+pub ones_drop : (k : Kind) (s : Rows) (scope_of : ℕ → Tree → RuleScope) (spot : Spot) (next : ℕ) (cs : List NodeId) (i : ℕ) (d : NodeId) (ms : Members) → i < length cs
     → ones_met k s scope_of (drop i cs) ms spot next ≡ ones_met k s scope_of (get_or cs i d ∷ drop (i + 1) cs) ms spot next
 ones_drop k s scope_of spot next cs i d ms lt = ap (λ ns. ones_met k s scope_of ns ms spot next) (split_at cs i d lt)
 
 -- ---- what is below a node, as the walk goes there
 
-entries_same : (n : NodeId) (l : Label) (kids : Forest) (spot : Spot) (next : ℕ) (before : List Data) (ds : Items) (inside : Spot → ℕ → Scope → Members → List Meeting) (cs ns : List Meeting)
+entries_same : (n : NodeId) (l : Label) (kids : Forest) (spot : Spot) (next : ℕ) (before : List Data) (ds : Items) (inside : Spot → ℕ → RuleScope → Members → List Meeting) (cs ns : List Meeting)
     → entries_met n l kids spot next before ds (record { inside = inside; cases = cs; nodes = ns }) ≡ entries_met n l kids spot next before ds (record { inside = inside; cases = []; nodes = [] })
 entries_same n l kids spot next before no_items inside cs ns = refl
 entries_same n l kids spot next before (item d ds) inside cs ns =
     let here : List Meeting = entry_met n l kids spot next before d (record { inside = inside; cases = []; nodes = [] }) in
-    ap (λ (xs : List Meeting). here ++ xs) (entries_same n l kids spot (next + entered here) (before ++ d ∷ []) ds inside cs ns)
+    ap (λ (xs : List Meeting). here ++ xs) (entries_same n l kids spot (next + count_entered here) (before ++ d ∷ []) ds inside cs ns)
 
 -- at a data node only what is inside it matters
-pub kind_same : (K : NodeKind) (n : NodeId) (l : Label) (kids : Forest) (spot : Spot) (scope : Scope) (next : ℕ) (found : Option Data) (inside : Spot → ℕ → Scope → Members → List Meeting) (cs ns : List Meeting)
+pub kind_same : (K : NodeKind) (n : NodeId) (l : Label) (kids : Forest) (spot : Spot) (scope : RuleScope) (next : ℕ) (found : Option Data) (inside : Spot → ℕ → RuleScope → Members → List Meeting) (cs ns : List Meeting)
     → is_data K ≡ true
     → kind_met K n l kids spot scope next found (record { inside = inside; cases = cs; nodes = ns }) ≡ kind_met K n l kids spot scope next found (record { inside = inside; cases = []; nodes = [] })
 kind_same kind.Container n l kids spot scope next None inside cs ns is_one = refl
@@ -163,7 +163,7 @@ quiet_faults K m found is_one a = both_quiet (is_asked m.scope) (kind_faults K m
 
 -- a choice isn't written
 pub choice_told : (k : Kind) (s : Rows) (m : Node) → m.label.defined.kind ≡ kind.Choice
-    → faults_at k s (met m) ≡ cond (is_asked m.scope) (choice_faults m (count_standing (m.node.0 + 1) m.kids m.members)) []
+    → faults_at k s (at_node m) ≡ cond (is_asked m.scope) (choice_faults m (count_standing (m.node.0 + 1) m.kids m.members)) []
 choice_told k s m is =
     ap (λ (K : NodeKind). node_faults K m (found_of m)) is
     ∙ ap (λ (fs : List Flaw). cond (is_asked m.scope) (choice_faults m (count_standing (m.node.0 + 1) m.kids m.members)) fs) (quiet_state kind.Choice m (found_of m) refl)

@@ -10,32 +10,32 @@ use Rattle.std.proofs.lemmas.List.Sums.{sum_by-append, sum_by-cons}
 use Rattle.std.proofs.lemmas.Slice.Eq.{bytes_eq-Decides}
 use Rattle.serde_json.specs.Data.{Data, null, boolean, number, string, array, object, Items, no_items, item, Members, no_members, member}
 use Rattle.serde_json.specs.Find.{get_member}
-use Rattle.yv_properties.specs.declared.kind.NodeKind.{NodeKind}
-use Rattle.yv_properties.specs.declared.kind.NodeKind.TheVariants as kind
-use Rattle.yv_properties.specs.Kinds.{is_data, is_list, is_operation, is_passed}
-use Rattle.yv_values.specs.Reads.{read_by, tried}
+use Rattle.yv_node_definition.specs.declared.kind.NodeKind.{NodeKind}
+use Rattle.yv_node_definition.specs.declared.kind.NodeKind.TheVariants as kind
+use Rattle.yv_node_definition.specs.Kinds.{is_data, is_list, is_operation_or_notification, is_passed}
+use Rattle.yv_values.specs.Reads.{read_kind, types_tried}
 use Rattle.yv_values.specs.Types.{Plain}
 use Rattle.yv_values.specs.Values.{Val}
 use Rattle.yv_nodes.specs.declared.node.NodeId.{NodeId}
-use Rattle.yv_leaf_targets.specs.Numbers.{unique_leaf_at}
+use Rattle.yv_node_keys.specs.Numbers.{unique_leaf_at}
 use Rattle.yv_nodes.specs.Defaults.{defaults_of, width}
 use Rattle.yv_nodes.specs.Link.{Link, link_in}
 use Rattle.yv_nodes.specs.Rows.{Rows, root, whole}
 use Rattle.yv_nodes.specs.Tree.{count, Label, Forest, Tree, no_trees, tree, node}
-use Rattle.yv_tables.specs.Measures.{greatest, is_container, is_open, measures_of, met_below, types_of, uniques_of}
-use Rattle.yv_tables.specs.Measures as measured
-use Rattle.yv_tables.specs.Sound.{IsSound}
+use Rattle.yv_schema_tables.specs.Measures.{greatest, is_container, is_open, measures_of, met_below, types_of, uniques_of}
+use Rattle.yv_schema_tables.specs.Measures as measured
+use Rattle.yv_schema_tables.specs.Sound.{IsSound}
 use Rattle.yv_walk.specs.Context.{members_len}
 use Rattle.yv_validate.proofs.Apart.{AreApart, AreApartBelow, AreDistinct, apart, members}
 use Rattle.yv_validate.specs.Size.{size, items_size, members_size}
 use Rattle.yv_validate.specs.Values.{key_leafs, unique_leafs}
-use Rattle.yv_selection.specs.declared.kind.Kind.{Kind}
-use Rattle.yv_references.specs.declared.scope.Scope.{Scope}
-use Rattle.yv_references.specs.declared.scope.Scope.TheVariants.{Always}
-use Rattle.yv_references.specs.InUse.{case_scope, scope_in, value_of}
+use Rattle.yv_statement.specs.declared.document_kind.Kind.{Kind}
+use Rattle.yv_leafref_values.specs.declared.scope.RuleScope.{RuleScope}
+use Rattle.yv_leafref_values.specs.declared.scope.RuleScope.TheVariants.{Always}
+use Rattle.yv_leafref_values.specs.InUse.{case_scope, scope_in, value_of}
 use Rattle.yv_validate.specs.Faults.{item_tuple, tuple_at}
-use Rattle.yv_references.specs.Meetings.{Below, Ending, Meeting, stand, written, ending, met, Node, Spot, entered, entries_met, entry_met, in_container, in_entry, in_no_object, is_left, items_met, kind_met, meetings, node_met, object_met, top}
-use Rattle.yv_references.specs.References.{lookups_at, value_lookups}
+use Rattle.yv_leafref_values.specs.Meetings.{Below, EntryEnd, Meeting, stand, at_value, at_end, at_node, Node, Spot, count_entered, entries_met, entry_met, in_container, in_entry, in_no_object, is_left, items_met, kind_met, meetings, node_met, object_met, top}
+use Rattle.yv_leafref_values.specs.References.{lookups_at, value_lookups}
 use Rattle.yv_validate.specs.Work.{tuple_work, uniques_work, work, work_at}
 
 -- ---- what a member pays for, beside its own look-up
@@ -123,9 +123,9 @@ tried_by : (b : Bool) (n k : ℕ) → n ≤ k → 1 + cond b 0 n ≤ 1 + k
 tried_by true n k h = omega arith
 tried_by false n k h = omega (arith, h)
 
-tried_few : (ts : List Plain) (m : List ℕ) (d : Data) → tried ts m d ≤ length ts
+tried_few : (ts : List Plain) (m : List ℕ) (d : Data) → types_tried ts m d ≤ length ts
 tried_few [] m d = omega arith
-tried_few (t ∷ ts) m d = omega (arith, tried_by (is_some (read_by t m d)) (tried ts m d) (length ts) (tried_few ts m d))
+tried_few (t ∷ ts) m d = omega (arith, tried_by (is_some (read_kind t m d)) (types_tried ts m d) (length ts) (tried_few ts m d))
 
 reference_one : (link : Option Link) (v : Option Val) → value_lookups link v ≤ 1
 reference_one None v = omega arith
@@ -140,7 +140,7 @@ unique_count : (s : Rows) (n : NodeId) (l : Label) → length (unique_leafs s n 
 unique_count s n l = length-map l.defined.uniques (map (unique_leaf_at s.nodes n))
 
 leaf_pays : (q : Kind) (s : Rows) (k : ℕ) (n : NodeId) (l : Label) (spot : Spot) (d : Data) → length l.defined.types + 1 ≤ k
-    → cost q s (written (record { node = n; label = l; spot = spot; before = None; found = d })) ≤ k
+    → cost q s (at_value (record { node = n; label = l; spot = spot; before = None; found = d })) ≤ k
 leaf_pays q s k n l spot d few =
     omega (arith, tried_few l.defined.types l.module_name d, reference_one (link_in s.links n.0) (value_of l d), few)
 
@@ -150,7 +150,7 @@ items_pay q s k n l spot done no_items few = omega arith
 items_pay q s k n l spot done (item d ds) few =
     omega (
       arith,
-      sum_by-cons (cost q s) (written (record { node = n; label = l; spot = spot; before = Some done; found = d })) (items_met n l spot (done ++ d ∷ []) ds),
+      sum_by-cons (cost q s) (at_value (record { node = n; label = l; spot = spot; before = Some done; found = d })) (items_met n l spot (done ++ d ∷ []) ds),
       tried_few l.defined.types l.module_name d,
       tuple_one (item_tuple l d),
       reference_one (link_in s.links n.0) (value_of l d),
@@ -160,8 +160,8 @@ items_pay q s k n l spot done (item d ds) few =
 
 -- what is below a node pays with what is in it
 record Pays (q : Kind) (s : Rows) (k m inner own : ℕ) (below : Below) : Type 0 where
-  pub inside : (spot : Spot) (next : ℕ) (scope : Scope) (ms : Members) → members_len ms + sum_by (cost q s) (below.inside spot next scope ms) ≤ m + members_size ms * (k + 1)
-  pub absent : (spot : Spot) (next : ℕ) (scope : Scope) → sum_by (cost q s) (below.inside spot next scope no_members) ≤ inner
+  pub inside : (spot : Spot) (next : ℕ) (scope : RuleScope) (ms : Members) → members_len ms + sum_by (cost q s) (below.inside spot next scope ms) ≤ m + members_size ms * (k + 1)
+  pub absent : (spot : Spot) (next : ℕ) (scope : RuleScope) → sum_by (cost q s) (below.inside spot next scope no_members) ≤ inner
   pub cases : sum_by (cost q s) below.cases ≤ inner + own
   pub nodes : sum_by (cost q s) below.nodes ≤ inner + own
 
@@ -172,7 +172,7 @@ object_pays q s k m n i kids spot next (object ms) below h =
     omega (
       arith,
       sum_by-cons (cost q s)
-          (stand (record { node = n; item = i; spot = spot; last = next + entered (below.inside spot (next + 1) Always ms); trees = kids; found = object ms }))
+          (stand (record { node = n; item = i; spot = spot; last = next + count_entered (below.inside spot (next + 1) Always ms); trees = kids; found = object ms }))
           (below.inside spot (next + 1) Always ms),
       h spot (next + 1) ms,
     )
@@ -187,11 +187,11 @@ entry_pays : (q : Kind) (s : Rows) (k m u : ℕ) (n : NodeId) (l : Label) (kids 
     → ((at : Spot) (from : ℕ) (ms : Members) → members_len ms + sum_by (cost q s) (below.inside at from Always ms) ≤ m + members_size ms * (k + 1))
     → sum_by (cost q s) (entry_met n l kids spot next done d below) ≤ (1 + size d) * (k + 1)
 entry_pays q s k m u n l kids spot next done d below le few h =
-    let own : Ending = record { node = n; label = l; spot = spot; before = done; trees = kids; found = d } in
+    let own : EntryEnd = record { node = n; label = l; spot = spot; before = done; trees = kids; found = d } in
     omega (
       arith,
-      sum_by-append (cost q s) (object_met n (Some (length done + 1)) kids (in_entry spot next l (length done + 1)) next d below) (ending own ∷ []),
-      sum_by-cons (cost q s) (ending own) [],
+      sum_by-append (cost q s) (object_met n (Some (length done + 1)) kids (in_entry spot next l (length done + 1)) next d below) (at_end own ∷ []),
+      sum_by-cons (cost q s) (at_end own) [],
       object_pays q s k m n (Some (length done + 1)) kids (in_entry spot next l (length done + 1)) next d below h,
       tuple_one (tuple_at q s own (key_leafs s n l) d),
       uniques_few (tuple_at q s own) (unique_leafs s n l) d,
@@ -209,9 +209,9 @@ entries_pay q s k m u n l kids spot next done (item d ds) below le few h =
     omega (
       arith,
       sum_by-append (cost q s) (entry_met n l kids spot next done d below)
-          (entries_met n l kids spot (next + entered (entry_met n l kids spot next done d below)) (done ++ d ∷ []) ds below),
+          (entries_met n l kids spot (next + count_entered (entry_met n l kids spot next done d below)) (done ++ d ∷ []) ds below),
       entry_pays q s k m u n l kids spot next done d below le few h,
-      entries_pay q s k m u n l kids spot (next + entered (entry_met n l kids spot next done d below)) (done ++ d ∷ []) ds below le few h,
+      entries_pay q s k m u n l kids spot (next + count_entered (entry_met n l kids spot next done d below)) (done ++ d ∷ []) ds below le few h,
     )
 
 -- what a node's own members may be called, and whether what is below is met where it is
@@ -229,10 +229,10 @@ pays_own : (a k : ℕ) (p : Bool) (inner : ℕ) → a ≤ k → a ≤ cond p inn
 pays_own a k true inner h = omega (arith, h)
 pays_own a k false inner h = omega (arith, h)
 
-kind_pays : (q : Kind) (s : Rows) (k m u inner : ℕ) (K : NodeKind) (n : NodeId) (l : Label) (kids : Forest) (spot : Spot) (scope : Scope) (next : ℕ) (ns : List (List ℕ)) (ms : Members) (below : Below)
+kind_pays : (q : Kind) (s : Rows) (k m u inner : ℕ) (K : NodeKind) (n : NodeId) (l : Label) (kids : Forest) (spot : Spot) (scope : RuleScope) (next : ℕ) (ns : List (List ℕ)) (ms : Members) (below : Below)
     → m + u ≤ k → length l.defined.types + 1 ≤ k → length l.defined.uniques ≤ u
     → (is_passed K ≡ false → (is_container K || is_list K) ≡ true → (at : Spot) (from : ℕ) (ds : Members) → members_len ds + sum_by (cost q s) (below.inside at from Always ds) ≤ m + members_size ds * (k + 1))
-    → ((at : Spot) (from : ℕ) (i : Scope) → sum_by (cost q s) (below.inside at from i no_members) ≤ inner)
+    → ((at : Spot) (from : ℕ) (i : RuleScope) → sum_by (cost q s) (below.inside at from i no_members) ≤ inner)
     → sum_by (cost q s) below.cases ≤ inner + shares k ns ms → sum_by (cost q s) below.nodes ≤ inner + shares k ns ms
     → (found : Option Data) → get_member l.member ms ≡ found
     → sum_by (cost q s) (kind_met K n l kids spot scope next found below) ≤ cond (is_open_as K l) inner 0 + cond (is_passed K) (shares k ns ms) (cond (is_data K) (share_if k found + 0) 0)
@@ -242,7 +242,7 @@ kind_pays q s k m u inner kind.Container n l kids spot scope next ns ms below le
     pays_own _ (share k d) (not l.defined.has_presence) inner (omega (arith, le, object_pays q s k m n None kids (in_container spot next l) next d below (ok refl refl)))
 kind_pays q s k m u inner kind.Leaf n l kids spot scope next ns ms below le few named ok absent cases nodes None is = omega arith
 kind_pays q s k m u inner kind.Leaf n l kids spot scope next ns ms below le few named ok absent cases nodes (Some d) is =
-    omega (arith, sum_by-cons (cost q s) (written (record { node = n; label = l; spot = spot; before = None; found = d })) [], leaf_pays q s k n l spot d few)
+    omega (arith, sum_by-cons (cost q s) (at_value (record { node = n; label = l; spot = spot; before = None; found = d })) [], leaf_pays q s k n l spot d few)
 kind_pays q s k m u inner kind.LeafList n l kids spot scope next ns ms below le few named ok absent cases nodes (Some (array ds)) is =
     omega (arith, items_pay q s k n l spot [] ds few)
 kind_pays q s k m u inner kind.LeafList n l kids spot scope next ns ms below le few named ok absent cases nodes None is = omega arith
@@ -266,7 +266,7 @@ nothing_more : (n : ℕ) → n + 0 ≡ n
 nothing_more n = omega arith
 
 -- the visit of a node
-visit_costs : (q : Kind) (s : Rows) (m : Node) → cost q s (met m) ≡ width m.label
+visit_costs : (q : Kind) (s : Rows) (m : Node) → cost q s (at_node m) ≡ width m.label
 visit_costs q s m = nothing_more (width m.label)
 
 one_tree : (f : Meeting → ℕ) (op : Bool) (xs : List Meeting) (m : Meeting) (visit inner own : ℕ) → f m ≡ visit → (op ≡ false → sum_by f xs ≤ inner + own)
@@ -296,16 +296,16 @@ pub record IsWithin (m u w : ℕ) (ts : Forest) : Type 0 where
   pub uniques : greatest uniques_of ts ≤ u
   pub types : greatest types_of ts ≤ w
 
-pub forest_pays : (q : Kind) (s : Rows) (m u w : ℕ) (scope_of : ℕ → Tree → Scope) (spot : Spot) (next first : ℕ) (ts : Forest) (ms : Members) → 1 ≤ m → IsWithin m u w ts
+pub forest_pays : (q : Kind) (s : Rows) (m u w : ℕ) (scope_of : ℕ → Tree → RuleScope) (spot : Spot) (next first : ℕ) (ts : Forest) (ms : Members) → 1 ≤ m → IsWithin m u w ts
     → AreApartBelow ts
-    → sum_by (cost q s) (meetings q s scope_of spot next first ts ms) ≤ measured.met ts + shares (m + u + w) (members ts) ms
+    → sum_by (cost q s) (meetings q s scope_of spot next first ts ms) ≤ measured.count_met ts + shares (m + u + w) (members ts) ms
 forest_pays q s m u w scope_of spot next first no_trees ms some h apart = omega arith
 forest_pays q s m u w scope_of spot next first (tree (node l kids) ts) ms some h apart =
     let k : ℕ = m + u + w in
     let K : NodeKind = l.defined.kind in
-    let op : Bool = is_operation K in
+    let op : Bool = is_operation_or_notification K in
     let n : NodeId = record { 0 = first } in
-    let scope : Scope = scope_in q l.is_config (scope_of first (node l kids)) in
+    let scope : RuleScope = scope_in q l.is_config (scope_of first (node l kids)) in
     let found : Option Data = get_member l.member ms in
     let own : Node = record { node = n; label = l; spot = spot; scope = scope; members = ms; kids = kids } in
     let below : Below = record {
@@ -323,15 +323,15 @@ forest_pays q s m u w scope_of spot next first (tree (node l kids) ts) ms some h
       uniques = behind_at_most _ _ u h.uniques;
       types = behind_at_most _ _ w h.types;
     } in
-    let down : op ≡ false → (of : ℕ → Tree → Scope) (at : Spot) (from : ℕ) (ds : Members)
-    → sum_by (cost q s) (meetings q s of at from (first + 1) kids ds) ≤ measured.met kids + shares k (members kids) ds =
+    let down : op ≡ false → (of : ℕ → Tree → RuleScope) (at : Spot) (from : ℕ) (ds : Members)
+    → sum_by (cost q s) (meetings q s of at from (first + 1) kids ds) ≤ measured.count_met kids + shares k (members kids) ds =
     λ e of at from ds. forest_pays q s m u w of at from (first + 1) kids ds some (inner e) apart.1 in
     let kind_list : List Meeting = kind_met K n l kids spot scope next found below in
-    let own_pays : op ≡ false → sum_by (cost q s) (cond (is_left K scope found) [] kind_list) ≤ cond (is_open l) (measured.met kids) 0 + shares k (own_names K l (members kids)) ms =
+    let own_pays : op ≡ false → sum_by (cost q s) (cond (is_left K scope found) [] kind_list) ≤ cond (is_open l) (measured.count_met kids) 0 + shares k (own_names K l (members kids)) ms =
     λ e. cond_pays (cost q s) (is_left K scope found) kind_list _ (omega (
       arith,
       names_pay k (is_passed K) (is_data K) l (members kids) ms,
-      kind_pays q s k m u (measured.met kids) K n l kids spot scope next (members kids) ms below (omega arith)
+      kind_pays q s k m u (measured.count_met kids) K n l kids spot scope next (members kids) ms below (omega arith)
           (omega (arith, some, here_at_most op _ _ _ w h.types e))
           (here_at_most op _ _ _ u h.uniques e)
           (λ not_passed has_objects at from ds. omega (
@@ -339,7 +339,7 @@ forest_pays q s m u w scope_of spot next first (tree (node l kids) ts) ms some h
             down e (λ j t. Always) at from ds,
             shares_distinct k (members kids) ds (apart.0 not_passed),
             shares_are k ds,
-            met_if (is_container K || is_list K) (measured.met kids) m (here_at_most op _ _ _ m h.met e) has_objects,
+            met_if (is_container K || is_list K) (measured.count_met kids) m (here_at_most op _ _ _ m h.met e) has_objects,
           ))
           (λ at from i. omega (arith, down e (λ j t. i) at from no_members, shares_none k (members kids)))
           (down e (case_scope s n (first + 1) kids ms) spot next ms)
@@ -348,9 +348,9 @@ forest_pays q s m u w scope_of spot next first (tree (node l kids) ts) ms some h
     omega (
       arith,
       sum_by-append (cost q s) (node_met n l kids spot scope next ms below)
-          (meetings q s scope_of spot (next + entered (node_met n l kids spot scope next ms below)) (first + 1 + count kids) ts ms),
-      one_tree (cost q s) op (cond (is_left K scope found) [] kind_list) (met own) (width l) (cond (is_open l) (measured.met kids) 0) (shares k (own_names K l (members kids)) ms) (visit_costs q s own) own_pays,
-      forest_pays q s m u w scope_of spot (next + entered (node_met n l kids spot scope next ms below)) (first + 1 + count kids) ts ms some rest apart.2,
+          (meetings q s scope_of spot (next + count_entered (node_met n l kids spot scope next ms below)) (first + 1 + count kids) ts ms),
+      one_tree (cost q s) op (cond (is_left K scope found) [] kind_list) (at_node own) (width l) (cond (is_open l) (measured.count_met kids) 0) (shares k (own_names K l (members kids)) ms) (visit_costs q s own) own_pays,
+      forest_pays q s m u w scope_of spot (next + count_entered (node_met n l kids spot scope next ms below)) (first + 1 + count kids) ts ms some rest apart.2,
       shares_append k (own_names K l (members kids)) (members ts) ms,
     )
 
@@ -366,14 +366,14 @@ left_out f false xs e = absurd (true≢false (sym e))
 wide : (n : ℕ) → 1 ≤ max 1 n
 wide n = omega arith
 
-nothing_taken : (q : Kind) (s : Rows) (scope_of : ℕ → Tree → Scope) (spot : Spot) (next first : ℕ) (ts : Forest) (ms : Members) → measured.met ts ≡ 0
+nothing_taken : (q : Kind) (s : Rows) (scope_of : ℕ → Tree → RuleScope) (spot : Spot) (next first : ℕ) (ts : Forest) (ms : Members) → measured.count_met ts ≡ 0
     → sum_by (cost q s) (meetings q s scope_of spot next first ts ms) ≡ 0
 nothing_taken q s scope_of spot next first no_trees ms e = refl
 nothing_taken q s scope_of spot next first (tree (node l kids) ts) ms e =
-    let b : Bool = is_operation l.defined.kind in
-    let only : (b ≡ true) × (measured.met ts ≡ 0) = only_operations b (width l) (cond (is_open l) (measured.met kids) 0) (measured.met ts) (wide (length (defaults_of l))) e in
+    let b : Bool = is_operation_or_notification l.defined.kind in
+    let only : (b ≡ true) × (measured.count_met ts ≡ 0) = only_operations b (width l) (cond (is_open l) (measured.count_met kids) 0) (measured.count_met ts) (wide (length (defaults_of l))) e in
     let n : NodeId = record { 0 = first } in
-    let scope : Scope = scope_in q l.is_config (scope_of first (node l kids)) in
+    let scope : RuleScope = scope_in q l.is_config (scope_of first (node l kids)) in
     let below : Below = record {
       inside = λ at from i ds. meetings q s (λ j t. i) at from (first + 1) kids ds;
       cases = meetings q s (case_scope s n (first + 1) kids ms) spot next (first + 1) kids ms;
@@ -382,10 +382,10 @@ nothing_taken q s scope_of spot next first (tree (node l kids) ts) ms e =
     omega (
       arith,
       sum_by-append (cost q s) (node_met n l kids spot scope next ms below)
-          (meetings q s scope_of spot (next + entered (node_met n l kids spot scope next ms below)) (first + 1 + count kids) ts ms),
+          (meetings q s scope_of spot (next + count_entered (node_met n l kids spot scope next ms below)) (first + 1 + count kids) ts ms),
       left_out (cost q s) b (cond (is_left l.defined.kind scope (get_member l.member ms)) [] (kind_met l.defined.kind n l kids spot scope next (get_member l.member ms) below)
-          ++ met (record { node = n; label = l; spot = spot; scope = scope; members = ms; kids = kids }) ∷ []) only.0,
-      nothing_taken q s scope_of spot (next + entered (node_met n l kids spot scope next ms below)) (first + 1 + count kids) ts ms only.1,
+          ++ at_node (record { node = n; label = l; spot = spot; scope = scope; members = ms; kids = kids }) ∷ []) only.0,
+      nothing_taken q s scope_of spot (next + count_entered (node_met n l kids spot scope next ms below)) (first + 1 + count kids) ts ms only.1,
     )
 
 none_or_some : (n : ℕ) → (n ≡ 0) ⊎ (1 ≤ n)
@@ -404,10 +404,10 @@ pub work_bounded : (q : Kind) (s : Rows) (d : Data) → IsSound s
 work_bounded q s (object ms) sound =
     let told : AreApart (whole s) = apart (whole s) sound.members in
     let k : ℕ = (measures_of (whole s)).m + (measures_of (whole s)).u + (measures_of (whole s)).w in
-    let met_few : measured.met (whole s) ≤ (measures_of (whole s)).m = omega arith in
+    let met_few : measured.count_met (whole s) ≤ (measures_of (whole s)).m = omega arith in
     let inside : List Meeting = meetings q s (λ n t. Always) top 1 0 (whole s) ms in
     let taken : ℕ = sum_by (cost q s) inside in
-    let few : taken ≤ measured.met (whole s) + all_shares k ms = elim (none_or_some (measured.met (whole s))) [
+    let few : taken ≤ measured.count_met (whole s) + all_shares k ms = elim (none_or_some (measured.count_met (whole s))) [
       | inl none ↦ omega (arith, nothing_taken q s (λ n t. Always) top 1 0 (whole s) ms none)
       | inr some ↦ omega (
         arith,
@@ -417,7 +417,7 @@ work_bounded q s (object ms) sound =
     ] in
     omega (
       arith,
-      sum_by-cons (cost q s) (stand (record { node = root; item = None; spot = top; last = 0 + entered inside; trees = whole s; found = object ms })) inside,
+      sum_by-cons (cost q s) (stand (record { node = root; item = None; spot = top; last = 0 + count_entered inside; trees = whole s; found = object ms })) inside,
       met_few,
       few,
       shares_are k ms,

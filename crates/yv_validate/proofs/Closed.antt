@@ -3,68 +3,68 @@ use Rattle.std.proofs.Common.{◌≡◌, ℕ, ◌+◌, List, [], ◌∷◌, ◌+
 use Rattle.std.proofs.lemmas.Bool.{true≢false}
 use Rattle.serde_json.specs.Data.{Data, Members}
 use Rattle.serde_json.specs.Find.{get_member}
-use Rattle.yv_properties.specs.Kinds.{is_data, is_operation}
-use Rattle.yv_properties.specs.declared.kind.NodeKind.{NodeKind}
-use Rattle.yv_properties.specs.declared.kind.NodeKind.TheVariants as kind
-use Rattle.yv_selection.specs.declared.kind.Kind.{Kind}
+use Rattle.yv_node_definition.specs.Kinds.{is_data, is_operation_or_notification}
+use Rattle.yv_node_definition.specs.declared.kind.NodeKind.{NodeKind}
+use Rattle.yv_node_definition.specs.declared.kind.NodeKind.TheVariants as kind
+use Rattle.yv_statement.specs.declared.document_kind.Kind.{Kind}
 use Rattle.yv_values.specs.Values.{Val}
 use Rattle.yv_nodes.specs.declared.node.NodeId.{NodeId}
 use Rattle.yv_nodes.specs.Defaults.{defaults_of}
 use Rattle.yv_nodes.specs.Rows.{below, rank, Rows, row_at}
 use Rattle.yv_nodes.specs.Tree.{Forest, Label}
-use Rattle.yv_walk.specs.Standing.{count_standing}
-use Rattle.yv_references.specs.declared.scope.Scope.{Scope}
-use Rattle.yv_references.specs.Findings.{Findings, Finds, first_of}
-use Rattle.yv_references.specs.InUse.{in_use, is_asked, is_empty_at, uses_defaults}
-use Rattle.yv_references.specs.Meetings.{Below, found_of, is_left, kind_met, Meeting, met, Node, Spot}
+use Rattle.yv_walk.specs.Existence.{count_standing}
+use Rattle.yv_leafref_values.specs.declared.scope.RuleScope.{RuleScope}
+use Rattle.yv_leafref_values.specs.Findings.{Findings, Finds, first_of}
+use Rattle.yv_leafref_values.specs.InUse.{in_use, is_asked, is_empty_at, uses_defaults}
+use Rattle.yv_leafref_values.specs.Meetings.{Below, found_of, is_left, kind_met, Meeting, at_node, Node, Spot}
 use Rattle.yv_validate.specs.Faults.{array_faults, choice_faults, kind_faults, leaf_faults, state_faults}
 use Rattle.yv_validate.specs.Flaw.{Flaw}
-use Rattle.yv_validate.specs.InnerWalk.{below_from, cases_met, children_met, Closes, data_met, defaults_found, empty_found, Grows, GrowsWith, inside_at, leaf_at, leaf_list_at, node_at, one_met, Told, Writes}
+use Rattle.yv_validate.specs.InnerWalk.{below_from, cases_met, children_met, Closes, data_met, defaults_found, empty_found, Grows, GrowsWith, inside_at, leaf_at, leaf_list_at, node_at, one_met, ProgressView, Writes}
 use Rattle.yv_validate.proofs.Beneath.{choice_told, kind_same, quiet_faults}
 use Rattle.yv_validate.proofs.Grown.{asked_faults, Behind, closes, Defaults, entered_absent, entered_asked, grows_alone, grows_only, in_use_empty, in_use_items, in_use_other, in_use_unasked, in_use_written, left_written, Quiet, quiet_node, unasked_faults, with_as}
 
 -- ---- all that is met at a node
 
 -- a node, by its kind
-abbrev of_kind : Kind → Rows → Scope → NodeId → Members → Spot → ℕ → Option Data → NodeKind → List Meeting
+abbrev of_kind : Kind → Rows → RuleScope → NodeId → Members → Spot → ℕ → Option Data → NodeKind → List Meeting
 of_kind k s scope n ms spot next found K =
-    cond (is_operation K) [] (cond (is_left K scope found) [] (kind_met K n (row_at s n).label (below s n) spot scope next found (below_from k s scope spot next n (rank n) ms))
-    ++ met (node_at s scope n ms spot) ∷ [])
+    cond (is_operation_or_notification K) [] (cond (is_left K scope found) [] (kind_met K n (row_at s n).label (below s n) spot scope next found (below_from k s scope spot next n (rank n) ms))
+    ++ at_node (node_at s scope n ms spot) ∷ [])
 
-pub at_operation : (k : Kind) (s : Rows) (scope : Scope) (n : NodeId) (ms : Members) (spot : Spot) (next : ℕ) → is_operation (row_at s n).label.defined.kind ≡ true
+pub at_operation : (k : Kind) (s : Rows) (scope : RuleScope) (n : NodeId) (ms : Members) (spot : Spot) (next : ℕ) → is_operation_or_notification (row_at s n).label.defined.kind ≡ true
     → one_met k s scope n ms spot next ≡ []
 at_operation k s scope n ms spot next e =
     let l : Label = (row_at s n).label in
     let found : Option Data = get_member l.member ms in
     let K : NodeKind = l.defined.kind in
     ap (λ (b : Bool). cond b [] (cond (is_left K scope found) [] (kind_met K n l (below s n) spot scope next found (below_from k s scope spot next n (rank n) ms))
-    ++ met (node_at s scope n ms spot) ∷ [])) e
+    ++ at_node (node_at s scope n ms spot) ∷ [])) e
 
-no_operation : (K : NodeKind) (xs : List Meeting) → is_operation K ≡ false → xs ≡ cond (is_operation K) [] xs
+no_operation : (K : NodeKind) (xs : List Meeting) → is_operation_or_notification K ≡ false → xs ≡ cond (is_operation_or_notification K) [] xs
 no_operation K xs e = sym (ap (λ (b : Bool). cond b [] xs) e)
 
-pub at_data : (k : Kind) (s : Rows) (scope : Scope) (n : NodeId) (ms : Members) (found : Option Data) (spot : Spot) (next : ℕ) → is_operation (row_at s n).label.defined.kind ≡ false
+pub at_data : (k : Kind) (s : Rows) (scope : RuleScope) (n : NodeId) (ms : Members) (found : Option Data) (spot : Spot) (next : ℕ) → is_operation_or_notification (row_at s n).label.defined.kind ≡ false
     → is_data (row_at s n).label.defined.kind ≡ true → Writes s n found ms
-    → data_met k s scope n found spot next ++ met (node_at s scope n ms spot) ∷ [] ≡ one_met k s scope n ms spot next
+    → data_met k s scope n found spot next ++ at_node (node_at s scope n ms spot) ∷ [] ≡ one_met k s scope n ms spot next
 at_data k s scope n ms found spot next plain is_one writes =
     let l : Label = (row_at s n).label in
     let K : NodeKind = l.defined.kind in
-    let own : List Meeting = met (node_at s scope n ms spot) ∷ [] in
+    let own : List Meeting = at_node (node_at s scope n ms spot) ∷ [] in
     let b : Below = below_from k s scope spot next n (rank n) ms in
     ap (λ (xs : List Meeting). cond (is_left K scope found) [] xs ++ own) (sym (kind_same K n l (below s n) spot scope next found b.inside b.cases b.nodes is_one))
     ∙ ap (λ (o : Option Data). cond (is_left K scope o) [] (kind_met K n l (below s n) spot scope next o b) ++ own) (sym writes)
     ∙ no_operation K (cond (is_left K scope (get_member l.member ms)) [] (kind_met K n l (below s n) spot scope next (get_member l.member ms) b) ++ own) plain
 
-pub at_choice : (k : Kind) (s : Rows) (scope : Scope) (n : NodeId) (ms : Members) (spot : Spot) (next : ℕ) → (row_at s n).label.defined.kind ≡ kind.Choice
-    → cases_met k s n ms spot next ++ met (node_at s scope n ms spot) ∷ [] ≡ one_met k s scope n ms spot next
+pub at_choice : (k : Kind) (s : Rows) (scope : RuleScope) (n : NodeId) (ms : Members) (spot : Spot) (next : ℕ) → (row_at s n).label.defined.kind ≡ kind.Choice
+    → cases_met k s n ms spot next ++ at_node (node_at s scope n ms spot) ∷ [] ≡ one_met k s scope n ms spot next
 at_choice k s scope n ms spot next is = sym (ap (of_kind k s scope n ms spot next (get_member (row_at s n).label.member ms)) is)
 
-pub at_case : (k : Kind) (s : Rows) (scope : Scope) (n : NodeId) (ms : Members) (spot : Spot) (next : ℕ) → (row_at s n).label.defined.kind ≡ kind.Case
-    → children_met k s scope n ms spot next ++ met (node_at s scope n ms spot) ∷ [] ≡ one_met k s scope n ms spot next
+pub at_case : (k : Kind) (s : Rows) (scope : RuleScope) (n : NodeId) (ms : Members) (spot : Spot) (next : ℕ) → (row_at s n).label.defined.kind ≡ kind.Case
+    → children_met k s scope n ms spot next ++ at_node (node_at s scope n ms spot) ∷ [] ≡ one_met k s scope n ms spot next
 at_case k s scope n ms spot next is = sym (ap (of_kind k s scope n ms spot next (get_member (row_at s n).label.member ms)) is)
 
-of_other : (k : Kind) (s : Rows) (scope : Scope) (n : NodeId) (ms : Members) (spot : Spot) (next : ℕ) (found : Option Data) (K : NodeKind) → is_operation K ≡ false → is_data K ≡ false
-    → (K ≡ kind.Choice → ⊥) → (K ≡ kind.Case → ⊥) → met (node_at s scope n ms spot) ∷ [] ≡ of_kind k s scope n ms spot next found K
+of_other : (k : Kind) (s : Rows) (scope : RuleScope) (n : NodeId) (ms : Members) (spot : Spot) (next : ℕ) (found : Option Data) (K : NodeKind) → is_operation_or_notification K ≡ false → is_data K ≡ false
+    → (K ≡ kind.Choice → ⊥) → (K ≡ kind.Case → ⊥) → at_node (node_at s scope n ms spot) ∷ [] ≡ of_kind k s scope n ms spot next found K
 of_other k s scope n ms spot next found kind.Input plain none a b = refl
 of_other k s scope n ms spot next found kind.Output plain none a b = refl
 of_other k s scope n ms spot next found kind.Choice plain none a b = absurd (a refl)
@@ -74,9 +74,9 @@ of_other k s scope n ms spot next found kind.Action plain none a b = absurd (tru
 of_other k s scope n ms spot next found kind.Notification plain none a b = absurd (true≢false plain)
 of_other k s scope n ms spot next found _ plain none a b = absurd (true≢false none)
 
-pub at_other : (k : Kind) (s : Rows) (scope : Scope) (n : NodeId) (ms : Members) (spot : Spot) (next : ℕ) → is_operation (row_at s n).label.defined.kind ≡ false
+pub at_other : (k : Kind) (s : Rows) (scope : RuleScope) (n : NodeId) (ms : Members) (spot : Spot) (next : ℕ) → is_operation_or_notification (row_at s n).label.defined.kind ≡ false
     → is_data (row_at s n).label.defined.kind ≡ false → ((row_at s n).label.defined.kind ≡ kind.Choice → ⊥) → ((row_at s n).label.defined.kind ≡ kind.Case → ⊥)
-    → met (node_at s scope n ms spot) ∷ [] ≡ one_met k s scope n ms spot next
+    → at_node (node_at s scope n ms spot) ∷ [] ≡ one_met k s scope n ms spot next
 at_other k s scope n ms spot next plain none a b = of_other k s scope n ms spot next (get_member (row_at s n).label.member ms) (row_at s n).label.defined.kind plain none a b
 
 -- ---- how the walk grows there
@@ -87,11 +87,11 @@ not_leaf K none e = true≢false (sym (ap is_data e) ∙ none)
 not_leaf_list : (K : NodeKind) → is_data K ≡ false → (K ≡ kind.LeafList → ⊥)
 not_leaf_list K none e = true≢false (sym (ap is_data e) ∙ none)
 
-pub no_default : (K : NodeKind) (l : Label) (scope : Scope) (found : Option Data) → is_data K ≡ false → in_use K l scope found ≡ []
+pub no_default : (K : NodeKind) (l : Label) (scope : RuleScope) (found : Option Data) → is_data K ≡ false → in_use K l scope found ≡ []
 no_default K l scope found none = in_use_other K l scope found (not_leaf K none) (not_leaf_list K none)
 
 -- a case, or what isn't in documents: nothing is told of it
-pub other_closes : Defaults → Quiet → Behind → (k : Kind) (s : Rows) (scope : Scope) (n : NodeId) (ms : Members) (spot : Spot) (a b : Told) (xs : List Meeting) → is_data (row_at s n).label.defined.kind ≡ false
+pub other_closes : Defaults → Quiet → Behind → (k : Kind) (s : Rows) (scope : RuleScope) (n : NodeId) (ms : Members) (spot : Spot) (a b : ProgressView) (xs : List Meeting) → is_data (row_at s n).label.defined.kind ≡ false
     → ((row_at s n).label.defined.kind ≡ kind.Choice → ⊥) → Grows k s a b xs → Closes k s a b xs (node_at s scope n ms spot)
 other_closes defaults quiet behind k s scope n ms spot a b xs none other h =
     let m : Node = node_at s scope n ms spot in
@@ -99,7 +99,7 @@ other_closes defaults quiet behind k s scope n ms spot a b xs none other h =
     (quiet_node defaults quiet s b.found m (no_default m.label.defined.kind m.label scope (found_of m) none))
 
 -- a choice
-pub choice_closes : Defaults → Quiet → Behind → (k : Kind) (s : Rows) (scope : Scope) (n : NodeId) (ms : Members) (spot : Spot) (a b : Told) (xs : List Meeting) (existing : ℕ) → (row_at s n).label.defined.kind ≡ kind.Choice
+pub choice_closes : Defaults → Quiet → Behind → (k : Kind) (s : Rows) (scope : RuleScope) (n : NodeId) (ms : Members) (spot : Spot) (a b : ProgressView) (xs : List Meeting) (existing : ℕ) → (row_at s n).label.defined.kind ≡ kind.Choice
     → rank n ≡ n.0 + 1 → existing ≡ count_standing (rank n) (below s n) ms
     → GrowsWith k s a b xs (cond (is_asked scope) (choice_faults (node_at s scope n ms spot) existing) []) → Closes k s a b xs (node_at s scope n ms spot)
 choice_closes defaults quiet behind k s scope n ms spot a b xs existing is first count h =
@@ -110,7 +110,7 @@ choice_closes defaults quiet behind k s scope n ms spot a b xs existing is first
     (quiet_node defaults quiet s b.found m (no_default m.label.defined.kind m.label scope (found_of m) (ap is_data is)))
 
 -- what is met at a data node for which some rule holds
-pub data_asked : (k : Kind) (s : Rows) (scope : Scope) (n : NodeId) (found : Option Data) (spot : Spot) (next : ℕ) (K : NodeKind) → (row_at s n).label.defined.kind ≡ K → is_asked scope ≡ true
+pub data_asked : (k : Kind) (s : Rows) (scope : RuleScope) (n : NodeId) (found : Option Data) (spot : Spot) (next : ℕ) (K : NodeKind) → (row_at s n).label.defined.kind ≡ K → is_asked scope ≡ true
     → kind_met K n (row_at s n).label (below s n) spot scope next found (inside_at k s n) ≡ data_met k s scope n found spot next
 data_asked k s scope n found spot next K is asked =
     let l : Label = (row_at s n).label in
@@ -118,7 +118,7 @@ data_asked k s scope n found spot next K is asked =
     ∙ sym (ap (λ (b : Bool). cond b [] (kind_met l.defined.kind n l (below s n) spot scope next found (inside_at k s n))) (entered_asked l.defined.kind scope found asked))
 
 -- and at one that isn't written
-pub data_absent : (k : Kind) (s : Rows) (scope : Scope) (n : NodeId) (spot : Spot) (next : ℕ) (K : NodeKind) → (row_at s n).label.defined.kind ≡ K
+pub data_absent : (k : Kind) (s : Rows) (scope : RuleScope) (n : NodeId) (spot : Spot) (next : ℕ) (K : NodeKind) → (row_at s n).label.defined.kind ≡ K
     → kind_met K n (row_at s n).label (below s n) spot scope next None (inside_at k s n) ≡ data_met k s scope n None spot next
 data_absent k s scope n spot next K is =
     let l : Label = (row_at s n).label in
@@ -126,28 +126,28 @@ data_absent k s scope n spot next K is =
     ∙ sym (ap (λ (b : Bool). cond b [] (kind_met l.defined.kind n l (below s n) spot scope next None (inside_at k s n))) (entered_absent l.defined.kind scope))
 
 -- state that is written isn't looked into
-pub data_left : (k : Kind) (s : Rows) (scope : Scope) (n : NodeId) (d : Data) (spot : Spot) (next : ℕ) → is_data (row_at s n).label.defined.kind ≡ true → is_asked scope ≡ false
+pub data_left : (k : Kind) (s : Rows) (scope : RuleScope) (n : NodeId) (d : Data) (spot : Spot) (next : ℕ) → is_data (row_at s n).label.defined.kind ≡ true → is_asked scope ≡ false
     → [] ≡ data_met k s scope n (Some d) spot next
 data_left k s scope n d spot next is_one unasked =
     let l : Label = (row_at s n).label in
     sym (ap (λ (b : Bool). cond b [] (kind_met l.defined.kind n l (below s n) spot scope next (Some d) (inside_at k s n))) (left_written l.defined.kind scope d is_one unasked))
 
 -- what isn't written, and is no container
-absent_kind : (K : NodeKind) (n : NodeId) (l : Label) (kids : Forest) (spot : Spot) (scope : Scope) (next : ℕ) (below : Below) → is_data K ≡ true → (K ≡ kind.Container → ⊥)
+absent_kind : (K : NodeKind) (n : NodeId) (l : Label) (kids : Forest) (spot : Spot) (scope : RuleScope) (next : ℕ) (below : Below) → is_data K ≡ true → (K ≡ kind.Container → ⊥)
     → [] ≡ kind_met K n l kids spot scope next None below
 absent_kind kind.Container n l kids spot scope next below is_one other = absurd (other refl)
 absent_kind kind.Choice n l kids spot scope next below is_one other = absurd (true≢false (sym is_one))
 absent_kind kind.Case n l kids spot scope next below is_one other = absurd (true≢false (sym is_one))
 absent_kind _ n l kids spot scope next below is_one other = refl
 
-pub data_nothing : (k : Kind) (s : Rows) (scope : Scope) (n : NodeId) (spot : Spot) (next : ℕ) → is_data (row_at s n).label.defined.kind ≡ true → ((row_at s n).label.defined.kind ≡ kind.Container → ⊥)
+pub data_nothing : (k : Kind) (s : Rows) (scope : RuleScope) (n : NodeId) (spot : Spot) (next : ℕ) → is_data (row_at s n).label.defined.kind ≡ true → ((row_at s n).label.defined.kind ≡ kind.Container → ⊥)
     → [] ≡ data_met k s scope n None spot next
 data_nothing k s scope n spot next is_one other =
     let l : Label = (row_at s n).label in
     absent_kind l.defined.kind n l (below s n) spot scope next (inside_at k s n) is_one other ∙ data_absent k s scope n spot next l.defined.kind refl
 
 -- a data node of some kind for which some rule holds: its faults are those of the kind
-pub arm_closes : Defaults → Quiet → Behind → (k : Kind) (s : Rows) (scope : Scope) (n : NodeId) (ms : Members) (found : Option Data) (spot : Spot) (next : ℕ) (a b : Told) (K : NodeKind) → (row_at s n).label.defined.kind ≡ K
+pub arm_closes : Defaults → Quiet → Behind → (k : Kind) (s : Rows) (scope : RuleScope) (n : NodeId) (ms : Members) (found : Option Data) (spot : Spot) (next : ℕ) (a b : ProgressView) (K : NodeKind) → (row_at s n).label.defined.kind ≡ K
     → is_asked scope ≡ true → (K ≡ kind.Leaf → ⊥) → (K ≡ kind.LeafList → ⊥) → Writes s n found ms
     → GrowsWith k s a b (kind_met K n (row_at s n).label (below s n) spot scope next found (inside_at k s n)) (kind_faults K (node_at s scope n ms spot) found)
     → Closes k s a b (data_met k s scope n found spot next) (node_at s scope n ms spot)
@@ -159,7 +159,7 @@ arm_closes defaults quiet behind k s scope n ms found spot next a b K is asked o
     (quiet_node defaults quiet s b.found m (ap (λ (x : NodeKind). in_use x m.label scope (found_of m)) is ∙ in_use_other K m.label scope (found_of m) other another))
 
 -- and one for which none does
-pub state_closes : Defaults → Quiet → Behind → (k : Kind) (s : Rows) (scope : Scope) (n : NodeId) (ms : Members) (found : Option Data) (spot : Spot) (next : ℕ) (a b : Told) (xs : List Meeting)
+pub state_closes : Defaults → Quiet → Behind → (k : Kind) (s : Rows) (scope : RuleScope) (n : NodeId) (ms : Members) (found : Option Data) (spot : Spot) (next : ℕ) (a b : ProgressView) (xs : List Meeting)
     → is_asked scope ≡ false → Writes s n found ms → xs ≡ data_met k s scope n found spot next
     → GrowsWith k s a b xs (state_faults (row_at s n).label.defined.kind (node_at s scope n ms spot) found)
     → Closes k s a b (data_met k s scope n found spot next) (node_at s scope n ms spot)
@@ -173,7 +173,7 @@ state_closes defaults quiet behind k s scope n ms found spot next a b xs unasked
 -- ---- leafs
 
 -- one that isn't written
-pub absent_closes : Defaults → Behind → Quiet → (k : Kind) (s : Rows) (scope : Scope) (n : NodeId) (ms : Members) (spot : Spot) (a : Told) (faults : List Flaw) (found : Findings) → (row_at s n).label.defined.kind ≡ kind.Leaf
+pub absent_closes : Defaults → Behind → Quiet → (k : Kind) (s : Rows) (scope : RuleScope) (n : NodeId) (ms : Members) (spot : Spot) (a : ProgressView) (faults : List Flaw) (found : Findings) → (row_at s n).label.defined.kind ≡ kind.Leaf
     → is_asked scope ≡ true → Writes s n None ms → faults ≡ a.faults ++ leaf_faults (node_at s scope n ms spot) None
     → Finds a.found found (empty_found s scope n (first_of spot.around))
     → Closes k s a (record { faults = faults; found = found; steps = a.steps }) [] (node_at s scope n ms spot)
@@ -189,7 +189,7 @@ absent_closes defaults behind quiet k s scope n ms spot a faults found is asked 
     ∙ ap (λ (vs : List Val). defaults_found s n here vs) (in_use_empty kind.Leaf l scope None refl))) used)
 
 -- one that is
-pub written_closes : Defaults → Quiet → Behind → (k : Kind) (s : Rows) (scope : Scope) (n : NodeId) (ms : Members) (d : Data) (spot : Spot) (next : ℕ) (a b : Told) → (row_at s n).label.defined.kind ≡ kind.Leaf
+pub written_closes : Defaults → Quiet → Behind → (k : Kind) (s : Rows) (scope : RuleScope) (n : NodeId) (ms : Members) (d : Data) (spot : Spot) (next : ℕ) (a b : ProgressView) → (row_at s n).label.defined.kind ≡ kind.Leaf
     → is_asked scope ≡ true → Writes s n (Some d) ms → Grows k s a b (leaf_at s n (Some d) spot next)
     → Closes k s a b (leaf_at s n (Some d) spot next) (node_at s scope n ms spot)
 written_closes defaults quiet behind k s scope n ms d spot next a b is asked writes h =
@@ -201,7 +201,7 @@ written_closes defaults quiet behind k s scope n ms d spot next a b is asked wri
 -- ---- leaf-lists
 
 -- one that has items, or whose defaults aren't used
-pub items_close : Defaults → Quiet → Behind → (k : Kind) (s : Rows) (scope : Scope) (n : NodeId) (ms : Members) (found : Option Data) (spot : Spot) (next : ℕ) (a b : Told) → (row_at s n).label.defined.kind ≡ kind.LeafList
+pub items_close : Defaults → Quiet → Behind → (k : Kind) (s : Rows) (scope : RuleScope) (n : NodeId) (ms : Members) (found : Option Data) (spot : Spot) (next : ℕ) (a b : ProgressView) → (row_at s n).label.defined.kind ≡ kind.LeafList
     → is_asked scope ≡ true → Writes s n found ms → (uses_defaults scope && is_empty_at kind.LeafList found) ≡ false
     → GrowsWith k s a b (leaf_list_at s n found spot next) (array_faults (node_at s scope n ms spot) found)
     → Closes k s a b (leaf_list_at s n found spot next) (node_at s scope n ms spot)
@@ -212,7 +212,7 @@ items_close defaults quiet behind k s scope n ms found spot next a b is asked wr
     (ap (λ (K : NodeKind). in_use K m.label scope (found_of m)) is ∙ ap (λ (o : Option Data). in_use kind.LeafList m.label scope o) writes ∙ in_use_items m.label scope found unused))
 
 -- one whose defaults are
-pub empty_closes : Defaults → Behind → (k : Kind) (s : Rows) (scope : Scope) (n : NodeId) (ms : Members) (found : Option Data) (spot : Spot) (next : ℕ) (a b : Told) (used : Findings) → (row_at s n).label.defined.kind ≡ kind.LeafList
+pub empty_closes : Defaults → Behind → (k : Kind) (s : Rows) (scope : RuleScope) (n : NodeId) (ms : Members) (found : Option Data) (spot : Spot) (next : ℕ) (a b : ProgressView) (used : Findings) → (row_at s n).label.defined.kind ≡ kind.LeafList
     → is_asked scope ≡ true → Writes s n found ms → (uses_defaults scope && is_empty_at kind.LeafList found) ≡ true
     → GrowsWith k s a b (leaf_list_at s n found spot next) (array_faults (node_at s scope n ms spot) found)
     → Finds b.found used (defaults_found s n (first_of spot.around) (defaults_of (row_at s n).label))

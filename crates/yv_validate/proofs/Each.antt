@@ -7,8 +7,8 @@ use Rattle.yv_values.specs.Pairs.{Pair}
 use Rattle.yv_values.specs.Values.{Val}
 use Rattle.yv_validate.specs.Faults.{unique_faults, unique_if}
 use Rattle.yv_validate.specs.InnerMemory.{Remembers, RemembersEach}
-use Rattle.yv_references.specs.Place.{Place}
-use Rattle.yv_validate.specs.Repeats.{repeated}
+use Rattle.yv_leafref_values.specs.Place.{Place}
+use Rattle.yv_validate.specs.Repeats.{repeat_of}
 use Rattle.yv_validate.specs.Work.{tuple_work, uniques_work}
 use Rattle.yv_validate.proofs.Remembered.{nothing_yet}
 
@@ -77,10 +77,10 @@ pub first_left : (us : List (List (Option NodeId))) (i : ℕ) (u : List (Option 
 first_left us i u lt = rw (add-one) (drop-cons us i u lt)
 
 pub unique_drop : (f : List (Option NodeId) → Data → Option (List Val)) (here : List Place) (k : ℕ) (us : List (List (Option NodeId))) (i : ℕ) (u : List (Option NodeId)) (before : List Data) (d : Data) → i < length us → u ≡ get_or us i u
-    → unique_faults f here k (drop i us) before d ≡ unique_if (repeated (f u) before d) here k ++ unique_faults f here (k + 1) (drop (i + 1) us) before d
+    → unique_faults f here k (drop i us) before d ≡ unique_if (repeat_of (f u) before d) here k ++ unique_faults f here (k + 1) (drop (i + 1) us) before d
 unique_drop f here k us i u before d lt is =
     ap (λ vs. unique_faults f here k vs before d) (first_left us i u lt)
-    ∙ ap (λ w. unique_if (repeated (f w) before d) here k ++ unique_faults f here (k + 1) (drop (i + 1) us) before d) (sym is)
+    ∙ ap (λ w. unique_if (repeat_of (f w) before d) here k ++ unique_faults f here (k + 1) (drop (i + 1) us) before d) (sym is)
 
 pub work_drop : (f : List (Option NodeId) → Data → Option (List Val)) (us : List (List (Option NodeId))) (i : ℕ) (u : List (Option NodeId)) (d : Data) → i < length us → u ≡ get_or us i u
     → uniques_work f (drop i us) d ≡ tuple_work (f u d) + uniques_work f (drop (i + 1) us) d

@@ -3,14 +3,14 @@ use Rattle.std.proofs.Common.{◌≡◌, ℕ, zero, suc, ◌+◌, ◌-◌, ◌<�
 use Rattle.std.specs.List.{slice_get}
 use Rattle.std.specs.Option.{IfSome, SomeIff}
 use Rattle.std.proofs.lemmas.Bool.{true≢false}
-use Rattle.yv_properties.specs.Kinds.{is_operation}
+use Rattle.yv_node_definition.specs.Kinds.{is_operation_or_notification}
 use Rattle.yv_nodes.specs.declared.node.NodeId.{NodeId}
 use Rattle.yv_nodes.specs.Defaults.{width}
 use Rattle.yv_nodes.specs.Numbers.{numbers_from}
 use Rattle.yv_nodes.specs.Rows.{AreTrees, below, children_of, forest, rank, Rows, tree_of}
 use Rattle.yv_nodes.specs.Tree.{count, Forest, Label, no_trees, Tree, node, tree}
-use Rattle.yv_tables.specs.Measures.{is_open, met}
-use Rattle.yv_validate.specs.InnerNamed.{is_read}
+use Rattle.yv_schema_tables.specs.Measures.{is_open, count_met}
+use Rattle.yv_validate.specs.InnerNames.{is_read}
 use Rattle.yv_validate.specs.InnerQuiet.{are_quiet, AreKnown, is_mute, is_quiet, node_back, quiet_steps, steps_at, tree_met}
 use Rattle.yv_validate.proofs.Beneath.{split_of, Splits, trees_behind}
 use Rattle.yv_validate.proofs.Asked.{one_number}
@@ -18,34 +18,34 @@ use Rattle.yv_validate.proofs.Asked.{one_number}
 -- ---- the steps of a node
 
 -- an operation is met nowhere
-pub of_operation : (s : Rows) (n : ℕ) (l : Label) (kids : Forest) → is_operation l.defined.kind ≡ true → quiet_steps s n (node l kids) ≡ Some 0
+pub of_operation : (s : Rows) (n : ℕ) (l : Label) (kids : Forest) → is_operation_or_notification l.defined.kind ≡ true → quiet_steps s n (node l kids) ≡ Some 0
 of_operation s n l kids e =
     ap (λ (b : Bool). cond (b || (is_mute (is_read s n) l.defined.kind l && (not (is_open l) || are_quiet s (n + 1) kids)))
-    (Some (cond b 0 (width l + cond (is_open l) (met kids) 0))) None) e
+    (Some (cond b 0 (width l + cond (is_open l) (count_met kids) 0))) None) e
 
 -- of another node that says nothing itself
-mute_steps : (s : Rows) (n : ℕ) (l : Label) (kids : Forest) → is_operation l.defined.kind ≡ false → is_mute (is_read s n) l.defined.kind l ≡ true
-    → quiet_steps s n (node l kids) ≡ cond (not (is_open l) || are_quiet s (n + 1) kids) (Some (width l + cond (is_open l) (met kids) 0)) None
+mute_steps : (s : Rows) (n : ℕ) (l : Label) (kids : Forest) → is_operation_or_notification l.defined.kind ≡ false → is_mute (is_read s n) l.defined.kind l ≡ true
+    → quiet_steps s n (node l kids) ≡ cond (not (is_open l) || are_quiet s (n + 1) kids) (Some (width l + cond (is_open l) (count_met kids) 0)) None
 mute_steps s n l kids other mute =
     ap (λ (b : Bool). cond (b || (is_mute (is_read s n) l.defined.kind l && (not (is_open l) || are_quiet s (n + 1) kids)))
-    (Some (cond b 0 (width l + cond (is_open l) (met kids) 0))) None) other
-    ∙ ap (λ (b : Bool). cond (b && (not (is_open l) || are_quiet s (n + 1) kids)) (Some (width l + cond (is_open l) (met kids) 0)) None) mute
+    (Some (cond b 0 (width l + cond (is_open l) (count_met kids) 0))) None) other
+    ∙ ap (λ (b : Bool). cond (b && (not (is_open l) || are_quiet s (n + 1) kids)) (Some (width l + cond (is_open l) (count_met kids) 0)) None) mute
 
 -- the nodes in it are met elsewhere
-pub of_closed : (s : Rows) (n : ℕ) (l : Label) (kids : Forest) (w : ℕ) → is_operation l.defined.kind ≡ false → is_mute (is_read s n) l.defined.kind l ≡ true
+pub of_closed : (s : Rows) (n : ℕ) (l : Label) (kids : Forest) (w : ℕ) → is_operation_or_notification l.defined.kind ≡ false → is_mute (is_read s n) l.defined.kind l ≡ true
     → is_open l ≡ false → w ≡ width l → quiet_steps s n (node l kids) ≡ Some w
 of_closed s n l kids w other mute closed is =
     let sum : width l + 0 ≡ w = omega (arith, is) in
-    mute_steps s n l kids other mute ∙ ap (λ (b : Bool). cond (not b || are_quiet s (n + 1) kids) (Some (width l + cond b (met kids) 0)) None) closed ∙ ap Some sum
+    mute_steps s n l kids other mute ∙ ap (λ (b : Bool). cond (not b || are_quiet s (n + 1) kids) (Some (width l + cond b (count_met kids) 0)) None) closed ∙ ap Some sum
 
 -- the nodes in it are met where it is
-pub of_open : (s : Rows) (n : ℕ) (l : Label) (kids : Forest) (w inner all : ℕ) → is_operation l.defined.kind ≡ false → is_mute (is_read s n) l.defined.kind l ≡ true
-    → is_open l ≡ true → are_quiet s (n + 1) kids ≡ true → w ≡ width l → met kids ≡ inner → all ≡ w + inner → quiet_steps s n (node l kids) ≡ Some all
+pub of_open : (s : Rows) (n : ℕ) (l : Label) (kids : Forest) (w inner all : ℕ) → is_operation_or_notification l.defined.kind ≡ false → is_mute (is_read s n) l.defined.kind l ≡ true
+    → is_open l ≡ true → are_quiet s (n + 1) kids ≡ true → w ≡ width l → count_met kids ≡ inner → all ≡ w + inner → quiet_steps s n (node l kids) ≡ Some all
 of_open s n l kids w inner all other mute opened quiet is own sum =
-    let total : width l + met kids ≡ all = omega (arith, is, own, sum) in
+    let total : width l + count_met kids ≡ all = omega (arith, is, own, sum) in
     mute_steps s n l kids other mute
-    ∙ ap (λ (b : Bool). cond (not b || are_quiet s (n + 1) kids) (Some (width l + cond b (met kids) 0)) None) opened
-    ∙ ap (λ (b : Bool). cond b (Some (width l + met kids)) None) quiet ∙ ap Some total
+    ∙ ap (λ (b : Bool). cond (not b || are_quiet s (n + 1) kids) (Some (width l + cond b (count_met kids) 0)) None) opened
+    ∙ ap (λ (b : Bool). cond b (Some (width l + count_met kids)) None) quiet ∙ ap Some total
 
 -- what is said of a sum that fits
 pub if_sum : (o : Option ℕ) (fits : Type 0) (sum : ℕ) (P : ℕ → Type 0) → SomeIff o fits sum → ((n : ℕ) → n ≡ sum → P n) → IfSome o P
@@ -58,7 +58,7 @@ quiet_parts : (b : Bool) (v w : ℕ) → cond b (Some v) None ≡ Some w → (b 
 quiet_parts true v w e = let same : v ≡ w = cc in (refl, same)
 quiet_parts false v w e = absurd (cc)
 
-split_met : (t : Tree) (others : Forest) → met (tree t others) ≡ tree_met t + met others
+split_met : (t : Tree) (others : Forest) → count_met (tree t others) ≡ tree_met t + count_met others
 split_met (node l kids) others = refl
 
 -- the trees of these nodes are quiet
@@ -78,24 +78,24 @@ ones_from s at (c ∷ cs) trees are =
 -- with what is left, the whole is quiet and has its steps
 pub record IsLeft (s : Rows) (total : ℕ) (left whole : List NodeId) : Type 0 where
   pub quiet : ones_quiet s left ≡ true → ones_quiet s whole ≡ true
-  pub steps : total + met (forest s left) ≡ met (forest s whole)
+  pub steps : total + count_met (forest s left) ≡ count_met (forest s whole)
 
 pub first_left : (s : Rows) (left whole : List NodeId) → left ≡ whole → IsLeft s 0 left whole
 first_left s left whole same = record {
   quiet = λ e. sym (ap (ones_quiet s) same) ∙ e;
-  steps = omega (arith, ap (λ (ns : List NodeId). met (forest s ns)) same);
+  steps = omega (arith, ap (λ (ns : List NodeId). count_met (forest s ns)) same);
 }
 
 -- nothing is left of the children of a node
 pub record IsWhole (s : Rows) (total : ℕ) (p : NodeId) : Type 0 where
   pub quiet : are_quiet s (rank p) (below s p) ≡ true
-  pub steps : met (below s p) ≡ total
+  pub steps : count_met (below s p) ≡ total
 
 pub all_left : (s : Rows) (total : ℕ) (left cs : List NodeId) (p : NodeId) → left ≡ [] → cs ≡ children_of s p → AreTrees s cs
     → children_of s p ≡ numbers_from (rank p) (below s p) → IsLeft s total left (children_of s p) → IsWhole s total p
 all_left s total left cs p none same trees numbers h = record {
   quiet = sym (ones_from s (rank p) (children_of s p) (subst (λ (ns : List NodeId). AreTrees s ns) same trees) numbers) ∙ h.quiet (ap (ones_quiet s) none);
-  steps = omega (arith, h.steps, ap (λ (ns : List NodeId). met (forest s ns)) none);
+  steps = omega (arith, h.steps, ap (λ (ns : List NodeId). count_met (forest s ns)) none);
 }
 
 pub one_more : (s : Rows) (total new steps : ℕ) (c : NodeId) (left others whole : List NodeId) → left ≡ c ∷ others
@@ -103,7 +103,7 @@ pub one_more : (s : Rows) (total new steps : ℕ) (c : NodeId) (left others whol
 one_more s total new steps c left others whole first split known sum h =
     let parts = quiet_parts (is_quiet s c.0 (tree_of s c)) (tree_met (tree_of s c)) steps known in
     let own : tree_met (tree_of s c) ≡ steps = parts.1 in
-    let here : met (forest s left) ≡ tree_met (tree_of s c) + met (forest s others) = ap met split ∙ split_met (tree_of s c) (forest s others) in
+    let here : count_met (forest s left) ≡ tree_met (tree_of s c) + count_met (forest s others) = ap count_met split ∙ split_met (tree_of s c) (forest s others) in
     record {
       quiet = λ e. h.quiet (ap (ones_quiet s) first ∙ ap (λ (b : Bool). b && ones_quiet s others) parts.0 ∙ e);
       steps = omega (arith, h.steps, here, own, sum);

@@ -3,20 +3,20 @@ use Rattle.std.proofs.Common.{◌≡◌, ℕ, ◌+◌, ◌<◌, ◌≤◌, ◌&&
 use Rattle.std.specs.List.{slice_index_or}
 use Rattle.serde_json.specs.Data.{Members}
 use Rattle.serde_json.specs.Find.{get_member}
-use Rattle.yv_properties.specs.Kinds.{is_passed}
-use Rattle.yv_properties.specs.declared.kind.NodeKind.{NodeKind}
-use Rattle.yv_properties.specs.declared.kind.NodeKind.TheVariants as kind
+use Rattle.yv_node_definition.specs.Kinds.{is_passed}
+use Rattle.yv_node_definition.specs.declared.kind.NodeKind.{NodeKind}
+use Rattle.yv_node_definition.specs.declared.kind.NodeKind.TheVariants as kind
 use Rattle.yv_nodes.specs.declared.node.NodeId.{NodeId}
 use Rattle.yv_nodes.specs.Rows.{Rows, below, children_of, rank, row_at, tree_of}
-use Rattle.yv_tables.specs.Sound.{IsSound, is_object}
+use Rattle.yv_schema_tables.specs.Sound.{IsSound, is_object}
 use Rattle.yv_walk.specs.Context.{IsContext, parent_of}
-use Rattle.yv_walk.specs.Standing.{kind_standing, passes, standing, stands_in, tree_standing}
+use Rattle.yv_walk.specs.Existence.{kind_standing, passes, existence_of, stands_in, tree_standing}
 use Rattle.yv_walk.specs.declared.context.Context.{Context}
-use Rattle.yv_walk.specs.declared.standing.Standing.{Standing}
-use Rattle.yv_references.specs.InUse.{is_number}
+use Rattle.yv_walk.specs.declared.existence.Existence.{Existence}
+use Rattle.yv_leafref_values.specs.InUse.{is_number}
 use Rattle.yv_validate.specs.InnerWalk.{Meets, MeetsBelow}
-use Rattle.yv_references.specs.declared.scope.Scope.{Scope}
-use Rattle.yv_references.specs.declared.scope.Scope.TheVariants.{InCase, InDefault}
+use Rattle.yv_leafref_values.specs.declared.scope.RuleScope.{RuleScope}
+use Rattle.yv_leafref_values.specs.declared.scope.RuleScope.TheVariants.{InCase, InDefault}
 use Rattle.yv_validate.proofs.Beneath.{not_same, rank_is}
 
 -- a child
@@ -38,10 +38,10 @@ meets_object s x p law sound le object context is = record {
 
 -- what exists of a choice is what exists in it
 pub choice_standing : (s : Rows) (n : NodeId) (ms : Members) → IsSound s → n.0 < length s.nodes → (row_at s n).label.defined.kind ≡ kind.Choice
-    → tree_standing n.0 (tree_of s n) ms ≡ standing (rank n) (below s n) ms
+    → tree_standing n.0 (tree_of s n) ms ≡ existence_of (rank n) (below s n) ms
 choice_standing s n ms sound lt is =
-    ap (λ (k : NodeKind). kind_standing k n (get_member (row_at s n).label.member ms) (standing (n.0 + 1) (below s n) ms)) is
-    ∙ ap (λ (m : ℕ). standing m (below s n) ms) (sym (rank_is s n sound lt))
+    ap (λ (k : NodeKind). kind_standing k n (get_member (row_at s n).label.member ms) (existence_of (n.0 + 1) (below s n) ms)) is
+    ∙ ap (λ (m : ℕ). existence_of m (below s n) ms) (sym (rank_is s n sound lt))
 
 and_false : (b : Bool) → (b && false) ≡ false
 and_false true = refl
@@ -56,7 +56,7 @@ counts true o at = sym (and_false (is_number o at))
 counts false o at = sym (and_true (is_number o at))
 
 -- the scope of a choice's child
-pub scope_is : (is_any : Bool) (o : Option NodeId) (at : ℕ) (those : Standing) (fallback : Option NodeId) (scope : Scope) → fallback ≡ cond is_any None o
+pub scope_is : (is_any : Bool) (o : Option NodeId) (at : ℕ) (those : Existence) (fallback : Option NodeId) (scope : RuleScope) → fallback ≡ cond is_any None o
     → scope ≡ cond (is_number fallback at) InDefault (InCase those) → scope ≡ cond (is_number o at && not is_any) InDefault (InCase those)
 scope_is is_any o at those fallback scope is chosen =
     chosen ∙ ap (λ (f : Option NodeId). cond (is_number f at) InDefault (InCase those)) is ∙ ap (λ (b : Bool). cond b InDefault (InCase those)) (counts is_any o at)

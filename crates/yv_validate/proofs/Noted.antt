@@ -8,10 +8,10 @@ use Rattle.yv_values.specs.Reads.{or_else}
 use Rattle.yv_values.specs.Values.{Val}
 use Rattle.yv_nodes.specs.declared.node.NodeId.{NodeId}
 use Rattle.yv_nodes.specs.Rows.{Rows}
-use Rattle.yv_references.specs.InUse.{is_number}
-use Rattle.yv_validate.specs.InnerNamed.{are_named, is_named}
+use Rattle.yv_leafref_values.specs.InUse.{is_number}
+use Rattle.yv_validate.specs.InnerNames.{are_named, is_named}
 use Rattle.yv_validate.specs.InnerNotes.{Gains, last_of, note_value, noted_at}
-use Rattle.yv_validate.specs.Values.{all_values, joined, leaf_at, tuple_of}
+use Rattle.yv_validate.specs.Values.{all_values, join, leaf_at, tuple_of}
 use Rattle.yv_validate.specs.declared.notes.Notes.{Notes}
 use Rattle.yv_validate.proofs.Asked.{is_eq_nat, or_left, or_right}
 
@@ -56,8 +56,8 @@ same_leaf f g (Some n) same = same n.0 (itself n.0)
 same_all : (f g : ℕ → Option Val) (ns : List (Option NodeId)) → ((n : ℕ) → are_named ns n ≡ true → f n ≡ g n) → all_values f ns ≡ all_values g ns
 same_all f g [] same = refl
 same_all f g (o ∷ ns) same =
-    ap (λ v. joined v (all_values f ns)) (same_leaf f g o (λ n e. same n (or_left (is_number o n) (are_named ns n) e)))
-    ∙ ap (joined (leaf_at g o)) (same_all f g ns (λ n e. same n (or_right (is_number o n) (are_named ns n) e)))
+    ap (λ v. join v (all_values f ns)) (same_leaf f g o (λ n e. same n (or_left (is_number o n) (are_named ns n) e)))
+    ∙ ap (join (leaf_at g o)) (same_all f g ns (λ n e. same n (or_right (is_number o n) (are_named ns n) e)))
 
 -- leafs that have the same values
 pub same_tuple : (f g : ℕ → Option Val) (ns : List (Option NodeId)) → ((n : ℕ) → are_named ns n ≡ true → f n ≡ g n) → tuple_of f ns ≡ tuple_of g ns
@@ -78,7 +78,7 @@ abbrev pub behind : List Val → Option (List Val) → Option (List Val)
 behind vs None = None
 behind vs (Some ws) = Some (vs ++ ws)
 
-behind_joined : (vs : List Val) (v : Val) (o : Option (List Val)) → behind (vs ++ v ∷ []) o ≡ behind vs (joined (Some v) o)
+behind_joined : (vs : List Val) (v : Val) (o : Option (List Val)) → behind (vs ++ v ∷ []) o ≡ behind vs (join (Some v) o)
 behind_joined vs v None = refl
 behind_joined vs v (Some ws) = ap Some (append_assoc vs (v ∷ []) ws)
 
@@ -93,13 +93,13 @@ pub parts_step : (f : ℕ → Option Val) (vs new : List Val) (v : Val) (ids : L
     → behind new (all_values f (named_leafs (drop (i + 1) ids))) ≡ all
 parts_step f vs new v ids i d all lt added here before =
     let left : Option (List Val) = all_values f (named_leafs (drop (i + 1) ids)) in
-    ap (λ ws. behind ws left) added ∙ behind_joined vs v left ∙ ap (λ o. behind vs (joined o left)) (sym here)
+    ap (λ ws. behind ws left) added ∙ behind_joined vs v left ∙ ap (λ o. behind vs (join o left)) (sym here)
     ∙ ap (λ ns. behind vs (all_values f ns)) (sym (leafs_drop ids i d lt)) ∙ before
 
 pub parts_stop : (f : ℕ → Option Val) (vs : List Val) (ids : List NodeId) (i : ℕ) (d : NodeId) (all : Option (List Val)) → i < length ids
     → f (get_or ids i d).0 ≡ None → behind vs (all_values f (named_leafs (drop i ids))) ≡ all → None ≡ all
 parts_stop f vs ids i d all lt here before =
-    ap (λ o. behind vs (joined o (all_values f (named_leafs (drop (i + 1) ids))))) (sym here)
+    ap (λ o. behind vs (join o (all_values f (named_leafs (drop (i + 1) ids))))) (sym here)
     ∙ ap (λ ns. behind vs (all_values f ns)) (sym (leafs_drop ids i d lt)) ∙ before
 
 -- ---- one note more

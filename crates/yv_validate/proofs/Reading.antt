@@ -3,7 +3,7 @@ use Rattle.std.proofs.Common.{◌≡◌, List, [], ◌∷◌, Bool, cond, Option
 use Rattle.serde_json.specs.Data.{Data}
 use Rattle.yv_nodes.specs.Rows.{Row}
 use Rattle.yv_values.specs.Values.{Val}
-use Rattle.yv_references.specs.InUse.{value_of}
+use Rattle.yv_leafref_values.specs.InUse.{value_of}
 use Rattle.yv_validate.specs.Faults.{item_tuple}
 
 -- its value alone, as a tuple

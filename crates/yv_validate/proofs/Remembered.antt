@@ -5,7 +5,7 @@ use Rattle.serde_json.specs.Data.{Data}
 use Rattle.yv_values.specs.Pairs.{Pair, Keeps, IsLeast, Adds, AddsIfNone}
 use Rattle.yv_values.specs.Values.{Val}
 use Rattle.yv_validate.specs.InnerMemory.{Remembers, Tells}
-use Rattle.yv_validate.specs.Repeats.{first_same, is_the, repeated_by}
+use Rattle.yv_validate.specs.Repeats.{first_same, is_the, repeat_of_tuple}
 use Rattle.yv_values.proofs.SameValues.{same_values-Decides}
 
 -- the first of two, where there is one
@@ -98,17 +98,17 @@ new_more is new f before d key place at r e none adds =
     }
 
 pub tells_none : (is : List Pair) (place : ℕ) → Tells is is None place None
-tells_none is place = record { same = λ f before d r e. sym (ap (repeated_by f before) e); next = λ f before d at r e. nothing_more is f before d r e }
+tells_none is place = record { same = λ f before d r e. sym (ap (repeat_of_tuple f before) e); next = λ f before d at r e. nothing_more is f before d r e }
 
 pub tells_some : (is new : List Pair) (key : List Val) (first : Option ℕ) (place : ℕ) → IsLeast is key first → AddsIfNone (Ok first) is new key place → Tells is new (Some key) place first
 tells_some is new key None place least adds =
     record {
-      same = λ f before d r e. first_found is f before key None r least ∙ sym (ap (repeated_by f before) e);
+      same = λ f before d r e. first_found is f before key None r least ∙ sym (ap (repeat_of_tuple f before) e);
       next = λ f before d at r e. new_more is new f before d key place at r e least adds;
     }
 tells_some is new key (Some p) place least adds =
     record {
-      same = λ f before d r e. first_found is f before key (Some p) r least ∙ sym (ap (repeated_by f before) e);
+      same = λ f before d r e. first_found is f before key (Some p) r least ∙ sym (ap (repeat_of_tuple f before) e);
       next = λ f before d at r e. rw adds (known_more is f before d key p r e least.0);
     }
 

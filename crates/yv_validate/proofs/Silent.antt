@@ -8,11 +8,11 @@ use Rattle.std.proofs.lemmas.Grind.{flat_map-append}
 use Rattle.std.proofs.lemmas.List.Sums.{sum_by-append, sum_by-cons}
 use Rattle.serde_json.specs.Data.{Data, null, boolean, number, string, array, object, Items, no_items, item, Members, no_members}
 use Rattle.serde_json.specs.Find.{get_member}
-use Rattle.yv_properties.specs.Kinds.{is_data, is_operation, is_passed}
-use Rattle.yv_properties.specs.declared.kind.NodeKind.{NodeKind}
-use Rattle.yv_properties.specs.declared.kind.NodeKind.TheVariants as kind
-use Rattle.yv_selection.specs.declared.kind.Kind.{Kind}
-use Rattle.yv_values.specs.Count.{counted}
+use Rattle.yv_node_definition.specs.Kinds.{is_data, is_operation_or_notification, is_passed}
+use Rattle.yv_node_definition.specs.declared.kind.NodeKind.{NodeKind}
+use Rattle.yv_node_definition.specs.declared.kind.NodeKind.TheVariants as kind
+use Rattle.yv_statement.specs.declared.document_kind.Kind.{Kind}
+use Rattle.yv_values.specs.Count.{count_up}
 use Rattle.yv_values.specs.Reads.{or_else}
 use Rattle.yv_values.specs.Values.{Val}
 use Rattle.yv_nodes.specs.Defaults.{are_none, defaults_of, has_no_value, width}
@@ -20,25 +20,25 @@ use Rattle.yv_nodes.specs.Link.{is_target, link_in}
 use Rattle.yv_nodes.specs.Rows.{below as below_in, rank, Rows, row_at, tree_of}
 use Rattle.yv_nodes.specs.Tree.{count, Forest, Label, Tree, no_trees, node, tree}
 use Rattle.yv_nodes.specs.declared.node.NodeId.{NodeId}
-use Rattle.yv_tables.specs.Measures.{is_container, is_open}
-use Rattle.yv_tables.specs.Measures as measured
-use Rattle.yv_tables.specs.Sound.{IsSound}
-use Rattle.yv_walk.specs.Standing.{any, both, count_standing, has_items, is_there, kind_standing, row_standing, standing, tree_standing}
-use Rattle.yv_walk.specs.declared.standing.Standing.{Standing}
-use Rattle.yv_walk.specs.declared.standing.Standing.TheVariants.{Nothing, Only, Several}
-use Rattle.yv_references.specs.declared.scope.Scope.{Scope}
-use Rattle.yv_references.specs.declared.scope.Scope.TheVariants.{Always}
-use Rattle.yv_references.specs.Findings.{Findings, Finds, first_of, kept_at, met_in, notes_at, positions_at, used_at, used_if}
-use Rattle.yv_references.specs.InUse.{case_scope, enforces, enforces_beside, in_use, is_asked, is_empty_at, scope_in, uses_defaults}
-use Rattle.yv_references.specs.Values.{valued}
-use Rattle.yv_references.specs.Meetings.{at, Below, container_met, entered, found_of, in_no_object, is_left, kind_met, Meeting, meetings, met, Node, node_met, Spot}
+use Rattle.yv_schema_tables.specs.Measures.{is_container, is_open}
+use Rattle.yv_schema_tables.specs.Measures as measured
+use Rattle.yv_schema_tables.specs.Sound.{IsSound}
+use Rattle.yv_walk.specs.Existence.{any, both, count_standing, has_items, is_there, kind_standing, row_standing, existence_of, tree_standing}
+use Rattle.yv_walk.specs.declared.existence.Existence.{Existence}
+use Rattle.yv_walk.specs.declared.existence.Existence.TheVariants.{Nothing, Only, Several}
+use Rattle.yv_leafref_values.specs.declared.scope.RuleScope.{RuleScope}
+use Rattle.yv_leafref_values.specs.declared.scope.RuleScope.TheVariants.{Always}
+use Rattle.yv_leafref_values.specs.Findings.{Findings, Finds, first_of, kept_at, met_in, notes_at, positions_at, used_at, used_if}
+use Rattle.yv_leafref_values.specs.InUse.{case_scope, enforces, enforces_beside, in_use, is_asked, is_empty_at, scope_in, uses_defaults}
+use Rattle.yv_leafref_values.specs.Values.{values_of_node}
+use Rattle.yv_leafref_values.specs.Meetings.{at, Below, container_met, count_entered, found_of, in_no_object, is_left, kind_met, Meeting, meetings, at_node, Node, node_met, Spot}
 use Rattle.yv_validate.specs.declared.fault.FaultKind.TheVariants.{Mandatory, Max, Min, MissingKey, State}
-use Rattle.yv_validate.specs.Faults.{choice_faults, count_faults, faults_at, flaw, flaw_if, kind_faults, leaf_faults, missing, node_faults, state_faults}
+use Rattle.yv_validate.specs.Faults.{choice_faults, count_faults, faults_at, flaw, flaw_if, kind_faults, leaf_faults, missing_fault, node_faults, state_faults}
 use Rattle.yv_validate.specs.Flaw.{Flaw}
 use Rattle.yv_validate.specs.InnerNotes.{Gains, GainsBy}
-use Rattle.yv_validate.specs.InnerNamed.{is_named, is_read}
+use Rattle.yv_validate.specs.InnerNames.{is_named, is_read}
 use Rattle.yv_validate.specs.InnerQuiet.{are_quiet, is_mute, is_quiet, is_unread, IsEmptied, IsPassed, tree_met}
-use Rattle.yv_validate.specs.InnerWalk.{below_from, children_met, Grows, one_from, one_met, Told}
+use Rattle.yv_validate.specs.InnerWalk.{below_from, children_met, Grows, one_from, one_met, ProgressView}
 use Rattle.yv_validate.specs.Values.{value_in}
 use Rattle.yv_validate.specs.Work.{work_at}
 use Rattle.yv_validate.specs.declared.notes.Notes.{Notes}
@@ -77,34 +77,34 @@ one_or : (b : Bool) (n : NodeId) → cond b (Only n) Several ≡ Nothing → ⊥
 one_or true n e = cc
 one_or false n e = cc
 
-both_parts : (a b : Standing) → both a b ≡ Nothing → (a ≡ Nothing) × (b ≡ Nothing)
+both_parts : (a b : Existence) → both a b ≡ Nothing → (a ≡ Nothing) × (b ≡ Nothing)
 both_parts Nothing b e = (refl, e)
 both_parts Several b e = absurd (cc)
 both_parts (Only n) Nothing e = absurd (cc)
 both_parts (Only n) Several e = absurd (cc)
 both_parts (Only n) (Only m) e = absurd (one_or (n.0 == m.0) n e)
 
-none_here : (b : Bool) (x : Standing) → x ≡ Nothing → cond b x Nothing ≡ Nothing
+none_here : (b : Bool) (x : Existence) → x ≡ Nothing → cond b x Nothing ≡ Nothing
 none_here true x e = e
 none_here false x e = refl
 
 -- nothing exists in an object without members
-pub nothing : (first : ℕ) (ts : Forest) → standing first ts no_members ≡ Nothing
+pub nothing : (first : ℕ) (ts : Forest) → existence_of first ts no_members ≡ Nothing
 nothing first no_trees = refl
 nothing first (tree (node l kids) ts) =
-    ap (λ x. both x (standing (first + 1 + count kids) ts no_members)) (none_here (is_passed l.defined.kind) (standing (first + 1) kids no_members) (nothing (first + 1) kids))
+    ap (λ x. both x (existence_of (first + 1 + count kids) ts no_members)) (none_here (is_passed l.defined.kind) (existence_of (first + 1) kids no_members) (nothing (first + 1) kids))
     ∙ nothing (first + 1 + count kids) ts
 
 -- and then no case does
-none_counted : (first : ℕ) (ts : Forest) (ms : Members) → standing first ts ms ≡ Nothing → count_standing first ts ms ≡ 0
+none_counted : (first : ℕ) (ts : Forest) (ms : Members) → existence_of first ts ms ≡ Nothing → count_standing first ts ms ≡ 0
 none_counted first no_trees ms e = refl
 none_counted first (tree (node l kids) ts) ms e =
-    let own : Standing = kind_standing l.defined.kind (record { 0 = first }) (get_member l.member ms) (standing (first + 1) kids ms) in
-    let parts = both_parts own (standing (first + 1 + count kids) ts ms) e in
+    let own : Existence = kind_standing l.defined.kind (record { 0 = first }) (get_member l.member ms) (existence_of (first + 1) kids ms) in
+    let parts = both_parts own (existence_of (first + 1 + count kids) ts ms) e in
     let others : ℕ = count_standing (first + 1 + count kids) ts ms in
     let none : others ≡ 0 = none_counted (first + 1 + count kids) ts ms parts.1 in
     let sum : 0 + others ≡ 0 = omega (arith, none) in
-    ap (λ (x : Standing). cond (any x) 1 0 + others) parts.0 ∙ sum
+    ap (λ (x : Existence). cond (any x) 1 0 + others) parts.0 ∙ sum
 
 -- what is written so doesn't exist
 not_written : (b : Bool) (n : NodeId) → cond b (Only n) Nothing ≡ Nothing → b ≡ false
@@ -142,13 +142,13 @@ says_both k s xs ys v w all p q sum = record {
 -- values of a node, as those of its defaults in use, of which nothing comes
 record IsUnused (s : Rows) (n : NodeId) (vs : List Val) : Type 0 where
   pub used : (here : ℕ) → used_if (is_target s.links n.0) n.0 here vs ≡ []
-  pub values : (e m : ℕ) (l : Label) (spot : Spot) → is_named s m ≡ true → value_in e m (valued n l spot vs) ≡ None
+  pub values : (e m : ℕ) (l : Label) (spot : Spot) → is_named s m ≡ true → value_in e m (values_of_node n l spot vs) ≡ None
 
 -- there are none
 unused_none : (s : Rows) (n : NodeId) (vs : List Val) → vs ≡ [] → IsUnused s n vs
 unused_none s n vs none = record {
   used = λ here. ap (used_if (is_target s.links n.0) n.0 here) none;
-  values = λ e m l spot named. ap (λ (ws : List Val). value_in e m (valued n l spot ws)) none;
+  values = λ e m l spot named. ap (λ (ws : List Val). value_in e m (values_of_node n l spot ws)) none;
 }
 
 no_target : (n here : ℕ) (vs : List Val) → used_if false n here vs ≡ []
@@ -166,15 +166,15 @@ unused_unread s n vs unread =
 
 -- a node of which nothing is told, and whose defaults don't matter
 says_node : (k : Kind) (s : Rows) (m : Node) → node_faults m.label.defined.kind m (found_of m) ≡ []
-    → IsUnused s m.node (in_use m.label.defined.kind m.label m.scope (found_of m)) → SaysNothing k s (met m ∷ []) (width m.label)
+    → IsUnused s m.node (in_use m.label.defined.kind m.label m.scope (found_of m)) → SaysNothing k s (at_node m ∷ []) (width m.label)
 says_node k s m faultless unused = record {
-  faults = append-nil (faults_at k s (met m)) ∙ faultless;
+  faults = append-nil (faults_at k s (at_node m)) ∙ faultless;
   kept = refl;
-  used = append-nil (used_at (is_target s.links) (met m)) ∙ unused.used (first_of m.spot.around);
+  used = append-nil (used_at (is_target s.links) (at_node m)) ∙ unused.used (first_of m.spot.around);
   positions = refl;
   notes = refl;
   values = λ e n named. own_node e n m ∙ unused.values e n m.label m.spot named;
-  steps = omega (arith, sum_by-cons (work_at k s) (met m) []);
+  steps = omega (arith, sum_by-cons (work_at k s) (at_node m) []);
 }
 
 says_unless : (k : Kind) (s : Rows) (b : Bool) (xs : List Meeting) (w : ℕ) → (b ≡ false → SaysNothing k s xs w) → SaysNothing k s (cond b [] xs) (cond b 0 w)
@@ -196,28 +196,28 @@ abbrev inner_of : NodeKind → Label → Bool
 inner_of K l = is_passed K || is_container K && not l.defined.has_presence
 
 -- what is known of what is below a node that says nothing
-record Inner (k : Kind) (s : Rows) (first : ℕ) (kids : Forest) (below : Below) (inner : Standing) : Type 0 where
-  pub inside : are_quiet s first kids ≡ true → (spot : Spot) (next : ℕ) (scope : Scope) → SaysNothing k s (below.inside spot next scope no_members) (measured.met kids)
-  pub cases : are_quiet s first kids ≡ true → inner ≡ Nothing → SaysNothing k s below.cases (measured.met kids)
-  pub nodes : are_quiet s first kids ≡ true → inner ≡ Nothing → SaysNothing k s below.nodes (measured.met kids)
+record Inner (k : Kind) (s : Rows) (first : ℕ) (kids : Forest) (below : Below) (inner : Existence) : Type 0 where
+  pub inside : are_quiet s first kids ≡ true → (spot : Spot) (next : ℕ) (scope : RuleScope) → SaysNothing k s (below.inside spot next scope no_members) (measured.count_met kids)
+  pub cases : are_quiet s first kids ≡ true → inner ≡ Nothing → SaysNothing k s below.cases (measured.count_met kids)
+  pub nodes : are_quiet s first kids ≡ true → inner ≡ Nothing → SaysNothing k s below.nodes (measured.count_met kids)
 
 -- a container that isn't written
 open_quiet : (p q : Bool) → (not (not p) || q) ≡ true → p ≡ false → q ≡ true
 open_quiet true q e f = absurd (true≢false f)
 open_quiet false q e f = e
 
-absent_left : (K : NodeKind) (scope : Scope) → is_left K scope None ≡ false
+absent_left : (K : NodeKind) (scope : RuleScope) → is_left K scope None ≡ false
 absent_left K scope = and_false (is_data K) (not (is_asked scope))
 
 -- written, and not there
 gone : {X : Type 0} (n : NodeId) → Only n ≡ Nothing → X
 gone n e = absurd (cc)
 
-kind_says : (k : Kind) (s : Rows) (asked : Bool) (first : ℕ) (K : NodeKind) (n : NodeId) (l : Label) (kids : Forest) (spot : Spot) (scope : Scope) (next : ℕ) (found : Option Data) (below : Below) (inner : Standing)
+kind_says : (k : Kind) (s : Rows) (asked : Bool) (first : ℕ) (K : NodeKind) (n : NodeId) (l : Label) (kids : Forest) (spot : Spot) (scope : RuleScope) (next : ℕ) (found : Option Data) (below : Below) (inner : Existence)
     → (is_mute asked K l && (not (inner_of K l) || are_quiet s first kids)) ≡ true → kind_standing K n found inner ≡ Nothing → Inner k s first kids below inner
-    → SaysNothing k s (kind_met K n l kids spot scope next found below) (cond (inner_of K l) (measured.met kids) 0)
+    → SaysNothing k s (kind_met K n l kids spot scope next found below) (cond (inner_of K l) (measured.count_met kids) 0)
 kind_says k s asked first kind.Container n l kids spot scope next None below inner quiet none h =
-    says_open k s l.defined.has_presence (below.inside (in_no_object spot l) next scope no_members) (measured.met kids)
+    says_open k s l.defined.has_presence (below.inside (in_no_object spot l) next scope no_members) (measured.count_met kids)
     (λ e. h.inside (open_quiet l.defined.has_presence (are_quiet s first kids) quiet e) (in_no_object spot l) next scope)
 kind_says k s asked first kind.Container n l kids spot scope next (Some d) below inner quiet none h = gone n none
 kind_says k s asked first kind.Leaf n l kids spot scope next None below inner quiet none h = says_none k s
@@ -244,8 +244,8 @@ kind_says k s asked first kind.Case n l kids spot scope next found below inner q
 kind_says k s asked first _ n l kids spot scope next found below inner quiet none h = says_none k s
 
 -- only a container is entered that isn't left
-left_none : (K : NodeKind) (n : NodeId) (l : Label) (kids : Forest) (scope : Scope) (found : Option Data) (inner : Standing) → kind_standing K n found inner ≡ Nothing
-    → is_left K scope found ≡ true → cond (inner_of K l) (measured.met kids) 0 ≡ 0
+left_none : (K : NodeKind) (n : NodeId) (l : Label) (kids : Forest) (scope : RuleScope) (found : Option Data) (inner : Existence) → kind_standing K n found inner ≡ Nothing
+    → is_left K scope found ≡ true → cond (inner_of K l) (measured.count_met kids) 0 ≡ 0
 left_none kind.Container n l kids scope None inner none left = absurd (true≢false (sym left ∙ absent_left kind.Container scope))
 left_none kind.Container n l kids scope (Some d) inner none left = gone n none
 left_none kind.Choice n l kids scope found inner none left = absurd (true≢false (sym left))
@@ -262,7 +262,7 @@ state_says : (K : NodeKind) (m : Node) (n : NodeId) (found : Option Data) → ro
 state_says K m n None none = refl
 state_says K m n (Some d) none = ap (λ (b : Bool). flaw_if b State (at m.spot m.label None)) (not_written (is_there K d) n none)
 
-missing_none : (m : Node) → m.label.defined.is_mandatory ≡ false → missing m ≡ []
+missing_none : (m : Node) → m.label.defined.is_mandatory ≡ false → missing_fault m ≡ []
 missing_none m e = ap (λ (b : Bool). flaw_if (b && enforces m.scope) Mandatory (at m.spot m.label None)) e
 
 most_none : (o : Option ℕ) → unwrap_or (option_map (λ (most : ℕ). nat_lt most 0) o) false ≡ false
@@ -279,10 +279,10 @@ count_none m e =
 leaf_none : (m : Node) (rest : Bool) → (not m.label.is_key && not m.label.defined.is_mandatory && rest) ≡ true → leaf_faults m None ≡ []
 leaf_none m rest e =
     let parts = and_three (not m.label.is_key) (not m.label.defined.is_mandatory) rest e in
-    ap (λ (b : Bool). cond b (flaw MissingKey (at m.spot m.label None) ∷ []) (missing m)) (not_true m.label.is_key parts.0)
+    ap (λ (b : Bool). cond b (flaw MissingKey (at m.spot m.label None) ∷ []) (missing_fault m)) (not_true m.label.is_key parts.0)
     ∙ missing_none m (not_true m.label.defined.is_mandatory parts.1)
 
-kind_told : (asked : Bool) (K : NodeKind) (m : Node) (n : NodeId) (found : Option Data) (inner : Standing) (rest : Bool)
+kind_told : (asked : Bool) (K : NodeKind) (m : Node) (n : NodeId) (found : Option Data) (inner : Existence) (rest : Bool)
     → (is_mute asked K m.label && rest) ≡ true → kind_standing K n found inner ≡ Nothing
     → (inner ≡ Nothing → count_standing (m.node.0 + 1) m.kids m.members ≡ 0) → kind_faults K m found ≡ []
 kind_told asked kind.Leaf m n None inner rest quiet none counts = leaf_none m (is_unread asked m.label) (and_true (is_mute asked kind.Leaf m.label) rest quiet).0
@@ -318,7 +318,7 @@ passed_no_data kind.Choice e = refl
 passed_no_data kind.Case e = refl
 passed_no_data _ e = absurd (true≢false (sym e))
 
-state_told : (K : NodeKind) (m : Node) (n : NodeId) (found : Option Data) (inner : Standing) → kind_standing K n found inner ≡ Nothing → state_faults K m found ≡ []
+state_told : (K : NodeKind) (m : Node) (n : NodeId) (found : Option Data) (inner : Existence) → kind_standing K n found inner ≡ Nothing → state_faults K m found ≡ []
 state_told K m n found inner none = elim (cases_Bool (is_passed K)) [
   | inl e ↦ quiet_state K m found (passed_no_data K e)
   | inr e ↦ state_says K m n found (sym (ap (λ (b : Bool). cond b inner (row_standing K n found)) e) ∙ none)
@@ -345,7 +345,7 @@ unread_unused s n l u unread = elim (cases_Bool (has_no_value l)) [
   | inr e ↦ unused_unread s n (cond u (defaults_of l) []) (not_true (is_read s n.0) (or_other (has_no_value l) (not (is_read s n.0)) unread e))
 ]
 
-unused : (s : Rows) (n : NodeId) (K : NodeKind) (l : Label) (scope : Scope) (found : Option Data) (rest : Bool) → (is_mute (is_read s n.0) K l && rest) ≡ true
+unused : (s : Rows) (n : NodeId) (K : NodeKind) (l : Label) (scope : RuleScope) (found : Option Data) (rest : Bool) → (is_mute (is_read s n.0) K l && rest) ≡ true
     → IsUnused s n (in_use K l scope found)
 unused s n kind.Leaf l scope found rest quiet =
     unread_unused s n l (uses_defaults scope && is_empty_at kind.Leaf found)
@@ -358,21 +358,21 @@ unused s n _ l scope found rest quiet =
 
 -- ---- a node, and what is in it
 
-node_says : (k : Kind) (s : Rows) (n : NodeId) (l : Label) (kids : Forest) (spot : Spot) (scope : Scope) (next : ℕ) (ms : Members) (below : Below)
-    → is_quiet s n.0 (node l kids) ≡ true → tree_standing n.0 (node l kids) ms ≡ Nothing → Inner k s (n.0 + 1) kids below (standing (n.0 + 1) kids ms)
+node_says : (k : Kind) (s : Rows) (n : NodeId) (l : Label) (kids : Forest) (spot : Spot) (scope : RuleScope) (next : ℕ) (ms : Members) (below : Below)
+    → is_quiet s n.0 (node l kids) ≡ true → tree_standing n.0 (node l kids) ms ≡ Nothing → Inner k s (n.0 + 1) kids below (existence_of (n.0 + 1) kids ms)
     → SaysNothing k s (node_met n l kids spot scope next ms below) (tree_met (node l kids))
 node_says k s n l kids spot scope next ms below quiet none h =
     let K : NodeKind = l.defined.kind in
     let found : Option Data = get_member l.member ms in
-    let inner : Standing = standing (n.0 + 1) kids ms in
+    let inner : Existence = existence_of (n.0 + 1) kids ms in
     let m : Node = record { node = n; label = l; spot = spot; scope = scope; members = ms; kids = kids } in
     let asked : Bool = is_read s n.0 in
     let rest : Bool = not (is_open l) || are_quiet s (n.0 + 1) kids in
-    let within : ℕ = cond (is_open l) (measured.met kids) 0 in
+    let within : ℕ = cond (is_open l) (measured.count_met kids) 0 in
     let here : List Meeting = kind_met K n l kids spot scope next found below in
-    says_unless k s (is_operation K) (cond (is_left K scope found) [] here ++ met m ∷ []) (width l + within) (λ other.
-    let mute : (is_mute asked K l && rest) ≡ true = or_other (is_operation K) (is_mute asked K l && rest) quiet other in
-    says_both k s (cond (is_left K scope found) [] here) (met m ∷ []) within (width l) (width l + within)
+    says_unless k s (is_operation_or_notification K) (cond (is_left K scope found) [] here ++ at_node m ∷ []) (width l + within) (λ other.
+    let mute : (is_mute asked K l && rest) ≡ true = or_other (is_operation_or_notification K) (is_mute asked K l && rest) quiet other in
+    says_both k s (cond (is_left K scope found) [] here) (at_node m ∷ []) within (width l) (width l + within)
     (says_if k s (is_left K scope found) here within (left_none K n l kids scope found inner none)
     (kind_says k s asked (n.0 + 1) K n l kids spot scope next found below inner mute none h))
     (says_node k s m
@@ -383,12 +383,12 @@ node_says k s n l kids spot scope next ms below quiet none h =
     (omega arith))
 
 -- quiet trees of which nothing exists in an object
-pub trees_say : (k : Kind) (s : Rows) (scope_of : ℕ → Tree → Scope) (spot : Spot) (next first : ℕ) (ts : Forest) (ms : Members) → are_quiet s first ts ≡ true → standing first ts ms ≡ Nothing
-    → SaysNothing k s (meetings k s scope_of spot next first ts ms) (measured.met ts)
+pub trees_say : (k : Kind) (s : Rows) (scope_of : ℕ → Tree → RuleScope) (spot : Spot) (next first : ℕ) (ts : Forest) (ms : Members) → are_quiet s first ts ≡ true → existence_of first ts ms ≡ Nothing
+    → SaysNothing k s (meetings k s scope_of spot next first ts ms) (measured.count_met ts)
 trees_say k s scope_of spot next first no_trees ms quiet none = says_none k s
 trees_say k s scope_of spot next first (tree (node l kids) ts) ms quiet none =
     let n : NodeId = record { 0 = first } in
-    let scope : Scope = scope_in k l.is_config (scope_of first (node l kids)) in
+    let scope : RuleScope = scope_in k l.is_config (scope_of first (node l kids)) in
     let below : Below = record {
       inside = λ at from inner ds. meetings k s (λ m t. inner) at from (first + 1) kids ds;
       cases = meetings k s (case_scope s n (first + 1) kids ms) spot next (first + 1) kids ms;
@@ -396,15 +396,15 @@ trees_say k s scope_of spot next first (tree (node l kids) ts) ms quiet none =
     } in
     let here : List Meeting = node_met n l kids spot scope next ms below in
     let own = and_true (is_quiet s first (node l kids)) (are_quiet s (first + 1 + count kids) ts) quiet in
-    let apart = both_parts (kind_standing l.defined.kind n (get_member l.member ms) (standing (first + 1) kids ms)) (standing (first + 1 + count kids) ts ms) none in
-    says_both k s here (meetings k s scope_of spot (next + entered here) (first + 1 + count kids) ts ms) (tree_met (node l kids)) (measured.met ts)
-    (tree_met (node l kids) + measured.met ts)
+    let apart = both_parts (kind_standing l.defined.kind n (get_member l.member ms) (existence_of (first + 1) kids ms)) (existence_of (first + 1 + count kids) ts ms) none in
+    says_both k s here (meetings k s scope_of spot (next + count_entered here) (first + 1 + count kids) ts ms) (tree_met (node l kids)) (measured.count_met ts)
+    (tree_met (node l kids) + measured.count_met ts)
     (node_says k s n l kids spot scope next ms below own.0 apart.0 (record {
       inside = λ q at from inner. trees_say k s (λ m t. inner) at from (first + 1) kids no_members q (nothing (first + 1) kids);
       cases = λ q e. trees_say k s (case_scope s n (first + 1) kids ms) spot next (first + 1) kids ms q e;
       nodes = λ q e. trees_say k s (λ m t. scope) spot next (first + 1) kids ms q e;
     }))
-    (trees_say k s scope_of spot (next + entered here) (first + 1 + count kids) ts ms own.1 apart.1) refl
+    (trees_say k s scope_of spot (next + count_entered here) (first + 1 + count kids) ts ms own.1 apart.1) refl
 
 -- ---- one node, as the walk meets it
 
@@ -412,7 +412,7 @@ quiet_parts : (b : Bool) (v w : ℕ) → cond b (Some v) None ≡ Some w → (b 
 quiet_parts true v w e = let same : v ≡ w = cc in (refl, same)
 quiet_parts false v w e = absurd (cc)
 
-pub one_says : (k : Kind) (s : Rows) (scope : Scope) (n : NodeId) (ms : Members) (spot : Spot) (next w : ℕ) → n.0 < length s.nodes → IsPassed s n ms w
+pub one_says : (k : Kind) (s : Rows) (scope : RuleScope) (n : NodeId) (ms : Members) (spot : Spot) (next w : ℕ) → n.0 < length s.nodes → IsPassed s n ms w
     → SaysNothing k s (one_met k s scope n ms spot next) w
 one_says k s scope n ms spot next w lt h =
     let l : Label = (row_at s n).label in
@@ -431,7 +431,7 @@ pub emptied_says : (k : Kind) (s : Rows) (p : NodeId) (ms : Members) (spot : Spo
 emptied_says k s p ms spot next w h =
     subst (λ (v : ℕ). SaysNothing k s (children_met k s Always p ms spot next) v) h.steps
     (trees_say k s (λ m t. Always) spot next (rank p) (below_in s p) ms h.quiet
-    (ap (λ (ds : Members). standing (rank p) (below_in s p) ds) h.empty ∙ nothing (rank p) (below_in s p)))
+    (ap (λ (ds : Members). existence_of (rank p) (below_in s p) ds) h.empty ∙ nothing (rank p) (below_in s p)))
 
 -- no entries, no members
 pub no_entries : {X : Type 0} (xs : List X) → length xs ≡ 0 → xs ≡ []
@@ -439,7 +439,7 @@ no_entries [] e = refl
 no_entries (x ∷ xs) e = absurd (omega arith)
 
 -- a walk that counts these steps grows by what is met
-pub quiet_grows : Quiet → (k : Kind) (s : Rows) (a : Told) (steps w : ℕ) (xs : List Meeting) → SaysNothing k s xs w → steps ≡ counted (a.steps + w)
+pub quiet_grows : Quiet → (k : Kind) (s : Rows) (a : ProgressView) (steps w : ℕ) (xs : List Meeting) → SaysNothing k s xs w → steps ≡ count_up (a.steps + w)
     → Grows k s a (record { faults = a.faults; found = a.found; steps = steps }) xs
 quiet_grows quiet k s a steps w xs h is =
     let nothing_kept : met_in s xs ≡ met_in s [] = λ i. record { kept = h.kept i; used = h.used i; positions = h.positions i; notes = h.notes i } in

@@ -2,14 +2,14 @@
 use Rattle.std.proofs.Common.{◌≡◌, ℕ, ◌+◌, List, [], ◌∷◌, ◌++◌, sym, ap, ◌∙◌, append_assoc, arith}
 use Rattle.std.specs.List.{sum_by}
 use Rattle.std.proofs.lemmas.List.Sums.{sum_by-cons}
-use Rattle.yv_values.specs.Count.{counted}
+use Rattle.yv_values.specs.Count.{count_up}
 
 -- one more turn of a loop
-pub steps_on : (old new here from left all : ℕ) → counted new ≡ counted (old + here) → from ≡ here + left → counted (old + from) ≡ all → counted (new + left) ≡ all
+pub steps_on : (old new here from left all : ℕ) → count_up new ≡ count_up (old + here) → from ≡ here + left → count_up (old + from) ≡ all → count_up (new + left) ≡ all
 steps_on old new here from left all p e q = omega (arith, p, e, q)
 
 -- two parts, one after the other
-pub steps_both : (old mid new first second : ℕ) → counted mid ≡ counted (old + first) → counted new ≡ counted (mid + second) → counted new ≡ counted (old + (first + second))
+pub steps_both : (old mid new first second : ℕ) → count_up mid ≡ count_up (old + first) → count_up new ≡ count_up (mid + second) → count_up new ≡ count_up (old + (first + second))
 steps_both old mid new first second p q = omega (arith, p, q)
 
 -- what was added, and what is left to add
@@ -26,5 +26,5 @@ sum_of_both f g [] = omega arith
 sum_of_both f g (x ∷ xs) = omega (arith, sum_by-cons (λ y. f y + g y) x xs, sum_by-cons f x xs, sum_by-cons g x xs, sum_of_both f g xs)
 
 -- nothing more
-pub plus_none : (old here : ℕ) → counted (old + here) ≡ counted (old + (here + 0))
+pub plus_none : (old here : ℕ) → count_up (old + here) ≡ count_up (old + (here + 0))
 plus_none old here = omega arith

@@ -4,24 +4,24 @@ use Rattle.std.specs.Prelude.{ℕ, zero, suc, ◌+◌, min, nat_lt, ◌&&◌, Li
 use Rattle.std.specs.List.{flat_map}
 use Rattle.serde_json.specs.Data.{Data, array, object}
 use Rattle.serde_json.specs.Events.{items_len}
-use Rattle.yv_properties.specs.declared.kind.NodeKind.{NodeKind}
-use Rattle.yv_properties.specs.declared.kind.NodeKind.TheVariants as kind
-use Rattle.yv_selection.specs.declared.kind.Kind.{Kind}
+use Rattle.yv_node_definition.specs.declared.kind.NodeKind.{NodeKind}
+use Rattle.yv_node_definition.specs.declared.kind.NodeKind.TheVariants as kind
+use Rattle.yv_statement.specs.declared.document_kind.Kind.{Kind}
 use Rattle.yv_values.specs.Values.{Val}
 use Rattle.yv_nodes.specs.declared.node.NodeId.{NodeId}
 use Rattle.yv_nodes.specs.Rows.{Rows}
 use Rattle.yv_nodes.specs.Tree.{Label}
-use Rattle.yv_tables.specs.Opened.{opened_trees}
+use Rattle.yv_schema_tables.specs.DataChildren.{opened_trees}
 use Rattle.yv_walk.specs.Context.{unknown_names}
-use Rattle.yv_walk.specs.Standing.{count_standing, is_there}
-use Rattle.yv_references.specs.InUse.{enforces, enforces_beside, is_asked, value_of}
-use Rattle.yv_references.specs.Meetings.{all_met, at, Ending, found_of, Meeting, stand, written, ending, met, Node, Stand, Written}
-use Rattle.yv_references.specs.Place.{Place, under}
-use Rattle.yv_references.specs.References.{all_references, number_of}
+use Rattle.yv_walk.specs.Existence.{count_standing, is_there}
+use Rattle.yv_leafref_values.specs.InUse.{enforces, enforces_beside, is_asked, value_of}
+use Rattle.yv_leafref_values.specs.Meetings.{all_met, at, EntryEnd, found_of, Meeting, stand, at_value, at_end, at_node, Node, Stand, WrittenValue}
+use Rattle.yv_leafref_values.specs.Place.{Place, under}
+use Rattle.yv_leafref_values.specs.References.{all_references, number_of}
 use Rattle.yv_validate.specs.declared.fault.FaultKind.{FaultKind}
 use Rattle.yv_validate.specs.declared.fault.FaultKind.TheVariants.{Unknown, Shape, Value, MissingKey, Duplicate, Unique, Mandatory, Min, Max, Choice, Reference, State}
 use Rattle.yv_validate.specs.Flaw.{Flaw}
-use Rattle.yv_validate.specs.Repeats.{repeated}
+use Rattle.yv_validate.specs.Repeats.{repeat_of}
 use Rattle.yv_validate.specs.Values.{entry_tuple, key_leafs, unique_leafs}
 
 abbrev pub flaw : FaultKind → List Place → Flaw
@@ -52,9 +52,9 @@ item_tuple l d = if l.is_config then option_map (λ v. v ∷ []) (value_of l d) 
 -- an item has the value of one before it, the first of which has this number
 abbrev pub repeated_item : Label → Option (List Data) → Data → Option ℕ
 repeated_item l None d = None
-repeated_item l (Some before) d = repeated (item_tuple l) before d
+repeated_item l (Some before) d = repeat_of (item_tuple l) before d
 
-abbrev pub value_faults : Written → List Flaw
+abbrev pub value_faults : WrittenValue → List Flaw
 value_faults m =
     let here : List Place = at m.spot m.label (number_of m.before) in
     if is_some (value_of m.label m.found) then repeat_faults (repeated_item m.label m.before m.found) Duplicate here 0 else flaw Value here ∷ []
@@ -69,7 +69,7 @@ unique_if first here n = repeat_faults first Unique here (min n 4294967295)
 abbrev pub unique_faults : (List (Option NodeId) → Data → Option (List Val)) → List Place → ℕ → List (List (Option NodeId)) → List Data → Data → List Flaw
 unique_faults tuple here from [] before d = []
 unique_faults tuple here from (leafs ∷ rest) before d =
-    unique_if (repeated (tuple leafs) before d) here from ++ unique_faults tuple here (from + 1) rest before d
+    unique_if (repeat_of (tuple leafs) before d) here from ++ unique_faults tuple here (from + 1) rest before d
 
 -- the leafs that make entries of a list differ
 pub record Leafs : Type 0 where
@@ -82,35 +82,35 @@ leafs_of s n l = record { keys = key_leafs s n l; uniques = unique_leafs s n l }
 -- after an entry: whether its keys are those of one before (section 7.8.2), and then the `unique` statements
 abbrev pub end_faults : Leafs → (List (Option NodeId) → Data → Option (List Val)) → List Place → List Data → Data → List Flaw
 end_faults leafs tuple here before d =
-    repeat_faults (repeated (tuple leafs.keys) before d) Duplicate here 0 ++ unique_faults tuple here 1 leafs.uniques before d
+    repeat_faults (repeat_of (tuple leafs.keys) before d) Duplicate here 0 ++ unique_faults tuple here 1 leafs.uniques before d
 
 -- the values of these leafs in an entry, where each has one
-abbrev pub tuple_at : Kind → Rows → Ending → List (Option NodeId) → Data → Option (List Val)
+abbrev pub tuple_at : Kind → Rows → EntryEnd → List (Option NodeId) → Data → Option (List Val)
 tuple_at k s m leafs d = entry_tuple k s (m.node.0 + 1) m.trees leafs d
 
-abbrev pub ending_faults : Kind → Rows → Ending → List Flaw
+abbrev pub ending_faults : Kind → Rows → EntryEnd → List Flaw
 ending_faults k s m = end_faults (leafs_of s m.node m.label) (tuple_at k s m) (at m.spot m.label (Some (length m.before + 1))) m.before m.found
 
 -- ---- a node, after what is below it
 
 -- a leaf, choice, anydata or anyxml that is missing (sections 7.6.5 and 7.9.4)
-abbrev pub missing : Node → List Flaw
-missing m = flaw_if (m.label.defined.is_mandatory && enforces m.scope) Mandatory (at m.spot m.label None)
+abbrev pub missing_fault : Node → List Flaw
+missing_fault m = flaw_if (m.label.defined.is_mandatory && enforces m.scope) Mandatory (at m.spot m.label None)
 
 abbrev pub misshapen : Node → List Flaw
 misshapen m = flaw Shape (at m.spot m.label None) ∷ []
 
 abbrev pub leaf_faults : Node → Option Data → List Flaw
-leaf_faults m None = if m.label.is_key then flaw MissingKey (at m.spot m.label None) ∷ [] else missing m
+leaf_faults m None = if m.label.is_key then flaw MissingKey (at m.spot m.label None) ∷ [] else missing_fault m
 leaf_faults m (Some d) = []
 
 abbrev pub anydata_faults : Node → Option Data → List Flaw
-anydata_faults m None = missing m
+anydata_faults m None = missing_fault m
 anydata_faults m (Some (object ms)) = []
 anydata_faults m (Some _) = misshapen m
 
 abbrev pub anyxml_faults : Node → Option Data → List Flaw
-anyxml_faults m None = missing m
+anyxml_faults m None = missing_fault m
 anyxml_faults m (Some d) = []
 
 -- a list or leaf-list with so many items (sections 7.7.5 and 7.7.6)
@@ -126,7 +126,7 @@ array_faults m (Some _) = misshapen m
 
 -- a choice of which so many cases exist (section 7.9)
 abbrev pub choice_faults : Node → ℕ → List Flaw
-choice_faults m zero = missing m
+choice_faults m zero = missing_fault m
 choice_faults m (suc zero) = []
 choice_faults m (suc (suc n)) = flaw Choice (at m.spot m.label None) ∷ []
 
@@ -152,9 +152,9 @@ node_faults k m found = if is_asked m.scope then kind_faults k m found else stat
 
 abbrev pub faults_at : Kind → Rows → Meeting → List Flaw
 faults_at k s (stand m) = object_faults m m.found
-faults_at k s (written m) = value_faults m
-faults_at k s (ending m) = ending_faults k s m
-faults_at k s (met m) = node_faults m.label.defined.kind m (found_of m)
+faults_at k s (at_value m) = value_faults m
+faults_at k s (at_end m) = ending_faults k s m
+faults_at k s (at_node m) = node_faults m.label.defined.kind m (found_of m)
 
 -- references that reach nothing, at these paths (section 9.9)
 abbrev pub reference_faults : List (List Place) → List Flaw

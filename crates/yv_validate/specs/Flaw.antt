@@ -1,6 +1,6 @@
 -- What contracts see of a fault.
 use Rattle.std.specs.Prelude.{ℕ, List, Option}
-use Rattle.yv_references.specs.Place.{Place}
+use Rattle.yv_leafref_values.specs.Place.{Place}
 use Rattle.yv_validate.specs.declared.fault.FaultKind.{FaultKind}
 
 -- its kind, its path from the top, the number of the schema statement that it is about, or 0, and the number from 1 of the first entry or

@@ -5,7 +5,7 @@ use Rattle.serde_json.specs.Data.{Data}
 use Rattle.yv_nodes.specs.declared.node.NodeId.{NodeId}
 use Rattle.yv_values.specs.Pairs.{Keeps, Pair}
 use Rattle.yv_values.specs.Values.{Val}
-use Rattle.yv_validate.specs.Repeats.{first_same, repeated}
+use Rattle.yv_validate.specs.Repeats.{first_same, repeat_of}
 
 -- it keeps each tuple of these items with the number of the first item that has it
 pub record Remembers (is : List Pair) (f : Data → Option (List Val)) (before : List Data) : Type 0 where
@@ -13,7 +13,7 @@ pub record Remembers (is : List Pair) (f : Data → Option (List Val)) (before :
 
 -- where an item's tuple stood first, and what the index knows then, whatever it is that it knew; the item has this number
 pub record Tells (old new : List Pair) (tuple : Option (List Val)) (place : ℕ) (first : Option ℕ) : Type 0 where
-  pub same : (f : Data → Option (List Val)) (before : List Data) (d : Data) → Remembers old f before → f d ≡ tuple → first ≡ repeated f before d
+  pub same : (f : Data → Option (List Val)) (before : List Data) (d : Data) → Remembers old f before → f d ≡ tuple → first ≡ repeat_of f before d
   pub next : (f : Data → Option (List Val)) (before : List Data) (d : Data) → length before + 1 ≡ place → Remembers old f before → f d ≡ tuple
       → Remembers new f (before ++ d ∷ [])
 

@@ -2,12 +2,12 @@
 -- innermost first.
 use Rattle.std.specs.Prelude.{ℕ, List, [], ◌∷◌, ◌++◌, map, Bool, true, false, Option, Some, None, is_some}
 use Rattle.yv_nodes.specs.Rows.{Rows, row_at}
-use Rattle.yv_references.specs.InnerSteps.{left_steps as value_steps}
-use Rattle.yv_references.specs.Place.{Place, step_name}
+use Rattle.yv_leafref_values.specs.InnerSteps.{left_steps as value_steps}
+use Rattle.yv_leafref_values.specs.Place.{Place, step_name}
 use Rattle.yv_validate.specs.Part.{part_of}
 use Rattle.yv_validate.specs.declared.path.Entries.{Entries, Outside, Within'}
-use Rattle.yv_validate.specs.declared.path.Kept.{Kept}
-use Rattle.yv_validate.specs.declared.path.Kept.TheVariants.{Shared, Value}
+use Rattle.yv_validate.specs.declared.path.KeptWay.{KeptWay}
+use Rattle.yv_validate.specs.declared.path.KeptWay.TheVariants.{Shared, Value}
 use Rattle.yv_validate.specs.declared.path.Left.{Left}
 use Rattle.yv_validate.specs.declared.path.Left.TheVariants as left
 use Rattle.yv_validate.specs.declared.path.Part.{Part}
@@ -37,17 +37,17 @@ rest_if true (n ∷ ns) = ns
 rest_if _ ns = ns
 
 -- the places of steps of these names, the last of which has this number, in entries of these
-abbrev pub spelled : List Name → List ℕ → Option ℕ → List Place
-spelled [] ns item = []
-spelled (name ∷ names) ns item =
-    spelled names (rest_if name.is_in_entry ns) (first_if name.is_in_entry ns) ++ record { member = name.member; item = item } ∷ []
+abbrev pub places_of : List Name → List ℕ → Option ℕ → List Place
+places_of [] ns item = []
+places_of (name ∷ names) ns item =
+    places_of names (rest_if name.is_in_entry ns) (first_if name.is_in_entry ns) ++ record { member = name.member; item = item } ∷ []
 
-abbrev pub kept_steps : Kept → List Place
-kept_steps (Shared way entries item) = spelled (way_names way.value) (numbers entries.value) item
+abbrev pub kept_steps : KeptWay → List Place
+kept_steps (Shared way entries item) = places_of (way_names way.value) (numbers entries.value) item
 kept_steps (Value path) = path
 
 abbrev pub left_steps : Left → List Place
-left_steps (left.Shared way entries item) = spelled (way_names way.now) (numbers entries.now) item
+left_steps (left.Shared way entries item) = places_of (way_names way.now) (numbers entries.now) item
 left_steps (left.Value steps) = value_steps steps
 
 -- ---- a way as the walk keeps it

@@ -2,18 +2,18 @@
 -- around them.
 use Rattle.std.specs.Prelude.{◌≡◌, ℕ, ◌+◌, ◌-◌, ◌==◌, ◌&&◌, ◌||◌, not, Bool, true, false, List, length, Option, Some, None, slice_get, if◌then◌else◌}
 use Rattle.serde_json.specs.Data.{Members, no_members}
-use Rattle.yv_properties.specs.declared.kind.NodeKind.{NodeKind}
-use Rattle.yv_properties.specs.declared.kind.NodeKind.TheVariants as kind
-use Rattle.yv_properties.specs.Kinds.{is_operation}
+use Rattle.yv_node_definition.specs.declared.kind.NodeKind.{NodeKind}
+use Rattle.yv_node_definition.specs.declared.kind.NodeKind.TheVariants as kind
+use Rattle.yv_node_definition.specs.Kinds.{is_operation_or_notification}
 use Rattle.yv_nodes.specs.declared.node.NodeId.{NodeId}
 use Rattle.yv_nodes.specs.Defaults.{has_no_value, width}
 use Rattle.yv_nodes.specs.Rows.{below, rank, Rows, tree_of}
 use Rattle.yv_nodes.specs.Tree.{count, Forest, Label, Tree, no_trees, node, tree}
-use Rattle.yv_tables.specs.Measures.{is_open, met}
-use Rattle.yv_tables.specs.Sound.{IsSound}
-use Rattle.yv_walk.specs.Standing.{tree_standing}
-use Rattle.yv_walk.specs.declared.standing.Standing.TheVariants.{Nothing}
-use Rattle.yv_validate.specs.InnerNamed.{is_read}
+use Rattle.yv_schema_tables.specs.Measures.{is_open, count_met}
+use Rattle.yv_schema_tables.specs.Sound.{IsSound}
+use Rattle.yv_walk.specs.Existence.{tree_standing}
+use Rattle.yv_walk.specs.declared.existence.Existence.TheVariants.{Nothing}
+use Rattle.yv_validate.specs.InnerNames.{is_read}
 
 -- no default of it is in use, or nothing asks whether it is
 abbrev pub is_unread : (asked : Bool) → Label → Bool
@@ -34,15 +34,15 @@ is_mute asked _ l = true
 abbrev pub are_quiet : Rows → (first : ℕ) → Forest → Bool
 are_quiet s first no_trees = true
 are_quiet s first (tree (node l kids) ts) =
-    (is_operation l.defined.kind || (is_mute (is_read s first) l.defined.kind l && (not (is_open l) || are_quiet s (first + 1) kids)))
+    (is_operation_or_notification l.defined.kind || (is_mute (is_read s first) l.defined.kind l && (not (is_open l) || are_quiet s (first + 1) kids)))
     && are_quiet s (first + 1 + count kids) ts
 
 abbrev pub is_quiet : Rows → ℕ → Tree → Bool
-is_quiet s n (node l kids) = is_operation l.defined.kind || (is_mute (is_read s n) l.defined.kind l && (not (is_open l) || are_quiet s (n + 1) kids))
+is_quiet s n (node l kids) = is_operation_or_notification l.defined.kind || (is_mute (is_read s n) l.defined.kind l && (not (is_open l) || are_quiet s (n + 1) kids))
 
 -- the steps of one tree
 abbrev pub tree_met : Tree → ℕ
-tree_met (node l kids) = if is_operation l.defined.kind then 0 else width l + (if is_open l then met kids else 0)
+tree_met (node l kids) = if is_operation_or_notification l.defined.kind then 0 else width l + (if is_open l then count_met kids else 0)
 
 -- the steps of a quiet tree, whose node has this number
 abbrev pub quiet_steps : Rows → ℕ → Tree → Option ℕ
@@ -70,4 +70,4 @@ pub record IsPassed (s : Rows) (n : NodeId) (ms : Members) (steps : ℕ) : Type 
 pub record IsEmptied (s : Rows) (p : NodeId) (ms : Members) (total : ℕ) : Type 0 where
   pub empty : ms ≡ no_members
   pub quiet : are_quiet s (rank p) (below s p) ≡ true
-  pub steps : met (below s p) ≡ total
+  pub steps : count_met (below s p) ≡ total

@@ -1,7 +1,7 @@
 -- Only private clauses cite this: the way to a node, as the walk keeps it.
 use Rattle.std.specs.Prelude.{◌<◌, List, [], ◌∷◌, ◌++◌, length}
 use Rattle.yv_nodes.specs.Rows.{Rows, row_at}
-use Rattle.yv_references.specs.Place.{Place, step_name}
+use Rattle.yv_leafref_values.specs.Place.{Place, step_name}
 use Rattle.yv_validate.specs.Flaw.{Flaw}
 use Rattle.yv_validate.specs.declared.trail.Trail.{Trail, Root, Below'}
 

@@ -10,7 +10,7 @@ pub mod InnerTrail
 pub mod InnerPath
 pub mod InnerWalk
 pub mod InnerMemory
-pub mod InnerNamed
+pub mod InnerNames
 pub mod InnerNotes
 pub mod InnerQuiet
 pub use Rattle.yv_nodes.specs.Tree

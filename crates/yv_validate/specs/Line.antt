@@ -3,7 +3,7 @@ use Rattle.std.specs.Prelude.{ℕ, ◌+◌, ◌-◌, ◌/◌, ◌%◌, ◌==◌,
 use Rattle.std.specs.List.{flat_map}
 use Rattle.yv_validate.specs.declared.fault.FaultKind.{FaultKind}
 use Rattle.yv_validate.specs.declared.fault.FaultKind.TheVariants.{Unknown, Shape, Value, MissingKey, Duplicate, Unique, Mandatory, Min, Max, Choice, Reference, State}
-use Rattle.yv_references.specs.Place.{Place}
+use Rattle.yv_leafref_values.specs.Place.{Place}
 use Rattle.yv_validate.specs.Flaw.{Flaw}
 
 abbrev pub kind_name : FaultKind → List ℕ
@@ -31,15 +31,15 @@ hexadecimal n = if nat_lt n 10 then 48 + n else 65 + n - 10
 abbrev pub escaped_byte : ℕ → List ℕ
 escaped_byte b = if is_plain b then b ∷ [] else 37 ∷ hexadecimal (b / 16) ∷ hexadecimal (b % 16) ∷ []
 
-abbrev pub escaped : List ℕ → List ℕ
-escaped name = flat_map escaped_byte name
+abbrev pub escape : List ℕ → List ℕ
+escape name = flat_map escaped_byte name
 
 abbrev pub item_text : Option ℕ → List ℕ
 item_text None = []
 item_text (Some n) = codes "[" ++ decimal n ++ codes "]"
 
 abbrev pub place_text : Place → List ℕ
-place_text p = codes "/" ++ escaped p.member ++ item_text p.item
+place_text p = codes "/" ++ escape p.member ++ item_text p.item
 
 abbrev pub places_text : List Place → List ℕ
 places_text ps = flat_map place_text ps

@@ -14,10 +14,10 @@ abbrev pub first_same : (Data → Option (List Val)) → List Val → (from : �
 first_same tuple_of vs from [] = None
 first_same tuple_of vs from (d ∷ ds) = if is_the vs (tuple_of d) then Some from else first_same tuple_of vs (from + 1) ds
 
-abbrev pub repeated_by : (Data → Option (List Val)) → List Data → Option (List Val) → Option ℕ
-repeated_by tuple_of before None = None
-repeated_by tuple_of before (Some vs) = first_same tuple_of vs 1 before
+abbrev pub repeat_of_tuple : (Data → Option (List Val)) → List Data → Option (List Val) → Option ℕ
+repeat_of_tuple tuple_of before None = None
+repeat_of_tuple tuple_of before (Some vs) = first_same tuple_of vs 1 before
 
 -- the item has a tuple, and it is the same as that of an item before it: the number of the first such item from 1
-abbrev pub repeated : (Data → Option (List Val)) → List Data → Data → Option ℕ
-repeated tuple_of before d = repeated_by tuple_of before (tuple_of d)
+abbrev pub repeat_of : (Data → Option (List Val)) → List Data → Data → Option ℕ
+repeat_of tuple_of before d = repeat_of_tuple tuple_of before (tuple_of d)

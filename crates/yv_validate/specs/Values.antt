@@ -1,27 +1,27 @@
 -- The values of leafs in an entry of a list, by the leafs' numbers, and the leafs that make entries differ (RFC 7950, sections 7.8.2 and 7.8.3).
 use Rattle.std.specs.Prelude.{ℕ, ◌==◌, ◌&&◌, List, [], ◌∷◌, Bool, Option, Some, None, map, if◌then◌else◌}
 use Rattle.serde_json.specs.Data.{Data, object}
-use Rattle.yv_properties.specs.Kinds.{is_leaf}
-use Rattle.yv_selection.specs.declared.kind.Kind.{Kind}
+use Rattle.yv_node_definition.specs.Kinds.{is_leaf}
+use Rattle.yv_statement.specs.declared.document_kind.Kind.{Kind}
 use Rattle.yv_values.specs.Reads.{or_else}
 use Rattle.yv_values.specs.Values.{Val}
 use Rattle.yv_nodes.specs.Rows.{Rows}
 use Rattle.yv_nodes.specs.Tree.{Forest, Label}
 use Rattle.yv_nodes.specs.declared.node.NodeId.{NodeId}
-use Rattle.yv_leaf_targets.specs.Numbers.{key_leaf_at, unique_leaf_at}
-use Rattle.yv_references.specs.declared.scope.Scope.TheVariants.{Always}
-use Rattle.yv_references.specs.Meetings.{meetings, top}
-use Rattle.yv_references.specs.Values.{Valued, values_in}
+use Rattle.yv_node_keys.specs.Numbers.{key_leaf_at, unique_leaf_at}
+use Rattle.yv_leafref_values.specs.declared.scope.RuleScope.TheVariants.{Always}
+use Rattle.yv_leafref_values.specs.Meetings.{meetings, top}
+use Rattle.yv_leafref_values.specs.Values.{ValueAt, values_in}
 
 -- it is a value of the leaf n, in the entry of this number itself, and not in a list in it
-abbrev pub is_own : (entry n : ℕ) → Valued → Bool
+abbrev pub is_own : (entry n : ℕ) → ValueAt → Bool
 is_own entry n v = is_leaf v.kind && (v.node == n) && (v.spot.entry == entry)
 
 abbrev pub value_if : Bool → Val → Option Val
 value_if b v = if b then Some v else None
 
 -- the value of the leaf n in the entry of this number: it has one at most
-abbrev pub value_in : (entry n : ℕ) → List Valued → Option Val
+abbrev pub value_in : (entry n : ℕ) → List ValueAt → Option Val
 value_in entry n [] = None
 value_in entry n (v ∷ vs) = or_else (value_in entry n vs) (value_if (is_own entry n v) v.value)
 
@@ -32,9 +32,9 @@ leaf_in k s first ts _ n = None
 
 -- ---- tuples
 
-abbrev pub joined : Option Val → Option (List Val) → Option (List Val)
-joined (Some v) (Some vs) = Some (v ∷ vs)
-joined _ _ = None
+abbrev pub join : Option Val → Option (List Val) → Option (List Val)
+join (Some v) (Some vs) = Some (v ∷ vs)
+join _ _ = None
 
 -- the value of a leaf that is named, where there is such a leaf
 abbrev pub leaf_at : (ℕ → Option Val) → Option NodeId → Option Val
@@ -44,7 +44,7 @@ leaf_at value_at (Some n) = value_at n.0
 -- the values of these leafs, where each has one
 abbrev pub all_values : (ℕ → Option Val) → List (Option NodeId) → Option (List Val)
 all_values value_at [] = Some []
-all_values value_at (n ∷ ns) = joined (leaf_at value_at n) (all_values value_at ns)
+all_values value_at (n ∷ ns) = join (leaf_at value_at n) (all_values value_at ns)
 
 -- the tuple of these leafs, where there are any
 abbrev pub tuple_of : (ℕ → Option Val) → List (Option NodeId) → Option (List Val)

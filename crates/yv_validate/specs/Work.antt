@@ -4,8 +4,8 @@
 use Rattle.std.specs.Prelude.{ℕ, ◌+◌, List, [], ◌∷◌, Option, Some, None}
 use Rattle.std.specs.List.{sum_by}
 use Rattle.serde_json.specs.Data.{Data, object}
-use Rattle.yv_selection.specs.declared.kind.Kind.{Kind}
-use Rattle.yv_values.specs.Reads.{tried}
+use Rattle.yv_statement.specs.declared.document_kind.Kind.{Kind}
+use Rattle.yv_values.specs.Reads.{types_tried}
 use Rattle.yv_values.specs.Values.{Val}
 use Rattle.yv_nodes.specs.declared.node.NodeId.{NodeId}
 use Rattle.yv_nodes.specs.Defaults.{width}
@@ -13,8 +13,8 @@ use Rattle.yv_nodes.specs.Link.{link_in}
 use Rattle.yv_nodes.specs.Rows.{Rows}
 use Rattle.yv_nodes.specs.Tree.{Label}
 use Rattle.yv_walk.specs.Context.{members_len}
-use Rattle.yv_references.specs.Meetings.{all_met, Meeting, stand, written, ending, met}
-use Rattle.yv_references.specs.References.{lookups_at}
+use Rattle.yv_leafref_values.specs.Meetings.{all_met, Meeting, stand, at_value, at_end, at_node}
+use Rattle.yv_leafref_values.specs.References.{lookups_at}
 use Rattle.yv_validate.specs.Faults.{item_tuple, Leafs, leafs_of, tuple_at}
 
 abbrev pub object_work : Data → ℕ
@@ -33,7 +33,7 @@ item_work l (Some before) d = tuple_work (item_tuple l d)
 
 -- the types that are tried for a value
 abbrev pub value_work : Label → Data → ℕ
-value_work l d = tried l.defined.types l.module_name d
+value_work l d = types_tried l.defined.types l.module_name d
 
 abbrev pub uniques_work : (List (Option NodeId) → Data → Option (List Val)) → List (List (Option NodeId)) → Data → ℕ
 uniques_work tuple [] d = 0
@@ -44,9 +44,9 @@ end_work leafs tuple d = tuple_work (tuple leafs.keys d) + uniques_work tuple le
 
 abbrev pub work_at : Kind → Rows → Meeting → ℕ
 work_at k s (stand m) = object_work m.found
-work_at k s (written m) = value_work m.label m.found + item_work m.label m.before m.found
-work_at k s (ending m) = end_work (leafs_of s m.node m.label) (tuple_at k s m) m.found
-work_at k s (met m) = width m.label
+work_at k s (at_value m) = value_work m.label m.found + item_work m.label m.before m.found
+work_at k s (at_end m) = end_work (leafs_of s m.node m.label) (tuple_at k s m) m.found
+work_at k s (at_node m) = width m.label
 
 -- the steps of a whole document
 abbrev pub work : Kind → Rows → Data → ℕ

@@ -1,7 +1,7 @@
 //! The faults that a walk has reported, and what their paths share.
 ghost use Rattle.std.specs.Prelude.{◌≡◌, [], ◌∷◌, ◌++◌, true, IfOk, OnOk};
 ghost use Rattle.yv_nodes.specs.Rows.{row_at};
-ghost use Rattle.yv_references.specs.Place.{step_name, under};
+ghost use Rattle.yv_leafref_values.specs.Place.{step_name, under};
 ghost use Rattle.yv_validate.specs.InnerPath.{is_entry, numbers, trail_names, trail_numbers, way_names};
 ghost use Rattle.yv_validate.specs.InnerTrail.{places, IsWithin};
 
@@ -12,9 +12,9 @@ use std::alloc::{AllocError, Global};
 use std::collections::BTreeMap;
 use std::marker::Model;
 use std::rc::{Rc, RcStr};
+use yv_leafref_values::Step;
 use yv_nodes::Node;
-use yv_references::Step;
-use yv_tables::Schema;
+use yv_schema_tables::Schema;
 
 /// Faults in order. Ways to nodes are kept, so that the paths of later faults share them, and so are the entries around the last fault.
 /// Contracts see the faults alone: what is kept is compared before it is shared.
@@ -73,9 +73,9 @@ impl Faults {
     {
         let way = way_to(alloc, schema, &mut self.ways, trail)?;
         match trail {
-            Trail::Root => Ok(Path::shared(way, self.entries_to(alloc, trail)?, None)),
+            Trail::Root => Ok(Path::of_way(way, self.entries_to(alloc, trail)?, None)),
             Trail::Below(outer, _, item) => {
-                Ok(Path::shared(way, self.entries_to(alloc, outer)?, *item))
+                Ok(Path::of_way(way, self.entries_to(alloc, outer)?, *item))
             }
         }
     }
@@ -93,10 +93,10 @@ impl Faults {
         ensures same { self.new.items ≡ self.old.items }
     {
         let way = way_to(alloc, schema, &mut self.ways, trail)?;
-        let step = Step::named(RcStr::from_str(alloc, member)?, None);
+        let step = Step::of_name(RcStr::from_str(alloc, member)?, None);
         let way = Rc::new(alloc, Way::After(way, trail.is_entry(), step))?;
         let around = self.entries_to(alloc, trail)?;
-        Ok(Path::shared(way, around, None))
+        Ok(Path::of_way(way, around, None))
     }
 
     // The entries on a way, which are kept for the next fault.

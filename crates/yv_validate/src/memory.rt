@@ -1,6 +1,6 @@
 //! Items of arrays that stood before.
 ghost use Rattle.std.specs.Prelude.{◌≡◌, ◌+◌, ◌∷◌, [], IfOk, OnOk, option_map, if◌then◌else◌};
-ghost use Rattle.yv_values.specs.Count.{counted};
+ghost use Rattle.yv_values.specs.Count.{count_up};
 ghost use Rattle.yv_validate.specs.InnerMemory.{Tells};
 ghost use Rattle.yv_validate.specs.Work.{tuple_work};
 
@@ -14,8 +14,8 @@ pub(crate) fn stood_before(
     kept: &mut Index,
     meter: &mut Meter,
 ) -> Result<Option<u64>, AllocError>
-    ensures told { IfOk result (λ first. Tells kept.old kept.new tuple place first) }
-    ensures steps { OnOk result (counted meter.new ≡ counted (meter.old + tuple_work tuple)) }
+    ensures tells { IfOk result (λ first. Tells kept.old kept.new tuple place first) }
+    ensures steps { OnOk result (count_up meter.new ≡ count_up (meter.old + tuple_work tuple)) }
 {
     match tuple {
         None => Ok(None),

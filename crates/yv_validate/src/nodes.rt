@@ -3,18 +3,18 @@ ghost use Rattle.std.specs.Prelude.{◌≡◌, ◌==◌, ◌&&◌, ◌∷◌, []
 ghost use Rattle.serde_json.specs.Data.{Members};
 ghost use Rattle.serde_json.specs.Events.{items_len};
 ghost use Rattle.serde_json.specs.View.{view, items_view};
-ghost use Rattle.yv_properties.specs.declared.kind.NodeKind.TheVariants.{Leaf, LeafList};
-ghost use Rattle.yv_values.specs.Count.{counted};
+ghost use Rattle.yv_node_definition.specs.declared.kind.NodeKind.TheVariants.{Leaf, LeafList};
+ghost use Rattle.yv_values.specs.Count.{count_up};
 ghost use Rattle.yv_nodes.specs.Defaults.{defaults_of, width};
 ghost use Rattle.yv_nodes.specs.Rows.{row_at};
-ghost use Rattle.yv_references.specs.Findings.{Finds};
-ghost use Rattle.yv_references.specs.InUse.{is_asked, is_empty_at, uses_defaults, value_of};
-ghost use Rattle.yv_references.specs.Meetings.{written};
+ghost use Rattle.yv_leafref_values.specs.Findings.{Finds};
+ghost use Rattle.yv_leafref_values.specs.InUse.{is_asked, is_empty_at, uses_defaults, value_of};
+ghost use Rattle.yv_leafref_values.specs.Meetings.{at_value};
 ghost use Rattle.yv_validate.specs.Faults.{anydata_faults, anyxml_faults, array_faults, choice_faults, count_faults, flaw_if, item_tuple, leaf_faults, misshapen as misshapen_faults};
 ghost use Rattle.yv_validate.specs.InnerMemory.{Remembers};
 ghost use Rattle.yv_validate.specs.InnerNotes.{default_value, Gains, GainsBy};
 ghost use Rattle.yv_validate.specs.InnerTrail.{places, IsWithin};
-ghost use Rattle.yv_validate.specs.InnerWalk.{ClosesAt, defaults_found, empty_found, Grows, GrowsAt, GrowsWithAt, items_at, leaf_at, leaf_list_at, node_at, plain_at, spot_at, told, value_found, with_node, Writes, written_at};
+ghost use Rattle.yv_validate.specs.InnerWalk.{ClosesAt, defaults_found, empty_found, Grows, GrowsAt, GrowsWithAt, items_at, leaf_at, leaf_list_at, node_at, plain_at, spot_at, progress_view, value_found, with_node, Writes, written_at};
 ghost use Rattle.yv_validate.specs.Work.{value_work};
 
 use crate::fault::FaultKind;
@@ -26,9 +26,9 @@ use crate::trail::Trail;
 use crate::walk::Walk;
 use serde_json::Value;
 use std::alloc::AllocError;
+use yv_leafref_values::{Findings, RuleScope, laws};
+use yv_node_definition::NodeKind;
 use yv_nodes::NodeId;
-use yv_properties::NodeKind;
-use yv_references::{Found, Scope, laws};
 use yv_values::{Index, Meter, Value as Read, check_with};
 use yv_walk::is_there;
 
@@ -43,7 +43,7 @@ impl<'a> Walk<'a> {
     /// The visit of a node at an object: one step, or one for each of its defaults where it has more.
     pub(crate) fn visit(&self, id: NodeId, meter: &mut Meter)
         requires { id.0 < length self.now.schema.now.nodes }
-        ensures { meter.new ≡ counted (meter.old + width (row_at self.now.schema.now id).label) }
+        ensures { meter.new ≡ count_up (meter.old + width (row_at self.now.schema.now id).label) }
     {
         meter.visit_all(self.schema.node(id).width());
     }
@@ -51,7 +51,7 @@ impl<'a> Walk<'a> {
     /// A leaf that was visited, written so or not.
     pub(crate) fn leaf(
         &self,
-        scope: Scope,
+        scope: RuleScope,
         id: NodeId,
         value: Option<&Value>,
         position: u64,
@@ -61,10 +61,10 @@ impl<'a> Walk<'a> {
     ) -> Result<(), AllocError>
         requires node { id.0 < length self.now.schema.now.nodes }
         requires kind { (row_at self.now.schema.now id).label.defined.kind ≡ Leaf }
-        requires asked { is_asked scope ≡ true }
+        requires asks { is_asked scope ≡ true }
         requires way { IsWithin self.now.schema.now path.now }
         ensures grows { OnOk result ((ms : Members) → Writes self.now.schema.now id (option_map (λ v. view v.now) value.entry) ms
-            → ClosesAt self.now.kind self.now.schema.now path.now position (told progress.old) (told progress.new)
+            → ClosesAt self.now.kind self.now.schema.now path.now position (progress_view progress.old) (progress_view progress.new)
             (leaf_at self.now.schema.now id (option_map (λ v. view v.now) value.entry)) (node_at self.now.schema.now scope id ms)) }
         ensures notes { OnOk result ((ms : Members) → Writes self.now.schema.now id (option_map (λ v. view v.now) value.entry) ms
             → GainsBy self.now.schema.now notes.old notes.new
@@ -85,16 +85,16 @@ impl<'a> Walk<'a> {
     // Notes the default of a leaf that isn't written, and keeps it for references, where it is in use.
     fn note_default(
         &self,
-        scope: Scope,
+        scope: RuleScope,
         id: NodeId,
         position: u64,
         notes: &mut Notes,
-        found: &mut Found,
+        found: &mut Findings,
     ) -> Result<(), AllocError>
         requires { id.0 < length self.now.schema.now.nodes }
         ensures notes { OnOk result (Gains self.now.schema.now notes.old notes.new
             (λ n. if id.0 == n then (if uses_defaults scope then default_value (row_at self.now.schema.now id).label else None) else None)) }
-        ensures found { OnOk result (Finds found.old found.new (empty_found self.now.schema.now scope id position)) }
+        ensures finds { OnOk result (Finds found.old found.new (empty_found self.now.schema.now scope id position)) }
     {
         laws::nothing_met();
         if !scope.uses_defaults() {
@@ -105,7 +105,12 @@ impl<'a> Walk<'a> {
     }
 
     // Keeps for references that the defaults of a leaf or leaf-list are in use in the object with this number, where it has some.
-    fn use_defaults(&self, id: NodeId, position: u64, found: &mut Found) -> Result<(), AllocError>
+    fn use_defaults(
+        &self,
+        id: NodeId,
+        position: u64,
+        found: &mut Findings,
+    ) -> Result<(), AllocError>
         requires { id.0 < length self.now.schema.now.nodes }
         ensures { OnOk result (Finds found.old found.new
             (defaults_found self.now.schema.now id position (defaults_of (row_at self.now.schema.now id).label))) }
@@ -119,7 +124,7 @@ impl<'a> Walk<'a> {
 
     fn absent_leaf(
         &self,
-        scope: Scope,
+        scope: RuleScope,
         id: NodeId,
         path: &Trail<'_>,
         faults: &mut Faults,
@@ -133,7 +138,7 @@ impl<'a> Walk<'a> {
         if node.is_key() {
             self.tell(FaultKind::MissingKey, &here, faults)
         } else {
-            self.missing(node, scope, &here, faults)
+            self.report_missing(node, scope, &here, faults)
         }
     }
 
@@ -148,7 +153,7 @@ impl<'a> Walk<'a> {
     ) -> Result<(), AllocError>
         requires node { id.0 < length self.now.schema.now.nodes }
         requires way { IsWithin self.now.schema.now path.now }
-        ensures grows { OnOk result (GrowsAt self.now.kind self.now.schema.now path.now position (told progress.old) (told progress.new)
+        ensures grows { OnOk result (GrowsAt self.now.kind self.now.schema.now path.now position (progress_view progress.old) (progress_view progress.new)
             (leaf_at self.now.schema.now id (Some (view value.now)))) }
         ensures notes { OnOk result (Gains self.now.schema.now notes.old notes.new
             (λ n. if id.0 == n then value_of (row_at self.now.schema.now id).label (view value.now) else None)) }
@@ -175,9 +180,9 @@ impl<'a> Walk<'a> {
         requires { id.0 < length self.now.schema.now.nodes }
         ensures value { IfOk result (λ read. read ≡ value_of (row_at self.now.schema.now id).label (view value.now)) }
         ensures faults { progress.new.faults.items ≡ progress.old.faults.items }
-        ensures found { OnOk result (Finds progress.old.found progress.new.found
+        ensures finds { OnOk result (Finds progress.old.found progress.new.found
             (value_found self.now.schema.now id position item (value_of (row_at self.now.schema.now id).label (view value.now)))) }
-        ensures steps { OnOk result (counted progress.new.meter ≡ counted (progress.old.meter
+        ensures steps { OnOk result (count_up progress.new.meter ≡ count_up (progress.old.meter
             + value_work (row_at self.now.schema.now id).label (view value.now))) }
     {
         let node = self.schema.node(id);
@@ -196,7 +201,7 @@ impl<'a> Walk<'a> {
     /// An anydata node, written so or not: an object of any content.
     pub(crate) fn anydata(
         &self,
-        scope: Scope,
+        scope: RuleScope,
         id: NodeId,
         value: Option<&Value>,
         path: &Trail<'_>,
@@ -209,7 +214,7 @@ impl<'a> Walk<'a> {
     {
         let here = Trail::Below(&*path, id, None);
         match value {
-            None => self.missing(self.schema.node(id), scope, &here, faults),
+            None => self.report_missing(self.schema.node(id), scope, &here, faults),
             Some(Value::Object(_)) => Ok(()),
             Some(_) => self.tell(FaultKind::Shape, &here, faults),
         }
@@ -218,7 +223,7 @@ impl<'a> Walk<'a> {
     /// An anyxml node, written so or not: any value.
     pub(crate) fn anyxml(
         &self,
-        scope: Scope,
+        scope: RuleScope,
         id: NodeId,
         value: Option<&Value>,
         path: &Trail<'_>,
@@ -231,7 +236,7 @@ impl<'a> Walk<'a> {
     {
         let here = Trail::Below(&*path, id, None);
         match value {
-            None => self.missing(self.schema.node(id), scope, &here, faults),
+            None => self.report_missing(self.schema.node(id), scope, &here, faults),
             Some(_) => Ok(()),
         }
     }
@@ -239,7 +244,7 @@ impl<'a> Walk<'a> {
     /// What follows the cases of a choice, so many of which exist.
     pub(crate) fn end_choice(
         &self,
-        scope: Scope,
+        scope: RuleScope,
         id: NodeId,
         existing: usize,
         path: &Trail<'_>,
@@ -255,7 +260,7 @@ impl<'a> Walk<'a> {
         }
         let here = Trail::Below(&*path, id, None);
         match existing {
-            0 => self.missing(self.schema.node(id), scope, &here, faults),
+            0 => self.report_missing(self.schema.node(id), scope, &here, faults),
             1 => Ok(()),
             _ => self.tell(FaultKind::Choice, &here, faults),
         }
@@ -264,7 +269,7 @@ impl<'a> Walk<'a> {
     /// What follows the entries of a list or leaf-list.
     pub(crate) fn end_array(
         &self,
-        scope: Scope,
+        scope: RuleScope,
         id: NodeId,
         total: usize,
         path: &Trail<'_>,
@@ -291,7 +296,7 @@ impl<'a> Walk<'a> {
     ) -> Result<(), AllocError>
         requires node { id.0 < length self.now.schema.now.nodes }
         requires way { IsWithin self.now.schema.now path.now }
-        ensures { OnOk result (faults.new.items ≡ faults.old.items ++ misshapen_faults (plain_at self.now.schema.now Scope.Always id path.now)) }
+        ensures { OnOk result (faults.new.items ≡ faults.old.items ++ misshapen_faults (plain_at self.now.schema.now RuleScope.Always id path.now)) }
     {
         self.tell(FaultKind::Shape, &Trail::Below(&*path, id, None), faults)
     }
@@ -316,7 +321,7 @@ impl<'a> Walk<'a> {
     /// A leaf-list that was visited, written so or not. Where it has no items, its defaults are in use.
     pub(crate) fn leaf_list(
         &self,
-        scope: Scope,
+        scope: RuleScope,
         id: NodeId,
         value: Option<&Value>,
         position: u64,
@@ -325,10 +330,10 @@ impl<'a> Walk<'a> {
     ) -> Result<(), AllocError>
         requires node { id.0 < length self.now.schema.now.nodes }
         requires kind { (row_at self.now.schema.now id).label.defined.kind ≡ LeafList }
-        requires asked { is_asked scope ≡ true }
+        requires asks { is_asked scope ≡ true }
         requires way { IsWithin self.now.schema.now path.now }
         ensures grows { OnOk result ((ms : Members) → Writes self.now.schema.now id (option_map (λ v. view v.now) value.entry) ms
-            → ClosesAt self.now.kind self.now.schema.now path.now position (told progress.old) (told progress.new)
+            → ClosesAt self.now.kind self.now.schema.now path.now position (progress_view progress.old) (progress_view progress.new)
             (leaf_list_at self.now.schema.now id (option_map (λ v. view v.now) value.entry)) (node_at self.now.schema.now scope id ms)) }
     {
         laws::nothing_met();
@@ -344,7 +349,7 @@ impl<'a> Walk<'a> {
     // The items of a leaf-list, and what is wrong with their number.
     fn array(
         &self,
-        scope: Scope,
+        scope: RuleScope,
         id: NodeId,
         value: Option<&Value>,
         position: u64,
@@ -353,7 +358,7 @@ impl<'a> Walk<'a> {
     ) -> Result<(), AllocError>
         requires node { id.0 < length self.now.schema.now.nodes }
         requires way { IsWithin self.now.schema.now path.now }
-        ensures grows { OnOk result (GrowsWithAt self.now.kind self.now.schema.now path.now position (told progress.old) (told progress.new)
+        ensures grows { OnOk result (GrowsWithAt self.now.kind self.now.schema.now path.now position (progress_view progress.old) (progress_view progress.new)
             (leaf_list_at self.now.schema.now id (option_map (λ v. view v.now) value.entry))
             (array_faults (plain_at self.now.schema.now scope id path.now) (option_map (λ v. view v.now) value.entry))) }
     {
@@ -380,12 +385,12 @@ impl<'a> Walk<'a> {
     ) -> Result<(), AllocError>
         requires node { id.0 < length self.now.schema.now.nodes }
         requires way { IsWithin self.now.schema.now path.now }
-        ensures grows { OnOk result (GrowsAt self.now.kind self.now.schema.now path.now position (told progress.old) (told progress.new)
+        ensures grows { OnOk result (GrowsAt self.now.kind self.now.schema.now path.now position (progress_view progress.old) (progress_view progress.new)
             (items_at self.now.schema.now id [] (items_view items.now.items))) }
     {
         laws::nothing_met();
         laws::met_behind();
-        laws::counted();
+        laws::kept_objects_are_entered();
         let mut kept = Index::new(self.alloc);
         for (index, item) in items.iter().enumerate() {
             let earlier = &items[..index];
@@ -407,11 +412,11 @@ impl<'a> Walk<'a> {
     ) -> Result<(), AllocError>
         requires node { id.0 < length self.now.schema.now.nodes }
         requires way { IsWithin self.now.schema.now path.now }
-        requires kept { Remembers kept.now (item_tuple (row_at self.now.schema.now id).label) (map view earlier.now) }
-        ensures grows { OnOk result ((outer : List ℕ) (entry : ℕ) → Grows self.now.kind self.now.schema.now (told progress.old) (told progress.new)
-            (written (written_at self.now.schema.now id (Some (map view earlier.now)) (view item.now)
+        requires keeps { Remembers kept.now (item_tuple (row_at self.now.schema.now id).label) (map view earlier.now) }
+        ensures grows { OnOk result ((outer : List ℕ) (entry : ℕ) → Grows self.now.kind self.now.schema.now (progress_view progress.old) (progress_view progress.new)
+            (at_value (written_at self.now.schema.now id (Some (map view earlier.now)) (view item.now)
             (spot_at self.now.schema.now path.now position outer entry)) ∷ [])) }
-        ensures kept { OnOk result (Remembers kept.new (item_tuple (row_at self.now.schema.now id).label)
+        ensures keeps { OnOk result (Remembers kept.new (item_tuple (row_at self.now.schema.now id).label)
             (map view earlier.now ++ view item.now ∷ [])) }
     {
         laws::value_met();
@@ -430,7 +435,7 @@ impl<'a> Walk<'a> {
 }
 
 // Whether the defaults of a leaf-list are in use.
-fn takes_defaults(scope: Scope, value: Option<&Value>) -> bool
+fn takes_defaults(scope: RuleScope, value: Option<&Value>) -> bool
     ensures { result ≡ (uses_defaults scope && is_empty_at LeafList (option_map (λ v. view v.now) value.entry)) }
 {
     scope.uses_defaults() && has_no_items(value)

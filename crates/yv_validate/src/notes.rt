@@ -7,7 +7,7 @@ ghost use Rattle.yv_validate.specs.Values.{all_values, tuple_of};
 use std::alloc::{AllocError, Global};
 use std::collections::BTreeMap;
 use yv_nodes::NodeId;
-use yv_tables::Schema;
+use yv_schema_tables::Schema;
 use yv_values::{Tuple, Value};
 
 /// The values of leafs, by the leafs' numbers. A default in use is only in the schema, and is copied only where it is wanted.

@@ -2,14 +2,14 @@
 ghost use Rattle.std.specs.Prelude.{◌≡◌, ◌==◌, [], ◌∷◌, ◌++◌, length, IfOk, MatchOption, string_bytes};
 ghost use Rattle.std.specs.Option.{option_map};
 ghost use Rattle.yv_nodes.specs.Member.{behind};
-ghost use Rattle.yv_references.specs.InnerSteps.{left_steps};
-ghost use Rattle.yv_validate.specs.InnerPath.{first_if, numbers, rest_if, spelled, way_names};
+ghost use Rattle.yv_leafref_values.specs.InnerSteps.{left_steps};
+ghost use Rattle.yv_validate.specs.InnerPath.{first_if, numbers, rest_if, places_of, way_names};
 ghost use Rattle.yv_validate.specs.Part.{part_of, steps_of};
 
 use std::alloc::{AllocError, Global};
 use std::marker::Model;
 use std::rc::Rc;
-use yv_references::{MemberName, Step, ValuePath, ValueSteps};
+use yv_leafref_values::{MemberName, Step, ValuePath, ValueSteps};
 
 /// The way to a node, or to a member that names none: what its steps are called. The ways below one share it.
 #[derive(Drop)]
@@ -31,7 +31,7 @@ pub(crate) enum Entries {
 
 // A path as it is kept.
 #[derive(Drop)]
-enum Kept {
+enum KeptWay {
     // By its way, the entries around its place, and the number of that, where it is an entry or an item itself.
     Shared(Rc<Way>, Rc<Entries>, Option<u64>),
     // That of a value.
@@ -42,12 +42,12 @@ enum Kept {
 /// is long as where it is short.
 #[derive(Drop)]
 pub struct Path {
-    kept: Kept,
+    kept: KeptWay,
 }
 
 impl Model for Path {
     ghost use Rattle.std.specs.Prelude.{List};
-    ghost use Rattle.yv_references.specs.Place.{Place};
+    ghost use Rattle.yv_leafref_values.specs.Place.{Place};
     ghost use Rattle.yv_validate.specs.InnerPath.{kept_steps};
 
     ghost Value = { List Place };
@@ -57,11 +57,11 @@ impl Model for Path {
 
 impl Path {
     /// The path of a way, in these entries, to an entry or an item of this number.
-    pub(crate) fn shared(way: Rc<Way>, entries: Rc<Entries>, item: Option<u64>) -> Path
-        ensures { result ≡ spelled (way_names way.value) (numbers entries.value) item }
+    pub(crate) fn of_way(way: Rc<Way>, entries: Rc<Entries>, item: Option<u64>) -> Path
+        ensures { result ≡ places_of (way_names way.value) (numbers entries.value) item }
     {
         Path {
-            kept: Kept::Shared(way, entries, item),
+            kept: KeptWay::Shared(way, entries, item),
         }
     }
 
@@ -70,7 +70,7 @@ impl Path {
         ensures { result ≡ path }
     {
         Path {
-            kept: Kept::Value(path),
+            kept: KeptWay::Value(path),
         }
     }
 
@@ -79,10 +79,10 @@ impl Path {
         ensures { result ≡ self.now }
     {
         match &self.kept {
-            Kept::Shared(way, entries, item) => PathSteps {
+            KeptWay::Shared(way, entries, item) => PathSteps {
                 left: Left::Shared(way.as_ref(), entries.as_ref(), *item),
             },
-            Kept::Value(path) => PathSteps {
+            KeptWay::Value(path) => PathSteps {
                 left: Left::Value(path.steps()),
             },
         }
@@ -111,7 +111,7 @@ impl Part<'_> {
     pub fn member(&self, alloc: Global) -> Result<String, AllocError>
         ensures { IfOk result (λ text. string_bytes text ≡ (part_of self.now).member) }
     {
-        let name = qualified(alloc, &self.name)?;
+        let name = qualified_name(alloc, &self.name)?;
         if !self.name.is_choice {
             return Ok(name);
         }
@@ -130,7 +130,7 @@ pub struct PathSteps<'p> {
 
 impl<'p> Model for PathSteps<'p> {
     ghost use Rattle.std.specs.Prelude.{List};
-    ghost use Rattle.yv_references.specs.Place.{Place};
+    ghost use Rattle.yv_leafref_values.specs.Place.{Place};
     ghost use Rattle.yv_validate.specs.InnerPath.{left_steps};
 
     ghost Value = { List Place };
@@ -176,7 +176,7 @@ impl<'p> PathSteps<'p> {
 }
 
 // A name, behind that of its module where it is written with it.
-fn qualified(alloc: Global, name: &MemberName<'_>) -> Result<String, AllocError>
+fn qualified_name(alloc: Global, name: &MemberName<'_>) -> Result<String, AllocError>
     ensures { IfOk result (λ text. string_bytes text ≡ behind (option_map (λ m. m.now) name.now.module) name.now.name.now) }
 {
     let mut text = String::new(alloc);
@@ -194,8 +194,8 @@ fn last_of<'p>(
     entries: &'p Entries,
     item: Option<u64>,
 ) -> Option<(Part<'p>, PathSteps<'p>)>
-    ensures { MatchOption result (spelled (way_names way.now) (numbers entries.now) item ≡ [])
-        (λ r. spelled (way_names way.now) (numbers entries.now) item ≡ r.1 ++ part_of r.0 ∷ []) }
+    ensures { MatchOption result (places_of (way_names way.now) (numbers entries.now) item ≡ [])
+        (λ r. places_of (way_names way.now) (numbers entries.now) item ≡ r.1 ++ part_of r.0 ∷ []) }
 {
     match way {
         Way::Start => None,
@@ -211,7 +211,7 @@ fn last_of<'p>(
 
 // The steps of a way, in these entries, the innermost of which is at its end where that is an entry.
 fn around<'p>(way: &'p Way, is_entry: bool, entries: &'p Entries) -> PathSteps<'p>
-    ensures { result ≡ spelled (way_names way.now) (rest_if is_entry (numbers entries.now)) (first_if is_entry (numbers entries.now)) }
+    ensures { result ≡ places_of (way_names way.now) (rest_if is_entry (numbers entries.now)) (first_if is_entry (numbers entries.now)) }
 {
     match entries {
         Entries::Within(outer, number, _) if is_entry => PathSteps {

@@ -1,13 +1,13 @@
 //! What grows in a walk.
 ghost use Rattle.std.specs.Prelude.{◌≡◌, [], IfOk, OnOk};
-ghost use Rattle.yv_references.specs.Findings.{Finds, none_found};
+ghost use Rattle.yv_leafref_values.specs.Findings.{Finds, none_found};
 ghost use Rattle.yv_validate.specs.InnerWalk.{value_found};
 
 use crate::faults::Faults;
 use std::alloc::{AllocError, Global};
+use yv_leafref_values::Findings;
 use yv_nodes::NodeId;
-use yv_references::Found;
-use yv_tables::Schema;
+use yv_schema_tables::Schema;
 use yv_values::{Matchers, Meter, Value};
 
 /// What a walk has reported so far, what it has found of references and of their targets, the steps that it took, and the matchers of
@@ -15,7 +15,7 @@ use yv_values::{Matchers, Meter, Value};
 #[derive(Drop)]
 pub(crate) struct Progress<'a> {
     pub(crate) faults: Faults,
-    pub(crate) found: Found,
+    pub(crate) found: Findings,
     pub(crate) meter: Meter,
     pub(crate) matchers: Matchers<'a>,
 }
@@ -24,12 +24,12 @@ impl<'a> Progress<'a> {
     /// Nothing.
     pub(crate) fn new(alloc: Global) -> Result<Progress<'a>, AllocError>
         ensures faults { IfOk result (λ p. p.faults.items ≡ []) }
-        ensures found { IfOk result (λ p. p.found ≡ none_found) }
+        ensures finds { IfOk result (λ p. p.found ≡ none_found) }
         ensures meter { IfOk result (λ p. p.meter ≡ 0) }
     {
         Ok(Progress {
             faults: Faults::new(alloc)?,
-            found: Found::new(alloc),
+            found: Findings::new(alloc),
             meter: Meter::new(),
             matchers: Matchers::new(alloc),
         })
@@ -44,7 +44,7 @@ pub(crate) fn meet(
     item: Option<u64>,
     read: &Option<Value>,
     position: u64,
-    found: &mut Found,
+    found: &mut Findings,
 ) -> Result<(), AllocError>
     ensures { OnOk result (Finds found.old found.new (value_found schema.now node position item read.now)) }
 {

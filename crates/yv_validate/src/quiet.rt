@@ -3,16 +3,16 @@ ghost use Rattle.std.specs.Prelude.{◌≡◌, ◌<◌, ◌≤◌, ℕ, length, 
 ghost use Rattle.std.specs.BTreeSet.{contains};
 ghost use Rattle.std.specs.Ordering.{nat_cmp};
 ghost use Rattle.yv_nodes.specs.Rows.{below, rank};
-ghost use Rattle.yv_tables.specs.Measures.{is_open, met};
-ghost use Rattle.yv_validate.specs.InnerNamed.{is_named};
+ghost use Rattle.yv_schema_tables.specs.Measures.{is_open, count_met};
+ghost use Rattle.yv_validate.specs.InnerNames.{is_named};
 ghost use Rattle.yv_validate.specs.InnerQuiet.{are_quiet, AreKnown, is_mute, is_unread, steps_at};
 
-use crate::named::{is_read, named_leafs};
+use crate::named_leafs::{is_read, named_leafs};
 use std::alloc::{AllocError, Global};
 use std::collections::BTreeSet;
+use yv_node_definition::NodeKind;
 use yv_nodes::{Node, NodeId};
-use yv_properties::NodeKind;
-use yv_tables::Schema;
+use yv_schema_tables::Schema;
 use yv_walk::laws;
 
 /// What is known of the nodes of a schema, from the last to the first: the steps of a node with all that is met below it, where nothing
@@ -48,7 +48,7 @@ pub(crate) fn inner_steps(schema: &Schema, known: &[Option<u64>], parent: NodeId
     requires node { rank parent ≤ length schema.now.nodes }
     requires known { AreKnown schema.now known.now }
     ensures quiet { IfSome result (λ steps. are_quiet schema.now (rank parent) (below schema.now parent) ≡ true) }
-    ensures steps { IfSome result (λ steps. met (below schema.now parent) ≡ steps) }
+    ensures steps { IfSome result (λ steps. count_met (below schema.now parent) ≡ steps) }
 {
     laws::child_numbers();
     let mut total: u64 = 0;
@@ -73,7 +73,7 @@ fn tree_steps(
 {
     let node = schema.node(id);
     let kind = node.kind();
-    if kind.is_operation() {
+    if kind.is_operation_or_notification() {
         return Some(0);
     }
     let asked = is_read(schema, named, id);

@@ -1,9 +1,9 @@
 //! Faults as they are reported, with the way to their place.
 ghost use Rattle.std.specs.Prelude.{◌≡◌, ◌&&◌, ◌∷◌, [], ◌++◌, map, OnOk};
 ghost use Rattle.yv_validate.specs.InnerTrail.{places, IsWithin};
-ghost use Rattle.yv_references.specs.InUse.{enforces};
+ghost use Rattle.yv_leafref_values.specs.InUse.{enforces};
 ghost use Rattle.yv_validate.specs.Faults.{flaw, flaw_if, reference_faults, repeat_faults};
-ghost use Rattle.yv_references.specs.Place.{under};
+ghost use Rattle.yv_leafref_values.specs.Place.{under};
 
 use crate::fault::{Fault, FaultKind};
 use crate::faults::Faults;
@@ -11,8 +11,8 @@ use crate::path::Path;
 use crate::trail::Trail;
 use crate::walk::Walk;
 use std::alloc::AllocError;
+use yv_leafref_values::{RuleScope, ValuePath};
 use yv_nodes::Node;
-use yv_references::{Scope, ValuePath};
 
 /// Reports the references that reach nothing, which are at these paths.
 pub(crate) fn tell_references(paths: Vec<ValuePath>, faults: &mut Faults) -> Result<(), AllocError>
@@ -108,10 +108,10 @@ impl Walk<'_> {
     }
 
     /// Reports a node that is missing, where it must be there.
-    pub(crate) fn missing(
+    pub(crate) fn report_missing(
         &self,
         node: &Node,
-        scope: Scope,
+        scope: RuleScope,
         trail: &Trail<'_>,
         faults: &mut Faults,
     ) -> Result<(), AllocError>

@@ -2,15 +2,15 @@
 ghost use Rattle.std.specs.Prelude.{◌≡◌, ◌++◌, ◌∷◌, [], ◌<◌, IfOk, OnErr, OnOk, codes, decimal, string_bytes, IsTrue};
 ghost use Rattle.std.specs.Option.{option_map};
 ghost use Rattle.yv_nodes.specs.Member.{behind};
-ghost use Rattle.yv_references.specs.Place.{called};
+ghost use Rattle.yv_leafref_values.specs.Place.{member_text};
 ghost use Rattle.yv_validate.specs.Part.{part_of};
-ghost use Rattle.yv_validate.specs.Line.{is_plain, hexadecimal, escaped_byte, escaped, item_text, place_text, places_text, path_text, line_text};
+ghost use Rattle.yv_validate.specs.Line.{is_plain, hexadecimal, escaped_byte, escape, item_text, place_text, places_text, path_text, line_text};
 
 use crate::fault::Fault;
 use crate::path::{Part, PathSteps};
 use itoa::Buffer;
 use std::alloc::{AllocError, Global};
-use yv_references::MemberName;
+use yv_leafref_values::MemberName;
 
 /// A fault's line without its line feed: the name of its kind, a blank and its path, and after a blank the
 /// number where it isn't 0. A path is `/`, or for each step `/` and the member's name, with the number of an
@@ -69,7 +69,7 @@ fn push_step(text: &mut String, step: &Part<'_>) -> Result<(), AllocError>
 
 fn push_member(text: &mut String, name: &MemberName<'_>) -> Result<(), AllocError>
     ensures { OnOk result (string_bytes text.new ≡ string_bytes text.old
-        ++ escaped (called name.now.is_choice (option_map (λ m. m.now) name.now.module) name.now.name.now)) }
+        ++ escape (member_text name.now.is_choice (option_map (λ m. m.now) name.now.module) name.now.name.now)) }
 {
     if !name.is_choice {
         return push_qualified(text, name);
@@ -82,7 +82,7 @@ fn push_member(text: &mut String, name: &MemberName<'_>) -> Result<(), AllocErro
 
 fn push_qualified(text: &mut String, name: &MemberName<'_>) -> Result<(), AllocError>
     ensures { OnOk result (string_bytes text.new ≡ string_bytes text.old
-        ++ escaped (behind (option_map (λ m. m.now) name.now.module) name.now.name.now)) }
+        ++ escape (behind (option_map (λ m. m.now) name.now.module) name.now.name.now)) }
 {
     if let Some(module) = name.module {
         push_escaped(text, module)?;
@@ -103,7 +103,7 @@ fn push_item(text: &mut String, item: Option<u64>) -> Result<(), AllocError>
 }
 
 fn push_escaped(text: &mut String, name: &str) -> Result<(), AllocError>
-    ensures { OnOk result (string_bytes text.new ≡ string_bytes text.old ++ escaped name.now) }
+    ensures { OnOk result (string_bytes text.new ≡ string_bytes text.old ++ escape name.now) }
 {
     for byte in name.as_bytes() {
         push_byte(text, *byte)?;

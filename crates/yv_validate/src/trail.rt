@@ -3,7 +3,7 @@ ghost use Rattle.std.specs.Prelude.{◌≡◌};
 ghost use Rattle.yv_validate.specs.InnerPath.{is_entry};
 
 use yv_nodes::NodeId;
-use yv_tables::Schema;
+use yv_schema_tables::Schema;
 
 /// The way from the top to a node: a chain on the stack, written out only where a fault is reported.
 #[derive(Clone, Copy)]

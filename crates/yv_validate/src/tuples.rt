@@ -2,9 +2,9 @@
 ghost use Rattle.std.specs.Prelude.{◌≡◌, ◌∷◌, [], ◌++◌, ◌+◌, ◌<◌, length, map, min, Some, IfOk, OnOk};
 ghost use Rattle.serde_json.specs.Data.{Data};
 ghost use Rattle.serde_json.specs.View.{view};
-ghost use Rattle.yv_values.specs.Count.{counted};
+ghost use Rattle.yv_values.specs.Count.{count_up};
 ghost use Rattle.yv_validate.specs.InnerMemory.{RemembersEach};
-ghost use Rattle.yv_validate.specs.InnerNamed.{uniques_at};
+ghost use Rattle.yv_validate.specs.InnerNames.{uniques_at};
 ghost use Rattle.yv_validate.specs.InnerNotes.{HasTuples, list_tuple, tuple_in};
 ghost use Rattle.yv_validate.specs.InnerTrail.{places, IsWithin};
 ghost use Rattle.yv_validate.specs.Faults.{unique_faults, unique_if};
@@ -61,13 +61,13 @@ impl Walk<'_> {
     ) -> Result<(), AllocError>
         requires node { id.0 < length self.now.schema.now.nodes }
         requires way { IsWithin self.now.schema.now here.now }
-        requires kept { RemembersEach kept.now.items (list_tuple self.now.kind self.now.schema.now id) (uniques_at self.now.schema.now id) (map view earlier.now) }
+        requires keeps { RemembersEach kept.now.items (list_tuple self.now.kind self.now.schema.now id) (uniques_at self.now.schema.now id) (map view earlier.now) }
         ensures faults { OnOk result ((d : Data) → HasTuples self.now.kind self.now.schema.now id notes.now d → faults.new.items ≡ faults.old.items
             ++ unique_faults (list_tuple self.now.kind self.now.schema.now id) (places self.now.schema.now here.now) 1 (uniques_at self.now.schema.now id)
             (map view earlier.now) d) }
-        ensures kept { OnOk result ((d : Data) → HasTuples self.now.kind self.now.schema.now id notes.now d → RemembersEach kept.new.items
+        ensures keeps { OnOk result ((d : Data) → HasTuples self.now.kind self.now.schema.now id notes.now d → RemembersEach kept.new.items
             (list_tuple self.now.kind self.now.schema.now id) (uniques_at self.now.schema.now id) (map view earlier.now ++ d ∷ [])) }
-        ensures steps { OnOk result ((d : Data) → HasTuples self.now.kind self.now.schema.now id notes.now d → counted meter.new ≡ counted (meter.old
+        ensures steps { OnOk result ((d : Data) → HasTuples self.now.kind self.now.schema.now id notes.now d → count_up meter.new ≡ count_up (meter.old
             + uniques_work (list_tuple self.now.kind self.now.schema.now id) (uniques_at self.now.schema.now id) d)) }
     {
         let place = earlier.len() as u64 + 1;

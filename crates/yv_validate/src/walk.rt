@@ -2,21 +2,21 @@
 ghost use Rattle.std.specs.Prelude.{◌≡◌, ◌==◌, ◌++◌, ◌<◌, ◌≤◌, ◌+◌, ◌*◌, ℕ, List, [], ◌∷◌, length, true, false, IfOk, IfSome, OnOk, None, Some, option_map, if◌then◌else◌};
 ghost use Rattle.serde_json.specs.Data.{Members, depth as nesting, object as an_object};
 ghost use Rattle.serde_json.specs.View.{view, items_view, members_view};
-ghost use Rattle.yv_properties.specs.Kinds.{is_data};
-ghost use Rattle.yv_values.specs.Count.{counted};
+ghost use Rattle.yv_node_definition.specs.Kinds.{is_data};
+ghost use Rattle.yv_values.specs.Count.{count_up};
 ghost use Rattle.yv_nodes.specs.Rows.{row_at, rank, below, whole};
-ghost use Rattle.yv_leaf_targets.specs.Numbers.{default_case_at};
-ghost use Rattle.yv_tables.specs.Measures.{measures_of};
-ghost use Rattle.yv_tables.specs.Sound.{is_object};
+ghost use Rattle.yv_node_keys.specs.Numbers.{default_case_at};
+ghost use Rattle.yv_schema_tables.specs.Measures.{measures_of};
+ghost use Rattle.yv_schema_tables.specs.Sound.{is_object};
 ghost use Rattle.yv_walk.specs.Context.{members_len, members_of};
-ghost use Rattle.yv_walk.specs.Standing.{any, standing};
-ghost use Rattle.yv_references.specs.Findings.{first_of};
-ghost use Rattle.yv_references.specs.InUse.{is_asked, is_number};
+ghost use Rattle.yv_walk.specs.Existence.{any, existence_of};
+ghost use Rattle.yv_leafref_values.specs.Findings.{first_of};
+ghost use Rattle.yv_leafref_values.specs.InUse.{is_asked, is_number};
 ghost use Rattle.yv_validate.specs.Faults.{array_faults, faults as all_faults, flaw};
 ghost use Rattle.yv_validate.specs.InnerNotes.{GainsBy, HasTuples};
 ghost use Rattle.yv_validate.specs.InnerQuiet.{AreKnown, IsEmptied, IsPassed};
 ghost use Rattle.yv_validate.specs.InnerTrail.{places, IsWithin};
-ghost use Rattle.yv_validate.specs.InnerWalk.{cases_met, children_met, ClosesAt, container_at, data_met, entries_at, Grows, GrowsAt, GrowsWithAt, list_at, Meets, MeetsBelow, next_of, node_at, object_at, one_met, plain_at, scope_at, told, unknowns, with_node, Writes};
+ghost use Rattle.yv_validate.specs.InnerWalk.{cases_met, children_met, ClosesAt, container_at, data_met, entries_at, Grows, GrowsAt, GrowsWithAt, list_at, Meets, MeetsBelow, next_of, node_at, object_at, one_met, plain_at, scope_at, progress_view, unknowns, with_node, Writes};
 ghost use Rattle.yv_validate.specs.Size.{size};
 ghost use Rattle.yv_validate.specs.Work.{work};
 
@@ -32,13 +32,13 @@ use crate::tell::tell_references;
 use crate::trail::Trail;
 use serde_json::{Map, Value};
 use std::alloc::{AllocError, Global};
+use yv_leafref_values::{RuleScope, answer, laws as found_laws};
+use yv_node_definition::NodeKind;
 use yv_nodes::NodeId;
-use yv_properties::NodeKind;
-use yv_references::{Scope, answer, laws as found_laws};
-use yv_selection::Kind;
-use yv_tables::Schema;
+use yv_schema_tables::Schema;
+use yv_statement::Kind;
 use yv_values::{Index, Meter};
-use yv_walk::{Context, Standing, is_there, laws};
+use yv_walk::{Context, Existence, is_there, laws};
 
 /// A validation: where its memory comes from, the schema, what kind of document is asked for, and what is known of the nodes of the schema.
 #[derive(Clone, Copy)]
@@ -61,7 +61,7 @@ pub fn validate(
     requires size { size (view document.now) ≤ 16777216 }
     requires nests { nesting (view document.now) ≤ 127 }
     ensures faults { IfOk result (λ r. r.faults.items ≡ all_faults kind schema.now (view document.now)) }
-    ensures steps { IfOk result (λ r. r.steps ≡ counted (work kind schema.now (view document.now))) }
+    ensures steps { IfOk result (λ r. r.steps ≡ count_up (work kind schema.now (view document.now))) }
     ensures bound { IfOk result (λ r. r.steps ≤ (size (view document.now) + 1)
         * ((measures_of (whole schema.now)).m + (measures_of (whole schema.now)).u + (measures_of (whole schema.now)).w + 1)) }
 {
@@ -94,7 +94,7 @@ impl<'a> Walk<'a> {
     // The faults of a document that is an object: what is wrong with its data, and behind it its references that reach nothing.
     fn document(&self, members: &Map<String, Value>) -> Result<Report, AllocError>
         ensures faults { IfOk result (λ r. r.faults.items ≡ all_faults self.now.kind self.now.schema.now (an_object (members_view members.now.entries))) }
-        ensures steps { IfOk result (λ r. r.steps ≡ counted (work self.now.kind self.now.schema.now (an_object (members_view members.now.entries)))) }
+        ensures steps { IfOk result (λ r. r.steps ≡ count_up (work self.now.kind self.now.schema.now (an_object (members_view members.now.entries)))) }
     {
         let mut progress = Progress::new(self.alloc)?;
         let mut notes = Notes::new(self.alloc);
@@ -151,7 +151,7 @@ impl<'a> Walk<'a> {
             ++ unknowns (places self.now.schema.now here.now) (below self.now.schema.now parent) (members_view members.now.entries)) }
         ensures meets { IfOk result (λ c. MeetsBelow self.now.schema.now c parent) }
         ensures members { IfOk result (λ c. members_of c ≡ members_view members.now.entries) }
-        ensures steps { OnOk result (counted meter.new ≡ counted (meter.old + members_len (members_view members.now.entries))) }
+        ensures steps { OnOk result (count_up meter.new ≡ count_up (meter.old + members_len (members_view members.now.entries))) }
     {
         let _children = self.schema.children(parent);
         let context = Context::read(self.alloc, self.schema, meter, parent, members)?;
@@ -177,11 +177,11 @@ impl<'a> Walk<'a> {
         requires object { is_object self.now.schema.now id ≡ true }
         requires way { IsWithin self.now.schema.now here.now }
         ensures grows { OnOk result ((outer : List ℕ) (entry : ℕ) → first_of outer ≡ position
-            → Grows self.now.kind self.now.schema.now (told progress.old) (told progress.new)
-            (object_at self.now.kind self.now.schema.now id item here.now outer entry (next_of (told progress.old))
+            → Grows self.now.kind self.now.schema.now (progress_view progress.old) (progress_view progress.new)
+            (object_at self.now.kind self.now.schema.now id item here.now outer entry (next_of (progress_view progress.old))
             (an_object (members_view members.now.entries)))) }
         ensures notes { OnOk result (GainsBy self.now.schema.now notes.old notes.new
-            (children_met self.now.kind self.now.schema.now Scope.Always id (members_view members.now.entries))) }
+            (children_met self.now.kind self.now.schema.now RuleScope.Always id (members_view members.now.entries))) }
     {
         found_laws::object_met();
         let context = self.enter(id, members, here, &mut progress.meter, &mut progress.faults)?;
@@ -207,10 +207,10 @@ impl<'a> Walk<'a> {
         requires meets { MeetsBelow self.now.schema.now context.now parent }
         requires members { members_of context.now ≡ members_view members.now.entries }
         requires way { IsWithin self.now.schema.now path.now }
-        ensures grows { OnOk result (GrowsAt self.now.kind self.now.schema.now path.now position (told progress.old) (told progress.new)
-            (children_met self.now.kind self.now.schema.now Scope.Always parent (members_of context.now))) }
+        ensures grows { OnOk result (GrowsAt self.now.kind self.now.schema.now path.now position (progress_view progress.old) (progress_view progress.new)
+            (children_met self.now.kind self.now.schema.now RuleScope.Always parent (members_of context.now))) }
         ensures notes { OnOk result (GainsBy self.now.schema.now notes.old notes.new
-            (children_met self.now.kind self.now.schema.now Scope.Always parent (members_of context.now))) }
+            (children_met self.now.kind self.now.schema.now RuleScope.Always parent (members_of context.now))) }
     {
         found_laws::nothing_met();
         if let Some(steps) = self.empty_steps(parent, members) {
@@ -218,7 +218,7 @@ impl<'a> Walk<'a> {
             return Ok(());
         }
         self.children(
-            Scope::Always,
+            RuleScope::Always,
             parent,
             context,
             position,
@@ -244,7 +244,7 @@ impl<'a> Walk<'a> {
     #[cycle(walk)]
     fn children(
         &self,
-        scope: Scope,
+        scope: RuleScope,
         parent: NodeId,
         context: &Context<'_>,
         position: u64,
@@ -255,7 +255,7 @@ impl<'a> Walk<'a> {
         requires node { rank parent ≤ length self.now.schema.now.nodes }
         requires meets { MeetsBelow self.now.schema.now context.now parent }
         requires way { IsWithin self.now.schema.now path.now }
-        ensures grows { OnOk result (GrowsAt self.now.kind self.now.schema.now path.now position (told progress.old) (told progress.new)
+        ensures grows { OnOk result (GrowsAt self.now.kind self.now.schema.now path.now position (progress_view progress.old) (progress_view progress.new)
             (children_met self.now.kind self.now.schema.now scope parent (members_of context.now))) }
         ensures notes { OnOk result (GainsBy self.now.schema.now notes.old notes.new
             (children_met self.now.kind self.now.schema.now scope parent (members_of context.now))) }
@@ -263,7 +263,7 @@ impl<'a> Walk<'a> {
         laws::child_numbers();
         found_laws::nothing_met();
         found_laws::met_behind();
-        found_laws::counted();
+        found_laws::kept_objects_are_entered();
         for child in self.schema.children(parent) {
             self.meet(scope, *child, context, position, path, notes, progress)?;
         }
@@ -286,7 +286,7 @@ impl<'a> Walk<'a> {
         requires kind { (row_at self.now.schema.now choice).label.defined.kind ≡ NodeKind.Choice }
         requires meets { MeetsBelow self.now.schema.now context.now choice }
         requires way { IsWithin self.now.schema.now path.now }
-        ensures grows { OnOk result (GrowsAt self.now.kind self.now.schema.now path.now position (told progress.old) (told progress.new)
+        ensures grows { OnOk result (GrowsAt self.now.kind self.now.schema.now path.now position (progress_view progress.old) (progress_view progress.new)
             (cases_met self.now.kind self.now.schema.now choice (members_of context.now))) }
         ensures notes { OnOk result (GainsBy self.now.schema.now notes.old notes.new
             (cases_met self.now.kind self.now.schema.now choice (members_of context.now))) }
@@ -294,11 +294,11 @@ impl<'a> Walk<'a> {
         laws::child_numbers();
         found_laws::nothing_met();
         found_laws::met_behind();
-        found_laws::counted();
+        found_laws::kept_objects_are_entered();
         let _node = self.schema.node(choice);
         let fallback = self.fallback(choice, context);
         for child in self.schema.children(choice) {
-            let those = context.standing(self.schema, *child);
+            let those = context.existence_of(self.schema, *child);
             let scope = case_scope(fallback, *child, those);
             self.meet(scope, *child, context, position, path, notes, progress)?;
         }
@@ -310,11 +310,11 @@ impl<'a> Walk<'a> {
         requires node { choice.0 < length self.now.schema.now.nodes }
         requires meets { Meets self.now.schema.now context.now choice }
         requires kind { (row_at self.now.schema.now choice).label.defined.kind ≡ NodeKind.Choice }
-        ensures { result ≡ (if any (standing (rank choice) (below self.now.schema.now choice) (members_of context.now)) then None
+        ensures { result ≡ (if any (existence_of (rank choice) (below self.now.schema.now choice) (members_of context.now)) then None
             else default_case_at self.now.schema.now.nodes choice) }
     {
         let _node = self.schema.node(choice);
-        if context.standing(self.schema, choice).any() {
+        if context.existence_of(self.schema, choice).any() {
             return None;
         }
         self.schema.default_case(choice)
@@ -325,7 +325,7 @@ impl<'a> Walk<'a> {
     #[cycle(walk)]
     fn meet(
         &self,
-        scope: Scope,
+        scope: RuleScope,
         id: NodeId,
         context: &Context<'_>,
         position: u64,
@@ -336,7 +336,7 @@ impl<'a> Walk<'a> {
         requires node { id.0 < length self.now.schema.now.nodes }
         requires meets { Meets self.now.schema.now context.now id }
         requires way { IsWithin self.now.schema.now path.now }
-        ensures grows { OnOk result (GrowsAt self.now.kind self.now.schema.now path.now position (told progress.old) (told progress.new)
+        ensures grows { OnOk result (GrowsAt self.now.kind self.now.schema.now path.now position (progress_view progress.old) (progress_view progress.new)
             (one_met self.now.kind self.now.schema.now (scope_at self.now.kind self.now.schema.now scope id) id (members_of context.now))) }
         ensures notes { OnOk result (GainsBy self.now.schema.now notes.old notes.new
             (one_met self.now.kind self.now.schema.now (scope_at self.now.kind self.now.schema.now scope id) id (members_of context.now))) }
@@ -357,8 +357,8 @@ impl<'a> Walk<'a> {
     {
         let _node = self.schema.node(id);
         let steps = known_steps(self.schema, self.known, id)?;
-        match context.standing(self.schema, id) {
-            Standing::Nothing => Some(steps),
+        match context.existence_of(self.schema, id) {
+            Existence::Nothing => Some(steps),
             _ => None,
         }
     }
@@ -367,7 +367,7 @@ impl<'a> Walk<'a> {
     #[cycle(walk)]
     fn node(
         &self,
-        scope: Scope,
+        scope: RuleScope,
         id: NodeId,
         context: &Context<'_>,
         position: u64,
@@ -378,7 +378,7 @@ impl<'a> Walk<'a> {
         requires node { id.0 < length self.now.schema.now.nodes }
         requires meets { Meets self.now.schema.now context.now id }
         requires way { IsWithin self.now.schema.now path.now }
-        ensures grows { OnOk result (GrowsAt self.now.kind self.now.schema.now path.now position (told progress.old) (told progress.new)
+        ensures grows { OnOk result (GrowsAt self.now.kind self.now.schema.now path.now position (progress_view progress.old) (progress_view progress.new)
             (one_met self.now.kind self.now.schema.now (scope_at self.now.kind self.now.schema.now scope id) id (members_of context.now))) }
         ensures notes { OnOk result (GainsBy self.now.schema.now notes.old notes.new
             (one_met self.now.kind self.now.schema.now (scope_at self.now.kind self.now.schema.now scope id) id (members_of context.now))) }
@@ -388,12 +388,12 @@ impl<'a> Walk<'a> {
         found_laws::default_met();
         let node = self.schema.node(id);
         let kind = node.kind();
-        if kind.is_operation() {
+        if kind.is_operation_or_notification() {
             return Ok(());
         }
         self.visit(id, &mut progress.meter);
         laws::inner_stands();
-        let scope = scope.narrowed(self.kind, node.config());
+        let scope = scope.narrow(self.kind, node.config());
         if kind.is_data() {
             let value = context.value(id);
             return self.data(scope, id, value, position, path, notes, progress);
@@ -409,7 +409,7 @@ impl<'a> Walk<'a> {
     #[cycle(walk)]
     fn choice(
         &self,
-        scope: Scope,
+        scope: RuleScope,
         id: NodeId,
         context: &Context<'_>,
         position: u64,
@@ -422,7 +422,7 @@ impl<'a> Walk<'a> {
         requires kind { (row_at self.now.schema.now id).label.defined.kind ≡ NodeKind.Choice }
         requires meets { MeetsBelow self.now.schema.now context.now id }
         requires way { IsWithin self.now.schema.now path.now }
-        ensures grows { OnOk result (ClosesAt self.now.kind self.now.schema.now path.now position (told progress.old) (told progress.new)
+        ensures grows { OnOk result (ClosesAt self.now.kind self.now.schema.now path.now position (progress_view progress.old) (progress_view progress.new)
             (cases_met self.now.kind self.now.schema.now id (members_of context.now))
             (node_at self.now.schema.now scope id (members_of context.now))) }
         ensures notes { OnOk result (GainsBy self.now.schema.now notes.old notes.new
@@ -441,7 +441,7 @@ impl<'a> Walk<'a> {
     #[cycle(walk)]
     fn data(
         &self,
-        scope: Scope,
+        scope: RuleScope,
         id: NodeId,
         value: Option<&Value>,
         position: u64,
@@ -453,7 +453,7 @@ impl<'a> Walk<'a> {
         requires data { is_data (row_at self.now.schema.now id).label.defined.kind ≡ true }
         requires way { IsWithin self.now.schema.now path.now }
         ensures grows { OnOk result ((ms : Members) → Writes self.now.schema.now id (option_map (λ v. view v.now) value.entry) ms
-            → ClosesAt self.now.kind self.now.schema.now path.now position (told progress.old) (told progress.new)
+            → ClosesAt self.now.kind self.now.schema.now path.now position (progress_view progress.old) (progress_view progress.new)
             (data_met self.now.kind self.now.schema.now scope id (option_map (λ v. view v.now) value.entry))
             (node_at self.now.schema.now scope id ms)) }
         ensures notes { OnOk result ((ms : Members) → Writes self.now.schema.now id (option_map (λ v. view v.now) value.entry) ms
@@ -485,7 +485,7 @@ impl<'a> Walk<'a> {
     #[cycle(walk)]
     fn state(
         &self,
-        scope: Scope,
+        scope: RuleScope,
         id: NodeId,
         value: Option<&Value>,
         position: u64,
@@ -495,10 +495,10 @@ impl<'a> Walk<'a> {
     ) -> Result<(), AllocError>
         requires node { id.0 < length self.now.schema.now.nodes }
         requires data { is_data (row_at self.now.schema.now id).label.defined.kind ≡ true }
-        requires unasked { is_asked scope ≡ false }
+        requires nothing_asked { is_asked scope ≡ false }
         requires way { IsWithin self.now.schema.now path.now }
         ensures grows { OnOk result ((ms : Members) → Writes self.now.schema.now id (option_map (λ v. view v.now) value.entry) ms
-            → ClosesAt self.now.kind self.now.schema.now path.now position (told progress.old) (told progress.new)
+            → ClosesAt self.now.kind self.now.schema.now path.now position (progress_view progress.old) (progress_view progress.new)
             (data_met self.now.kind self.now.schema.now scope id (option_map (λ v. view v.now) value.entry))
             (node_at self.now.schema.now scope id ms)) }
         ensures notes { OnOk result ((ms : Members) → Writes self.now.schema.now id (option_map (λ v. view v.now) value.entry) ms
@@ -528,7 +528,7 @@ impl<'a> Walk<'a> {
     #[cycle(walk)]
     fn container(
         &self,
-        scope: Scope,
+        scope: RuleScope,
         id: NodeId,
         value: Option<&Value>,
         position: u64,
@@ -539,7 +539,7 @@ impl<'a> Walk<'a> {
         requires node { id.0 < length self.now.schema.now.nodes }
         requires object { is_object self.now.schema.now id ≡ true }
         requires way { IsWithin self.now.schema.now path.now }
-        ensures grows { OnOk result (GrowsAt self.now.kind self.now.schema.now path.now position (told progress.old) (told progress.new)
+        ensures grows { OnOk result (GrowsAt self.now.kind self.now.schema.now path.now position (progress_view progress.old) (progress_view progress.new)
             (container_at self.now.kind self.now.schema.now scope id (option_map (λ v. view v.now) value.entry))) }
         ensures notes { OnOk result (GainsBy self.now.schema.now notes.old notes.new
             (container_at self.now.kind self.now.schema.now scope id (option_map (λ v. view v.now) value.entry))) }
@@ -568,7 +568,7 @@ impl<'a> Walk<'a> {
     #[cycle(walk)]
     fn list(
         &self,
-        scope: Scope,
+        scope: RuleScope,
         id: NodeId,
         value: Option<&Value>,
         position: u64,
@@ -578,7 +578,7 @@ impl<'a> Walk<'a> {
         requires node { id.0 < length self.now.schema.now.nodes }
         requires object { is_object self.now.schema.now id ≡ true }
         requires way { IsWithin self.now.schema.now path.now }
-        ensures grows { OnOk result (GrowsWithAt self.now.kind self.now.schema.now path.now position (told progress.old) (told progress.new)
+        ensures grows { OnOk result (GrowsWithAt self.now.kind self.now.schema.now path.now position (progress_view progress.old) (progress_view progress.new)
             (list_at self.now.kind self.now.schema.now id (option_map (λ v. view v.now) value.entry))
             (array_faults (plain_at self.now.schema.now scope id path.now) (option_map (λ v. view v.now) value.entry))) }
     {
@@ -607,12 +607,12 @@ impl<'a> Walk<'a> {
         requires node { id.0 < length self.now.schema.now.nodes }
         requires object { is_object self.now.schema.now id ≡ true }
         requires way { IsWithin self.now.schema.now path.now }
-        ensures grows { OnOk result (GrowsAt self.now.kind self.now.schema.now path.now position (told progress.old) (told progress.new)
+        ensures grows { OnOk result (GrowsAt self.now.kind self.now.schema.now path.now position (progress_view progress.old) (progress_view progress.new)
             (entries_at self.now.kind self.now.schema.now id [] (items_view items.now.items))) }
     {
         found_laws::nothing_met();
         found_laws::met_behind();
-        found_laws::counted();
+        found_laws::kept_objects_are_entered();
         let _node = self.schema.node(id);
         let mut keys = Index::new(self.alloc);
         let mut uniques = self.no_tuples(id)?;
@@ -652,9 +652,9 @@ impl<'a> Walk<'a> {
         requires node { id.0 < length self.now.schema.now.nodes }
         requires object { is_object self.now.schema.now id ≡ true }
         requires way { IsWithin self.now.schema.now here.now }
-        ensures grows { OnOk result ((outer : List ℕ) → Grows self.now.kind self.now.schema.now (told progress.old) (told progress.new)
-            (object_at self.now.kind self.now.schema.now id (Some place) here.now (position ∷ outer) (next_of (told progress.old))
-            (next_of (told progress.old)) (view item.now))) }
+        ensures grows { OnOk result ((outer : List ℕ) → Grows self.now.kind self.now.schema.now (progress_view progress.old) (progress_view progress.new)
+            (object_at self.now.kind self.now.schema.now id (Some place) here.now (position ∷ outer) (next_of (progress_view progress.old))
+            (next_of (progress_view progress.old)) (view item.now))) }
         ensures tuples { IfOk result (λ o. HasTuples self.now.kind self.now.schema.now id o (view item.now)) }
     {
         found_laws::nothing_met();
@@ -682,11 +682,11 @@ impl<'a> Walk<'a> {
 }
 
 // The scope of a choice's child, of which these nodes exist, where the default case counts if there is one.
-fn case_scope(fallback: Option<NodeId>, child: NodeId, those: Standing) -> Scope
-    ensures { result ≡ (if is_number fallback child.0 then Scope.InDefault else Scope.InCase those) }
+fn case_scope(fallback: Option<NodeId>, child: NodeId, those: Existence) -> RuleScope
+    ensures { result ≡ (if is_number fallback child.0 then RuleScope.InDefault else RuleScope.InCase those) }
 {
     match fallback {
-        Some(number) if number.0 == child.0 => Scope::InDefault,
-        _ => Scope::InCase(those),
+        Some(number) if number.0 == child.0 => RuleScope::InDefault,
+        _ => RuleScope::InCase(those),
     }
 }

@@ -14,7 +14,7 @@ use Rattle.std.proofs.Math.Seq.{drop-cons}
 use Rattle.std.proofs.lemmas.Slice.Eq.{bytes_eq-Decides}
 use Rattle.yv_values.specs.InnerBits.{bits_of}
 use Rattle.yv_values.specs.InnerNames.{is_below, NoneBelow, Ascends, Arranges}
-use Rattle.yv_values.specs.Texts.{is_named, are_distinct, chosen, words, bits_in}
+use Rattle.yv_values.specs.Texts.{is_named, are_distinct, choose, words, bits_in}
 use Rattle.yv_values.proofs.Order.{back, apart_above, same_between}
 
 is_less : (o : Ordering) → is_lt o ≡ true → o ≡ Less
@@ -96,10 +96,10 @@ joined w ws (n ∷ ns) up above = rw (nat_list_eq_equiv.symm w n) (by (bytes_eq 
     by false false e f h = h
 
 -- the names that are the first word, and those that are others
-pub chosen_step : (names ws : List (List ℕ)) (w : List ℕ) → Ascends names → Ascends (w ∷ ws) → are_distinct (w ∷ ws) ≡ true → chosen names (w ∷ ws) ≡ filter (λ n. bytes_eq n w) names ++ chosen names ws
+pub chosen_step : (names ws : List (List ℕ)) (w : List ℕ) → Ascends names → Ascends (w ∷ ws) → are_distinct (w ∷ ws) ≡ true → choose names (w ∷ ws) ≡ filter (λ n. bytes_eq n w) names ++ choose names ws
 chosen_step names ws w up order distinct = joined w ws names up (strict w ws order.0 (and_left (is_named ws w) _ distinct))
 
-pub chosen_none : (names : List (List ℕ)) → chosen names [] ≡ []
+pub chosen_none : (names : List (List ℕ)) → choose names [] ≡ []
 chosen_none [] = refl
 chosen_none (n ∷ ns) = chosen_none ns
 
@@ -167,7 +167,7 @@ distinct_arranged xs ys h =
 all_arranged : (p : List ℕ → Bool) (xs ys : List (List ℕ)) → IsPermutation xs ys → list_all p xs ≡ list_all p ys
 all_arranged p xs ys h = all_is_none p xs ∙ ap not (list_any-IsPermutation (λ x. not (p x)) xs ys h) ∙ sym (all_is_none p ys)
 
-chosen_arranged : (names xs ys : List (List ℕ)) → IsPermutation xs ys → chosen names xs ≡ chosen names ys
+chosen_arranged : (names xs ys : List (List ℕ)) → IsPermutation xs ys → choose names xs ≡ choose names ys
 chosen_arranged names xs ys h = filter_agree (is_named xs) (is_named ys) (λ n. list_any-IsPermutation (λ w. bytes_eq w n) xs ys h) names
 
 pub bits_arranged : (names : List (List ℕ)) (s : List ℕ) (ws : List (List ℕ)) → Arranges (words s) ws → bits_in names s ≡ bits_of names s ws
@@ -183,8 +183,8 @@ first_of (v ∷ vs) word w e h up = ap (λ o. bytes_eq (unwrap_or o v).now w) e 
 pub rest_is : (ws : List (Bor (List ℕ))) (i : ℕ) (d : Bor (List ℕ)) (w : List ℕ) → i < length ws → w ≡ (get_or ws i d).now → map (λ v. v.now) (drop i ws) ≡ w ∷ map (λ v. v.now) (drop (i + 1) ws)
 rest_is ws i d w b e = rw (add-one i) (ap (map (λ v. v.now)) (drop-cons ws i d b) ∙ ap (λ (x : List ℕ). x ∷ map (λ v. v.now) (drop (suc i) ws)) (sym e))
 
-pub next_word : (names left rest : List (List ℕ)) (w : List ℕ) → left ≡ w ∷ rest → Ascends names → Ascends left → are_distinct left ≡ true → (chosen names left ≡ filter (λ n. bytes_eq n w) names ++ chosen names rest) × Ascends rest × (are_distinct rest ≡ true)
+pub next_word : (names left rest : List (List ℕ)) (w : List ℕ) → left ≡ w ∷ rest → Ascends names → Ascends left → are_distinct left ≡ true → (choose names left ≡ filter (λ n. bytes_eq n w) names ++ choose names rest) × Ascends rest × (are_distinct rest ≡ true)
 next_word names left rest w e up order distinct =
     let more : Ascends (w ∷ rest) = subst Ascends e order in
     let apart : are_distinct (w ∷ rest) ≡ true = ap are_distinct (sym e) ∙ distinct in
-    (ap (chosen names) e ∙ chosen_step names rest w up more apart, more.1, and_right (is_named rest w) _ apart)
+    (ap (choose names) e ∙ chosen_step names rest w up more apart, more.1, and_right (is_named rest w) _ apart)

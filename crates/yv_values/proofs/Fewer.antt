@@ -4,7 +4,7 @@ use Rattle.std.specs.List.{list_all}
 use Rattle.std.specs.Prelude.{Some, None}
 use Rattle.std.specs.Str.{bytes_eq}
 use Rattle.std.proofs.lemmas.Slice.Eq.{bytes_eq-Decides}
-use Rattle.yv_values.specs.Texts.{is_named, are_distinct, words, bits_in, is_trimmed, chosen}
+use Rattle.yv_values.specs.Texts.{is_named, are_distinct, words, bits_in, is_trimmed, choose}
 use Rattle.yv_values.specs.Values.{bits}
 use Rattle.yv_values.proofs.Chosen.{and_left, and_right}
 
@@ -79,7 +79,7 @@ no_more_than_names ns (x ∷ xs) h d =
 pub too_many_words : (ns : List (List ℕ)) (s : List ℕ) → length ns < length (words s) → bits_in ns s ≡ None
 too_many_words ns s more = by (is_trimmed s) (list_all (is_named ns) (words s)) (are_distinct (words s)) (λ h d. no_more_than_names ns (words s) h d)
   where
-    by : (t a d : Bool) → (a ≡ true → d ≡ true → length (words s) ≤ length ns) → cond (t && (a && d)) (Some (bits (chosen ns (words s)))) None ≡ None
+    by : (t a d : Bool) → (a ≡ true → d ≡ true → length (words s) ≤ length ns) → cond (t && (a && d)) (Some (bits (choose ns (words s)))) None ≡ None
     by false a d h = refl
     by true false d h = refl
     by true true false h = refl

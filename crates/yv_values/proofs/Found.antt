@@ -17,12 +17,12 @@ use Rattle.yv_values.proofs.Mapped.{any_mapped}
 use Rattle.yv_values.proofs.Same.{then_equal}
 
 pub ids_total : IsTotalOrder id_cmp
-ids_total = then_total (on_texts (λ (i : Id). i.home)) (on_texts (λ (i : Id). i.name))
+ids_total = then_total (on_texts (λ (i : Id). i.module_file)) (on_texts (λ (i : Id). i.name))
 
 -- the comparison tells whether it is the identity
-pub compared : (home called : List ℕ) (i : Id) → is_identity home called i ≡ is_eq (id_cmp i record { home = home; name = called })
-compared home called i =
-    ap (λ b. b && bytes_eq i.name called) (texts_ties i.home home) ∙ ap (λ b. is_eq (slice_cmp nat_cmp i.home home) && b) (texts_ties i.name called) ∙ sym (then_equal (slice_cmp nat_cmp i.home home) (slice_cmp nat_cmp i.name called))
+pub compared : (module_file called : List ℕ) (i : Id) → is_identity module_file called i ≡ is_eq (id_cmp i record { module_file = module_file; name = called })
+compared module_file called i =
+    ap (λ b. b && bytes_eq i.name called) (texts_ties i.module_file module_file) ∙ ap (λ b. is_eq (slice_cmp nat_cmp i.module_file module_file) && b) (texts_ties i.name called) ∙ sym (then_equal (slice_cmp nat_cmp i.module_file module_file) (slice_cmp nat_cmp i.name called))
 
 and_left : (a b : Bool) → (a && b) ≡ true → a ≡ true
 and_left true b h = refl
@@ -33,15 +33,15 @@ and_right true b h = h
 and_right false b h = absurd (cc)
 
 abbrev id_with : List ℕ → List ℕ → Id
-id_with home called = record { home = home; name = called }
+id_with module_file called = record { module_file = module_file; name = called }
 
-joined : (i : Id) (home called : List ℕ) → i.home ≡ home → i.name ≡ called → i ≡ record { home = home; name = called }
-joined i home called e f = ap (λ (t : List ℕ). id_with t i.name) e ∙ ap (id_with home) f
+joined : (i : Id) (module_file called : List ℕ) → i.module_file ≡ module_file → i.name ≡ called → i ≡ record { module_file = module_file; name = called }
+joined i module_file called e f = ap (λ (t : List ℕ). id_with t i.name) e ∙ ap (id_with module_file) f
 
-pub same_id : (home called : List ℕ) (i : Id) → id_cmp i record { home = home; name = called } ≡ Equal → i ≡ record { home = home; name = called }
-same_id home called i h =
-    let t = compared home called i ∙ ap is_eq h in
-    joined i home called ((bytes_eq-Decides i.home home).0 (and_left _ _ t)) ((bytes_eq-Decides i.name called).0 (and_right (bytes_eq i.home home) _ t))
+pub same_id : (module_file called : List ℕ) (i : Id) → id_cmp i record { module_file = module_file; name = called } ≡ Equal → i ≡ record { module_file = module_file; name = called }
+same_id module_file called i h =
+    let t = compared module_file called i ∙ ap is_eq h in
+    joined i module_file called ((bytes_eq-Decides i.module_file module_file).0 (and_left _ _ t)) ((bytes_eq-Decides i.name called).0 (and_right (bytes_eq i.module_file module_file) _ t))
 
 any_at : {X : Type 0} (p : X → Bool) (xs : List X) (i : ℕ) (d : X) → i < length xs → p (get_or xs i d) ≡ true → list_any p xs ≡ true
 any_at p [] i d b h = absurd (omega arith)
@@ -56,15 +56,15 @@ any_none : {X : Type 0} (p : X → Bool) (xs : List X) → ((k : ℕ) (d : X) �
 any_none p [] h = refl
 any_none p (x ∷ xs) h = rw (h zero x (omega arith)) (any_none p xs (λ k d b. h (suc k) d (omega arith)))
 
-module _ (home called : List ℕ) (xs : List Member) where
-  pub found : (at : ℕ) (d : Member) → at < length xs → HoldsAt (λ y. id_cmp (id_of y) record { home = home; name = called } ≡ Equal) xs at → list_any (is_identity home called) (map id_of xs) ≡ true
-  found at d b h = any_mapped id_of (is_identity home called) xs ∙ any_at (λ m. is_identity home called (id_of m)) xs at d b (compared home called (id_of (get_or xs at d)) ∙ ap is_eq (h d))
+module _ (module_file called : List ℕ) (xs : List Member) where
+  pub found : (at : ℕ) (d : Member) → at < length xs → HoldsAt (λ y. id_cmp (id_of y) record { module_file = module_file; name = called } ≡ Equal) xs at → list_any (is_identity module_file called) (map id_of xs) ≡ true
+  found at d b h = any_mapped id_of (is_identity module_file called) xs ∙ any_at (λ m. is_identity module_file called (id_of m)) xs at d b (compared module_file called (id_of (get_or xs at d)) ∙ ap is_eq (h d))
 
-  pub absent : (at : ℕ) → IsSortedByKey id_of id_cmp xs → (IsNonDecreasingBy (λ y. ordering_index (id_cmp (id_of y) record { home = home; name = called })) xs → IsPartitionPoint (λ y. id_cmp (id_of y) record { home = home; name = called } ≡ Less) (λ y. id_cmp (id_of y) record { home = home; name = called } ≡ Greater) xs at) → list_any (is_identity home called) (map id_of xs) ≡ false
+  pub absent : (at : ℕ) → IsSortedByKey id_of id_cmp xs → (IsNonDecreasingBy (λ y. ordering_index (id_cmp (id_of y) record { module_file = module_file; name = called })) xs → IsPartitionPoint (λ y. id_cmp (id_of y) record { module_file = module_file; name = called } ≡ Less) (λ y. id_cmp (id_of y) record { module_file = module_file; name = called } ≡ Greater) xs at) → list_any (is_identity module_file called) (map id_of xs) ≡ false
   absent at up h =
-      let point = h (searchable_from_sorted ids_total id_of xs record { home = home; name = called } up) in
-      any_mapped id_of (is_identity home called) xs ∙ any_none (λ m. is_identity home called (id_of m)) xs (λ k d b.
-      compared home called (id_of (get_or xs k d)) ∙ elim (cases_lt k at) [
+      let point = h (searchable_from_sorted ids_total id_of xs record { module_file = module_file; name = called } up) in
+      any_mapped id_of (is_identity module_file called) xs ∙ any_none (λ m. is_identity module_file called (id_of m)) xs (λ k d b.
+      compared module_file called (id_of (get_or xs k d)) ∙ elim (cases_lt k at) [
         | inl low ↦ ap is_eq (point.0 k d (omega arith) low)
         | inr high ↦ ap is_eq (point.1 k d high b)
       ])

@@ -11,12 +11,12 @@ use Rattle.std.specs.declared.rc.RcStr.{RcStr}
 use Rattle.std.proofs.lemmas.Slice.Eq.{bytes_eq-Decides}
 use Rattle.std.proofs.lemmas.Bool.Decides.{Decides-eqb}
 use Rattle.yv_values.specs.Values.{whole, text, boolean, name, bits, binary, value_of, texts}
-use Rattle.yv_numbers.specs.Numbers.{integer}
-use Rattle.yv_numbers.specs.declared.integer.Integer.{Integer}
-use Rattle.yv_numbers.specs.declared.integer.Integer.TheVariants.{Natural, Below}
+use Rattle.yv_base_numbers.specs.Numbers.{integer}
+use Rattle.yv_base_numbers.specs.declared.integer.Integer.{Integer}
+use Rattle.yv_base_numbers.specs.declared.integer.Integer.TheVariants.{Natural, Below}
 use Rattle.yv_values.specs.declared.value.Atom.{Atom}
 use Rattle.yv_values.specs.declared.value.Atom.TheVariants as atom
-use Rattle.yv_numbers.specs.contracts.integer.IntegerPartialEq.TheImpl.{eq-value as integer_eq}
+use Rattle.yv_base_numbers.specs.contracts.integer.IntegerPartialEq.TheImpl.{eq-value as integer_eq}
 use Rattle.yv_values.specs.contracts.value.AtomPartialEq.TheImpl.{eq-value}
 use Rattle.yv_values.specs.contracts.value.AtomOrd.TheImpl.{cmp-value}
 use Rattle.yv_values.specs.contracts.value.AtomOrd.TheImpl.Laws.{matches_eq-law}

@@ -4,11 +4,11 @@ use Rattle.yv_values.specs.InnerKeys.{key_of}
 use Rattle.yv_values.specs.Pairs.{Pair, Keeps}
 use Rattle.yv_values.specs.Values.{Val}
 use Rattle.yv_values.specs.declared.key.Key.{Key}
-use Rattle.yv_values.specs.declared.places.Kept.{Kept}
-use Rattle.yv_values.specs.declared.places.Kept.TheVariants.{One, Many}
+use Rattle.yv_values.specs.declared.places.PlaceList.{PlaceList}
+use Rattle.yv_values.specs.declared.places.PlaceList.TheVariants.{One, Many}
 
 -- the places that are kept, one alone or in a list
-abbrev pub places_of : Kept → List ℕ
+abbrev pub places_of : PlaceList → List ℕ
 places_of (One place) = place ∷ []
 places_of (Many places) = places.value.items
 

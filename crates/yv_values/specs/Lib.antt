@@ -12,7 +12,7 @@ pub mod Places
 pub mod Reads
 pub mod Same
 pub mod Scopes
-pub mod Sorted
+pub mod NameOrder
 pub mod Texts
 pub mod Types
 pub mod Values

@@ -4,8 +4,8 @@ use Rattle.base64.specs.Engines.{standard}
 use Rattle.base64.specs.GeneralPurpose.{decode_of}
 use Rattle.serde_json.specs.Data.{Data, boolean as truth, number, string, array, Items, item, no_items}
 use Rattle.serde_json.specs.Find.{as_integer, as_null}
-use Rattle.yv_numbers.specs.Intervals.{Interval, are_among}
-use Rattle.yv_numbers.specs.Numbers.{integer_of, scaled_of}
+use Rattle.yv_base_numbers.specs.Intervals.{Interval, are_among}
+use Rattle.yv_base_numbers.specs.Numbers.{integer_of, scaled_of}
 use Rattle.yv_values.specs.Texts.{text_in, name_in, bits_in, binary_in, identity_at}
 use Rattle.yv_values.specs.Types.{Plain, wholes, decimals, strings, booleans, names, flags, octets, identities, empties}
 use Rattle.yv_values.specs.Values.{Val, whole, decimal, boolean, empty}
@@ -51,11 +51,11 @@ string_from p m (string s) = string_in p m s
 string_from p m _ = None
 
 -- the value by the type and the JSON kind; the module is that of the leaf that is written
-abbrev pub read_by : Plain → List ℕ → Data → Option Val
-read_by (wholes is_text spans) m d = whole_from is_text spans d
-read_by booleans m d = boolean_from d
-read_by empties m d = empty_from d
-read_by p m d = string_from p m d
+abbrev pub read_kind : Plain → List ℕ → Data → Option Val
+read_kind (wholes is_text spans) m d = whole_from is_text spans d
+read_kind booleans m d = boolean_from d
+read_kind empties m d = empty_from d
+read_kind p m d = string_from p m d
 
 abbrev pub or_else : Option Val → Option Val → Option Val
 or_else (Some v) w = Some v
@@ -64,9 +64,9 @@ or_else None w = w
 -- the value of the first type that has one
 abbrev pub first_read : List Plain → List ℕ → Data → Option Val
 first_read [] m d = None
-first_read (t ∷ ts) m d = or_else (read_by t m d) (first_read ts m d)
+first_read (t ∷ ts) m d = or_else (read_kind t m d) (first_read ts m d)
 
 -- the place of that type from 1, or the number of types where none has one
-abbrev pub tried : List Plain → List ℕ → Data → ℕ
-tried [] m d = 0
-tried (t ∷ ts) m d = 1 + (if is_some (read_by t m d) then 0 else tried ts m d)
+abbrev pub types_tried : List Plain → List ℕ → Data → ℕ
+types_tried [] m d = 0
+types_tried (t ∷ ts) m d = 1 + (if is_some (read_kind t m d) then 0 else types_tried ts m d)

@@ -5,38 +5,38 @@ use Rattle.base64.specs.Engines.{standard}
 use Rattle.base64.specs.GeneralPurpose.{decode_of}
 use Rattle.std.specs.declared.alloc.Global.{Global}
 use Rattle.yv_values.specs.declared.scope.Scope.{Scope}
-use Rattle.yv_numbers.specs.Numbers.{based_integer_of, scaled_of}
+use Rattle.yv_base_numbers.specs.Numbers.{based_integer_of, scaled_of}
 use Rattle.yv_values.specs.Reads.{whole_in, decimal_in}
 use Rattle.yv_values.specs.Texts.{text_in, name_in, bits_in, binary_in, identity_in}
 use Rattle.yv_values.specs.Types.{Plain, wholes, decimals, strings, booleans, names, flags, octets, identities, empties, Id}
 use Rattle.yv_values.specs.Values.{Val, boolean}
 
 -- a prefix and its module
-pub record Binding : Type 0 where
+pub record PrefixBinding : Type 0 where
   pub prefix : List ℕ
-  pub home : List ℕ
+  pub module_file : List ℕ
 
 -- the module of a file, and its prefixes
 pub record Place : Type 0 where
-  pub home : List ℕ
-  pub bindings : List Binding
+  pub module_file : List ℕ
+  pub bindings : List PrefixBinding
 
-abbrev pub binding_of : String Global × String Global → Binding
-binding_of p = record { prefix = string_bytes p.0; home = string_bytes p.1 }
+abbrev pub binding_of : String Global × String Global → PrefixBinding
+binding_of p = record { prefix = string_bytes p.0; module_file = string_bytes p.1 }
 
 abbrev pub place_of : Scope → Place
-place_of s = record { home = string_bytes s.module; bindings = map binding_of s.prefixes.items }
+place_of s = record { module_file = string_bytes s.module; bindings = map binding_of s.prefixes.items }
 
 -- the module that a prefix means
-abbrev pub module_of : List Binding → List ℕ → Option (List ℕ)
+abbrev pub module_of : List PrefixBinding → List ℕ → Option (List ℕ)
 module_of [] prefix = None
-module_of (b ∷ bs) prefix = if bytes_eq b.prefix prefix then Some b.home else module_of bs prefix
+module_of (b ∷ bs) prefix = if bytes_eq b.prefix prefix then Some b.module_file else module_of bs prefix
 
 -- an identity without prefix is of the file's module
-abbrev pub identity_by : List Id → Place → List ℕ → Option ℕ → Option Val
-identity_by ids place s None = identity_in ids place.home s
-identity_by ids place s (Some i) =
-    option_and_then (λ home. identity_in ids home (drop (i + 1) s)) (module_of place.bindings (take i s))
+abbrev pub identity_in_scope : List Id → Place → List ℕ → Option ℕ → Option Val
+identity_in_scope ids place s None = identity_in ids place.module_file s
+identity_in_scope ids place s (Some i) =
+    option_and_then (λ module_file. identity_in ids module_file (drop (i + 1) s)) (module_of place.bindings (take i s))
 
 abbrev pub truth_of : List ℕ → Option Val
 truth_of s =
@@ -52,5 +52,5 @@ text_value booleans s place = truth_of s
 text_value (names ns) s place = name_in ns s
 text_value (flags ns) s place = bits_in ns s
 text_value (octets lengths) s place = binary_in lengths (decode_of standard s)
-text_value (identities ids) s place = identity_by ids place s (position (λ b. b == 58) s)
+text_value (identities ids) s place = identity_in_scope ids place s (position (λ b. b == 58) s)
 text_value empties s place = None

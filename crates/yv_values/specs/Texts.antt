@@ -5,9 +5,9 @@ use Rattle.std.specs.Str.{chars}
 use Rattle.base64.specs.declared.decode.DecodeError.{DecodeError}
 use Rattle.yv_statement.specs.Legal.{all_legal}
 use Rattle.yv_pattern.specs.Meaning.{verdict}
-use Rattle.yv_numbers.specs.Intervals.{Interval, are_among}
+use Rattle.yv_base_numbers.specs.Intervals.{Interval, are_among}
 pub use Rattle.yv_values.specs.Identities.{is_identity, identity_in}
-pub use Rattle.yv_values.specs.Sorted.{is_named}
+pub use Rattle.yv_values.specs.NameOrder.{is_named}
 use Rattle.yv_values.specs.Types.{Test, Id}
 use Rattle.yv_values.specs.Values.{Val, text, name, bits, binary}
 
@@ -55,14 +55,14 @@ are_distinct [] = true
 are_distinct (w ∷ ws) = not (is_named ws w) && are_distinct ws
 
 -- the bits' names among these words, in the order of the type's list, which is that of their bytes
-abbrev pub chosen : List (List ℕ) → List (List ℕ) → List (List ℕ)
-chosen names ws = filter (is_named ws) names
+abbrev pub choose : List (List ℕ) → List (List ℕ) → List (List ℕ)
+choose names ws = filter (is_named ws) names
 
 -- a set of bits: names of the type with blanks between, none twice, in any order (section 9.7)
 abbrev pub bits_in : List (List ℕ) → List ℕ → Option Val
 bits_in names s =
     if is_trimmed s && (list_all (is_named names) (words s) && are_distinct (words s))
-    then Some (bits (chosen names (words s))) else None
+    then Some (bits (choose names (words s))) else None
 
 -- the texts have the same words, in whatever order
 abbrev pub HaveSameWords : List ℕ → List ℕ → Type 0

@@ -1,6 +1,6 @@
 -- Plain types as data: what is left of a type when typedefs, unions and leafrefs are followed.
 use Rattle.std.specs.Prelude.{ℕ, List, Bool}
-use Rattle.yv_numbers.specs.Intervals.{Interval}
+use Rattle.yv_base_numbers.specs.Intervals.{Interval}
 use Rattle.yv_values.specs.declared.plain.PlainType.{PlainType}
 use Rattle.yv_values.specs.declared.plain.PlainType.TheVariants.{Whole, Decimal, Text, Boolean, Enumeration, Bits, Binary, Identity, Empty}
 pub use Rattle.yv_values.specs.Identities.{Id, id_of}

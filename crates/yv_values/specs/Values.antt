@@ -3,8 +3,8 @@ use Rattle.std.specs.Prelude.{ℕ, ℤ, List, Bool, map}
 use Rattle.std.specs.Rc.{rc_str_bytes, rc_slice_items}
 use Rattle.std.specs.declared.rc.RcStr.{RcStr}
 use Rattle.std.specs.declared.alloc.Global.{Global}
-use Rattle.yv_numbers.specs.Numbers.{integer}
-use Rattle.yv_numbers.specs.declared.integer.Integer.TheVariants.{Natural, Below}
+use Rattle.yv_base_numbers.specs.Numbers.{integer}
+use Rattle.yv_base_numbers.specs.declared.integer.Integer.TheVariants.{Natural, Below}
 use Rattle.yv_values.specs.declared.value.Atom.{Atom}
 use Rattle.yv_values.specs.declared.value.Atom.TheVariants as atom
 

@@ -9,7 +9,7 @@ use base64::DecodeAllocError;
 use base64::engine::general_purpose::STANDARD;
 use std::alloc::{AllocError, Global};
 use std::rc::RcSlice;
-use yv_numbers::{Integer, Intervals};
+use yv_base_numbers::{Integer, Intervals};
 
 /// The octets that the text writes in padded standard base64, where there are so many.
 pub fn binary_in(

@@ -3,17 +3,17 @@ ghost use Rattle.std.specs.Prelude.{◌≡◌, ◌<◌, IsTrue, ◌-◌, ◌==�
 ghost use Rattle.std.specs.List.{list_all};
 ghost use Rattle.yv_values.specs.InnerBits.{bits_of};
 ghost use Rattle.yv_values.specs.InnerNames.{NoneBelow, Ascends, Arranges};
-ghost use Rattle.yv_values.specs.Texts.{is_named, pieces, is_word, words, is_trimmed, are_distinct, chosen, bits_in};
+ghost use Rattle.yv_values.specs.Texts.{is_named, pieces, is_word, words, is_trimmed, are_distinct, choose, bits_in};
 ghost use Rattle.yv_values.specs.Values.{texts};
 
 use crate::name::is_same;
-use crate::names::Names;
+use crate::names::NameSet;
 use crate::value::Value;
 use std::alloc::{AllocError, Global};
 use std::rc::{RcSlice, RcStr};
 
 /// The set of bits that the text names, where it is a value of the type.
-pub fn bits_in(alloc: Global, names: &Names, text: &str) -> Result<Option<Value>, AllocError>
+pub fn bits_in(alloc: Global, names: &NameSet, text: &str) -> Result<Option<Value>, AllocError>
     ensures { IfOk result (λ found. found ≡ bits_in names.now text.now) }
 {
     if has_more_words(text, names.len()) {
@@ -44,7 +44,7 @@ fn count_up_to(text: &str, most: usize) -> usize
 // The same, of the text's words in their order.
 fn bits_of(
     alloc: Global,
-    names: &Names,
+    names: &NameSet,
     text: &str,
     words: &[&str],
 ) -> Result<Option<Value>, AllocError>
@@ -52,7 +52,7 @@ fn bits_of(
     ensures { IfOk result (λ found. found ≡ bits_of names.now text.now (map (λ w. w.now) words.now)) }
 {
     if is_trimmed(text.as_bytes()) && are_named(names, words) && are_distinct(words) {
-        Ok(Some(Value::bits(RcSlice::from_vec(chosen(alloc, names, words)?)?)))
+        Ok(Some(Value::bits(RcSlice::from_vec(choose_names(alloc, names, words)?)?)))
     } else {
         Ok(None)
     }
@@ -122,13 +122,13 @@ fn keep<'a>(words: &mut Vec<&'a str>, word: &'a str) -> Result<(), AllocError>
     Ok(())
 }
 
-fn are_named(names: &Names, words: &[&str]) -> bool
+fn are_named(names: &NameSet, words: &[&str]) -> bool
     ensures { result ≡ list_all (is_named names.now) (map (λ w. w.now) words.now) }
 {
     all_named(names, words)
 }
 
-fn all_named(names: &Names, words: &[&str]) -> bool
+fn all_named(names: &NameSet, words: &[&str]) -> bool
     ensures { result ≡ list_all (λ w. is_named names.now w.now) words.now }
 {
     words.iter().all(|word| names.has(word.as_bytes()))
@@ -160,10 +160,10 @@ fn is_first(words: &[&str], text: &[u8]) -> bool
 }
 
 // The names that are words, in their order.
-fn chosen(alloc: Global, names: &Names, words: &[&str]) -> Result<Vec<RcStr>, AllocError>
+fn choose_names(alloc: Global, names: &NameSet, words: &[&str]) -> Result<Vec<RcStr>, AllocError>
     requires order { Ascends (map (λ w. w.now) words.now) }
     requires distinct { are_distinct (map (λ w. w.now) words.now) ≡ true }
-    ensures { IfOk result (λ v. texts v.items ≡ chosen names.now (map (λ w. w.now) words.now)) }
+    ensures { IfOk result (λ v. texts v.items ≡ choose names.now (map (λ w. w.now) words.now)) }
 {
     let mut found = Vec::new(alloc);
     for word in words {

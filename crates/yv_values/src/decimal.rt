@@ -1,11 +1,11 @@
 //! Values of decimal64 types.
 ghost use Rattle.std.specs.Prelude.{◌≡◌, option_map, option_and_then};
-ghost use Rattle.yv_numbers.specs.Numbers.{integer, scaled_of};
+ghost use Rattle.yv_base_numbers.specs.Numbers.{integer, scaled_of};
 ghost use Rattle.yv_values.specs.Reads.{decimal_in};
 
 use crate::plain::DecimalType;
 use crate::value::Value;
-use yv_numbers::{Integer, scaled_of};
+use yv_base_numbers::{Integer, scaled_of};
 
 /// The decimal that the text writes, where the type has it.
 pub fn decimal_in(plain: &DecimalType, text: &[u8]) -> Option<Value>

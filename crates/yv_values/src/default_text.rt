@@ -1,6 +1,6 @@
 //! Values of defaults' texts.
 ghost use Rattle.std.specs.Prelude.{◌≡◌, ◌==◌, IfOk, position};
-ghost use Rattle.yv_values.specs.Scopes.{text_value, place_of, truth_of, identity_by};
+ghost use Rattle.yv_values.specs.Scopes.{text_value, place_of, truth_of, identity_in_scope};
 ghost use Rattle.yv_values.specs.Types.{plain_of};
 
 use crate::binary::binary_in;
@@ -15,7 +15,7 @@ use crate::text::text_in;
 use crate::value::Value;
 use crate::whole::whole_among;
 use std::alloc::{AllocError, Global};
-use yv_numbers::based_integer_of;
+use yv_base_numbers::based_integer_of;
 use yv_pattern::Matchers;
 
 /// The value of a `default` statement's text, where the type has one. The scope is that of the file in which it is
@@ -49,7 +49,7 @@ pub fn read_text_with<'t>(
         PlainType::Enumeration(names) => name_in(names, text),
         PlainType::Bits(names) => bits_in(alloc, names, text),
         PlainType::Binary(lengths) => binary_in(alloc, lengths, text),
-        PlainType::Identity(members) => identity_by(alloc, members, scope, text.as_bytes()),
+        PlainType::Identity(members) => identity_in_scope(alloc, members, scope, text.as_bytes()),
         PlainType::Empty => Ok(None),
     }
 }
@@ -66,13 +66,13 @@ fn truth_of(text: &str) -> Option<Value>
     }
 }
 
-fn identity_by(
+fn identity_in_scope(
     alloc: Global,
     members: &Members,
     scope: &Scope,
     text: &[u8],
 ) -> Result<Option<Value>, AllocError>
-    ensures { IfOk result (λ found. found ≡ identity_by members.now (place_of scope.now) text.now (position (λ b. b == 58) text.now)) }
+    ensures { IfOk result (λ found. found ≡ identity_in_scope members.now (place_of scope.now) text.now (position (λ b. b == 58) text.now)) }
 {
     match colon(text) {
         Some(at) => match module_of(&scope.prefixes, &text[..at]) {

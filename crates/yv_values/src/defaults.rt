@@ -15,12 +15,12 @@ use std::marker::Model;
 #[derive(Drop)]
 pub struct Defaults {
     values: Vec<Value>,
-    known: Known,
+    known: ValueIndex,
 }
 
 // What is known of values: an index of them, where there are two or more, and whether two of them are the same.
 #[derive(Drop)]
-struct Known {
+struct ValueIndex {
     index: Option<Index>,
     repeats: bool,
 }
@@ -51,7 +51,7 @@ impl Defaults {
         requires few { length values.items ≤ Self.MOST }
         ensures { IfOk result (λ defaults. defaults ≡ values.items) }
     {
-        let known = told(alloc, values.as_slice())?;
+        let known = index_few(alloc, values.as_slice())?;
         Ok(Defaults { values, known })
     }
 
@@ -92,23 +92,23 @@ fn has_first(values: &[Value], key: &Tuple) -> bool
     }
 }
 
-fn told(alloc: Global, values: &[Value]) -> Result<Known, AllocError>
-    ensures told { IfOk result (λ known. Tells known.index values.now) }
-    ensures repeated { IfOk result (λ known. known.repeats ≡ has_same values.now) }
+fn index_few(alloc: Global, values: &[Value]) -> Result<ValueIndex, AllocError>
+    ensures tells { IfOk result (λ known. Tells known.index values.now) }
+    ensures repeats { IfOk result (λ known. known.repeats ≡ has_same values.now) }
 {
     if values.len() < 2 {
-        return Ok(Known {
+        return Ok(ValueIndex {
             index: None,
             repeats: false,
         });
     }
-    indexed(alloc, values)
+    index_many(alloc, values)
 }
 
 // An index of these values, and whether two of them are the same.
-fn indexed(alloc: Global, values: &[Value]) -> Result<Known, AllocError>
-    ensures told { IfOk result (λ known. Tells known.index values.now) }
-    ensures repeated { IfOk result (λ known. known.repeats ≡ has_same values.now) }
+fn index_many(alloc: Global, values: &[Value]) -> Result<ValueIndex, AllocError>
+    ensures tells { IfOk result (λ known. Tells known.index values.now) }
+    ensures repeats { IfOk result (λ known. known.repeats ≡ has_same values.now) }
 {
     let mut index = Index::new(alloc);
     let mut repeats = false;
@@ -116,7 +116,7 @@ fn indexed(alloc: Global, values: &[Value]) -> Result<Known, AllocError>
         let is_known = keep(alloc, &mut index, value)?;
         repeats = repeats || is_known;
     }
-    Ok(Known {
+    Ok(ValueIndex {
         index: Some(index),
         repeats,
     })
@@ -124,8 +124,8 @@ fn indexed(alloc: Global, values: &[Value]) -> Result<Known, AllocError>
 
 // Keeps a value with others, and says whether it is one of them.
 fn keep(alloc: Global, index: &mut Index, value: &Value) -> Result<bool, AllocError>
-    ensures known { IfOk result (λ known. (vs : List Val) → KeepsAlone index.old vs → known ≡ is_among value.now vs) }
-    ensures kept { OnOk result ((vs : List Val) → KeepsAlone index.old vs → KeepsAlone index.new (vs ++ value.now ∷ [])) }
+    ensures knows { IfOk result (λ known. (vs : List Val) → KeepsAlone index.old vs → known ≡ is_among value.now vs) }
+    ensures keeps { OnOk result ((vs : List Val) → KeepsAlone index.old vs → KeepsAlone index.new (vs ++ value.now ∷ [])) }
 {
     let mut key = Tuple::new(alloc);
     key.push(value.copy(alloc)?)?;

@@ -1,12 +1,12 @@
 //! Indexes: which keys were kept, and where.
 ghost use Rattle.std.specs.Prelude.{◌≡◌, true, false, ℕ, ◌+◌, ◌≤◌, ◌⊎◌, [], is_ok, IfOk, OnOk, OnErr, IsTrue, ◌↔◌, if◌then◌else◌, unwrap_or, option_map};
-ghost use Rattle.yv_values.specs.Count.{counted};
+ghost use Rattle.yv_values.specs.Count.{count_up};
 ghost use Rattle.yv_values.specs.Pairs.{Keeps, IsLeast, Adds, AddsIfNone, IsAlone, IsWithin};
 
 use crate::defaults::Defaults;
 use crate::key::Key;
 use crate::meter::Meter;
-use crate::places::Places;
+use crate::places::KeyPlaces;
 use crate::value::Tuple;
 use std::alloc::{AllocError, Global};
 use std::collections::BTreeMap;
@@ -17,7 +17,7 @@ use std::marker::Model;
 #[derive(Drop)]
 pub struct Index {
     alloc: Global,
-    places: BTreeMap<Key, Places>,
+    places: BTreeMap<Key, KeyPlaces>,
 }
 
 impl Model for Index {
@@ -46,7 +46,7 @@ impl Index {
     /// Keeps a key and its place. It counts no step: it is part of the visit or check that calls it. It costs least
     /// where the places of a key come in ascending order.
     pub fn keep(&mut self, key: Tuple, place: u64) -> Result<(), AllocError>
-        ensures kept { OnOk result (Adds self.old self.new key place) }
+        ensures keeps { OnOk result (Adds self.old self.new key place) }
         ensures same { OnErr result (self.new ≡ self.old) }
     {
         if self.add(&key, place)? {
@@ -63,8 +63,8 @@ impl Index {
         place: u64,
     ) -> Result<Option<u64>, AllocError>
         ensures least { IfOk result (λ found. IsLeast self.old key found) }
-        ensures kept { AddsIfNone result self.old self.new key place }
-        ensures steps { meter.new ≡ (if is_ok result then counted (meter.old + 1) else meter.old) }
+        ensures keeps { AddsIfNone result self.old self.new key place }
+        ensures steps { meter.new ≡ (if is_ok result then count_up (meter.old + 1) else meter.old) }
     {
         let found = self.find_or_keep(key, place)?;
         meter.visit();
@@ -73,8 +73,8 @@ impl Index {
 
     /// Whether the same key was kept at a place from the first to the last, both included. It is one step.
     pub fn within(&self, meter: &mut Meter, key: &Tuple, first: u64, last: u64) -> bool
-        ensures found { IsTrue result ↔ IsWithin self.now key.now first last }
-        ensures steps { meter.new ≡ counted (meter.old + 1) }
+        ensures finds { IsTrue result ↔ IsWithin self.now key.now first last }
+        ensures steps { meter.new ≡ count_up (meter.old + 1) }
     {
         meter.visit();
         self.is_within(key, first, last)
@@ -90,9 +90,9 @@ impl Index {
         last: u64,
         others: Option<&Defaults>,
     ) -> bool
-        ensures found { IsTrue result ↔
+        ensures finds { IsTrue result ↔
             (IsWithin self.now key.now first last ⊎ IsAlone key.now (unwrap_or (option_map (λ o. o.now) others.entry) [])) }
-        ensures steps { meter.new ≡ counted (meter.old + 1) }
+        ensures steps { meter.new ≡ count_up (meter.old + 1) }
     {
         meter.visit();
         self.is_within(key, first, last) || is_among(key, others)
@@ -101,10 +101,10 @@ impl Index {
     // The least place that was kept with the same key; where there is none the pair is kept. It counts no step, and takes one search.
     pub(crate) fn find_or_keep(&mut self, key: Tuple, place: u64) -> Result<Option<u64>, AllocError>
         ensures least { IfOk result (λ found. IsLeast self.old key found) }
-        ensures kept { AddsIfNone result self.old self.new key place }
+        ensures keeps { AddsIfNone result self.old self.new key place }
     {
         let count = self.places.len();
-        let first = Places::one(self.alloc, place);
+        let first = KeyPlaces::one(self.alloc, place);
         let least = self.places.entry(key.into_key())?.or_insert(first).least();
         if self.places.len() == count {
             return Ok(Some(least));
@@ -124,7 +124,7 @@ impl Index {
 
     // Adds a place to those of a key, where there are some, and says whether there are.
     fn add(&mut self, key: &Tuple, place: u64) -> Result<bool, AllocError>
-        ensures added { IfOk result (λ known. known ≡ true → Adds self.old self.new key.now place) }
+        ensures adds { IfOk result (λ known. known ≡ true → Adds self.old self.new key.now place) }
         ensures none { IfOk result (λ known. known ≡ false → (self.new ≡ self.old) × ((p : ℕ) → Keeps self.old key.now p → ⊥)) }
         ensures same { OnErr result (self.new ≡ self.old) }
     {
@@ -138,10 +138,10 @@ impl Index {
     // Keeps a key that wasn't kept before.
     fn keep_new(&mut self, key: Tuple, place: u64) -> Result<(), AllocError>
         requires { (p : ℕ) → Keeps self.old key p → ⊥ }
-        ensures kept { OnOk result (Adds self.old self.new key place) }
+        ensures keeps { OnOk result (Adds self.old self.new key place) }
         ensures same { OnErr result (self.new ≡ self.old) }
     {
-        let places = Places::one(self.alloc, place);
+        let places = KeyPlaces::one(self.alloc, place);
         self.places.insert(key.into_key(), places)?;
         Ok(())
     }

@@ -2,15 +2,15 @@
 ghost use Rattle.std.specs.Prelude.{◌≡◌, ℕ, List, Some};
 ghost use Rattle.std.specs.List.{list_any};
 ghost use Rattle.yv_values.specs.Identities.{Id, RiseById, is_identity};
-ghost use Rattle.yv_values.specs.Sorted.{Rises, is_named};
+ghost use Rattle.yv_values.specs.NameOrder.{Rises, is_named};
 ghost use Rattle.yv_values.specs.Texts.{HaveSameWords, bits_in};
 ghost use Rattle.yv_values.specs.Values.{Val};
 
 use crate::members::Members;
-use crate::names::Names;
+use crate::names::NameSet;
 
 /// Each name of a type comes before all later ones.
-pub fn names_rise(names: &Names)
+pub fn names_rise(names: &NameSet)
     ensures { Rises names.now }
 {
     names.rise();
@@ -32,7 +32,7 @@ pub fn texts_that_rise_are_one_list()
 /// Two lists of identities that rise are one where they have the same identities.
 pub fn identities_that_rise_are_one_list()
     ensures { (xs ys : List Id) → RiseById xs → RiseById ys
-        → ((home called : List ℕ) → list_any (is_identity home called) xs ≡ list_any (is_identity home called) ys)
+        → ((module_file called : List ℕ) → list_any (is_identity module_file called) xs ≡ list_any (is_identity module_file called) ys)
         → xs ≡ ys }
 {}
 

@@ -39,8 +39,8 @@ impl Members {
     /// Puts the identities of a type into their order, each once.
     pub fn new(members: Vec<Member>) -> Result<Members, AllocError>
         ensures rises { IfOk result (λ sorted. RiseById sorted) }
-        ensures same { IfOk result (λ sorted. (home called : List ℕ) →
-            identity_in sorted home called ≡ identity_in (map id_of members.items) home called) }
+        ensures same { IfOk result (λ sorted. (module_file called : List ℕ) →
+            identity_in sorted module_file called ≡ identity_in (map id_of members.items) module_file called) }
     {
         let mut members = members;
         members.sort()?;
@@ -60,7 +60,7 @@ impl Members {
     /// The identity of this module and name, where it is one of these.
     pub(crate) fn find(&self, module: &[u8], name: &[u8]) -> Option<&Member>
         ensures value { is_some result ≡ list_any (is_identity module.now name.now) self.now }
-        ensures same { IfSome result (λ m. id_of m.now ≡ record { home = module.now; name = name.now }) }
+        ensures same { IfSome result (λ m. id_of m.now ≡ record { module_file = module.now; name = name.now }) }
     {
         match self
             .members
@@ -102,7 +102,7 @@ impl Member {
     }
 
     fn compare(&self, module: &[u8], name: &[u8]) -> Ordering
-        ensures { result ≡ id_cmp (id_of self.now) record { home = module.now; name = name.now } }
+        ensures { result ≡ id_cmp (id_of self.now) record { module_file = module.now; name = name.now } }
     {
         compare(self.module.as_str().as_bytes(), module).then(compare(
             self.name.as_str().as_bytes(),

@@ -1,6 +1,6 @@
 //! The count of steps.
 ghost use Rattle.std.specs.Prelude.{◌≡◌, ◌+◌};
-ghost use Rattle.yv_values.specs.Count.{counted};
+ghost use Rattle.yv_values.specs.Count.{count_up};
 
 use std::marker::Model;
 
@@ -35,14 +35,14 @@ impl Meter {
 
     /// Counts one step: the visit of a schema node at a data node.
     pub fn visit(&mut self)
-        ensures { self.new ≡ counted (self.old + 1) }
+        ensures { self.new ≡ count_up (self.old + 1) }
     {
         self.visit_all(1);
     }
 
     /// Counts so many steps at once: as many visits.
     pub fn visit_all(&mut self, count: u64)
-        ensures { self.new ≡ counted (self.old + count) }
+        ensures { self.new ≡ count_up (self.old + count) }
     {
         self.steps = self.steps.saturating_add(count);
     }

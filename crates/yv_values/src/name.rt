@@ -3,12 +3,12 @@ ghost use Rattle.std.specs.Prelude.{◌≡◌, IfOk, true};
 ghost use Rattle.std.specs.Str.{bytes_eq};
 ghost use Rattle.yv_values.specs.Texts.{name_in};
 
-use crate::names::Names;
+use crate::names::NameSet;
 use crate::value::Value;
 use std::alloc::AllocError;
 
 /// The name, where it is one of the enumeration's.
-pub fn name_in(names: &Names, text: &str) -> Result<Option<Value>, AllocError>
+pub fn name_in(names: &NameSet, text: &str) -> Result<Option<Value>, AllocError>
     ensures { IfOk result (λ found. found ≡ name_in names.now text.now) }
 {
     match names.find(text.as_bytes()) {

@@ -6,7 +6,7 @@ ghost use Rattle.std.specs.Ordering.{nat_cmp};
 ghost use Rattle.std.specs.Rc.{rc_str_bytes};
 ghost use Rattle.std.specs.Str.{bytes_eq};
 ghost use Rattle.yv_values.specs.InnerNames.{is_below, Ascends};
-ghost use Rattle.yv_values.specs.Sorted.{Rises, is_named};
+ghost use Rattle.yv_values.specs.NameOrder.{Rises, is_named};
 ghost use Rattle.yv_values.specs.Values.{texts};
 
 use std::alloc::AllocError;
@@ -17,14 +17,14 @@ use std::rc::{RcSlice, RcStr};
 /// The names of an enumeration or of a bits type, in the order of their bytes and each once, so that each set of bits is
 /// one list, and a name is found by halves. Contracts see it as that list.
 #[derive(Drop)]
-pub struct Names {
+pub struct NameSet {
     names: RcSlice<RcStr>,
 }
 
-impl Model for Names {
+impl Model for NameSet {
     ghost use Rattle.std.specs.Prelude.{ℕ, List};
     ghost use Rattle.std.specs.Rc.{rc_slice_items};
-    ghost use Rattle.yv_values.specs.Sorted.{Rises};
+    ghost use Rattle.yv_values.specs.NameOrder.{Rises};
     ghost use Rattle.yv_values.specs.Values.{texts};
 
     ghost Value = { List (List ℕ) };
@@ -34,16 +34,16 @@ impl Model for Names {
     ghost invariant = { λ b. Rises (texts (rc_slice_items b.names)) };
 }
 
-impl Names {
+impl NameSet {
     /// Puts the names of a type into their order, each once.
-    pub fn new(names: Vec<RcStr>) -> Result<Names, AllocError>
+    pub fn new(names: Vec<RcStr>) -> Result<NameSet, AllocError>
         ensures rises { IfOk result (λ sorted. Rises sorted) }
         ensures same { IfOk result (λ sorted. (s : List ℕ) → is_named sorted s ≡ is_named (texts names.items) s) }
     {
         let mut names = names;
         names.sort()?;
         names.dedup();
-        Ok(Names {
+        Ok(NameSet {
             names: RcSlice::from_vec(names)?,
         })
     }
@@ -97,10 +97,10 @@ impl Names {
         let _count = self.names.len();
     }
 
-    pub(crate) fn copy(&self) -> Result<Names, AllocError>
+    pub(crate) fn copy(&self) -> Result<NameSet, AllocError>
         ensures { IfOk result (λ copy. copy ≡ self.now) }
     {
-        Ok(Names {
+        Ok(NameSet {
             names: self.names.clone()?,
         })
     }

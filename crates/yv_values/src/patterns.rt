@@ -117,7 +117,7 @@ fn add(alloc: Global, blocks: &mut Vec<Block>, block: Block) -> Result<(), Alloc
 {
     let mut block = block;
     while let Some(before) = take_last(blocks, block.height) {
-        block = joined(alloc, before, block)?;
+        block = join_blocks(alloc, before, block)?;
     }
     blocks.push(block)?;
     Ok(())
@@ -144,7 +144,7 @@ fn ends_at(blocks: &[Block], height: u32) -> bool {
 }
 
 // One block of two.
-fn joined(alloc: Global, first: Block, second: Block) -> Result<Block, AllocError>
+fn join_blocks(alloc: Global, first: Block, second: Block) -> Result<Block, AllocError>
     ensures { IfOk result (λ both. tests_of both.group.value ≡ tests_of first.group.value ++ tests_of second.group.value) }
 {
     let height = first.height.saturating_add(1);

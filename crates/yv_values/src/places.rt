@@ -9,19 +9,19 @@ use std::marker::Model;
 /// One place or more where something was kept, in ascending order. One takes no memory of its own, since most keys are kept at one
 /// place; of more each takes eight bytes.
 #[derive(Drop)]
-pub struct Places {
+pub struct KeyPlaces {
     alloc: Global,
-    kept: Kept,
+    kept: PlaceList,
 }
 
 // One place, or a list of them.
 #[derive(Drop)]
-pub(crate) enum Kept {
+pub(crate) enum PlaceList {
     One(u64),
     Many(Box<Vec<u64>>),
 }
 
-impl Model for Places {
+impl Model for KeyPlaces {
     ghost use Rattle.std.specs.Prelude.{ℕ, ◌<◌, List, length};
     ghost use Rattle.std.specs.List.Sorted.{IsNonDecreasing};
     ghost use Rattle.yv_values.specs.InnerPlaces.{places_of};
@@ -33,36 +33,36 @@ impl Model for Places {
     ghost invariant = { λ p. (0 < length (places_of p.kept)) × IsNonDecreasing (places_of p.kept) };
 }
 
-impl Places {
+impl KeyPlaces {
     /// One place.
-    pub fn new(alloc: Global, place: u64) -> Result<Places, AllocError>
+    pub fn new(alloc: Global, place: u64) -> Result<KeyPlaces, AllocError>
         ensures { IfOk result (λ places. places ≡ place ∷ []) }
     {
-        Ok(Places::one(alloc, place))
+        Ok(KeyPlaces::one(alloc, place))
     }
 
     // One place; no memory is asked for.
-    pub(crate) fn one(alloc: Global, place: u64) -> Places
+    pub(crate) fn one(alloc: Global, place: u64) -> KeyPlaces
         ensures { result ≡ place ∷ [] }
     {
-        Places {
+        KeyPlaces {
             alloc,
-            kept: Kept::One(place),
+            kept: PlaceList::One(place),
         }
     }
 
     /// Adds a place; it costs least where the places come in ascending order.
     pub fn add(&mut self, place: u64) -> Result<(), AllocError>
-        ensures added { OnOk result (AddsPlace self.old self.new place) }
+        ensures adds { OnOk result (AddsPlace self.old self.new place) }
         ensures same { OnErr result (self.new ≡ self.old) }
     {
         match &mut self.kept {
-            Kept::One(first) => {
+            PlaceList::One(first) => {
                 let both = two(self.alloc, *first, place)?;
-                self.kept = Kept::Many(Box::new(self.alloc, both)?);
+                self.kept = PlaceList::Many(Box::new(self.alloc, both)?);
                 Ok(())
             }
-            Kept::Many(places) => add_to(places, place),
+            PlaceList::Many(places) => add_to(places, place),
         }
     }
 
@@ -88,15 +88,15 @@ impl Places {
         ensures order { IsNonDecreasing result.now }
     {
         match &self.kept {
-            Kept::One(place) => std::slice::from_ref(place),
-            Kept::Many(places) => places.as_slice(),
+            PlaceList::One(place) => std::slice::from_ref(place),
+            PlaceList::Many(places) => places.as_slice(),
         }
     }
 }
 
 // Two places, in ascending order.
 fn two(alloc: Global, first: u64, place: u64) -> Result<Vec<u64>, AllocError>
-    ensures added { IfOk result (λ both. AddsPlace (first ∷ []) both.items place) }
+    ensures adds { IfOk result (λ both. AddsPlace (first ∷ []) both.items place) }
     ensures some { IfOk result (λ both. 0 < length both.items) }
     ensures order { IfOk result (λ both. IsNonDecreasing both.items) }
 {
@@ -110,7 +110,7 @@ fn two(alloc: Global, first: u64, place: u64) -> Result<Vec<u64>, AllocError>
 fn add_to(places: &mut Vec<u64>, place: u64) -> Result<(), AllocError>
     requires some { 0 < length places.old.items }
     requires order { IsNonDecreasing places.old.items }
-    ensures added { OnOk result (AddsPlace places.old.items places.new.items place) }
+    ensures adds { OnOk result (AddsPlace places.old.items places.new.items place) }
     ensures same { OnErr result (places.new.items ≡ places.old.items) }
     ensures some { 0 < length places.new.items }
     ensures order { IsNonDecreasing places.new.items }

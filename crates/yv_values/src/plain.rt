@@ -3,10 +3,10 @@ ghost use Rattle.std.specs.Prelude.{◌≡◌, IfOk};
 ghost use Rattle.yv_values.specs.Types.{plain_of};
 
 use crate::members::Members;
-use crate::names::Names;
+use crate::names::NameSet;
 use crate::patterns::PatternTests;
 use std::alloc::AllocError;
-use yv_numbers::Intervals;
+use yv_base_numbers::Intervals;
 
 /// A type of whole numbers: whether JSON writes them as texts, as it does those of 64 bits (RFC 7951, section
 /// 6.1), and the intervals of its range.
@@ -39,8 +39,8 @@ pub enum PlainType {
     Text(TextType),
     Boolean,
     /// The names that are values; one whose `if-feature` is false is not among them.
-    Enumeration(Names),
-    Bits(Names),
+    Enumeration(NameSet),
+    Bits(NameSet),
     /// The intervals of the lengths in octets.
     Binary(Intervals),
     /// The identities that are values.

@@ -7,7 +7,7 @@ use crate::plain::TextType;
 use crate::value::Value;
 use std::alloc::{AllocError, Global};
 use std::rc::RcStr;
-use yv_numbers::Integer;
+use yv_base_numbers::Integer;
 use yv_pattern::Matchers;
 use yv_statement::is_legal_text;
 

@@ -5,7 +5,7 @@ use crate::key::Key;
 use std::alloc::{AllocError, Global};
 use std::marker::Model;
 use std::rc::{RcSlice, RcStr};
-use yv_numbers::Integer;
+use yv_base_numbers::Integer;
 
 /// What a value holds, in 24 bytes. Its order serves to find keys again, and means nothing besides. Texts and lists are shared by the
 /// copies of a value, and names are texts that the type keeps, so that neither costs more where they are long.
@@ -41,7 +41,7 @@ impl Model for Value {
 }
 
 impl Value {
-    ghost use Rattle.yv_numbers.specs.Numbers.{integer};
+    ghost use Rattle.yv_base_numbers.specs.Numbers.{integer};
     ghost use Rattle.yv_values.specs.Values.{whole, decimal, boolean, name, bits, binary, identity, empty, texts};
     ghost use Rattle.yv_values.specs.Values as spec;
     ghost use Rattle.std.specs.Rc.{rc_str_bytes, rc_slice_items};

@@ -2,13 +2,13 @@
 ghost use Rattle.std.specs.Prelude.{◌≡◌, option_map, option_and_then};
 ghost use Rattle.serde_json.specs.View.{view, number_view};
 ghost use Rattle.serde_json.specs.Find.{as_integer};
-ghost use Rattle.yv_numbers.specs.Numbers.{integer};
+ghost use Rattle.yv_base_numbers.specs.Numbers.{integer};
 ghost use Rattle.yv_values.specs.Reads.{whole_in, whole_from};
 
 use crate::plain::WholeType;
 use crate::value::Value;
 use serde_json::{Number, Value as Json};
-use yv_numbers::{Integer, integer_of};
+use yv_base_numbers::{Integer, integer_of};
 
 /// The whole number of a JSON number, or of a text where the type is of 64 bits.
 pub fn whole_of(plain: &WholeType, json: &Json) -> Option<Value>

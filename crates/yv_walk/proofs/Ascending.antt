@@ -4,7 +4,7 @@ use Rattle.std.specs.List.Sorted.{IsNonDecreasingBy}
 use Rattle.std.proofs.lemmas.Bool.{cases_Bool}
 use Rattle.std.proofs.lemmas.Bool.Decides.{nat_tests}
 use Rattle.yv_nodes.specs.declared.node.NodeId.{NodeId}
-use Rattle.yv_walk.specs.InnerKept.{Ascend}
+use Rattle.yv_walk.specs.InnerNextExisting.{Ascend}
 
 pub not_decreasing : (ns : List NodeId) → Ascend ns → IsNonDecreasingBy (λ (n : NodeId). n.0) ns
 not_decreasing ns up i k d le lt = elim (cases_Bool (i == k)) [

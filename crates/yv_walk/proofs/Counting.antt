@@ -6,8 +6,8 @@ use Rattle.yv_nodes.specs.declared.node.NodeId.{NodeId}
 use Rattle.yv_nodes.specs.Numbers.{numbers_from}
 use Rattle.yv_nodes.specs.Rows.{AreTrees, Rows, below, children_of, forest, rank, tree_of}
 use Rattle.yv_nodes.specs.Tree.{count, Forest, no_trees, node, tree}
-use Rattle.yv_tables.specs.Sound.{IsSound}
-use Rattle.yv_walk.specs.Standing.{any, count_standing, tree_standing}
+use Rattle.yv_schema_tables.specs.Sound.{IsSound}
+use Rattle.yv_walk.specs.Existence.{any, count_standing, tree_standing}
 use Rattle.yv_walk.proofs.Sitting.{IsAbove, above_of}
 use Rattle.yv_walk.proofs.Stands.{later_numbers}
 

@@ -1,10 +1,10 @@
 -- Standings together: a union, in any order, in which a row may come twice.
 use Rattle.std.proofs.Common.{◌≡◌, ◌==◌, ◌||◌, Bool, true, false, cond, refl, sym, ap, ◌∙◌, eqb-true, eq-eqb}
 use Rattle.yv_nodes.specs.declared.node.NodeId.{NodeId}
-use Rattle.yv_walk.specs.declared.standing.Standing.{Standing}
-use Rattle.yv_walk.specs.declared.standing.Standing.TheVariants.{Nothing, Only, Several}
-use Rattle.yv_walk.specs.Standing.{both}
-use Rattle.yv_walk.specs.Marked.{joined}
+use Rattle.yv_walk.specs.declared.existence.Existence.{Existence}
+use Rattle.yv_walk.specs.declared.existence.Existence.TheVariants.{Nothing, Only, Several}
+use Rattle.yv_walk.specs.Existence.{both}
+use Rattle.yv_walk.specs.Marks.{with_node}
 
 pub one_number : (c d : NodeId) → c.0 ≡ d.0 → c ≡ d
 one_number c d e = λ i. record { 0 = e i }
@@ -12,12 +12,12 @@ one_number c d e = λ i. record { 0 = e i }
 pub self_same : (n : NodeId) → (n.0 == n.0) ≡ true
 self_same n = eq-eqb n.0 n.0 refl
 
-pub both_none : (a : Standing) → both a Nothing ≡ a
+pub both_none : (a : Existence) → both a Nothing ≡ a
 both_none Nothing = refl
 both_none (Only n) = refl
 both_none Several = refl
 
-several_last : (a : Standing) → both a Several ≡ Several
+several_last : (a : Existence) → both a Several ≡ Several
 several_last Nothing = refl
 several_last (Only n) = refl
 several_last Several = refl
@@ -28,7 +28,7 @@ comm_by n m false false e f = refl
 comm_by n m true false e f = absurd (let g : (m.0 == n.0) ≡ true = eq-eqb m.0 n.0 (sym (eqb-true n.0 m.0 e)) in cc)
 comm_by n m false true e f = absurd (let g : (n.0 == m.0) ≡ true = eq-eqb n.0 m.0 (sym (eqb-true m.0 n.0 f)) in cc)
 
-pub both_comm : (a b : Standing) → both a b ≡ both b a
+pub both_comm : (a b : Existence) → both a b ≡ both b a
 both_comm Nothing b = sym (both_none b)
 both_comm Several b = sym (several_last b)
 both_comm (Only n) Nothing = refl
@@ -51,7 +51,7 @@ assoc_by n m l true e =
     ∙ ap (λ x. both (Only n) (both (Only x) (Only l))) (one_number n m (eqb-true n.0 m.0 e))
 assoc_by n m l false e = ap (λ b. both (cond b (Only n) Several) (Only l)) e ∙ differ_by n m (m.0 == l.0) e
 
-pub both_assoc : (a b c : Standing) → both (both a b) c ≡ both a (both b c)
+pub both_assoc : (a b c : Existence) → both (both a b) c ≡ both a (both b c)
 both_assoc Nothing b c = refl
 both_assoc Several b c = refl
 both_assoc (Only n) Nothing c = refl
@@ -61,14 +61,14 @@ both_assoc (Only n) (Only m) Several = several_last (both (Only n) (Only m))
 both_assoc (Only n) (Only m) (Only l) = assoc_by n m l (n.0 == m.0) refl
 
 -- a row that is there already adds nothing
-pub both_again : (a : Standing) (n : NodeId) → both (both a (Only n)) (Only n) ≡ both a (Only n)
+pub both_again : (a : Existence) (n : NodeId) → both (both a (Only n)) (Only n) ≡ both a (Only n)
 both_again a n = both_assoc a (Only n) (Only n) ∙ ap (λ b. both a (cond b (Only n) Several)) (self_same n)
 
-swap_last : (a b c : Standing) → both (both a c) b ≡ both (both a b) c
+swap_last : (a b c : Existence) → both (both a c) b ≡ both (both a b) c
 swap_last a b c = both_assoc a c b ∙ ap (both a) (both_comm c b) ∙ sym (both_assoc a b c)
 
 -- two groups with one row more, where it is among them
-pub joined_both : (p q : Bool) (a b : Standing) (n : NodeId) → both (joined p a n) (joined q b n) ≡ joined (p || q) (both a b) n
+pub joined_both : (p q : Bool) (a b : Existence) (n : NodeId) → both (with_node p a n) (with_node q b n) ≡ with_node (p || q) (both a b) n
 joined_both true true a b n =
     swap_last a (both b (Only n)) (Only n)
     ∙ ap (λ x. both x (Only n)) (sym (both_assoc a b (Only n)))
@@ -77,6 +77,6 @@ joined_both true false a b n = swap_last a b (Only n)
 joined_both false true a b n = sym (both_assoc a b (Only n))
 joined_both false false a b n = refl
 
-pub joined_other : (p : Bool) (a b : Standing) (n : NodeId) → both (joined p a n) b ≡ both a (joined p b n)
+pub joined_other : (p : Bool) (a b : Existence) (n : NodeId) → both (with_node p a n) b ≡ both a (with_node p b n)
 joined_other true a b n = swap_last a b (Only n) ∙ both_assoc a b (Only n)
 joined_other false a b n = refl

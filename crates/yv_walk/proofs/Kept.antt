@@ -9,14 +9,14 @@ use Rattle.serde_json.specs.Data.{Members, no_members, member}
 use Rattle.serde_json.specs.Find.{get_member}
 use Rattle.yv_nodes.specs.declared.node.NodeId.{NodeId}
 use Rattle.yv_nodes.specs.Rows.{Rows, row_at}
-use Rattle.yv_tables.specs.Sound.{named, inside, IsFound}
+use Rattle.yv_schema_tables.specs.Sound.{member_named, inside, IsFound}
 use Rattle.std.specs.Ordering.{nat_cmp}
 use Rattle.std.specs.BTreeMap.{BTreeMap, UpdatesBy, get_by}
 use Rattle.serde_json.specs.Data.{Data}
 use Rattle.serde_json.specs.View.{view}
 use Rattle.serde_json.specs.declared.value.Value.{Value}
 use denote.Ref.{Bor}
-use Rattle.yv_walk.specs.Written.{first_of, kept}
+use Rattle.yv_walk.specs.WrittenValues.{first_of, keep_first}
 use Rattle.yv_walk.proofs.Joins.{one_number}
 use Rattle.yv_walk.proofs.Naming.{named_member}
 use Rattle.yv_walk.proofs.Single.{get_first}
@@ -38,7 +38,7 @@ chosen false v (Some y) h = refl
 
 -- a value at a number that had none
 pub kept_new : (old new : BTreeMap ℕ (Bor Value)) (number : ℕ) (v : Bor Value) → seen_at old number ≡ None
-    → UpdatesBy nat_cmp (λ k. nat_cmp number k) old new (Some v) → (n : ℕ) → seen_at new n ≡ kept (seen_at old) number (view v.now) n
+    → UpdatesBy nat_cmp (λ k. nat_cmp number k) old new (Some v) → (n : ℕ) → seen_at new n ≡ keep_first (seen_at old) number (view v.now) n
 kept_new old new number v none u n =
     ap (option_map (λ (y : Bor Value). view y.now)) (u.0 n ∙ ap (λ b. cond b (Some v) (get_by (nat_cmp n) old)) (is_eq_nat number n))
     ∙ chosen (number == n) v (get_by (nat_cmp n) old) (λ e. ap (seen_at old) (sym (eqb-true number n e)) ∙ none)
@@ -50,7 +50,7 @@ stays false d None h = refl
 stays false d (Some y) h = refl
 
 -- a number that has a value keeps it
-pub kept_old : (values : ℕ → Option Data) (number : ℕ) (d y : Data) → values number ≡ Some y → (n : ℕ) → values n ≡ kept values number d n
+pub kept_old : (values : ℕ → Option Data) (number : ℕ) (d y : Data) → values number ≡ Some y → (n : ℕ) → values n ≡ keep_first values number d n
 kept_old values number d y some n = stays (number == n) d (values n) (λ e. (y, ap values (sym (eqb-true number n e)) ∙ some))
 
 first_none : (a : Option Data) → first_of a None ≡ a
@@ -71,25 +71,25 @@ step_found values d rest all false false f g h = ap (λ a. first_of a rest) (fir
 
 -- one more member, which names a child
 pub holds_found : (s : Rows) (p : NodeId) (old new : ℕ → Option Data) (key : List ℕ) (d : Data) (rest all : Members) (id : NodeId)
-    → named s (inside s p) key ≡ Some id → ((n : ℕ) → new n ≡ kept old id.0 d n)
+    → member_named s (inside s p) key ≡ Some id → ((n : ℕ) → new n ≡ keep_first old id.0 d n)
     → AreHeld s p old (member key d rest) all → AreHeld s p new rest all
 holds_found s p old new key d rest all id is keeps held c found =
     let m = (row_at s c).label.member in
     ap (λ a. first_of a (get_member m rest)) (keeps c.0)
     ∙ step_found (old c.0) d (get_member m rest) (get_member m all) (bytes_eq m key) (id.0 == c.0)
-    (λ e. let one : Some id ≡ Some c = sym is ∙ ap (named s (inside s p)) (sym ((bytes_eq-Decides m key).0 e)) ∙ found in
+    (λ e. let one : Some id ≡ Some c = sym is ∙ ap (member_named s (inside s p)) (sym ((bytes_eq-Decides m key).0 e)) ∙ found in
     eq-eqb id.0 c.0 (ap (λ (n : NodeId). n.0) (same_Some id c one)))
     (λ e. (bytes_eq-Decides m key).1 (ap (λ (n : NodeId). (row_at s n).label.member) (sym (one_number id c (eqb-true id.0 c.0 e))) ∙ named_member s (inside s p) key id is))
     (ap (first_of (old c.0)) (sym (get_first m key d rest)) ∙ held c found)
 
 -- one more member, which names none
 pub holds_unknown : (s : Rows) (p : NodeId) (values : ℕ → Option Data) (key : List ℕ) (d : Data) (rest all : Members)
-    → named s (inside s p) key ≡ None → AreHeld s p values (member key d rest) all → AreHeld s p values rest all
+    → member_named s (inside s p) key ≡ None → AreHeld s p values (member key d rest) all → AreHeld s p values rest all
 holds_unknown s p values key d rest all is held c found =
     let m = (row_at s c).label.member in
     let other : (b : Bool) → bytes_eq m key ≡ b → first_of (values c.0) (cond b (Some d) (get_member m rest)) ≡ get_member m all → first_of (values c.0) (get_member m rest) ≡ get_member m all
     = λ b. elim b as (λ b. bytes_eq m key ≡ b → first_of (values c.0) (cond b (Some d) (get_member m rest)) ≡ get_member m all → first_of (values c.0) (get_member m rest) ≡ get_member m all) [
-      | true ↦ λ e h. absurd (let one : None ≡ Some c = sym is ∙ ap (named s (inside s p)) (sym ((bytes_eq-Decides m key).0 e)) ∙ found in cc)
+      | true ↦ λ e h. absurd (let one : None ≡ Some c = sym is ∙ ap (member_named s (inside s p)) (sym ((bytes_eq-Decides m key).0 e)) ∙ found in cc)
       | false ↦ λ e h. h
     ] in
     other (bytes_eq m key) refl (ap (first_of (values c.0)) (sym (get_first m key d rest)) ∙ held c found)

@@ -2,8 +2,8 @@
 use Rattle.std.proofs.Common.{◌≡◌, ℕ, ◌+◌, List, [], ◌∷◌, ◌++◌, true, false, cond, ap, ◌∙◌, append_assoc, arith, min}
 use Rattle.serde_json.specs.Data.{Data, Members, member}
 use Rattle.yv_nodes.specs.Tree.{Forest}
-use Rattle.yv_tables.specs.Sound.{is_known}
-use Rattle.yv_values.specs.Count.{counted}
+use Rattle.yv_schema_tables.specs.Sound.{is_known}
+use Rattle.yv_values.specs.Count.{count_up}
 use Rattle.yv_walk.specs.Context.{unknown_names}
 
 -- one that names a node
@@ -24,8 +24,8 @@ capped : (k m r : ℕ) → min (min (m + 1) k + r) k ≡ min (m + (1 + r)) k
 capped k m r = omega arith
 
 -- one step more
-pub counted_more : (m more r all : ℕ) → more ≡ counted (m + 1) → counted (m + (1 + r)) ≡ all → counted (more + r) ≡ all
-counted_more m more r all e whole = ap (λ n. counted (n + r)) e ∙ capped 18446744073709551615 m r ∙ whole
+pub counted_more : (m more r all : ℕ) → more ≡ count_up (m + 1) → count_up (m + (1 + r)) ≡ all → count_up (more + r) ≡ all
+counted_more m more r all e whole = ap (λ n. count_up (n + r)) e ∙ capped 18446744073709551615 m r ∙ whole
 
 pub none_before : (n : ℕ) → 0 + n ≡ n
 none_before n = omega arith

@@ -8,14 +8,14 @@ use Rattle.std.proofs.lemmas.Option.{same_Some}
 use Rattle.std.proofs.lemmas.Slice.Eq.{bytes_eq-Decides}
 use Rattle.std.specs.List.{AllByRecursion}
 use Rattle.std.specs.Str.{bytes_eq}
-use Rattle.yv_properties.specs.Kinds.{is_data, is_passed}
+use Rattle.yv_node_definition.specs.Kinds.{is_data, is_passed}
 use Rattle.yv_nodes.specs.declared.node.NodeId.{NodeId}
 use Rattle.yv_nodes.specs.Tree.{count, Forest, no_trees, node, tree}
 use Rattle.yv_nodes.specs.Rows.{Row, Rows, below, blank_row, children_of, forest, is_root, rank, row_at}
-use Rattle.yv_tables.specs.Opened.{opened_from}
-use Rattle.yv_tables.specs.Sound.{IsFound, IsSound, inside, is_object, named}
-use Rattle.yv_walk.specs.Standing.{holds, passes, stands_in}
-use Rattle.yv_walk.specs.Named.{AreNamed, AreUnnamed}
+use Rattle.yv_schema_tables.specs.DataChildren.{opened_from}
+use Rattle.yv_schema_tables.specs.Sound.{IsFound, IsSound, inside, is_object, member_named}
+use Rattle.yv_walk.specs.Existence.{holds, passes, stands_in}
+use Rattle.yv_walk.specs.MemberNodes.{AreNamed, AreUnnamed}
 use Rattle.yv_walk.proofs.Above.{held_within, inner_row, rank_within}
 use Rattle.yv_walk.proofs.Bools.{and_true, data_not_passed, is_false, or_true, same_bool}
 use Rattle.yv_walk.proofs.Joins.{one_number}
@@ -131,28 +131,28 @@ named_first true c id rest e = inl (refl, same_Some c id e)
 named_first false c id rest e = inr e
 
 -- a node that is found by a name is called so
-pub named_member : (s : Rows) (cs : List NodeId) (key : List ℕ) (id : NodeId) → named s cs key ≡ Some id → (row_at s id).label.member ≡ key
+pub named_member : (s : Rows) (cs : List NodeId) (key : List ℕ) (id : NodeId) → member_named s cs key ≡ Some id → (row_at s id).label.member ≡ key
 named_member s [] key id e = absurd (let f : None ≡ Some id = e in cc)
 named_member s (c ∷ cs) key id e =
-    elim (named_first (bytes_eq (row_at s c).label.member key) c id (named s cs key) e) [
+    elim (named_first (bytes_eq (row_at s c).label.member key) c id (member_named s cs key) e) [
       | inl h ↦ ap (λ n. (row_at s n).label.member) (sym h.1) ∙ (bytes_eq-Decides (row_at s c).label.member key).0 h.0
       | inr h ↦ named_member s cs key id h
     ]
 
 -- a node in the object is called so where it is the one that is found
-called_found : (s : Rows) (p : NodeId) (key : List ℕ) (id c : NodeId) → named s (inside s p) key ≡ Some id → IsFound s p c
+called_found : (s : Rows) (p : NodeId) (key : List ℕ) (id c : NodeId) → member_named s (inside s p) key ≡ Some id → IsFound s p c
     → bytes_eq (row_at s c).label.member key ≡ (c.0 == id.0)
 called_found s p key id c is found =
     let m = (row_at s c).label.member in
     same_bool (bytes_eq m key) (c.0 == id.0)
-    (λ e. let one : Some c ≡ Some id = sym found ∙ ap (named s (inside s p)) ((bytes_eq-Decides m key).0 e) ∙ is in
+    (λ e. let one : Some c ≡ Some id = sym found ∙ ap (member_named s (inside s p)) ((bytes_eq-Decides m key).0 e) ∙ is in
     eq-eqb c.0 id.0 (ap (λ (n : NodeId). n.0) (same_Some c id one)))
     (λ e. (bytes_eq-Decides m key).1 (ap (λ (n : NodeId). (row_at s n).label.member) (one_number c id (eqb-true c.0 id.0 e)) ∙ named_member s (inside s p) key id is))
 
-called_none : (s : Rows) (p : NodeId) (key : List ℕ) (c : NodeId) → named s (inside s p) key ≡ None → IsFound s p c → bytes_eq (row_at s c).label.member key ≡ false
+called_none : (s : Rows) (p : NodeId) (key : List ℕ) (c : NodeId) → member_named s (inside s p) key ≡ None → IsFound s p c → bytes_eq (row_at s c).label.member key ≡ false
 called_none s p key c is found =
     let m = (row_at s c).label.member in
-    is_false (bytes_eq m key) (λ e. let one : None ≡ Some c = sym is ∙ ap (named s (inside s p)) (sym ((bytes_eq-Decides m key).0 e)) ∙ found in cc)
+    is_false (bytes_eq m key) (λ e. let one : None ≡ Some c = sym is ∙ ap (member_named s (inside s p)) (sym ((bytes_eq-Decides m key).0 e)) ∙ found in cc)
 
 -- ---- in an object
 
@@ -207,7 +207,7 @@ deep_inside : (s : Rows) (p a c : NodeId) → IsHeld s p a → passes s a ≡ tr
 deep_inside s p a c h pass i = opened_inside (is_object s p) (opened_from (rank p) (below s p)) c h.object (inner_opened s p (rank p) (below s p) a c h.sit pass h.held i)
 
 -- in each choice and case of the object the found node alone is called so
-pub are_named : (s : Rows) (p : NodeId) (key : List ℕ) (id a : NodeId) → IsSound s → rank p ≤ length s.nodes → named s (inside s p) key ≡ Some id
+pub are_named : (s : Rows) (p : NodeId) (key : List ℕ) (id a : NodeId) → IsSound s → rank p ≤ length s.nodes → member_named s (inside s p) key ≡ Some id
     → is_data (row_at s id).label.defined.kind ≡ true → stands_in s p a ≡ true → passes s a ≡ true
     → AreNamed key id (row_at s id).label.defined.kind (rank a) (below s a)
 are_named s p key id a sound le is met stands pass =
@@ -216,7 +216,7 @@ are_named s p key id a sound le is met stands pass =
     (λ c i. called_found s p key id c is (found_in s p c sound le (deep_inside s p a c h pass i)))
 
 -- and none is, where none is found
-pub are_unnamed : (s : Rows) (p : NodeId) (key : List ℕ) (a : NodeId) → IsSound s → rank p ≤ length s.nodes → named s (inside s p) key ≡ None
+pub are_unnamed : (s : Rows) (p : NodeId) (key : List ℕ) (a : NodeId) → IsSound s → rank p ≤ length s.nodes → member_named s (inside s p) key ≡ None
     → stands_in s p a ≡ true → passes s a ≡ true → AreUnnamed key (below s a)
 are_unnamed s p key a sound le is stands pass =
     let h : IsHeld s p a = is_held s p a sound stands in

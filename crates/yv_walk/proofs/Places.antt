@@ -6,20 +6,20 @@ use Rattle.std.proofs.lemmas.Bool.Decides.{nat_tests}
 use Rattle.std.proofs.Math.ListN.{drop_of_length-le}
 use Rattle.serde_json.specs.Data.{Data, Members}
 use Rattle.serde_json.specs.Find.{get_member}
-use Rattle.yv_properties.specs.Kinds.{is_data, is_passed}
-use Rattle.yv_properties.specs.declared.kind.NodeKind.{NodeKind}
-use Rattle.yv_properties.specs.declared.kind.NodeKind.TheVariants as kind
+use Rattle.yv_node_definition.specs.Kinds.{is_data, is_passed}
+use Rattle.yv_node_definition.specs.declared.kind.NodeKind.{NodeKind}
+use Rattle.yv_node_definition.specs.declared.kind.NodeKind.TheVariants as kind
 use Rattle.yv_nodes.specs.Numbers.{numbers_from}
 use Rattle.yv_nodes.specs.Rows.{AreTrees, Rows, below, children_of, is_root, rank, row_at, tree_of}
 use Rattle.yv_nodes.specs.Tree.{count, Forest, Label, no_trees, node, tree}
 use Rattle.yv_nodes.specs.declared.node.NodeId.{NodeId}
-use Rattle.yv_tables.specs.Sound.{IsChild, IsSound}
+use Rattle.yv_schema_tables.specs.Sound.{IsChild, IsSound}
 use Rattle.yv_walk.specs.Context.{IsContext, members_of, parent_of}
-use Rattle.yv_walk.specs.InnerKept.{Ascend, IsUnkept}
-use Rattle.yv_walk.specs.Standing.{any, child_exists, is_there, kind_standing, passes, row_standing, standing, stands_in, tree_standing}
+use Rattle.yv_walk.specs.InnerNextExisting.{Ascend, IsUnkept}
+use Rattle.yv_walk.specs.Existence.{any, child_exists, is_there, kind_standing, passes, row_standing, existence_of, stands_in, tree_standing}
 use Rattle.yv_walk.specs.declared.context.Context.{Context}
-use Rattle.yv_walk.specs.declared.standing.Standing.{Standing}
-use Rattle.yv_walk.specs.declared.standing.Standing.TheVariants.{Nothing, Only}
+use Rattle.yv_walk.specs.declared.existence.Existence.{Existence}
+use Rattle.yv_walk.specs.declared.existence.Existence.TheVariants.{Nothing, Only}
 use Rattle.yv_walk.proofs.Counting.{count_drop, count_of}
 use Rattle.yv_walk.proofs.Above.{rank_within}
 use Rattle.yv_walk.proofs.Sitting.{above_of}
@@ -69,11 +69,11 @@ not_written : (k : NodeKind) (n : NodeId) (found : Option Data) → is_data k �
 not_written k n None e = refl
 not_written k n (Some d) e = ap (λ (b : Bool). cond b (Only n) Nothing) (not_there k d e)
 
-nothing_by : (b : Bool) (inner own : Standing) → (b ≡ true → inner ≡ Nothing) → (b ≡ false → own ≡ Nothing) → cond b inner own ≡ Nothing
+nothing_by : (b : Bool) (inner own : Existence) → (b ≡ true → inner ≡ Nothing) → (b ≡ false → own ≡ Nothing) → cond b inner own ≡ Nothing
 nothing_by true inner own f g = f refl
 nothing_by false inner own f g = g refl
 
-unkept_kind : (k : NodeKind) (n : NodeId) (found : Option Data) (inner : Standing) → (is_data k ≡ true → found ≡ None) → (is_passed k ≡ true → inner ≡ Nothing)
+unkept_kind : (k : NodeKind) (n : NodeId) (found : Option Data) (inner : Existence) → (is_data k ≡ true → found ≡ None) → (is_passed k ≡ true → inner ≡ Nothing)
     → kind_standing k n found inner ≡ Nothing
 unkept_kind k n found inner none nothing =
     nothing_by (is_passed k) inner (row_standing k n found) nothing (λ own. elim (cases_Bool (is_data k)) [
@@ -88,9 +88,9 @@ unkept_nothing s c x sound lt context stands unkept =
     let ms : Members = members_of c in
     let inside : is_root x ≡ false = grind (arith, nat_tests, sound.small) in
     let number : rank x ≡ x.0 + 1 = ap (λ (b : Bool). cond b 0 (x.0 + 1)) inside in
-    unkept_kind l.defined.kind x (get_member l.member ms) (standing (x.0 + 1) (below s x) ms)
+    unkept_kind l.defined.kind x (get_member l.member ms) (existence_of (x.0 + 1) (below s x) ms)
     (λ is_one. sym (context.values x stands is_one) ∙ unkept.value)
-    (λ pass. ap (λ (n : ℕ). standing n (below s x) ms) (sym number)
+    (λ pass. ap (λ (n : ℕ). existence_of n (below s x) ms) (sym number)
     ∙ sym (context.marks x stands (ap (λ (b : Bool). cond b false (is_passed l.defined.kind)) inside ∙ pass)) ∙ unkept.mark)
 
 -- of the children from one place up to another nothing is kept

@@ -3,13 +3,13 @@ use Rattle.std.proofs.Common.{◌≡◌, ℕ, ◌+◌, ◌<◌, ◌≤◌, ◌==
 use Rattle.std.proofs.lemmas.Bool.{cases_Bool}
 use Rattle.std.proofs.lemmas.Bool.Decides.{nat_tests}
 use Rattle.std.proofs.Math.Seq.{get_or-append_seam}
-use Rattle.yv_properties.specs.Kinds.{is_passed}
+use Rattle.yv_node_definition.specs.Kinds.{is_passed}
 use Rattle.yv_nodes.specs.declared.node.NodeId.{NodeId}
 use Rattle.yv_nodes.specs.Tree.{count, Forest, Label, Tree, no_trees, node, tree}
 use Rattle.yv_nodes.specs.Numbers.{numbers_from, rows_below, rows_from}
 use Rattle.yv_nodes.specs.Rows.{Row, Rows, below, blank_row, children_of, forest, is_root, pick, rank, root, row_at, trees_from, whole}
-use Rattle.yv_tables.specs.Sound.{IsSound}
-use Rattle.yv_walk.specs.Standing.{passes}
+use Rattle.yv_schema_tables.specs.Sound.{IsSound}
+use Rattle.yv_walk.specs.Existence.{passes}
 use Rattle.yv_walk.proofs.Joins.{one_number}
 use Rattle.yv_walk.proofs.Numbered.{AreBehind, all_trees, behind, length_rows, pick_all, trees_rows}
 

@@ -4,8 +4,8 @@ use Rattle.yv_nodes.specs.declared.node.NodeId.{NodeId}
 use Rattle.yv_nodes.specs.Numbers.{numbers_from}
 use Rattle.yv_nodes.specs.Tree.{count, Forest, no_trees, node, tree}
 use Rattle.yv_nodes.specs.Rows.{Rows, below, children_of, forest, rank}
-use Rattle.yv_tables.specs.Sound.{IsSound, is_object}
-use Rattle.yv_walk.specs.Standing.{holds, passes, stands_in}
+use Rattle.yv_schema_tables.specs.Sound.{IsSound, is_object}
+use Rattle.yv_walk.specs.Existence.{holds, passes, stands_in}
 use Rattle.yv_walk.proofs.Above.{beneath, own_held}
 use Rattle.yv_walk.proofs.Bools.{and_of}
 use Rattle.yv_walk.proofs.Naming.{IsHeld, is_held}

@@ -10,13 +10,13 @@ use Rattle.std.proofs.lemmas.Bool.{true≢false}
 use Rattle.std.proofs.lemmas.Map.Lookups.{exact_unsigned}
 use Rattle.yv_nodes.specs.declared.node.NodeId.{NodeId}
 use Rattle.yv_nodes.specs.Rows.{Rows, below, rank, row_at}
-use Rattle.yv_tables.specs.Sound.{IsSound}
-use Rattle.yv_walk.specs.declared.standing.Standing.{Standing}
-use Rattle.yv_walk.specs.declared.standing.Standing.TheVariants.{Nothing, Only}
-use Rattle.yv_walk.specs.Standing.{both, passes, holds}
+use Rattle.yv_schema_tables.specs.Sound.{IsSound}
+use Rattle.yv_walk.specs.declared.existence.Existence.{Existence}
+use Rattle.yv_walk.specs.declared.existence.Existence.TheVariants.{Nothing, Only}
+use Rattle.yv_walk.specs.Existence.{both, passes, holds}
 use Rattle.yv_walk.specs.declared.marks.Marks.{Marks}
 use Rattle.yv_walk.specs.InnerMarks.{has_room}
-use Rattle.yv_walk.specs.Marked.{joined, mark_at}
+use Rattle.yv_walk.specs.Marks.{with_node, mark_at}
 use Rattle.yv_walk.proofs.Bools.{and_of, and_true, or_left, or_right, or_true}
 use Rattle.yv_walk.proofs.Joins.{both_again}
 use Rattle.yv_walk.proofs.Above.{is_at, climb}
@@ -26,60 +26,60 @@ is_eq_nat a b = one_answer (is_eq (nat_cmp a b)) (a == b)
     (λ h. exact_unsigned a b ((Equal-is (nat_cmp a b)).0 h), λ e. (Equal-is (nat_cmp a b)).1 (sym (nat_cmp_is a b Equal e)))
     (λ h. eqb-true a b h, λ e. eq-eqb a b e)
 
-abbrev pub kept_mark : BTreeMap ℕ Standing → ℕ → Standing
+abbrev pub kept_mark : BTreeMap ℕ Existence → ℕ → Existence
 kept_mark m n = unwrap_or (get_by (nat_cmp n) m) Nothing
 
-chosen : (b : Bool) (v : Standing) (x : Option Standing) → unwrap_or (cond b (Some v) x) Nothing ≡ cond b v (unwrap_or x Nothing)
+chosen : (b : Bool) (v : Existence) (x : Option Existence) → unwrap_or (cond b (Some v) x) Nothing ≡ cond b v (unwrap_or x Nothing)
 chosen true v x = refl
 chosen false v x = refl
 
-marked : (old new : BTreeMap ℕ Standing) (number : ℕ) (v : Standing) → UpdatesBy nat_cmp (λ k. nat_cmp number k) old new (Some v)
+marked : (old new : BTreeMap ℕ Existence) (number : ℕ) (v : Existence) → UpdatesBy nat_cmp (λ k. nat_cmp number k) old new (Some v)
     → (n : ℕ) → kept_mark new n ≡ cond (number == n) v (kept_mark old n)
 marked old new number v u n =
     ap (λ o. unwrap_or o Nothing) (u.0 n ∙ ap (λ b. cond b (Some v) (get_by (nat_cmp n) old)) (is_eq_nat number n))
     ∙ chosen (number == n) v (get_by (nat_cmp n) old)
 
-room_by : (b : Bool) (v : Standing) (x : Option Standing) → is_some x ≡ true → is_some (cond b (Some v) x) ≡ true
+room_by : (b : Bool) (v : Existence) (x : Option Existence) → is_some x ≡ true → is_some (cond b (Some v) x) ≡ true
 room_by true v x e = refl
 room_by false v x e = e
 
 -- an entry more, and the others stay
-pub room_kept : (old new : BTreeMap ℕ Standing) (number : ℕ) (v : Standing) → UpdatesBy nat_cmp (λ k. nat_cmp number k) old new (Some v)
+pub room_kept : (old new : BTreeMap ℕ Existence) (number : ℕ) (v : Existence) → UpdatesBy nat_cmp (λ k. nat_cmp number k) old new (Some v)
     → (n : ℕ) → is_some (get_by (nat_cmp n) old) ≡ true → is_some (get_by (nat_cmp n) new) ≡ true
 room_kept old new number v u n e = ap is_some (u.0 n) ∙ room_by (matches_at (nat_cmp number) n) v (get_by (nat_cmp n) old) e
 
-pub room_made : (old new : BTreeMap ℕ Standing) (number : ℕ) (v : Standing) → UpdatesBy nat_cmp (λ k. nat_cmp number k) old new (Some v)
+pub room_made : (old new : BTreeMap ℕ Existence) (number : ℕ) (v : Existence) → UpdatesBy nat_cmp (λ k. nat_cmp number k) old new (Some v)
     → is_some (get_by (nat_cmp number) new) ≡ true
 room_made old new number v u = ap is_some u.1
 
-none_there : (x : Option Standing) → is_some x ≡ false → unwrap_or x Nothing ≡ Nothing
+none_there : (x : Option Existence) → is_some x ≡ false → unwrap_or x Nothing ≡ Nothing
 none_there None e = refl
 none_there (Some v) e = absurd (true≢false e)
 
-nothing_new : (b : Bool) (x : Standing) → (b ≡ true → x ≡ Nothing) → cond b Nothing x ≡ x
+nothing_new : (b : Bool) (x : Existence) → (b ≡ true → x ≡ Nothing) → cond b Nothing x ≡ x
 nothing_new true x h = sym (h refl)
 nothing_new false x h = refl
 
 -- an entry where there was none, which marks nothing
-pub room_same : (old new : BTreeMap ℕ Standing) (number : ℕ) → is_some (get_by (nat_cmp number) old) ≡ false
+pub room_same : (old new : BTreeMap ℕ Existence) (number : ℕ) → is_some (get_by (nat_cmp number) old) ≡ false
     → UpdatesBy nat_cmp (λ k. nat_cmp number k) old new (Some Nothing) → (n : ℕ) → kept_mark new n ≡ kept_mark old n
 room_same old new number none u n =
     marked old new number Nothing u n
     ∙ nothing_new (number == n) (kept_mark old n)
     (λ e. ap (kept_mark old) (sym (eqb-true number n e)) ∙ none_there (get_by (nat_cmp number) old) none)
 
-joined_by : (b : Bool) (here there : Standing) (id : NodeId) → (b ≡ true → here ≡ there) → cond b (both here (Only id)) there ≡ joined b there id
+joined_by : (b : Bool) (here there : Existence) (id : NodeId) → (b ≡ true → here ≡ there) → cond b (both here (Only id)) there ≡ with_node b there id
 joined_by true here there id h = ap (λ x. both x (Only id)) (h refl)
 joined_by false here there id h = refl
 
 -- one mark more
-pub joined_at : (old new : BTreeMap ℕ Standing) (number : ℕ) (v : Standing) (id : NodeId) → v ≡ both (kept_mark old number) (Only id)
-    → UpdatesBy nat_cmp (λ k. nat_cmp number k) old new (Some v) → (n : ℕ) → kept_mark new n ≡ joined (number == n) (kept_mark old n) id
+pub joined_at : (old new : BTreeMap ℕ Existence) (number : ℕ) (v : Existence) (id : NodeId) → v ≡ both (kept_mark old number) (Only id)
+    → UpdatesBy nat_cmp (λ k. nat_cmp number k) old new (Some v) → (n : ℕ) → kept_mark new n ≡ with_node (number == n) (kept_mark old n) id
 joined_at old new number v id is u n =
     marked old new number v u n ∙ ap (λ x. cond (number == n) x (kept_mark old n)) is
     ∙ joined_by (number == n) (kept_mark old number) (kept_mark old n) id (λ e. ap (kept_mark old) (eqb-true number n e))
 
-joined_step : (b w : Bool) (old : Standing) (id : NodeId) → joined w (joined b old id) id ≡ joined (b || w) old id
+joined_step : (b w : Bool) (old : Existence) (id : NodeId) → with_node w (with_node b old id) id ≡ with_node (b || w) old id
 joined_step true true old id = both_again old id
 joined_step true false old id = refl
 joined_step false w old id = refl
@@ -87,14 +87,14 @@ joined_step false w old id = refl
 -- from one choice or case to the next above it
 pub climbed : (s : Rows) (a here up id : NodeId) (old new : Marks) → IsSound s → a.0 < length s.nodes → passes s a ≡ true
     → here.0 < length s.nodes → passes s here ≡ true → up ≡ (row_at s here).parent
-    → (k : ℕ) → k ≡ here.0 → ((n : ℕ) → mark_at new n ≡ joined (k == n) (mark_at old n) id)
-    → joined (is_at s a up) (mark_at new a.0) id ≡ joined (is_at s a here) (mark_at old a.0) id
+    → (k : ℕ) → k ≡ here.0 → ((n : ℕ) → mark_at new n ≡ with_node (k == n) (mark_at old n) id)
+    → with_node (is_at s a up) (mark_at new a.0) id ≡ with_node (is_at s a here) (mark_at old a.0) id
 climbed s a here up id old new sound in_a pass_a in_here pass is k key more =
-    ap (λ y. joined (is_at s a y) (mark_at new a.0) id) is
-    ∙ ap (λ x. joined (is_at s a (row_at s here).parent) x id) (more a.0 ∙ ap (λ j. joined (j == a.0) (mark_at old a.0) id) key)
+    ap (λ y. with_node (is_at s a y) (mark_at new a.0) id) is
+    ∙ ap (λ x. with_node (is_at s a (row_at s here).parent) x id) (more a.0 ∙ ap (λ j. with_node (j == a.0) (mark_at old a.0) id) key)
     ∙ joined_step (here.0 == a.0) (is_at s a (row_at s here).parent) (mark_at old a.0) id
-    ∙ ap (λ b. joined ((here.0 == a.0) || b) (mark_at old a.0) id) (sym (climb s a here sound in_a pass_a in_here))
-    ∙ ap (λ b. joined (b && ((here.0 == a.0) || holds (rank a) (below s a) here)) (mark_at old a.0) id) (sym pass)
+    ∙ ap (λ b. with_node ((here.0 == a.0) || b) (mark_at old a.0) id) (sym (climb s a here sound in_a pass_a in_here))
+    ∙ ap (λ b. with_node (b && ((here.0 == a.0) || holds (rank a) (below s a) here)) (mark_at old a.0) id) (sym pass)
 
 -- ---- room on the way up
 

@@ -3,15 +3,15 @@ use Rattle.std.specs.Prelude.{◌≡◌, ℕ, ◌+◌, List, [], ◌∷◌, ◌+
 use Rattle.serde_json.specs.Data.{Members, no_members, member}
 use Rattle.serde_json.specs.Find.{get_member}
 use Rattle.serde_json.specs.View.{members_view}
-use Rattle.yv_properties.specs.Kinds.{is_data}
+use Rattle.yv_node_definition.specs.Kinds.{is_data}
 use Rattle.yv_nodes.specs.declared.node.NodeId.{NodeId}
 use Rattle.yv_nodes.specs.Rows.{Rows, row_at}
 use Rattle.yv_nodes.specs.Tree.{Forest}
-use Rattle.yv_tables.specs.Sound.{is_known, object_trees}
+use Rattle.yv_schema_tables.specs.Sound.{is_known, object_trees}
 use Rattle.yv_walk.specs.declared.context.Context.{Context}
-use Rattle.yv_walk.specs.Marked.{AreMarked}
-use Rattle.yv_walk.specs.Standing.{stands_in}
-use Rattle.yv_walk.specs.Written.{value_at}
+use Rattle.yv_walk.specs.Marks.{AreMarked}
+use Rattle.yv_walk.specs.Existence.{stands_in}
+use Rattle.yv_walk.specs.WrittenValues.{value_at}
 
 -- how many members there are
 abbrev pub members_len : Members → ℕ

@@ -5,7 +5,7 @@ use Rattle.std.specs.BTreeMap.{get_by}
 use Rattle.yv_nodes.specs.declared.node.NodeId.{NodeId}
 use Rattle.yv_nodes.specs.Rows.{Rows, below, rank}
 use Rattle.yv_walk.specs.declared.marks.Marks.{Marks}
-use Rattle.yv_walk.specs.Standing.{holds, passes}
+use Rattle.yv_walk.specs.Existence.{holds, passes}
 
 -- there is an entry at this number, so that another mark there takes no memory
 abbrev pub has_room : Marks → ℕ → Bool

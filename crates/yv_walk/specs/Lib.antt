@@ -1,7 +1,7 @@
-pub mod Standing
-pub mod Marked
+pub mod Existence
+pub mod Marks
 pub mod InnerMarks
-pub mod InnerKept
-pub mod Named
-pub mod Written
+pub mod InnerNextExisting
+pub mod MemberNodes
+pub mod WrittenValues
 pub mod Context

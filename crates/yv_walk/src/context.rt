@@ -5,24 +5,24 @@ ghost use Rattle.std.specs.Option.{option_map, unwrap_or};
 ghost use Rattle.serde_json.specs.Data.{no_members};
 ghost use Rattle.serde_json.specs.Find.{get_member};
 ghost use Rattle.serde_json.specs.View.{view, members_view};
-ghost use Rattle.yv_properties.specs.Kinds.{is_data};
-ghost use Rattle.yv_values.specs.Count.{counted};
+ghost use Rattle.yv_node_definition.specs.Kinds.{is_data};
+ghost use Rattle.yv_values.specs.Count.{count_up};
 ghost use Rattle.yv_nodes.specs.declared.node.NodeId.{NodeId};
 ghost use Rattle.yv_nodes.specs.Rows.{Rows, below, children_of, rank, row_at, tree_of};
-ghost use Rattle.yv_tables.specs.Sound.{object_trees};
-ghost use Rattle.yv_walk.specs.InnerKept.{Ascend, IsUnkept, is_before};
-ghost use Rattle.yv_walk.specs.Marked.{joined, mark_at};
-ghost use Rattle.yv_walk.specs.Standing.{child_exists, count_standing, holds, is_there as exists, passes, row_standing, stands_in, tree_standing};
+ghost use Rattle.yv_schema_tables.specs.Sound.{object_trees};
+ghost use Rattle.yv_walk.specs.InnerNextExisting.{Ascend, IsUnkept, is_before};
+ghost use Rattle.yv_walk.specs.Marks.{with_node, mark_at};
+ghost use Rattle.yv_walk.specs.Existence.{child_exists, count_standing, holds, is_there as exists, passes, row_standing, stands_in, tree_standing};
 
+use crate::existence::Existence;
 use crate::exists::is_there;
 use crate::marks::Marks;
-use crate::standing::Standing;
-use crate::written::Written;
+use crate::written_values::WrittenValues;
 use serde_json::{Map, Value};
 use std::alloc::{AllocError, Global};
+use yv_node_definition::NodeKind;
 use yv_nodes::NodeId;
-use yv_properties::NodeKind;
-use yv_tables::Schema;
+use yv_schema_tables::Schema;
 use yv_values::Meter;
 
 // So many children of a choice or case are few.
@@ -34,7 +34,7 @@ const FEW_CHILDREN: usize = 16;
 pub struct Context<'v> {
     parent: NodeId,
     members: Option<&'v Map<String, Value>>,
-    values: Written<'v>,
+    values: WrittenValues<'v>,
     marks: Marks,
     unknown: Vec<&'v str>,
 }
@@ -51,7 +51,7 @@ impl<'v> Context<'v> {
         Context {
             parent,
             members: None,
-            values: Written::new(alloc),
+            values: WrittenValues::new(alloc),
             marks: Marks::new(alloc),
             unknown: Vec::new(alloc),
         }
@@ -70,13 +70,13 @@ impl<'v> Context<'v> {
         ensures context { IfOk result (IsContext schema.now) }
         ensures parent { IfOk result (λ c. parent_of c ≡ parent) }
         ensures members { IfOk result (λ c. members_of c ≡ members_view members.now.entries) }
-        ensures steps { OnOk result (counted meter.new ≡ counted (meter.old + members_len (members_view members.now.entries))) }
+        ensures steps { OnOk result (count_up meter.new ≡ count_up (meter.old + members_len (members_view members.now.entries))) }
         ensures same { OnErr result (meter.new ≡ meter.old) }
     {
         // each reading of a schema tells what holds of it: that its rows are those of its tree, and its nodes are found by their members
         let _children = schema.children(parent);
         let mut lookups = Meter::new();
-        let mut values = Written::new(alloc);
+        let mut values = WrittenValues::new(alloc);
         let mut marks = Marks::new(alloc);
         let mut unknown = Vec::new(alloc);
         for (key, value) in members.iter() {
@@ -114,14 +114,14 @@ impl<'v> Context<'v> {
     }
 
     /// Which data nodes exist of a node in the object: the node itself, or what is in it where it is a choice or case.
-    pub fn standing(&self, schema: &Schema, id: NodeId) -> Standing
+    pub fn existence_of(&self, schema: &Schema, id: NodeId) -> Existence
         requires { id.0 < length schema.now.nodes }
         ensures { IsContext schema.now self.now → stands_in schema.now (parent_of self.now) id ≡ true
             → result ≡ tree_standing id.0 (tree_of schema.now id) (members_of self.now) }
     {
         let kind = schema.node(id).kind();
         if kind.is_passed() {
-            self.marks.standing(id.number())
+            self.marks.existence_at(id.number())
         } else {
             written_standing(kind, id, self.values.get(id.number()))
         }
@@ -149,7 +149,7 @@ impl<'v> Context<'v> {
     {
         let mut total = 0;
         for child in schema.children(id) {
-            if self.standing(schema, *child).any() {
+            if self.existence_of(schema, *child).any() {
                 total += 1;
             }
         }
@@ -187,7 +187,7 @@ impl<'v> Context<'v> {
         let children = schema.children(id);
         let mut place = self.pass_unkept(children, from);
         while place < children.len() {
-            if self.standing(schema, children[place]).any() {
+            if self.existence_of(schema, children[place]).any() {
                 return Some(place);
             }
             place = self.pass_unkept(children, place + 1);
@@ -235,12 +235,12 @@ impl<'v> Context<'v> {
 }
 
 // Whether a node exists that is no choice or case, by what is written for it.
-fn written_standing(kind: NodeKind, id: NodeId, written: Option<&Value>) -> Standing
+fn written_standing(kind: NodeKind, id: NodeId, written: Option<&Value>) -> Existence
     ensures { result ≡ row_standing kind id (option_map (λ v. view v.now) written.entry) }
 {
     match written {
-        Some(value) if is_there(kind, value) => Standing::Only(id),
-        _ => Standing::Nothing,
+        Some(value) if is_there(kind, value) => Existence::Only(id),
+        _ => Existence::Nothing,
     }
 }
 
@@ -253,7 +253,7 @@ fn mark_member(
 ) -> Result<(), AllocError>
     requires { id.0 < length schema.now.nodes }
     ensures { OnOk result ((a : NodeId) → a.0 < length schema.now.nodes → passes schema.now a ≡ true
-        → mark_at marks.new a.0 ≡ joined (exists (row_at schema.now id).label.defined.kind (view value.now) && holds (rank a) (below schema.now a) id)
+        → mark_at marks.new a.0 ≡ with_node (exists (row_at schema.now id).label.defined.kind (view value.now) && holds (rank a) (below schema.now a) id)
         (mark_at marks.old a.0) id) }
 {
     if is_there(schema.node(id).kind(), value) {

@@ -2,10 +2,10 @@
 ghost use Rattle.std.specs.Prelude.{◌≡◌};
 ghost use Rattle.serde_json.specs.Data.{array};
 ghost use Rattle.serde_json.specs.View.{view, items_view};
-ghost use Rattle.yv_walk.specs.Standing.{has_items, is_there as exists};
+ghost use Rattle.yv_walk.specs.Existence.{has_items, is_there as exists};
 
 use serde_json::Value;
-use yv_properties::NodeKind;
+use yv_node_definition::NodeKind;
 
 /// Whether a node of this kind that is written so exists (RFC 7950, sections 7.5 to 7.11): a list or leaf-list that is written as an
 /// empty array has no entry, and operations, choices and cases are never written.

@@ -8,37 +8,37 @@ ghost use Rattle.yv_nodes.specs.Numbers.{numbers_from};
 ghost use Rattle.yv_nodes.specs.Rows.{Rows, below, children_of, forest, rank};
 ghost use Rattle.yv_nodes.specs.Tree.{Forest};
 ghost use Rattle.yv_nodes.specs.declared.node.NodeId.{NodeId};
-ghost use Rattle.yv_properties.specs.declared.kind.NodeKind.{NodeKind};
-ghost use Rattle.yv_tables.specs.Sound.{IsSound, is_object};
-ghost use Rattle.yv_walk.specs.Marked.{joined};
-ghost use Rattle.yv_walk.specs.Named.{AreNamed, AreUnnamed};
-ghost use Rattle.yv_walk.specs.Standing.{both, holds, is_there, passes, standing, stands_in};
-ghost use Rattle.yv_walk.specs.declared.standing.Standing.TheVariants.{Nothing};
-ghost use Rattle.yv_walk.specs.declared.standing.Standing.{Standing};
+ghost use Rattle.yv_node_definition.specs.declared.kind.NodeKind.{NodeKind};
+ghost use Rattle.yv_schema_tables.specs.Sound.{IsSound, is_object};
+ghost use Rattle.yv_walk.specs.Marks.{with_node};
+ghost use Rattle.yv_walk.specs.MemberNodes.{AreNamed, AreUnnamed};
+ghost use Rattle.yv_walk.specs.Existence.{both, holds, is_there, passes, existence_of, stands_in};
+ghost use Rattle.yv_walk.specs.declared.existence.Existence.TheVariants.{Nothing};
+ghost use Rattle.yv_walk.specs.declared.existence.Existence.{Existence};
 
 /// One member more: what exists in any group of nodes, by marking the one node that the member names.
 pub fn member_marks()
     ensures { (first : ℕ) (ts : Forest) (key : List ℕ) (d : Data) (ms : Members) (n : NodeId) (k : NodeKind) → AreNamed key n k first ts
-        → get_member key ms ≡ None → standing first ts (member key d ms) ≡ joined (is_there k d && holds first ts n) (standing first ts ms) n }
+        → get_member key ms ≡ None → existence_of first ts (member key d ms) ≡ with_node (is_there k d && holds first ts n) (existence_of first ts ms) n }
 {}
 
 /// The step of the look-ups, for any group of nodes: with the member's node marked, and the members that are left, what exists
 /// is what existed before with that member left too.
 pub fn next_member()
-    ensures { (first : ℕ) (ts : Forest) (key : List ℕ) (d : Data) (rest : Members) (n : NodeId) (k : NodeKind) (old : Standing)
+    ensures { (first : ℕ) (ts : Forest) (key : List ℕ) (d : Data) (rest : Members) (n : NodeId) (k : NodeKind) (old : Existence)
         → AreNamed key n k first ts → get_member key rest ≡ None
-        → both (joined (is_there k d && holds first ts n) old n) (standing first ts rest) ≡ both old (standing first ts (member key d rest)) }
+        → both (with_node (is_there k d && holds first ts n) old n) (existence_of first ts rest) ≡ both old (existence_of first ts (member key d rest)) }
 {}
 
 /// A member that names no node makes none exist.
 pub fn unknown_member()
     ensures { (first : ℕ) (ts : Forest) (key : List ℕ) (d : Data) (ms : Members)
-        → AreUnnamed key ts → standing first ts (member key d ms) ≡ standing first ts ms }
+        → AreUnnamed key ts → existence_of first ts (member key d ms) ≡ existence_of first ts ms }
 {}
 
 /// Nothing exists in an object without members.
 pub fn nothing_stands()
-    ensures { (first : ℕ) (ts : Forest) → standing first ts no_members ≡ Nothing }
+    ensures { (first : ℕ) (ts : Forest) → existence_of first ts no_members ≡ Nothing }
 {}
 
 /// The children of a node that has an object are in it.

@@ -2,13 +2,13 @@
 #![tactic(auto)]
 
 mod context;
+mod existence;
 mod exists;
 pub mod laws;
 mod marks;
-mod standing;
-mod written;
+mod written_values;
 
 pub use context::Context;
+pub use existence::Existence;
 pub use exists::is_there;
 pub use marks::Marks;
-pub use standing::Standing;

@@ -2,22 +2,22 @@
 ghost use Rattle.std.specs.Prelude.{◌≡◌, ◌==◌, ◌<◌, ◌≤◌, ℕ, length, IfSome, OnErr, OnOk, true};
 ghost use Rattle.yv_nodes.specs.declared.node.NodeId.{NodeId};
 ghost use Rattle.yv_nodes.specs.Rows.{below, rank};
-ghost use Rattle.yv_walk.specs.InnerKept.{is_before};
+ghost use Rattle.yv_walk.specs.InnerNextExisting.{is_before};
 ghost use Rattle.yv_walk.specs.InnerMarks.{has_room, HasRoomAround};
-ghost use Rattle.yv_walk.specs.Marked.{joined, mark_at};
-ghost use Rattle.yv_walk.specs.Standing.{holds, passes};
-ghost use Rattle.yv_walk.specs.declared.standing.Standing.TheVariants.{Nothing};
+ghost use Rattle.yv_walk.specs.Marks.{with_node, mark_at};
+ghost use Rattle.yv_walk.specs.Existence.{holds, passes};
+ghost use Rattle.yv_walk.specs.declared.existence.Existence.TheVariants.{Nothing};
 
-use crate::standing::Standing;
+use crate::existence::Existence;
 use std::alloc::{AllocError, Global};
 use std::collections::BTreeMap;
 use yv_nodes::NodeId;
-use yv_tables::Schema;
+use yv_schema_tables::Schema;
 
 /// A mark for each choice and case in which a data node exists.
 #[derive(Drop)]
 pub struct Marks {
-    rows: BTreeMap<u32, Standing>,
+    rows: BTreeMap<u32, Existence>,
 }
 
 impl Marks {
@@ -31,12 +31,12 @@ impl Marks {
     }
 
     /// The nodes that exist in the choice or case of this number.
-    pub fn standing(&self, number: u32) -> Standing
+    pub fn existence_at(&self, number: u32) -> Existence
         ensures { result ≡ mark_at self.now number }
     {
         match self.rows.get(&number) {
             Some(standing) => *standing,
-            None => Standing::Nothing,
+            None => Existence::Nothing,
         }
     }
 
@@ -52,8 +52,8 @@ impl Marks {
     /// Marks the choices and cases that contain a node that exists. It fails only if memory runs out, and then each mark is as before.
     pub fn mark(&mut self, schema: &Schema, id: NodeId) -> Result<(), AllocError>
         requires { id.0 < length schema.now.nodes }
-        ensures marked { OnOk result ((a : NodeId) → a.0 < length schema.now.nodes → passes schema.now a ≡ true
-            → mark_at self.new a.0 ≡ joined (holds (rank a) (below schema.now a) id) (mark_at self.old a.0) id) }
+        ensures marks { OnOk result ((a : NodeId) → a.0 < length schema.now.nodes → passes schema.now a ≡ true
+            → mark_at self.new a.0 ≡ with_node (holds (rank a) (below schema.now a) id) (mark_at self.old a.0) id) }
         ensures same { OnErr result ((n : ℕ) → mark_at self.new n ≡ mark_at self.old n) }
     {
         self.make_room(schema, id)?;
@@ -77,11 +77,11 @@ impl Marks {
 
     fn make_room_at(&mut self, number: u32) -> Result<(), AllocError>
         ensures same { (n : ℕ) → mark_at self.new n ≡ mark_at self.old n }
-        ensures kept { (n : ℕ) → has_room self.old n ≡ true → has_room self.new n ≡ true }
+        ensures keeps { (n : ℕ) → has_room self.old n ≡ true → has_room self.new n ≡ true }
         ensures room { OnOk result (has_room self.new number ≡ true) }
     {
         if !self.rows.contains_key(&number) {
-            self.rows.insert(number, Standing::Nothing)?;
+            self.rows.insert(number, Existence::Nothing)?;
         }
         Ok(())
     }
@@ -91,22 +91,22 @@ impl Marks {
         requires node { id.0 < length schema.now.nodes }
         requires room { HasRoomAround schema.now self.old id }
         ensures { (a : NodeId) → a.0 < length schema.now.nodes → passes schema.now a ≡ true
-            → mark_at self.new a.0 ≡ joined (holds (rank a) (below schema.now a) id) (mark_at self.old a.0) id }
+            → mark_at self.new a.0 ≡ with_node (holds (rank a) (below schema.now a) id) (mark_at self.old a.0) id }
     {
         let mut here = schema.node(id).parent();
         while is_passed(schema, here) {
-            self.mark_one(here.number(), id);
+            self.mark_number(here.number(), id);
             here = schema.node(here).parent();
         }
     }
 
-    fn mark_one(&mut self, number: u32, id: NodeId)
+    fn mark_number(&mut self, number: u32, id: NodeId)
         requires { has_room self.old number ≡ true }
-        ensures marked { (n : ℕ) → mark_at self.new n ≡ joined (number == n) (mark_at self.old n) id }
-        ensures kept { (n : ℕ) → has_room self.old n ≡ true → has_room self.new n ≡ true }
+        ensures marks { (n : ℕ) → mark_at self.new n ≡ with_node (number == n) (mark_at self.old n) id }
+        ensures keeps { (n : ℕ) → has_room self.old n ≡ true → has_room self.new n ≡ true }
     {
         if let Some(mark) = self.rows.get_mut(&number) {
-            *mark = mark.and(Standing::Only(id));
+            *mark = mark.and(Existence::Only(id));
         }
     }
 }

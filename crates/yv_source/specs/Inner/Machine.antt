@@ -1,12 +1,12 @@
 -- The machine that the reader follows, one token at a time; cited by private clauses alone. What tokens spell is Grammar's.
 use Rattle.std.specs.Prelude.{ℕ, Bool, ◌==◌, ◌&&◌, ◌||◌, cond, List, [], ◌∷◌, length, nat_lt}
 use Rattle.yv_statement.specs.Tree.{Tree}
-use Rattle.yv_statement.specs.Building.{bare, push_child, with_argument, with_more}
+use Rattle.yv_statement.specs.Builder.{bare, push_child, with_argument, with_more}
 use Rattle.yv_source.specs.Characters.{colon}
 use Rattle.yv_source.specs.Place.{line_of}
 use Rattle.yv_source.specs.Pieces.{Piece, Word, Single, Double, Semicolon, Open, Close, Plus, until, begins, Token}
-use Rattle.yv_source.specs.Quoted.{quoted}
-use Rattle.yv_condition.specs.Names.{is_identifier}
+use Rattle.yv_source.specs.Quotes.{quoted_value}
+use Rattle.yv_text_if_feature.specs.Names.{is_identifier}
 use Rattle.yv_source.specs.Inner.Place.{place_of}
 use Rattle.yv_source.specs.declared.place.Place.{Place}
 use Rattle.yv_source.specs.declared.machine.Phase.{Phase}
@@ -68,40 +68,40 @@ abbrev pub between : ℕ → List Tree → List ℕ → Piece → Step
 between limit stack front p = between_at limit stack (place_of front) p
 
 -- a token behind a keyword
-abbrev pub named : ℕ → List Tree → Piece → Step
-named column stack (Word w) = give_word w stack
-named column stack (Single w) = give_quoted w stack
-named column stack (Double w) = give_quoted (quoted column w) stack
-named column stack Semicolon = close stack
-named column stack Open = Next stack Between
-named column stack _ = Wrong
+abbrev pub after_keyword : ℕ → List Tree → Piece → Step
+after_keyword column stack (Word w) = give_word w stack
+after_keyword column stack (Single w) = give_quoted w stack
+after_keyword column stack (Double w) = give_quoted (quoted_value column w) stack
+after_keyword column stack Semicolon = close stack
+after_keyword column stack Open = Next stack Between
+after_keyword column stack _ = Wrong
 
 -- a token behind an unquoted argument
-abbrev pub argued : List Tree → Piece → Step
-argued stack Semicolon = close stack
-argued stack Open = Next stack Between
-argued stack _ = Wrong
+abbrev pub after_argument : List Tree → Piece → Step
+after_argument stack Semicolon = close stack
+after_argument stack Open = Next stack Between
+after_argument stack _ = Wrong
 
 -- a token behind quoted texts
-abbrev pub said : List Tree → Piece → Step
-said stack Semicolon = close stack
-said stack Open = Next stack Between
-said stack Plus = Next stack Joined
-said stack _ = Wrong
+abbrev pub after_quoted : List Tree → Piece → Step
+after_quoted stack Semicolon = close stack
+after_quoted stack Open = Next stack Between
+after_quoted stack Plus = Next stack Joined
+after_quoted stack _ = Wrong
 
 -- a token behind a sign that joins
-abbrev pub joined : ℕ → List Tree → Piece → Step
-joined column stack (Single w) = give_quoted w stack
-joined column stack (Double w) = give_quoted (quoted column w) stack
-joined column stack _ = Wrong
+abbrev pub after_plus : ℕ → List Tree → Piece → Step
+after_plus column stack (Single w) = give_quoted w stack
+after_plus column stack (Double w) = give_quoted (quoted_value column w) stack
+after_plus column stack _ = Wrong
 
 -- a token at a place
 abbrev pub step_at : ℕ → List Tree → Phase → Place → Piece → Step
 step_at limit stack Between place p = between_at limit stack place p
-step_at limit stack Named place p = named place.column stack p
-step_at limit stack Argued place p = argued stack p
-step_at limit stack Said place p = said stack p
-step_at limit stack Joined place p = joined place.column stack p
+step_at limit stack Named place p = after_keyword place.column stack p
+step_at limit stack Argued place p = after_argument stack p
+step_at limit stack Said place p = after_quoted stack p
+step_at limit stack Joined place p = after_plus place.column stack p
 step_at limit stack Done place p = Wrong
 
 -- a token behind the text in front of it
@@ -109,8 +109,8 @@ abbrev pub step : ℕ → List Tree → Phase → Token → Step
 step limit stack phase t = step_at limit stack phase (place_of t.front) t.piece
 
 -- tokens in order
-abbrev pub run : ℕ → Step → List Token → Step
-run limit s [] = s
-run limit (Next stack phase) (t ∷ ts) = run limit (step limit stack phase t) ts
-run limit Wrong (t ∷ ts) = Wrong
-run limit Deep (t ∷ ts) = Deep
+abbrev pub run_tokens : ℕ → Step → List Token → Step
+run_tokens limit s [] = s
+run_tokens limit (Next stack phase) (t ∷ ts) = run_tokens limit (step limit stack phase t) ts
+run_tokens limit Wrong (t ∷ ts) = Wrong
+run_tokens limit Deep (t ∷ ts) = Deep

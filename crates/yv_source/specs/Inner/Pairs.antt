@@ -5,8 +5,8 @@ use Rattle.yv_statement.specs.Tree.{Tree}
 use Rattle.yv_source.specs.Characters.{backslash}
 use Rattle.yv_source.specs.Pieces.{Piece, Double}
 use Rattle.yv_source.specs.Escapes.{is_escape, yang_version, newer}
-use Rattle.yv_source.specs.declared.scan.Found.{Found}
-use Rattle.yv_source.specs.declared.scan.Found.TheVariants as found
+use Rattle.yv_source.specs.declared.scan.FoundPiece.{FoundPiece}
+use Rattle.yv_source.specs.declared.scan.FoundPiece.TheVariants as found
 
 -- where a text's first bad pair stands, n bytes having been looked at, behind a backslash or not
 abbrev pub bad_pair : Bool → ℕ → List ℕ → Option ℕ
@@ -16,9 +16,9 @@ bad_pair false n (b ∷ rest) = bad_pair (b == backslash) (n + 1) rest
 bad_pair true n (b ∷ rest) = cond (is_escape b) (bad_pair false (n + 1) rest) (Some (n - 1))
 
 -- its offset in a quoted text that stands at a place
-abbrev pub placed : ℕ → Option ℕ → Option ℕ
-placed at None = None
-placed at (Some n) = Some (at + 1 + n)
+abbrev pub offset_in_file : ℕ → Option ℕ → Option ℕ
+offset_in_file at None = None
+offset_in_file at (Some n) = Some (at + 1 + n)
 
 abbrev pub or_else : Option ℕ → Option ℕ → Option ℕ
 or_else None x = x
@@ -26,12 +26,12 @@ or_else (Some n) x = Some n
 
 -- the first one so far, and of one more piece
 abbrev pub bad_on : Option ℕ → ℕ → Piece → Option ℕ
-bad_on bad at (Double t) = or_else bad (placed at (bad_pair false 0 t))
+bad_on bad at (Double t) = or_else bad (offset_in_file at (bad_pair false 0 t))
 bad_on bad at _ = bad
 
 -- the same, by what the scanner found
-abbrev pub bad_found : Option ℕ → ℕ → Found → List ℕ → Option ℕ
-bad_found bad at (found.Double n) text = or_else bad (placed at (bad_pair false 0 (take n (drop (at + 1) text))))
+abbrev pub bad_found : Option ℕ → ℕ → FoundPiece → List ℕ → Option ℕ
+bad_found bad at (found.Double n) text = or_else bad (offset_in_file at (bad_pair false 0 (take n (drop (at + 1) text))))
 bad_found bad at _ text = bad
 
 -- the test for a file of YANG 1.1

@@ -1,10 +1,10 @@
 -- The first piece of a text, as the scanner finds it; cited by private clauses alone. What may stand at a place is Pieces'.
 use Rattle.std.specs.Prelude.{ℕ, Bool, true, false, ◌==◌, ◌&&◌, ◌||◌, cond, List, [], ◌∷◌, length, Option, Some, None}
 use Rattle.yv_source.specs.Characters.{line_feed, double_quote, single_quote, asterisk, plus_sign, slash, semicolon, backslash, opening_brace, closing_brace}
-use Rattle.yv_source.specs.Pieces.{Piece, Blank, LineComment, BlockComment, Word, Single, Double, Semicolon, Open, Close, Plus, is_blank, begins, begins_two, until, ends_word, up_to_quote, Before, Apart, Unquoted, Quoted}
+use Rattle.yv_source.specs.Pieces.{Piece, Blank, LineComment, BlockComment, Word, Single, Double, Semicolon, Open, Close, Plus, is_blank, begins, begins_two, until, ends_word, up_to_quote, Before, Apart, UnquotedWord, QuotedText}
 use Rattle.yv_source.specs.declared.scan.Ahead.{Ahead}
 use Rattle.yv_source.specs.declared.scan.Ahead.TheVariants as ahead
-use Rattle.yv_source.specs.declared.scan.Found.TheVariants as found
+use Rattle.yv_source.specs.declared.scan.FoundPiece.TheVariants as found
 use Rattle.yv_source.specs.declared.scan.Before.{Before as Left}
 use Rattle.yv_source.specs.declared.scan.Before.TheVariants as left
 
@@ -28,9 +28,9 @@ abbrev pub First : Type 0
 First = Option (Piece × List ℕ)
 
 -- a piece that is closed by one byte, where there is one
-abbrev pub closed : Piece → List ℕ → First
-closed p [] = None
-closed p (b ∷ more) = Some (p, more)
+abbrev pub closed_piece : Piece → List ℕ → First
+closed_piece p [] = None
+closed_piece p (b ∷ more) = Some (p, more)
 
 -- a piece that is closed by two
 abbrev pub closed_by_two : Piece → List ℕ → First
@@ -39,28 +39,28 @@ closed_by_two p (b ∷ more) = Some (p, tail more)
 
 abbrev pub is_unquoted : Before → Bool
 is_unquoted Apart = false
-is_unquoted Unquoted = true
-is_unquoted Quoted = false
+is_unquoted UnquotedWord = true
+is_unquoted QuotedText = false
 
 abbrev pub unless_unquoted : Before → First → First
 unless_unquoted Apart f = f
-unless_unquoted Unquoted f = None
-unless_unquoted Quoted f = f
+unless_unquoted UnquotedWord f = None
+unless_unquoted QuotedText f = f
 
 abbrev pub word : List ℕ → First
 word text = Some (Word (until ends_word text), from ends_word text)
 
 abbrev pub word_or_plus : Before → List ℕ → First
 word_or_plus Apart text = word text
-word_or_plus Unquoted text = word text
-word_or_plus Quoted text = cond (begins plus_sign text) (Some (Plus, tail text)) (word text)
+word_or_plus UnquotedWord text = word text
+word_or_plus QuotedText text = cond (begins plus_sign text) (Some (Plus, tail text)) (word text)
 
 abbrev pub first : Before → List ℕ → First
 first before [] = None
 first before (b ∷ rest) =
     cond (is_blank b) (Some (Blank b, rest))
-    (cond (b == double_quote) (unless_unquoted before (closed (Double (up_to_quote false rest)) (from_quote false rest)))
-    (cond (b == single_quote) (unless_unquoted before (closed (Single (until (begins single_quote) rest)) (from (begins single_quote) rest)))
+    (cond (b == double_quote) (unless_unquoted before (closed_piece (Double (up_to_quote false rest)) (from_quote false rest)))
+    (cond (b == single_quote) (unless_unquoted before (closed_piece (Single (until (begins single_quote) rest)) (from (begins single_quote) rest)))
     (cond (b == semicolon) (Some (Semicolon, rest))
     (cond (b == opening_brace) (Some (Open, rest))
     (cond (b == closing_brace) (Some (Close, rest))
@@ -70,29 +70,29 @@ first before (b ∷ rest) =
     (word_or_plus before (b ∷ rest))))))))))
 
 -- what the scanner says of it
-abbrev pub shown : First → Ahead
-shown None = ahead.Nothing
-shown (Some (Blank b, more)) = ahead.Piece found.Blank
-shown (Some (LineComment t, more)) = ahead.Piece (found.LineComment (length t))
-shown (Some (BlockComment t, more)) = ahead.Piece (found.BlockComment (length t))
-shown (Some (Word t, more)) = ahead.Piece (found.Word (length t))
-shown (Some (Single t, more)) = ahead.Piece (found.Single (length t))
-shown (Some (Double t, more)) = ahead.Piece (found.Double (length t))
-shown (Some (Semicolon, more)) = ahead.Piece found.Semicolon
-shown (Some (Open, more)) = ahead.Piece found.Open
-shown (Some (Close, more)) = ahead.Piece found.Close
-shown (Some (Plus, more)) = ahead.Piece found.Plus
+abbrev pub ahead_of : First → Ahead
+ahead_of None = ahead.Nothing
+ahead_of (Some (Blank b, more)) = ahead.Piece found.Blank
+ahead_of (Some (LineComment t, more)) = ahead.Piece (found.LineComment (length t))
+ahead_of (Some (BlockComment t, more)) = ahead.Piece (found.BlockComment (length t))
+ahead_of (Some (Word t, more)) = ahead.Piece (found.Word (length t))
+ahead_of (Some (Single t, more)) = ahead.Piece (found.Single (length t))
+ahead_of (Some (Double t, more)) = ahead.Piece (found.Double (length t))
+ahead_of (Some (Semicolon, more)) = ahead.Piece found.Semicolon
+ahead_of (Some (Open, more)) = ahead.Piece found.Open
+ahead_of (Some (Close, more)) = ahead.Piece found.Close
+ahead_of (Some (Plus, more)) = ahead.Piece found.Plus
 
 -- what the scanner says of a text
 abbrev pub ahead_in : Before → List ℕ → Ahead
 ahead_in before [] = ahead.End
-ahead_in before (b ∷ rest) = shown (first before (b ∷ rest))
+ahead_in before (b ∷ rest) = ahead_of (first before (b ∷ rest))
 
 -- what stands in front of a place, as the code keeps it
 abbrev pub before_of : Left → Before
 before_of left.Apart = Apart
-before_of left.Unquoted = Unquoted
-before_of left.Quoted = Quoted
+before_of left.Unquoted = UnquotedWord
+before_of left.Quoted = QuotedText
 
 -- whether a text begins with a double quote or a backslash
 abbrev pub begins_mark : List ℕ → Bool

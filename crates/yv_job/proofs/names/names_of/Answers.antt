@@ -7,7 +7,7 @@ returns-then-all_names c =
     let now = λ (p : Bor (List ℕ)). p.now in
     let value = c.deref.ensures.value in
     names_taken now c.deref.result.now c.args.text.now _ (ap (map now) value ∙ c.in_ok-parts.ensures)
-    (c.in_ok-copied.ensures ∙ ap (map now) (c.deref-then-all_names.ensures.value ∙ sym value)) (sym c.if-all_names.ensures)
+    (c.in_ok-copy_texts.ensures ∙ ap (map now) (c.deref-then-all_names.ensures.value ∙ sym value)) (sym c.if-all_names.ensures)
 
 pub returns : goal.returns
 returns c =

@@ -1,7 +1,7 @@
 use Rattle.std.proofs.Common.{◌≡◌, ◌<◌, ℕ, length, Some}
 use Rattle.std.specs.List.{slice_get}
-use Rattle.yv_selection.specs.Choice.{choice_of}
-use Rattle.yv_rows.specs.Lent.{files_in}
+use Rattle.yv_statement.specs.Selection.{selected_of}
+use Rattle.yv_link_scopes.specs.Views.{files_in}
 use Rattle.yv_link.specs.Modules.{ref_at}
 use Rattle.yv_link.proofs.modules.read_modules.Given as goal
 
@@ -9,5 +9,5 @@ use Rattle.yv_link.proofs.modules.read_modules.Given as goal
 abbrev pub invariant-loop-number : goal.invariant-loop-number
 invariant-loop-number l = record {
   each : length l.modules.items ≡ l.number;
-  are : (n : ℕ) → n < l.number → slice_get l.modules.items n ≡ Some (ref_at (choice_of l.selection) (files_in l.rows) n);
+  are : (n : ℕ) → n < l.number → slice_get l.modules.items n ≡ Some (ref_at (selected_of l.selection) (files_in l.rows) n);
 }

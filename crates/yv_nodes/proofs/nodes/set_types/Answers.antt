@@ -1,8 +1,8 @@
 use Rattle.std.proofs.Common.{rules, ◌≡◌, ◌≢◌, ℕ, List, [], ◌∷◌, ◌++◌, length, map, Option, option_map, slice_get, refl, sym, ap, ◌∙◌, arith}
 use Rattle.yv_values.specs.Types.{Plain}
 use Rattle.yv_nodes.specs.Rows.{Row}
-use Rattle.yv_nodes.specs.Typed.{typed_row}
-use Rattle.yv_nodes.specs.InnerTyped.{retyped, types_in}
+use Rattle.yv_nodes.specs.NodeTypes.{typed_row}
+use Rattle.yv_nodes.specs.InnerTypes.{with_own_types, types_in}
 use Rattle.std.proofs.lemmas.List.{length-map, map_push}
 use Rattle.yv_nodes.proofs.Retyping.{all_given, empty, last_given}
 use Rattle.yv_nodes.proofs.nodes.set_types.Goals as goal
@@ -20,7 +20,7 @@ loop-types-preserved c =
       λ n. last_given left (types_in c.in-Some.types) n (slice_get now n) (slice_get before n)
           (λ e. ap (slice_get now) (e ∙ place) ∙ c.retype.ensures.here ∙ ap (λ k. option_map (typed_row (types_in c.in-Some.types)) (slice_get before k)) (sym (e ∙ place)))
           (λ other. c.retype.ensures.elsewhere n (λ e. other (e ∙ sym place)))
-          ∙ ap (λ lists. option_map (retyped lists n) (slice_get before n)) (sym (ap (map types_in) c.in-Some.ensures.items ∙ map_push types_in c.pop.new.self.items c.in-Some.types))
+          ∙ ap (λ lists. option_map (with_own_types lists n) (slice_get before n)) (sym (ap (map types_in) c.in-Some.ensures.items ∙ map_push types_in c.pop.new.self.items c.in-Some.types))
           ∙ c.loop-types.invariant.1 n,
     )
 
@@ -31,4 +31,4 @@ pub returns-clause-rows : goal.returns-clause-rows
 returns-clause-rows c = λ n.
     let none : c.loop-types.lists.items ≡ [] = empty c.loop-types.lists.items (sym c.loop-types.lists.ok.0 ∙ c.in_default.ensures.cases.0) in
     let after : Option Row = slice_get c.loop-types.nodes.items n in
-    sym (all_given n after) ∙ ap (λ lists. option_map (retyped lists n) after) (sym (ap (map types_in) none)) ∙ c.loop-types.invariant.1 n
+    sym (all_given n after) ∙ ap (λ lists. option_map (with_own_types lists n) after) (sym (ap (map types_in) none)) ∙ c.loop-types.invariant.1 n

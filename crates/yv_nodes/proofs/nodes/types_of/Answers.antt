@@ -2,8 +2,8 @@ use Rattle.std.proofs.Common.{rules, ◌≡◌, ℕ, List, [], ◌∷◌, ◌++�
 use Rattle.std.proofs.lemmas.List.{take_all}
 use Rattle.yv_values.specs.Types.{Plain}
 use Rattle.yv_nodes.specs.declared.node.NodeId.{NodeId}
-use Rattle.yv_nodes.specs.Typed.{types_at}
-use Rattle.yv_nodes.specs.InnerTyped.{types_in}
+use Rattle.yv_nodes.specs.NodeTypes.{types_at}
+use Rattle.yv_nodes.specs.InnerTypes.{types_in}
 use Rattle.yv_nodes.proofs.nodes.types_of.Goals as goal
 
 pub returns : goal.returns

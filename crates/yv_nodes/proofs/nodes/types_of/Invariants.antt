@@ -1,8 +1,8 @@
 use Rattle.std.proofs.Common.{◌≡◌, ℕ, List, map, take}
 use Rattle.yv_values.specs.Types.{Plain}
 use Rattle.yv_nodes.specs.declared.node.NodeId.{NodeId}
-use Rattle.yv_nodes.specs.Typed.{types_at}
-use Rattle.yv_nodes.specs.InnerTyped.{types_in}
+use Rattle.yv_nodes.specs.NodeTypes.{types_at}
+use Rattle.yv_nodes.specs.InnerTypes.{types_in}
 use Rattle.yv_nodes.proofs.nodes.types_of.Given as goal
 
 abbrev pub invariant-loop-origin : goal.invariant-loop-origin

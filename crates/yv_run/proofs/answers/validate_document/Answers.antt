@@ -8,9 +8,9 @@ returns-in-Ok-clause-runs g c =
     both _ _ _ c.write_findings.result
     (λ e writes noted. record {
       given = c.in-Ok.bytes.items;
-      gives = gave_up_to _ _ _ 16777217 read.given read.bound read.end;
-      consumed = read.given;
+      gives = gave_up_to _ _ _ 16777217 read.gives read.bound read.end;
+      consumed = read.gives;
       writes = rw (← c.as_slice.ensures.value) writes;
       noted = rw (← c.as_slice.ensures.value) noted;
     })
-    c.write_findings.ensures.writes c.write_findings.ensures.noted
+    c.write_findings.ensures.writes c.write_findings.ensures.notes

@@ -1,7 +1,7 @@
 use Rattle.std.proofs.Common.{◌≡◌}
 use Rattle.std.proofs.lemmas.Result.{IfOk-weaker}
 use Rattle.yv_job.specs.Jobs.{Compiles, Draws, asked_of}
-use Rattle.yv_outcome.specs.Output.{ReadsData}
+use Rattle.yv_run.specs.Output.{ReadsData}
 use Rattle.yv_run.proofs.RunLemmas.{both, runs_count, runs_diagram, runs_document}
 use Rattle.yv_run.proofs.answers.write_answer.Goals as goal
 
@@ -10,14 +10,14 @@ returns-in-Compile-clause-runs g c =
     let asked : asked_of c.args.job.now.command ≡ Compiles = rw c.in-Compile.is in
     both _ _ _ c.write_count.result
     (λ e writes noted. runs_count _ _ e _ (asked_of c.args.job.now.command) c.args.job.now.kind c.args.schema.now asked writes noted)
-    c.write_count.ensures.writes c.write_count.ensures.noted
+    c.write_count.ensures.writes c.write_count.ensures.notes
 
 pub returns-in-Tree-clause-runs : goal.returns-in-Tree-clause-runs
 returns-in-Tree-clause-runs g c =
     let asked : asked_of c.args.job.now.command ≡ Draws c.as_str.result.now = rw c.in-Tree.is (cc) in
     both _ _ _ c.write_diagram.result
     (λ e writes noted. runs_diagram _ _ e _ (asked_of c.args.job.now.command) c.as_str.result.now c.args.job.now.kind c.args.schema.now asked writes noted)
-    c.write_diagram.ensures.writes c.write_diagram.ensures.noted
+    c.write_diagram.ensures.writes c.write_diagram.ensures.notes
 
 pub returns-in-Validate-clause-runs : goal.returns-in-Validate-clause-runs
 returns-in-Validate-clause-runs g c =

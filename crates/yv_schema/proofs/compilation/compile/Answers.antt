@@ -1,20 +1,20 @@
 use Rattle.std.proofs.Common.{◌≡◌, ℕ, ◌≤◌, length, inl, inr, Some, Ok, Err, arith, subst}
 use Rattle.std.specs.Prelude.{Result, OnOk}
 use Rattle.std.proofs.lemmas.Bool.{cases_lt}
-use Rattle.yv_rows.specs.Listed.{rows_of}
+use Rattle.yv_link_scopes.specs.RowList.{rows_of}
 use Rattle.yv_statement.specs.declared.refusal.Stop.TheVariants.{NoMemory}
 use Rattle.yv_statement.specs.declared.refusal.Refusal.{Refusal}
 use Rattle.yv_statement.specs.Order.{IsLeast}
-use Rattle.yv_selection.specs.Choice.{choice_of}
+use Rattle.yv_statement.specs.Selection.{selected_of}
 use Rattle.yv_link.proofs.Phases.{err_again}
 use Rattle.yv_schema.specs.Refuses.{Refuses}
 use Rattle.yv_schema.specs.InnerPhases.{AreClear}
-use Rattle.yv_schema.proofs.Phases.{HavePhases, least_first, least_linked, least_own}
+use Rattle.yv_schema.proofs.PhaseLemmas.{HavePhases, least_first, least_linked, least_own}
 use Rattle.yv_schema.proofs.compilation.compile.Goals as goal
 
 pub returns-in-Some-clause-refusal : goal.returns-in-Some-clause-refusal
 returns-in-Some-clause-refusal c =
-    let choice = choice_of c.args.selection.now in
+    let choice = selected_of c.args.selection.now in
     let files = c.args.files.now in
     let limit = c.args.limit in
     let phases : HavePhases = record { first = c.links_have_phases.ensures.first; last = c.links_have_phases.ensures.last; expansion = c.refusals_of_expansions_have_phases.ensures } in
@@ -25,7 +25,7 @@ returns-in-Some-clause-refusal c =
 
 pub returns-in-Err-clause-refusal : goal.returns-in-Err-clause-refusal
 returns-in-Err-clause-refusal c =
-    let choice = choice_of c.args.selection.now in
+    let choice = selected_of c.args.selection.now in
     let files = c.args.files.now in
     let limit = c.args.limit in
     let phases : HavePhases = record { first = c.links_have_phases.ensures.first; last = c.links_have_phases.ensures.last; expansion = c.refusals_of_expansions_have_phases.ensures } in
@@ -35,49 +35,49 @@ returns-in-Err-clause-refusal c =
 pub of_linked-requires : goal.of_linked-requires
 of_linked-requires c =
     let own = rw c.in_default.is at c.first_bad_file.ensures in
-    let clear : AreClear (choice_of c.args.selection.now) c.args.files.now c.in-Ok.linked = record { few = omega arith; own = own; links = c.in-Ok.ensures.clear; are = c.in-Ok.ensures.linked } in
+    let clear : AreClear (selected_of c.args.selection.now) c.args.files.now c.in-Ok.linked = record { few = omega arith; own = own; links = c.in-Ok.ensures.clear; are = c.in-Ok.ensures.links } in
     record { files = c.args.files.now; clear = clear }
 
 pub returns-clause-schema : goal.returns-clause-schema
 returns-clause-schema c =
     let own = rw c.in_default.is at c.first_bad_file.ensures in
-    let clear : AreClear (choice_of c.args.selection.now) c.args.files.now c.in-Ok.linked = record { few = omega arith; own = own; links = c.in-Ok.ensures.clear; are = c.in-Ok.ensures.linked } in
+    let clear : AreClear (selected_of c.args.selection.now) c.args.files.now c.in-Ok.linked = record { few = omega arith; own = own; links = c.in-Ok.ensures.clear; are = c.in-Ok.ensures.links } in
     c.of_linked.ensures.schema c.args.files.now clear
 
 pub returns-clause-augments : goal.returns-clause-augments
 returns-clause-augments c =
     let own = rw c.in_default.is at c.first_bad_file.ensures in
-    let clear : AreClear (choice_of c.args.selection.now) c.args.files.now c.in-Ok.linked = record { few = omega arith; own = own; links = c.in-Ok.ensures.clear; are = c.in-Ok.ensures.linked } in
+    let clear : AreClear (selected_of c.args.selection.now) c.args.files.now c.in-Ok.linked = record { few = omega arith; own = own; links = c.in-Ok.ensures.clear; are = c.in-Ok.ensures.links } in
     c.of_linked.ensures.augments c.args.files.now clear
 
 pub returns-clause-clear : goal.returns-clause-clear
 returns-clause-clear c =
     let own = rw c.in_default.is at c.first_bad_file.ensures in
-    let clear : AreClear (choice_of c.args.selection.now) c.args.files.now c.in-Ok.linked = record { few = omega arith; own = own; links = c.in-Ok.ensures.clear; are = c.in-Ok.ensures.linked } in
+    let clear : AreClear (selected_of c.args.selection.now) c.args.files.now c.in-Ok.linked = record { few = omega arith; own = own; links = c.in-Ok.ensures.clear; are = c.in-Ok.ensures.links } in
     c.of_linked.ensures.clear c.args.files.now clear
 
 pub returns-clause-refusal : goal.returns-clause-refusal
 returns-clause-refusal c =
     let own = rw c.in_default.is at c.first_bad_file.ensures in
-    let clear : AreClear (choice_of c.args.selection.now) c.args.files.now c.in-Ok.linked = record { few = omega arith; own = own; links = c.in-Ok.ensures.clear; are = c.in-Ok.ensures.linked } in
+    let clear : AreClear (selected_of c.args.selection.now) c.args.files.now c.in-Ok.linked = record { few = omega arith; own = own; links = c.in-Ok.ensures.clear; are = c.in-Ok.ensures.links } in
     c.of_linked.ensures.refusal c.args.files.now clear
 
-pub returns-clause-built : goal.returns-clause-built
-returns-clause-built c =
+pub returns-clause-builds : goal.returns-clause-builds
+returns-clause-builds c =
     let own = rw c.in_default.is at c.first_bad_file.ensures in
-    let clear : AreClear (choice_of c.args.selection.now) c.args.files.now c.in-Ok.linked = record { few = omega arith; own = own; links = c.in-Ok.ensures.clear; are = c.in-Ok.ensures.linked } in
-    c.of_linked.ensures.built c.args.files.now clear
+    let clear : AreClear (selected_of c.args.selection.now) c.args.files.now c.in-Ok.linked = record { few = omega arith; own = own; links = c.in-Ok.ensures.clear; are = c.in-Ok.ensures.links } in
+    c.of_linked.ensures.builds c.args.files.now clear
 
 pub returns-clause-before : goal.returns-clause-before
 returns-clause-before c =
     let own = rw c.in_default.is at c.first_bad_file.ensures in
-    let clear : AreClear (choice_of c.args.selection.now) c.args.files.now c.in-Ok.linked = record { few = omega arith; own = own; links = c.in-Ok.ensures.clear; are = c.in-Ok.ensures.linked } in
+    let clear : AreClear (selected_of c.args.selection.now) c.args.files.now c.in-Ok.linked = record { few = omega arith; own = own; links = c.in-Ok.ensures.clear; are = c.in-Ok.ensures.links } in
     c.of_linked.ensures.before c.args.files.now clear
 
 pub returns-clause-modules : goal.returns-clause-modules
 returns-clause-modules c =
     let own = rw c.in_default.is at c.first_bad_file.ensures in
-    let clear : AreClear (choice_of c.args.selection.now) c.args.files.now c.in-Ok.linked = record { few = omega arith; own = own; links = c.in-Ok.ensures.clear; are = c.in-Ok.ensures.linked } in
+    let clear : AreClear (selected_of c.args.selection.now) c.args.files.now c.in-Ok.linked = record { few = omega arith; own = own; links = c.in-Ok.ensures.clear; are = c.in-Ok.ensures.links } in
     c.of_linked.ensures.modules c.args.files.now clear
 
 pub returns-in-Some-clause-many : goal.returns-in-Some-clause-many

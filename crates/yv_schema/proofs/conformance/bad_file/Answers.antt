@@ -1,5 +1,5 @@
 use Rattle.yv_statement.specs.Order.{IsLeast}
-use Rattle.yv_conform.specs.Faults.{Bad}
+use Rattle.yv_text_grammar.specs.Refusals.{Bad}
 use Rattle.yv_schema.proofs.Told.{least_told}
 use Rattle.yv_schema.proofs.conformance.bad_file.Goals as goal
 

@@ -1,5 +1,5 @@
 use Rattle.std.proofs.Common.{inl}
-use Rattle.yv_schema.proofs.Phases.{one_basis}
+use Rattle.yv_schema.proofs.PhaseLemmas.{one_basis}
 use Rattle.yv_schema.proofs.RequiredLinks.{each_linked}
 use Rattle.yv_schema.proofs.laws.each_leafref_has_its_link.Goals as goal
 

@@ -1,5 +1,5 @@
 use Rattle.std.proofs.Common.{inl}
-use Rattle.yv_schema.proofs.Phases.{one_list, one_notes, one_schema}
+use Rattle.yv_schema.proofs.PhaseLemmas.{one_list, one_notes, one_schema}
 use Rattle.yv_schema.proofs.laws.files_have_one_schema.Goals as goal
 
 pub returns-clause-tree : goal.returns-clause-tree

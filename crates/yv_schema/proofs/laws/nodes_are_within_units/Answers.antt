@@ -1,5 +1,5 @@
 use Rattle.std.proofs.Common.{◌∙◌, [], ap, sym, arith, subst}
-use Rattle.yv_rows.specs.Files.{Files}
+use Rattle.yv_link_scopes.specs.Files.{Files}
 use Rattle.yv_nodes.specs.Tree.{count}
 use Rattle.yv_schema.specs.Module.{leafrefs_of, stated_of}
 use Rattle.yv_schema.specs.Schema.{TakeUnits}

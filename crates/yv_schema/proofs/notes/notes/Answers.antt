@@ -1,11 +1,11 @@
 use Rattle.std.proofs.Common.{arith, ◌≡◌, ◌<◌, ◌≤◌, ◌∷◌, ◌∙◌, sym, ap, List, ℕ, [], length, get_or, refl, append-nil, subst, Option}
 use Rattle.std.specs.List.{slice_get}
 use Rattle.std.specs.Option.{option_to_list}
-use Rattle.yv_expansion.specs.Tree.{Node}
-use Rattle.yv_rows.specs.Listed.{rows_of}
-use Rattle.yv_rows.specs.Lent.{rows_in}
+use Rattle.yv_expand.specs.Tree.{Node}
+use Rattle.yv_link_scopes.specs.RowList.{rows_of}
+use Rattle.yv_link_scopes.specs.Views.{rows_in}
 use Rattle.yv_nodes.specs.Rows.{Note}
-use Rattle.yv_schema.specs.InnerRowing.{IsWithin}
+use Rattle.yv_schema.specs.InnerRows.{IsWithin}
 use Rattle.yv_schema.specs.Notes.{notes_of}
 use Rattle.yv_schema.proofs.Numbering.{AllBefore, above_before, family_before, givers_many, parents_before}
 use Rattle.yv_schema.proofs.Noting.{family_is, givers, givers_kept, note_is, notes_end, notes_more}
@@ -15,7 +15,7 @@ use Rattle.yv_schema.proofs.notes.notes.Goals.{in-Some+in_ok-push, in_default}
 
 pub note-requires-clause-target : goal.note-requires-clause-target
 note-requires-clause-target c =
-    let told = c.requires.told in
+    let told = c.requires.tells in
     let k = kept told.basis c.args.context.now told.tells in
     let left : List Node = c.args.context.now.tree.now.left in
     subst (λ (o : Option ℕ). IsWithin o 4294967296) (sym c.target_of-target.ensures)
@@ -23,7 +23,7 @@ note-requires-clause-target c =
 
 pub note-requires-clause-nodes : goal.note-requires-clause-nodes
 note-requires-clause-nodes c =
-    let told = c.requires.told in
+    let told = c.requires.tells in
     let b = told.basis in
     let so = follows b c.args.context.now told.tells c.given_nodes_stand_below_their_target.ensures c.no_item_is_left_twice.ensures in
     let k = kept b c.args.context.now told.tells in

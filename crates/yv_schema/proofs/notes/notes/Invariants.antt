@@ -1,5 +1,5 @@
 use Rattle.std.proofs.Common.{◌≡◌, ◌++◌, drop}
-use Rattle.yv_rows.specs.Lent.{lent_in}
+use Rattle.yv_link_scopes.specs.Views.{lent_in}
 use Rattle.yv_schema.specs.InnerContext.{Tells}
 use Rattle.yv_schema.specs.Module.{Basis}
 use Rattle.yv_schema.specs.Notes.{notes_from, notes_of}

@@ -1,5 +1,5 @@
 use Rattle.std.proofs.Common.{◌≡◌, take}
-use Rattle.yv_schema.specs.InnerRowing.{numbers_at}
+use Rattle.yv_schema.specs.InnerRows.{numbers_at}
 use Rattle.yv_schema.proofs.tree.numbers_at.Given as goal
 
 abbrev pub invariant-loop-place : goal.invariant-loop-place

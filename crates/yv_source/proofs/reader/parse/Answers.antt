@@ -1,5 +1,5 @@
 use Rattle.std.proofs.Common.{List, ℕ, subst}
-use Rattle.yv_source.specs.Inner.Ending.{Comes}
+use Rattle.yv_source.specs.Inner.End.{Comes}
 use Rattle.yv_source.proofs.Unique.{only_spelled, only_refused}
 use Rattle.yv_source.proofs.Order.{answered_in_order}
 use Rattle.yv_source.proofs.reader.parse.Goals as goal

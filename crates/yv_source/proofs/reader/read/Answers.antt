@@ -32,10 +32,10 @@ turn-requires-clause-to c = loop.upper_bound c.as_bytes-bytes.ensures.value c.lo
 
 pub returns-in-Err : goal.returns-in-Err
 returns-in-Err c =
-    loop.comes_halt c.as_bytes-bytes.ensures.value c.loop-stack.invariant c.look_ahead.ensures c.in-Piece.is _ _ (reverse c.turn.new.stack.items) c.in-Err.ensures c.refused_by.ensures
+    loop.comes_halt c.as_bytes-bytes.ensures.value c.loop-stack.invariant c.look_ahead.ensures c.in-Piece.is _ _ (reverse c.turn.new.stack.items) c.in-Err.ensures c.refusal_of_halt.ensures
 
-pub bad_found-bad-requires-clause-found : goal.bad_found-bad-requires-clause-found
-bad_found-bad-requires-clause-found c = loop.fits_in c.as_bytes-bytes.ensures.value c.loop-stack.invariant c.look_ahead.ensures c.in-Piece.is
+pub bad_found-bad-requires-clause-finds : goal.bad_found-bad-requires-clause-finds
+bad_found-bad-requires-clause-finds c = loop.fits_in c.as_bytes-bytes.ensures.value c.loop-stack.invariant c.look_ahead.ensures c.in-Piece.is
 
 pub past-end-requires-clause-column : goal.past-end-requires-clause-column
 past-end-requires-clause-column c = loop.column_bound c.as_bytes-bytes.ensures.value c.loop-stack.invariant

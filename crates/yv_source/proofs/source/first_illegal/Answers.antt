@@ -16,8 +16,8 @@ returns-in_default-clause-none c =
     let here = legal_run c.loop-c.invariant _ c.common_len-at.result (take_rest c.as_bytes-bytes.result.now c.loop-c.at ∙ ap (drop c.loop-c.at) c.as_bytes-bytes.ensures.value) c.common_len-at.ensures.within c.common_len-at.ensures.common in
     legal_all here (sym c.range_from.ensures.value ∙ c.in_default.ensures.none)
 
-pub returns-then-not-is_legal-clause-found : goal.returns-then-not-is_legal-clause-found
-returns-then-not-is_legal-clause-found c =
+pub returns-then-not-is_legal-clause-finds : goal.returns-then-not-is_legal-clause-finds
+returns-then-not-is_legal-clause-finds c =
     let here = legal_run c.loop-c.invariant _ c.common_len-at.result (take_rest c.as_bytes-bytes.result.now c.loop-c.at ∙ ap (drop c.loop-c.at) c.as_bytes-bytes.ensures.value) c.common_len-at.ensures.within c.common_len-at.ensures.common in
     illegal_at here c.in-Some.c _ (sym c.range_from.ensures.value ∙ c.in-Some.ensures.some) (sym c.is_legal.ensures ∙ c.if-not-is_legal.true)
 

@@ -8,10 +8,10 @@ loop-bytes-preserved g c =
     record {
       works = search rules;
       within = omega arith;
-      given = gave_more _ _ _ _ _ c.loop-bytes.invariant.given read.front read.given;
+      given = gave_more _ _ _ _ _ c.loop-bytes.invariant.given read.front read.gives;
     }
 
-pub returns-in_err-read_some-clause-taken : goal.returns-in_err-read_some-clause-taken
-returns-in_err-read_some-clause-taken g c =
+pub returns-in_err-read_some-clause-takes : goal.returns-in_err-read_some-clause-takes
+returns-in_err-read_some-clause-takes g c =
     let before = c.loop-bytes.invariant in
-    took_more _ _ _ _ _ c.args.limit before.given (omega (arith, c.loop-bytes.bytes.ok.0)) c.read_some.ensures.taken
+    took_more _ _ _ _ _ c.args.limit before.given (omega (arith, c.loop-bytes.bytes.ok.0)) c.read_some.ensures.takes

@@ -9,11 +9,11 @@ loop-written-preserved g c =
     record {
       works = search rules;
       within = omega arith;
-      held = held_more _ _ _ _ _ _ before.held before.within wrote.bound wrote.held;
+      held = held_more _ _ _ _ _ _ before.held before.within wrote.bound wrote.holds;
     }
 
 pub returns-then-has_failed-clause-part : goal.returns-then-has_failed-clause-part
 returns-then-has_failed-clause-part g c =
     let before = c.loop-written.invariant in
     let wrote = c.write_some-written.ensures in
-    (c.loop-written.written + c.write_some-written.result, held_more _ _ _ _ _ _ before.held before.within wrote.bound wrote.held)
+    (c.loop-written.written + c.write_some-written.result, held_more _ _ _ _ _ _ before.held before.within wrote.bound wrote.holds)

@@ -8,7 +8,7 @@ use Rattle.yv_tree.proofs.modules.places_of.Given as goal
 abbrev pub invariant-loop-left : goal.invariant-loop-left
 invariant-loop-left l = record {
   within : l.left ≤ length l.modules;
-  known : (home : ℕ) → get nat_cmp l.places home ≡ place_from l.left (drop l.left l.modules) home;
+  known : (module_file : ℕ) → get nat_cmp l.places module_file ≡ place_from l.left (drop l.left l.modules) module_file;
 }
 
 abbrev pub decreases-loop-left : goal.decreases-loop-left

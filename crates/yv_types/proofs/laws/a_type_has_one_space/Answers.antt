@@ -1,6 +1,6 @@
 use Rattle.std.proofs.Common.{map}
-use Rattle.yv_rows.specs.Files.{brief_of}
-use Rattle.yv_rows.specs.Listed.{rows_of}
+use Rattle.yv_link_scopes.specs.Files.{brief_of}
+use Rattle.yv_link_scopes.specs.RowList.{rows_of}
 use Rattle.yv_types.proofs.Single.{space_once}
 use Rattle.yv_types.proofs.laws.a_type_has_one_space.Goals as goal
 

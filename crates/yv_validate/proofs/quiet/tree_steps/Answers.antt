@@ -1,20 +1,20 @@
 use Rattle.std.proofs.Common.{◌≡◌, ℕ, ◌+◌, Bool, false, true, Some, sym, ap, ◌∙◌}
-use Rattle.yv_properties.specs.Kinds.{is_operation}
+use Rattle.yv_node_definition.specs.Kinds.{is_operation_or_notification}
 use Rattle.yv_nodes.specs.Defaults.{width}
 use Rattle.yv_nodes.specs.Rows.{below, Row, row_at}
-use Rattle.yv_tables.specs.Measures.{is_open}
-use Rattle.yv_validate.specs.InnerNamed.{is_read}
+use Rattle.yv_schema_tables.specs.Measures.{is_open}
+use Rattle.yv_validate.specs.InnerNames.{is_read}
 use Rattle.yv_validate.specs.InnerQuiet.{are_quiet, is_mute, steps_at}
 use Rattle.yv_validate.proofs.Beneath.{rank_is}
 use Rattle.yv_validate.proofs.Known.{if_sum, of_closed, of_open, of_operation}
 use Rattle.yv_validate.proofs.quiet.tree_steps.Goals as goal
 
-pub returns-then-is_operation : goal.returns-then-is_operation
-returns-then-is_operation c =
+pub returns-then-is_operation_or_notification : goal.returns-then-is_operation_or_notification
+returns-then-is_operation_or_notification c =
     let s = c.args.schema.now in
     let id = c.args.id in
     let is : c.kind-kind.result ≡ (row_at s id).label.defined.kind = c.kind-kind.ensures ∙ ap (λ (r : Row). r.label.defined.kind) c.node-node.ensures.value in
-    of_operation s id.0 (row_at s id).label (below s id) (sym (ap is_operation is) ∙ sym c.is_operation.ensures ∙ c.if-is_operation.true)
+    of_operation s id.0 (row_at s id).label (below s id) (sym (ap is_operation_or_notification is) ∙ sym c.is_operation_or_notification.ensures ∙ c.if-is_operation_or_notification.true)
 
 pub returns-then-not-is_open : goal.returns-then-not-is_open
 returns-then-not-is_open c =
@@ -22,7 +22,7 @@ returns-then-not-is_open c =
     let id = c.args.id in
     let row = c.node-node.ensures.value in
     let is : c.kind-kind.result ≡ (row_at s id).label.defined.kind = c.kind-kind.ensures ∙ ap (λ (r : Row). r.label.defined.kind) row in
-    let other = sym (ap is_operation is) ∙ sym c.is_operation.ensures ∙ c.if-is_operation.false in
+    let other = sym (ap is_operation_or_notification is) ∙ sym c.is_operation_or_notification.ensures ∙ c.if-is_operation_or_notification.false in
     let mute : is_mute (is_read s id.0) (row_at s id).label.defined.kind (row_at s id).label ≡ true =
     sym (c.is_mute.ensures ∙ ap (λ (r : Row). is_mute c.is_read-asked.result r.label.defined.kind r.label) row
     ∙ ap (λ (b : Bool). is_mute b (row_at s id).label.defined.kind (row_at s id).label) c.is_read-asked.ensures) ∙ c.if-not-is_mute.false in
@@ -35,7 +35,7 @@ returns c =
     let id = c.args.id in
     let row = c.node-node.ensures.value in
     let is : c.kind-kind.result ≡ (row_at s id).label.defined.kind = c.kind-kind.ensures ∙ ap (λ (r : Row). r.label.defined.kind) row in
-    let other = sym (ap is_operation is) ∙ sym c.is_operation.ensures ∙ c.if-is_operation.false in
+    let other = sym (ap is_operation_or_notification is) ∙ sym c.is_operation_or_notification.ensures ∙ c.if-is_operation_or_notification.false in
     let mute : is_mute (is_read s id.0) (row_at s id).label.defined.kind (row_at s id).label ≡ true =
     sym (c.is_mute.ensures ∙ ap (λ (r : Row). is_mute c.is_read-asked.result r.label.defined.kind r.label) row
     ∙ ap (λ (b : Bool). is_mute b (row_at s id).label.defined.kind (row_at s id).label) c.is_read-asked.ensures) ∙ c.if-not-is_mute.false in

@@ -1,8 +1,8 @@
 use Rattle.yv_values.proofs.Ascending.{inserted, inserted_order}
 use Rattle.yv_values.proofs.places.add_to.Goals as goal
 
-pub returns-clause-added : goal.returns-clause-added
-returns-clause-added c = rw c.in_ok-insert.ensures.items (inserted c.args.places.now.items c.count_below-at.result c.args.place)
+pub returns-clause-adds : goal.returns-clause-adds
+returns-clause-adds c = rw c.in_ok-insert.ensures.items (inserted c.args.places.now.items c.count_below-at.result c.args.place)
 
 pub returns-clause-order : goal.returns-clause-order
 returns-clause-order c =

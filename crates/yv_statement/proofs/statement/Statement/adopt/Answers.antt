@@ -1,10 +1,10 @@
 use Rattle.std.proofs.Common.{ap}
 use Rattle.yv_statement.specs.Tree.{Forest}
-use Rattle.yv_statement.specs.Seen.{seen}
+use Rattle.yv_statement.specs.View.{tree_of}
 use Rattle.yv_statement.proofs.Built.{forest-append}
 use Rattle.yv_statement.proofs.statement.Statement.adopt.Goals as goal
 
 pub returns-clause-ok : goal.returns-clause-ok
 returns-clause-ok c =
     rw (c.in_ok-push.ensures.items, c.settle.ensures, ← c.self.view_is)
-    (ap (λ (f : Forest). record { head = (seen c.self.inside).head; children = f }) (forest-append c.self.inside.children.items c.args.child))
+    (ap (λ (f : Forest). record { head = (tree_of c.self.inside).head; children = f }) (forest-append c.self.inside.children.items c.args.child))

@@ -2,7 +2,7 @@ use Rattle.std.proofs.Common.{◌≡◌, true, false, get_or, sym, ◌∙◌}
 use Rattle.std.proofs.lemmas.List.Elements.{All-get_or}
 use Rattle.yv_nodes.specs.declared.node.NodeId.{NodeId}
 use Rattle.yv_nodes.specs.Rows.{forest, tree_of}
-use Rattle.yv_tables.specs.Sound.{IsChild}
+use Rattle.yv_schema_tables.specs.Sound.{IsChild}
 use Rattle.yv_tree.specs.InnerDraw.{trees_text}
 use Rattle.yv_tree.specs.InnerMargin.{margin_text}
 use Rattle.yv_tree.specs.Lines.{has_line}
@@ -35,8 +35,8 @@ nodes-loop-id-preserved g t c =
           rw (w.last-is, w.page-is, w.paper-is) (record {
             text = shown_step s c.args.self.now.modules.now c.args.self.now.own (margin_text c.args.margin.now) c.args.parent c.loop-id.last c.args.ids.now c.loop-id.id-index d
                 all (g.P.Paper.output c.args.page.now c.args.paper.now) (g.P.Paper.output c.loop-id.page c.loop-id.paper)
-                (g.P.Paper.output w.waiting.new.page w.waiting.new.paper)
-                c.requires.trees c.loop-id-test.true c.loop-id.invariant.last shown c.loop-id.invariant.text w.waiting.ensures;
+                (g.P.Paper.output w.draw_waiting.new.page w.draw_waiting.new.paper)
+                c.requires.trees c.loop-id-test.true c.loop-id.invariant.last shown c.loop-id.invariant.text w.draw_waiting.ensures;
             last = record {
               child = All-get_or (IsChild s c.args.parent) c.args.ids.now c.loop-id.id-index d c.loop-id-test.true c.requires.children;
               shown = shown;
@@ -58,5 +58,5 @@ nodes-returns g t c =
     end_step s c.args.self.now.modules.now c.args.self.now.own (margin_text c.args.margin.now) c.args.parent c.loop-id.last c.args.ids.now c.loop-id.id-index
     (trees_text s c.args.self.now.modules.now c.args.self.now.own (margin_text c.args.margin.now) (forest s c.args.ids.now))
     (g.P.Paper.output c.args.page.now c.args.paper.now) (g.P.Paper.output c.loop-id.page c.loop-id.paper)
-    (g.P.Paper.output c.waiting-2.new.page c.waiting-2.new.paper)
-    c.loop-id-test.false c.loop-id.invariant.last c.loop-id.invariant.text c.waiting-2.ensures
+    (g.P.Paper.output c.draw_waiting-2.new.page c.draw_waiting-2.new.paper)
+    c.loop-id-test.false c.loop-id.invariant.last c.loop-id.invariant.text c.draw_waiting-2.ensures

@@ -1,7 +1,7 @@
 use Rattle.std.proofs.Common.{◌+◌, ◌*◌, ◌-◌, length, drop}
 use Rattle.std.specs.Prelude.{IfSome}
 use Rattle.yv_nodes.specs.Rows.{rank, forest}
-use Rattle.yv_tree.specs.InnerDraw.{IsShown, Leaves, trees_text, waiting}
+use Rattle.yv_tree.specs.InnerDraw.{IsShown, Leaves, trees_text, waiting_trees}
 use Rattle.yv_tree.specs.InnerMargin.{margin_text}
 use Rattle.yv_tree.proofs.draw.Drawing.+draw.Given as goal
 
@@ -12,7 +12,7 @@ invariant-nodes-loop-id g l =
     let own = l.self.own in
     record {
       text : Leaves (trees_text s l.self.modules.now own (margin_text l.margin) (forest s l.ids))
-          (trees_text s l.self.modules.now own (margin_text l.margin) (waiting s l.last (forest s (drop l.id-index l.ids))))
+          (trees_text s l.self.modules.now own (margin_text l.margin) (waiting_trees s l.last (forest s (drop l.id-index l.ids))))
           (g.P.Paper.output l.initial.page l.initial.paper) (g.P.Paper.output l.page l.paper);
       last : IfSome l.last (IsShown s l.parent);
     }
@@ -21,8 +21,8 @@ invariant-nodes-loop-id g l =
 abbrev pub decreases-nodes : goal.decreases-nodes
 decreases-nodes g l = 4 * (length l.self.now.schema.now.nodes - rank l.parent) + 3
 
-abbrev pub decreases-waiting : goal.decreases-waiting
-decreases-waiting g l = 4 * (length l.self.now.schema.now.nodes - rank l.parent) + 2
+abbrev pub decreases-draw_waiting : goal.decreases-draw_waiting
+decreases-draw_waiting g l = 4 * (length l.self.now.schema.now.nodes - rank l.parent) + 2
 
 abbrev pub decreases-node : goal.decreases-node
 decreases-node g l = 4 * (length l.self.now.schema.now.nodes - l.id.0) + 1

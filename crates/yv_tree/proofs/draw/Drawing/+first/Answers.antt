@@ -1,7 +1,7 @@
 use Rattle.std.proofs.Common.{◌≡◌, ◌<◌, length, arith, true, false, ap, sym, ◌∙◌}
 use Rattle.yv_nodes.specs.declared.node.NodeId.{NodeId}
 use Rattle.yv_nodes.specs.Rows.{Row, is_root, row_at}
-use Rattle.yv_tree.specs.Diagram.{first_home}
+use Rattle.yv_tree.specs.Diagram.{first_module_file}
 use Rattle.yv_tree.proofs.Tops.{at_top, one_up, parent_before}
 use Rattle.yv_tree.proofs.draw.Drawing.+first.Goals as goal
 
@@ -19,7 +19,7 @@ returns-else-eq-clause-value t c =
     let up = c.parent-parent.ensures ∙ ap (λ (r : Row). r.parent) c.node.ensures.value in
     let inner : is_root (row_at s c.args.id).parent ≡ false = sym (ap is_root up) ∙ (sym c.eq.ensures ∙ c.if-eq.false) in
     let within : c.args.id.0 < length s.nodes = omega arith in
-    one_up s c.args.id c.node.ensures.sound within inner ∙ ap (first_home s) (sym up) ∙ c.first.ensures.value
+    one_up s c.args.id c.node.ensures.sound within inner ∙ ap (first_module_file s) (sym up) ∙ c.first.ensures.value
 
 pub first-requires : goal.first-requires
 first-requires t c =

@@ -6,7 +6,7 @@ use Rattle.yv_tree.proofs.tree_diagram.TreeDiagram.draw.Goals as goal
 pub returns : goal.returns
 returns g c =
     let all = c.self.inside in
-    ready_put all.schema.now all.shown.now all.modules c.shown.inside.home c.as_str.result.now c.args.self.now
+    ready_put all.schema.now all.shown.now all.modules c.shown.inside.module_file c.as_str.result.now c.args.self.now
     all.data_nodes.items all.rpcs.items all.notifications.items
     c.as_slice-data_nodes.result.now c.as_slice.result.now c.as_slice-notifications.result.now
     (g.P.Paper.output c.args.page.now c.args.paper.now)
@@ -15,7 +15,7 @@ returns g c =
     (g.P.Paper.output c.augments.new.page c.augments.new.paper)
     (g.P.Paper.output c.tops_section.new.page c.tops_section.new.paper)
     (g.P.Paper.output c.tops_section-2.new.page c.tops_section-2.new.paper)
-    c.self.invariant c.self.view_is (ap (λ (m : Module). m.home) c.shown.view_is)
+    c.self.invariant c.self.view_is (ap (λ (m : Module). m.module_file) c.shown.view_is)
     (c.as_str.ensures.value ∙ ap (λ (m : Module). m.name) c.shown.view_is)
     c.as_slice-data_nodes.ensures.value c.as_slice.ensures.value c.as_slice-notifications.ensures.value
     c.put_header.ensures c.nodes.ensures c.augments.ensures c.tops_section.ensures c.tops_section-2.ensures

@@ -1,9 +1,9 @@
 use Rattle.std.proofs.Common.{ℕ, inl, map, refl, sym, ◌∙◌}
-use Rattle.yv_rows.specs.Files.{brief_of}
-use Rattle.yv_rows.specs.Listed.{rows_of}
-use Rattle.yv_bases.specs.Types.{Follows}
-use Rattle.yv_assigned_types.specs.Types.{Truth}
-use Rattle.yv_link.specs.Linked.{truth_in}
+use Rattle.yv_link_scopes.specs.Files.{brief_of}
+use Rattle.yv_link_scopes.specs.RowList.{rows_of}
+use Rattle.yv_type_chains.specs.Types.{Follows}
+use Rattle.yv_type_enums.specs.Types.{Truth}
+use Rattle.yv_link.specs.LinkedFiles.{truth_in}
 use Rattle.yv_values.specs.Types.{plain_of}
 use Rattle.yv_types.proofs.Stepping.{if_ok}
 use Rattle.yv_types.proofs.Unrestricted.{followed_space, some_of}

@@ -1,12 +1,12 @@
 use Rattle.std.proofs.Common.{◌≡◌, ℕ, List, Some, length, take}
 use Rattle.std.specs.List.{Contains}
-use Rattle.yv_selection.specs.Choice.{Choice}
-use Rattle.yv_rows.specs.Files.{Files}
-use Rattle.yv_link.specs.Linked.{AreLinked, truth_in}
-use Rattle.yv_identityref.specs.Known.{AreIdentities}
+use Rattle.yv_statement.specs.Selection.{Selected}
+use Rattle.yv_link_scopes.specs.Files.{Files}
+use Rattle.yv_link.specs.LinkedFiles.{AreLinked, truth_in}
+use Rattle.yv_type_identities.specs.Identities.{AreIdentities}
 use Rattle.yv_values.specs.Types.{Plain}
 use Rattle.yv_types.specs.Spaces.{Space}
-use Rattle.yv_types.specs.Known.{AreLayers}
+use Rattle.yv_types.specs.Types.{AreLayers}
 use Rattle.yv_types.specs.InnerTables.{AreBelow, AreKnown, AreNumbered, plains_at}
 use Rattle.yv_types.proofs.layers.Layers.spaces.Given as goal
 
@@ -17,8 +17,8 @@ invariant-loop-number l = record {
   counted : l.list ≡ l.number-index;
   numbered : AreNumbered l.spaces.items;
   below : AreBelow l.spaces.items l.list;
-  told : (files : Files) (choice : Choice) → AreLinked files choice l.linked → AreLayers files (truth_in l.linked) l.self
+  told : (files : Files) (choice : Selected) → AreLinked files choice l.linked → AreLayers files (truth_in l.linked) l.self
       → AreKnown files (truth_in l.linked) choice (Contains (take l.number-index l.number-items)) l.spaces.items;
-  sound : (files : Files) (choice : Choice) → AreLinked files choice l.linked → AreLayers files (truth_in l.linked) l.self
+  sound : (files : Files) (choice : Selected) → AreLinked files choice l.linked → AreLayers files (truth_in l.linked) l.self
       → (k : ℕ) (ps : List Plain) → plains_at l.spaces.items k ≡ Some ps → Space files (truth_in l.linked) choice k ps;
 }

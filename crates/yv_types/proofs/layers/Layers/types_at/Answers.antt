@@ -2,16 +2,16 @@ use Rattle.std.proofs.Common.{◌≡◌, ◌↔◌, ℕ, [], ◌∷◌, inl, inr
 use Rattle.std.specs.List.{slice_get}
 use Rattle.std.specs.Option.{option_map}
 use Rattle.std.proofs.lemmas.Option.{same_Some}
-use Rattle.yv_rows.specs.Files.{Files, brief_of}
-use Rattle.yv_rows.specs.Rows.{row}
-use Rattle.yv_rows.specs.Listed.{rows_of}
-use Rattle.yv_rows.specs.Lent.{rows_in}
-use Rattle.yv_bases.specs.Types.{Follows}
-use Rattle.yv_assigned_types.specs.Types.{Told, Truth}
-use Rattle.yv_assigned_types.specs.Told.{told_of}
-use Rattle.yv_link.specs.Linked.{truth_in}
+use Rattle.yv_link_scopes.specs.Files.{Files, brief_of}
+use Rattle.yv_link_scopes.specs.Rows.{row}
+use Rattle.yv_link_scopes.specs.RowList.{rows_of}
+use Rattle.yv_link_scopes.specs.Views.{rows_in}
+use Rattle.yv_type_chains.specs.Types.{Follows}
+use Rattle.yv_type_enums.specs.Types.{NamesView, Truth}
+use Rattle.yv_type_enums.specs.TypeNames.{told_of}
+use Rattle.yv_link.specs.LinkedFiles.{truth_in}
 use Rattle.yv_values.specs.Types.{plain_of}
-use Rattle.yv_types.specs.Spaces.{faceted, listed, of_kind}
+use Rattle.yv_types.specs.Spaces.{plain_type, names_type, of_kind}
 use Rattle.yv_types.specs.InnerTables.{FollowsNone, IsBare, IsListed, IsSpace, entry_of, plains}
 use Rattle.yv_types.proofs.Stepping.{bare_by, has_followed, has_out, has_some, if_ok, no_number, row_past, row_read}
 use Rattle.yv_types.proofs.layers.Layers.types_at.Goals as goal
@@ -20,15 +20,15 @@ pub returns-in-Some-clause-space : goal.returns-in-Some-clause-space
 returns-in-Some-clause-space c = λ kept files choice linked layers inside known.
     has_some files (truth_in c.args.linked.now) choice c.args.number (Some (plains c.in_ok-one.field-0)) (plain_of c.in-Some.plain.now ∷ [])
     (ap Some (c.in_ok-one.ensures.types ∙ ap (λ p. p ∷ []) c.in_ok-copy.ensures))
-    (faceted ((c.in-Some.ensures files layers.faceted (plain_of c.in-Some.plain.now)).0 refl))
+    (plain_type ((c.in-Some.ensures files layers.faceted (plain_of c.in-Some.plain.now)).0 refl))
 
 pub returns-in-Some-names-clause-space : goal.returns-in-Some-names-clause-space
 returns-in-Some-names-clause-space c = λ kept files choice linked layers inside known.
-    let told : Told = told_of c.in-Some-names.names.now in
-    let is : IsListed told (plain_of c.in_ok-listed.field-0) = c.in_ok-listed.ensures in
+    let told : NamesView = told_of c.in-Some-names.names.now in
+    let is : IsListed told (plain_of c.in_ok-names_type.field-0) = c.in_ok-names_type.ensures in
     has_some files (truth_in c.args.linked.now) choice c.args.number (Some (plains c.in_ok-one-2.field-0)) (of_kind told.kind is.0 ∷ [])
     (ap Some (c.in_ok-one-2.ensures.types ∙ ap (λ p. p ∷ []) is.1))
-    (listed told is.0 ((c.in-Some-names.ensures files (truth_in c.args.linked.now) layers.listed told).0 refl) is.2 is.3)
+    (names_type told is.0 ((c.in-Some-names.ensures files (truth_in c.args.linked.now) layers.listed told).0 refl) is.2 is.3)
 
 pub returns-in-Some-follows-clause-space : goal.returns-in-Some-follows-clause-space
 returns-in-Some-follows-clause-space c = λ kept. if_ok _ _ c.list_at.result

@@ -5,31 +5,31 @@ use Rattle.serde_json.specs.Data.{Data, Members, array, object}
 use Rattle.serde_json.specs.declared.value.Value.{Value}
 use Rattle.serde_json.proofs.Views.{view-Array, view-Object}
 use Rattle.serde_json.specs.View.{view, items_view, members_view}
-use Rattle.yv_properties.specs.Kinds.{is_data, is_operation}
-use Rattle.yv_properties.specs.declared.kind.NodeKind.TheVariants as kind
+use Rattle.yv_node_definition.specs.Kinds.{is_data, is_operation_or_notification}
+use Rattle.yv_node_definition.specs.declared.kind.NodeKind.TheVariants as kind
 use Rattle.yv_values.specs.Values.{Val}
 use Rattle.yv_nodes.specs.declared.node.NodeId.{NodeId}
 use Rattle.yv_nodes.specs.Rows.{below, rank, row_at, tree_of}
 use Rattle.yv_nodes.specs.Tree.{Tree}
 use Rattle.yv_walk.specs.Context.{members_of}
-use Rattle.yv_walk.specs.Standing.{any, is_there, passes, standing, tree_standing}
-use Rattle.yv_walk.specs.declared.standing.Standing.{Standing}
-use Rattle.yv_leaf_targets.specs.Numbers.{default_case_at}
-use Rattle.yv_references.specs.Findings.{opened}
-use Rattle.yv_references.specs.InUse.{case_scope, in_use, is_number, scope_in}
-use Rattle.yv_references.specs.Meetings.{at, entered, entry_met, found_of, in_container, in_no_object, Meeting, met, object_met, Spot, top}
-use Rattle.yv_references.specs.Place.{Place, step_name}
-use Rattle.yv_references.specs.declared.scope.Scope.{Scope}
-use Rattle.yv_references.specs.declared.scope.Scope.TheVariants.{Always, InCase, InDefault}
+use Rattle.yv_walk.specs.Existence.{any, is_there, passes, existence_of, tree_standing}
+use Rattle.yv_walk.specs.declared.existence.Existence.{Existence}
+use Rattle.yv_node_keys.specs.Numbers.{default_case_at}
+use Rattle.yv_leafref_values.specs.Findings.{open_object}
+use Rattle.yv_leafref_values.specs.InUse.{case_scope, in_use, is_number, scope_in}
+use Rattle.yv_leafref_values.specs.Meetings.{at, count_entered, entry_met, found_of, in_container, in_no_object, Meeting, at_node, object_met, Spot, top}
+use Rattle.yv_leafref_values.specs.Place.{Place, step_name}
+use Rattle.yv_leafref_values.specs.declared.scope.RuleScope.{RuleScope}
+use Rattle.yv_leafref_values.specs.declared.scope.RuleScope.TheVariants.{Always, InCase, InDefault}
 use Rattle.yv_validate.specs.declared.fault.FaultKind.TheVariants.{State}
 use Rattle.yv_validate.specs.Faults.{array_faults, count_faults, end_faults, flaw_if, leafs_of, state_faults, unique_faults}
 use Rattle.yv_validate.specs.InnerMemory.{Remembers, RemembersEach}
-use Rattle.yv_validate.specs.InnerNamed.{is_named, keys_at, uniques_at}
+use Rattle.yv_validate.specs.InnerNames.{is_named, keys_at, uniques_at}
 use Rattle.yv_validate.specs.InnerNotes.{GainsBy, list_tuple, noted_at, tuple_in}
 use Rattle.yv_validate.specs.InnerQuiet.{IsEmptied}
 use Rattle.yv_validate.specs.InnerTrail.{places}
-use Rattle.yv_validate.specs.InnerWalk.{cases_met, children_met, Closes, container_at, data_met, entries_at, Grows, GrowsWith, inside_at, leaf_at, list_at, next_of, node_at, object_at, one_met, ones_met, plain_at, scope_at, spot_at, Told, told, with_node}
-use Rattle.yv_validate.specs.Repeats.{repeated}
+use Rattle.yv_validate.specs.InnerWalk.{cases_met, children_met, Closes, container_at, data_met, entries_at, Grows, GrowsWith, inside_at, leaf_at, list_at, next_of, node_at, object_at, one_met, ones_met, plain_at, scope_at, spot_at, ProgressView, progress_view, with_node}
+use Rattle.yv_validate.specs.Repeats.{repeat_of}
 use Rattle.yv_validate.specs.Values.{leaf_in}
 use Rattle.yv_validate.specs.Work.{tuple_work, uniques_work}
 use Rattle.yv_validate.proofs.Beneath.{AreKids, ones_drop, ones_start, other_kind, rank_is, split_at}
@@ -55,8 +55,8 @@ children-loop-child-init t c =
     let kids = c.children-child-items in
     let cs = kids.result.now in
     let ms = members_of c.args.context.now in
-    let of : ℕ → Tree → Scope = λ at u. c.args.scope in
-    let start : Told = told c.args.progress.now in
+    let of : ℕ → Tree → RuleScope = λ at u. c.args.scope in
+    let start : ProgressView = progress_view c.args.progress.now in
     let are : AreKids s p cs = record {
       same = kids.ensures.value;
       each = kids.ensures.each;
@@ -77,25 +77,25 @@ children-loop-child-preserved t c =
     let p = c.args.parent in
     let cs = c.children-child-items.result.now in
     let ms = members_of c.args.context.now in
-    let of : ℕ → Tree → Scope = λ at u. c.args.scope in
+    let of : ℕ → Tree → RuleScope = λ at u. c.args.scope in
     let i = c.loop-child.child-index in
     let d : NodeId = record { 0 = 0 } in
     let n : NodeId = slice_index_or cs i d in
     let lt = c.loop-child-test.true in
     let left = drop i cs in
     let rest = drop (i + 1) cs in
-    let start : Told = told c.args.progress.now in
-    let old : Told = told c.loop-child.progress in
-    let new : Told = told c.meet.new.progress in
+    let start : ProgressView = progress_view c.args.progress.now in
+    let old : ProgressView = progress_view c.loop-child.progress in
+    let new : ProgressView = progress_view c.meet.new.progress in
     record {
       grows = λ outer entry x later.
           let spot : Spot = spot_at s c.args.path.now c.args.position outer entry in
           let one : List Meeting = one_met k s (scope_at k s c.args.scope n) n ms spot (next_of old) in
           let grows : Grows k s old new one = c.in_ok-meet.ensures.grows outer entry in
-          turn c.met_behind.ensures k s start old new one (ones_met k s of rest ms spot (next_of old + entered one)) (ones_met k s of left ms spot (next_of old))
+          turn c.met_behind.ensures k s start old new one (ones_met k s of rest ms spot (next_of old + count_entered one)) (ones_met k s of left ms spot (next_of old))
           (children_met k s c.args.scope p ms spot (next_of start)) grows (ones_drop k s of spot (next_of old) cs i d ms lt)
           (c.loop-child.invariant.grows outer entry) x
-          (subst (λ (m : ℕ). Grows k s new x (ones_met k s of rest ms spot m)) (next_behind c.counted.ensures k s old new one grows) later);
+          (subst (λ (m : ℕ). Grows k s new x (ones_met k s of rest ms spot m)) (next_behind c.kept_objects_are_entered.ensures k s old new one grows) later);
       notes = λ spot next less. notes_turn k s of n left rest ms spot c.loop-child.notes c.meet.new.notes c.args.notes.now (children_met k s c.args.scope p ms spot next)
           (split_at cs i d lt) (c.loop-child.invariant.notes spot next less) c.in_ok-meet.ensures.notes;
     }
@@ -107,7 +107,7 @@ children-returns-clause-grows t c =
     let ms = members_of c.args.context.now in
     let cs = c.children-child-items.result.now in
     let i = c.loop-child.child-index in
-    let now : Told = told c.loop-child.progress in
+    let now : ProgressView = progress_view c.loop-child.progress in
     let past : drop i cs ≡ [] = drop_all i cs c.loop-child-test.false in
     λ outer entry. c.loop-child.invariant.grows outer entry now
     (subst (λ (ns : List NodeId). Grows k s now now (ones_met k s (λ at u. c.args.scope) ns ms (spot_at s c.args.path.now c.args.position outer entry) (next_of now)))
@@ -134,7 +134,7 @@ cases-loop-child-init t c =
     let cs = kids.result.now in
     let ms = members_of c.args.context.now in
     let of = case_scope s p (rank p) (below s p) ms in
-    let start : Told = told c.args.progress.now in
+    let start : ProgressView = progress_view c.args.progress.now in
     let le : rank p ≤ length s.nodes = omega (arith, rank_is s p kids.ensures.sound c.requires.node) in
     let are : AreKids s p cs = record {
       same = kids.ensures.value;
@@ -163,27 +163,27 @@ cases-loop-child-preserved t c =
     let lt = c.loop-child-test.true in
     let left = drop i cs in
     let rest = drop (i + 1) cs in
-    let start : Told = told c.args.progress.now in
-    let old : Told = told c.loop-child.progress in
-    let new : Told = told c.meet.new.progress in
+    let start : ProgressView = progress_view c.args.progress.now in
+    let old : ProgressView = progress_view c.loop-child.progress in
+    let new : ProgressView = progress_view c.meet.new.progress in
     let meets = meets_child s c.args.context.now p cs i d c.requires.meets kids.ensures.value lt in
-    let those : c.standing-those.result ≡ tree_standing n.0 (tree_of s n) ms = c.standing-those.ensures meets.context meets.stands in
+    let those : c.existence_of-those.result ≡ tree_standing n.0 (tree_of s n) ms = c.existence_of-those.ensures meets.context meets.stands in
     let scope : c.case_scope-scope.result ≡ of n.0 (tree_of s n) =
-    scope_is (any (standing (rank p) (below s p) ms)) (default_case_at s.nodes p) n.0 (tree_standing n.0 (tree_of s n) ms) c.fallback-fallback.result c.case_scope-scope.result
-    c.fallback-fallback.ensures (c.case_scope-scope.ensures ∙ ap (λ (x : Standing). cond (is_number c.fallback-fallback.result n.0) InDefault (InCase x)) those) in
+    scope_is (any (existence_of (rank p) (below s p) ms)) (default_case_at s.nodes p) n.0 (tree_standing n.0 (tree_of s n) ms) c.fallback-fallback.result c.case_scope-scope.result
+    c.fallback-fallback.ensures (c.case_scope-scope.ensures ∙ ap (λ (x : Existence). cond (is_number c.fallback-fallback.result n.0) InDefault (InCase x)) those) in
     record {
       grows = λ outer entry x later.
           let spot : Spot = spot_at s c.args.path.now c.args.position outer entry in
-          let at_scope : Scope → List Meeting = λ y. one_met k s (scope_at k s y n) n ms spot (next_of old) in
+          let at_scope : RuleScope → List Meeting = λ y. one_met k s (scope_at k s y n) n ms spot (next_of old) in
           let one : List Meeting = at_scope (of n.0 (tree_of s n)) in
           let grows : Grows k s old new one = grows_as k s old new (at_scope c.case_scope-scope.result) one (ap at_scope scope) (c.in_ok-meet.ensures.grows outer entry) in
-          turn c.met_behind.ensures k s start old new one (ones_met k s of rest ms spot (next_of old + entered one)) (ones_met k s of left ms spot (next_of old))
+          turn c.met_behind.ensures k s start old new one (ones_met k s of rest ms spot (next_of old + count_entered one)) (ones_met k s of left ms spot (next_of old))
           (cases_met k s p ms spot (next_of start)) grows (ones_drop k s of spot (next_of old) cs i d ms lt)
           (c.loop-child.invariant.grows outer entry) x
-          (subst (λ (m : ℕ). Grows k s new x (ones_met k s of rest ms spot m)) (next_behind c.counted.ensures k s old new one grows) later);
+          (subst (λ (m : ℕ). Grows k s new x (ones_met k s of rest ms spot m)) (next_behind c.kept_objects_are_entered.ensures k s old new one grows) later);
       notes = λ spot next less. notes_turn k s of n left rest ms spot c.loop-child.notes c.meet.new.notes c.args.notes.now (cases_met k s p ms spot next)
           (split_at cs i d lt) (c.loop-child.invariant.notes spot next less)
-          (subst (λ (y : Scope). GainsBy s c.loop-child.notes c.meet.new.notes (one_met k s (scope_at k s y n) n ms)) scope c.in_ok-meet.ensures.notes);
+          (subst (λ (y : RuleScope). GainsBy s c.loop-child.notes c.meet.new.notes (one_met k s (scope_at k s y n) n ms)) scope c.in_ok-meet.ensures.notes);
     }
 
 pub cases-returns-clause-grows : goal.cases-returns-clause-grows
@@ -195,7 +195,7 @@ cases-returns-clause-grows t c =
     let of = case_scope s p (rank p) (below s p) ms in
     let cs = c.children-child-items.result.now in
     let i = c.loop-child.child-index in
-    let now : Told = told c.loop-child.progress in
+    let now : ProgressView = progress_view c.loop-child.progress in
     let past : drop i cs ≡ [] = drop_all i cs c.loop-child-test.false in
     λ outer entry. c.loop-child.invariant.grows outer entry now
     (subst (λ (ns : List NodeId). Grows k s now now (ones_met k s of ns ms (spot_at s c.args.path.now c.args.position outer entry) (next_of now)))
@@ -224,9 +224,9 @@ object-returns-clause-grows t c =
     let ms = members_view c.args.members.now.entries in
     let number = c.in_ok-number.number in
     let begun = c.enter-2.new.self in
-    let start : Told = record { faults = c.enter.new.faults.items; found = begun; steps = c.enter.new.meter } in
-    let walked : Told = told c.inside.new.progress in
-    λ outer entry around. object_grows c.object_met.ensures k s id c.args.item path outer entry c.args.position number ms (told c.args.progress.now) begun
+    let start : ProgressView = record { faults = c.enter.new.faults.items; found = begun; steps = c.enter.new.meter } in
+    let walked : ProgressView = progress_view c.inside.new.progress in
+    λ outer entry around. object_grows c.object_met.ensures k s id c.args.item path outer entry c.args.position number ms (progress_view c.args.progress.now) begun
     c.enter.new.faults.items c.enter.new.meter walked c.leave.new.self around c.in_ok-number.ensures.number
     c.in_ok-number.ensures.positions c.in_ok-number.ensures.indexes c.in_ok-number.ensures.uses c.in_ok-number.ensures.notes
     c.in_ok-context.ensures.faults c.in_ok-context.ensures.steps
@@ -246,7 +246,7 @@ inside-returns-in-Some-clause-grows t c =
     let s = c.args.self.now.schema.now in
     let p = c.args.parent in
     let ms = members_of c.args.context.now in
-    let old : Told = told c.args.progress.now in
+    let old : ProgressView = progress_view c.args.progress.now in
     let is : IsEmptied s p ms c.in-Some.steps = subst (λ (ds : Members). IsEmptied s p ds c.in-Some.steps) (sym c.requires.members) c.in-Some.ensures in
     λ outer entry.
     let spot : Spot = spot_at s c.args.path.now c.args.position outer entry in
@@ -282,17 +282,17 @@ entries-loop-index-preserved t c =
     let has = c.in_ok-notes.ensures.tuples in
     let keys : f leafs.keys d ≡ c.in_ok-tuple.tuple = sym has.keys
     ∙ ap (tuple_in s c.in_ok-notes.notes) (sym c.keys-leafs.ensures) ∙ sym c.in_ok-tuple.ensures in
-    let stood = c.in_ok-first.ensures.told in
+    let stood = c.in_ok-first.ensures.tells in
     let which = c.in_ok-first.first in
-    let same : which ≡ repeated (f leafs.keys) done d = stood.same (f leafs.keys) done d c.loop-index.invariant.keys keys in
+    let same : which ≡ repeat_of (f leafs.keys) done d = stood.same (f leafs.keys) done d c.loop-index.invariant.keys keys in
     let earlier : map view (take i c.deref.result.now) ≡ done = ap (λ (ys : List Value). map view (take i ys)) c.deref.ensures.value in
     let first : rank id ≡ id.0 + 1 = rank_is s id c.node-node.ensures.sound c.requires.node in
     let many : length done ≡ i = many_before xs i lt in
     let place : i + 1 ≡ length done + 1 = ap (λ m. m + 1) (sym many) in
-    let start : Told = told c.args.progress.now in
-    let old : Told = told c.loop-index.progress in
-    let mid : Told = told c.entry.new.progress in
-    let new : Told = record { faults = c.end_uniques.new.faults.items; found = c.entry.new.progress.found; steps = c.end_uniques.new.meter } in
+    let start : ProgressView = progress_view c.args.progress.now in
+    let old : ProgressView = progress_view c.loop-index.progress in
+    let mid : ProgressView = progress_view c.entry.new.progress in
+    let new : ProgressView = record { faults = c.end_uniques.new.faults.items; found = c.entry.new.progress.found; steps = c.end_uniques.new.meter } in
     let here : ℕ → List Place = λ m. places s c.args.path.now ++ record { member = step_name l; item = Some m } ∷ [] in
     let uniques : c.end_uniques.new.faults.items ≡ c.tell_duplicate.new.faults.items ++ unique_faults f (here (i + 1)) 1 leafs.uniques done d =
     subst (λ (ds : List Data). c.end_uniques.new.faults.items ≡ c.tell_duplicate.new.faults.items ++ unique_faults f (here (i + 1)) 1 leafs.uniques ds d) earlier (c.in_ok-end_uniques.ensures.faults d has) in
@@ -310,13 +310,13 @@ entries-loop-index-preserved t c =
           (c.in_ok-first.ensures.steps ∙ ap (λ (o : Option (List Val)). min (mid.steps + tuple_work o) 18446744073709551615) (sym keys))
           (c.in_ok-end_uniques.ensures.steps d has))) in
           turn c.met_behind.ensures k s start old new one
-          (entries_at k s id (map view (take (i + 1) xs)) (items_view (drop (i + 1) xs)) spot (next_of old + entered one))
+          (entries_at k s id (map view (take (i + 1) xs)) (items_view (drop (i + 1) xs)) spot (next_of old + count_entered one))
           (entries_at k s id done (items_view (drop i xs)) spot (next_of old)) (entries_at k s id [] (items_view xs) spot (next_of start))
           grows (entries_split k s id spot (next_of old) xs i x lt is) (c.loop-index.invariant.grows outer entry) y
           (subst (λ (m : ℕ). Grows k s new y (entries_at k s id (map view (take (i + 1) xs)) (items_view (drop (i + 1) xs)) spot m))
-          (next_behind c.counted.ensures k s old new one grows) later);
+          (next_behind c.kept_objects_are_entered.ensures k s old new one grows) later);
       keys = subst (Remembers c.stood_before.new.kept (f leafs.keys)) (sym (one_more xs i x lt is)) (stood.next (f leafs.keys) done d (sym place) c.loop-index.invariant.keys keys);
-      uniques = subst (RemembersEach c.end_uniques.new.kept.items f leafs.uniques) (ap (λ (ds : List Data). ds ++ d ∷ []) earlier ∙ sym (one_more xs i x lt is)) (c.in_ok-end_uniques.ensures.kept d has);
+      uniques = subst (RemembersEach c.end_uniques.new.kept.items f leafs.uniques) (ap (λ (ds : List Data). ds ++ d ∷ []) earlier ∙ sym (one_more xs i x lt is)) (c.in_ok-end_uniques.ensures.keeps d has);
     }
 
 pub entries-returns : goal.entries-returns
@@ -326,7 +326,7 @@ entries-returns t c =
     let id = c.args.id in
     let xs = c.args.items.now.items in
     let i = c.loop-index.index in
-    let now : Told = told c.loop-index.progress in
+    let now : ProgressView = progress_view c.loop-index.progress in
     let done = map view (take i xs) in
     let le : length xs ≤ i = subst (λ (ys : List Value). length ys ≤ i) c.deref-item-items.ensures.value (omega (arith, c.loop-index-test.false)) in
     record {
@@ -359,10 +359,10 @@ entry-returns-in_ok-object-in-Object-clause-grows t c =
     let k = c.args.self.now.kind in
     let s = c.args.self.now.schema.now in
     let id = c.args.id in
-    let old : Told = told c.args.progress.now in
+    let old : ProgressView = progress_view c.args.progress.now in
     let ms = members_view c.in-Object.members.entries in
     let doc : view c.args.item.now ≡ object ms = ap view c.in-Object.is ∙ view-Object c.in-Object.members in
-    λ outer. subst (λ (d : Data). Grows k s old (told c.object.new.progress) (object_at k s id (Some c.args.place) c.args.here.now (c.args.position ∷ outer) (next_of old) (next_of old) d))
+    λ outer. subst (λ (d : Data). Grows k s old (progress_view c.object.new.progress) (object_at k s id (Some c.args.place) c.args.here.now (c.args.position ∷ outer) (next_of old) (next_of old) d))
     (sym doc) (c.in_ok-object-in-Object.ensures.grows (c.args.position ∷ outer) (next_of old) refl)
 
 -- ---- containers
@@ -389,7 +389,7 @@ container-returns-then-presence-clause-grows t c =
     let k = c.args.self.now.kind in
     let s = c.args.self.now.schema.now in
     let id = c.args.id in
-    let old : Told = told c.args.progress.now in
+    let old : ProgressView = progress_view c.args.progress.now in
     let found = option_map (λ (v : Bor Value). view v.now) c.args.value in
     let none : found ≡ None = ap (option_map (λ (v : Bor Value). view v.now)) c.in-None.is in
     let presence = sym (ap (λ r. r.label.defined.has_presence) c.node-node.ensures.value) ∙ sym c.presence.ensures ∙ c.if-presence.true in
@@ -411,8 +411,8 @@ container-returns-else-presence-clause-grows t c =
     let k = c.args.self.now.kind in
     let s = c.args.self.now.schema.now in
     let id = c.args.id in
-    let old : Told = told c.args.progress.now in
-    let new : Told = told c.children.new.progress in
+    let old : ProgressView = progress_view c.args.progress.now in
+    let new : ProgressView = progress_view c.children.new.progress in
     let found = option_map (λ (v : Bor Value). view v.now) c.args.value in
     let none : found ≡ None = ap (option_map (λ (v : Bor Value). view v.now)) c.in-None.is in
     let plain = sym (ap (λ r. r.label.defined.has_presence) c.node-node.ensures.value) ∙ sym c.presence.ensures ∙ c.if-presence.false in
@@ -446,8 +446,8 @@ container-returns-in-Object-clause-grows t c =
     let k = c.args.self.now.kind in
     let s = c.args.self.now.schema.now in
     let id = c.args.id in
-    let old : Told = told c.args.progress.now in
-    let new : Told = told c.object.new.progress in
+    let old : ProgressView = progress_view c.args.progress.now in
+    let new : ProgressView = progress_view c.object.new.progress in
     let found = option_map (λ (v : Bor Value). view v.now) c.args.value in
     let ms = members_view c.in-Object.members.entries in
     let some : found ≡ Some (object ms) = ap (option_map (λ (v : Bor Value). view v.now)) c.in-Some.is
@@ -481,8 +481,8 @@ data-returns-in-Container-clause-grows t c =
     let k = c.args.self.now.kind in
     let s = c.args.self.now.schema.now in
     let id = c.args.id in
-    let old : Told = told c.args.progress.now in
-    let new : Told = told c.container.new.progress in
+    let old : ProgressView = progress_view c.args.progress.now in
+    let new : ProgressView = progress_view c.container.new.progress in
     let found = option_map (λ (v : Bor Value). view v.now) c.args.value in
     let is : (row_at s id).label.defined.kind ≡ kind.Container = sym (ap (λ r. r.label.defined.kind) c.node-node.ensures.value) ∙ sym c.kind.ensures ∙ c.in-Container.is in
     let asked = sym c.is_asked.ensures ∙ c.if-not-is_asked.false in
@@ -512,8 +512,8 @@ data-returns-in-Leaf-clause-grows t c =
     let k = c.args.self.now.kind in
     let s = c.args.self.now.schema.now in
     let id = c.args.id in
-    let old : Told = told c.args.progress.now in
-    let new : Told = told c.leaf.new.progress in
+    let old : ProgressView = progress_view c.args.progress.now in
+    let new : ProgressView = progress_view c.leaf.new.progress in
     let found = option_map (λ (v : Bor Value). view v.now) c.args.value in
     let is : (row_at s id).label.defined.kind ≡ kind.Leaf = sym (ap (λ r. r.label.defined.kind) c.node-node.ensures.value) ∙ sym c.kind.ensures ∙ c.in-Leaf.is in
     let asked = sym c.is_asked.ensures ∙ c.if-not-is_asked.false in
@@ -534,7 +534,7 @@ data-returns-in-Leaf-clause-notes t c =
     on_ok_weaker c.leaf.result
     (λ h. λ ms writes. gains_met s c.args.notes.now c.leaf.new.notes (with_node (leaf_at s id found) (node_at s c.args.scope id ms))
     (with_node (data_met k s c.args.scope id found) (node_at s c.args.scope id ms))
-    (λ spot next. ap (λ (xs : List Meeting). xs ++ met (node_at s c.args.scope id ms spot) ∷ []) (data_asked k s c.args.scope id found spot next kind.Leaf is asked)) (h ms writes))
+    (λ spot next. ap (λ (xs : List Meeting). xs ++ at_node (node_at s c.args.scope id ms spot) ∷ []) (data_asked k s c.args.scope id found spot next kind.Leaf is asked)) (h ms writes))
     c.leaf.ensures.notes
 
 pub data-returns-in-LeafList-clause-grows : goal.data-returns-in-LeafList-clause-grows
@@ -542,8 +542,8 @@ data-returns-in-LeafList-clause-grows t c =
     let k = c.args.self.now.kind in
     let s = c.args.self.now.schema.now in
     let id = c.args.id in
-    let old : Told = told c.args.progress.now in
-    let new : Told = told c.leaf_list.new.progress in
+    let old : ProgressView = progress_view c.args.progress.now in
+    let new : ProgressView = progress_view c.leaf_list.new.progress in
     let found = option_map (λ (v : Bor Value). view v.now) c.args.value in
     let is : (row_at s id).label.defined.kind ≡ kind.LeafList = sym (ap (λ r. r.label.defined.kind) c.node-node.ensures.value) ∙ sym c.kind.ensures ∙ c.in-LeafList.is in
     let asked = sym c.is_asked.ensures ∙ c.if-not-is_asked.false in
@@ -569,8 +569,8 @@ data-returns-in-List-clause-grows t c =
     let k = c.args.self.now.kind in
     let s = c.args.self.now.schema.now in
     let id = c.args.id in
-    let old : Told = told c.args.progress.now in
-    let new : Told = told c.list.new.progress in
+    let old : ProgressView = progress_view c.args.progress.now in
+    let new : ProgressView = progress_view c.list.new.progress in
     let found = option_map (λ (v : Bor Value). view v.now) c.args.value in
     let is : (row_at s id).label.defined.kind ≡ kind.List = sym (ap (λ r. r.label.defined.kind) c.node-node.ensures.value) ∙ sym c.kind.ensures ∙ c.in-List.is in
     let asked = sym c.is_asked.ensures ∙ c.if-not-is_asked.false in
@@ -595,7 +595,7 @@ data-returns-in-Anydata-clause-grows t c =
     let k = c.args.self.now.kind in
     let s = c.args.self.now.schema.now in
     let id = c.args.id in
-    let old : Told = told c.args.progress.now in
+    let old : ProgressView = progress_view c.args.progress.now in
     let found = option_map (λ (v : Bor Value). view v.now) c.args.value in
     let is : (row_at s id).label.defined.kind ≡ kind.Anydata = sym (ap (λ r. r.label.defined.kind) c.node-node.ensures.value) ∙ sym c.kind.ensures ∙ c.in-Anydata.is in
     let asked = sym c.is_asked.ensures ∙ c.if-not-is_asked.false in
@@ -620,7 +620,7 @@ data-returns-in-Anyxml-clause-grows t c =
     let k = c.args.self.now.kind in
     let s = c.args.self.now.schema.now in
     let id = c.args.id in
-    let old : Told = told c.args.progress.now in
+    let old : ProgressView = progress_view c.args.progress.now in
     let found = option_map (λ (v : Bor Value). view v.now) c.args.value in
     let is : (row_at s id).label.defined.kind ≡ kind.Anyxml = sym (ap (λ r. r.label.defined.kind) c.node-node.ensures.value) ∙ sym c.kind.ensures ∙ c.in-Anyxml.is in
     let asked = sym c.is_asked.ensures ∙ c.if-not-is_asked.false in
@@ -654,7 +654,7 @@ state-returns-in-Some-clause-grows t c =
     let k = c.args.self.now.kind in
     let s = c.args.self.now.schema.now in
     let id = c.args.id in
-    let old : Told = told c.args.progress.now in
+    let old : ProgressView = progress_view c.args.progress.now in
     let found = option_map (λ (v : Bor Value). view v.now) c.args.value in
     let d = view c.in-Some.written.now in
     let some : found ≡ Some d = ap (option_map (λ (v : Bor Value). view v.now)) c.in-Some.is in
@@ -666,8 +666,8 @@ state-returns-in-Some-clause-grows t c =
     let m = node_at s c.args.scope id ms spot in
     let own : c.tell_if.new.faults.items ≡ old.faults ++ state_faults m.label.defined.kind m found =
     h ∙ ap (λ b. old.faults ++ flaw_if b State (at spot m.label None)) there ∙ ap (λ (o : Option Data). old.faults ++ state_faults m.label.defined.kind m o) (sym some) in
-    state_closes c.default_met.ensures c.nothing_met.ensures c.met_behind.ensures k s c.args.scope id ms found spot (next_of old) old _ [] c.requires.unasked writes
-    (data_left k s c.args.scope id d spot (next_of old) c.requires.«data» c.requires.unasked ∙ ap (λ (o : Option Data). data_met k s c.args.scope id o spot (next_of old)) (sym some))
+    state_closes c.default_met.ensures c.nothing_met.ensures c.met_behind.ensures k s c.args.scope id ms found spot (next_of old) old _ [] c.requires.nothing_asked writes
+    (data_left k s c.args.scope id d spot (next_of old) c.requires.«data» c.requires.nothing_asked ∙ ap (λ (o : Option Data). data_met k s c.args.scope id o spot (next_of old)) (sym some))
     (grows_only c.nothing_met.ensures k s old c.tell_if.new.faults.items _ own))
     c.tell_if.ensures
 
@@ -682,9 +682,9 @@ state-returns-in-Some-clause-notes t c =
     let some : found ≡ Some d = ap (option_map (λ (v : Bor Value). view v.now)) c.in-Some.is in
     on_ok_weaker c.tell_if.result
     (λ h. λ ms writes. gains_behind s c.args.notes.now c.args.notes.now (data_met k s c.args.scope id found) (node_at s c.args.scope id ms)
-    (λ spot. in_use_unasked l.defined.kind l c.args.scope (found_of (node_at s c.args.scope id ms spot)) c.requires.unasked)
+    (λ spot. in_use_unasked l.defined.kind l c.args.scope (found_of (node_at s c.args.scope id ms spot)) c.requires.nothing_asked)
     (gains_none s c.args.notes.now (data_met k s c.args.scope id found)
-    (λ spot next. ap (λ (o : Option Data). data_met k s c.args.scope id o spot next) some ∙ sym (data_left k s c.args.scope id d spot next c.requires.«data» c.requires.unasked))))
+    (λ spot next. ap (λ (o : Option Data). data_met k s c.args.scope id o spot next) some ∙ sym (data_left k s c.args.scope id d spot next c.requires.«data» c.requires.nothing_asked))))
     c.tell_if.ensures
 
 pub state-returns-in-Container-clause-grows : goal.state-returns-in-Container-clause-grows
@@ -692,8 +692,8 @@ state-returns-in-Container-clause-grows t c =
     let k = c.args.self.now.kind in
     let s = c.args.self.now.schema.now in
     let id = c.args.id in
-    let old : Told = told c.args.progress.now in
-    let new : Told = told c.container.new.progress in
+    let old : ProgressView = progress_view c.args.progress.now in
+    let new : ProgressView = progress_view c.container.new.progress in
     let found = option_map (λ (v : Bor Value). view v.now) c.args.value in
     let none : found ≡ None = ap (option_map (λ (v : Bor Value). view v.now)) c.in-None.is in
     let is : (row_at s id).label.defined.kind ≡ kind.Container = sym (c.kind-kind.ensures ∙ ap (λ r. r.label.defined.kind) c.node.ensures.value) ∙ c.in-Container.is in
@@ -702,7 +702,7 @@ state-returns-in-Container-clause-grows t c =
     let spot : Spot = spot_at s c.args.path.now c.args.position outer entry in
     let m = node_at s c.args.scope id ms spot in
     state_closes c.default_met.ensures c.nothing_met.ensures c.met_behind.ensures k s c.args.scope id ms found spot (next_of old) old new
-    (container_at k s c.args.scope id None spot (next_of old)) c.requires.unasked writes
+    (container_at k s c.args.scope id None spot (next_of old)) c.requires.nothing_asked writes
     (data_absent k s c.args.scope id spot (next_of old) kind.Container is ∙ ap (λ (o : Option Data). data_met k s c.args.scope id o spot (next_of old)) (sym none))
     (subst (λ (o : Option Data). GrowsWith k s old new (container_at k s c.args.scope id None spot (next_of old)) (state_faults m.label.defined.kind m o)) (sym none)
     (grows_alone k s old new _ (h outer entry))))
@@ -719,7 +719,7 @@ state-returns-in-Container-clause-notes t c =
     let is : l.defined.kind ≡ kind.Container = sym (c.kind-kind.ensures ∙ ap (λ r. r.label.defined.kind) c.node.ensures.value) ∙ c.in-Container.is in
     on_ok_weaker c.container.result
     (λ h. λ ms writes. gains_behind s c.args.notes.now c.container.new.notes (data_met k s c.args.scope id found) (node_at s c.args.scope id ms)
-    (λ spot. in_use_unasked l.defined.kind l c.args.scope (found_of (node_at s c.args.scope id ms spot)) c.requires.unasked)
+    (λ spot. in_use_unasked l.defined.kind l c.args.scope (found_of (node_at s c.args.scope id ms spot)) c.requires.nothing_asked)
     (gains_met s c.args.notes.now c.container.new.notes (container_at k s c.args.scope id None) (data_met k s c.args.scope id found)
     (λ spot next. data_absent k s c.args.scope id spot next kind.Container is ∙ ap (λ (o : Option Data). data_met k s c.args.scope id o spot next) (sym none)) h))
     c.container.ensures.notes
@@ -730,7 +730,7 @@ state-returns-in_default t c =
     let s = c.args.self.now.schema.now in
     let id = c.args.id in
     let l = (row_at s id).label in
-    let old : Told = told c.args.progress.now in
+    let old : ProgressView = progress_view c.args.progress.now in
     let found = option_map (λ (v : Bor Value). view v.now) c.args.value in
     let none : found ≡ None = ap (option_map (λ (v : Bor Value). view v.now)) c.in-None.is in
     let other : l.defined.kind ≡ kind.Container → ⊥ = λ e. c.in_default.not-Container (c.kind-kind.ensures ∙ ap (λ r. r.label.defined.kind) c.node.ensures.value ∙ e) in
@@ -738,12 +738,12 @@ state-returns-in_default t c =
       grows = λ ms writes outer entry.
           let spot : Spot = spot_at s c.args.path.now c.args.position outer entry in
           let m = node_at s c.args.scope id ms spot in
-          state_closes c.default_met.ensures c.nothing_met.ensures c.met_behind.ensures k s c.args.scope id ms found spot (next_of old) old old [] c.requires.unasked writes
+          state_closes c.default_met.ensures c.nothing_met.ensures c.met_behind.ensures k s c.args.scope id ms found spot (next_of old) old old [] c.requires.nothing_asked writes
           (data_nothing k s c.args.scope id spot (next_of old) c.requires.«data» other ∙ ap (λ (o : Option Data). data_met k s c.args.scope id o spot (next_of old)) (sym none))
           (subst (λ (o : Option Data). GrowsWith k s old old [] (state_faults m.label.defined.kind m o)) (sym none)
           (grows_alone k s old old [] (grows_nothing c.nothing_met.ensures k s old)));
       notes = λ ms writes. gains_behind s c.args.notes.now c.args.notes.now (data_met k s c.args.scope id found) (node_at s c.args.scope id ms)
-          (λ spot. in_use_unasked l.defined.kind l c.args.scope (found_of (node_at s c.args.scope id ms spot)) c.requires.unasked)
+          (λ spot. in_use_unasked l.defined.kind l c.args.scope (found_of (node_at s c.args.scope id ms spot)) c.requires.nothing_asked)
           (gains_none s c.args.notes.now (data_met k s c.args.scope id found)
           (λ spot next. ap (λ (o : Option Data). data_met k s c.args.scope id o spot next) none ∙ sym (data_nothing k s c.args.scope id spot next c.requires.«data» other)));
     }
@@ -756,8 +756,8 @@ choice-returns-clause-grows t c =
     let s = c.args.self.now.schema.now in
     let id = c.args.id in
     let ms = members_of c.args.context.now in
-    let old : Told = told c.args.progress.now in
-    let mid : Told = told c.cases.new.progress in
+    let old : ProgressView = progress_view c.args.progress.now in
+    let mid : ProgressView = progress_view c.cases.new.progress in
     let first : rank id ≡ id.0 + 1 = rank_is s id c.node-node.ensures.sound c.requires.node in
     let passed : passes s id ≡ true = choice_passes s id c.node-node.ensures.sound c.requires.node c.requires.kind in
     on_ok_weaker c.end_choice.result
@@ -776,7 +776,7 @@ meet-returns-in-Some-clause-grows t c =
     let s = c.args.self.now.schema.now in
     let id = c.args.id in
     let ms = members_of c.args.context.now in
-    let old : Told = told c.args.progress.now in
+    let old : ProgressView = progress_view c.args.progress.now in
     let scope = scope_at k s c.args.scope id in
     λ outer entry.
     let spot : Spot = spot_at s c.args.path.now c.args.position outer entry in
@@ -795,26 +795,26 @@ meet-returns-in-Some-clause-notes t c =
 
 -- ---- nodes
 
-pub node-returns-then-is_operation-clause-grows : goal.node-returns-then-is_operation-clause-grows
-node-returns-then-is_operation-clause-grows t c =
+pub node-returns-then-is_operation_or_notification-clause-grows : goal.node-returns-then-is_operation_or_notification-clause-grows
+node-returns-then-is_operation_or_notification-clause-grows t c =
     let k = c.args.self.now.kind in
     let s = c.args.self.now.schema.now in
     let id = c.args.id in
     let ms = members_of c.args.context.now in
-    let old : Told = told c.args.progress.now in
+    let old : ProgressView = progress_view c.args.progress.now in
     let is : c.kind-kind.result ≡ (row_at s id).label.defined.kind = c.kind-kind.ensures ∙ ap (λ r. r.label.defined.kind) c.node-node.ensures.value in
-    let op = sym (ap is_operation is) ∙ sym c.is_operation.ensures ∙ c.if-is_operation.true in
+    let op = sym (ap is_operation_or_notification is) ∙ sym c.is_operation_or_notification.ensures ∙ c.if-is_operation_or_notification.true in
     λ outer entry. grows_as k s old old [] _ (sym (at_operation k s (scope_at k s c.args.scope id) id ms (spot_at s c.args.path.now c.args.position outer entry) (next_of old) op))
     (grows_nothing c.nothing_met.ensures k s old)
 
-pub node-returns-then-is_operation-clause-notes : goal.node-returns-then-is_operation-clause-notes
-node-returns-then-is_operation-clause-notes t c =
+pub node-returns-then-is_operation_or_notification-clause-notes : goal.node-returns-then-is_operation_or_notification-clause-notes
+node-returns-then-is_operation_or_notification-clause-notes t c =
     let k = c.args.self.now.kind in
     let s = c.args.self.now.schema.now in
     let id = c.args.id in
     let ms = members_of c.args.context.now in
     let is : c.kind-kind.result ≡ (row_at s id).label.defined.kind = c.kind-kind.ensures ∙ ap (λ r. r.label.defined.kind) c.node-node.ensures.value in
-    let op = sym (ap is_operation is) ∙ sym c.is_operation.ensures ∙ c.if-is_operation.true in
+    let op = sym (ap is_operation_or_notification is) ∙ sym c.is_operation_or_notification.ensures ∙ c.if-is_operation_or_notification.true in
     gains_none s c.args.notes.now (one_met k s (scope_at k s c.args.scope id) id ms) (λ spot next. at_operation k s (scope_at k s c.args.scope id) id ms spot next op)
 
 pub node-returns-then-is_data-clause-grows : goal.node-returns-then-is_data-clause-grows
@@ -823,21 +823,21 @@ node-returns-then-is_data-clause-grows t c =
     let s = c.args.self.now.schema.now in
     let id = c.args.id in
     let ms = members_of c.args.context.now in
-    let old : Told = told c.args.progress.now in
-    let new : Told = told c.«data».new.progress in
+    let old : ProgressView = progress_view c.args.progress.now in
+    let new : ProgressView = progress_view c.«data».new.progress in
     let found = option_map (λ (v : Bor Value). view v.now) c.value-value.result in
     let is : c.kind-kind.result ≡ (row_at s id).label.defined.kind = c.kind-kind.ensures ∙ ap (λ r. r.label.defined.kind) c.node-node.ensures.value in
-    let plain = sym (ap is_operation is) ∙ sym c.is_operation.ensures ∙ c.if-is_operation.false in
+    let plain = sym (ap is_operation_or_notification is) ∙ sym c.is_operation_or_notification.ensures ∙ c.if-is_operation_or_notification.false in
     let one = sym (ap is_data is) ∙ sym c.is_data.ensures ∙ c.if-is_data.true in
     let writes = sym (c.value-value.ensures s c.requires.meets.context c.requires.meets.stands one) in
-    let scope : c.narrowed-scope.result ≡ scope_at k s c.args.scope id = c.narrowed-scope.ensures
+    let scope : c.narrow-scope.result ≡ scope_at k s c.args.scope id = c.narrow-scope.ensures
     ∙ ap (λ b. scope_in k b c.args.scope) (c.config.ensures ∙ ap (λ r. r.label.is_config) c.node-node.ensures.value) in
     on_ok_weaker c.«data».result
     (λ h. λ outer entry.
     let spot : Spot = spot_at s c.args.path.now c.args.position outer entry in
-    subst (λ (y : Scope). Grows k s old new (one_met k s y id ms spot (next_of old))) scope
-    (grows_as k s old new _ _ (at_data k s c.narrowed-scope.result id ms found spot (next_of old) plain one writes)
-    (visited k s old c.visit.new.meter new _ (node_at s c.narrowed-scope.result id ms spot) c.visit.ensures (h ms writes outer entry))))
+    subst (λ (y : RuleScope). Grows k s old new (one_met k s y id ms spot (next_of old))) scope
+    (grows_as k s old new _ _ (at_data k s c.narrow-scope.result id ms found spot (next_of old) plain one writes)
+    (visited k s old c.visit.new.meter new _ (node_at s c.narrow-scope.result id ms spot) c.visit.ensures (h ms writes outer entry))))
     c.«data».ensures.grows
 
 pub node-returns-then-is_data-clause-notes : goal.node-returns-then-is_data-clause-notes
@@ -848,15 +848,15 @@ node-returns-then-is_data-clause-notes t c =
     let ms = members_of c.args.context.now in
     let found = option_map (λ (v : Bor Value). view v.now) c.value-value.result in
     let is : c.kind-kind.result ≡ (row_at s id).label.defined.kind = c.kind-kind.ensures ∙ ap (λ r. r.label.defined.kind) c.node-node.ensures.value in
-    let plain = sym (ap is_operation is) ∙ sym c.is_operation.ensures ∙ c.if-is_operation.false in
+    let plain = sym (ap is_operation_or_notification is) ∙ sym c.is_operation_or_notification.ensures ∙ c.if-is_operation_or_notification.false in
     let one = sym (ap is_data is) ∙ sym c.is_data.ensures ∙ c.if-is_data.true in
     let writes = sym (c.value-value.ensures s c.requires.meets.context c.requires.meets.stands one) in
-    let scope : c.narrowed-scope.result ≡ scope_at k s c.args.scope id = c.narrowed-scope.ensures
+    let scope : c.narrow-scope.result ≡ scope_at k s c.args.scope id = c.narrow-scope.ensures
     ∙ ap (λ b. scope_in k b c.args.scope) (c.config.ensures ∙ ap (λ r. r.label.is_config) c.node-node.ensures.value) in
     on_ok_weaker c.«data».result
-    (λ h. subst (λ (y : Scope). GainsBy s c.args.notes.now c.«data».new.notes (one_met k s y id ms)) scope
-    (gains_met s c.args.notes.now c.«data».new.notes (with_node (data_met k s c.narrowed-scope.result id found) (node_at s c.narrowed-scope.result id ms)) (one_met k s c.narrowed-scope.result id ms)
-    (λ spot next. at_data k s c.narrowed-scope.result id ms found spot next plain one writes) (h ms writes)))
+    (λ h. subst (λ (y : RuleScope). GainsBy s c.args.notes.now c.«data».new.notes (one_met k s y id ms)) scope
+    (gains_met s c.args.notes.now c.«data».new.notes (with_node (data_met k s c.narrow-scope.result id found) (node_at s c.narrow-scope.result id ms)) (one_met k s c.narrow-scope.result id ms)
+    (λ spot next. at_data k s c.narrow-scope.result id ms found spot next plain one writes) (h ms writes)))
     c.«data».ensures.notes
 
 pub node-returns-in-Choice-clause-grows : goal.node-returns-in-Choice-clause-grows
@@ -865,17 +865,17 @@ node-returns-in-Choice-clause-grows t c =
     let s = c.args.self.now.schema.now in
     let id = c.args.id in
     let ms = members_of c.args.context.now in
-    let old : Told = told c.args.progress.now in
-    let new : Told = told c.choice.new.progress in
+    let old : ProgressView = progress_view c.args.progress.now in
+    let new : ProgressView = progress_view c.choice.new.progress in
     let as_kind : (row_at s id).label.defined.kind ≡ kind.Choice = sym (c.kind-kind.ensures ∙ ap (λ r. r.label.defined.kind) c.node-node.ensures.value) ∙ c.in-Choice.is in
-    let scope : c.narrowed-scope.result ≡ scope_at k s c.args.scope id = c.narrowed-scope.ensures
+    let scope : c.narrow-scope.result ≡ scope_at k s c.args.scope id = c.narrow-scope.ensures
     ∙ ap (λ b. scope_in k b c.args.scope) (c.config.ensures ∙ ap (λ r. r.label.is_config) c.node-node.ensures.value) in
     on_ok_weaker c.choice.result
     (λ h. λ outer entry.
     let spot : Spot = spot_at s c.args.path.now c.args.position outer entry in
-    subst (λ (y : Scope). Grows k s old new (one_met k s y id ms spot (next_of old))) scope
-    (grows_as k s old new _ _ (at_choice k s c.narrowed-scope.result id ms spot (next_of old) as_kind)
-    (visited k s old c.visit.new.meter new _ (node_at s c.narrowed-scope.result id ms spot) c.visit.ensures (h outer entry))))
+    subst (λ (y : RuleScope). Grows k s old new (one_met k s y id ms spot (next_of old))) scope
+    (grows_as k s old new _ _ (at_choice k s c.narrow-scope.result id ms spot (next_of old) as_kind)
+    (visited k s old c.visit.new.meter new _ (node_at s c.narrow-scope.result id ms spot) c.visit.ensures (h outer entry))))
     c.choice.ensures.grows
 
 pub node-returns-in-Choice-clause-notes : goal.node-returns-in-Choice-clause-notes
@@ -886,14 +886,14 @@ node-returns-in-Choice-clause-notes t c =
     let l = (row_at s id).label in
     let ms = members_of c.args.context.now in
     let as_kind : l.defined.kind ≡ kind.Choice = sym (c.kind-kind.ensures ∙ ap (λ r. r.label.defined.kind) c.node-node.ensures.value) ∙ c.in-Choice.is in
-    let scope : c.narrowed-scope.result ≡ scope_at k s c.args.scope id = c.narrowed-scope.ensures
+    let scope : c.narrow-scope.result ≡ scope_at k s c.args.scope id = c.narrow-scope.ensures
     ∙ ap (λ b. scope_in k b c.args.scope) (c.config.ensures ∙ ap (λ r. r.label.is_config) c.node-node.ensures.value) in
     on_ok_weaker c.choice.result
-    (λ h. subst (λ (y : Scope). GainsBy s c.args.notes.now c.choice.new.notes (one_met k s y id ms)) scope
-    (gains_met s c.args.notes.now c.choice.new.notes (with_node (cases_met k s id ms) (node_at s c.narrowed-scope.result id ms)) (one_met k s c.narrowed-scope.result id ms)
-    (λ spot next. at_choice k s c.narrowed-scope.result id ms spot next as_kind)
-    (gains_behind s c.args.notes.now c.choice.new.notes (cases_met k s id ms) (node_at s c.narrowed-scope.result id ms)
-    (λ spot. no_default l.defined.kind l c.narrowed-scope.result (found_of (node_at s c.narrowed-scope.result id ms spot)) (ap is_data as_kind)) h)))
+    (λ h. subst (λ (y : RuleScope). GainsBy s c.args.notes.now c.choice.new.notes (one_met k s y id ms)) scope
+    (gains_met s c.args.notes.now c.choice.new.notes (with_node (cases_met k s id ms) (node_at s c.narrow-scope.result id ms)) (one_met k s c.narrow-scope.result id ms)
+    (λ spot next. at_choice k s c.narrow-scope.result id ms spot next as_kind)
+    (gains_behind s c.args.notes.now c.choice.new.notes (cases_met k s id ms) (node_at s c.narrow-scope.result id ms)
+    (λ spot. no_default l.defined.kind l c.narrow-scope.result (found_of (node_at s c.narrow-scope.result id ms spot)) (ap is_data as_kind)) h)))
     c.choice.ensures.notes
 
 pub node-returns-in-Case-clause-grows : goal.node-returns-in-Case-clause-grows
@@ -902,17 +902,17 @@ node-returns-in-Case-clause-grows t c =
     let s = c.args.self.now.schema.now in
     let id = c.args.id in
     let ms = members_of c.args.context.now in
-    let old : Told = told c.args.progress.now in
-    let new : Told = told c.children.new.progress in
+    let old : ProgressView = progress_view c.args.progress.now in
+    let new : ProgressView = progress_view c.children.new.progress in
     let as_kind : (row_at s id).label.defined.kind ≡ kind.Case = sym (c.kind-kind.ensures ∙ ap (λ r. r.label.defined.kind) c.node-node.ensures.value) ∙ c.in-Case.is in
-    let scope : c.narrowed-scope.result ≡ scope_at k s c.args.scope id = c.narrowed-scope.ensures
+    let scope : c.narrow-scope.result ≡ scope_at k s c.args.scope id = c.narrow-scope.ensures
     ∙ ap (λ b. scope_in k b c.args.scope) (c.config.ensures ∙ ap (λ r. r.label.is_config) c.node-node.ensures.value) in
     on_ok_weaker c.children.result
     (λ h. λ outer entry.
     let spot : Spot = spot_at s c.args.path.now c.args.position outer entry in
-    subst (λ (y : Scope). Grows k s old new (one_met k s y id ms spot (next_of old))) scope
-    (grows_as k s old new _ _ (at_case k s c.narrowed-scope.result id ms spot (next_of old) as_kind)
-    (visited k s old c.visit.new.meter new _ (node_at s c.narrowed-scope.result id ms spot) c.visit.ensures (other_closes c.default_met.ensures c.nothing_met.ensures c.met_behind.ensures k s c.narrowed-scope.result id ms spot (record { faults = old.faults; found = old.found; steps = c.visit.new.meter }) new _ (ap is_data as_kind) (λ e. cc) (h outer entry)))))
+    subst (λ (y : RuleScope). Grows k s old new (one_met k s y id ms spot (next_of old))) scope
+    (grows_as k s old new _ _ (at_case k s c.narrow-scope.result id ms spot (next_of old) as_kind)
+    (visited k s old c.visit.new.meter new _ (node_at s c.narrow-scope.result id ms spot) c.visit.ensures (other_closes c.default_met.ensures c.nothing_met.ensures c.met_behind.ensures k s c.narrow-scope.result id ms spot (record { faults = old.faults; found = old.found; steps = c.visit.new.meter }) new _ (ap is_data as_kind) (λ e. cc) (h outer entry)))))
     c.children.ensures.grows
 
 pub node-returns-in-Case-clause-notes : goal.node-returns-in-Case-clause-notes
@@ -923,14 +923,14 @@ node-returns-in-Case-clause-notes t c =
     let l = (row_at s id).label in
     let ms = members_of c.args.context.now in
     let as_kind : l.defined.kind ≡ kind.Case = sym (c.kind-kind.ensures ∙ ap (λ r. r.label.defined.kind) c.node-node.ensures.value) ∙ c.in-Case.is in
-    let scope : c.narrowed-scope.result ≡ scope_at k s c.args.scope id = c.narrowed-scope.ensures
+    let scope : c.narrow-scope.result ≡ scope_at k s c.args.scope id = c.narrow-scope.ensures
     ∙ ap (λ b. scope_in k b c.args.scope) (c.config.ensures ∙ ap (λ r. r.label.is_config) c.node-node.ensures.value) in
     on_ok_weaker c.children.result
-    (λ h. subst (λ (y : Scope). GainsBy s c.args.notes.now c.children.new.notes (one_met k s y id ms)) scope
-    (gains_met s c.args.notes.now c.children.new.notes (with_node (children_met k s c.narrowed-scope.result id ms) (node_at s c.narrowed-scope.result id ms)) (one_met k s c.narrowed-scope.result id ms)
-    (λ spot next. at_case k s c.narrowed-scope.result id ms spot next as_kind)
-    (gains_behind s c.args.notes.now c.children.new.notes (children_met k s c.narrowed-scope.result id ms) (node_at s c.narrowed-scope.result id ms)
-    (λ spot. no_default l.defined.kind l c.narrowed-scope.result (found_of (node_at s c.narrowed-scope.result id ms spot)) (ap is_data as_kind)) h)))
+    (λ h. subst (λ (y : RuleScope). GainsBy s c.args.notes.now c.children.new.notes (one_met k s y id ms)) scope
+    (gains_met s c.args.notes.now c.children.new.notes (with_node (children_met k s c.narrow-scope.result id ms) (node_at s c.narrow-scope.result id ms)) (one_met k s c.narrow-scope.result id ms)
+    (λ spot next. at_case k s c.narrow-scope.result id ms spot next as_kind)
+    (gains_behind s c.args.notes.now c.children.new.notes (children_met k s c.narrow-scope.result id ms) (node_at s c.narrow-scope.result id ms)
+    (λ spot. no_default l.defined.kind l c.narrow-scope.result (found_of (node_at s c.narrow-scope.result id ms spot)) (ap is_data as_kind)) h)))
     c.children.ensures.notes
 
 pub node-returns-in_default : goal.node-returns-in_default
@@ -940,14 +940,14 @@ node-returns-in_default t c =
     let id = c.args.id in
     let l = (row_at s id).label in
     let ms = members_of c.args.context.now in
-    let old : Told = told c.args.progress.now in
-    let begun : Told = record { faults = old.faults; found = old.found; steps = c.visit.new.meter } in
+    let old : ProgressView = progress_view c.args.progress.now in
+    let begun : ProgressView = record { faults = old.faults; found = old.found; steps = c.visit.new.meter } in
     let is : c.kind-kind.result ≡ l.defined.kind = c.kind-kind.ensures ∙ ap (λ r. r.label.defined.kind) c.node-node.ensures.value in
-    let plain = sym (ap is_operation is) ∙ sym c.is_operation.ensures ∙ c.if-is_operation.false in
+    let plain = sym (ap is_operation_or_notification is) ∙ sym c.is_operation_or_notification.ensures ∙ c.if-is_operation_or_notification.false in
     let none = sym (ap is_data is) ∙ sym c.is_data.ensures ∙ c.if-is_data.false in
     let no_choice : l.defined.kind ≡ kind.Choice → ⊥ = λ e. c.in_default.not-Choice (is ∙ e) in
     let no_case : l.defined.kind ≡ kind.Case → ⊥ = λ e. c.in_default.not-Case (is ∙ e) in
-    let y : Scope = scope_at k s c.args.scope id in
+    let y : RuleScope = scope_at k s c.args.scope id in
     record {
       grows = λ outer entry.
           let spot : Spot = spot_at s c.args.path.now c.args.position outer entry in
@@ -967,7 +967,7 @@ list-returns-in-None t c =
     let k = c.args.self.now.kind in
     let s = c.args.self.now.schema.now in
     let id = c.args.id in
-    let old : Told = told c.args.progress.now in
+    let old : ProgressView = progress_view c.args.progress.now in
     let found = option_map (λ (v : Bor Value). view v.now) c.args.value in
     let none : found ≡ None = ap (option_map (λ (v : Bor Value). view v.now)) c.in-None.is in
     record {
@@ -984,8 +984,8 @@ list-returns-in_ok-entries-in-Array t c =
     let k = c.args.self.now.kind in
     let s = c.args.self.now.schema.now in
     let id = c.args.id in
-    let old : Told = told c.args.progress.now in
-    let mid : Told = told c.entries.new.progress in
+    let old : ProgressView = progress_view c.args.progress.now in
+    let mid : ProgressView = progress_view c.entries.new.progress in
     let found = option_map (λ (v : Bor Value). view v.now) c.args.value in
     let ds = items_view c.in-Array.items.items in
     let some : found ≡ Some (array ds) = ap (option_map (λ (v : Bor Value). view v.now)) c.in-Some.is
@@ -1004,11 +1004,11 @@ list-returns-in_ok-entries-in-Array t c =
 pub object-leave-requires : goal.object-leave-requires
 object-leave-requires t c =
     let begun = c.enter-2.new.self in
-    let start : Told = record { faults = c.enter.new.faults.items; found = begun; steps = c.enter.new.meter } in
+    let start : ProgressView = record { faults = c.enter.new.faults.items; found = begun; steps = c.enter.new.meter } in
     omega (
       arith,
       c.in_ok-number.ensures.number,
       ap length c.in_ok-number.ensures.positions,
-      length-append c.args.progress.now.found.positions (opened c.args.position c.args.id.0 c.args.item ∷ []),
-      not_fewer start (told c.inside.new.progress) (c.in_ok-inside.ensures.grows [] 0),
+      length-append c.args.progress.now.found.positions (open_object c.args.position c.args.id.0 c.args.item ∷ []),
+      not_fewer start (progress_view c.inside.new.progress) (c.in_ok-inside.ensures.grows [] 0),
     )

@@ -2,12 +2,12 @@ use Rattle.std.proofs.Common.{◌<◌, ℕ, ◌+◌, ◌*◌, ◌-◌, List, [],
 use Rattle.serde_json.specs.View.{view, items_view}
 use Rattle.yv_nodes.specs.Rows.{below, rank, row_at}
 use Rattle.yv_walk.specs.Context.{members_of}
-use Rattle.yv_references.specs.InUse.{case_scope}
-use Rattle.yv_references.specs.Meetings.{Spot}
+use Rattle.yv_leafref_values.specs.InUse.{case_scope}
+use Rattle.yv_leafref_values.specs.Meetings.{Spot}
 use Rattle.yv_validate.specs.InnerMemory.{Remembers, RemembersEach}
-use Rattle.yv_validate.specs.InnerNamed.{uniques_at}
+use Rattle.yv_validate.specs.InnerNames.{uniques_at}
 use Rattle.yv_validate.specs.InnerNotes.{list_tuple}
-use Rattle.yv_validate.specs.InnerWalk.{cases_met, children_met, entries_at, Grows, next_of, ones_met, spot_at, Told, told}
+use Rattle.yv_validate.specs.InnerWalk.{cases_met, children_met, entries_at, Grows, next_of, ones_met, spot_at, ProgressView, progress_view}
 use Rattle.yv_validate.specs.Values.{key_leafs}
 use Rattle.yv_validate.proofs.Own.{NotesLeft}
 use Rattle.yv_validate.proofs.walk.Walk.+walk.Given as goal
@@ -20,10 +20,10 @@ invariant-children-loop-child l =
     let ms = members_of l.context in
     let left = drop l.child-index l.child-items in
     record {
-      grows : (outer : List ℕ) (entry : ℕ) (x : Told)
-          → Grows k s (told l.progress) x (ones_met k s (λ at t. l.fn.scope) left ms (spot_at s l.path l.fn.position outer entry) (next_of (told l.progress)))
-          → Grows k s (told l.initial.progress) x
-          (children_met k s l.fn.scope l.fn.parent ms (spot_at s l.path l.fn.position outer entry) (next_of (told l.initial.progress)));
+      grows : (outer : List ℕ) (entry : ℕ) (x : ProgressView)
+          → Grows k s (progress_view l.progress) x (ones_met k s (λ at t. l.fn.scope) left ms (spot_at s l.path l.fn.position outer entry) (next_of (progress_view l.progress)))
+          → Grows k s (progress_view l.initial.progress) x
+          (children_met k s l.fn.scope l.fn.parent ms (spot_at s l.path l.fn.position outer entry) (next_of (progress_view l.initial.progress)));
       notes : (spot : Spot) (next : ℕ) → spot.entry < next
           → NotesLeft k s (λ at t. l.fn.scope) left ms spot l.notes l.initial.notes (children_met k s l.fn.scope l.fn.parent ms spot next);
     }
@@ -37,10 +37,10 @@ invariant-cases-loop-child l =
     let of = case_scope s l.fn.choice (rank l.fn.choice) (below s l.fn.choice) ms in
     let left = drop l.child-index l.child-items in
     record {
-      grows : (outer : List ℕ) (entry : ℕ) (x : Told)
-          → Grows k s (told l.progress) x (ones_met k s of left ms (spot_at s l.path l.fn.position outer entry) (next_of (told l.progress)))
-          → Grows k s (told l.initial.progress) x
-          (cases_met k s l.fn.choice ms (spot_at s l.path l.fn.position outer entry) (next_of (told l.initial.progress)));
+      grows : (outer : List ℕ) (entry : ℕ) (x : ProgressView)
+          → Grows k s (progress_view l.progress) x (ones_met k s of left ms (spot_at s l.path l.fn.position outer entry) (next_of (progress_view l.progress)))
+          → Grows k s (progress_view l.initial.progress) x
+          (cases_met k s l.fn.choice ms (spot_at s l.path l.fn.position outer entry) (next_of (progress_view l.initial.progress)));
       notes : (spot : Spot) (next : ℕ) → spot.entry < next
           → NotesLeft k s of left ms spot l.notes l.initial.notes (cases_met k s l.fn.choice ms spot next);
     }
@@ -53,10 +53,10 @@ invariant-entries-loop-index l =
     let done = map view (take l.index l.items.items) in
     let left = items_view (drop l.index l.items.items) in
     record {
-      grows : (outer : List ℕ) (entry : ℕ) (x : Told)
-          → Grows k s (told l.progress) x (entries_at k s l.fn.id done left (spot_at s l.path l.fn.position outer entry) (next_of (told l.progress)))
-          → Grows k s (told l.initial.progress) x
-          (entries_at k s l.fn.id [] (items_view l.items.items) (spot_at s l.path l.fn.position outer entry) (next_of (told l.initial.progress)));
+      grows : (outer : List ℕ) (entry : ℕ) (x : ProgressView)
+          → Grows k s (progress_view l.progress) x (entries_at k s l.fn.id done left (spot_at s l.path l.fn.position outer entry) (next_of (progress_view l.progress)))
+          → Grows k s (progress_view l.initial.progress) x
+          (entries_at k s l.fn.id [] (items_view l.items.items) (spot_at s l.path l.fn.position outer entry) (next_of (progress_view l.initial.progress)));
       keys : Remembers l.keys (list_tuple k s l.id (key_leafs s l.id (row_at s l.id).label)) done;
       uniques : RemembersEach l.uniques.items (list_tuple k s l.id) (uniques_at s l.id) done;
     }

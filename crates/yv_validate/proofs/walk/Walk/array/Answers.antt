@@ -4,9 +4,9 @@ use Rattle.serde_json.specs.Data.{array, Data}
 use Rattle.serde_json.proofs.Views.{view-Array}
 use Rattle.serde_json.specs.View.{items_view, view}
 use Rattle.serde_json.specs.declared.value.Value.{Value}
-use Rattle.yv_references.specs.Meetings.{Spot}
+use Rattle.yv_leafref_values.specs.Meetings.{Spot}
 use Rattle.yv_validate.specs.Faults.{array_faults, count_faults}
-use Rattle.yv_validate.specs.InnerWalk.{GrowsWith, leaf_list_at, next_of, plain_at, spot_at, Told, told}
+use Rattle.yv_validate.specs.InnerWalk.{GrowsWith, leaf_list_at, next_of, plain_at, spot_at, ProgressView, progress_view}
 use Rattle.yv_validate.proofs.Grown.{grows_only, grows_with}
 use Rattle.yv_validate.proofs.walk.Walk.array.Goals as goal
 
@@ -15,7 +15,7 @@ returns-in-None c =
     let k = c.args.self.now.kind in
     let s = c.args.self.now.schema.now in
     let id = c.args.id in
-    let old : Told = told c.args.progress.now in
+    let old : ProgressView = progress_view c.args.progress.now in
     let found = option_map (λ (v : Bor Value). view v.now) c.args.value in
     let none : found ≡ None = ap (option_map (λ (v : Bor Value). view v.now)) c.in-None.is in
     record {
@@ -32,8 +32,8 @@ returns-in_ok-items-in-Array c =
     let k = c.args.self.now.kind in
     let s = c.args.self.now.schema.now in
     let id = c.args.id in
-    let old : Told = told c.args.progress.now in
-    let mid : Told = told c.items.new.progress in
+    let old : ProgressView = progress_view c.args.progress.now in
+    let mid : ProgressView = progress_view c.items.new.progress in
     let found = option_map (λ (v : Bor Value). view v.now) c.args.value in
     let ds = items_view c.in-Array.items.items in
     let some : found ≡ Some (array ds) = ap (option_map (λ (v : Bor Value). view v.now)) c.in-Some.is

@@ -5,10 +5,10 @@ use Rattle.yv_values.specs.Values.{Val}
 use Rattle.yv_nodes.specs.declared.node.NodeId.{NodeId}
 use Rattle.yv_validate.specs.Faults.{unique_faults, unique_if}
 use Rattle.yv_validate.specs.InnerMemory.{Remembers}
-use Rattle.yv_validate.specs.InnerNamed.{uniques_at}
+use Rattle.yv_validate.specs.InnerNames.{uniques_at}
 use Rattle.yv_validate.specs.InnerNotes.{HasTuple, list_tuple, tuple_in}
 use Rattle.yv_validate.specs.InnerTrail.{places}
-use Rattle.yv_validate.specs.Repeats.{repeated}
+use Rattle.yv_validate.specs.Repeats.{repeat_of}
 use Rattle.yv_validate.specs.Work.{tuple_work, uniques_work}
 use Rattle.yv_validate.proofs.Each.{all_done, any_default, at_turn, get_map, none_done, some_step, unique_drop, work_drop}
 use Rattle.yv_validate.proofs.Noted.{named_leafs}
@@ -17,10 +17,10 @@ use Rattle.yv_validate.proofs.walk.Walk.end_uniques.Goals as goal
 
 pub loop-number-init : goal.loop-number-init
 loop-number-init c = record {
-  same = c.requires.kept.same;
+  same = c.requires.keeps.same;
   each = λ d has. record {
     faults = refl;
-    kept = none_done c.args.kept.now.items (list_tuple c.args.self.now.kind c.args.self.now.schema.now c.args.id) (uniques_at c.args.self.now.schema.now c.args.id) (map view c.args.earlier.now) d c.requires.kept;
+    kept = none_done c.args.kept.now.items (list_tuple c.args.self.now.kind c.args.self.now.schema.now c.args.id) (uniques_at c.args.self.now.schema.now c.args.id) (map view c.args.earlier.now) d c.requires.keeps;
     steps = refl;
   };
 }
@@ -44,7 +44,7 @@ loop-number-preserved c =
     let many : length us ≡ length rows = sym (ap length c.uniques-leafs-items.ensures) ∙ length-map rows _ in
     let lt : n < length us = omega (arith, many) in
     let stated : u ≡ get_or us n u = get_map _ rows n c.leafs-item.result c.loop-number-test.true c.leafs-item.is ∙ ap (λ (xs : List (List (Option NodeId))). get_or xs n u) c.uniques-leafs-items.ensures in
-    let told = c.in_ok-first.ensures.told in
+    let told = c.in_ok-first.ensures.tells in
     let first = c.in_ok-first.first in
     let place : length before + 1 ≡ length c.args.earlier.now + 1 = ap (λ m. m + 1) (length-map c.args.earlier.now view) in
     record {
@@ -56,9 +56,9 @@ loop-number-preserved c =
           subst (λ (w : List (Option NodeId)). HasTuple c.args.self.now.kind s c.args.id c.args.notes.now d w) (sym (stated ∙ any_default us n u [] lt)) (has.uniques n lt) in
           let made : f u d ≡ c.in_ok-tuple.tuple =
           sym own ∙ ap (λ (xs : List NodeId). tuple_in s c.args.notes.now (named_leafs xs)) (sym c.deref.ensures.value) ∙ sym c.in_ok-tuple.ensures in
-          let is : first ≡ repeated (f u) before d = told.same (f u) before d old made in
+          let is : first ≡ repeat_of (f u) before d = told.same (f u) before d old made in
           record {
-            faults = joins c.loop-number.faults.items (unique_if (repeated (f u) before d) here (n + 1)) (unique_faults f here (n + 1 + 1) (drop (n + 1) us) before d)
+            faults = joins c.loop-number.faults.items (unique_if (repeat_of (f u) before d) here (n + 1)) (unique_faults f here (n + 1 + 1) (drop (n + 1) us) before d)
                 (c.in_ok-tell_unique.ensures ∙ ap (λ (o : Option ℕ). c.loop-number.faults.items ++ unique_if o here (n + 1)) is) (unique_drop f here (n + 1) us n u before d lt stated) inv.faults;
             kept = some_step c.loop-number.kept.items f us before d n c.stood_before.new.kept u lt stated inv.kept (told.next (f u) before d place old made);
             steps = steps_on c.loop-number.meter c.stood_before.new.meter (tuple_work (f u d)) _ (uniques_work f (drop (n + 1) us) d) _
@@ -79,8 +79,8 @@ returns-clause-faults c = λ d has.
     ∙ ap (λ (vs : List (List (Option NodeId))). c.loop-number.faults.items ++ unique_faults f (places s c.args.here.now) (n + 1) vs (map view c.args.earlier.now) d) (sym (drop_all n us le))
     ∙ (c.loop-number.invariant.each d has).faults
 
-pub returns-clause-kept : goal.returns-clause-kept
-returns-clause-kept c = λ d has.
+pub returns-clause-keeps : goal.returns-clause-keeps
+returns-clause-keeps c = λ d has.
     let s = c.args.self.now.schema.now in
     let f = list_tuple c.args.self.now.kind s c.args.id in
     let us = uniques_at s c.args.id in

@@ -1,9 +1,9 @@
 use Rattle.std.proofs.Common.{◌≡◌, ◌+◌, ◌++◌, drop, length, map}
 use Rattle.serde_json.specs.Data.{Data}
 use Rattle.serde_json.specs.View.{view}
-use Rattle.yv_values.specs.Count.{counted}
+use Rattle.yv_values.specs.Count.{count_up}
 use Rattle.yv_validate.specs.Faults.{unique_faults}
-use Rattle.yv_validate.specs.InnerNamed.{uniques_at}
+use Rattle.yv_validate.specs.InnerNames.{uniques_at}
 use Rattle.yv_validate.specs.InnerNotes.{HasTuples, list_tuple}
 use Rattle.yv_validate.specs.InnerTrail.{places}
 use Rattle.yv_validate.specs.Work.{uniques_work}
@@ -23,6 +23,6 @@ invariant-loop-number l =
       each : (d : Data) → HasTuples l.self.kind s l.fn.id l.notes d → record {
         faults : l.faults.items ++ unique_faults f (places s l.here) (l.number + 1) (drop l.number us) before d ≡ l.initial.faults.items ++ unique_faults f (places s l.here) 1 us before d;
         kept : RemembersSome l.kept.items f us before d l.number;
-        steps : counted (l.meter + uniques_work f (drop l.number us) d) ≡ counted (l.initial.meter + uniques_work f us d);
+        steps : count_up (l.meter + uniques_work f (drop l.number us) d) ≡ count_up (l.initial.meter + uniques_work f us d);
       };
     }

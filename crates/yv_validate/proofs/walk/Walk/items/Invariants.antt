@@ -3,7 +3,7 @@ use Rattle.serde_json.specs.View.{view, items_view}
 use Rattle.yv_nodes.specs.Rows.{row_at}
 use Rattle.yv_validate.specs.Faults.{item_tuple}
 use Rattle.yv_validate.specs.InnerMemory.{Remembers}
-use Rattle.yv_validate.specs.InnerWalk.{Grows, items_at, next_of, spot_at, Told, told}
+use Rattle.yv_validate.specs.InnerWalk.{Grows, items_at, next_of, spot_at, ProgressView, progress_view}
 use Rattle.yv_validate.proofs.walk.Walk.items.Given as goal
 
 -- what is met at the items that are left leads to what is met at all; the index knows those that are done
@@ -14,9 +14,9 @@ invariant-loop-index l =
     let done = map view (take l.index l.items.items) in
     let left = items_view (drop l.index l.items.items) in
     record {
-      grows : (outer : List ℕ) (entry : ℕ) (x : Told)
-          → Grows k s (told l.progress) x (items_at s l.fn.id done left (spot_at s l.path l.fn.position outer entry) (next_of (told l.progress)))
-          → Grows k s (told l.initial.progress) x
-          (items_at s l.fn.id [] (items_view l.items.items) (spot_at s l.path l.fn.position outer entry) (next_of (told l.initial.progress)));
+      grows : (outer : List ℕ) (entry : ℕ) (x : ProgressView)
+          → Grows k s (progress_view l.progress) x (items_at s l.fn.id done left (spot_at s l.path l.fn.position outer entry) (next_of (progress_view l.progress)))
+          → Grows k s (progress_view l.initial.progress) x
+          (items_at s l.fn.id [] (items_view l.items.items) (spot_at s l.path l.fn.position outer entry) (next_of (progress_view l.initial.progress)));
       kept : Remembers l.kept (item_tuple (row_at s l.id).label) done;
     }

@@ -3,10 +3,10 @@ use Rattle.std.proofs.lemmas.Result.{on_ok_weaker}
 use Rattle.serde_json.specs.View.{view}
 use Rattle.yv_values.specs.Values.{Val}
 use Rattle.yv_nodes.specs.Rows.{row_at}
-use Rattle.yv_references.specs.InUse.{value_of}
-use Rattle.yv_validate.specs.InnerWalk.{spot_at, told, written_at}
+use Rattle.yv_leafref_values.specs.InUse.{value_of}
+use Rattle.yv_validate.specs.InnerWalk.{spot_at, progress_view, written_at}
 use Rattle.yv_validate.proofs.Items.{read_told, unread_told, writes}
-use Rattle.yv_references.specs.Place.{step_name}
+use Rattle.yv_leafref_values.specs.Place.{step_name}
 use Rattle.yv_validate.specs.declared.fault.FaultKind.TheVariants.{Value as Unread}
 use Rattle.yv_validate.specs.Faults.{flaw}
 use Rattle.yv_validate.specs.InnerTrail.{places}
@@ -32,7 +32,7 @@ returns-in-Some-clause-grows c =
     let id = c.args.id in
     let l = (row_at s id).label in
     let d = view c.args.value.now in
-    let old = told c.args.progress.now in
+    let old = progress_view c.args.progress.now in
     let is : Some c.in-Some.read ≡ value_of l d = sym c.in-Some.is ∙ c.in_ok-read.ensures.value in
     on_ok_weaker c.keep.result
     (λ g. λ outer entry.
@@ -40,7 +40,7 @@ returns-in-Some-clause-grows c =
     writes c.value_met.ensures k s id spot None d old c.read.new.progress.faults.items c.read.new.progress.found c.read.new.progress.meter
     (read_told (written_at s id None d spot) old.faults c.read.new.progress.faults.items None (sym (ap is_some is)) refl
     (c.read.ensures.faults ∙ sym (append-nil old.faults)))
-    c.in_ok-read.ensures.found (c.in_ok-read.ensures.steps ∙ plus_none old.steps (value_work l d)))
+    c.in_ok-read.ensures.finds (c.in_ok-read.ensures.steps ∙ plus_none old.steps (value_work l d)))
     c.keep.ensures
 
 pub returns-in-None-clause-grows : goal.returns-in-None-clause-grows
@@ -50,7 +50,7 @@ returns-in-None-clause-grows c =
     let id = c.args.id in
     let l = (row_at s id).label in
     let d = view c.args.value.now in
-    let old = told c.args.progress.now in
+    let old = progress_view c.args.progress.now in
     let is : None ≡ value_of l d = sym c.in-None.is ∙ c.in_ok-read.ensures.value in
     on_ok_weaker c.tell.result
     (λ h. λ outer entry.
@@ -58,7 +58,7 @@ returns-in-None-clause-grows c =
     writes c.value_met.ensures k s id spot None d old c.tell.new.faults.items c.read.new.progress.found c.read.new.progress.meter
     (unread_told (written_at s id None d spot) old.faults c.tell.new.faults.items (sym (ap is_some is))
     (h ∙ ap (λ fs. fs ++ flaw Unread (places s c.args.path.now ++ record { member = step_name l; item = None } ∷ []) ∷ []) c.read.ensures.faults))
-    c.in_ok-read.ensures.found (c.in_ok-read.ensures.steps ∙ plus_none old.steps (value_work l d)))
+    c.in_ok-read.ensures.finds (c.in_ok-read.ensures.steps ∙ plus_none old.steps (value_work l d)))
     c.tell.ensures
 
 pub returns-in-None-clause-notes : goal.returns-in-None-clause-notes

@@ -40,8 +40,8 @@ returns-then-len-count-clause-least c =
     rw (← c.self.view_is, ← c.into_key.ensures) (looked_up_known c.into_key.result c.args.place c.self.inside.places.entries new c.self.invariant o c.least-least.result h.value is (λ s. h.keys_stay s w) (h.len w) (grind (arith, h.len w))
     (subst (λ (ps : List ℕ). IsLeastPlace ps c.least-least.result) (c.or_insert.ensures.value ∙ ap (unwrap_or o) c.one-first.ensures) c.least-least.ensures)).0
 
-pub returns-then-len-count-clause-kept : goal.returns-then-len-count-clause-kept
-returns-then-len-count-clause-kept c =
+pub returns-then-len-count-clause-keeps : goal.returns-then-len-count-clause-keeps
+returns-then-len-count-clause-keeps c =
     let h = c.in_ok-self-inside.ensures in
     let w = c.or_insert.result.now in
     let o = entry_value c.in_ok-self-inside.field-0 in
@@ -61,8 +61,8 @@ returns-clause-least c =
     h.update.1 w ∙ ap (insert_entry order c.self.inside.places.entries c.into_key.result) (c.or_insert.ensures.value ∙ ap (unwrap_or o) c.one-first.ensures) in
     rw (← c.self.view_is, ← c.into_key.ensures) (looked_up_new c.into_key.result c.args.place c.self.inside.places.entries new c.self.invariant o h.value is (h.len w) (λ same. c.if-len-count.false (grind (arith, same)))).0
 
-pub returns-clause-kept : goal.returns-clause-kept
-returns-clause-kept c =
+pub returns-clause-keeps : goal.returns-clause-keeps
+returns-clause-keeps c =
     let h = c.in_ok-self-inside.ensures in
     let w = c.or_insert.result.now in
     let o = entry_value c.in_ok-self-inside.field-0 in

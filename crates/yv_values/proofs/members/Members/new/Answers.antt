@@ -31,8 +31,8 @@ pub returns-clause-rises : goal.returns-clause-rises
 returns-clause-rises c = rises_left c.sort.new.self.items _ (c.in_ok-from_vec.ensures ∙ dedup_is same _ _ c.dedup.ensures.filtered) c.in_ok-sort.ensures.sorted
 
 pub returns-clause-same : goal.returns-clause-same
-returns-clause-same c = λ home called.
+returns-clause-same c = λ module_file called.
     let left = dedup_is same _ _ c.dedup.ensures.filtered in
-    ap (λ (xs : List Member). identity_in (map id_of xs) home called) (c.in_ok-from_vec.ensures ∙ left)
-    ∙ ap (λ (b : Bool). cond b (Some (identity home called)) None)
-    (left_same id_of id_cmp same (λ x y h. same_id (rc_str_bytes y.«module») (rc_str_bytes y.name) (id_of x) ((Equal-is (id_cmp (id_of x) (id_of y))).0 (sym (ties x y) ∙ h))) (is_identity home called) _ _ c.in_ok-sort.ensures.permutation)
+    ap (λ (xs : List Member). identity_in (map id_of xs) module_file called) (c.in_ok-from_vec.ensures ∙ left)
+    ∙ ap (λ (b : Bool). cond b (Some (identity module_file called)) None)
+    (left_same id_of id_cmp same (λ x y h. same_id (rc_str_bytes y.«module») (rc_str_bytes y.name) (id_of x) ((Equal-is (id_cmp (id_of x) (id_of y))).0 (sym (ties x y) ∙ h))) (is_identity module_file called) _ _ c.in_ok-sort.ensures.permutation)

@@ -3,7 +3,7 @@ use Rattle.std.proofs.lemmas.List.{drop_all}
 use Rattle.yv_nodes.specs.declared.node.NodeId.{NodeId}
 use Rattle.yv_nodes.specs.Rows.{AreTrees, children_of, tree_of}
 use Rattle.yv_walk.specs.Context.{members_of, parent_of}
-use Rattle.yv_walk.specs.Standing.{any, stands_in, tree_standing}
+use Rattle.yv_walk.specs.Existence.{any, stands_in, tree_standing}
 use Rattle.yv_walk.proofs.Above.{rank_within}
 use Rattle.yv_walk.proofs.Counting.{count_all, count_drop, count_of, more_false, more_true}
 use Rattle.yv_walk.proofs.Stands.{inner_stands}
@@ -36,7 +36,7 @@ loop-child-preserved c =
       ];
       told = λ context stands pass.
           let met : c.any.result ≡ any (tree_standing child.0 (tree_of s child) ms) = c.any.ensures
-          ∙ ap any (c.standing.ensures context (subst (λ (n : NodeId). stands_in s p n ≡ true) is_child (inner_stands s p id i d sound stands pass lt))) in
+          ∙ ap any (c.existence_of.ensures context (subst (λ (n : NodeId). stands_in s p n ≡ true) is_child (inner_stands s p id i d sound stands pass lt))) in
           let same_any : any (tree_standing (get_or (children_of s id) i d).0 (tree_of s (get_or (children_of s id) i d)) ms) ≡ c.any.result =
           ap (λ (n : NodeId). any (tree_standing n.0 (tree_of s n) ms)) is_child ∙ sym met in
           let whole : total + (cond c.any.result 1 0 + rest) ≡ all =

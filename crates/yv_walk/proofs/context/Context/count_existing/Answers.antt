@@ -2,7 +2,7 @@ use Rattle.std.proofs.Common.{◌≡◌, ◌+◌, ◌-◌, ◌≤◌, ℕ, List,
 use Rattle.yv_nodes.specs.Rows.{AreTrees, children_of, rank}
 use Rattle.yv_nodes.specs.declared.node.NodeId.{NodeId}
 use Rattle.yv_walk.specs.Context.{members_of}
-use Rattle.yv_walk.specs.Standing.{child_exists}
+use Rattle.yv_walk.specs.Existence.{child_exists}
 use Rattle.yv_walk.proofs.Above.{rank_within}
 use Rattle.yv_walk.proofs.Counting.{count_all, count_drop, count_of}
 use Rattle.yv_walk.proofs.Places.{count_past, none_left, place_small}

@@ -3,8 +3,8 @@ use Rattle.std.proofs.lemmas.List.{get_or_default}
 use Rattle.yv_nodes.specs.Rows.{children_of, tree_of}
 use Rattle.yv_nodes.specs.declared.node.NodeId.{NodeId}
 use Rattle.yv_walk.specs.Context.{members_of, parent_of}
-use Rattle.yv_walk.specs.InnerKept.{Ascend}
-use Rattle.yv_walk.specs.Standing.{any, child_exists, stands_in, tree_standing}
+use Rattle.yv_walk.specs.InnerNextExisting.{Ascend}
+use Rattle.yv_walk.specs.Existence.{any, child_exists, stands_in, tree_standing}
 use Rattle.yv_walk.proofs.Above.{rank_within}
 use Rattle.yv_walk.proofs.Ascending.{passed_on}
 use Rattle.yv_walk.proofs.Places.{children_ascend, unkept_places}
@@ -39,7 +39,7 @@ returns-then-any-clause-exists c = λ context stands pass.
     let child : x ≡ get_or (children_of s id) at id = ap (λ (cs : List NodeId). get_or cs at zero) kids.ensures.value ∙ get_or_default (children_of s id) at zero id lt in
     let here : stands_in s (parent_of c.args.self.now) x ≡ true =
     ap (λ (n : NodeId). stands_in s (parent_of c.args.self.now) n) child ∙ inner_stands s (parent_of c.args.self.now) id at id kids.ensures.sound stands pass lt in
-    ap (λ (n : NodeId). any (tree_standing n.0 (tree_of s n) (members_of c.args.self.now))) (sym child) ∙ sym (ap any (c.standing.ensures context here)) ∙ sym c.any.ensures ∙ c.if-any.true
+    ap (λ (n : NodeId). any (tree_standing n.0 (tree_of s n) (members_of c.args.self.now))) (sym child) ∙ sym (ap any (c.existence_of.ensures context here)) ∙ sym c.any.ensures ∙ c.if-any.true
 
 pub returns-then-any-clause-others : goal.returns-then-any-clause-others
 returns-then-any-clause-others c = λ context stands pass at low high.
@@ -71,7 +71,7 @@ loop-place-preserved c =
       passed = λ context stands pass.
           let here : stands_in s p x ≡ true = ap (λ (n : NodeId). stands_in s p n) child ∙ inner_stands s p id at id kids.ensures.sound stands pass lt in
           let none : child_exists s id ms at ≡ false =
-          ap (λ (n : NodeId). any (tree_standing n.0 (tree_of s n) ms)) (sym child) ∙ sym (ap any (c.standing.ensures context here)) ∙ sym c.any.ensures ∙ c.if-any.false in
+          ap (λ (n : NodeId). any (tree_standing n.0 (tree_of s n) ms)) (sym child) ∙ sym (ap any (c.existence_of.ensures context here)) ∙ sym c.any.ensures ∙ c.if-any.false in
           passed_on (λ q. q < length (children_of s id) → child_exists s id ms q ≡ false) c.args.from at next.result
           (c.loop-place.invariant.passed context stands pass) (λ within. none)
           (unkept_places s c.args.self.now id kids.result.now (at + 1) next.result kids.ensures.sound c.requires context stands pass kids.ensures.value next.ensures.unkept);

@@ -1,7 +1,7 @@
 use Rattle.std.proofs.Common.{◌≡◌, ◌-◌, ◌<◌, ◌≤◌, ℕ, false, length, true}
 use Rattle.yv_nodes.specs.Rows.{children_of}
 use Rattle.yv_walk.specs.Context.{IsContext, members_of, parent_of}
-use Rattle.yv_walk.specs.Standing.{child_exists, passes, stands_in}
+use Rattle.yv_walk.specs.Existence.{child_exists, passes, stands_in}
 use Rattle.yv_walk.proofs.context.Context.next_existing.Given as goal
 
 -- none exists of those that were passed

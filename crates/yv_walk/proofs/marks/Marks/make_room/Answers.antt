@@ -1,7 +1,7 @@
 use Rattle.std.proofs.Common.{◌≡◌, true, sym, refl, ap, ◌∙◌}
 use Rattle.yv_nodes.specs.Rows.{row_at}
 use Rattle.yv_walk.specs.InnerMarks.{has_room}
-use Rattle.yv_walk.specs.Standing.{passes}
+use Rattle.yv_walk.specs.Existence.{passes}
 use Rattle.yv_walk.proofs.Above.{climb, inner_row, is_at, parent_less, parent_within}
 use Rattle.yv_walk.proofs.Bools.{or_left}
 use Rattle.yv_walk.proofs.Steps.{room_all, room_next}
@@ -33,7 +33,7 @@ loop-here-preserved c =
       within = parent_within s here c.parent-here-in-loop-here.result sound in_here up;
       same = λ n. c.make_room_at.ensures.same n ∙ c.loop-here.invariant.same n;
       room = λ a lt pass h. room_next s a here c.parent-here-in-loop-here.result c.loop-here.self c.make_room_at.new.self sound lt pass in_here up
-          c.number.result c.number.ensures c.in_ok-make_room_at.ensures.room c.make_room_at.ensures.kept (c.loop-here.invariant.room a lt pass h);
+          c.number.result c.number.ensures c.in_ok-make_room_at.ensures.room c.make_room_at.ensures.keeps (c.loop-here.invariant.room a lt pass h);
     }
 
 pub loop-here-smaller : goal.loop-here-smaller

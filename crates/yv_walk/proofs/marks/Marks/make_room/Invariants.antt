@@ -1,10 +1,10 @@
 use Rattle.std.proofs.Common.{◌≡◌, ◌<◌, ◌||◌, ℕ, length, true, ◌≤◌}
 use Rattle.yv_nodes.specs.declared.node.NodeId.{NodeId}
 use Rattle.yv_nodes.specs.Rows.{below, rank}
-use Rattle.yv_tables.specs.Sound.{IsSound}
+use Rattle.yv_schema_tables.specs.Sound.{IsSound}
 use Rattle.yv_walk.specs.InnerMarks.{has_room}
-use Rattle.yv_walk.specs.Marked.{mark_at}
-use Rattle.yv_walk.specs.Standing.{passes, holds}
+use Rattle.yv_walk.specs.Marks.{mark_at}
+use Rattle.yv_walk.specs.Existence.{passes, holds}
 use Rattle.yv_walk.proofs.Above.{is_at}
 use Rattle.yv_walk.proofs.marks.Marks.make_room.Given as goal
 

@@ -1,8 +1,8 @@
 use Rattle.std.proofs.Common.{◌≡◌, true, sym, ap, ◌∙◌}
 use Rattle.yv_nodes.specs.Rows.{row_at}
 use Rattle.yv_walk.specs.InnerMarks.{has_room}
-use Rattle.yv_walk.specs.Marked.{joined, mark_at}
-use Rattle.yv_walk.specs.Standing.{passes}
+use Rattle.yv_walk.specs.Marks.{with_node, mark_at}
+use Rattle.yv_walk.specs.Existence.{passes}
 use Rattle.yv_walk.proofs.Above.{climb, inner_row, is_at, parent_less, parent_within}
 use Rattle.yv_walk.proofs.Steps.{above_here, at_itself, climbed}
 use Rattle.yv_walk.proofs.marks.Marks.mark_all.Goals as goal
@@ -15,7 +15,7 @@ loop-id-init c =
     record {
       sound = sound;
       within = parent_within s c.args.id c.parent-here.result sound c.requires.node up;
-      marks = λ a lt pass. ap (λ b. joined b (mark_at c.args.self.now a.0) c.args.id)
+      marks = λ a lt pass. ap (λ b. with_node b (mark_at c.args.self.now a.0) c.args.id)
           (ap (is_at s a) up ∙ sym (climb s a c.args.id sound lt pass c.requires.node));
       room = λ a lt pass h. c.requires.room a lt pass (climb s a c.args.id sound lt pass c.requires.node ∙ ap (is_at s a) (sym up) ∙ h);
     }
@@ -32,10 +32,10 @@ loop-id-preserved c =
     record {
       sound = sound;
       within = parent_within s here next sound in_here up;
-      marks = λ a lt pass. climbed s a here next c.args.id c.loop-id.self c.mark_one.new.self sound lt pass in_here passing up
-          c.number.result c.number.ensures c.mark_one.ensures.marked
+      marks = λ a lt pass. climbed s a here next c.args.id c.loop-id.self c.mark_number.new.self sound lt pass in_here passing up
+          c.number.result c.number.ensures c.mark_number.ensures.marks
           ∙ c.loop-id.invariant.marks a lt pass;
-      room = λ a lt pass h. c.mark_one.ensures.kept a.0 (c.loop-id.invariant.room a lt pass (above_here s a here next sound lt pass in_here passing up h));
+      room = λ a lt pass h. c.mark_number.ensures.keeps a.0 (c.loop-id.invariant.room a lt pass (above_here s a here next sound lt pass in_here passing up h));
     }
 
 pub loop-id-smaller : goal.loop-id-smaller
@@ -46,8 +46,8 @@ loop-id-smaller c =
     let up : c.parent-here-in-loop-id.result ≡ (row_at s here).parent = c.parent-here-in-loop-id.ensures ∙ ap (λ r. r.parent) c.node-in-loop-id.ensures.value in
     parent_less s here c.parent-here-in-loop-id.result c.loop-id.invariant.sound c.loop-id.invariant.within passing up
 
-pub mark_one-requires : goal.mark_one-requires
-mark_one-requires c =
+pub mark_number-requires : goal.mark_number-requires
+mark_number-requires c =
     let s = c.args.schema.now in
     let here = c.loop-id.here in
     let passing : passes s here ≡ true = sym c.is_passed.ensures ∙ c.loop-id-test.true in

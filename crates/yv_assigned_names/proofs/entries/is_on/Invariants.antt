@@ -1,9 +1,0 @@
-use Rattle.std.proofs.Common.{◌≡◌, drop}
-use Rattle.yv_statement.specs.Tree.{trees}
-use Rattle.yv_link.specs.Linked.{truth_in}
-use Rattle.yv_features.specs.Blocks.{all_hold}
-use Rattle.yv_assigned_names.proofs.entries.is_on.Given as goal
-
-abbrev pub invariant-loop-child : goal.invariant-loop-child
-invariant-loop-child l =
-    all_hold (truth_in l.linked l.file) (drop l.child-index (trees l.line.children)) ≡ all_hold (truth_in l.linked l.file) (trees l.line.children)

@@ -1,3 +1,0 @@
-mod Faulty
-mod Stepping
-mod Walking

@@ -1,7 +1,0 @@
-use Rattle.std.proofs.Common.{◌≡◌, map, take, if◌then◌else◌, Some, None}
-use Rattle.yv_rows.specs.Lent.{rows_in}
-use Rattle.yv_augmented.specs.Giving.{is_item}
-use Rattle.yv_augmented.proofs.giving.item_places.Given as goal
-
-abbrev pub invariant-loop-entry : goal.invariant-loop-entry
-invariant-loop-entry l = map (λ r. if is_item r then Some r.scope else None) (take l.entry-index (rows_in l.rows)) ≡ l.places.items

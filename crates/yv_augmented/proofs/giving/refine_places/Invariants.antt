@@ -1,7 +1,0 @@
-use Rattle.std.proofs.Common.{◌≡◌, map, take, if◌then◌else◌, Some, None}
-use Rattle.yv_rows.specs.Lent.{rows_in}
-use Rattle.yv_augmented.specs.Refining.{is_refine}
-use Rattle.yv_augmented.proofs.giving.refine_places.Given as goal
-
-abbrev pub invariant-loop-entry : goal.invariant-loop-entry
-invariant-loop-entry l = map (λ r. if is_refine r then Some r.scope else None) (take l.entry-index (rows_in l.rows)) ≡ l.places.items

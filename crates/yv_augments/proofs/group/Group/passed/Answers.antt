@@ -1,4 +1,0 @@
-use Rattle.yv_augments.proofs.group.Group.passed.Goals as goal
-
-pub returns-then-self-clause-behind : goal.returns-then-self-clause-behind
-returns-then-self-clause-behind c = λ labels members is. c.front.ensures.behind labels members is c.if-self.true

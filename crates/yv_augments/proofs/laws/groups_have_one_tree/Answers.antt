@@ -1,5 +1,0 @@
-use Rattle.yv_augments.proofs.Unique.{tree_one}
-use Rattle.yv_augments.proofs.laws.groups_have_one_tree.Goals as goal
-
-pub returns : goal.returns
-returns c = tree_one

@@ -1,5 +1,0 @@
-use Rattle.yv_augments.proofs.Parents.{parents_first}
-use Rattle.yv_augments.proofs.laws.parents_come_first.Goals as goal
-
-pub returns : goal.returns
-returns c = parents_first

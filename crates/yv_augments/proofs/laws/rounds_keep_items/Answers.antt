@@ -1,5 +1,0 @@
-use Rattle.yv_augments.proofs.Once.{rounds_times}
-use Rattle.yv_augments.proofs.laws.rounds_keep_items.Goals as goal
-
-pub returns : goal.returns
-returns c = rounds_times

@@ -1,5 +1,0 @@
-use Rattle.yv_augments.proofs.Unique.{rows_one}
-use Rattle.yv_augments.proofs.laws.the_final_tree_is_one.Goals as goal
-
-pub returns : goal.returns
-returns c = rows_one

@@ -1,9 +1,0 @@
-use Rattle.std.proofs.Common.{set, ◌∙◌, ap}
-use Rattle.std.proofs.lemmas.List.{map-set}
-use Rattle.yv_augments.specs.InnerListing.{groups_in}
-use Rattle.yv_augments.proofs.listing.take_group.Goals as goal
-
-pub returns-clause-others : goal.returns-clause-others
-returns-clause-others c =
-    map-set (λ v. v.items) c.args.groups.now.items c.args.group c.replace-items.new.dest
-    ∙ ap (λ ms. set (groups_in c.args.groups.now.items) c.args.group ms) (ap (λ v. v.items) c.replace-items.ensures.after ∙ c.new-2.ensures.items)

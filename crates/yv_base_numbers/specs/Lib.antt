@@ -1,0 +1,11 @@
+pub mod Intervals
+pub mod Numbers
+pub mod Numerals
+pub mod Assignment
+pub mod Entries
+pub mod InnerParts
+pub mod InnerEarlierEntries
+pub mod InnerStatedNumbers
+pub mod RestrictedIntervals
+pub mod Numberings
+pub mod Restrictions

@@ -1,0 +1,5 @@
+pub mod Parting
+pub mod Chaining
+pub mod Listing
+pub mod Rows
+pub mod Growing

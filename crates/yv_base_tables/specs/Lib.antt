@@ -1,0 +1,6 @@
+pub mod Families
+pub mod InnerParts
+pub mod InnerChains
+pub mod Fronts
+pub mod InnerTree
+pub mod Sparse

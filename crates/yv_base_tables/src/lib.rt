@@ -1,0 +1,13 @@
+//! Numbers by their places, as statements by the block that contains them.
+#![tactic(auto)]
+
+mod chains;
+mod families;
+pub mod laws;
+mod path_tree;
+pub mod path_tree_laws;
+mod sparse;
+
+pub use families::Families;
+pub use path_tree::PathTree;
+pub use sparse::Sparse;

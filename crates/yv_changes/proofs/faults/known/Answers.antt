@@ -1,7 +1,0 @@
-use Rattle.std.proofs.Common.{◌∙◌, sym, subst}
-use Rattle.yv_changes.specs.InnerFaults.{IsJudged}
-use Rattle.yv_changes.proofs.faults.known.Goals as goal
-
-pub returns-in-Some : goal.returns-in-Some
-returns-in-Some c = λ files aims judged spots targets tree item e there.
-    subst (IsJudged files aims) c.in-Some.is judged spots targets tree item (sym c.deref.ensures.value ∙ c.is_same.ensures c.if-is_same.true ∙ e) there

@@ -1,5 +1,0 @@
-use Rattle.yv_condition.proofs.Named.{of_expression}
-use Rattle.yv_condition.proofs.laws.names_stand_in_order.Goals as goal
-
-pub returns : goal.returns
-returns c = λ text made. of_expression

@@ -1,7 +1,0 @@
--- Inner definitions, which only clauses of private functions cite: what the code's tables hold.
-use Rattle.yv_statement.specs.declared.keyword.Keyword.{Keyword}
-use Rattle.yv_conform.specs.declared.table.Occurs.{Occurs}
-use Rattle.yv_conform.specs.declared.table.Row.{Row}
-
-abbrev pub row : Row → Keyword × Occurs
-row r = (r.child, r.occurs)

@@ -1,6 +1,0 @@
-pub mod Saying
-pub mod Finding
-pub mod Once
-pub mod Scoping
-pub mod Binding
-pub mod Keeping

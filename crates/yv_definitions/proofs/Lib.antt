@@ -1,9 +1,0 @@
-pub mod AllKept
-pub mod Expressions
-pub mod Firsts
-pub mod Later
-pub mod Listing
-pub mod Separating
-pub mod Shared
-pub mod Spacing
-pub mod TypeKinds

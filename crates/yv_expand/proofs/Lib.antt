@@ -1,0 +1,26 @@
+pub mod UnitWords
+pub mod UnitOnce
+pub mod UnitListing
+pub mod UnitPlacing
+pub mod Using
+pub mod Stepping
+pub mod Settling
+pub mod Cycling
+pub mod Limiting
+pub mod Weighing
+pub mod Fitting
+pub mod BlockLemmas
+pub mod Sparing
+mod ItemListing
+pub mod Words
+pub mod Listing
+pub mod Placing
+pub mod Referring
+pub mod Once
+pub mod Giving
+pub mod Filing
+pub mod Standing
+pub mod Pending
+pub mod Stacking
+pub mod Expanding
+pub mod Ordered

@@ -1,0 +1,5 @@
+use Rattle.yv_expand.proofs.Sparing.{file_spared}
+use Rattle.yv_expand.proofs.conformance_laws.what_is_not_refused_fits.Goals as goal
+
+pub returns : goal.returns
+returns c = λ t clear. file_spared c.a_text_spells_an_if_feature_or_none.ensures t clear

@@ -1,0 +1,35 @@
+//! Laws about the definitions only. These functions do nothing: the contract of each is the law.
+ghost use Rattle.std.specs.Prelude.{◌≡◌, ℕ, Some, false, slice_get, true};
+ghost use Rattle.yv_statement.specs.Tree.{Tree};
+ghost use Rattle.yv_statement.specs.declared.refusal.Refusal.{Refusal};
+ghost use Rattle.yv_text_grammar.specs.Refusals.{Bad};
+ghost use Rattle.yv_text_grammar.specs.Fits.{Fits, FitsIn};
+ghost use Rattle.yv_statement.specs.declared.keyword.Keyword.{Keyword};
+ghost use Rattle.yv_link_scopes.specs.Files.{Files};
+ghost use Rattle.yv_link_scopes.specs.RowList.{rows_of, statements_of};
+ghost use Rattle.yv_link_scopes.specs.Rows.{Row};
+ghost use Rattle.yv_expand.specs.Conformance.{Conform, gives_nodes, is_lowest};
+
+/// A file of which nothing is refused conforms.
+pub fn what_is_not_refused_fits()
+    ensures { (t : Tree) → ((f : Refusal) → Bad t f → ⊥) → Fits t }
+{
+    yv_text_if_feature::laws::a_text_spells_an_if_feature_or_none();
+}
+
+/// Each numbered statement of files that conform fits in the block of some statement.
+pub fn numbered_statements_fit()
+    ensures { (files : Files) (k : ℕ) (t : Tree) → Conform files → slice_get (statements_of files) k ≡ Some t
+        → (parent : Keyword) × FitsIn parent t }
+{}
+
+/// In files that conform, nothing in the block of a leaf, leaf-list, anydata or anyxml gives a schema node.
+pub fn no_node_stands_in_a_leaf()
+    ensures { (files : Files) (k j : ℕ) (q r : Row) → Conform files → slice_get (rows_of files) k ≡ Some q → is_lowest q ≡ true
+        → slice_get (rows_of files) j ≡ Some r → r.scope ≡ k → gives_nodes r ≡ false }
+{
+    yv_link_scopes::laws::modules_are_files();
+    yv_link_scopes::laws::roots_come_first();
+    yv_link_scopes::laws::statements_have_their_rows();
+    yv_link_scopes::laws::statements_stand_in_their_blocks();
+}

@@ -1,0 +1,93 @@
+//! Items in a list that keeps to a limit.
+ghost use Rattle.std.specs.Prelude.{◌≡◌, ◌≤◌, ◌<◌, ◌==◌, ℕ, [], ◌∷◌, ◌++◌, Some, length, take, OnOk, OnErr};
+
+use crate::item::Item;
+use std::alloc::{AllocError, Global};
+use std::marker::Model;
+
+/// Items with numbers from 0, each after its parent, and never more than a limit. Contracts see the limit and the items.
+#[derive(Drop)]
+pub struct Expansion {
+    limit: u32,
+    items: Vec<Item>,
+}
+
+impl Model for Expansion {
+    ghost use Rattle.std.specs.Prelude.{◌≤◌, length, vec_capacity};
+    ghost use Rattle.yv_expand.specs.ItemLimit.{WithinLimit, ParentsComeFirst};
+
+    ghost Value = { WithinLimit };
+
+    ghost view = { λ a. record { limit = a.limit; capacity = vec_capacity a.items; items = a.items.items } };
+
+    ghost invariant = { λ a. (length a.items.items ≤ a.limit) × ParentsComeFirst a.items.items };
+}
+
+impl Expansion {
+    ghost use Rattle.yv_expand.specs.ItemLimit.{ParentsComeFirst};
+
+    /// No items.
+    pub fn new(alloc: Global, limit: u32) -> Expansion
+        ensures limit { result.limit ≡ limit }
+        ensures items { result.items ≡ [] }
+    {
+        Expansion {
+            limit,
+            items: Vec::new(alloc),
+        }
+    }
+
+    /// The most items that it may hold.
+    pub fn limit(&self) -> u32
+        ensures { result ≡ self.now.limit }
+    {
+        self.limit
+    }
+
+    /// How many items there are.
+    pub fn len(&self) -> u32
+        ensures count { result ≡ length self.now.items }
+        ensures within { length self.now.items ≤ self.now.limit }
+    {
+        let _limit = self.limit;
+        self.items.len() as u32
+    }
+
+    /// Whether there are no items.
+    pub fn is_empty(&self) -> bool
+        ensures { result ≡ (length self.now.items == 0) }
+    {
+        self.items.is_empty()
+    }
+
+    /// The items in the order of their numbers.
+    pub fn items(&self) -> &[Item]
+        ensures items { result.now ≡ self.now.items }
+        ensures parents { ParentsComeFirst result.now }
+    {
+        self.items.as_slice()
+    }
+
+    /// Adds an item after the others. There must be room, and its parent must be there. An error, which changes nothing, occurs
+    /// only where more memory had to be allocated.
+    pub fn push(&mut self, item: Item) -> Result<(), AllocError>
+        requires room { length self.old.items < self.old.limit }
+        requires parent { (p : ℕ) → item.parent ≡ Some p → p < length self.old.items }
+        ensures adds { OnOk result (self.new.items ≡ self.old.items ++ item ∷ []) }
+        ensures same { OnErr result (self.new.items ≡ self.old.items) }
+        ensures full { OnErr result (self.old.capacity ≤ length self.old.items) }
+        ensures keeps { self.old.capacity ≤ self.new.capacity }
+        ensures limit { self.new.limit ≡ self.old.limit }
+    {
+        self.items.push(item)?;
+        Ok(())
+    }
+
+    /// Leaves so many of the first items, or all where there are no more.
+    pub fn truncate(&mut self, count: u32)
+        ensures items { self.new.items ≡ take count self.old.items }
+        ensures limit { self.new.limit ≡ self.old.limit }
+    {
+        self.items.truncate(count as usize);
+    }
+}

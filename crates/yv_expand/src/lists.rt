@@ -1,0 +1,176 @@
+//! Statements by the block or by the file that contains them.
+ghost use Rattle.std.specs.Prelude.{◌≡◌, false, length, if◌then◌else◌, slice_index_or, IfOk};
+ghost use Rattle.std.specs.List.{flat_map};
+ghost use Rattle.yv_link_scopes.specs.Files.{Briefs};
+ghost use Rattle.yv_link_scopes.specs.Rows.{row};
+ghost use Rattle.yv_link_scopes.specs.Views.{files_in, rows_in};
+ghost use Rattle.yv_expand.specs.InnerItems.{AreEmpty, AreModuleFiles, ArePlaced, block_place, is_wanted, top_place, numbers_at, top_at, tops_before};
+
+use crate::own::is_item;
+use std::alloc::{AllocError, Global};
+use yv_link_scopes::{Entry, Rows};
+
+// So many empty lists.
+fn no_lists(alloc: Global, count: usize) -> Result<Vec<Vec<usize>>, AllocError>
+    ensures { IfOk result (λ lists. (length lists.items ≡ count) × AreEmpty lists.items) }
+{
+    let mut lists = Vec::new(alloc);
+    for _ in 0..count {
+        lists.push(Vec::new(alloc))?;
+    }
+    Ok(lists)
+}
+
+/// Which statements are listed.
+#[derive(Clone, Copy)]
+pub(crate) enum WantedFiles {
+    /// Those that are items.
+    Items,
+    Inputs,
+    Outputs,
+    Augments,
+}
+
+// Whether a statement is one of those that are wanted.
+fn is_wanted(wanted: WantedFiles, entry: &Entry<'_, '_>) -> bool
+    ensures { result ≡ is_wanted wanted (row entry.now) }
+{
+    match wanted {
+        WantedFiles::Items => is_item(entry),
+        WantedFiles::Inputs => entry.statement.keyword() == "input",
+        WantedFiles::Outputs => entry.statement.keyword() == "output",
+        WantedFiles::Augments => entry.statement.keyword() == "augment",
+    }
+}
+
+// The block in which a statement stands that is wanted.
+fn block_place(wanted: WantedFiles, number: usize, entry: &Entry<'_, '_>) -> Option<usize>
+    ensures { result ≡ block_place (is_wanted wanted) number (row entry.now) }
+{
+    if is_wanted(wanted, entry) && entry.scope != number {
+        Some(entry.scope)
+    } else {
+        None
+    }
+}
+
+// For each file that of its module. A name is looked up once for a file, and not for each statement at its top: the
+// names may be long.
+fn module_files(alloc: Global, rows: &Rows<'_, '_>) -> Result<Vec<usize>, AllocError>
+    ensures { IfOk result (λ module_files. AreModuleFiles (files_in rows.now) module_files.items) }
+{
+    let mut module_files = Vec::new(alloc);
+    for number in 0..rows.files().len() {
+        module_files.push(rows.module_file(number))?;
+    }
+    Ok(module_files)
+}
+
+// The file at whose top a statement stands that is wanted.
+fn top_place(
+    wanted: WantedFiles,
+    module_files: &[usize],
+    number: usize,
+    entry: &Entry<'_, '_>,
+) -> Option<usize>
+    ensures { (files : Briefs) → AreModuleFiles files module_files.now → result ≡ top_place (is_wanted wanted) files number (row entry.now) }
+{
+    let file = entry.file as usize;
+    let module_file = module_files.get(file).copied().unwrap_or(file);
+    if is_wanted(wanted, entry) && entry.scope == module_file && entry.scope != number {
+        Some(file)
+    } else {
+        None
+    }
+}
+
+/// For each statement those in its block that are wanted.
+pub(crate) fn of_blocks(
+    alloc: Global,
+    rows: &Rows<'_, '_>,
+    wanted: WantedFiles,
+) -> Result<Vec<Vec<usize>>, AllocError>
+    ensures { IfOk result (λ lists. ArePlaced (block_place (is_wanted wanted)) (rows_in rows.now) (length (rows_in rows.now)) lists.items) }
+{
+    yv_link_scopes::laws::blocks_are_nested();
+    let entries = rows.entries();
+    let mut lists = no_lists(alloc, entries.len())?;
+    for (number, entry) in entries.iter().enumerate() {
+        if let Some(place) = block_place(wanted, number, entry) {
+            lists[place].push(number)?;
+        }
+    }
+    Ok(lists)
+}
+
+/// For each file those at its top that are wanted.
+pub(crate) fn of_files(
+    alloc: Global,
+    rows: &Rows<'_, '_>,
+    wanted: WantedFiles,
+) -> Result<Vec<Vec<usize>>, AllocError>
+    ensures { IfOk result (λ lists. ArePlaced (top_place (is_wanted wanted) (files_in rows.now)) (rows_in rows.now)
+        (length (files_in rows.now)) lists.items) }
+{
+    yv_link_scopes::laws::roots_come_first();
+    let module_files = module_files(alloc, rows)?;
+    let mut lists = no_lists(alloc, rows.files().len())?;
+    for (number, entry) in rows.entries().iter().enumerate() {
+        if let Some(place) = top_place(wanted, &module_files, number, entry) {
+            lists[place].push(number)?;
+        }
+    }
+    Ok(lists)
+}
+
+/// Those of the list of a number; none past the last.
+pub(crate) fn numbers_at(lists: &[Vec<usize>], number: usize) -> &[usize]
+    ensures { result.now ≡ numbers_at lists.now number }
+{
+    match lists.get(number) {
+        Some(numbers) => numbers,
+        None => &[],
+    }
+}
+
+// The statements at the top of a file that were listed, if it is given.
+fn top_at<'a>(tops: &'a [Vec<usize>], given: &[bool], file: usize) -> &'a [usize]
+    ensures { result.now ≡ top_at tops.now given.now file }
+{
+    if given.get(file).copied().unwrap_or(false) {
+        numbers_at(tops, file)
+    } else {
+        &[]
+    }
+}
+
+/// Those at the tops of all files that are given, in their order.
+pub(crate) fn firsts(
+    alloc: Global,
+    tops: &[Vec<usize>],
+    given: &[bool],
+) -> Result<Vec<usize>, AllocError>
+    ensures { IfOk result (λ firsts. firsts.items ≡ tops_before tops.now given.now (length tops.now)) }
+{
+    let mut firsts = Vec::new(alloc);
+    for file in 0..tops.len() {
+        firsts.extend_from_slice(top_at(tops, given, file))?;
+    }
+    Ok(firsts)
+}
+
+/// Those at the tops of the files of an order that are given, one file after the other.
+pub(crate) fn firsts_in(
+    alloc: Global,
+    tops: &[Vec<usize>],
+    given: &[bool],
+    order: &[usize],
+) -> Result<Vec<usize>, AllocError>
+    ensures { IfOk result (λ firsts. firsts.items ≡ flat_map (top_at tops.now given.now) order.now) }
+{
+    let mut firsts = Vec::new(alloc);
+    for file in order {
+        firsts.extend_from_slice(top_at(tops, given, *file))?;
+    }
+    Ok(firsts)
+}

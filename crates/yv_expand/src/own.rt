@@ -1,0 +1,52 @@
+//! Which statements are items.
+ghost use Rattle.std.specs.Prelude.{◌≡◌, map};
+ghost use Rattle.yv_link_scopes.specs.Rows.{row};
+ghost use Rattle.yv_link_definitions.specs.BuiltIn.{is_among};
+ghost use Rattle.yv_expand.specs.Units.{nodes, operations};
+ghost use Rattle.yv_expand.specs.Expands.{is_item, is_operation};
+
+use yv_link_scopes::Entry;
+
+static NODES: [&str; 10] = [
+    "container",
+    "leaf",
+    "leaf-list",
+    "list",
+    "choice",
+    "case",
+    "anydata",
+    "anyxml",
+    "notification",
+    "uses",
+];
+
+static OPERATIONS: [&str; 2] = ["rpc", "action"];
+
+// Whether one of the words is the name.
+fn is_among(words: &[&str], name: &str) -> bool
+    ensures { result ≡ is_among (map (λ w. w.now) words.now) name.now }
+{
+    for word in words {
+        if *word == name {
+            return true;
+        }
+    }
+    false
+}
+
+/// Whether a statement is an rpc or an action.
+#[tactic(auto, unfolding(crate::specs::Expands::is_operation))]
+pub(crate) fn is_operation(entry: &Entry<'_, '_>) -> bool
+    ensures { result ≡ is_operation (row entry.now) }
+{
+    is_among(&OPERATIONS, entry.statement.keyword())
+}
+
+/// Whether a statement is an item: one that gives a schema node, or a uses.
+#[tactic(auto, unfolding(crate::specs::Expands::is_item))]
+pub(crate) fn is_item(entry: &Entry<'_, '_>) -> bool
+    ensures { result ≡ is_item (row entry.now) }
+{
+    let keyword = entry.statement.keyword();
+    is_among(&NODES, keyword) || is_among(&OPERATIONS, keyword)
+}

@@ -1,0 +1,5 @@
+use Rattle.yv_expand_augments.proofs.Given.{once_of}
+use Rattle.yv_expand_augments.proofs.laws.items_stand_once.Goals as goal
+
+pub returns : goal.returns
+returns c = once_of c.each_item_stands_once.ensures.applies

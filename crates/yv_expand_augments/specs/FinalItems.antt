@@ -1,0 +1,34 @@
+-- What is known of items when augments were applied; how, only the readers ask.
+use Rattle.std.specs.Prelude.{◌≡◌, ℕ, List, length, None, slice_index_or}
+use Rattle.yv_statement.specs.Order.{IsLeast}
+use Rattle.yv_expand.specs.Tree.{Item}
+use Rattle.yv_expand_rounds.specs.Turns.{State}
+use Rattle.yv_expand_rounds.specs.Placements.{StandOnce}
+use Rattle.yv_expand_rounds.specs.Tree.{AreRows}
+use Rattle.yv_expand_rounds.specs.InnerState.{IsAugmentation}
+use Rattle.yv_expand_refines.specs.Targets.{all_meant}
+use Rattle.yv_expand_augments.specs.Spots.{Whole, labels_of, layout_of}
+use Rattle.yv_expand_augments.specs.Ends.{end_at}
+use Rattle.yv_expand_augments.specs.Augmentation.{AreAugmented}
+use Rattle.yv_expand_augments.specs.RefineTargets.{refined_all}
+use Rattle.yv_expand_augments.specs.MissingTargets.{MissesAt}
+use Rattle.yv_expand_augments.specs.declared.augmentation.AugmentedItems.{AugmentedItems}
+use Rattle.yv_expand_augments.specs.declared.final_tree.AugmentedTree.{AugmentedTree}
+
+-- these items stand so, each once
+pub record AreAugmentedItems (w : Whole) (items : List Item) (st : State) (grafts : AugmentedItems) : Type 0 where
+  pub grafted : AreAugmented w items st
+  pub each : length (layout_of w items).spots ≡ length items
+  pub once : StandOnce (length items) st.groups
+  pub spots : grafts.spots.items ≡ (layout_of w items).spots
+  pub missing : (i : ℕ) → IsLeast (MissesAt w (layout_of w items) (end_at items i) i) (slice_index_or grafts.missing.items i None)
+  pub refined : all_meant grafts.refined ≡ refined_all w items
+  pub grafting : IsAugmentation (labels_of (layout_of w items).spots) st grafts.grafting
+
+-- this is the final tree of items that stand so
+pub record AreAugmentedTree (w : Whole) (items : List Item) (st : State) (grown : AugmentedTree) : Type 0 where
+  pub grafted : AreAugmented w items st
+  pub tree : AreRows (labels_of (layout_of w items).spots) st.groups grown.tree.items
+  pub spots : grown.spots.items ≡ (layout_of w items).spots
+  pub refined : all_meant grown.refined ≡ refined_all w items
+  pub missing : (i : ℕ) → IsLeast (MissesAt w (layout_of w items) (end_at items i) i) (slice_index_or grown.missing.items i None)

@@ -1,0 +1,11 @@
+pub mod Noting
+pub mod Leading
+pub mod Copying
+pub mod Keeping
+pub mod Entering
+pub mod Refusing
+pub mod Judging
+pub mod Reading
+pub mod Saying
+pub mod Known
+pub mod Following

@@ -1,0 +1,51 @@
+use Rattle.std.proofs.Common.{◌≡◌, ◌<◌, ◌++◌, ℕ, List, length, map, refl, sym, ◌∙◌, ap, subst, arith}
+use Rattle.std.proofs.lemmas.List.{append-nil}
+use Rattle.std.proofs.lemmas.Option.{slice_get_read}
+use Rattle.yv_link_scopes.specs.Views.{lent_in}
+use Rattle.yv_expand_refines.specs.Targets.{targets_at, targets_of, meaning_of}
+use Rattle.yv_expand_refines.specs.declared.targets.RefineTarget.{RefineTarget}
+use Rattle.yv_expand_changes.specs.Changes.{all_changes}
+use Rattle.yv_expand_changes.specs.InnerRuns.{IsKnown}
+use Rattle.yv_expand_changes.proofs.Keeping.{both_ok, known_more, nothing_meant, on_ok}
+use Rattle.yv_expand_changes.proofs.item_changes.note_copy.Goals as goal
+
+pub returns-then-place-aims-clause-each : goal.returns-then-place-aims-clause-each
+returns-then-place-aims-clause-each c = λ refined before.
+    before
+    ∙ ap (all_changes (lent_in c.args.rows.now) c.args.spots.now)
+    (sym (append-nil refined) ∙ ap (λ l. refined ++ l) (sym (nothing_meant c.args.aims.now c.args.uses.now c.if-place-aims.true)))
+
+pub returns-clause-knows : goal.returns-clause-knows
+returns-clause-knows c =
+    let files = lent_in c.args.rows.now in
+    let place : ℕ = c.args.uses.now.aims in
+    let within : place < length c.args.aims.now = omega (arith, c.if-place-aims.false) in
+    let there : place < length c.args.known.now.items = omega (arith, within, c.requires.each) in
+    let aims : c.deref.result.now ≡ targets_at c.args.aims.now place =
+    c.deref.ensures.value ∙ sym (ap targets_of (slice_get_read c.args.aims.now _ place c.index-aims-place.result refl within c.index-aims-place.is))
+    in
+    let was : IsKnown files c.deref.result.now c.args.changes.now.runs c.index_mut.result.now =
+    subst (λ (l : List RefineTarget). IsKnown files l c.args.changes.now.runs c.index_mut.result.now) (sym aims)
+    (c.requires.are place c.index_mut.result.now (slice_get_read c.args.known.now.items _ place c.index_mut.result.now refl there c.index_mut.ensures.value))
+    in
+    both_ok c.note.result
+    (λ keeps now. known_more files c.args.aims.now c.args.changes.now.runs c.note.new.changes.runs c.args.known.now.items place c.note.new.self keeps c.requires
+    (subst (λ (l : List RefineTarget). IsKnown files l c.note.new.changes.runs c.note.new.self) aims now))
+    c.note.ensures.runs (c.note.ensures.knows was)
+
+pub returns-clause-each : goal.returns-clause-each
+returns-clause-each c = λ refined before.
+    let files = lent_in c.args.rows.now in
+    let place : ℕ = c.args.uses.now.aims in
+    let within : place < length c.args.aims.now = omega (arith, c.if-place-aims.false) in
+    let there : place < length c.args.known.now.items = omega (arith, within, c.requires.each) in
+    let aims : c.deref.result.now ≡ targets_at c.args.aims.now place =
+    c.deref.ensures.value ∙ sym (ap targets_of (slice_get_read c.args.aims.now _ place c.index-aims-place.result refl within c.index-aims-place.is))
+    in
+    let was : IsKnown files c.deref.result.now c.args.changes.now.runs c.index_mut.result.now =
+    subst (λ (l : List RefineTarget). IsKnown files l c.args.changes.now.runs c.index_mut.result.now) (sym aims)
+    (c.requires.are place c.index_mut.result.now (slice_get_read c.args.known.now.items _ place c.index_mut.result.now refl there c.index_mut.ensures.value))
+    in
+    on_ok c.note.result
+    (λ e. e ∙ ap (λ (l : List RefineTarget). all_changes files c.args.spots.now (refined ++ map (meaning_of c.args.uses.now.item c.args.uses.now.targets.items) l)) aims)
+    (c.note.ensures.each refined was before)

@@ -1,0 +1,17 @@
+use Rattle.std.proofs.Common.{arith}
+use Rattle.std.proofs.lemmas.Option.{slice_get-get_or}
+use Rattle.yv_link_scopes.specs.Views.{lent_in}
+use Rattle.yv_expand_refines.specs.declared.targets.RefineTarget.{RefineTarget}
+use Rattle.yv_expand_changes.proofs.Judging.{all_judged, one_judged}
+use Rattle.yv_expand_changes.proofs.refusals.least_of.Goals as goal
+
+pub loop-aim-preserved : goal.loop-aim-preserved
+loop-aim-preserved c = λ spots targets tree item e there.
+    let none : RefineTarget = record { refine = 0; path = 0 } in
+    one_judged (lent_in c.args.rows.now) spots tree targets item c.args.ways.now c.args.aims.now c.loop-aim.aim-index _ c.loop-aim.least c.refusal_of_refine.result c.lesser-least.result e there
+    (slice_get-get_or c.args.aims.now c.loop-aim.aim-index none c.loop-aim-test.true) c.lesser-least.ensures c.refusal_of_refine.ensures (c.loop-aim.invariant spots targets tree item e there)
+
+pub returns : goal.returns
+returns c = λ spots targets tree item e there.
+    all_judged (lent_in c.args.rows.now) spots tree item targets c.args.aims.now c.loop-aim.aim-index c.loop-aim.least (omega (arith, c.loop-aim-test.false, c.loop-aim.auto.aim-index-end))
+    (c.loop-aim.invariant spots targets tree item e there)

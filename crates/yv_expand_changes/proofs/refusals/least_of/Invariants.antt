@@ -1,0 +1,14 @@
+use Rattle.std.proofs.Common.{◌≡◌, ℕ, List, Option, map}
+use Rattle.yv_statement.specs.Order.{Among, IsLeast}
+use Rattle.yv_link_scopes.specs.Views.{lent_in}
+use Rattle.yv_expand_rounds.specs.declared.row.ItemRow.{ItemRow}
+use Rattle.yv_expand_augments.specs.declared.spot.Spot.{Spot}
+use Rattle.yv_expand_refines.specs.Targets.{meaning_of}
+use Rattle.yv_expand_changes.specs.Refusals.{IsThere, IsWrong}
+use Rattle.yv_expand_changes.specs.InnerAlike.{ways_of}
+use Rattle.yv_expand_changes.proofs.refusals.least_of.Given as goal
+
+abbrev pub invariant-loop-aim : goal.invariant-loop-aim
+invariant-loop-aim l =
+    (spots : List Spot) (targets : List (Option ℕ)) (tree : List ItemRow) (item : ℕ) → l.ways ≡ ways_of spots targets → IsThere tree item
+    → IsLeast (Among (map (meaning_of item targets) l.aims) (λ place x. IsWrong (lent_in l.rows) spots tree x) l.aim-index) l.least

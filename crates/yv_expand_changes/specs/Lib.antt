@@ -1,0 +1,12 @@
+pub mod AllowedRefines
+pub mod Changes
+pub mod Refusals
+pub mod InnerLists
+pub mod InnerAlike
+pub mod InnerRuns
+pub mod InnerRefusals
+pub mod IfFeatures
+pub mod Properties
+pub mod InnerIfFeatures
+pub mod InnerProperties
+pub mod InnerSequences

@@ -1,0 +1,177 @@
+//! What is wrong with refines.
+ghost use Rattle.std.specs.Prelude.{◌≡◌, List, None, slice_get, slice_index_or, IfOk, IfSome, OnOk};
+ghost use Rattle.yv_statement.specs.Order.{IsLeast};
+ghost use Rattle.yv_link_scopes.specs.Files.{Files};
+ghost use Rattle.yv_link_scopes.specs.Views.{lent_in, rows_in};
+ghost use Rattle.yv_expand_rounds.specs.declared.row.ItemRow.{ItemRow};
+ghost use Rattle.yv_expand_refines.specs.Targets.{all_meant, meant_at};
+ghost use Rattle.yv_expand_refines.specs.declared.targets.RefineTarget.{RefineTarget};
+ghost use Rattle.yv_expand_changes.specs.Refusals.{BadRefines};
+ghost use Rattle.yv_expand_changes.specs.InnerAlike.{ways_of};
+ghost use Rattle.yv_expand_changes.specs.InnerRefusals.{AreItems, AreJudged, IsJudged, IsLeastOf, code_at, refusal_of_code};
+
+use crate::allowed_refines::is_fit_at;
+use crate::runs::way_at;
+use crate::ways::{Way, is_same, read_ways};
+use std::alloc::{AllocError, Global};
+use std::collections::BTreeSet;
+use yv_expand_augments::Spot;
+use yv_expand_refines::{RefineTarget, RefinedUses, Refinements};
+use yv_expand_rounds::ItemRow;
+use yv_link_scopes::Rows;
+use yv_statement::{Code, Refusal, lesser, refusal_if};
+
+// The numbers of the items of the final tree.
+fn items_of(alloc: Global, tree: &[ItemRow]) -> Result<BTreeSet<usize>, AllocError>
+    ensures { IfOk result (λ items. AreItems items tree.now) }
+{
+    let mut items = BTreeSet::new(alloc);
+    for row in tree {
+        items.insert(row.number)?;
+    }
+    Ok(items)
+}
+
+// What is wrong with a refine, if anything is: it means no item, or isn't fit for the one that it
+// means.
+fn code_at(rows: &Rows<'_, '_>, way: Option<Way>, refine: usize) -> Option<Code>
+    ensures { result ≡ code_at (lent_in rows.now) refine way }
+{
+    match way {
+        None => Some(Code::RefineTarget),
+        Some(way) if is_fit_at(rows, way.statement, refine) => None,
+        Some(_) => Some(Code::BadRefine),
+    }
+}
+
+// The refusal of a numbered statement with which this is wrong.
+fn refusal(rows: &Rows<'_, '_>, code: Option<Code>, number: usize) -> Option<Refusal>
+    ensures { result ≡ refusal_of_code code (slice_get (rows_in rows.now) number) }
+{
+    let code = code?;
+    let entry = rows.entries().get(number)?;
+    refusal_if(true, code, entry.file, entry.statement)
+}
+
+// The refusal of a refine at copies that agree on these ways, if it is wrong.
+fn refusal_of_refine(
+    rows: &Rows<'_, '_>,
+    ways: &[Option<Way>],
+    aim: RefineTarget,
+) -> Option<Refusal>
+    ensures { result ≡ refusal_of_code (code_at (lent_in rows.now) aim.refine (slice_index_or ways.now aim.path None))
+        (slice_get (rows_in rows.now) aim.refine) }
+{
+    let code = code_at(rows, way_at(ways, aim.path), aim.refine);
+    refusal(rows, code, aim.refine)
+}
+
+// The least refusal of the refines of a copy.
+fn least_of(rows: &Rows<'_, '_>, ways: &[Option<Way>], aims: &[RefineTarget]) -> Option<Refusal>
+    ensures { IsLeastOf (lent_in rows.now) aims.now ways.now result }
+{
+    let mut least = None;
+    for aim in aims {
+        least = lesser(least, refusal_of_refine(rows, ways, *aim));
+    }
+    least
+}
+
+// The least refusal of the refines of those copies of a `uses` that are alike.
+#[derive(Drop)]
+pub(crate) struct Judgement {
+    ways: Vec<Option<Way>>,
+    least: Option<Refusal>,
+}
+
+// Nothing was judged of so many uses.
+fn nothing_judged(
+    alloc: Global,
+    aims: &[Vec<RefineTarget>],
+) -> Result<Vec<Option<Judgement>>, AllocError>
+    ensures { IfOk result (λ judged. (files : Files) → AreJudged files aims.now judged.items) }
+{
+    let mut judged = Vec::new(alloc);
+    for _ in aims {
+        judged.push(None)?;
+    }
+    Ok(judged)
+}
+
+// The least refusal of copies that agree on these ways, if such were judged.
+fn known_refusal(judged: &Option<Judgement>, ways: &[Option<Way>]) -> Option<Option<Refusal>>
+    ensures { (files : Files) (aims : List RefineTarget) → IsJudged files aims judged.now → IfSome result (IsLeastOf files aims ways.now) }
+{
+    match judged {
+        Some(judged) if is_same(&judged.ways, ways) => Some(judged.least),
+        _ => None,
+    }
+}
+
+// The least refusal of the refines of a copy, which is kept for copies that are alike.
+fn judge(
+    alloc: Global,
+    rows: &Rows<'_, '_>,
+    spots: &[Spot],
+    uses: &RefinedUses,
+    aims: &[RefineTarget],
+    judged: &mut Option<Judgement>,
+) -> Result<Option<Refusal>, AllocError>
+    ensures judges { IsJudged (lent_in rows.now) aims.now judged.old → OnOk result (IsJudged (lent_in rows.now) aims.now judged.new) }
+    ensures least { IsJudged (lent_in rows.now) aims.now judged.old
+        → IfOk result (IsLeastOf (lent_in rows.now) aims.now (ways_of spots.now uses.now.targets.items)) }
+{
+    let ways = read_ways(alloc, spots, &uses.targets)?;
+    if let Some(least) = known_refusal(judged, &ways) {
+        return Ok(least);
+    }
+    let least = least_of(rows, &ways, aims);
+    *judged = Some(Judgement { ways, least });
+    Ok(least)
+}
+
+// The least refusal of the refines of a copy, if that is one of these items.
+fn wrong(
+    alloc: Global,
+    rows: &Rows<'_, '_>,
+    spots: &[Spot],
+    items: &BTreeSet<usize>,
+    aims: &[Vec<RefineTarget>],
+    uses: &RefinedUses,
+    judged: &mut Vec<Option<Judgement>>,
+) -> Result<Option<Refusal>, AllocError>
+    requires { AreJudged (lent_in rows.now) aims.now judged.old.items }
+    ensures judges { OnOk result (AreJudged (lent_in rows.now) aims.now judged.new.items) }
+    ensures least { (tree : List ItemRow) → AreItems items.now tree
+        → IfOk result (IsLeast (BadRefines (lent_in rows.now) spots.now (meant_at aims.now uses.now) tree)) }
+{
+    let place = uses.aims;
+    if place >= aims.len() || !items.contains(&uses.item) {
+        return Ok(None);
+    }
+    judge(alloc, rows, spots, uses, &aims[place], &mut judged[place])
+}
+
+/// The least `RefineTarget` or `BadRefine` of these refines, each at a copy of its uses, where that
+/// is one of the items of the final tree: a refine means no item, or isn't fit for the one that it
+/// means. Takes time n log n in items, in the aims of each place, and in the paths of each copy:
+/// aims are judged again only where a copy isn't like the one before it.
+pub fn first_wrong(
+    alloc: Global,
+    rows: &Rows<'_, '_>,
+    spots: &[Spot],
+    refinements: &Refinements,
+    tree: &[ItemRow],
+) -> Result<Option<Refusal>, AllocError>
+    ensures { IfOk result (IsLeast (BadRefines (lent_in rows.now) spots.now (all_meant refinements.now) tree.now)) }
+{
+    let aims = refinements.aims.as_slice();
+    let items = items_of(alloc, tree)?;
+    let mut judged = nothing_judged(alloc, aims)?;
+    let mut least = None;
+    for uses in &refinements.uses {
+        let wrong = wrong(alloc, rows, spots, &items, aims, uses, &mut judged)?;
+        least = lesser(least, wrong);
+    }
+    Ok(least)
+}

@@ -1,0 +1,5 @@
+use Rattle.yv_expand_laws.proofs.Expanding.{expansion_lies}
+use Rattle.yv_expand_laws.proofs.laws.an_expansion_lies_in_blocks.Goals as goal
+
+pub returns : goal.returns
+returns c = expansion_lies

@@ -1,0 +1,5 @@
+use Rattle.yv_expand_laws.proofs.Noding.{items_show}
+use Rattle.yv_expand_laws.proofs.laws.items_of_files_show_nodes.Goals as goal
+
+pub returns : goal.returns
+returns c = items_show

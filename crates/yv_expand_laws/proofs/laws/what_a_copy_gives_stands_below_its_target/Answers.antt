@@ -1,0 +1,9 @@
+use Rattle.yv_expand_laws.proofs.CopiesGive.{copies_give}
+use Rattle.yv_expand_laws.proofs.laws.what_a_copy_gives_stands_below_its_target.Goals as goal
+
+pub returns : goal.returns
+returns c =
+    copies_give c.each_item_stands_once.ensures.applies c.entering_keeps_groups.ensures.groups c.entering_keeps_groups.ensures.augments
+    c.items_stay_when_others_enter.ensures.enters c.items_stay_when_others_enter.ensures.stays c.what_is_given_follows_the_augment.ensures.turns
+    c.what_is_given_follows_the_augment.ensures.applies c.items_stand_in_one_group.ensures.below c.items_stand_in_one_group.ensures.one
+    c.a_tree_has_no_item_twice.ensures.within c.parents_come_first.ensures c.a_copy_ends_where_its_turn_led.ensures

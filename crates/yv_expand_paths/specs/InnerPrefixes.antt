@@ -1,0 +1,12 @@
+-- Only private clauses cite this: what is known of prefixes that were read.
+use Rattle.std.specs.Prelude.{◌≡◌, List, map}
+use Rattle.yv_link_scopes.specs.Files.{Briefs}
+use Rattle.yv_link_scopes.specs.Rows.{Row}
+use Rattle.yv_link_scopes.specs.Tables.{table_of, first_of}
+use Rattle.yv_link_scopes.specs.declared.kind.NameKind.TheVariants.{Prefix}
+use Rattle.yv_expand_paths.specs.InnerModuleFiles.{module_file_of_prefix}
+use Rattle.yv_expand_paths.specs.declared.prefixes.PrefixTable.{PrefixTable}
+
+pub record IsPrefixTable (files : Briefs) (rows : List Row) (module_files : PrefixTable) : Type 0 where
+  pub prefixes : table_of module_files.prefixes ≡ first_of Prefix rows
+  pub module_files_are : map (module_file_of_prefix files rows) rows ≡ module_files.module_files.items

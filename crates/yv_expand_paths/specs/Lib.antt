@@ -1,0 +1,6 @@
+pub mod Names
+pub mod Paths
+pub mod PathTables
+pub mod InnerNames
+pub mod InnerModuleFiles
+pub mod InnerPrefixes

@@ -1,0 +1,143 @@
+//! Which refines change which items, where items that are changed alike share what changes them.
+ghost use Rattle.std.specs.Prelude.{◌≡◌, ◌++◌, ◌∷◌, ◌<◌, ℕ, [], None, length, replicate, slice_index_or, slice_set, IfOk, IfSome, OnOk, OnErr};
+ghost use Rattle.yv_expand_refines.specs.Changes.{each, sequence_at};
+
+use crate::joints::{Joint, Joints};
+use std::alloc::{AllocError, Global};
+use std::marker::Model;
+
+/// For each item of an expansion the refines that change it, in order; items that are changed alike share one sequence of refines. A
+/// sequence goes on by a run of refines from an earlier one, or from nothing, and each that is made so is kept once.
+#[derive(Drop)]
+pub struct Changes {
+    runs: Vec<Vec<usize>>,
+    joints: Joints,
+    of: Vec<Option<usize>>,
+}
+
+impl Model for Changes {
+    ghost use Rattle.std.specs.Prelude.{ℕ, map, length};
+    ghost use Rattle.std.specs.declared.alloc.Global.{Global};
+    ghost use Rattle.std.specs.declared.vec.Vec.{Vec};
+    ghost use Rattle.yv_expand_refines.specs.Changes.{ChangesView};
+    ghost use Rattle.yv_expand_refines.specs.InnerJoints.{AreJoined, sequences_of};
+
+    ghost Value = { ChangesView };
+
+    ghost view = { λ c. record {
+      runs = map (λ (v : Vec ℕ Global). v.items) c.runs.items;
+      sequences = sequences_of (map (λ (v : Vec ℕ Global). v.items) c.runs.items) c.joints.made.items;
+      of = c.of.items;
+    } };
+
+    ghost invariant = { λ c. AreJoined (length c.runs.items) c.joints.made.items c.of.items };
+}
+
+/// How a sequence is made from an earlier one.
+#[derive(Clone, Copy, Debug)]
+pub struct Continuation<'c> {
+    /// The place of the sequence from which it goes on, if there is one.
+    pub front: Option<usize>,
+    /// The numbers of the refines that it has after that.
+    pub run: &'c [usize],
+}
+
+impl Changes {
+    /// No changes to so many items. Err only if memory runs out.
+    pub fn none(alloc: Global, count: usize) -> Result<Changes, AllocError>
+        ensures runs { IfOk result (λ c. c.runs ≡ []) }
+        ensures sequences { IfOk result (λ c. c.sequences ≡ []) }
+        ensures of { IfOk result (λ c. c.of ≡ replicate count None) }
+    {
+        Ok(Changes {
+            runs: Vec::new(alloc),
+            joints: Joints::new(alloc),
+            of: vec![in alloc; None; count]?,
+        })
+    }
+
+    /// Keeps a run, and answers its number: how many there were before it. It changes nothing yet. Err only if memory runs out.
+    pub fn add_run(&mut self, refines: Vec<usize>) -> Result<usize, AllocError>
+        ensures number { IfOk result (λ number. number ≡ length self.old.runs) }
+        ensures runs { OnOk result (self.new.runs ≡ self.old.runs ++ refines.items ∷ []) }
+        ensures sequences { self.new.sequences ≡ self.old.sequences }
+        ensures of { self.new.of ≡ self.old.of }
+        ensures err { OnErr result (self.new ≡ self.old) }
+    {
+        let number = self.runs.len();
+        self.runs.push(refines)?;
+        Ok(number)
+    }
+
+    // Gives an item a sequence that goes on from the one that it has.
+    fn give(&mut self, item: usize, run: usize) -> Result<(), AllocError>
+        requires item { item < length self.old.of }
+        requires run { run < length self.old.runs }
+        ensures notes { OnOk result (each self.new
+            ≡ slice_set (each self.old) item (slice_index_or (each self.old) item [] ++ slice_index_or self.old.runs run [])) }
+        ensures runs { self.new.runs ≡ self.old.runs }
+        ensures err { OnErr result (self.new ≡ self.old) }
+    {
+        let front = self.of[item];
+        let place = self.joints.of(Joint { front, run })?;
+        self.of[item] = Some(place);
+        Ok(())
+    }
+
+    /// Notes that the refines of a numbered run change an item, after those that do already. An item past the last changes nothing, and
+    /// so does a run that isn't there. Takes time log n in sequences, whatever the run's length. Err only if memory runs out.
+    pub fn note(&mut self, item: usize, run: usize) -> Result<(), AllocError>
+        ensures notes { OnOk result (each self.new
+            ≡ slice_set (each self.old) item (slice_index_or (each self.old) item [] ++ slice_index_or self.old.runs run [])) }
+        ensures runs { self.new.runs ≡ self.old.runs }
+        ensures err { OnErr result (self.new ≡ self.old) }
+    {
+        if item >= self.of.len() || run >= self.runs.len() {
+            return Ok(());
+        }
+        self.give(item, run)
+    }
+
+    /// How many different sequences there are.
+    pub fn count(&self) -> usize
+        ensures { result ≡ length self.now.sequences }
+    {
+        self.joints.made.len()
+    }
+
+    /// The place of the sequence of the refines that change an item, if one does.
+    pub fn sequence(&self, item: usize) -> Option<usize>
+        ensures place { result ≡ slice_index_or self.now.of item None }
+        ensures refines { slice_index_or (each self.now) item [] ≡ sequence_at self.now.sequences result }
+        ensures within { IfSome result (λ place. place < length self.now.sequences) }
+    {
+        self.of.get(item).copied().unwrap_or(None)
+    }
+
+    // The refines of a run.
+    fn run(&self, number: usize) -> &[usize]
+        ensures { result.now ≡ slice_index_or self.now.runs number [] }
+    {
+        match self.runs.get(number) {
+            Some(refines) => refines,
+            None => &[],
+        }
+    }
+
+    /// How a sequence is made, so that what is computed of it goes on from what was computed of the earlier one.
+    pub fn link(&self, sequence: usize) -> Continuation<'_>
+        ensures sequence { slice_index_or self.now.sequences sequence [] ≡ sequence_at self.now.sequences result.front ++ result.run.now }
+        ensures before { IfSome result.front (λ front. front < sequence) }
+    {
+        match self.joints.at(sequence) {
+            Some(joint) => Continuation {
+                front: joint.front,
+                run: self.run(joint.run),
+            },
+            None => Continuation {
+                front: None,
+                run: &[],
+            },
+        }
+    }
+}

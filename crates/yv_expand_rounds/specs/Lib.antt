@@ -1,0 +1,17 @@
+pub mod Labels
+pub mod Groups
+pub mod Order
+pub mod Paths
+pub mod Turns
+pub mod Rounds
+pub mod Placements
+pub mod Tree
+pub mod MissingTargets
+pub mod Arrivals
+pub mod InnerGroups
+pub mod InnerState
+pub mod InnerTreeList
+pub mod InnerHiddenNodes
+pub mod InnerPendingPaths
+pub mod InnerMissingTargets
+pub mod InnerArrivals

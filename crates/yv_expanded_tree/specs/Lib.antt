@@ -1,7 +1,0 @@
-pub mod Nodes
-pub mod Paths
-pub mod Gives
-pub mod Rounds
-pub mod Expanded
-pub mod Left
-pub mod Refusals

@@ -1,6 +1,0 @@
-use Rattle.yv_expansion.proofs.Listing.{length_listed}
-use Rattle.yv_expansion.proofs.laws.a_tree_is_listed_whole.Goals as goal
-
--- src/laws.rt:6:1
-pub returns : goal.returns
-returns g c = length_listed

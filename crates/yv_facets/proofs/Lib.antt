@@ -1,3 +1,0 @@
-pub mod One
-pub mod Read
-pub mod Wider

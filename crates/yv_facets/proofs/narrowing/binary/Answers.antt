@@ -1,9 +1,0 @@
-use Rattle.std.proofs.Common.{Option, None, subst}
-use Rattle.yv_statement.specs.Order.{IsLeast}
-use Rattle.yv_statement.specs.Tree.{Tree}
-use Rattle.yv_facets.specs.Faults.{BadRestriction}
-use Rattle.yv_facets.proofs.narrowing.binary.Goals as goal
-
-pub returns-clause-fault : goal.returns-clause-fault
-returns-clause-fault c =
-    subst (λ (r : Option Tree). IsLeast (BadRestriction c.args.file None c.args.base.now r) c.in_ok-left.left.fault) c.child.ensures c.in_ok-left.ensures.fault

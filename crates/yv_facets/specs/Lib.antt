@@ -1,4 +1,0 @@
-pub mod BuiltIn
-pub mod Facets
-pub mod Faults
-pub mod InnerStops

@@ -1,5 +1,0 @@
-use Rattle.yv_families.proofs.Listing.{family_at}
-use Rattle.yv_families.proofs.laws.each_place_has_its_numbers.Goals as goal
-
-pub returns : goal.returns
-returns c = family_at

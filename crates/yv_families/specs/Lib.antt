@@ -1,3 +1,0 @@
-pub mod Families
-pub mod InnerParts
-pub mod InnerChains

@@ -1,0 +1,90 @@
+//! What is said of choices.
+use crate::beside::choice_of;
+use crate::spot::{Spot, children_at, has_children};
+use crate::words::{Joint, push_names};
+use serde_json::Value;
+use std::alloc::{AllocError, Global};
+use yv_nodes::NodeId;
+use yv_schema_tables::Schema;
+use yv_validate::MemberName;
+use yv_values::Meter;
+use yv_walk::Context;
+
+/// How many members an object has whose cases are looked for.
+const MOST_MEMBERS: usize = 1000;
+
+/// How many cases of a choice are looked at.
+const MOST_CASES: usize = 1000;
+
+/// Adds that one of the cases of a choice must exist.
+pub(crate) fn push_missing_choice(
+    alloc: Global,
+    text: &mut String,
+    schema: &Schema,
+    spot: &Spot<'_>,
+    name: &MemberName<'_>,
+) -> Result<(), AllocError> {
+    let choice = choice_of(alloc, schema, spot.around, name)?;
+    let cases = children_at(schema, choice);
+    if cases.is_empty() {
+        return text.push_str("the schema requires a node of one of its cases, but it has none");
+    }
+    text.push_str("it is missing: write a node of one of its cases, ")?;
+    push_names(text, schema, cases, Joint::Or)
+}
+
+/// Adds which cases of a choice exist.
+pub(crate) fn push_choice(
+    alloc: Global,
+    text: &mut String,
+    schema: &Schema,
+    spot: &Spot<'_>,
+    name: &MemberName<'_>,
+) -> Result<(), AllocError> {
+    text.push_str("only one of its cases can exist, but there are nodes of ")?;
+    let choice = choice_of(alloc, schema, spot.around, name)?;
+    let cases = cases_at(alloc, schema, spot, choice)?;
+    if cases.is_empty() {
+        text.push_str("several")?;
+    } else {
+        push_names(text, schema, &cases, Joint::And)?;
+    }
+    text.push_str("; remove those of all cases but one")
+}
+
+// The cases of a choice of which an object has nodes.
+fn cases_at(
+    alloc: Global,
+    schema: &Schema,
+    spot: &Spot<'_>,
+    choice: Option<NodeId>,
+) -> Result<Vec<NodeId>, AllocError> {
+    let around = spot.around.unwrap_or(Schema::ROOT);
+    match spot.object {
+        Some(Value::Object(members))
+            if has_children(schema, around) && members.len() <= MOST_MEMBERS => {
+            let context = Context::read(alloc, schema, &mut Meter::new(), around, members)?;
+            cases_in(alloc, schema, &context, choice)
+        }
+        _ => Ok(Vec::new(alloc)),
+    }
+}
+
+fn cases_in(
+    alloc: Global,
+    schema: &Schema,
+    context: &Context<'_>,
+    choice: Option<NodeId>,
+) -> Result<Vec<NodeId>, AllocError> {
+    let mut cases = Vec::new(alloc);
+    for case in children_at(schema, choice).iter().take(MOST_CASES) {
+        if exists(schema, context, *case) {
+            cases.push(*case)?;
+        }
+    }
+    Ok(cases)
+}
+
+fn exists(schema: &Schema, context: &Context<'_>, case: NodeId) -> bool {
+    case.number() < schema.len() && context.existence_of(schema, case).any()
+}

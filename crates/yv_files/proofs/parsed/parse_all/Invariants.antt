@@ -1,8 +1,0 @@
-use Rattle.std.proofs.Common.{take}
-use Rattle.std.specs.List.{AllZip}
-use Rattle.yv_files.specs.Texts.{Spells}
-use Rattle.yv_files.proofs.parsed.parse_all.Given as goal
-
--- the statements so far
-abbrev pub invariant-loop-number : goal.invariant-loop-number
-invariant-loop-number l = AllZip Spells (take l.number l.sources) l.statements.items

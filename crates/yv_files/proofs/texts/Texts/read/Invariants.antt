@@ -1,9 +1,0 @@
-use Rattle.std.proofs.Common.{◌≡◌, length, map, take}
-use Rattle.std.specs.List.{AllZip}
-use Rattle.yv_streams.specs.Files.{file_of}
-use Rattle.yv_files.specs.Texts.{IsText}
-use Rattle.yv_files.proofs.texts.Texts.read.Given as goal
-
--- the texts so far
-abbrev pub invariant-loop-number : goal.invariant-loop-number
-invariant-loop-number l = (length l.sources.items ≡ l.number) × AllZip IsText (take l.number (map file_of l.inputs)) l.sources.items

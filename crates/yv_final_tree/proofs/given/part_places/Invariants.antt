@@ -1,8 +1,0 @@
-use Rattle.std.proofs.Common.{◌≡◌, ◌++◌, drop, map}
-use Rattle.yv_rows.specs.Files.{brief_of}
-use Rattle.yv_rows.specs.Lent.{lent_in}
-use Rattle.yv_final_tree.specs.Given.{part_places, places_from}
-use Rattle.yv_final_tree.proofs.given.part_places.Given as goal
-
-abbrev pub invariant-loop-file : goal.invariant-loop-file
-invariant-loop-file l = l.places.items ++ places_from (map brief_of (lent_in l.rows)) l.file (drop l.file (lent_in l.rows)) ≡ part_places (lent_in l.rows)

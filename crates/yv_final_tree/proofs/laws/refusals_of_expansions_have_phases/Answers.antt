@@ -1,5 +1,0 @@
-use Rattle.yv_final_tree.proofs.Phases.{expansion_phase}
-use Rattle.yv_final_tree.proofs.laws.refusals_of_expansions_have_phases.Goals as goal
-
-pub returns : goal.returns
-returns c = expansion_phase

@@ -1,4 +1,0 @@
-//! The numbered statements of files that conform.
-#![tactic(auto)]
-
-pub mod laws;

@@ -1,6 +1,0 @@
-use Rattle.std.proofs.Common.{ℕ, ◌<◌}
-use Rattle.yv_graph.specs.InnerSearch.{Searching, IsIdle, IsVisited}
-use Rattle.yv_graph.proofs.search.Search.run.Given as goal
-
-abbrev pub invariant-loop-node : goal.invariant-loop-node
-invariant-loop-node l = record { searching : Searching l.graph l.search; idle : IsIdle l.search; visited : (x : ℕ) → x < l.node → IsVisited l.search x }

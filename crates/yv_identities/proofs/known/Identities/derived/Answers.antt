@@ -1,7 +1,0 @@
-use Rattle.std.proofs.Common.{arith}
-use Rattle.yv_identities.proofs.Looking.{derived_both}
-use Rattle.yv_identities.proofs.known.Identities.derived.Goals as goal
-
-pub returns : goal.returns
-returns c files t =
-    derived_both _ _ c.args.self.now.hierarchy.bases.items _ _ _ _ _ t.bases (c.in-Some.ensures.meant files t) (c.in-Some-node.ensures.meant files t) (omega (arith, c.in-Some.ensures.within, t.bases.each)) (omega (arith, c.in-Some-node.ensures.within, t.bases.each)) c.leads.ensures

@@ -1,6 +1,0 @@
-use Rattle.yv_rows.specs.Lent.{rows_in}
-use Rattle.yv_identities.proofs.Numbering.{Numbered}
-use Rattle.yv_identities.proofs.numbers.Numbers.read.Given as goal
-
-abbrev pub invariant-loop-entry : goal.invariant-loop-entry
-invariant-loop-entry l = Numbered (rows_in l.rows) l.entry-index l.identities.items l.nodes.items

@@ -1,5 +1,0 @@
-use Rattle.yv_identities.proofs.Reversing.{Reversing}
-use Rattle.yv_identities.proofs.reversed.reversed.Given as goal
-
-abbrev pub invariant-loop-node : goal.invariant-loop-node
-invariant-loop-node l = Reversing l.graph l.node l.back.items

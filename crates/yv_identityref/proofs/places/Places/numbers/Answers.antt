@@ -1,6 +1,0 @@
-use Rattle.yv_identityref.proofs.Placed.{numbers_more}
-use Rattle.yv_identityref.proofs.places.Places.numbers.Goals as goal
-
-pub loop-key-preserved : goal.loop-key-preserved
-loop-key-preserved c =
-    numbers_more c.args.self.now c.args.keys.now c.loop-key.key-index c.loop-key.numbers.items c.at.result.now c.extend_from_slice.new.self.items c.loop-key-test.true c.at.ensures c.in_ok-extend_from_slice.ensures.items c.loop-key.invariant

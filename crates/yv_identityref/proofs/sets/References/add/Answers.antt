@@ -1,5 +1,0 @@
-use Rattle.yv_identityref.proofs.Placing.{added}
-use Rattle.yv_identityref.proofs.sets.References.add.Goals as goal
-
-pub returns : goal.returns
-returns c = added c.args.self.now.set c.insert.new.self c.args.identity c.in_ok-insert.ensures.updates

@@ -1,4 +1,0 @@
-pub mod Reading
-pub mod Saying
-pub mod Known
-pub mod Following

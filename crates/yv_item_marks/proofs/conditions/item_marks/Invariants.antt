@@ -1,8 +1,0 @@
-use Rattle.std.proofs.Common.{◌≡◌, ◌++◌, drop}
-use Rattle.yv_refinements.specs.Changed.{each}
-use Rattle.yv_item_marks.specs.Conditions.{item_marks}
-use Rattle.yv_item_marks.proofs.conditions.item_marks.Given as goal
-
-abbrev pub invariant-loop-number : goal.invariant-loop-number
-invariant-loop-number l =
-    l.marks.items ++ item_marks l.statements (drop l.number l.spots) (drop l.number (each l.changes)) ≡ item_marks l.statements l.spots (each l.changes)

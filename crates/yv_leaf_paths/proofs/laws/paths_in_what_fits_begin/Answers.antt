@@ -1,5 +1,0 @@
-use Rattle.yv_leaf_paths.proofs.Beginning.{begins_within}
-use Rattle.yv_leaf_paths.proofs.laws.paths_in_what_fits_begin.Goals as goal
-
-pub returns : goal.returns
-returns c = λ parent t child k text fits other at is says. begins_within parent t child k text fits other at is says

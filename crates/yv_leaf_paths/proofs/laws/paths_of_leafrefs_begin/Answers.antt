@@ -1,5 +1,0 @@
-use Rattle.yv_leaf_paths.proofs.Beginning.{begins}
-use Rattle.yv_leaf_paths.proofs.laws.paths_of_leafrefs_begin.Goals as goal
-
-pub returns : goal.returns
-returns c = λ text h. begins text h

@@ -1,5 +1,0 @@
-use Rattle.yv_leaf_targets.proofs.Meeting.{key_is}
-use Rattle.yv_leaf_targets.proofs.laws.a_key_has_the_number_of_its_leaf.Goals as goal
-
-pub returns : goal.returns
-returns c = λ ts list t s at. key_is ts list t s at

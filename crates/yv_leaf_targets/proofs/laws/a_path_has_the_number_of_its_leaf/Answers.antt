@@ -1,5 +1,0 @@
-use Rattle.yv_leaf_targets.proofs.Meeting.{path_is}
-use Rattle.yv_leaf_targets.proofs.laws.a_path_has_the_number_of_its_leaf.Goals as goal
-
-pub returns : goal.returns
-returns c = λ ts list t path at. path_is ts list t path at

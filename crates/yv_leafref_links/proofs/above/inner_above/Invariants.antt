@@ -1,6 +1,0 @@
-use Rattle.std.proofs.Common.{◌≡◌, length}
-use Rattle.yv_leafref_links.specs.InnerWays.{AreAbove}
-use Rattle.yv_leafref_links.proofs.above.inner_above.Given as goal
-
-abbrev pub invariant-loop-node : goal.invariant-loop-node
-invariant-loop-node l = (length l.above.items ≡ l.node-index) × AreAbove l.nodes l.node-index l.above.items

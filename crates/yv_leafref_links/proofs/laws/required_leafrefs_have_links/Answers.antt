@@ -1,5 +1,0 @@
-use Rattle.yv_leafref_links.proofs.Required.{has_link}
-use Rattle.yv_leafref_links.proofs.laws.required_leafrefs_have_links.Goals as goal
-
-pub returns : goal.returns
-returns c = λ s links n target are hold refers required begins. has_link s links n target are hold refers required begins

@@ -1,3 +1,0 @@
-pub mod Once
-pub mod Finding
-pub mod Walking

@@ -1,3 +1,0 @@
-pub mod Referrals
-pub mod Known
-pub mod InnerTables

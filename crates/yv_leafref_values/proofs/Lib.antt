@@ -1,0 +1,10 @@
+pub mod Rowed
+pub mod Walked
+pub mod Placed
+pub mod Answered
+pub mod Counted
+pub mod Marked
+pub mod Kept
+pub mod Judged
+pub mod Told
+pub mod FindingLemmas

@@ -1,6 +1,0 @@
-use Rattle.std.proofs.Common.{◌≡◌, length}
-use Rattle.yv_leafrefs.specs.InnerOutline.{AreInside}
-use Rattle.yv_leafrefs.proofs.above.operations.Given as goal
-
-abbrev pub invariant-loop-node : goal.invariant-loop-node
-invariant-loop-node l = (length l.inside.items ≡ l.node-index) × AreInside l.nodes l.node-index l.inside.items

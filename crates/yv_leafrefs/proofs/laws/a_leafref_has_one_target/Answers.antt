@@ -1,5 +1,0 @@
-use Rattle.yv_leafrefs.proofs.Lawful.{one_target}
-use Rattle.yv_leafrefs.proofs.laws.a_leafref_has_one_target.Goals as goal
-
-pub returns : goal.returns
-returns c = one_target

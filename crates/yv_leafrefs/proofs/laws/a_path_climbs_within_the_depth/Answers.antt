@@ -1,5 +1,0 @@
-use Rattle.yv_leafrefs.proofs.Lawful.{depth}
-use Rattle.yv_leafrefs.proofs.laws.a_path_climbs_within_the_depth.Goals as goal
-
-pub returns : goal.returns
-returns c = depth

@@ -1,5 +1,0 @@
-use Rattle.yv_leafrefs.proofs.Lawful.{valued}
-use Rattle.yv_leafrefs.proofs.laws.a_target_has_values.Goals as goal
-
-pub returns : goal.returns
-returns c = valued

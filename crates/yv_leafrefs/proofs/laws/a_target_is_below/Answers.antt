@@ -1,5 +1,0 @@
-use Rattle.yv_leafrefs.proofs.Lawful.{below}
-use Rattle.yv_leafrefs.proofs.laws.a_target_is_below.Goals as goal
-
-pub returns : goal.returns
-returns c = below

@@ -1,5 +1,0 @@
-use Rattle.yv_leafrefs.proofs.Resolving.{rows_typed}
-use Rattle.yv_leafrefs.proofs.laws.rows_are_typed.Goals as goal
-
-pub returns : goal.returns
-returns c = rows_typed

@@ -1,5 +1,0 @@
-use Rattle.yv_leafrefs.proofs.Numbering.{behind}
-use Rattle.yv_leafrefs.proofs.laws.rows_of_a_tree_are_behind.Goals as goal
-
-pub returns : goal.returns
-returns c = behind

@@ -1,0 +1,10 @@
+pub mod BuiltIn
+pub mod Duplicates
+pub mod Refers
+pub mod Leads
+pub mod Refusals
+pub mod References
+pub mod Meanings
+pub mod InnerGraph
+pub mod InnerPlaces
+pub mod InnerDuplicates

@@ -1,0 +1,19 @@
+//! The names of definitions: what is wrong with them, which typedef or grouping a name means where it is used, and
+//! an order in which each definition comes after all to which it leads. All takes time linear in statements except
+//! for ordered tables, and for the way from a statement out to the blocks around it.
+#![tactic(auto)]
+
+mod build;
+mod built_in;
+mod draft;
+mod duplicates;
+mod leads;
+mod meaning_table;
+mod meanings;
+mod pairs;
+mod references;
+mod refusals;
+
+pub use build::names;
+pub use meaning_table::Names;
+pub use references::DefRef;

@@ -1,0 +1,50 @@
+//! For each definition those to which it leads in one step.
+ghost use Rattle.std.specs.Prelude.{◌≡◌, ◌↔◌, ℕ, Some, length, slice_get, IfOk};
+ghost use Rattle.yv_link_scopes.specs.Rows.{row};
+ghost use Rattle.yv_link_scopes.specs.Views.{files_in, rows_in};
+ghost use Rattle.yv_link_definitions.specs.Leads.{Joins};
+ghost use Rattle.yv_link_definitions.specs.InnerGraph.{AreSteps, HasNoEdge};
+
+use crate::draft::Draft;
+use crate::meanings::named_kind;
+use std::alloc::{AllocError, Global};
+use yv_link_scopes::Entry;
+
+// So many nodes, none with an edge.
+fn no_steps(alloc: Global, count: usize) -> Result<Vec<Vec<usize>>, AllocError>
+    ensures { IfOk result (λ steps. (length steps.items ≡ count) × HasNoEdge steps.items) }
+{
+    let mut steps = Vec::new(alloc);
+    for _ in 0..count {
+        steps.push(Vec::new(alloc))?;
+    }
+    Ok(steps)
+}
+
+impl<'a, 'b> Draft<'_, 'a, 'b> {
+    // The definition for which a statement counts, and that which it means.
+    fn pair(&self, number: usize, entry: &Entry<'a, 'b>) -> Option<(usize, usize)>
+        requires { slice_get (rows_in self.now.rows.now) number ≡ Some (row entry.now) }
+        ensures { (a b : ℕ) → (result ≡ Some (a, b)) ↔ Joins (files_in self.now.rows.now) (rows_in self.now.rows.now) number a b }
+    {
+        yv_link_scopes::laws::a_name_means_one_thing();
+        let kind = named_kind(entry)?;
+        let meant = self.definition(kind, number, entry)?;
+        let own = self.owner(kind, number)?;
+        Some((own, meant))
+    }
+
+    /// For each statement the definitions to which it leads in one step.
+    pub(crate) fn steps(&self, alloc: Global) -> Result<Vec<Vec<usize>>, AllocError>
+        ensures { IfOk result (λ steps. AreSteps (files_in self.now.rows.now) (rows_in self.now.rows.now) steps.items) }
+    {
+        let entries = self.rows.entries();
+        let mut steps = no_steps(alloc, entries.len())?;
+        for (number, entry) in entries.iter().enumerate() {
+            if let Some((own, meant)) = self.pair(number, entry) {
+                steps[own].push(meant)?;
+            }
+        }
+        Ok(steps)
+    }
+}

@@ -1,0 +1,10 @@
+pub mod Meaning
+pub mod Value
+pub mod On
+pub mod Blocks
+pub mod Depends
+pub mod Refusals
+pub mod Features
+pub mod InnerGraph
+pub mod InnerNames
+pub mod InnerMarks

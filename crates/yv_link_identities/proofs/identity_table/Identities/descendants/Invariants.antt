@@ -1,0 +1,5 @@
+use Rattle.yv_link_identities.proofs.Looking.{Picking}
+use Rattle.yv_link_identities.proofs.identity_table.Identities.descendants.Given as goal
+
+abbrev pub invariant-loop-node : goal.invariant-loop-node
+invariant-loop-node l = Picking l.self.identities.items l.yielded l.found.items

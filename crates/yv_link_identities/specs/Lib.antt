@@ -1,0 +1,10 @@
+pub mod Names
+pub mod Derivation
+pub mod Refusals
+pub mod References
+pub mod Tables
+pub mod InnerIdentityNumbers
+pub mod InnerNumbers
+pub mod InnerPairs
+pub mod InnerPlaces
+pub mod InnerWays

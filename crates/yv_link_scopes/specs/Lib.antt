@@ -1,0 +1,10 @@
+pub mod Names
+pub mod Rows
+pub mod Files
+pub mod RowList
+pub mod Tables
+pub mod Scopes
+pub mod Views
+pub mod InnerPlaces
+pub mod Blocks
+pub mod Order

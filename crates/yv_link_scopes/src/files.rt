@@ -1,0 +1,92 @@
+//! The files, and the modules to which they belong.
+ghost use Rattle.std.specs.Prelude.{◌≡◌, ℕ, List, map, IfOk};
+ghost use Rattle.yv_link_scopes.specs.Tables.{table_of};
+ghost use Rattle.yv_link_scopes.specs.Files.{brief, brief_of, module_file_at, is_module, module_name, file_named};
+
+use crate::names::name_of;
+use crate::places::NamePlaces;
+use std::alloc::{AllocError, Global};
+use yv_statement::Statement;
+
+/// A file: its name, the name of the module to which it belongs, and its root.
+#[derive(Clone, Copy)]
+pub struct File<'a, 'b> {
+    pub name: &'a str,
+    /// A module's own name; of a submodule the name in its belongs-to.
+    pub module_file: &'a str,
+    pub is_module: bool,
+    pub root: &'a Statement<'b>,
+}
+
+// Whether it is a module's root.
+fn is_module(root: &Statement<'_>) -> bool
+    ensures { result ≡ is_module root.now }
+{
+    root.keyword() == "module"
+}
+
+// The name of the module to which a file belongs.
+fn module_name<'a>(root: &'a Statement<'_>) -> &'a str
+    ensures { result.now ≡ module_name root.now }
+{
+    if is_module(root) {
+        return name_of(root);
+    }
+    for child in root.children() {
+        if child.keyword() == "belongs-to" {
+            return name_of(child);
+        }
+    }
+    ""
+}
+
+/// The files whose statements these are.
+pub(crate) fn read_files<'a, 'b>(
+    alloc: Global,
+    roots: &'a [Statement<'b>],
+) -> Result<Vec<File<'a, 'b>>, AllocError>
+    ensures { IfOk result (λ files. map brief files.items ≡ map brief_of roots.now) }
+{
+    let mut files = Vec::new(alloc);
+    for root in roots {
+        files.push(File {
+            name: name_of(root),
+            module_file: module_name(root),
+            is_module: is_module(root),
+            root,
+        })?;
+    }
+    Ok(files)
+}
+
+/// The first file of each name.
+pub(crate) fn file_places<'a>(
+    alloc: Global,
+    files: &[File<'a, '_>],
+) -> Result<NamePlaces<'a>, AllocError>
+    ensures { IfOk result (λ places. (name : List ℕ) → table_of places 0 name ≡ file_named (map brief files.now) name) }
+{
+    let mut places = NamePlaces::new(alloc);
+    for (number, file) in files.iter().enumerate() {
+        places.keep(0, file.name.as_bytes(), number)?;
+    }
+    Ok(places)
+}
+
+/// The number of the file of the module to which a file belongs, its own where that module isn't there.
+pub(crate) fn module_file<'a>(
+    files: &[File<'a, '_>],
+    names: &NamePlaces<'a>,
+    number: usize,
+) -> usize
+    requires { (name : List ℕ) → table_of names.now 0 name ≡ file_named (map brief files.now) name }
+    ensures { result ≡ module_file_at (map brief files.now) number }
+{
+    let Some(file) = files.get(number) else {
+        return number;
+    };
+    if file.is_module {
+        return number;
+    }
+    names.get(0, file.module_file).unwrap_or(number)
+}

@@ -1,5 +1,0 @@
-use Rattle.yv_modules.proofs.Leading.{AreRows}
-use Rattle.yv_modules.proofs.imports.import_leads.Given as goal
-
-abbrev pub invariant-loop-module : goal.invariant-loop-module
-invariant-loop-module l = AreRows l.graph.items l.module l.leads.items

@@ -1,0 +1,110 @@
+//! What the nodes above a node say against it.
+ghost use Rattle.std.specs.Prelude.{◌≡◌, ◌<◌, ◌^◌, ◌∷◌, List, IfOk, length};
+ghost use Rattle.std.specs.Option.{option_map};
+ghost use Rattle.yv_statement.specs.Order.{IsLeast};
+ghost use Rattle.yv_nodes.specs.Tree.{Forest, Label};
+ghost use Rattle.yv_nodes.specs.Places.{Place};
+ghost use Rattle.yv_node_checks.specs.Above.{AtNearest, BadBelow, BadByAbove, has_if_feature, is_misconfigured, is_misfit, is_misplaced, lacks_key, line};
+ghost use Rattle.yv_node_checks.specs.InnerSpots.{AreRows};
+ghost use Rattle.yv_node_checks.specs.InnerAncestry.{ancestry_at, ancestry_of, label_in, nearest_of};
+
+use crate::lineage::{Ancestry, is_keyless};
+use crate::node_numbers::node_at;
+use std::alloc::{AllocError, Global};
+use yv_node_definition::NodeKind;
+use yv_nodes::{Node, NodeId};
+use yv_statement::{Code, Refusal, lesser};
+
+/// The least refusal of a `config` statement, a key or an operation by the nodes above it.
+pub(crate) fn least_by_above(alloc: Global, nodes: &[Node]) -> Result<Option<Refusal>, AllocError>
+    requires { length nodes.now < 2 ^ 32 }
+    ensures { (ts : Forest) → AreRows nodes.now ts → IfOk result (λ least. IsLeast (BadByAbove ts) least) }
+{
+    let mut lineage = Vec::new(alloc);
+    let mut least = None;
+    for node in nodes {
+        let above = ancestry_at(&lineage, node.parent());
+        let here = wrong_below(node, above, node_at(nodes, node.parent()));
+        least = lesser(least, here);
+        lineage.push(above.below(node))?;
+    }
+    Ok(least)
+}
+
+// What is kept of the node of a number: the root's number is none of them.
+fn ancestry_at(lineage: &[Ancestry], parent: NodeId) -> Ancestry
+    ensures { result ≡ ancestry_at lineage.now parent }
+{
+    lineage
+        .get(parent.number() as usize)
+        .copied()
+        .unwrap_or(Ancestry::TOP)
+}
+
+// What the nodes above a node say against it.
+fn wrong_below(node: &Node, above: Ancestry, nearest: Option<&Node>) -> Option<Refusal>
+    ensures { (p : Place) → node.now.label ≡ p.label → above ≡ ancestry_of p.above
+        → option_map label_in (option_map (λ n. n.now) nearest.entry) ≡ nearest_of p.above → IsLeast (BadBelow p) result }
+{
+    let own = above.below(node);
+    let config = node.refusal_if(is_misconfigured(node, above, own), Code::BadConfig);
+    let operation = node.refusal_if(is_misplaced(node, above), Code::BadOperation);
+    let keyless = node.refusal_if(lacks_key(node), Code::BadKey);
+    let misfit = at_nearest(nearest, is_misfit(node, above, own));
+    lesser(lesser(config, operation), lesser(keyless, misfit))
+}
+
+// `config true` below what is no configuration.
+fn is_misconfigured(node: &Node, above: Ancestry, own: Ancestry) -> bool
+    ensures { (p : Place) → node.now.label ≡ p.label → above ≡ ancestry_of p.above → own ≡ ancestry_of (line p)
+        → result ≡ is_misconfigured p }
+{
+    !own.in_operation && (node.stated_config() == Some(true) && !above.in_config)
+}
+
+// An action or notification where none may be.
+fn is_misplaced(node: &Node, above: Ancestry) -> bool
+    ensures { (p : Place) → node.now.label ≡ p.label → above ≡ ancestry_of p.above → result ≡ is_misplaced p }
+{
+    match node.kind() {
+        NodeKind::Action => {
+            above.in_operation || above.in_keyless || above.in_case || above.is_top
+        }
+        NodeKind::Notification => above.in_operation || above.in_keyless || above.in_case,
+        _ => false,
+    }
+}
+
+// A list of configuration without key.
+fn lacks_key(node: &Node) -> bool
+    ensures { (p : Place) → node.now.label ≡ p.label → result ≡ lacks_key p }
+{
+    is_keyless(node) && node.config()
+}
+
+// Whether an `if-feature` statement stands at a node.
+fn has_if_feature(node: &Node) -> bool
+    ensures { result ≡ has_if_feature node.now.label }
+{
+    !node.features().is_empty()
+}
+
+// A key that has a condition, or isn't as its list.
+fn is_misfit(node: &Node, above: Ancestry, own: Ancestry) -> bool
+    ensures { (p : Place) → node.now.label ≡ p.label → above ≡ ancestry_of p.above → own ≡ ancestry_of (line p)
+        → result ≡ is_misfit p }
+{
+    node.is_key()
+        && (has_if_feature(node) || (!own.in_operation && own.in_config != above.in_config))
+}
+
+// The refusal at the nearest node above, where there is cause.
+fn at_nearest(nearest: Option<&Node>, is_wrong: bool) -> Option<Refusal>
+    ensures { (ls : List Label) → option_map label_in (option_map (λ n. n.now) nearest.entry) ≡ nearest_of ls
+        → IsLeast (AtNearest ls is_wrong) result }
+{
+    match nearest {
+        Some(list) => list.refusal_if(is_wrong, Code::BadKey),
+        None => None,
+    }
+}

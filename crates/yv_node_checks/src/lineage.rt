@@ -1,0 +1,54 @@
+//! What the nodes above a node say of it.
+ghost use Rattle.std.specs.Prelude.{◌≡◌, ◌∷◌, List};
+ghost use Rattle.yv_nodes.specs.Tree.{Label};
+ghost use Rattle.yv_node_checks.specs.Above.{is_keyless};
+ghost use Rattle.yv_node_checks.specs.InnerAncestry.{ancestry_of};
+
+use yv_node_definition::NodeKind;
+use yv_nodes::Node;
+
+/// What a node and those above it say of what is below them.
+#[derive(Clone, Copy)]
+pub(crate) struct Ancestry {
+    /// There is no such node.
+    pub(crate) is_top: bool,
+    /// The node is a case.
+    pub(crate) in_case: bool,
+    /// The node is configuration: the root is.
+    pub(crate) in_config: bool,
+    /// One of them is an operation or a notification.
+    pub(crate) in_operation: bool,
+    /// One of them is a list without key.
+    pub(crate) in_keyless: bool,
+}
+
+impl Ancestry {
+    /// That of no node.
+    pub(crate) const TOP: Ancestry = Ancestry {
+        is_top: true,
+        in_case: false,
+        in_config: true,
+        in_operation: false,
+        in_keyless: false,
+    };
+
+    /// That of a node below those that this one describes.
+    pub(crate) fn below(self, node: &Node) -> Ancestry
+        ensures { (ls : List Label) → self ≡ ancestry_of ls → result ≡ ancestry_of (node.now.label ∷ ls) }
+    {
+        Ancestry {
+            is_top: false,
+            in_case: node.kind() == NodeKind::Case,
+            in_config: node.config(),
+            in_operation: node.kind().is_operation_or_notification() || self.in_operation,
+            in_keyless: is_keyless(node) || self.in_keyless,
+        }
+    }
+}
+
+/// A list without key.
+pub(crate) fn is_keyless(node: &Node) -> bool
+    ensures { result ≡ is_keyless node.now.label }
+{
+    node.kind() == NodeKind::List && !node.has_key()
+}

@@ -1,0 +1,211 @@
+//! Mandatory nodes, and what is wrong with defaults.
+ghost use Rattle.std.specs.Prelude.{◌≡◌, ℕ, Some, IfOk, slice_get};
+ghost use Rattle.std.specs.List.{find, list_any};
+ghost use Rattle.yv_statement.specs.Order.{IsLeast};
+ghost use Rattle.yv_node_definition.specs.Definition.{own_default};
+ghost use Rattle.yv_nodes.specs.Tree.{Forest};
+ghost use Rattle.yv_nodes.specs.Places.{Place, places};
+ghost use Rattle.yv_node_checks.specs.Mandatory.{BadByDefault, BadOfDefault, forbids_default_as, has_unfit_default, has_values, is_caseless, is_crowded, has_duplicate_default, is_illegible, is_needed, is_overruled};
+ghost use Rattle.yv_node_checks.specs.InnerSpots.{AreRows};
+ghost use Rattle.yv_node_checks.specs.InnerBelow.{AreBelow, case_among, is_named_at, is_needed_at, is_undone_at, kept_at};
+
+use std::alloc::{AllocError, Global};
+use yv_node_definition::NodeKind;
+use yv_nodes::{Node, NodeId};
+use yv_statement::{Code, Refusal, lesser};
+use yv_values::Defaults;
+
+/// The least refusal of the defaults of a choice, a leaf or a leaf-list, or of `mandatory true` or `min-elements` beside a default.
+pub(crate) fn least_by_default(alloc: Global, nodes: &[Node]) -> Result<Option<Refusal>, AllocError>
+    ensures { (ts : Forest) → AreRows nodes.now ts → IfOk result (λ least. IsLeast (BadByDefault ts) least) }
+{
+    let below = mandatory_below(alloc, nodes)?;
+    let mut least = None;
+    for node in nodes {
+        let here = wrong_default(nodes, &below, node);
+        least = lesser(least, here);
+    }
+    Ok(least)
+}
+
+// Of each node whether a mandatory node stands directly under it. Children stand behind their parents, so that they are
+// known first.
+fn mandatory_below(alloc: Global, nodes: &[Node]) -> Result<Vec<bool>, AllocError>
+    ensures { (ts : Forest) → AreRows nodes.now ts → IfOk result (λ below. AreBelow ts below.items 0) }
+{
+    let mut below = vec![in alloc; false; nodes.len()]?;
+    for number in (0..nodes.len()).rev() {
+        let inner = any_needed(nodes, &below, nodes[number].children());
+        below[number] = inner;
+    }
+    Ok(below)
+}
+
+// Whether a mandatory node stands directly under the node of this number.
+fn kept_at(below: &[bool], number: NodeId) -> bool
+    ensures { result ≡ kept_at below.now number }
+{
+    below
+        .get(number.number() as usize)
+        .copied()
+        .unwrap_or(false)
+}
+
+// Whether a node is mandatory, where this says that a node directly under it is.
+fn is_needed(node: &Node, below: bool) -> bool
+    ensures { result ≡ is_needed node.now.label below }
+{
+    match node.kind() {
+        NodeKind::Leaf | NodeKind::Choice | NodeKind::Anydata | NodeKind::Anyxml => {
+            node.mandatory()
+        }
+        NodeKind::List | NodeKind::LeafList => node.min() > 0,
+        NodeKind::Container => !node.presence() && below,
+        _ => false,
+    }
+}
+
+// Whether the node of a number is mandatory.
+fn is_needed_at(nodes: &[Node], below: &[bool], number: NodeId) -> bool
+    ensures { result ≡ is_needed_at nodes.now below.now number }
+{
+    match nodes.get(number.number() as usize) {
+        Some(node) => is_needed(node, kept_at(below, number)),
+        None => false,
+    }
+}
+
+// Whether one of these nodes is mandatory.
+fn any_needed(nodes: &[Node], below: &[bool], children: &[NodeId]) -> bool
+    ensures { result ≡ list_any (is_needed_at nodes.now below.now) children.now }
+{
+    children
+        .iter()
+        .any(|child| is_needed_at(nodes, below, *child))
+}
+
+// Whether the node of a number has this module and this name.
+fn is_named_at(nodes: &[Node], module_file: u32, name: &str, number: NodeId) -> bool
+    ensures { result ≡ is_named_at nodes.now module_file name.now number }
+{
+    match nodes.get(number.number() as usize) {
+        Some(node) => node.module_file() == module_file && node.name() == name,
+        None => false,
+    }
+}
+
+// Of these nodes the first that has this module and this name.
+fn first_named(nodes: &[Node], module_file: u32, name: &str, children: &[NodeId]) -> Option<NodeId>
+    ensures { result ≡ find (is_named_at nodes.now module_file name.now) children.now }
+{
+    children
+        .iter()
+        .copied()
+        .find(|child| is_named_at(nodes, module_file, name, *child))
+}
+
+// The default case of a choice.
+fn default_case(nodes: &[Node], node: &Node) -> Option<NodeId>
+    ensures { result ≡ case_among nodes.now node.now.label.module_file (own_default node.now.label.defined) node.now.children }
+{
+    match node.own_default() {
+        Some(written) => {
+            first_named(
+                nodes,
+                node.module_file(),
+                written.text.as_str(),
+                node.children(),
+            )
+        }
+        None => None,
+    }
+}
+
+// Whether a mandatory node stands directly under a case.
+fn is_undone(nodes: &[Node], below: &[bool], case: Option<NodeId>) -> bool
+    ensures { result ≡ is_undone_at nodes.now below.now case }
+{
+    let Some(case) = case else {
+        return false;
+    };
+    match nodes.get(case.number() as usize) {
+        Some(node) if node.kind() == NodeKind::Case => kept_at(below, case),
+        Some(node) => is_needed(node, kept_at(below, case)),
+        None => false,
+    }
+}
+
+// Whether a node may have no default of its own.
+fn forbids_default(node: &Node) -> bool
+    ensures { result ≡ forbids_default_as node.now.label.defined.kind node.now.label.defined }
+{
+    match node.kind() {
+        NodeKind::Leaf | NodeKind::Choice => node.mandatory(),
+        NodeKind::LeafList => node.min() > 0,
+        _ => false,
+    }
+}
+
+// It has one nevertheless.
+fn is_overruled(node: &Node) -> bool
+    ensures { result ≡ is_overruled node.now.label }
+{
+    forbids_default(node) && node.own_default().is_some()
+}
+
+// A choice whose default is no case of it, where this says whether it is one.
+fn is_caseless(node: &Node, found: bool) -> bool
+    ensures { result ≡ is_caseless node.now.label found }
+{
+    node.kind() == NodeKind::Choice && (node.own_default().is_some() && !found)
+}
+
+// Whether a node of this kind has values.
+fn has_values(kind: NodeKind) -> bool
+    ensures { result ≡ has_values kind }
+{
+    matches!(kind, NodeKind::Leaf | NodeKind::LeafList)
+}
+
+// A leaf or leaf-list of which no type reads one of its defaults.
+fn is_illegible(node: &Node) -> bool
+    ensures { result ≡ is_illegible node.now.label }
+{
+    has_values(node.kind())
+        && (!(node.is_key() || node.mandatory())
+            && node.defaults().len() < node.count_defaults_said())
+}
+
+// A node with more defaults of its own than are taken.
+fn is_crowded(node: &Node) -> bool
+    ensures { result ≡ is_crowded node.now.label }
+{
+    node.own_defaults().len() > Defaults::MOST
+}
+
+// A configuration node that has one value twice by its defaults.
+fn has_duplicate_default(node: &Node) -> bool
+    ensures { result ≡ has_duplicate_default node.now.label }
+{
+    node.config() && node.repeats_default()
+}
+
+// A node whose defaults don't give it values, or not these.
+fn has_unfit_default(node: &Node) -> bool
+    ensures { result ≡ has_unfit_default node.now.label }
+{
+    is_illegible(node) || is_crowded(node) || has_duplicate_default(node)
+}
+
+// What is wrong with a node's defaults.
+fn wrong_default(nodes: &[Node], below: &[bool], node: &Node) -> Option<Refusal>
+    ensures { (ts : Forest) (i : ℕ) (p : Place) → AreRows nodes.now ts → AreBelow ts below.now 0
+        → slice_get nodes.now i ≡ Some node.now → slice_get (places ts) i ≡ Some p → IsLeast (BadOfDefault p) result }
+{
+    let case = default_case(nodes, node);
+    let overruled = node.refusal_if(is_overruled(node), Code::BadMandatory);
+    let undone = node.refusal_if(is_undone(nodes, below, case), Code::BadMandatory);
+    let caseless = node.refusal_if(is_caseless(node, case.is_some()), Code::BadDefault);
+    let unfit = node.refusal_if(has_unfit_default(node), Code::BadDefault);
+    lesser(lesser(overruled, undone), lesser(caseless, unfit))
+}

@@ -1,0 +1,53 @@
+use Rattle.std.proofs.Common.{◌≡◌, Bool, true, Some, None, Option, IfSome, List, map, not, is_some, sym, ap, ◌∙◌, subst, Vec, Global}
+use Rattle.std.specs.List.{slice_get}
+use Rattle.std.proofs.lemmas.Option.{slice_get-get_or}
+use Rattle.yv_statement.specs.declared.refusal.Code.TheVariants as code
+use Rattle.yv_statement.specs.declared.refusal.Refusal.{Refusal}
+use Rattle.yv_statement.specs.Order.{Stands}
+use Rattle.yv_statement.proofs.Least.{least_lesser}
+use Rattle.yv_nodes.specs.declared.node.NodeId.{NodeId}
+use Rattle.yv_nodes.specs.Tree.{Label}
+use Rattle.yv_nodes.specs.Rows.{Row, blank_row}
+use Rattle.yv_nodes.specs.Refusals.{refusal_of}
+use Rattle.yv_node_definition.specs.Steps.{Step}
+use Rattle.yv_node_keys.specs.Numbers.{default_case_at, key_leaf_at, tree_in, unique_leaf_at}
+use Rattle.yv_node_keys.specs.Refusals.{is_bad_key, is_bad_unique}
+use Rattle.yv_node_keys.proofs.Keeping.{IsBoth, both}
+use Rattle.yv_node_keys.proofs.Refusing.{both_none, label_at, least_here, not_refused, same_not, there}
+use Rattle.yv_node_keys.proofs.targets.LeafTargets.meet.Goals as goal
+
+pub returns-clause-keeps : goal.returns-clause-keeps
+returns-clause-keeps c = λ none before.
+    let rows : List Row = c.args.nodes.now.rows in
+    let n = c.args.number.0 in
+    let r : Row = c.get-node.result.now in
+    let at : slice_get rows n ≡ Some r = slice_get-get_or rows n blank_row c.requires ∙ ap Some (sym c.get-node.ensures) in
+    let clear = both_none c.refusal_if-bad_key.result c.refusal_if-bad_unique.result c.lesser.result c.lesser.ensures none in
+    let keyed : is_some c.in_ok-keys.keys ≡ true = there (is_some c.in_ok-keys.keys) c.is_none.result c.is_none.ensures (not_refused _ _ _ c.refusal_if-bad_key.ensures clear.0) in
+    let unique : is_some c.in_ok-uniques.uniques ≡ true = there (is_some c.in_ok-uniques.uniques) c.is_none-2.result c.is_none-2.ensures (not_refused _ _ _ c.refusal_if-bad_unique.ensures clear.1) in
+    let P : List (Option Step) → Type 0 = λ steps. IfSome c.in_ok-keys.keys (λ ns. map (λ n. Some n) ns.items ≡ map (key_leaf_at rows c.args.number) steps) in
+    let Q : List (List (List (Option Step))) → Type 0 = λ statements. IfSome c.in_ok-uniques.uniques (λ found. map (λ ns. map (λ n. Some n) ns.items) found.items ≡ map (map (unique_leaf_at rows c.args.number)) statements) in
+    let found : IsBoth rows n c.in_ok-keys.keys c.in_ok-uniques.uniques =
+    both rows n r at c.in_ok-keys.keys c.in_ok-uniques.uniques keyed unique (subst P c.keys.ensures c.in_ok-keys.ensures.numbers) (subst Q c.uniques.ensures c.in_ok-uniques.ensures.numbers) in
+    record {
+      lists = c.in_ok-keep_both.ensures rows found.key_leafs found.unique_leafs found.keys_are found.uniques_are found.has before.lists;
+      cases = c.in_ok-keep_case.ensures rows (c.default_case.ensures ∙ ap (λ (rs : List Row). default_case_at rs c.args.number) c.all.ensures) before.cases;
+    }
+
+pub returns-clause-fault : goal.returns-clause-fault
+returns-clause-fault c = λ ts are p here.
+    let rows : List Row = c.args.nodes.now.rows in
+    let n = c.args.number.0 in
+    let r : Row = c.get-node.result.now in
+    let at : slice_get rows n ≡ Some r = slice_get-get_or rows n blank_row c.requires ∙ ap Some (sym c.get-node.ensures) in
+    let label : r.label ≡ p.label = label_at ts n r p (ap (λ (rs : List Row). slice_get rs n) (sym are) ∙ at) here in
+    let keyless : c.is_none.result ≡ is_bad_key (tree_in p) p.label.defined.keys =
+    same_not c.is_none.result (is_bad_key (tree_in p) p.label.defined.keys)
+    (sym c.is_none.ensures ∙ c.in_ok-keys.ensures.refuses ts are p here ∙ ap (λ (steps : List (Option Step)). not (is_bad_key (tree_in p) steps)) (c.keys.ensures ∙ ap (λ (l : Label). l.defined.keys) label)) in
+    let misled : c.is_none-2.result ≡ is_bad_unique (tree_in p) p.label.defined.uniques =
+    same_not c.is_none-2.result (is_bad_unique (tree_in p) p.label.defined.uniques)
+    (sym c.is_none-2.ensures ∙ c.in_ok-uniques.ensures.refuses ts are p here ∙ ap (λ (us : List (List (List (Option Step)))). not (is_bad_unique (tree_in p) us)) (c.uniques.ensures ∙ ap (λ (l : Label). l.defined.uniques) label)) in
+    let first = least_here code.BadKey _ p.label _ _ _ c.refusal_if-bad_key.ensures label keyless in
+    let second = least_here code.BadUnique _ p.label _ _ _ c.refusal_if-bad_unique.ensures label misled in
+    least_lesser (λ (f : Refusal). Stands (is_bad_key (tree_in p) p.label.defined.keys ≡ true) (refusal_of code.BadKey p.label) f)
+    (λ (f : Refusal). Stands (is_bad_unique (tree_in p) p.label.defined.uniques ≡ true) (refusal_of code.BadUnique p.label) f) _ _ _ c.lesser.ensures first second

@@ -1,0 +1,11 @@
+pub mod Targets
+pub mod Refusals
+pub mod Numbers
+pub mod InnerNames
+pub mod InnerSpots
+pub mod InnerMixedConfig
+pub mod InnerIndex
+pub mod Bad
+pub mod LeafTargets
+pub mod LeafNames
+pub mod InnerTargets

@@ -1,0 +1,23 @@
+pub mod Placing
+pub mod Naming
+pub mod Keying
+pub mod Closing
+pub mod Finding
+pub mod Leading
+pub mod Targeting
+pub mod Edging
+pub mod Faulty
+pub mod Lawful
+pub mod Origins
+pub mod Numbering
+pub mod Resolving
+mod Alike
+pub mod LinkClosing
+pub mod LinkPlacing
+pub mod Upward
+pub mod Exact
+pub mod Standing
+pub mod LinkLeading
+pub mod Typing
+pub mod LinkAlike
+pub mod Required

@@ -1,0 +1,5 @@
+use Rattle.yv_node_leafrefs.proofs.Resolving.{rows_typed}
+use Rattle.yv_node_leafrefs.proofs.laws.rows_are_typed.Goals as goal
+
+pub returns : goal.returns
+returns c = rows_typed

@@ -1,0 +1,14 @@
+pub mod Schema
+pub mod Above
+pub mod Ways
+pub mod Targets
+pub mod Bad
+pub mod Resolution
+pub mod DefiningStatements
+pub mod Leafrefs
+pub mod InnerOutline
+pub mod InnerNames
+pub mod InnerIndex
+pub mod InnerGraph
+pub mod Links
+pub mod InnerWays

@@ -1,0 +1,74 @@
+//! What is wrong with leafrefs.
+ghost use Rattle.std.specs.Prelude.{◌≡◌, ◌<◌, ◌↔◌, ℕ, Some, None, length, slice_get, IsTrue};
+ghost use Rattle.yv_statement.specs.Order.{IsLeast};
+ghost use Rattle.yv_nodes.specs.Rows.{Row};
+ghost use Rattle.yv_node_leafrefs.specs.Bad.{BadLeafrefs, BadLeafref, IsLost};
+ghost use Rattle.yv_node_leafrefs.specs.Targets.{RefersTo};
+ghost use Rattle.yv_node_leafrefs.specs.InnerOutline.{rows_in, schema_in};
+ghost use Rattle.yv_node_leafrefs.specs.InnerIndex.{IsDraft};
+ghost use Rattle.yv_node_leafrefs.specs.InnerGraph.{AreTargets, AreLeafrefCycles};
+
+use crate::draft::Draft;
+use crate::outline::Outline;
+use crate::targets::is_leafref;
+use yv_statement::{Code, Refusal, lesser};
+
+// Whether a node with this target is a leafref that refers to nothing.
+fn is_lost(outline: &Outline<'_>, draft: &Draft<'_>, target: Option<u32>, number: u32) -> bool
+    requires draft { IsDraft outline.now draft.now }
+    requires target { (x : ℕ) → (target ≡ Some x) ↔ RefersTo (schema_in outline.now) number x }
+    requires within { number < length (rows_in outline.now) }
+    ensures { (row : Row) → slice_get (rows_in outline.now) number ≡ Some row
+        → IsTrue result ↔ IsLost (schema_in outline.now) number row }
+{
+    if !is_leafref(outline, draft, number) {
+        return false;
+    }
+    target.is_none()
+}
+
+// The least that is wrong with a node.
+fn node_refusal(
+    outline: &Outline<'_>,
+    draft: &Draft<'_>,
+    targets: &[Option<u32>],
+    marks: &[bool],
+    number: usize,
+) -> Option<Refusal>
+    requires draft { IsDraft outline.now draft.now }
+    requires each { length targets.now ≡ length (rows_in outline.now) }
+    requires targets { AreTargets (schema_in outline.now) targets.now }
+    requires each_mark { length marks.now ≡ length (rows_in outline.now) }
+    requires marks { AreLeafrefCycles (schema_in outline.now) marks.now }
+    requires within { number < length (rows_in outline.now) }
+    ensures { (row : Row) → slice_get (rows_in outline.now) number ≡ Some row
+        → IsLeast (BadLeafref (schema_in outline.now) number row) result }
+{
+    let node = &outline.nodes[number];
+    let is_lost = is_lost(outline, draft, targets[number], number as u32);
+    let lost = node.refusal_if(is_lost, Code::BadPath);
+    let cycle = node.refusal_if(marks[number], Code::PathCycle);
+    lesser(lost, cycle)
+}
+
+/// The least that is wrong with all.
+pub(crate) fn first_refusal(
+    outline: &Outline<'_>,
+    draft: &Draft<'_>,
+    targets: &[Option<u32>],
+    marks: &[bool],
+) -> Option<Refusal>
+    requires draft { IsDraft outline.now draft.now }
+    requires each { length targets.now ≡ length (rows_in outline.now) }
+    requires targets { AreTargets (schema_in outline.now) targets.now }
+    requires each_mark { length marks.now ≡ length (rows_in outline.now) }
+    requires marks { AreLeafrefCycles (schema_in outline.now) marks.now }
+    ensures { IsLeast (BadLeafrefs (schema_in outline.now)) result }
+{
+    let mut least = None;
+    for number in 0..outline.nodes.len() {
+        let fault = node_refusal(outline, draft, targets, marks, number);
+        least = lesser(least, fault);
+    }
+    least
+}

@@ -1,0 +1,5 @@
+use Rattle.yv_node_paths.proofs.Beginning.{begins}
+use Rattle.yv_node_paths.proofs.laws.paths_of_leafrefs_begin.Goals as goal
+
+pub returns : goal.returns
+returns c = λ text h. begins text h

@@ -1,0 +1,137 @@
+//! The paths of arguments.
+ghost use Rattle.std.specs.Prelude.{◌≡◌, ◌++◌, map, IfOk, OnOk};
+ghost use Rattle.yv_link_scopes.specs.Files.{Files};
+ghost use Rattle.yv_link_scopes.specs.Views.{lent_in};
+ghost use Rattle.yv_node_paths.specs.InnerPrefixes.{IsPrefixTable};
+ghost use Rattle.yv_node_paths.specs.InnerFirstWord.{name_in, path_in};
+
+use crate::first_word::cut;
+use crate::pieces::read_pieces;
+use crate::prefixes::PrefixTable;
+use crate::referral::{LeafrefPath, read_referral};
+use crate::steps::{read_path, read_step};
+use std::alloc::{AllocError, Global};
+use yv_link_scopes::Rows;
+use yv_node_definition::{PathPiece, PathStep};
+
+// Adds the path that a text without blanks is. An empty one is none.
+fn push_path<'a>(
+    alloc: Global,
+    module_files: &PrefixTable<'a>,
+    file: usize,
+    paths: &mut Vec<Vec<Option<PathStep>>>,
+    piece: &'a str,
+) -> Result<(), AllocError>
+    ensures { (files : Files) → IsPrefixTable files module_files.now → OnOk result (map (λ path. path.items) paths.new.items
+        ≡ map (λ path. path.items) paths.old.items ++ path_in files file piece.now) }
+{
+    if !piece.is_empty() {
+        paths.push(read_path(alloc, module_files, file, piece)?)?;
+    }
+    Ok(())
+}
+
+// Adds the name that a text without blanks is. An empty one is none.
+fn push_name<'a>(
+    alloc: Global,
+    module_files: &PrefixTable<'a>,
+    file: usize,
+    names: &mut Vec<Option<PathStep>>,
+    piece: &'a str,
+) -> Result<(), AllocError>
+    ensures { (files : Files) → IsPrefixTable files module_files.now → OnOk result (names.new.items ≡ names.old.items ++ name_in files file piece.now) }
+{
+    if !piece.is_empty() {
+        names.push(read_step(alloc, module_files, file, piece)?)?;
+    }
+    Ok(())
+}
+
+/// Reads the paths of arguments: which modules the prefixes in files identify is found once for all of them.
+#[derive(Drop)]
+pub struct LeafPaths<'a> {
+    module_files: PrefixTable<'a>,
+}
+
+impl<'a> LeafPaths<'a> {
+    ghost use Rattle.yv_node_paths.specs.LeafPaths.{AreLeafPaths};
+    ghost use Rattle.yv_node_paths.specs.Referral.{climbs_of, pieces_of, steps_in};
+    ghost use Rattle.yv_node_paths.specs.Steps.{names_of, paths_of};
+
+    /// The prefixes that files declare, in time n log n and memory linear in the text. Err only if memory runs out.
+    pub fn read(alloc: Global, rows: &Rows<'a, '_>) -> Result<LeafPaths<'a>, AllocError>
+        ensures { IfOk result (AreLeafPaths (lent_in rows.now)) }
+    {
+        let module_files = PrefixTable::read(alloc, rows)?;
+        Ok(LeafPaths { module_files })
+    }
+
+    /// The paths that the argument of a `unique` statement in a file has, with blanks between (RFC 7950, section 7.8.3). A step
+    /// is None where its prefix identifies no module. Err only if memory runs out.
+    pub fn paths(
+        &self,
+        alloc: Global,
+        file: usize,
+        text: &'a str,
+    ) -> Result<Vec<Vec<Option<PathStep>>>, AllocError>
+        ensures { (files : Files) → AreLeafPaths files self.now
+            → IfOk result (λ paths. map (λ path. path.items) paths.items ≡ paths_of files file text.now) }
+    {
+        let mut paths = Vec::new(alloc);
+        let mut rest = text;
+        while let Some((word, behind)) = cut(rest) {
+            push_path(alloc, &self.module_files, file, &mut paths, word)?;
+            rest = behind;
+        }
+        push_path(alloc, &self.module_files, file, &mut paths, rest)?;
+        Ok(paths)
+    }
+
+    /// The names that the argument of a `key` statement in a file has, with blanks between, each as the one step of a path
+    /// (RFC 7950, section 7.8.2). One is None where its prefix identifies no module. Err only if memory runs out.
+    pub fn names(
+        &self,
+        alloc: Global,
+        file: usize,
+        text: &'a str,
+    ) -> Result<Vec<Option<PathStep>>, AllocError>
+        ensures { (files : Files) → AreLeafPaths files self.now → IfOk result (λ names. names.items ≡ names_of files file text.now) }
+    {
+        let mut names = Vec::new(alloc);
+        let mut rest = text;
+        while let Some((word, behind)) = cut(rest) {
+            push_name(alloc, &self.module_files, file, &mut names, word)?;
+            rest = behind;
+        }
+        push_name(alloc, &self.module_files, file, &mut names, rest)?;
+        Ok(names)
+    }
+
+    /// The path that the argument of a `path` statement in a file is, in time and memory linear in the text (RFC 7950, section 9.9.2).
+    /// A step is None where its prefix identifies no module. Err only if memory runs out.
+    pub fn referral(
+        &self,
+        alloc: Global,
+        file: usize,
+        text: &'a str,
+    ) -> Result<LeafrefPath, AllocError>
+        ensures climbs { IfOk result (λ path. path.climbs ≡ climbs_of text.now) }
+        ensures steps { (files : Files) → AreLeafPaths files self.now
+            → IfOk result (λ path. path.steps.items ≡ steps_in files file text.now) }
+    {
+        read_referral(alloc, &self.module_files, file, text)
+    }
+
+    /// The pieces of the path that the argument of a `path` statement in a file is, as it is written, for callers that print it (RFC 7950,
+    /// section 9.9.2). It takes time and memory linear in the text. Err only if memory runs out.
+    pub fn pieces(
+        &self,
+        alloc: Global,
+        file: usize,
+        text: &'a str,
+    ) -> Result<Vec<PathPiece>, AllocError>
+        ensures { (files : Files) → AreLeafPaths files self.now → IfOk result (λ pieces. pieces.items ≡ pieces_of files file text.now) }
+    {
+        read_pieces(alloc, &self.module_files, file, text)
+    }
+}

@@ -1,0 +1,88 @@
+//! The paths of leafrefs.
+ghost use Rattle.std.specs.Prelude.{◌≡◌, ◌≤◌, true, false, Some, None, drop, length, map, IfOk, MatchOption};
+ghost use Rattle.std.specs.List.{prefix_len};
+ghost use Rattle.yv_link_scopes.specs.Files.{Files};
+ghost use Rattle.yv_node_paths.specs.InnerPrefixes.{IsPrefixTable};
+ghost use Rattle.yv_node_paths.specs.Referral.{climbs_of, is_absolute, is_up, names_behind, steps_in, ups_of};
+ghost use Rattle.yv_node_paths.specs.Steps.{path_of, step_of};
+
+use crate::prefixes::PrefixTable;
+use crate::steps::{read_path, read_steps, texts_of};
+use std::alloc::{AllocError, Global};
+use yv_node_definition::PathStep;
+
+/// The path of a leafref (RFC 7950, section 9.9.2).
+#[derive(Drop)]
+pub struct LeafrefPath {
+    /// How many `../` it begins with. None where it is absolute.
+    pub climbs: Option<usize>,
+    /// The names after these, in order: None where a prefix identifies no module.
+    pub steps: Vec<Option<PathStep>>,
+}
+
+// What stands behind the '/' with which an absolute path begins.
+fn behind_root(text: &str) -> Option<&str>
+    ensures { MatchOption result (is_absolute text.now ≡ false) (λ names. (is_absolute text.now ≡ true) × (names.now ≡ drop 1 text.now)) }
+{
+    text.strip_prefix('/')
+}
+
+// How many texts at the front are `..`.
+fn ups(texts: &[&str]) -> usize
+    ensures count { result ≡ prefix_len is_up (map (λ t. t.now) texts.now) }
+    ensures within { result ≤ length texts.now }
+{
+    texts.iter().take_while(|text| **text == "..").count()
+}
+
+// The absolute path with these names.
+fn absolute<'a>(
+    alloc: Global,
+    module_files: &PrefixTable<'a>,
+    file: usize,
+    names: &'a str,
+) -> Result<LeafrefPath, AllocError>
+    ensures climbs { IfOk result (λ path. path.climbs ≡ None) }
+    ensures steps { (files : Files) → IsPrefixTable files module_files.now → IfOk result (λ path. path.steps.items ≡ path_of files file names.now) }
+{
+    Ok(LeafrefPath {
+        climbs: None,
+        steps: read_path(alloc, module_files, file, names)?,
+    })
+}
+
+// The relative path that is written so.
+fn relative<'a>(
+    alloc: Global,
+    module_files: &PrefixTable<'a>,
+    file: usize,
+    text: &'a str,
+) -> Result<LeafrefPath, AllocError>
+    ensures climbs { IfOk result (λ path. path.climbs ≡ Some (ups_of text.now)) }
+    ensures steps { (files : Files) → IsPrefixTable files module_files.now
+        → IfOk result (λ path. path.steps.items ≡ map (step_of files file) (names_behind text.now)) }
+{
+    let texts = texts_of(alloc, text)?;
+    let ups = ups(&texts);
+    let steps = read_steps(alloc, module_files, file, &texts[ups..])?;
+    Ok(LeafrefPath {
+        climbs: Some(ups),
+        steps,
+    })
+}
+
+/// The path of a leafref in a file that is written so.
+pub(crate) fn read_referral<'a>(
+    alloc: Global,
+    module_files: &PrefixTable<'a>,
+    file: usize,
+    text: &'a str,
+) -> Result<LeafrefPath, AllocError>
+    ensures climbs { IfOk result (λ path. path.climbs ≡ climbs_of text.now) }
+    ensures steps { (files : Files) → IsPrefixTable files module_files.now → IfOk result (λ path. path.steps.items ≡ steps_in files file text.now) }
+{
+    match behind_root(text) {
+        Some(names) => absolute(alloc, module_files, file, names),
+        None => relative(alloc, module_files, file, text),
+    }
+}

@@ -1,0 +1,92 @@
+//! The steps of paths.
+ghost use Rattle.std.specs.Prelude.{◌≡◌, Some, None, map, IfOk};
+ghost use Rattle.std.specs.Option.{option_map};
+ghost use Rattle.yv_link_scopes.specs.Files.{Files};
+ghost use Rattle.yv_node_paths.specs.Steps.{path_of, step_of, texts_of};
+ghost use Rattle.yv_node_paths.specs.InnerPrefixes.{IsPrefixTable};
+
+use crate::prefixes::PrefixTable;
+use std::alloc::{AllocError, Global};
+use std::rc::RcStr;
+use yv_link_scopes::{local, prefix_of};
+use yv_node_definition::PathStep;
+
+// A step without a prefix.
+fn bare_step(alloc: Global, name: &str) -> Result<PathStep, AllocError>
+    ensures { IfOk result (λ step. step ≡ record { module_file = None; name = name.now }) }
+{
+    Ok(PathStep {
+        module_file: None,
+        name: RcStr::from_str(alloc, name)?,
+    })
+}
+
+// A step whose prefix stands for a module, if it does.
+fn step_in(
+    alloc: Global,
+    module_file: Option<u32>,
+    name: &str,
+) -> Result<Option<PathStep>, AllocError>
+    ensures { IfOk result (λ step. step ≡ option_map (λ number. record { module_file = Some number; name = name.now }) module_file) }
+{
+    match module_file {
+        Some(module_file) => Ok(Some(PathStep {
+            module_file: Some(module_file),
+            name: RcStr::from_str(alloc, name)?,
+        })),
+        None => Ok(None),
+    }
+}
+
+/// The step of a path in a file that is written so.
+pub(crate) fn read_step<'a>(
+    alloc: Global,
+    module_files: &PrefixTable<'a>,
+    file: usize,
+    text: &'a str,
+) -> Result<Option<PathStep>, AllocError>
+    ensures { (files : Files) → IsPrefixTable files module_files.now → IfOk result (λ step. step ≡ step_of files file text.now) }
+{
+    let name = local(text);
+    match prefix_of(text) {
+        Some(prefix) => step_in(alloc, module_files.get(file, prefix), name),
+        None => Ok(Some(bare_step(alloc, name)?)),
+    }
+}
+
+/// The text of each step of a path.
+pub(crate) fn texts_of(alloc: Global, text: &str) -> Result<Vec<&str>, AllocError>
+    ensures { IfOk result (λ texts. map (λ t. t.now) texts.items ≡ texts_of text.now) }
+{
+    text.split('/').collect(alloc)
+}
+
+/// The steps of a path in a file that are written so.
+pub(crate) fn read_steps<'a>(
+    alloc: Global,
+    module_files: &PrefixTable<'a>,
+    file: usize,
+    texts: &[&'a str],
+) -> Result<Vec<Option<PathStep>>, AllocError>
+    ensures { (files : Files) → IsPrefixTable files module_files.now
+        → IfOk result (λ steps. steps.items ≡ map (step_of files file) (map (λ t. t.now) texts.now)) }
+{
+    let mut steps = Vec::new(alloc);
+    for text in texts {
+        steps.push(read_step(alloc, module_files, file, text)?)?;
+    }
+    Ok(steps)
+}
+
+/// The path in a file that is written so.
+pub(crate) fn read_path<'a>(
+    alloc: Global,
+    module_files: &PrefixTable<'a>,
+    file: usize,
+    text: &'a str,
+) -> Result<Vec<Option<PathStep>>, AllocError>
+    ensures { (files : Files) → IsPrefixTable files module_files.now → IfOk result (λ path. path.items ≡ path_of files file text.now) }
+{
+    let texts = texts_of(alloc, text)?;
+    read_steps(alloc, module_files, file, &texts)
+}

@@ -1,0 +1,11 @@
+pub mod AllKept
+pub mod Expressions
+pub mod Firsts
+pub mod Later
+pub mod Listing
+pub mod Separating
+pub mod Shared
+pub mod Spacing
+pub mod TypeKinds
+pub mod Following
+pub mod Keeping

@@ -1,0 +1,13 @@
+pub mod Kinds
+pub mod Features
+pub mod Values
+pub mod Definitions
+pub mod Context
+pub mod InnerStore
+pub mod InnerRefines
+pub mod InnerSharedValues
+pub mod InnerTexts
+pub mod InnerChanges
+pub mod InnerNames
+pub mod RefinedContext
+pub mod InnerRefinedStore

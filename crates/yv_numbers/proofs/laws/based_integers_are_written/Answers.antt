@@ -1,5 +1,0 @@
-use Rattle.yv_numbers.proofs.Wholes.{based_integers}
-use Rattle.yv_numbers.proofs.laws.based_integers_are_written.Goals as goal
-
-pub returns : goal.returns
-returns c = based_integers

@@ -1,5 +1,0 @@
-use Rattle.yv_numbers.proofs.Decimals.{decimals}
-use Rattle.yv_numbers.proofs.laws.decimals_are_written.Goals as goal
-
-pub returns : goal.returns
-returns c = decimals

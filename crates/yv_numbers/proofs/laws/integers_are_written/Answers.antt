@@ -1,5 +1,0 @@
-use Rattle.yv_numbers.proofs.Wholes.{integers}
-use Rattle.yv_numbers.proofs.laws.integers_are_written.Goals as goal
-
-pub returns : goal.returns
-returns c = integers

@@ -1,5 +1,0 @@
-use Rattle.yv_numbers.proofs.Numerals.{naturals}
-use Rattle.yv_numbers.proofs.laws.naturals_are_written.Goals as goal
-
-pub returns : goal.returns
-returns c = naturals

@@ -1,3 +1,0 @@
-pub mod NoteLemmas
-pub mod DocumentLemmas
-pub mod OneOutput

@@ -1,6 +1,0 @@
-use Rattle.std.proofs.Common.{ℕ, List, take}
-use Rattle.yv_path_tree.specs.InnerTree.{IsAdded, IsPathTree}
-use Rattle.yv_path_tree.proofs.path_tree.PathTree.add.Given as goal
-
-abbrev pub invariant-loop-place : goal.invariant-loop-place
-invariant-loop-place l = (paths : List (List ℕ)) → IsPathTree paths l.fn.self → IsAdded paths (take l.place l.steps) l.path l.self

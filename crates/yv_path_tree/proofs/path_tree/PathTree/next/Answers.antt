@@ -1,5 +1,0 @@
-use Rattle.std.proofs.Common.{◌∙◌}
-use Rattle.yv_path_tree.proofs.path_tree.PathTree.next.Goals as goal
-
-pub returns-clause-all : goal.returns-clause-all
-returns-clause-all c = λ paths path is on. c.copied.ensures ∙ c.get.ensures.value ∙ is.all_known c.args.front c.args.step path on

@@ -1,5 +1,0 @@
-use Rattle.yv_paths.proofs.Stepping.{step_is}
-use Rattle.yv_paths.proofs.laws.a_step_has_its_nodes_number.Goals as goal
-
-pub returns : goal.returns
-returns c = λ files rows file own home text name number few named. step_is files rows file own home few text name number named

@@ -1,5 +1,0 @@
-use Rattle.yv_paths.proofs.Stepping.{number_there, number_within, input_there, output_there}
-use Rattle.yv_paths.proofs.laws.names_are_numbered.Goals as goal
-
-pub returns : goal.returns
-returns c = record { numbers = number_there; input = input_there; output = output_there; within = number_within }

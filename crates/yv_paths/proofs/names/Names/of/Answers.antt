@@ -1,7 +1,0 @@
-use Rattle.std.proofs.Common.{◌∙◌, ap}
-use Rattle.std.specs.List.{slice_get}
-use Rattle.yv_paths.proofs.Reading.{number_read}
-use Rattle.yv_paths.proofs.names.Names.of.Goals as goal
-
-pub returns : goal.returns
-returns c = λ rows are. c.number_at.ensures ∙ ap (λ l. slice_get l c.args.statement) c.deref.ensures.value ∙ number_read rows c.args.self.now.numbers.items c.args.statement are.own

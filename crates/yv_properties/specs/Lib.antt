@@ -1,4 +1,0 @@
-pub mod Kinds
-pub mod Steps
-pub mod Defined
-pub mod InnerNames

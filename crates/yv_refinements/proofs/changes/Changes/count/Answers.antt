@@ -1,8 +1,0 @@
-use Rattle.std.proofs.Common.{ap, length, arith}
-use Rattle.yv_refinements.specs.Changed.{Changed}
-use Rattle.yv_refinements.proofs.Joining.{items_of, length-sequences_of}
-use Rattle.yv_refinements.proofs.changes.Changes.count.Goals as goal
-
-pub returns : goal.returns
-returns c =
-    omega (arith, c.len.ensures, length-sequences_of (items_of c.self.inside.runs.items) c.self.inside.joints.made.items, ap (λ (x : Changed). length x.sequences) c.self.view_is)

@@ -1,3 +1,0 @@
-pub mod Meant
-pub mod Changed
-pub mod InnerJoints

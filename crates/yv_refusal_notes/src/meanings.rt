@@ -1,0 +1,78 @@
+//! What names mean in the statements of the files.
+use crate::site::{Site, next_site};
+use std::alloc::{AllocError, Global};
+use yv_link_scopes::{local, prefix_of};
+
+/// How many steps from one typedef to the next are followed.
+const MOST_STEPS: usize = 64;
+
+/// A `type` statement, and those of the typedefs to which it leads, up to one of a built-in type.
+pub(crate) fn chain<'s, 'a>(
+    alloc: Global,
+    site: &Site<'s, 'a>,
+) -> Result<Vec<Site<'s, 'a>>, AllocError> {
+    let mut types = Vec::new(alloc);
+    let mut at = *site;
+    for _ in 0..MOST_STEPS {
+        types.push(at)?;
+        match next_type(&at) {
+            Some(next) => at = next,
+            None => break,
+        }
+    }
+    Ok(types)
+}
+
+// The `type` of the typedef that a `type` means.
+fn next_type<'s, 'a>(site: &Site<'s, 'a>) -> Option<Site<'s, 'a>> {
+    site.meaning()?.child("type")
+}
+
+/// The statement by which the file of a statement declares a prefix.
+pub(crate) fn declaration<'s, 'a>(site: &Site<'s, 'a>, prefix: &str) -> Option<Site<'s, 'a>> {
+    let mut from = 0;
+    for _ in 0..site.entries.len() {
+        let declared = next_site(site.entries, "prefix", from)?;
+        if declared.entry.file == site.entry.file && declared.argument() == prefix {
+            return Some(declared);
+        }
+        from = declared.number.saturating_add(1);
+    }
+    None
+}
+
+/// The root of the module in which a name in a statement is looked up by its prefix.
+pub(crate) fn module_of<'s, 'a>(site: &Site<'s, 'a>, name: &str) -> Option<Site<'s, 'a>> {
+    match prefix_of(name) {
+        Some(prefix) => declaration(site, prefix)?.meaning(),
+        None => site.module(),
+    }
+}
+
+/// The definition at the top of a module that a name in a statement means, of a keyword whose definitions are all there.
+pub(crate) fn definition<'s, 'a>(
+    site: &Site<'s, 'a>,
+    keyword: &str,
+    name: &str,
+) -> Option<Site<'s, 'a>> {
+    module_of(site, name)?.child_named(keyword, local(name))
+}
+
+/// How many words of an argument are looked at.
+const MOST_WORDS: usize = 64;
+
+/// The names in a path, a key or an expression: its first 64.
+pub(crate) fn words_of<'a>(alloc: Global, text: &'a str) -> Result<Vec<&'a str>, AllocError> {
+    let mut words = Vec::new(alloc);
+    for word in text.split(is_between) {
+        if words.len() < MOST_WORDS && !word.is_empty() {
+            words.push(word)?;
+        }
+    }
+    Ok(words)
+}
+
+// Whether a character separates names.
+fn is_between(character: char) -> bool {
+    matches!(character, ' ' | '\t' | '\n' | '\r' | '/' | '(' | ')')
+}

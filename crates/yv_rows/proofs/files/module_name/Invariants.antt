@@ -1,8 +1,0 @@
-use Rattle.std.proofs.Common.{◌≡◌, codes, drop}
-use Rattle.std.specs.List.{find}
-use Rattle.yv_statement.specs.Tree.{trees}
-use Rattle.yv_rows.specs.Files.{has_word}
-use Rattle.yv_rows.proofs.files.module_name.Given as goal
-
-abbrev pub invariant-loop-child : goal.invariant-loop-child
-invariant-loop-child l = find (λ c. has_word (codes "belongs-to") c.head) (drop l.child-index (trees l.root.children)) ≡ find (λ c. has_word (codes "belongs-to") c.head) (trees l.root.children)

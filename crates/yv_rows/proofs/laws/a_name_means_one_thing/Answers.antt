@@ -1,5 +1,0 @@
-use Rattle.yv_rows.proofs.Meanings.{in_one}
-use Rattle.yv_rows.proofs.laws.a_name_means_one_thing.Goals as goal
-
-pub returns : goal.returns
-returns c = in_one

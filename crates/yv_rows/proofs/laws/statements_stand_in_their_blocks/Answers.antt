@@ -1,5 +1,0 @@
-use Rattle.yv_rows.proofs.Blocks.{statements_stand}
-use Rattle.yv_rows.proofs.laws.statements_stand_in_their_blocks.Goals as goal
-
-pub returns : goal.returns
-returns c = statements_stand

@@ -1,0 +1,34 @@
+//! The schema of files, through the layers below.
+ghost use Rattle.std.specs.Prelude.{◌≡◌, map, IfOk, Err};
+ghost use Rattle.yv_statement.specs.declared.refusal.Refusal.{Refusal as TheRefusal};
+ghost use Rattle.yv_statement.specs.declared.refusal.Stop.TheVariants.{Fault, PatternBuild};
+ghost use Rattle.yv_statement.specs.Selection.{selected_of};
+ghost use Rattle.yv_run.specs.Compiles.{FilesCompile, RefusedAt, HasSchema, HavePattern};
+ghost use Rattle.yv_streams.specs.Files.{file_of};
+
+use std::alloc::Global;
+use yv_schema::{Schema, compile};
+use yv_source::Texts;
+use yv_statement::{Selection, Stop};
+use yv_streams::Input;
+
+/// The schema of these files, or what is refused first, `TooManyNodes` where they expand to more
+/// than the limit. `PatternBuild` says that the library of regular expressions doesn't build a
+/// pattern of theirs.
+pub fn compile_files(
+    alloc: Global,
+    inputs: &[Input],
+    selection: &Selection,
+    limit: u32,
+) -> Result<Schema, Stop>
+    ensures schema { IfOk result (λ s. FilesCompile (selected_of selection.now) limit (map file_of inputs.now) (HasSchema s)) }
+    ensures refuses { (r : TheRefusal) → result ≡ Err (Fault r)
+        → FilesCompile (selected_of selection.now) limit (map file_of inputs.now) (RefusedAt r) }
+    ensures builds { result ≡ Err PatternBuild → HavePattern (selected_of selection.now) limit (map file_of inputs.now) }
+{
+    let texts = Texts::read(alloc, inputs)?;
+    match texts.statements(alloc) {
+        Ok(statements) => compile(alloc, &statements, selection, limit),
+        Err(stop) => Err(stop),
+    }
+}

@@ -1,0 +1,183 @@
+//! Faults as lines on a page.
+ghost use Rattle.std.specs.Prelude.{◌≡◌, ◌<◌, ◌↔◌, ◌++◌, ◌∷◌, [], ℕ, List, Option, true, false, codes, decimal, take};
+ghost use Rattle.std.specs.Io.KnownBytes.{Appends};
+ghost use Rattle.std.specs.Option.{option_map};
+ghost use Rattle.yv_nodes.specs.Member.{behind};
+ghost use Rattle.yv_validate.specs.Line.{escape, escaped_byte, hexadecimal, is_plain, item_text, line_text, path_text, place_text, places_text};
+ghost use Rattle.yv_leafref_values.specs.Place.{member_text};
+ghost use Rattle.yv_validate.specs.Part.{part_of};
+ghost use Rattle.yv_streams.specs.Stream.{has_failed, stream_failures, stream_inner, FailsOnceAtMost};
+ghost use Rattle.yv_streams.specs.Pages.{Adds, output_of};
+ghost use Rattle.yv_run.specs.Lines.{ended_line, fault_lines, faults_text};
+ghost use Rattle.yv_run.specs.InnerNumbers.{number_text};
+
+use itoa::Buffer;
+use std::io::Write;
+use yv_streams::{Counted, Page};
+use yv_validate::{Fault, MemberName, Part, PathSteps};
+
+/// Writes the lines of faults and how many they are, and answers whether all was taken. It takes no
+/// memory, however much text that is.
+pub fn write_faults<W: Write>(writer: &mut Counted<W>, faults: &[Fault]) -> bool
+    requires { has_failed writer.old ≡ false }
+    ensures ends { result ≡ true → Appends (W.contents (stream_inner writer.old)) (W.contents (stream_inner writer.new)) (faults_text faults.now) }
+    ensures part { (n : ℕ) × Appends (W.contents (stream_inner writer.old)) (W.contents (stream_inner writer.new)) (take n (faults_text faults.now)) }
+    ensures fault { result ≡ false ↔ (has_failed writer.new ≡ true) }
+    ensures once { FailsOnceAtMost writer.new }
+{
+    let mut page = Page::new();
+    put_lines(&mut page, writer, faults);
+    put_count(&mut page, writer, faults.len());
+    page.turn(writer);
+    !writer.has_failed()
+}
+
+// The line of how many faults there are.
+fn put_count<W: Write>(page: &mut Page, writer: &mut Counted<W>, count: usize)
+    ensures { Adds (ended_line (codes "faults: " ++ decimal count)) (output_of (W.contents (stream_inner writer.old)) (has_failed writer.old) (stream_failures writer.old) page.old)
+        (output_of (W.contents (stream_inner writer.new)) (has_failed writer.new) (stream_failures writer.new) page.new) }
+{
+    page.put(writer, b"faults: ");
+    page.put(writer, Buffer::new().format(count).as_bytes());
+    page.put(writer, b"\n");
+}
+
+// Puts the lines of faults behind what a page holds, each with a line feed, and writes each full
+// page.
+fn put_lines<W: Write>(page: &mut Page, writer: &mut Counted<W>, faults: &[Fault])
+    ensures { Adds (fault_lines faults.now) (output_of (W.contents (stream_inner writer.old)) (has_failed writer.old) (stream_failures writer.old) page.old)
+        (output_of (W.contents (stream_inner writer.new)) (has_failed writer.new) (stream_failures writer.new) page.new) }
+{
+    for fault in faults {
+        put_line(page, writer, fault);
+    }
+}
+
+// The line of a fault. Nothing is done for a writer that has failed, since it gets no more.
+fn put_line<W: Write>(page: &mut Page, writer: &mut Counted<W>, fault: &Fault)
+    ensures { Adds ((line_text fault.now ++ 10 ∷ [])) (output_of (W.contents (stream_inner writer.old)) (has_failed writer.old) (stream_failures writer.old) page.old)
+        (output_of (W.contents (stream_inner writer.new)) (has_failed writer.new) (stream_failures writer.new) page.new) }
+{
+    if !writer.has_failed() {
+        put_whole_line(page, writer, fault);
+    }
+}
+
+fn put_whole_line<W: Write>(page: &mut Page, writer: &mut Counted<W>, fault: &Fault)
+    ensures { Adds (ended_line (line_text fault.now)) (output_of (W.contents (stream_inner writer.old)) (has_failed writer.old) (stream_failures writer.old) page.old)
+        (output_of (W.contents (stream_inner writer.new)) (has_failed writer.new) (stream_failures writer.new) page.new) }
+{
+    page.put(writer, fault.kind.name().as_bytes());
+    page.put(writer, b" ");
+    put_path(page, writer, &fault.path.steps());
+    put_number(page, writer, fault.number);
+    page.put(writer, b"\n");
+}
+
+// The number of a statement, where there is one.
+fn put_number<W: Write>(page: &mut Page, writer: &mut Counted<W>, number: u32)
+    ensures { Adds (number_text number) (output_of (W.contents (stream_inner writer.old)) (has_failed writer.old) (stream_failures writer.old) page.old)
+        (output_of (W.contents (stream_inner writer.new)) (has_failed writer.new) (stream_failures writer.new) page.new) }
+{
+    if number != 0 {
+        page.put(writer, b" ");
+        page.put(writer, Buffer::new().format(number).as_bytes());
+    }
+}
+
+fn put_path<W: Write>(page: &mut Page, writer: &mut Counted<W>, path: &PathSteps<'_>)
+    ensures { Adds (path_text path.now) (output_of (W.contents (stream_inner writer.old)) (has_failed writer.old) (stream_failures writer.old) page.old)
+        (output_of (W.contents (stream_inner writer.new)) (has_failed writer.new) (stream_failures writer.new) page.new) }
+{
+    if path.is_empty() {
+        page.put(writer, b"/");
+    } else {
+        put_steps(page, writer, path);
+    }
+}
+
+// The calls nest as deep as the path is long.
+fn put_steps<W: Write>(page: &mut Page, writer: &mut Counted<W>, path: &PathSteps<'_>)
+    ensures { Adds (places_text path.now) (output_of (W.contents (stream_inner writer.old)) (has_failed writer.old) (stream_failures writer.old) page.old)
+        (output_of (W.contents (stream_inner writer.new)) (has_failed writer.new) (stream_failures writer.new) page.new) }
+{
+    if let Some((last, before)) = path.split_last() {
+        put_steps(page, writer, &before);
+        put_step(page, writer, &last);
+    }
+}
+
+fn put_step<W: Write>(page: &mut Page, writer: &mut Counted<W>, step: &Part<'_>)
+    ensures { Adds (place_text (part_of step.now)) (output_of (W.contents (stream_inner writer.old)) (has_failed writer.old) (stream_failures writer.old) page.old)
+        (output_of (W.contents (stream_inner writer.new)) (has_failed writer.new) (stream_failures writer.new) page.new) }
+{
+    page.put(writer, b"/");
+    put_name(page, writer, &step.name);
+    put_item(page, writer, step.item);
+}
+
+fn put_name<W: Write>(page: &mut Page, writer: &mut Counted<W>, name: &MemberName<'_>)
+    ensures { Adds (escape (member_text name.now.is_choice (option_map (λ m. m.now) name.now.module) name.now.name.now)) (output_of (W.contents (stream_inner writer.old)) (has_failed writer.old) (stream_failures writer.old) page.old)
+        (output_of (W.contents (stream_inner writer.new)) (has_failed writer.new) (stream_failures writer.new) page.new) }
+{
+    if name.is_choice {
+        page.put(writer, b"(");
+        put_qualified(page, writer, name);
+        page.put(writer, b")");
+    } else {
+        put_qualified(page, writer, name);
+    }
+}
+
+fn put_qualified<W: Write>(page: &mut Page, writer: &mut Counted<W>, name: &MemberName<'_>)
+    ensures { Adds (escape (behind (option_map (λ m. m.now) name.now.module) name.now.name.now)) (output_of (W.contents (stream_inner writer.old)) (has_failed writer.old) (stream_failures writer.old) page.old)
+        (output_of (W.contents (stream_inner writer.new)) (has_failed writer.new) (stream_failures writer.new) page.new) }
+{
+    if let Some(module) = name.module {
+        put_escaped(page, writer, module.as_bytes());
+        page.put(writer, b":");
+    }
+    put_escaped(page, writer, name.name.as_bytes());
+}
+
+fn put_item<W: Write>(page: &mut Page, writer: &mut Counted<W>, item: Option<u64>)
+    ensures { Adds (item_text item) (output_of (W.contents (stream_inner writer.old)) (has_failed writer.old) (stream_failures writer.old) page.old)
+        (output_of (W.contents (stream_inner writer.new)) (has_failed writer.new) (stream_failures writer.new) page.new) }
+{
+    if let Some(place) = item {
+        page.put(writer, b"[");
+        page.put(writer, Buffer::new().format(place).as_bytes());
+        page.put(writer, b"]");
+    }
+}
+
+fn put_escaped<W: Write>(page: &mut Page, writer: &mut Counted<W>, name: &[u8])
+    ensures { Adds (escape name.now) (output_of (W.contents (stream_inner writer.old)) (has_failed writer.old) (stream_failures writer.old) page.old)
+        (output_of (W.contents (stream_inner writer.new)) (has_failed writer.new) (stream_failures writer.new) page.new) }
+{
+    for byte in name {
+        put_escaped_byte(page, writer, *byte);
+    }
+}
+
+fn put_escaped_byte<W: Write>(page: &mut Page, writer: &mut Counted<W>, byte: u8)
+    ensures { Adds (escaped_byte byte) (output_of (W.contents (stream_inner writer.old)) (has_failed writer.old) (stream_failures writer.old) page.old)
+        (output_of (W.contents (stream_inner writer.new)) (has_failed writer.new) (stream_failures writer.new) page.new) }
+{
+    if b'!' <= byte && byte <= b'~' && byte != b'%' {
+        page.put_byte(writer, byte);
+    } else {
+        page.put(writer, &[b'%', digit(byte / 16), digit(byte % 16)]);
+    }
+}
+
+fn digit(value: u8) -> u8
+    requires { value < 16 }
+    ensures { result ≡ hexadecimal value }
+{
+    if value < 10 {
+        b'0' + value
+    } else {
+        b'A' + value - 10
+    }
+}

@@ -1,0 +1,86 @@
+//! The modules that have a tree diagram.
+use std::alloc::{AllocError, Global};
+use yv_refusal_notes::{Likeness, compare, push_quoted};
+use yv_schema_tables::Module;
+use yv_statement::Selection;
+
+/// How many modules are listed.
+const MOST_NAMES: usize = 8;
+
+/// Why there is no diagram of the module of this name, and of which modules there is one.
+pub(crate) fn modules_note(
+    alloc: Global,
+    modules: &[Module],
+    selection: &Selection,
+    name: &str,
+) -> Result<String, AllocError> {
+    let mut text = String::new(alloc);
+    if selection.is_implemented(name) {
+        text.push_str("tree: there is no module ")?;
+        push_quoted(&mut text, name)?;
+    } else {
+        text.push_str("tree: --import-only names the module ")?;
+        push_quoted(&mut text, name)?;
+        text.push_str(", so it is not implemented")?;
+    }
+    push_list(&mut text, modules)?;
+    if let Some(near) = nearest(modules, name) {
+        text.push_str("; did you mean ")?;
+        push_quoted(&mut text, near)?;
+        text.push_str("?")?;
+    }
+    text.push_str("\n")?;
+    Ok(text)
+}
+
+// Adds the names of modules, of many the first 8.
+fn push_list(text: &mut String, modules: &[Module]) -> Result<(), AllocError> {
+    for (place, known) in modules.iter().enumerate() {
+        if place >= MOST_NAMES {
+            return text.push_str(" and others");
+        }
+        text.push_str(before_name(place, modules.len()))?;
+        push_quoted(text, known.name.as_str())?;
+    }
+    Ok(())
+}
+
+// What is before the name of this place in a list of so many.
+fn before_name(place: usize, count: usize) -> &'static str {
+    if count == 1 {
+        "; the only implemented module is "
+    } else if place == 0 {
+        "; the implemented modules are "
+    } else if place.saturating_add(1) == count {
+        " and "
+    } else {
+        ", "
+    }
+}
+
+// The module whose name is most like one that was written: the first, if several are.
+fn nearest<'m>(modules: &'m [Module], name: &str) -> Option<&'m str> {
+    let mut nearest: Option<(&'m str, Likeness)> = None;
+    for known in modules {
+        let other = known.name.as_str();
+        if let Some(likeness) = compare(name.as_bytes(), other.as_bytes()) {
+            nearest = nearer(nearest, other, likeness);
+        }
+    }
+    match nearest {
+        Some((name, _)) => Some(name),
+        None => None,
+    }
+}
+
+// The more alike of two names.
+fn nearer<'m>(
+    nearest: Option<(&'m str, Likeness)>,
+    name: &'m str,
+    likeness: Likeness,
+) -> Option<(&'m str, Likeness)> {
+    match nearest {
+        Some((one, before)) if before <= likeness => Some((one, before)),
+        _ => Some((name, likeness)),
+    }
+}

@@ -1,0 +1,83 @@
+//! What helps a person to fix what was found of a document, or to name a module that has a diagram.
+//! It is made after the outcome is written, so that it delays nothing.
+ghost use Rattle.std.specs.Prelude.{◌≡◌, IfOk, option_map, string_bytes};
+ghost use Rattle.yv_run.specs.Document.{document_view, document_text};
+ghost use Rattle.yv_run.specs.Output.{diagram_printed, printed_of};
+ghost use Rattle.yv_run.specs.PersonNotes.{NotesDiagram, NotesFaults, NotesReading, faults_of};
+
+use crate::document::Document;
+use crate::modules::modules_note;
+use crate::print::{Body, CheckResult, Output};
+use crate::status::Verdict;
+use serde_json::Value;
+use std::alloc::{AllocError, Global};
+use yv_fault_notes::sentences;
+use yv_refusal_notes::{why_not_json, why_too_large};
+use yv_schema::Schema;
+use yv_statement::Selection;
+use yv_validate::Fault;
+
+impl CheckResult {
+    /// Why the document can't be read, of which these are the bytes, or sentences on its first
+    /// faults. None for a valid document.
+    pub fn note(
+        &self,
+        alloc: Global,
+        schema: &Schema,
+        bytes: &[u8],
+    ) -> Result<Option<String>, AllocError>
+        ensures { document_view self.now.document ≡ document_text bytes.now → IfOk result (λ note. NotesReading (document_view self.now.document)
+            (faults_of self.now.output.body) bytes.now (option_map string_bytes note)) }
+    {
+        match &self.document {
+            Document::TooLarge => Ok(Some(why_too_large(alloc, bytes)?)),
+            Document::NotJson => why_not_json(alloc, bytes),
+            Document::Json(json) => fault_note(alloc, schema, json, self.output.body.faults()),
+        }
+    }
+}
+
+impl Body<'_> {
+    // The faults of which it has the lines.
+    fn faults(&self) -> &[Fault]
+        ensures { result.now ≡ faults_of self.now }
+    {
+        match self {
+            Body::Text(_) | Body::Diagram(_) => &[],
+            Body::Faults(faults) => faults.as_slice(),
+        }
+    }
+}
+
+// Sentences on faults, if there are some.
+fn fault_note(
+    alloc: Global,
+    schema: &Schema,
+    json: &Value,
+    faults: &[Fault],
+) -> Result<Option<String>, AllocError>
+    ensures { IfOk result (λ note. NotesFaults faults.now (option_map string_bytes note)) }
+{
+    if faults.is_empty() {
+        return Ok(None);
+    }
+    Ok(Some(sentences(alloc, schema, json, faults)?))
+}
+
+/// Why there is no diagram of the module of this name, and of which modules there is one; none, if
+/// this output is a diagram.
+pub fn diagram_note(
+    alloc: Global,
+    schema: &Schema,
+    selection: &Selection,
+    name: &str,
+    output: &Output<'_>,
+) -> Result<Option<String>, AllocError>
+    ensures { printed_of output.now ≡ diagram_printed schema.now name.now
+        → IfOk result (λ note. NotesDiagram schema.now name.now (option_map string_bytes note)) }
+{
+    match output.verdict {
+        Verdict::Refused => Ok(Some(modules_note(alloc, schema.modules(), selection, name)?)),
+        Verdict::Clean | Verdict::BadInput => Ok(None),
+    }
+}

@@ -1,0 +1,67 @@
+//! How a run ended.
+ghost use Rattle.std.specs.Prelude.{◌≡◌, option_map};
+ghost use Rattle.yv_run.specs.Status.{status_of, exit_of, complaint_of};
+
+/// How a run ended.
+#[derive(Clone, Copy, PartialEq, Eq, Debug)]
+pub enum Status {
+    /// Nothing is wrong with the modules and the document.
+    Clean,
+    /// The modules were refused, the document has faults, or there is no such module.
+    Refused,
+    /// The document is too large, or not JSON.
+    BadInput,
+    NoMemory,
+    /// A pattern that the library of regular expressions doesn't build.
+    PatternBuild,
+    ReadFault,
+    WriteFault,
+}
+
+/// What was found, where nothing stopped the run.
+#[derive(Clone, Copy, PartialEq, Eq, Debug)]
+pub enum Verdict {
+    Clean,
+    Refused,
+    BadInput,
+}
+
+impl Verdict {
+    /// How a run ends that found this and wrote it whole.
+    pub fn status(self) -> Status
+        ensures { result ≡ status_of self }
+    {
+        match self {
+            Verdict::Clean => Status::Clean,
+            Verdict::Refused => Status::Refused,
+            Verdict::BadInput => Status::BadInput,
+        }
+    }
+}
+
+impl Status {
+    /// The status that the process exits with.
+    pub fn exit(self) -> u8
+        ensures { result ≡ exit_of self }
+    {
+        match self {
+            Status::Clean => 0,
+            Status::Refused => 1,
+            Status::BadInput => 2,
+            Status::NoMemory | Status::PatternBuild | Status::ReadFault | Status::WriteFault => 3,
+        }
+    }
+
+    /// What stopped the run, as one line of standard error without its line feed.
+    pub fn complaint(self) -> Option<&'static str>
+        ensures { option_map (λ t. t.now) result ≡ complaint_of self }
+    {
+        match self {
+            Status::Clean | Status::Refused | Status::BadInput => None,
+            Status::NoMemory => Some("yangcheck: out of memory"),
+            Status::PatternBuild => Some("yangcheck: pattern not built"),
+            Status::ReadFault => Some("yangcheck: cannot read"),
+            Status::WriteFault => Some("yangcheck: cannot write"),
+        }
+    }
+}

@@ -1,0 +1,183 @@
+//! A run over files that were read: what it writes, and how it ends. The note for a person is made
+//! only when all is written.
+ghost use Rattle.std.specs.Prelude.{◌≡◌, ◌↔◌, ◌⊎◌, true, ℕ, map, length, IfOk, IsErrOf, OnErr, None, Ok, option_map, string_bytes};
+ghost use Rattle.yv_job.specs.Jobs.{HasFiles, HasLimit, task_of};
+ghost use Rattle.yv_statement.specs.Selection.{Selected, selected_of};
+ghost use Rattle.yv_streams.specs.Stream.{stream_inner, has_failed, IsFresh, FailsOnceAtMost, TakesAtMost};
+ghost use Rattle.yv_streams.specs.Files.{file_of};
+ghost use Rattle.yv_run.specs.Compiles.{HavePattern};
+ghost use Rattle.yv_run.specs.Output.{WantsData, IsStopped};
+ghost use Rattle.yv_run.specs.Notes.{NotesPattern, RunsWithNote};
+ghost use Rattle.yv_run.specs.Runs.{Runs, most_read};
+
+use crate::answers::{write_answer, write_refusal};
+use crate::compilation::compile_files;
+use crate::pattern_laws::a_pattern_of_a_type_is_listed;
+use crate::status::Status;
+use std::alloc::{AllocError, Global};
+use std::io::{Read, Write};
+use thiserror::Error;
+use yv_job::Job;
+use yv_refusal_notes::unbuilt_pattern;
+use yv_source::laws::{a_bad_file_is_refused_once, a_text_is_spelled_or_refused_once};
+use yv_statement::Stop;
+use yv_streams::{Counted, Input};
+
+/// Why there is nothing to write.
+#[derive(Debug, Drop, Error)]
+pub enum Halt {
+    #[error("out of memory")]
+    NoMemory,
+    #[error("pattern not built")]
+    PatternBuild,
+    #[error("cannot read")]
+    Read,
+}
+
+impl From<AllocError> for Halt {
+    ghost use Rattle.std.specs.Prelude.{◌≡◌};
+    ghost use Rattle.yv_run.specs.declared.whole_run.Halt.TheVariants.{NoMemory};
+
+    ghost from_gives = { λ _ h. h ≡ NoMemory };
+
+    fn from(_error: AllocError) -> Halt {
+        Halt::NoMemory
+    }
+}
+
+/// How a run ended, and what helps a person to fix what was found.
+#[derive(Drop)]
+pub struct RunEnd {
+    pub status: Status,
+    /// If the files were refused, the place and the cause; if a pattern isn't built, its place; if
+    /// there is no such module, its name and those that there are; if the document is not JSON, the
+    /// place and why; if it is too large, of what it has too many; if it has faults, sentences on
+    /// the first of them. None otherwise. An error if memory ran out when all was written.
+    pub note: Result<Option<String>, AllocError>,
+}
+
+impl RunEnd {
+    // A run that was stopped.
+    fn stop_with(status: Status) -> RunEnd
+        ensures status { result.status ≡ status }
+        ensures note { result.note ≡ Ok None }
+    {
+        RunEnd {
+            status,
+            note: Ok(None),
+        }
+    }
+}
+
+/// Compiles the files of a job, and writes the outcome: the refusal's line, or how many nodes the
+/// schema has, or the tree diagram of one of its modules, or, where the job is to check a document,
+/// what is wrong with what the reader gives, or that it is valid. After `WriteFault` the writer
+/// holds the front of that text; after `NoMemory`, `PatternBuild` and `ReadFault` nothing was
+/// written.
+pub fn run<R: Read, W: Write>(
+    alloc: Global,
+    job: &Job,
+    inputs: &[Input],
+    reader: &mut Counted<R>,
+    writer: &mut Counted<W>,
+) -> Status
+    requires files { HasFiles job.now }
+    requires limit { HasLimit job.now }
+    requires each { length inputs.now ≡ length job.now.files.items }
+    requires reader { IsFresh reader.old }
+    requires writer { IsFresh writer.old }
+    ensures writes { IsStopped result ⊎ Runs (task_of job.now) (map file_of inputs.now) result (R.remaining (stream_inner reader.old)) (R.remaining (stream_inner reader.new))
+        (W.contents (stream_inner writer.old)) (W.contents (stream_inner writer.new)) }
+    ensures rest { IsStopped result → writer.new ≡ writer.old }
+    ensures reads_on { WantsData (task_of job.now) (map file_of inputs.now) ⊎ (reader.new ≡ reader.old) }
+    ensures read_fault { result ≡ Status.ReadFault ↔ (has_failed reader.new ≡ true) }
+    ensures write_fault { result ≡ Status.WriteFault ↔ (has_failed writer.new ≡ true) }
+    ensures takes { TakesAtMost most_read (R.remaining (stream_inner reader.old)) (R.remaining (stream_inner reader.new)) }
+    ensures reader_once { FailsOnceAtMost reader.new }
+    ensures writer_once { FailsOnceAtMost writer.new }
+    ensures builds { result ≡ Status.PatternBuild → HavePattern (selected_of job.now.selection) job.now.limit (map file_of inputs.now) }
+{
+    run_with_note(alloc, job, inputs, reader, writer).status
+}
+
+/// Does what `run` does, and adds a note that helps a person: why the files are refused, or which
+/// of their patterns isn't built, or that there is no such module to draw, or why the document is
+/// not JSON, or what is wrong with it. It is made when all is written, so that a note that takes
+/// long delays nothing, and want of memory for it changes neither what is written nor the status.
+pub fn run_with_note<R: Read, W: Write>(
+    alloc: Global,
+    job: &Job,
+    inputs: &[Input],
+    reader: &mut Counted<R>,
+    writer: &mut Counted<W>,
+) -> RunEnd
+    requires files { HasFiles job.now }
+    requires limit { HasLimit job.now }
+    requires each { length inputs.now ≡ length job.now.files.items }
+    requires reader { IsFresh reader.old }
+    requires writer { IsFresh writer.old }
+    ensures writes { IsStopped result.status ⊎ RunsWithNote (task_of job.now) (map file_of inputs.now) result (R.remaining (stream_inner reader.old))
+        (R.remaining (stream_inner reader.new)) (W.contents (stream_inner writer.old)) (W.contents (stream_inner writer.new)) }
+    ensures rest { IsStopped result.status → writer.new ≡ writer.old }
+    ensures reads_on { WantsData (task_of job.now) (map file_of inputs.now) ⊎ (reader.new ≡ reader.old) }
+    ensures read_fault { result.status ≡ Status.ReadFault ↔ (has_failed reader.new ≡ true) }
+    ensures write_fault { result.status ≡ Status.WriteFault ↔ (has_failed writer.new ≡ true) }
+    ensures takes { TakesAtMost most_read (R.remaining (stream_inner reader.old)) (R.remaining (stream_inner reader.new)) }
+    ensures reader_once { FailsOnceAtMost reader.new }
+    ensures writer_once { FailsOnceAtMost writer.new }
+    ensures builds { result.status ≡ Status.PatternBuild → HavePattern (selected_of job.now.selection) job.now.limit (map file_of inputs.now) }
+    ensures note_on_pattern { result.status ≡ Status.PatternBuild → IfOk result.note (λ note. NotesPattern (map file_of inputs.now) (option_map string_bytes note)) }
+    ensures no_note { (result.status ≡ Status.NoMemory) ⊎ (result.status ≡ Status.ReadFault) → result.note ≡ Ok None }
+{
+    match run_job(alloc, job, inputs, reader, writer) {
+        Ok(ended) => ended,
+        Err(Halt::NoMemory) => RunEnd::stop_with(Status::NoMemory),
+        Err(Halt::PatternBuild) => RunEnd {
+            status: Status::PatternBuild,
+            note: pattern_note(alloc, inputs),
+        },
+        Err(Halt::Read) => RunEnd::stop_with(Status::ReadFault),
+    }
+}
+
+// What helps a person to fix a pattern that isn't built.
+fn pattern_note(alloc: Global, inputs: &[Input]) -> Result<Option<String>, AllocError>
+    ensures { (choice : Selected) (limit : ℕ) → HavePattern choice limit (map file_of inputs.now)
+        → IfOk result (λ note. NotesPattern (map file_of inputs.now) (option_map string_bytes note)) }
+{
+    a_bad_file_is_refused_once();
+    a_text_is_spelled_or_refused_once();
+    a_pattern_of_a_type_is_listed();
+    unbuilt_pattern(alloc, inputs)
+}
+
+// A run that nothing stops, up to its note.
+#[tactic(auto, using(crate::proofs::RunLemmas::takes_none))]
+fn run_job<R: Read, W: Write>(
+    alloc: Global,
+    job: &Job,
+    inputs: &[Input],
+    reader: &mut Counted<R>,
+    writer: &mut Counted<W>,
+) -> Result<RunEnd, Halt>
+    requires reader { IsFresh reader.old }
+    requires writer { IsFresh writer.old }
+    ensures runs { IfOk result (λ e. RunsWithNote (task_of job.now) (map file_of inputs.now) e (R.remaining (stream_inner reader.old))
+        (R.remaining (stream_inner reader.new)) (W.contents (stream_inner writer.old)) (W.contents (stream_inner writer.new))) }
+    ensures ends { IfOk result (λ e. IsStopped e.status → ⊥) }
+    ensures write_fault { IfOk result (λ e. e.status ≡ Status.WriteFault ↔ (has_failed writer.new ≡ true)) }
+    ensures writer_once { FailsOnceAtMost writer.new }
+    ensures rest { OnErr result (writer.new ≡ writer.old) }
+    ensures reads_on { WantsData (task_of job.now) (map file_of inputs.now) ⊎ (reader.new ≡ reader.old) }
+    ensures read_fault { IsErrOf result Halt.Read ↔ (has_failed reader.new ≡ true) }
+    ensures takes { TakesAtMost most_read (R.remaining (stream_inner reader.old)) (R.remaining (stream_inner reader.new)) }
+    ensures reader_once { FailsOnceAtMost reader.new }
+    ensures builds { IsErrOf result Halt.PatternBuild → HavePattern (selected_of job.now.selection) job.now.limit (map file_of inputs.now) }
+{
+    match compile_files(alloc, inputs, &job.selection, job.limit) {
+        Ok(schema) => write_answer(alloc, job, &schema, reader, writer),
+        Err(Stop::Fault(refusal)) => write_refusal(alloc, job, inputs, &refusal, writer),
+        Err(Stop::PatternBuild) => Err(Halt::PatternBuild),
+        Err(Stop::NoMemory) => Err(Halt::NoMemory),
+    }
+}

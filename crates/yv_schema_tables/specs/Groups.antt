@@ -1,0 +1,7 @@
+-- Lists of trees, one behind the other.
+use Rattle.yv_nodes.specs.Tree.{Forest, no_trees, tree}
+
+-- one list of trees behind the other
+abbrev pub join : Forest → Forest → Forest
+join no_trees us = us
+join (tree t ts) us = tree t (join ts us)

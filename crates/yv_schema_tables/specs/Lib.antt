@@ -1,0 +1,11 @@
+pub mod Groups
+pub mod NodeNumbers
+pub mod DataChildren
+pub mod DuplicateNodes
+pub mod Bad
+pub mod Sound
+pub mod Measures
+pub mod InnerPassage
+pub mod InnerSits
+pub mod InnerNames
+pub mod InnerTables

@@ -1,5 +1,0 @@
-use Rattle.yv_shown_tree.proofs.Turns.{block_shows_all}
-use Rattle.yv_shown_tree.proofs.laws.a_block_shows_what_it_gives.Goals as goal
-
-pub returns : goal.returns
-returns c = λ labels its mark are below g lo hi n e block st f comes marked may empty has. block_shows_all labels its mark are below g st comes marked may empty has

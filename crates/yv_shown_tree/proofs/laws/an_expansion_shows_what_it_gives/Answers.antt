@@ -1,5 +1,0 @@
-use Rattle.yv_shown_tree.proofs.Starting.{start_shows}
-use Rattle.yv_shown_tree.proofs.laws.an_expansion_shows_what_it_gives.Goals as goal
-
-pub returns : goal.returns
-returns c = start_shows

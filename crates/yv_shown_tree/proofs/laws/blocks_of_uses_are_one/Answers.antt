@@ -1,6 +1,0 @@
-use Rattle.yv_expanded_tree.proofs.Meaning.{refers_to_one}
-use Rattle.yv_shown_tree.proofs.UsesBlocksJoined.{uses_blocks_are_one}
-use Rattle.yv_shown_tree.proofs.laws.blocks_of_uses_are_one.Goals as goal
-
-pub returns : goal.returns
-returns c = λ files. uses_blocks_are_one files (refers_to_one c.a_name_means_one_thing.ensures files) c.items_of_the_final_tree_were_placed.ensures

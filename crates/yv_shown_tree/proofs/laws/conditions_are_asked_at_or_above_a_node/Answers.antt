@@ -1,5 +1,0 @@
-use Rattle.yv_shown_tree.proofs.Asking.{files_ask}
-use Rattle.yv_shown_tree.proofs.laws.conditions_are_asked_at_or_above_a_node.Goals as goal
-
-pub returns : goal.returns
-returns c = files_ask

@@ -1,6 +1,0 @@
-use Rattle.yv_expanded_tree.proofs.Meaning.{refers_to_one}
-use Rattle.yv_shown_tree.proofs.Depths.{depths_are_one}
-use Rattle.yv_shown_tree.proofs.laws.depths_are_one.Goals as goal
-
-pub returns : goal.returns
-returns c = λ files. depths_are_one files (refers_to_one c.a_name_means_one_thing.ensures files) c.items_stand_once.ensures c.a_tree_has_no_item_twice.ensures.within

@@ -1,5 +1,0 @@
-use Rattle.yv_shown_tree.proofs.Noding.{items_show}
-use Rattle.yv_shown_tree.proofs.laws.items_of_files_show_nodes.Goals as goal
-
-pub returns : goal.returns
-returns c = items_show

@@ -1,5 +1,0 @@
-use Rattle.yv_shown_tree.proofs.Grafted.{final_stands}
-use Rattle.yv_shown_tree.proofs.laws.items_of_the_final_tree_were_placed.Goals as goal
-
-pub returns : goal.returns
-returns c = final_stands c.each_item_stands_once.ensures.entered c.items_stand_in_one_group.ensures.one c.entering_keeps_groups.ensures.groups c.entering_keeps_groups.ensures.augments

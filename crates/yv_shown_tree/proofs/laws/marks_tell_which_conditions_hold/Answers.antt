@@ -1,5 +1,0 @@
-use Rattle.yv_shown_tree.proofs.StatementMarks.{marks_are_conditions}
-use Rattle.yv_shown_tree.proofs.laws.marks_tell_which_conditions_hold.Goals as goal
-
-pub returns : goal.returns
-returns c = marks_are_conditions

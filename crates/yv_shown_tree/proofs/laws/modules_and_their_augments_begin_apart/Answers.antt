@@ -1,5 +1,0 @@
-use Rattle.yv_shown_tree.proofs.Beginning.{beginning_shows}
-use Rattle.yv_shown_tree.proofs.laws.modules_and_their_augments_begin_apart.Goals as goal
-
-pub returns : goal.returns
-returns c = beginning_shows

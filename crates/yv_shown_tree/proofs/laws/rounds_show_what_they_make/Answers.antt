@@ -1,5 +1,0 @@
-use Rattle.yv_shown_tree.proofs.WholeRounds.{rounds_show}
-use Rattle.yv_shown_tree.proofs.laws.rounds_show_what_they_make.Goals as goal
-
-pub returns : goal.returns
-returns c = rounds_show

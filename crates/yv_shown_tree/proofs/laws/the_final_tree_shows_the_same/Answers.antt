@@ -1,5 +1,0 @@
-use Rattle.yv_shown_tree.proofs.Trees.{tree_shows}
-use Rattle.yv_shown_tree.proofs.laws.the_final_tree_shows_the_same.Goals as goal
-
-pub returns : goal.returns
-returns c = tree_shows

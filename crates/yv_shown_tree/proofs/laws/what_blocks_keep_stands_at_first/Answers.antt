@@ -1,5 +1,0 @@
-use Rattle.yv_shown_tree.proofs.Stood.{beginning_stands}
-use Rattle.yv_shown_tree.proofs.laws.what_blocks_keep_stands_at_first.Goals as goal
-
-pub returns : goal.returns
-returns c = λ labels its mark are low. beginning_stands labels its mark are low

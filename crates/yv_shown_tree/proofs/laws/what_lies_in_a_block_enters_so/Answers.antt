@@ -1,9 +1,0 @@
-use Rattle.yv_shown_tree.proofs.Laying.{placed_is}
-use Rattle.yv_shown_tree.proofs.Placing.{placed_is_told}
-use Rattle.yv_shown_tree.proofs.laws.what_lies_in_a_block_enters_so.Goals as goal
-
-pub returns-clause-told : goal.returns-clause-told
-returns-clause-told c = placed_is_told
-
-pub returns-clause-enters : goal.returns-clause-enters
-returns-clause-enters c = λ labels g lo hi n e block spots st lie. placed_is labels g block spots st lie

@@ -1,6 +1,0 @@
-use Rattle.std.proofs.Common.{◌≡◌, ◌-◌}
-use Rattle.yv_source.specs.Inner.Writing.{keep_spaces}
-use Rattle.yv_source.proofs.quoted.Writer.keep_spaces.Given as goal
-
-abbrev pub invariant-loop : goal.invariant-loop
-invariant-loop l = keep_spaces (l.count - l.counter) l.self ≡ keep_spaces l.count l.fn.self

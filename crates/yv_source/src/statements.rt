@@ -1,0 +1,62 @@
+//! The statements of texts.
+ghost use Rattle.std.specs.Prelude.{◌≡◌, ◌≢◌, ◌<◌, ◌≤◌, ◌⊎◌, IfOk, OnErr, Err};
+ghost use Rattle.std.specs.List.{AllZip};
+ghost use Rattle.yv_statement.specs.declared.refusal.Refusal.{Refusal as TheRefusal};
+ghost use Rattle.yv_statement.specs.declared.refusal.Stop.TheVariants.{Fault, NoMemory, PatternBuild};
+ghost use Rattle.yv_source.specs.FileStatements.{in_file};
+ghost use Rattle.yv_source.specs.Texts.{Spells, SpellsNone};
+
+use crate::reader::parse;
+use crate::source::Source;
+use std::alloc::{AllocError, Global};
+use yv_statement::{Refusal, Statement, Stop};
+
+/// A refusal of one file, reported for the file of this number. Want of memory where 32 bits don't hold the number, and nowhere else.
+pub(crate) fn in_file(number: usize, refusal: Refusal) -> Result<Refusal, AllocError>
+    ensures value { IfOk result (λ r. r ≡ in_file number refusal) }
+    ensures few { IfOk result (λ r. number ≤ 4294967295) }
+    ensures many { OnErr result (4294967295 < number) }
+{
+    if number > 4_294_967_295 {
+        return Err(AllocError);
+    }
+    Ok(Refusal {
+        file: number as u32,
+        ..refusal
+    })
+}
+
+/// The statements that texts spell, or the refusal of the first that spells none.
+pub(crate) fn parse_all<'a>(
+    alloc: Global,
+    sources: &'a [Source],
+) -> Result<Vec<Statement<'a>>, Stop>
+    ensures spells { IfOk result (λ statements. AllZip Spells sources.now statements.items) }
+    ensures refuses { (r : TheRefusal) → result ≡ Err (Fault r) → SpellsNone sources.now r }
+    ensures never_built { result ≢ Err PatternBuild }
+{
+    let mut statements = Vec::new(alloc);
+    for (number, source) in sources.iter().enumerate() {
+        match parse(alloc, source) {
+            Ok(statement) => statements.push(statement)?,
+            Err(stop) => return Err(stop_in_file(number, stop)),
+        }
+    }
+    Ok(statements)
+}
+
+// A stop of one file, told of the file of this number.
+fn stop_in_file(number: usize, stop: Stop) -> Stop
+    ensures fault { (r : TheRefusal) → result ≡ Fault r → (q : TheRefusal) × (stop ≡ Fault q) × (r ≡ in_file number q) }
+    ensures builds { result ≡ PatternBuild → stop ≡ PatternBuild }
+    ensures many { result ≡ NoMemory → (stop ≡ NoMemory) ⊎ (4294967295 < number) }
+{
+    match stop {
+        Stop::Fault(refusal) => match in_file(number, refusal) {
+            Ok(refusal) => Stop::Fault(refusal),
+            Err(_) => Stop::NoMemory,
+        },
+        Stop::PatternBuild => Stop::PatternBuild,
+        Stop::NoMemory => Stop::NoMemory,
+    }
+}

@@ -1,7 +1,0 @@
-use Rattle.indexmap.specs.IndexMap.{get}
-use Rattle.yv_tables.specs.InnerTables.{same_member}
-use Rattle.yv_tables.proofs.Keeping.{Keeps}
-use Rattle.yv_tables.proofs.table.Family.named.Given as goal
-
-abbrev pub invariant-loop-child : goal.invariant-loop-child
-invariant-loop-child l = Keeps l.nodes.rows l.around l.numbers (get same_member l.table) l.doubled l.child-index

@@ -1,0 +1,7 @@
+-- Inner definitions, which only clauses of private functions cite: what the code's tables hold.
+use Rattle.yv_statement.specs.declared.keyword.Keyword.{Keyword}
+use Rattle.yv_text_grammar.specs.declared.table.Occurs.{Occurs}
+use Rattle.yv_text_grammar.specs.declared.table.Row.{Row}
+
+abbrev pub row : Row → Keyword × Occurs
+row r = (r.child, r.occurs)

@@ -1,0 +1,12 @@
+pub mod Bytes
+pub mod Table
+pub mod Words
+pub mod Texts
+pub mod Forms
+pub mod Argument
+pub mod Fits
+pub mod Refusals
+pub mod InnerDistinct
+pub mod InnerEntries
+pub mod InnerKeywordSet
+pub mod InnerWords

@@ -1,0 +1,15 @@
+-- The words of an argument (RFC 7950, sections 6.1 and 14).
+use Rattle.std.specs.Prelude.{ℕ, Bool, not, List, filter, length, nat_eq}
+use Rattle.std.specs.List.{slice_split}
+use Rattle.yv_text_grammar.specs.Bytes.{is_blank}
+
+abbrev pub is_empty : List ℕ → Bool
+is_empty text = nat_eq (length text) 0
+
+-- a text cut at each blank; some pieces are empty
+abbrev pub pieces : List ℕ → List (List ℕ)
+pieces text = slice_split is_blank text
+
+-- the words of a text are its pieces that aren't empty
+unfoldable pub words : List ℕ → List (List ℕ)
+words text = filter (λ word. not (is_empty word)) (pieces text)

@@ -1,0 +1,15 @@
+//! Whether the statements of a YANG file are as the tables of RFC 7950 say.
+#![tactic(auto)]
+
+mod argument;
+mod distinct;
+mod form;
+mod keyword_set;
+mod lists;
+mod refusal;
+mod table;
+mod text;
+mod words;
+
+pub use refusal::conform;
+pub use yv_statement::Keyword;

@@ -1,0 +1,168 @@
+//! What is wrong with the statements of a file.
+ghost use Rattle.std.specs.Prelude.{◌≡◌, ◌↔◌, not, ◌&&◌, map, IfNone, IsOk};
+ghost use Rattle.std.specs.List.{list_any};
+ghost use Rattle.std.specs.Option.{option_copied};
+ghost use Rattle.std.specs.Result.{result_err};
+ghost use Rattle.yv_statement.specs.Order.{IsLeast};
+ghost use Rattle.yv_text_grammar.specs.InnerEntries.{row};
+ghost use Rattle.yv_text_grammar.specs.InnerKeywordSet.{is_marked};
+ghost use Rattle.yv_text_grammar.specs.Refusals.{Bad, Faulty, CountsBadly, OwnRefusal, has_call_or_filter, is_excess, is_misplaced, is_module, is_unsupported, keyword_at};
+ghost use Rattle.yv_text_grammar.specs.Fits.{Fits, FitsIn, OwnFits};
+ghost use Rattle.yv_text_grammar.specs.Table.{is_one, occurs_in};
+
+use crate::argument;
+use crate::keyword_set::KeywordSet;
+use crate::table::{self, Occurs, Row};
+use yv_statement::{Code, Keyword, Refusal, Statement, lesser, refusal_if};
+
+/// Whether the statements of a file are as the tables of RFC 7950, sections 7 and 9, say: each has the substatements
+/// that it may have, no more and no fewer, and an argument in its grammar. The refusal is the least by offset and code
+/// among
+///
+/// - `Unsupported`: `must`, `when`, `deviation` or `deviate`, a leafref's path with a predicate or a function, or the type
+///   `instance-identifier`;
+/// - `UnknownStatement`: a keyword without prefix that the language doesn't have;
+/// - `Cardinality`: a root that is not a module or submodule, a child that is not allowed where it is or is one too many,
+///   or the parent of one that is missing;
+/// - `BadArgument`: an argument against its grammar, one that is missing, or one too many.
+///
+/// It names the file as 0. A statement whose keyword has a prefix is an extension's: it is allowed everywhere except at the
+/// root, and nothing in it is looked at.
+///
+/// No memory is allocated. The time is in proportion to the statements and their arguments, except for a `key`: one of n
+/// different names costs about n * n / 32,768 searches in a table, which is a second for 500,000 names.
+pub fn conform(root: &Statement) -> Result<(), Refusal>
+    ensures fits { IsOk result ↔ Fits root.now }
+    ensures least { IsLeast (Bad root.now) (result_err result) }
+{
+    let keyword = root.kind();
+    let outer = refusal_if(!is_module(keyword), Code::Cardinality, 0, root);
+    let inner = first_refusal(Keyword::Unknown, root);
+    let first = lesser(outer, inner);
+    match first {
+        None => Ok(()),
+        Some(refusal) => Err(refusal),
+    }
+}
+
+fn is_module(keyword: Keyword) -> bool
+    ensures { result ≡ is_module keyword }
+{
+    matches!(keyword, Keyword::Module | Keyword::Submodule)
+}
+
+// The least refusal in a statement that stands in the block of a parent; the root's parent is unknown.
+fn first_refusal(parent: Keyword, statement: &Statement) -> Option<Refusal>
+    ensures fits { IfNone result (FitsIn parent statement.now) }
+    ensures least { IsLeast (Faulty parent statement.now) result }
+{
+    let keyword = statement.kind();
+    if keyword == Keyword::Extended {
+        return None;
+    }
+    let own = own_refusal(parent, keyword, statement);
+    let number = count_fault(keyword, statement);
+    let mut best = None;
+    for child in statement.children() {
+        let inner = first_refusal(keyword, child);
+        best = lesser(best, inner);
+    }
+    let outer = lesser(own, number);
+    lesser(outer, best)
+}
+
+// The least refusal of the statement itself.
+fn own_refusal(parent: Keyword, keyword: Keyword, statement: &Statement) -> Option<Refusal>
+    requires { keyword ≡ keyword_at statement.now }
+    ensures fits { IfNone result (OwnFits parent statement.now) }
+    ensures least { IsLeast (OwnRefusal parent statement.now) result }
+{
+    let argument = statement.argument();
+    let unsupported = is_unsupported(keyword, argument);
+    let unknown = keyword == Keyword::Unknown;
+    let fits = argument::fits(parent, keyword, argument);
+    let first = refusal_if(unsupported, Code::Unsupported, 0, statement);
+    let second = refusal_if(unknown, Code::UnknownStatement, 0, statement);
+    let third = refusal_if(!fits, Code::BadArgument, 0, statement);
+    lesser(first, lesser(second, third))
+}
+
+// The least refusal for the number of the children.
+fn count_fault(keyword: Keyword, statement: &Statement) -> Option<Refusal>
+    requires { keyword ≡ keyword_at statement.now }
+    ensures { IsLeast (CountsBadly statement.now) result }
+{
+    let rows = table::rows(keyword);
+    let mut seen = KeywordSet::new();
+    let mut best = None;
+    for child in statement.children() {
+        let kind = child.kind();
+        let misplaced = is_misplaced(rows, kind, seen.contains(kind));
+        let here = refusal_if(misplaced, Code::Cardinality, 0, child);
+        best = lesser(best, here);
+        seen.insert(kind);
+    }
+    let missing = refusal_if(lacks_child(rows, &seen), Code::Cardinality, 0, statement);
+    lesser(best, missing)
+}
+
+// Whether this statement isn't supported.
+fn is_unsupported(keyword: Keyword, argument: Option<&str>) -> bool
+    ensures { result ≡ is_unsupported keyword (option_copied argument.entry) }
+{
+    match (keyword, argument) {
+        (Keyword::Must | Keyword::When | Keyword::Deviation | Keyword::Deviate, _) => true,
+        (Keyword::Path, Some(text)) => has_call_or_filter(text.as_bytes()),
+        (Keyword::Type, Some(text)) => text == "instance-identifier",
+        _ => false,
+    }
+}
+
+// Whether a path has more than names.
+fn has_call_or_filter(text: &[u8]) -> bool
+    ensures { result ≡ has_call_or_filter text.now }
+{
+    text.iter().any(|byte| *byte == b'[' || *byte == b'(')
+}
+
+// Whether a child with this keyword may not stand, or is one too many.
+fn is_misplaced(rows: &[Row], keyword: Keyword, before: bool) -> bool
+    ensures { result ≡ is_misplaced (map row rows.now) keyword before }
+{
+    keyword != Keyword::Extended && is_excess(occurs(rows, keyword), before)
+}
+
+// How often a child with this keyword may stand.
+fn occurs(rows: &[Row], keyword: Keyword) -> Option<Occurs>
+    ensures { result ≡ occurs_in (map row rows.now) keyword }
+{
+    for row in rows {
+        if row.child == keyword {
+            return Some(row.occurs);
+        }
+    }
+    None
+}
+
+// Whether one more child is too many.
+fn is_excess(occurs: Option<Occurs>, before: bool) -> bool
+    ensures { result ≡ is_excess occurs before }
+{
+    match occurs {
+        None => true,
+        Some(Occurs::One | Occurs::Optional) => before,
+        Some(Occurs::Any) => false,
+    }
+}
+
+// Whether a child that has to stand was not seen.
+fn lacks_child(rows: &[Row], seen: &KeywordSet) -> bool
+    ensures { result ≡ list_any (λ r. is_one r.1 && not (is_marked seen.now r.0)) (map row rows.now) }
+{
+    for row in rows {
+        if row.occurs.is_one() && !seen.contains(row.child) {
+            return true;
+        }
+    }
+    false
+}

@@ -1,0 +1,10 @@
+pub mod Bytes
+pub mod Names
+pub mod Tokens
+pub mod IfFeature
+pub mod Truth
+pub mod WordTokens
+pub mod State
+pub mod Reads
+pub mod InnerFrames
+pub mod InnerWords

@@ -1,0 +1,13 @@
+pub mod Kinds
+pub mod Types
+pub mod Counts
+pub mod Refusals
+pub mod Bases
+pub mod InnerPairs
+pub mod InnerTables
+pub mod InnerSteps
+pub mod InnerOrder
+pub mod InnerBase
+pub mod InnerMarks
+pub mod InnerCounts
+pub mod InnerFindings

@@ -1,0 +1,60 @@
+//! The built-in types to which types lead.
+ghost use Rattle.std.specs.Prelude.{◌≡◌, ◌↔◌, ℕ, Some, IfOk, IsTrue};
+ghost use Rattle.yv_link_scopes.specs.Views.{files_in, rows_in};
+ghost use Rattle.yv_type_chains.specs.Types.{Follows, HasBase};
+ghost use Rattle.yv_type_chains.specs.InnerOrder.{IsOrderOfAll};
+ghost use Rattle.yv_type_chains.specs.InnerBase.{NamesBuiltIn};
+ghost use Rattle.yv_type_chains.specs.InnerTables.{AreBased, AreFollowed, at};
+
+use crate::draft::Draft;
+use crate::inside::is_type;
+use crate::kinds::is_built_in;
+use crate::slots::{get, no_numbers, put};
+use std::alloc::{AllocError, Global};
+use yv_link_scopes::name_of;
+
+impl Draft<'_, '_, '_> {
+    /// Whether a statement is a type that names a built-in type.
+    pub(crate) fn names_built_in(&self, number: usize) -> bool
+        ensures { IsTrue result ↔ NamesBuiltIn (rows_in self.now.rows.now) number }
+    {
+        match self.rows.entries().get(number) {
+            Some(entry) => is_type(entry) && is_built_in(name_of(entry.statement)),
+            None => false,
+        }
+    }
+
+    // The base of a type, that which it follows having its base.
+    fn base(&self, bases: &[Option<usize>], number: usize) -> Option<usize>
+        ensures { AreFollowed (files_in self.now.rows.now) (rows_in self.now.rows.now) self.now.follows.items
+            → ((j : ℕ) → Follows (files_in self.now.rows.now) (rows_in self.now.rows.now) number j
+            → (b : ℕ) → (at bases.now j ≡ Some b) ↔ HasBase (files_in self.now.rows.now) (rows_in self.now.rows.now) j b)
+            → (b : ℕ) → (result ≡ Some b) ↔ HasBase (files_in self.now.rows.now) (rows_in self.now.rows.now) number b }
+    {
+        if self.names_built_in(number) {
+            return Some(number);
+        }
+        match get(&self.follows, number) {
+            Some(followed) => get(bases, followed),
+            None => None,
+        }
+    }
+
+    /// The base of each type, this being an order of the types.
+    pub(crate) fn bases(
+        &self,
+        alloc: Global,
+        order: &[usize],
+    ) -> Result<Vec<Option<usize>>, AllocError>
+        ensures { IfOk result (λ bases. AreFollowed (files_in self.now.rows.now) (rows_in self.now.rows.now) self.now.follows.items
+            → IsOrderOfAll (files_in self.now.rows.now) (rows_in self.now.rows.now) order.now
+            → AreBased (files_in self.now.rows.now) (rows_in self.now.rows.now) bases.items) }
+    {
+        let mut bases = no_numbers(alloc, self.rows.entries().len())?;
+        for number in order {
+            let base = self.base(&bases, *number);
+            put(&mut bases, *number, base);
+        }
+        Ok(bases)
+    }
+}

@@ -1,0 +1,5 @@
+pub mod Adding
+pub mod Faults
+mod Faulty
+mod Stepping
+mod Walking

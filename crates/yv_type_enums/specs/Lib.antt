@@ -1,0 +1,10 @@
+pub mod Entries
+pub mod Names
+pub mod Values
+pub mod InnerEntries
+pub mod InnerValues
+pub mod Types
+pub mod Refusals
+pub mod TypeNames
+pub mod Lists
+pub mod InnerSteps

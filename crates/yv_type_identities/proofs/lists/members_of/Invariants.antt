@@ -1,0 +1,6 @@
+use Rattle.yv_type_identities.proofs.Chosen.{is_one, id_in}
+use Rattle.yv_type_identities.proofs.Gathering.{Gathering}
+use Rattle.yv_type_identities.proofs.lists.members_of.Given as goal
+
+abbrev pub invariant-loop-number : goal.invariant-loop-number
+invariant-loop-number l = Gathering l.number-items (is_one l.candidates.list.items) (id_in l.candidates.list.items) l.number-index l.members.items

@@ -1,0 +1,5 @@
+use Rattle.yv_type_identities.proofs.Placed.{PlacedFirst}
+use Rattle.yv_type_identities.proofs.places.CandidatePlaces.read.Given as goal
+
+abbrev pub invariant-loop-number : goal.invariant-loop-number
+invariant-loop-number l = PlacedFirst l.candidates l.number l.places

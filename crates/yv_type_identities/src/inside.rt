@@ -1,0 +1,69 @@
+//! The bases in each block.
+ghost use Rattle.std.specs.Prelude.{◌≡◌, ◌≢◌, ◌↔◌, ◌∷◌, ◌++◌, ◌<◌, ℕ, [], length, map, IsTrue, IfOk, OnOk};
+ghost use Rattle.std.specs.List.{list_any};
+ghost use Rattle.yv_statement.specs.Selection.{Selected};
+ghost use Rattle.yv_link_scopes.specs.Files.{Files, brief_of};
+ghost use Rattle.yv_link_scopes.specs.RowList.{rows_of};
+ghost use Rattle.yv_link_scopes.specs.Rows.{row};
+ghost use Rattle.yv_link_identities.specs.References.{is_at};
+ghost use Rattle.yv_link_identities.specs.declared.references.IdentityRef.{IdentityRef};
+ghost use Rattle.yv_link.specs.LinkedFiles.{AreLinked};
+ghost use Rattle.yv_type_identities.specs.Bases.{NamesBase};
+ghost use Rattle.yv_type_identities.specs.InnerBases.{base_of, bases_at};
+
+use std::alloc::{AllocError, Global};
+use yv_link::{IdentityRef, Linked};
+use yv_link_scopes::{Entry, name_of};
+
+// The base that a statement gives the type in whose block it stands.
+fn base_of<'a, 'b>(linked: &Linked<'a, 'b>, entry: &Entry<'a, 'b>) -> Option<IdentityRef>
+    ensures { (files : Files) (choice : Selected) → AreLinked files choice linked.now
+        → result ≡ base_of (map brief_of files) (rows_of files) (row entry.now) }
+{
+    if entry.statement.keyword() == "base" {
+        linked.identity(entry.file, name_of(entry.statement))
+    } else {
+        None
+    }
+}
+
+// So many lists, all empty.
+fn no_lists(alloc: Global, count: usize) -> Result<Vec<Vec<IdentityRef>>, AllocError>
+    ensures { IfOk result (λ lists. (length lists.items ≡ count) × ((k : ℕ) → bases_at lists.items k ≡ [])) }
+{
+    let mut lists = Vec::new(alloc);
+    for _ in 0..count {
+        lists.push(Vec::new(alloc))?;
+    }
+    Ok(lists)
+}
+
+// Puts a base behind those of a block.
+fn put(lists: &mut Vec<Vec<IdentityRef>>, block: usize, base: IdentityRef) -> Result<(), AllocError>
+    requires { block < length lists.old.items }
+    ensures each { OnOk result (length lists.new.items ≡ length lists.old.items) }
+    ensures here { OnOk result (bases_at lists.new.items block ≡ bases_at lists.old.items block ++ base ∷ []) }
+    ensures elsewhere { OnOk result ((k : ℕ) → k ≢ block → bases_at lists.new.items k ≡ bases_at lists.old.items k) }
+{
+    lists[block].push(base)?;
+    Ok(())
+}
+
+/// For each block the bases that its statements name, as often as they do.
+pub(crate) fn bases_inside(
+    alloc: Global,
+    linked: &Linked<'_, '_>,
+) -> Result<Vec<Vec<IdentityRef>>, AllocError>
+    ensures { IfOk result (λ inside. (files : Files) (choice : Selected) → AreLinked files choice linked.now → (block : ℕ) (base : IdentityRef)
+        → IsTrue (list_any (is_at base) (bases_at inside.items block)) ↔ NamesBase (map brief_of files) (rows_of files) block base) }
+{
+    yv_link_scopes::laws::blocks_are_nested();
+    let entries = linked.rows().entries();
+    let mut inside = no_lists(alloc, entries.len())?;
+    for entry in entries {
+        if let Some(base) = base_of(linked, entry) {
+            put(&mut inside, entry.scope, base)?;
+        }
+    }
+    Ok(inside)
+}

@@ -1,0 +1,6 @@
+pub mod One
+pub mod Read
+pub mod Wider
+pub mod Naming
+pub mod Stepping
+pub mod Walking

@@ -1,0 +1,9 @@
+pub mod BuiltIn
+pub mod Facets
+pub mod FacetRefusals
+pub mod InnerStops
+pub mod Types
+pub mod Refusals
+pub mod PlainTypes
+pub mod InnerTables
+pub mod InnerSteps

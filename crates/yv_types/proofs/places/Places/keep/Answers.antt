@@ -1,6 +1,0 @@
-use Rattle.std.proofs.Common.{◌≡◌, sym, ◌∙◌, None, rules}
-use Rattle.yv_names.proofs.Placing.{kept_new}
-use Rattle.yv_types.proofs.places.Places.keep.Goals as goal
-
-pub returns-in_ok-insert : goal.returns-in_ok-insert
-returns-in_ok-insert c = kept_new c.args.self.now.map c.insert.new.self c.args.file c.args.offset c.args.number (let h : c.get.result ≡ None = search rules in sym c.get.ensures ∙ h) c.in_ok-insert.ensures.updates

@@ -1,0 +1,56 @@
+//! Reading the types of files.
+ghost use Rattle.std.specs.Prelude.{◌≡◌, Err, None, Some, IfOk, OnOk};
+ghost use Rattle.yv_statement.specs.Order.{IsLeast};
+ghost use Rattle.yv_statement.specs.declared.refusal.Refusal.{Refusal};
+ghost use Rattle.yv_statement.specs.declared.refusal.Stop.TheVariants.{Fault, PatternBuild};
+ghost use Rattle.yv_statement.specs.Selection.{Selected};
+ghost use Rattle.yv_link_scopes.specs.Files.{Files};
+ghost use Rattle.yv_link_definitions.specs.Meanings.{AreNames};
+ghost use Rattle.yv_type_restrictions.specs.Types.{HasTypePattern};
+ghost use Rattle.yv_link.specs.LinkedFiles.{AreLinked, truth_in};
+ghost use Rattle.yv_types.specs.Refusals.{BadTypes};
+ghost use Rattle.yv_types.specs.Types.{AreTypes};
+
+use crate::defaults::TypedefDefaults;
+use crate::layers::Layers;
+use crate::leafref_types::LeafrefTypes;
+use crate::places::TypePlaces;
+use crate::type_table::Types;
+use std::alloc::Global;
+use yv_link::Linked;
+use yv_link_definitions::Names;
+use yv_statement::Stop;
+
+/// The plain types and the defaults of the types of linked files, and what they say as leafrefs, the names being theirs, or the least refusal of these (RFC 7950, section
+/// 9). `PatternBuild` says that `regex` doesn't build the translation of a pattern of the dialect. Types that are derived
+/// from unions and identityrefs share the lists of these, and so do identityrefs with the same bases; each with bases of its own
+/// takes the time that `Identities::of` names.
+pub fn types(alloc: Global, linked: &Linked<'_, '_>, names: &Names) -> Result<Types, Stop>
+    ensures makes { IfOk result (λ types. (files : Files) (choice : Selected) → AreLinked files choice linked.now → AreNames files names.now
+        → AreTypes files choice (truth_in linked.now) types) }
+    ensures clear { OnOk result ((files : Files) (choice : Selected) → AreLinked files choice linked.now → AreNames files names.now
+        → IsLeast (BadTypes files (truth_in linked.now)) None) }
+    ensures refusal { (r : Refusal) → result ≡ Err (Fault r)
+        → (files : Files) (choice : Selected) → AreLinked files choice linked.now → AreNames files names.now
+        → IsLeast (BadTypes files (truth_in linked.now)) (Some r) }
+    ensures builds { result ≡ Err PatternBuild
+        → (files : Files) (choice : Selected) → AreLinked files choice linked.now → HasTypePattern files }
+{
+    let layers = match Layers::read(alloc, linked, names) {
+        Ok(layers) => layers,
+        Err(stop) => return Err(stop),
+    };
+    if let Some(refusal) = layers.refusal() {
+        return Err(Stop::Fault(refusal));
+    }
+    let spaces = layers.spaces(alloc, linked)?;
+    let defaults = TypedefDefaults::read(alloc, linked.rows(), names, &layers.bases)?;
+    let leafrefs = LeafrefTypes::read(alloc, linked.rows(), &layers.bases)?;
+    let places = TypePlaces::read(alloc, linked.rows())?;
+    Ok(Types {
+        spaces,
+        defaults,
+        leafrefs,
+        places,
+    })
+}

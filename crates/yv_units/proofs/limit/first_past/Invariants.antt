@@ -1,7 +1,0 @@
-use Rattle.yv_rows.specs.Lent.{lent_in, files_in, rows_in}
-use Rattle.yv_units.specs.InnerSteps.{AreSettled}
-use Rattle.yv_units.proofs.Limiting.{Limiting}
-use Rattle.yv_units.proofs.limit.first_past.Given as goal
-
-abbrev pub invariant-loop-number : goal.invariant-loop-number
-invariant-loop-number l = Limiting (AreSettled (files_in l.rows) (rows_in l.rows) l.values) (lent_in l.rows) l.given l.limit l.number l.total l.least

@@ -1,7 +1,0 @@
-use Rattle.yv_rows.specs.Lent.{lent_in, files_in, rows_in}
-use Rattle.yv_names.specs.Known.{AreNames}
-use Rattle.yv_units.proofs.Stepping.{Stepping}
-use Rattle.yv_units.proofs.steps.steps.Given as goal
-
-abbrev pub invariant-loop-number : goal.invariant-loop-number
-invariant-loop-number l = Stepping (AreNames (lent_in l.rows) l.names) (files_in l.rows) (rows_in l.rows) l.number l.steps.items

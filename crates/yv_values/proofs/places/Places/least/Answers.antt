@@ -1,7 +1,0 @@
-use Rattle.yv_values.proofs.Ascending.{first_is_least}
-use Rattle.yv_values.proofs.places.Places.least.Goals as goal
-
-pub returns : goal.returns
-returns c =
-    let h = c.as_slice.ensures in
-    rw (← h.value) (first_is_least c.as_slice.result.now h.some h.order)

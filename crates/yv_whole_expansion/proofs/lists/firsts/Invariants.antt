@@ -1,6 +1,0 @@
-use Rattle.std.proofs.Common.{◌≡◌}
-use Rattle.yv_whole_expansion.specs.InnerItems.{tops_before}
-use Rattle.yv_whole_expansion.proofs.lists.firsts.Given as goal
-
-abbrev pub invariant-loop-file : goal.invariant-loop-file
-invariant-loop-file l = l.firsts.items ≡ tops_before l.tops l.given l.file

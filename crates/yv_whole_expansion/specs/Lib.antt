@@ -1,3 +1,0 @@
-pub mod Expands
-pub mod Expanded
-pub mod InnerItems
