@@ -1,3 +1,6 @@
+pub mod Existing
+pub mod Expanding
+pub mod Finding
 pub mod Giving
 pub mod Meaning
 pub mod Ordering

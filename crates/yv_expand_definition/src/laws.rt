@@ -1,15 +1,17 @@
 //! Laws about the definitions only. These functions do nothing: the contract of each is the law.
-ghost use Rattle.std.specs.Prelude.{◌≡◌, ◌<◌, ℕ, Bool, false, List, Some, slice_get};
+ghost use Rattle.std.specs.Prelude.{◌≡◌, ◌<◌, ℕ, Bool, false, List, Some, map, slice_get};
 ghost use Rattle.std.specs.List.{Contains};
 ghost use Rattle.yv_statement.specs.Order.{refusal_at};
 ghost use Rattle.yv_statement.specs.declared.refusal.Refusal.{Refusal};
 ghost use Rattle.yv_statement.specs.Selection.{Selected};
-ghost use Rattle.yv_link_scopes.specs.Files.{Files};
+ghost use Rattle.yv_link_scopes.specs.Files.{Files, brief_of};
 ghost use Rattle.yv_link_scopes.specs.RowList.{rows_of};
 ghost use Rattle.yv_link_scopes.specs.Rows.{Row};
-ghost use Rattle.yv_expand.specs.Expands.{is_item};
+ghost use Rattle.yv_expand.specs.Expands.{Expands, is_item};
+ghost use Rattle.yv_expand.specs.Expansion.{IsWhole};
+ghost use Rattle.yv_expand.specs.Tree.{Item, Tree};
 ghost use Rattle.yv_expand_tree.specs.FileOrder.{marks_of, order_of};
-ghost use Rattle.yv_expand_definition.specs.Expansion.{Expand};
+ghost use Rattle.yv_expand_definition.specs.Expansion.{AllRefer, AreMarked, Expand};
 ghost use Rattle.yv_expand_definition.specs.Gives.{Gives, Product, Reaches, Wrong, nothing};
 ghost use Rattle.yv_expand_definition.specs.Remains.{AreNodes};
 ghost use Rattle.yv_expand_definition.specs.Nodes.{Forest, Node, nodes_given, insert, join, none};
@@ -43,6 +45,25 @@ pub fn files_expand_to_one_tree()
 {
     yv_link_scopes::laws::a_name_means_one_thing();
 }
+
+/// Statements that have an expansion give a tree, where each uses refers to a grouping: in any
+/// module, and under any uses and augments (RFC 7950, sections 7.12 to 7.17).
+pub fn what_expands_gives_a_tree()
+    ensures { (files : Files) (numbers : List ℕ) (t : Tree)
+        → AllRefer (map brief_of files) (rows_of files)
+        → Expands (map brief_of files) (rows_of files) numbers t
+        → (module_file : ℕ) (under : List ℕ)
+        → (m : Product) × Gives files module_file under numbers m }
+{}
+
+/// Files that have an expansion expand to a tree, where each uses refers to a grouping and all
+/// files of the order are marked: each path leads to an end or to none, and the rounds of augments
+/// come to an end (RFC 7950, sections 7.12 to 7.17).
+pub fn files_expand_to_a_tree()
+    ensures { (files : Files) (marks : List Bool) (order : List ℕ) (own : ℕ) (items : List Item)
+        → AllRefer (map brief_of files) (rows_of files) → AreMarked marks order
+        → IsWhole files marks order own items → (m : Product) × Expand files marks order m }
+{}
 
 /// What two augments of modules give to one node stands in one order, whichever of them is applied first (RFC 7950, section 7.17).
 pub fn the_round_does_not_matter()
