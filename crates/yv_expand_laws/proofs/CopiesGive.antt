@@ -1,23 +1,24 @@
 -- What copies of augments of uses give, from where it enters to the final tree.
-use Rattle.std.proofs.Common.{inl, inr, ◌≡◌, ℕ, zero, suc, ◌+◌, ◌<◌, ◌≤◌, Bool, true, false, if◌then◌else◌, List, [], ◌∷◌, length, get_or, Option, Some, None, refl, sym, ◌∙◌, ap, subst, arith}
+use Rattle.std.proofs.Common.{inl, inr, ◌≡◌, ℕ, zero, suc, ◌+◌, ◌<◌, ◌≤◌, Bool, true, if◌then◌else◌, List, [], ◌∷◌, length, get_or, Option, Some, None, refl, sym, ◌∙◌, ap, subst, arith}
 use Rattle.std.specs.List.{slice_get}
 use Rattle.std.specs.Option.{option_and_then}
 use Rattle.std.proofs.lemmas.List.{append-nil, get_or-replicate, length-map}
 use Rattle.std.proofs.lemmas.Option.{same_Some}
+use Rattle.yv_expand.specs.Tree.{Item}
 use Rattle.yv_expand_rounds.specs.declared.end.End.{End}
 use Rattle.yv_expand_rounds.specs.declared.label.Label.{Label}
 use Rattle.yv_expand_rounds.specs.declared.row.ItemRow.{ItemRow}
-use Rattle.yv_expand_rounds.specs.Groups.{Groups, IsIn, group_of_augment, members_of}
-use Rattle.yv_expand_rounds.specs.Placements.{HaveEntered, StandOnce, enter, one_turn}
+use Rattle.yv_expand_rounds.specs.Groups.{Groups, IsIn, group_of_augment}
+use Rattle.yv_expand_rounds.specs.Placements.{HaveEntered, StandOnce, enter}
 use Rattle.yv_expand_rounds.specs.Rounds.{AreApplied}
 use Rattle.yv_expand_rounds.specs.Tree.{AreRows, IsTree, StandsInTree, Tree, group_under, tree_list}
 use Rattle.yv_expand_rounds.specs.Turns.{State, given_group, group_of_target, target, target_of, turn}
-use Rattle.yv_expand_augments.specs.AugmentOrder.{augments_giving}
-use Rattle.yv_expand_augments.specs.Augmentation.{copy_turn, last_of, module_paths, path_in, placement, placed_from, turns, turns_from}
+use Rattle.yv_expand_augments.specs.AugmentOrder.{augments_giving, is_giving}
+use Rattle.yv_expand_augments.specs.Augmentation.{AreAugmented, module_paths, placement, placed_from, turns}
 use Rattle.yv_expand_augments.specs.InnerLayout.{AreLaid, Fits}
 use Rattle.yv_expand_augments.specs.Kinds.{is_uses}
-use Rattle.yv_expand_augments.specs.Spots.{LayoutView, Whole, copies_of, labels_of, layout_of}
-use Rattle.yv_expand_augments.specs.MissingTargets.{next_number}
+use Rattle.yv_expand_augments.specs.Spots.{LayoutView, Whole, copies_of, copy_group, labels_of, layout_of}
+use Rattle.yv_expand_augments.specs.MissingTargets.{augments_in, next_number}
 use Rattle.yv_expand_augments.specs.declared.spot.Spot.{Spot}
 use Rattle.yv_expand_augments.proofs.Bounds.{laid_whole}
 use Rattle.yv_expand_augments.proofs.Entering.{placed_entered, spot_entered, whole_entered}
@@ -27,6 +28,7 @@ use Rattle.yv_expand_laws.specs.CopiesGive.{CopiesGive}
 use Rattle.yv_expand_laws.specs.CopyEnds.{CopiesEnd}
 use Rattle.yv_expand_laws.proofs.CopyEnds.{placed_keeps, rises, spot_keeps}
 use Rattle.yv_expand_laws.proofs.Finding.{not_none}
+use Rattle.yv_expand_laws.proofs.Onward.{KeptInTurns, KeptOnEntry, spot_holds}
 use Rattle.yv_expand_laws.proofs.Parents.{Below, Enters, Many, One, Room, Stand, Stays}
 
 abbrev pub Turned : Type 0
@@ -51,29 +53,17 @@ module _ (w : Whole) (labels : List Label) (copies place item : ℕ) (within : p
   abbrev Follows : State → Type 0
   Follows st = IsIn item (given_group labels st.ends place) st.groups
 
-  turns_follow : (s : Spot) (first number : ℕ) (augments : List ℕ) (st : State) → number + length augments ≤ copies → HaveEntered labels copies first st → Follows st
-      → Follows (turns_from w labels s number augments st)
-  turns_follow s first number [] st le h is = is
-  turns_follow s first number (a ∷ others) st le h is =
-      let limit : ℕ = last_of (members_of st.groups (group_of_augment labels number)) in
-      let path : List ℕ = path_in w s.module_file a in
+  pub follows_in_turns : KeptInTurns labels copies Follows
+  follows_in_turns first number start limit names st less h is =
       let e = many labels copies first st h in
       let g = room labels copies first st h in
-      turns_follow s first (number + 1) others (copy_turn w labels s number a st) (omega (arith, le))
-      (one_turn number s.group limit path (omega (arith, le)) h)
-      (turned_law labels number s.group limit place item path st (omega (arith, e, g)) (omega (arith, e, le)) (omega (arith, e, within)) is)
+      turned_law labels number start limit place item names st (omega (arith, e, g)) (omega (arith, e, less)) (omega (arith, e, within)) is
 
-  spot_follows : (s : Spot) (first : ℕ) (st : State) → s.first + copies_of w.rows s ≤ copies → HaveEntered labels copies first st → Follows st → Follows (turns w labels s st)
-  spot_follows s first st le h is = by (is_uses s.label.kind) refl
-    where
-      by : (b : Bool) → is_uses s.label.kind ≡ b → Follows (if b then turns_from w labels s s.first (augments_giving w.rows s.statement) st else st)
-      by true same =
-          let c : copies_of w.rows s ≡ length (augments_giving w.rows s.statement) = ap (λ (b : Bool). if b then length (augments_giving w.rows s.statement) else 0) same in
-          turns_follow s first s.first (augments_giving w.rows s.statement) st (omega (arith, le, c)) h is
-      by false same = is
+  pub follows_on_entry : KeptOnEntry Follows
+  follows_on_entry j g st is = stays item (given_group labels st.ends place) j g st is
 
   -- from where it enters on, when no later item has copies of this number
-  placed_follows : (i k : ℕ) (s : Spot) (ss : List Spot) → w.items ≡ length labels → i + length ss ≡ length labels
+  pub placed_follows : (i k : ℕ) (s : Spot) (ss : List Spot) → w.items ≡ length labels → i + length ss ≡ length labels
       → ((j : ℕ) (t : Spot) → slice_get ss j ≡ Some t → Fits w copies t) → ((j : ℕ) (t : Spot) → k ≤ j → slice_get ss j ≡ Some t → place < t.first)
       → item ≡ i + k → slice_get ss k ≡ Some s → s.group ≡ group_of_augment labels place → Follows (placed_from w labels copies i ss)
   placed_follows i k s [] whole all fit behind at there own = absurd (not_none there)
@@ -102,7 +92,7 @@ module _ (w : Whole) (labels : List Label) (copies place item : ℕ) (within : p
       let st : State = turns w labels t before in
       let rest : Follows before =
       placed_follows (i + 1) k s ss whole (omega (arith, all)) (λ j u there. fit (suc j) u there) (λ j u le there. behind (suc j) u (omega (arith, le)) there) (omega (arith, at)) there own in
-      stays item (given_group labels st.ends place) i t.group st (spot_follows t (i + 1) before f.copies h rest)
+      follows_on_entry i t.group st (spot_holds w labels copies Follows follows_in_turns follows_on_entry t (i + 1) before f.copies h rest)
 
 -- the item above one of a tree is one of the items
 above_within : Within → ParentsFirst → (labels : List Label) (groups : Groups) (items k p : ℕ) (row : ItemRow) (t : Tree) → IsTree labels groups t → StandOnce items groups
@@ -125,31 +115,62 @@ below_target items place None (Some i) fits e = absurd (omega (arith, e))
 below_target items place (Some p) None fits e = absurd (let l = fits p refl in omega (arith, e, l))
 below_target items place (Some p) (Some i) fits e = (p, refl, ap (λ (n : ℕ). Some n) (let same : i ≡ p = omega (arith, e) in same))
 
+-- an item that was where what a copy gives is before the rounds is there in the end
+pub follows_after : Room → Many → Applied → (w : Whole) (items : List Item) (st : State) (i c : ℕ) → w.items ≡ length items → AreAugmented w items st → c < (layout_of w items).copies
+    → IsIn i (given_group (labels_of (layout_of w items).spots) (placement w (layout_of w items)).ends c) (placement w (layout_of w items)).groups
+    → IsIn i (given_group (labels_of (layout_of w items).spots) st.ends c) st.groups
+follows_after room many applied w items st i c long grafted fits first =
+    let l : LayoutView = layout_of w items in
+    let are : AreLaid w l = laid_whole w items (sym long) in
+    let labels : List Label = labels_of l.spots in
+    let modules = are.modules in
+    let old : State = placement w l in
+    let h : HaveEntered labels l.copies 0 old = whole_entered w items (sym long) in
+    let e = many labels l.copies 0 old h in
+    let r = room labels l.copies 0 old h in
+    let paths : length (module_paths w) ≡ length w.augments = length-map w.augments _ in
+    applied labels 0 c i (module_paths w) old st grafted.applied (omega (arith, e, r)) (omega (arith, e, paths, modules)) (omega (arith, e, fits)) first
+
+-- so is one that is laid in the group of the copy
+pub follows_laid : Room → Many → Enters → Stays → Turned → Applied → (w : Whole) (items : List Item) (st : State) (i c : ℕ) (s : Spot) → w.items ≡ length items → AreAugmented w items st
+    → slice_get (layout_of w items).spots i ≡ Some s → c < (layout_of w items).copies
+    → ((j : ℕ) (u : Spot) → i ≤ j → slice_get (layout_of w items).spots j ≡ Some u → c < u.first) → s.group ≡ copy_group w c
+    → IsIn i (given_group (labels_of (layout_of w items).spots) st.ends c) st.groups
+follows_laid room many enters stays turned_law applied w items st i c s long grafted at fits behind own =
+    let l : LayoutView = layout_of w items in
+    let are : AreLaid w l = laid_whole w items (sym long) in
+    let labels : List Label = labels_of l.spots in
+    let count : length labels ≡ length l.spots = length-map l.spots (λ x. x.label) in
+    let size = are.long in
+    let whole : w.items ≡ length labels = omega (arith, size, count) in
+    let mine : s.group ≡ group_of_augment labels c = own ∙ ap (λ (n : ℕ). n + 1 + c) whole in
+    follows_after room many applied w items st i c long grafted fits
+    (placed_follows w labels l.copies c i fits room many enters stays turned_law 0 i s l.spots whole (omega (arith, count)) are.all behind (omega arith) at mine)
+
+-- the copy of an augment has a number, and no later item has copies of this number
+pub copy_fits : (w : Whole) (items : List Item) (i place augment : ℕ) (s : Spot) → w.items ≡ length items → slice_get (layout_of w items).spots i ≡ Some s
+    → is_uses s.label.kind ≡ true → slice_get (augments_in w.rows s.statement) place ≡ Some augment → is_giving w.rows s.statement augment ≡ true
+    → (next_number w.rows s place < (layout_of w items).copies)
+    × ((j : ℕ) (u : Spot) → i < j → slice_get (layout_of w items).spots j ≡ Some u → next_number w.rows s place < u.first)
+copy_fits w items i place a s long at uses_is at_a gives =
+    let are : AreLaid w (layout_of w items) = laid_whole w items (sym long) in
+    let its : copies_of w.rows s ≡ length (augments_giving w.rows s.statement) = ap (λ (c : Bool). if c then length (augments_giving w.rows s.statement) else 0) uses_is in
+    let few = number_within w.rows s place a at_a gives in
+    let fit = (are.all i s at).copies in
+    (omega (arith, few, its, fit), λ j u less there. (let r = rises w items i j s u less at there in omega (arith, r, its, few)))
+
 pub copies_give : Stand → Room → Many → Enters → Stays → Turned → Applied → Below → One → Within → ParentsFirst → CopiesEnd → CopiesGive
 copies_give stand room many enters stays turned_law applied below one within parents ends_there w items st t k i place a row s given long g is at there at_s behind uses_is at_a gives own =
     let l : LayoutView = layout_of w items in
     let are : AreLaid w l = laid_whole w items (sym long) in
     let labels : List Label = labels_of l.spots in
     let number : ℕ = next_number w.rows s place in
-    let modules = are.modules in
     let count : length labels ≡ length l.spots = length-map l.spots (λ x. x.label) in
     let size = are.long in
     let whole : w.items ≡ length labels = omega (arith, size, count) in
-    let its : copies_of w.rows s ≡ length (augments_giving w.rows s.statement) = ap (λ (c : Bool). if c then length (augments_giving w.rows s.statement) else 0) uses_is in
-    let few = number_within w.rows s place a at_a gives in
-    let fit = (are.all i s at_s).copies in
-    let fits : number < l.copies = omega (arith, few, its, fit) in
-    let old : State = placement w l in
-    let mine : given.group ≡ group_of_augment labels number = own ∙ ap (λ (n : ℕ). n + 1 + number) whole in
-    let first : IsIn row.number (given_group labels old.ends number) old.groups =
-    placed_follows w labels l.copies number row.number fits room many enters stays turned_law 0 row.number given l.spots whole (omega (arith, count)) are.all
-    (λ j u le h. (let r = rises w items i j s u (omega (arith, le, behind)) at_s h in omega (arith, r, its, few))) (omega arith) there mine in
-    let h : HaveEntered labels l.copies 0 old = whole_entered w items (sym long) in
-    let e = many labels l.copies 0 old h in
-    let r = room labels l.copies 0 old h in
-    let paths : length (module_paths w) ≡ length w.augments = length-map w.augments _ in
+    let (fits, later) = copy_fits w items i place a s long at_s uses_is at_a gives in
     let last : IsIn row.number (given_group labels st.ends number) st.groups =
-    applied labels 0 number row.number (module_paths w) old st g.applied (omega (arith, e, r)) (omega (arith, e, paths, modules)) (omega (arith, e, fits)) first in
+    follows_laid room many enters stays turned_law applied w items st row.number number given long g there fits (λ j u le h. later j u (omega (arith, le, behind)) h) own in
     let once : StandOnce (length items) st.groups = once_of stand w items st long g in
     let same : group_under row.parent ≡ given_group labels st.ends number =
     one st.groups (length items) row.number (group_under row.parent) (given_group labels st.ends number) once (below labels st.groups k row t is at) last in

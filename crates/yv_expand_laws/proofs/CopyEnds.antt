@@ -71,12 +71,12 @@ pub rises : (w : Whole) (items : List Item) (i j : ℕ) (s t : Spot) → i < j �
 unfolding layout_of
 rises w items i j s t less at to = firsts_rise w items (record { spots = []; copies = length w.augments }) 0 i j s t refl (omega arith) less at to
 
-past_modules : (w : Whole) (items : List Item) (i : ℕ) (s : Spot) → slice_get (layout_of w items).spots i ≡ Some s → length w.augments ≤ s.first
+pub past_modules : (w : Whole) (items : List Item) (i : ℕ) (s : Spot) → slice_get (layout_of w items).spots i ≡ Some s → length w.augments ≤ s.first
 unfolding layout_of
 past_modules w items i s at = first_past w items (record { spots = []; copies = length w.augments }) 0 i s refl (omega arith) at
 
 -- what stands before a place of a list, and behind it
-split_at : (xs : List Spot) (i : ℕ) (x : Spot) → slice_get xs i ≡ Some x → (front : List Spot) × (xs ≡ front ++ x ∷ drop (i + 1) xs) × (length front ≡ i)
+pub split_at : (xs : List Spot) (i : ℕ) (x : Spot) → slice_get xs i ≡ Some x → (front : List Spot) × (xs ≡ front ++ x ∷ drop (i + 1) xs) × (length front ≡ i)
 split_at [] i x at = absurd (not_none at)
 split_at (y ∷ xs) zero x at = ([], ap (λ (z : Spot). z ∷ xs) (same_Some y x at), refl)
 split_at (y ∷ xs) (suc i) x at =
@@ -85,7 +85,7 @@ split_at (y ∷ xs) (suc i) x at =
     (y ∷ r.0, ap (λ (l : List Spot). y ∷ l) (r.1 ∙ ap (λ (l : List Spot). r.0 ++ x ∷ l) (sym same)), (let e = r.2 in omega (arith, e)))
 
 -- those that pass before one that passes, and behind it
-filter_split : (p : ℕ → Bool) (xs : List ℕ) (k a : ℕ) → slice_get xs k ≡ Some a → p a ≡ true → (others : List ℕ) × (filter p xs ≡ filter p (take k xs) ++ a ∷ others)
+pub filter_split : (p : ℕ → Bool) (xs : List ℕ) (k a : ℕ) → slice_get xs k ≡ Some a → p a ≡ true → (others : List ℕ) × (filter p xs ≡ filter p (take k xs) ++ a ∷ others)
 filter_split p [] k a at is = absurd (not_none at)
 filter_split p (x ∷ xs) zero a at is =
     let same : x ≡ a = same_Some x a at in
@@ -131,7 +131,7 @@ module _ (labels : List Label) (number : ℕ) where
     abbrev Apart : (k many : ℕ) → Type 0
     Apart k many = (number < k) ⊎ (k + many ≤ number)
 
-    turns_keep : (o : Option End) (s : Spot) (k : ℕ) (augments : List ℕ) (st : State) → Apart k (length augments) → EndIs o st → EndIs o (turns_from w labels s k augments st)
+    pub turns_keep : (o : Option End) (s : Spot) (k : ℕ) (augments : List ℕ) (st : State) → Apart k (length augments) → EndIs o st → EndIs o (turns_from w labels s k augments st)
     turns_keep o s k [] st apart h = h
     turns_keep o s k (a ∷ others) st apart h =
         turns_keep o s (k + 1) others (copy_turn w labels s k a st) (elim apart [ inl l ↦ inl (omega (arith, l)) | inr l ↦ inr (omega (arith, l)) ])
@@ -152,7 +152,7 @@ module _ (labels : List Label) (number : ℕ) where
     placed_keeps o i n (t ∷ front) rest apart is h =
         spot_keeps o t (placed_from w labels copies (i + 1) (front ++ rest)) (apart 0 t refl) (placed_keeps o (i + 1) n front rest (λ j u at. apart (suc j) u at) (omega (arith, is)) h)
 
-    turns_append : (s : Spot) (k : ℕ) (xs ys : List ℕ) (st : State) → turns_from w labels s k (xs ++ ys) st ≡ turns_from w labels s (k + length xs) ys (turns_from w labels s k xs st)
+    pub turns_append : (s : Spot) (k : ℕ) (xs ys : List ℕ) (st : State) → turns_from w labels s k (xs ++ ys) st ≡ turns_from w labels s (k + length xs) ys (turns_from w labels s k xs st)
     turns_append s k [] ys st = ap (λ (m : ℕ). turns_from w labels s m ys st) (let e : k ≡ k + 0 = omega arith in e)
     turns_append s k (x ∷ xs) ys st =
         turns_append s (k + 1) xs ys (copy_turn w labels s k x st)

@@ -53,7 +53,7 @@ if_some : (b : Bool) (i j : ℕ) → (if b then Some i else None) ≡ Some j →
 if_some true i j e = same_Some i j e
 if_some false i j e = absurd (not_none e)
 
-target_node : (labels : List Label) (e : End) (i : ℕ) → target labels e ≡ Some i → e ≡ end.Node i
+pub target_node : (labels : List Label) (e : End) (i : ℕ) → target labels e ≡ Some i → e ≡ end.Node i
 target_node labels (end.Start h) i is = absurd (not_none is)
 target_node labels (end.ShorthandCase j) i is = absurd (not_none is)
 target_node labels (end.Node j) i is = ap (λ z. end.Node z) (if_some (is_some_target (slice_get labels j)) j i is)
@@ -284,6 +284,14 @@ row_in (item i below behind) parent depth (suc k) row at =
       | inr h ↦ inr (inr (row_in behind parent depth h.0 row h.2))
     ]
 
+-- an item is in the final tree where it stands at the top, at any depth
+pub tree_under : (labels : List Label) (groups : Groups) (t : Tree) → IsTree labels groups t → (x : ℕ) → IsThere (tree_list None 1 t) x → Under groups 0 x
+tree_under labels groups t is x h =
+    in_under labels groups is.2 (λ j c. in_group (of_group labels groups 0 is.0 is.1 j c)) x (subst (InTree t) h.is (row_in t None 1 h.place h.row h.at))
+
+pub under_tree : (labels : List Label) (groups : Groups) (t : Tree) → IsTree labels groups t → (x : ℕ) → Under groups 0 x → IsThere (tree_list None 1 t) x
+under_tree labels groups t is x u = in_rows t None 1 x (under_in labels groups is.1 is.2 u)
+
 -- no augment of a module was applied when all items have entered
 module _ (w : Whole) (labels : List Label) (place : ℕ) where
   turns_wait : (s : Spot) (number : ℕ) (augments : List ℕ) (st : State) → place < number → get_or st.ends place None ≡ None
@@ -334,7 +342,6 @@ final_stands once one room many w items st t x long grafted is_tree =
     let paths : length (module_paths w) ≡ length w.augments = length-map w.augments _ in
     let B = applied_between once one room many labels l.copies (length w.augments) few (placement w l) (module_paths w) st (omega (arith, paths)) (whole_entered w items (sym long))
     (λ k less. spots_wait w labels k l.copies 0 l.spots (omega (arith, less, few)) (λ j s at. (let g = f.1 j s at in omega (arith, less, g)))) grafted.applied in (
-      (λ h. B.top x (in_under labels st.groups is_tree.2 (λ j c. in_group (of_group labels st.groups 0 is_tree.0 is_tree.1 j c)) x
-          (subst (InTree t) h.is (row_in t None 1 h.place h.row h.at)))),
-      (λ h. in_rows t None 1 x (under_in labels st.groups is_tree.1 is_tree.2 (B.back x h))),
+      (λ h. B.top x (tree_under labels st.groups t is_tree x h)),
+      (λ h. under_tree labels st.groups t is_tree x (B.back x h)),
     )

@@ -76,3 +76,12 @@ pub mod Parents
 pub mod ModulesMisplaced
 pub mod CopyEnds
 pub mod CopiesGive
+pub mod AugmentLaws
+pub mod Onward
+pub mod Laid
+pub mod TopItems
+pub mod Together
+pub mod Added
+pub mod UsesGroups
+pub mod UsesMisplaced
+pub mod MisplacementsJoined

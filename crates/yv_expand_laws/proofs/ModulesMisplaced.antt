@@ -1,21 +1,19 @@
 -- The augments of modules that give items to nodes which don't take them are refused so by both definitions.
-use Rattle.std.proofs.Common.{◌⊎◌, inl, inr, ◌≡◌, ℕ, zero, suc, ◌+◌, ◌-◌, ◌<◌, ◌≤◌, Bool, true, false, if◌then◌else◌, List, [], ◌∷◌, ◌++◌, length, map, Option, Some, None, refl, sym, ◌∙◌, ap, subst, arith}
+use Rattle.std.proofs.Common.{inl, inr, ◌≡◌, ℕ, suc, ◌+◌, ◌-◌, ◌<◌, ◌≤◌, Bool, true, false, if◌then◌else◌, List, [], ◌∷◌, length, map, Option, Some, None, refl, sym, ◌∙◌, ap, subst, arith}
 use Rattle.std.specs.List.{Contains, slice_get}
 use Rattle.std.proofs.lemmas.Bool.{cases_lt, false≢true}
-use Rattle.std.proofs.lemmas.List.{append_assoc, length-append}
 use Rattle.std.proofs.lemmas.List.Sums.{sum_by-append}
 use Rattle.std.proofs.lemmas.Option.{same_Some, slice_get_within}
-use Rattle.yv_link_scopes.specs.Files.{Briefs, Files, brief_of}
+use Rattle.yv_link_scopes.specs.Files.{Files, brief_of}
 use Rattle.yv_link_scopes.specs.RowList.{rows_of}
 use Rattle.yv_link_scopes.specs.Rows.{Row}
 use Rattle.yv_expand.specs.Weigh.{block_of}
 use Rattle.yv_expand.specs.Origin.{number_of}
-use Rattle.yv_expand.specs.Tree.{Item, Tree as Expansion, all_of, count, item, join, item_list, none}
+use Rattle.yv_expand.specs.Tree.{Item, all_of, join}
 use Rattle.yv_expand.specs.declared.item.Origin.{Origin}
 use Rattle.yv_expand.specs.declared.item.Origin.TheVariants.{Input, Output, Statement}
 use Rattle.yv_expand.specs.Expansion.{IsWhole, augments_of}
-use Rattle.yv_expand.specs.Expands.{Expands, is_item}
-use Rattle.yv_expand.specs.Expands.Expands.{nothing, other, node, operation, uses}
+use Rattle.yv_expand.specs.Expands.{is_item}
 use Rattle.yv_expand_rounds.specs.Groups.{Groups, group_of_augment, members_of, times}
 use Rattle.yv_expand_rounds.specs.Placements.{HaveEntered, StandOnce}
 use Rattle.yv_expand_rounds.specs.Tree.{IsTree, Tree}
@@ -29,12 +27,12 @@ use Rattle.yv_expand_augments.specs.Augmentation.{AreAugmented}
 use Rattle.yv_expand_augments.specs.AugmentOrder.{place_of}
 use Rattle.yv_expand_augments.specs.Kinds.{is_uses, kind_at, kind_of}
 use Rattle.yv_expand_augments.specs.Placement.{augment_around, takes}
-use Rattle.yv_expand_augments.specs.Spots.{LayoutView, Whole, copy_group, source_in, group_below, labels_of, layout_of, laid_from, one_more, spot_at, spot_of, top_group_of, top_group, used_group, whole}
+use Rattle.yv_expand_augments.specs.Spots.{Whole, copy_group, source_in, group_below, labels_of, layout_of, spot_at, top_group_of, top_group, used_group, whole}
 use Rattle.yv_expand_augments.specs.declared.spot.Spot.{Spot}
 use Rattle.yv_expand_augments.proofs.Entering.{whole_entered}
 use Rattle.yv_expand_tree.specs.Final.{final_items}
 use Rattle.yv_expand_tree.specs.FileOrder.{marks_of, order_of}
-use Rattle.yv_expand_tree.proofs.Standing.{in_second, parents_first}
+use Rattle.yv_expand_tree.proofs.Standing.{parents_first}
 use Rattle.yv_expand_definition.proofs.Giving.{RefersToOne}
 use Rattle.yv_expand_laws.specs.Files.{AreGiven, ShowFiles, expansion_of, giver_by, giver_of, labels_in, start_of}
 use Rattle.yv_expand_laws.specs.Misplacements.{HasMisplaced, MisplacedByModule, MisplacementsByModulesAreOne}
@@ -43,49 +41,19 @@ use Rattle.yv_expand_laws.specs.Shows.{Items}
 use Rattle.yv_expand_laws.specs.Under.{FinalStands}
 use Rattle.yv_expand_laws.specs.Under.Under.{in_group}
 use Rattle.yv_expand_laws.proofs.Finding.{not_none}
-use Rattle.yv_expand_laws.proofs.Framing.{nothing_stands}
 use Rattle.yv_expand_laws.proofs.Givers.{giver_here, giver_high, giver_low, giver_place, many_labels}
-use Rattle.yv_expand_laws.proofs.Lying.{last_at, still_at}
+use Rattle.yv_expand_laws.proofs.Laid.{group_at}
+use Rattle.yv_expand_laws.proofs.Lying.{still_at}
 use Rattle.yv_expand_laws.proofs.Marked.{order_marked}
 use Rattle.yv_expand_laws.proofs.Modules.{at_first, stand_givers, start_is}
 use Rattle.yv_expand_laws.proofs.Nested.{MayBelow, items_stand}
 use Rattle.yv_expand_laws.proofs.Orders.{IsModuleAugment, at_there, augment_in, augments_rise, place_is, rises_one}
-use Rattle.yv_expand_laws.proofs.Showing.{first_or}
 use Rattle.yv_expand_laws.proofs.TakenBlocks.{scope_of, stands_there, targets_take}
 use Rattle.yv_expand_laws.proofs.Targets.{contains_at}
-use Rattle.yv_expand_laws.proofs.Telling.{laid_grows, laid_many, there_is, told_at}
+use Rattle.yv_expand_laws.proofs.Telling.{laid_many, there_is, told_at}
+use Rattle.yv_expand_laws.proofs.TopItems.{all_have, expands_top, joined_second, listed_has}
 use Rattle.yv_expand_laws.proofs.Trees.{contained}
 use Rattle.yv_expand_laws.proofs.Trees as often
-
--- the group of a spot is that below what was laid before it
-abbrev GroupAt : (w : Whole) (spots : List Spot) (i : ℕ) (x : Item) (s : Spot) → Type 0
-GroupAt w spots i x s =
-    (before : List Spot) × (more : List Spot) × (spots ≡ before ++ more) × (length before ≡ i)
-    × (s.group ≡ group_below w (slice_get w.rows (number_of x.origin)) x.parent (spot_at before x.parent))
-
-laid_group : (w : Whole) (items : List Item) (l : LayoutView) (n i m : ℕ) (s : Spot) (x : Item) → length l.spots ≡ n → m ≡ n + i → slice_get (laid_from w items l).spots m ≡ Some s → slice_get items i ≡ Some x
-    → GroupAt w (laid_from w items l).spots m x s
-laid_group w [] l n i m s x long m_is at of = absurd (not_none of)
-laid_group w (y ∷ xs) l n zero m s x long m_is at of =
-    let t : Spot = spot_of w l.spots l.copies y in
-    let r = laid_grows w xs (one_more w y l) in
-    let more = length-append l.spots (t ∷ []) in
-    let here : Some t ≡ Some s =
-    sym (last_at l.spots t m (omega (arith, long, m_is))) ∙ (sym (still_at (l.spots ++ t ∷ []) r.0 m (omega (arith, more, long, m_is)))
-    ∙ (ap (λ z. slice_get z m) (sym r.1) ∙ at)) in
-    let first : s.group ≡ group_below w (slice_get w.rows (number_of y.origin)) y.parent (spot_at l.spots y.parent) = ap (λ (z : Spot). z.group) (sym (same_Some t s here)) in (
-      l.spots,
-      t ∷ r.0,
-      r.1 ∙ append_assoc l.spots (t ∷ []) r.0,
-      omega (arith, long, m_is),
-      first ∙ ap (λ (z : Item). group_below w (slice_get w.rows (number_of z.origin)) z.parent (spot_at l.spots z.parent)) (same_Some y x of),
-    )
-laid_group w (y ∷ xs) l n (suc i) m s x long m_is at of =
-    laid_group w xs (one_more w y l) (n + 1) i m s x (let e = length-append l.spots (spot_of w l.spots l.copies y ∷ []) in omega (arith, e, long)) (omega (arith, m_is)) at of
-
-group_at : (w : Whole) (items : List Item) (i : ℕ) (s : Spot) (x : Item) → slice_get (layout_of w items).spots i ≡ Some s → slice_get items i ≡ Some x → GroupAt w (layout_of w items).spots i x s
-unfolding layout_of
-group_at w items i s x at of = laid_group w items (record { spots = []; copies = length w.augments }) 0 i i s x refl (omega arith) at of
 
 -- what takes something is no uses
 takes_no_uses : (k g : ItemKind) → takes k g ≡ true → is_uses k ≡ false
@@ -103,53 +71,6 @@ takes_no_uses kind.Action g h = refl
 takes_no_uses kind.Input g h = refl
 takes_no_uses kind.Output g h = refl
 takes_no_uses kind.Notification g h = refl
-
--- a statement has an item among those that statements give
-abbrev HasTop : ℕ → Expansion → Type 0
-HasTop j none = ⊥
-HasTop j (item o below behind) = (o ≡ Statement j) ⊎ HasTop j behind
-
-expands_top : {files : Briefs} {rows : List Row} {numbers : List ℕ} {t : Expansion} → Expands files rows numbers t → (j : ℕ) (r : Row) → Contains numbers j → slice_get rows j ≡ Some r → is_item r ≡ true → HasTop j t
-expands_top nothing j r there at is = absurd (nothing_stands j there)
-expands_top {rows = rows} (other {k = k} {r = q} {others = others} at_k isnt E) j r there at is = elim (first_or k others j there) [
-  | inl same ↦ absurd (false≢true (sym isnt ∙ (ap is_item (same_Some q r (sym at_k ∙ (ap (slice_get rows) same ∙ at))) ∙ is)))
-  | inr h ↦ expands_top E j r h at is
-]
-expands_top (node {k = k} {others = others} at_k is_k no_operation none_meant B E) j r there at is = elim (first_or k others j there) [
-  | inl same ↦ inl (ap (λ (n : ℕ). Statement n) same)
-  | inr h ↦ inr (expands_top E j r h at is)
-]
-expands_top (operation {k = k} {others = others} at_k is_k I O E) j r there at is = elim (first_or k others j there) [
-  | inl same ↦ inl (ap (λ (n : ℕ). Statement n) same)
-  | inr h ↦ inr (expands_top E j r h at is)
-]
-expands_top (uses {k = k} {others = others} at_k is_k meant C G E) j r there at is = elim (first_or k others j there) [
-  | inl same ↦ inl (ap (λ (n : ℕ). Statement n) same)
-  | inr h ↦ inr (expands_top E j r h at is)
-]
-
-joined_first : (j : ℕ) (t u : Expansion) → HasTop j t → HasTop j (join t u)
-joined_first j none u h = absurd h
-joined_first j (item o below behind) u (inl same) = inl same
-joined_first j (item o below behind) u (inr h) = inr (joined_first j behind u h)
-
-joined_second : (j : ℕ) (t u : Expansion) → HasTop j u → HasTop j (join t u)
-joined_second j none u h = h
-joined_second j (item o below behind) u h = inr (joined_second j behind u h)
-
-all_have : (j : ℕ) (ts : List Expansion) (k : ℕ) (t : Expansion) → slice_get ts k ≡ Some t → HasTop j t → HasTop j (all_of ts)
-all_have j [] k t at h = absurd (not_none at)
-all_have j (u ∷ ts) zero t at h = joined_first j u (all_of ts) (subst (HasTop j) (sym (same_Some u t at)) h)
-all_have j (u ∷ ts) (suc k) t at h = joined_second j u (all_of ts) (all_have j ts k t at h)
-
-listed_has : (j n : ℕ) (t : Expansion) → HasTop j t → (i : ℕ) × (slice_get (item_list None n t) i ≡ Some (record { origin = Statement j; parent = None }))
-listed_has j n none h = absurd h
-listed_has j n (item o below behind) (inl same) = (0, ap (λ (z : Origin). Some (let y : Item = record { origin = z; parent = None } in y)) same)
-listed_has j n (item o below behind) (inr h) =
-    let r = listed_has j (n + 1 + count below) behind h in (
-      suc (length (item_list (Some n) (n + 1) below) + r.0),
-      in_second (item_list (Some n) (n + 1) below) (item_list None (n + 1 + count below) behind) (length (item_list (Some n) (n + 1) below) + r.0) r.0 (record { origin = Statement j; parent = None }) refl r.1,
-    )
 
 -- what stands as often as once stands in some group
 stands_somewhere : (y : ℕ) (groups : Groups) → 1 ≤ times y groups → (g : ℕ) × Contains (members_of groups g) y
@@ -208,7 +129,7 @@ module _ (files : Files) (marks : List Bool) (order : List ℕ) (own : ℕ) (ite
         ∙ ap (top_group_of w) (place_is augments (augments_rise files marks) k a at_k)))))
 
     -- an operation's part that isn't written stands below it, and is taken
-    part_taken : (k p : ℕ) (y : Item) (row : ItemRow) (above : Spot) (part : ItemKind) → slice_get (by_number.tree_list None 1 tree) k ≡ Some row → row.number ≡ i
+    pub part_taken : (k p : ℕ) (y : Item) (row : ItemRow) (above : Spot) (part : ItemKind) → slice_get (by_number.tree_list None 1 tree) k ≡ Some row → row.number ≡ i
         → spot_at spots row.parent ≡ Some above → x.parent ≡ Some p → slice_get items p ≡ Some y → takes (kind_of rows y.origin) part ≡ true
         → takes above.label.kind part ≡ true
     part_taken k p y row above part at_row is node_is up at_y taken =
@@ -272,7 +193,7 @@ module _ (files : Files) (marks : List Bool) (order : List ℕ) (own : ℕ) (ite
 
       below_case : (x : Item) → slice_get items h.row.number ≡ Some x → h.spot.statement ≡ number_of x.origin → h.spot.label.kind ≡ kind_of rows x.origin → (p : ℕ) (y : Item) → x.parent ≡ Some p
           → slice_get items p ≡ Some y → (o : Origin) → x.origin ≡ o → MayBelow files marks y.origin o → ⊥
-      below_case x x_at statement kind_is p y up at_y (Statement j) origin (r, at_j, never) =
+      below_case x x_at statement kind_is p y up at_y (Statement j) origin (r, at_j, never, sides) =
           let scope : r.scope ≡ a = scope_of rows a q.row kind.Leaf q.at q.is r (around_is x statement j r origin at_j) in
           never (subst (λ (n : ℕ). Contains augments n) (sym scope) (at_there augments k a at))
       below_case x x_at statement kind_is p y up at_y (Input j) origin taken =
@@ -321,7 +242,7 @@ module _ (files : Files) (marks : List Bool) (order : List ℕ) (own : ℕ) (ite
         let e = expanded.are_added.each in
         let t = there_is expanded.added k (omega (arith, l, e)) in
         let top = expands_top (expanded.are_added.expands k a t.0 at_k t.1) j r there at_j is_one in
-        let i = listed_has j 0 (join (all_of expanded.trees) (all_of expanded.added)) (joined_second j (all_of expanded.trees) (all_of expanded.added) (all_have j expanded.added k t.0 t.1 top)) in
+        let i = listed_has j None 0 (join (all_of expanded.trees) (all_of expanded.added)) (joined_second j (all_of expanded.trees) (all_of expanded.added) (all_have j expanded.added k t.0 t.1 top)) in
         (i.0, ap (λ z. slice_get z i.0) expanded.listed ∙ i.1)
 
     -- where the block isn't taken an item of it isn't

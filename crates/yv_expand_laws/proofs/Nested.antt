@@ -10,6 +10,7 @@ use Rattle.std.proofs.lemmas.Slice.Eq.{bytes_eq-Decides}
 use Rattle.yv_link_scopes.specs.Files.{Briefs, Files, brief_of}
 use Rattle.yv_link_scopes.specs.RowList.{rows_of}
 use Rattle.yv_link_scopes.specs.Rows.{Row}
+use Rattle.yv_link_definitions.specs.Refers as refers
 use Rattle.yv_expand.specs.Limit.{given_at}
 use Rattle.yv_expand.specs.Units.{operations}
 use Rattle.yv_expand.specs.Weigh.{block_of, top_of}
@@ -21,7 +22,7 @@ use Rattle.yv_expand.specs.Expands.{Expands, first_of, input_of, is_at, is_augme
 use Rattle.yv_expand.specs.Expands.Expands.{nothing, other, node, operation, uses}
 use Rattle.yv_expand_rounds.specs.declared.label.ItemKind.TheVariants as kind
 use Rattle.yv_expand_augments.specs.Kinds.{kind_at, kind_of_keyword, kind_of}
-use Rattle.yv_expand_augments.specs.Placement.{takes}
+use Rattle.yv_expand_augments.specs.Placement.{augment_around, augment_at, takes}
 use Rattle.yv_expand_tree.proofs.Standing.{in_first, in_lists, in_second}
 use Rattle.yv_expand_laws.proofs.Asking.{IsBelow, block_below, top_below}
 use Rattle.yv_expand_laws.proofs.Choosing.{block_scope, filter_in, row_at}
@@ -58,16 +59,34 @@ module _ (files : Files) (marks : List Bool) where
   abbrev augments : List ℕ
   augments = augments_of briefs rows marks
 
-  -- a statement stands in the block of no augment of a module
-  abbrev pub Apart : ℕ → Type 0
-  Apart j = (r : Row) × (slice_get rows j ≡ Some r) × (Contains augments r.scope → ⊥)
+  -- a statement stands in the block of no augment
+  abbrev Alone : ℕ → Type 0
+  Alone j = (r : Row) × (slice_get rows j ≡ Some r) × (Contains augments r.scope → ⊥) × (augment_around rows (Some r) ≡ None)
 
-  abbrev AllApart : List ℕ → Type 0
-  AllApart ks = (k : ℕ) → Contains ks k → Apart k
+  abbrev AllAlone : List ℕ → Type 0
+  AllAlone ks = (k : ℕ) → Contains ks k → Alone k
 
-  -- an item may stand below another: its statement stands in no such block, or it is the part of an operation
+  -- an item is a uses, and this is one of its augments
+  pub record IsOf (q : Origin) (a : ℕ) : Type 0 where
+    pub statement : ℕ
+    pub row : Row
+    pub is : q ≡ Statement statement
+    pub at : slice_get rows statement ≡ Some row
+    pub item : is_item row ≡ true
+    pub of_uses : refers.is_uses row ≡ true
+    pub among : Contains (those is_augment rows (block_of rows statement)) a
+
+  -- below an item a statement stands in the block of no augment, or of one of the uses above it
+  abbrev Apart : Origin → ℕ → Type 0
+  Apart q j = (r : Row) × (slice_get rows j ≡ Some r) × (Contains augments r.scope → ⊥) × ((augment_around rows (Some r) ≡ None) ⊎ IsOf q r.scope)
+
+  abbrev AllApart : Origin → List ℕ → Type 0
+  AllApart q ks = (k : ℕ) → Contains ks k → Apart q k
+
+  -- an item may stand below another: its statement does so, or it is the part of an operation
   abbrev pub MayBelow : Origin → Origin → Type 0
-  MayBelow q (Statement j) = Apart j
+  MayBelow q (Statement j) =
+      (r : Row) × (slice_get rows j ≡ Some r) × (Contains augments r.scope → ⊥) × ((augment_around rows (Some r) ≡ None) ⊎ (IsOf q r.scope × (is_item r ≡ true)))
   MayBelow q (Input k) = takes (kind_of rows q) kind.Input ≡ true
   MayBelow q (Output k) = takes (kind_of rows q) kind.Output ≡ true
 
@@ -92,15 +111,23 @@ module _ (files : Files) (marks : List Bool) where
   joined_tops (item o below behind) u (here, B, T) U = (here, B, joined_tops behind u T U)
 
   -- no statement in the block of one that is no augment stands in that of an augment
-  block_apart : (k : ℕ) (r : Row) → slice_get rows k ≡ Some r → is_augment r ≡ false → AllApart (block_of rows k)
-  block_apart k r at isnt j h =
+  block_alone : (k : ℕ) (r : Row) → slice_get rows k ≡ Some r → is_augment r ≡ false → AllAlone (block_of rows k)
+  block_alone k r at isnt j h =
       let b = block_scope rows k j h in (
         b.0,
         b.1,
         λ there.
             let a = augment_in files marks k (subst (λ (n : ℕ). Contains augments n) b.2 there) in
             false≢true (sym isnt ∙ (ap is_augment (same_Some r a.row (sym at ∙ a.at)) ∙ a.is)),
+        ap (λ (n : ℕ). augment_at n (slice_get rows n)) b.2 ∙ (ap (augment_at k) at ∙ ap (λ (c : Bool). if c then Some k else None) isnt),
       )
+
+  all_apart : (q : Origin) (ks : List ℕ) → AllAlone ks → AllApart q ks
+  all_apart q ks all k h = (let x = all k h in (x.0, x.1, x.2, inl x.3))
+
+  item_may : (q : Origin) (k : ℕ) (r : Row) → slice_get rows k ≡ Some r → is_item r ≡ true → Apart q k → MayBelow q (Statement k)
+  item_may q k r at is (z, at_z, never, inl alone) = (z, at_z, never, inl alone)
+  item_may q k r at is (z, at_z, never, inr of) = (z, at_z, never, inr (of, ap is_item (same_Some z r (sym at_z ∙ at)) ∙ is))
 
   first_there : (xs : List ℕ) (j : ℕ) → slice_get xs 0 ≡ Some j → Contains xs j
   first_there [] j e = absurd (not_none e)
@@ -115,19 +142,19 @@ module _ (files : Files) (marks : List Bool) where
         let f = filter_in (is_at test rows) (block_of rows k) j (first_there (those test rows (block_of rows k)) j is) in
         (f.0, row_at test rows j f.1)
 
-    part_may : (q unwritten : Origin) → MayBelow q unwritten → AllApart (block_of rows k) → MayBelow q (part unwritten written)
+    part_may : (q unwritten : Origin) → MayBelow q unwritten → AllAlone (block_of rows k) → MayBelow q (part unwritten written)
     part_may q unwritten own all = by written refl
       where
         by : (o : Option ℕ) → written ≡ o → MayBelow q (part unwritten o)
         by None is = own
-        by (Some j) is = all j (written_in j is).0
+        by (Some j) is = (let x = all j (written_in j is).0 in (x.0, x.1, x.2, inl x.3))
 
-    part_apart : AllApart (part_block rows written)
-    part_apart = by written refl
+    part_alone : AllAlone (part_block rows written)
+    part_alone = by written refl
       where
-        by : (o : Option ℕ) → written ≡ o → AllApart (part_block rows o)
+        by : (o : Option ℕ) → written ≡ o → AllAlone (part_block rows o)
         by None is = λ j h. absurd (nothing_stands j h)
-        by (Some i) is = (let x = (written_in i is).1 in block_apart i x.0 x.1 (isnt x.0 x.2))
+        by (Some i) is = (let x = (written_in i is).1 in block_alone i x.0 x.1 (isnt x.0 x.2))
 
   part_below : (o : Option ℕ) (j : ℕ) → Contains (part_block rows o) j → IsBelow rows j
   part_below None j h = absurd (nothing_stands j h)
@@ -137,13 +164,13 @@ module _ (files : Files) (marks : List Bool) where
   flat_below [] j h = absurd (nothing_stands j h)
   flat_below (a ∷ xs) j h = elim (Contains-append_cases (block_of rows a) (flat_map (block_of rows) xs) j h) [ inl x ↦ block_below rows a j x | inr x ↦ flat_below xs j x ]
 
-  -- nor any in the block of an augment that stands in a block
-  flat_apart : (xs : List ℕ) → ((a : ℕ) → Contains xs a → Contains augments a → ⊥) → AllApart (flat_map (block_of rows) xs)
-  flat_apart [] never j h = absurd (nothing_stands j h)
-  flat_apart (a ∷ xs) never j h = elim (Contains-append_cases (block_of rows a) (flat_map (block_of rows) xs) j h) [
+  -- what stands in the block of an augment of a uses stands below this
+  flat_apart : (q : Origin) (xs : List ℕ) → ((a : ℕ) → Contains xs a → IsOf q a) → ((a : ℕ) → Contains xs a → Contains augments a → ⊥) → AllApart q (flat_map (block_of rows) xs)
+  flat_apart q [] of never j h = absurd (nothing_stands j h)
+  flat_apart q (a ∷ xs) of never j h = elim (Contains-append_cases (block_of rows a) (flat_map (block_of rows) xs) j h) [
     | inl x ↦ (let b = block_scope rows a j x in
-        (b.0, b.1, λ there. never a (there_first a xs) (subst (λ (n : ℕ). Contains augments n) b.2 there)))
-    | inr x ↦ flat_apart xs (λ c at. never c (there_later a c xs at)) j x
+        (b.0, b.1, λ there. never a (there_first a xs) (subst (λ (n : ℕ). Contains augments n) b.2 there), inr (subst (λ (n : ℕ). IsOf q n) (sym b.2) (of a (there_first a xs)))))
+    | inr x ↦ flat_apart q xs (λ c at. of c (there_later a c xs at)) (λ c at. never c (there_later a c xs at)) j x
   ]
 
   no_module : (k : ℕ) → IsBelow rows k → (a : ℕ) → Contains (those is_augment rows (block_of rows k)) a → Contains augments a → ⊥
@@ -155,7 +182,7 @@ module _ (files : Files) (marks : List Bool) where
       near files marks m.0 a m.1 (b.0, b.1, omega (arith, past, scope))
 
   abbrev May : List ℕ → Tree → Type 0
-  May numbers t = TopsMay t × ((q : Origin) → AllApart numbers → AllMay q t)
+  May numbers t = TopsMay t × ((q : Origin) → AllApart q numbers → AllMay q t)
 
   abbrev Known : List ℕ → Type 0
   Known numbers = (k : ℕ) → Contains numbers k → IsBelow rows k
@@ -169,31 +196,35 @@ module _ (files : Files) (marks : List Bool) where
       )
   expands_may (node {k = k} {r = r} {others = others} at is no_operation none_meant B E) known =
       let later = expands_may E (λ j h. known j (there_later k j others h)) in
-      let inner = (expands_may B (block_below rows k)).1 (Statement k) (block_apart k r at (item_no_augment r is)) in (
+      let inner = (expands_may B (block_below rows k)).1 (Statement k) (all_apart (Statement k) (block_of rows k) (block_alone k r at (item_no_augment r is))) in (
         ((k, r, refl, at, is), inner, later.0),
-        λ q all. (all k (there_first k others), inner, later.1 q (λ j h. all j (there_later k j others h))),
+        λ q all. (item_may q k r at is (all k (there_first k others)), inner, later.1 q (λ j h. all j (there_later k j others h))),
       )
   expands_may (operation {k = k} {r = r} {others = others} {input = input} {output = output} at is I O E) known =
       let later = expands_may E (λ j h. known j (there_later k j others h)) in
       let is_one = (operation_item r is).0 in
-      let block = block_apart k r at (item_no_augment r is_one) in
+      let block = block_alone k r at (item_no_augment r is_one) in
       let takes_them = parts_taken r is in
       let into = part_may is_input input_no_augment k (Statement k) (Input k) (ap (λ o. takes (kind_at o) kind.Input) at ∙ takes_them.0) block in
       let out = part_may is_output output_no_augment k (Statement k) (Output k) (ap (λ o. takes (kind_at o) kind.Output) at ∙ takes_them.1) block in
-      let first = (expands_may I (part_below (input_of rows k))).1 (part (Input k) (input_of rows k)) (part_apart is_input input_no_augment k) in
-      let second = (expands_may O (part_below (output_of rows k))).1 (part (Output k) (output_of rows k)) (part_apart is_output output_no_augment k) in (
+      let first = (expands_may I (part_below (input_of rows k))).1 (part (Input k) (input_of rows k))
+      (all_apart (part (Input k) (input_of rows k)) (part_block rows (input_of rows k)) (part_alone is_input input_no_augment k)) in
+      let second = (expands_may O (part_below (output_of rows k))).1 (part (Output k) (output_of rows k))
+      (all_apart (part (Output k) (output_of rows k)) (part_block rows (output_of rows k)) (part_alone is_output output_no_augment k)) in (
         ((k, r, refl, at, is_one), (into, first, (out, second, tt)), later.0),
-        λ q all. (all k (there_first k others), (into, first, (out, second, tt)), later.1 q (λ j h. all j (there_later k j others h))),
+        λ q all. (item_may q k r at is_one (all k (there_first k others)), (into, first, (out, second, tt)), later.1 q (λ j h. all j (there_later k j others h))),
       )
   expands_may (uses {k = k} {d = d} {r = r} {others = others} {copies = copies} {given = given} at is meant C G E) known =
       let later = expands_may E (λ j h. known j (there_later k j others h)) in
-      let grouping = (refers_uses briefs rows k d r at is meant).1 in
-      let copied = (expands_may C (block_below rows d)).1 (Statement k) (block_apart d grouping.0 grouping.1 grouping.2) in
+      let (written, grouping) = refers_uses briefs rows k d r at is meant in
+      let copied = (expands_may C (block_below rows d)).1 (Statement k) (all_apart (Statement k) (block_of rows d) (block_alone d grouping.0 grouping.1 grouping.2)) in
       let adding : List ℕ = those is_augment rows (block_of rows k) in
-      let added = (expands_may G (flat_below adding)).1 (Statement k) (flat_apart adding (no_module k (known k (there_first k others)))) in
+      let of : (a : ℕ) → Contains adding a → IsOf (Statement k) a =
+      λ a h. record { statement = k; row = r; is = refl; at = at; item = is; of_uses = written; among = h } in
+      let added = (expands_may G (flat_below adding)).1 (Statement k) (flat_apart (Statement k) adding of (no_module k (known k (there_first k others)))) in
       let inner = joined_may (Statement k) copies given copied added in (
         ((k, r, refl, at, is), inner, later.0),
-        λ q all. (all k (there_first k others), inner, later.1 q (λ j h. all j (there_later k j others h))),
+        λ q all. (item_may q k r at is (all k (there_first k others)), inner, later.1 q (λ j h. all j (there_later k j others h))),
       )
 
   module _ (all : List Item) where

@@ -1,26 +1,25 @@
 -- An item that is laid below a node stands below it in the final tree.
-use Rattle.std.proofs.Common.{◌≡◌, ℕ, zero, suc, ◌+◌, ◌<◌, ◌≤◌, Bool, true, false, if◌then◌else◌, List, [], ◌∷◌, length, refl, sym, ◌∙◌, ap, subst, arith, Option, Some, None}
+use Rattle.std.proofs.Common.{◌≡◌, ℕ, zero, suc, ◌+◌, ◌<◌, ◌≤◌, List, [], ◌∷◌, length, refl, sym, ◌∙◌, ap, subst, arith, Option, Some, None}
 use Rattle.std.specs.List.{slice_get}
 use Rattle.std.proofs.lemmas.List.{length-map}
 use Rattle.std.proofs.lemmas.Option.{same_Some}
 use Rattle.yv_expand.specs.Tree.{Item}
 use Rattle.yv_expand_rounds.specs.declared.label.Label.{Label}
 use Rattle.yv_expand_rounds.specs.declared.row.ItemRow.{ItemRow}
-use Rattle.yv_expand_rounds.specs.Groups.{Groups, IsIn, group_of_augment, members_of}
-use Rattle.yv_expand_rounds.specs.Placements.{HaveEntered, StandOnce, enter, one_turn}
+use Rattle.yv_expand_rounds.specs.Groups.{Groups, IsIn}
+use Rattle.yv_expand_rounds.specs.Placements.{HaveEntered, StandOnce, enter}
 use Rattle.yv_expand_rounds.specs.Rounds.{AreApplied}
 use Rattle.yv_expand_rounds.specs.Tree.{IsTree, Tree, group_under, tree_list}
 use Rattle.yv_expand_rounds.specs.Turns.{State, turn}
-use Rattle.yv_expand_augments.specs.AugmentOrder.{augments_giving}
-use Rattle.yv_expand_augments.specs.Augmentation.{AreAugmented, copy_turn, last_of, module_paths, path_in, placement, placed_from, turns, turns_from}
+use Rattle.yv_expand_augments.specs.Augmentation.{AreAugmented, module_paths, placement, placed_from, turns}
 use Rattle.yv_expand_augments.specs.InnerLayout.{AreLaid, Fits}
-use Rattle.yv_expand_augments.specs.Kinds.{is_uses}
-use Rattle.yv_expand_augments.specs.Spots.{LayoutView, Whole, copies_of, labels_of, layout_of}
+use Rattle.yv_expand_augments.specs.Spots.{LayoutView, Whole, labels_of, layout_of}
 use Rattle.yv_expand_augments.specs.declared.spot.Spot.{Spot}
 use Rattle.yv_expand_augments.proofs.Bounds.{laid_whole}
 use Rattle.yv_expand_augments.proofs.Entering.{placed_entered, spot_entered, whole_entered}
 use Rattle.yv_expand_augments.proofs.Given.{once_of}
 use Rattle.yv_expand_laws.proofs.Finding.{not_none}
+use Rattle.yv_expand_laws.proofs.Onward.{KeptInTurns, KeptOnEntry, spot_holds}
 
 -- the laws of augments
 abbrev pub Stand : Type 0
@@ -60,26 +59,14 @@ module _ (w : Whole) (labels : List Label) (copies group item : ℕ) (low : grou
   abbrev Here : State → Type 0
   Here st = IsIn item group st.groups
 
-  turns_stay : (s : Spot) (first number : ℕ) (augments : List ℕ) (st : State) → number + length augments ≤ copies → HaveEntered labels copies first st → Here st
-      → Here (turns_from w labels s number augments st)
-  turns_stay s first number [] st le h is = is
-  turns_stay s first number (a ∷ others) st le h is =
-      let limit : ℕ = last_of (members_of st.groups (group_of_augment labels number)) in
-      let path : List ℕ = path_in w s.module_file a in
+  pub stays_in_turns : KeptInTurns labels copies Here
+  stays_in_turns first number start limit names st less h is =
       let e = many labels copies first st h in
       let g = room labels copies first st h in
-      turns_stay s first (number + 1) others (copy_turn w labels s number a st) (omega (arith, le))
-      (one_turn number s.group limit path (omega (arith, le)) h)
-      (turned_law labels number s.group limit group item path st (omega (arith, e, g)) (omega (arith, e, le)) low is)
+      turned_law labels number start limit group item names st (omega (arith, e, g)) (omega (arith, e, less)) low is
 
-  spot_stays : (s : Spot) (first : ℕ) (st : State) → s.first + copies_of w.rows s ≤ copies → HaveEntered labels copies first st → Here st → Here (turns w labels s st)
-  spot_stays s first st le h is = by (is_uses s.label.kind) refl
-    where
-      by : (b : Bool) → is_uses s.label.kind ≡ b → Here (if b then turns_from w labels s s.first (augments_giving w.rows s.statement) st else st)
-      by true same =
-          let c : copies_of w.rows s ≡ length (augments_giving w.rows s.statement) = ap (λ (b : Bool). if b then length (augments_giving w.rows s.statement) else 0) same in
-          turns_stay s first s.first (augments_giving w.rows s.statement) st (omega (arith, le, c)) h is
-      by false same = is
+  pub stays_on_entry : KeptOnEntry Here
+  stays_on_entry j g st is = stays item group j g st is
 
   placed_stays : (i k : ℕ) (s : Spot) (ss : List Spot) → w.items ≡ length labels → i + length ss ≡ length labels
       → ((j : ℕ) (t : Spot) → slice_get ss j ≡ Some t → Fits w copies t) → item ≡ i + k → slice_get ss k ≡ Some s → s.group ≡ group → Here (placed_from w labels copies i ss)
@@ -100,33 +87,49 @@ module _ (w : Whole) (labels : List Label) (copies group item : ℕ) (low : grou
       let f : Fits w copies t = fit 0 t refl in
       let h : HaveEntered labels copies (i + 1) before = placed_entered w labels copies (i + 1) ss whole (omega (arith, all)) (λ j u there. fit (suc j) u there) in
       let rest : Here before = placed_stays (i + 1) k s ss whole (omega (arith, all)) (λ j u there. fit (suc j) u there) (omega (arith, at)) there own in
-      stays item group i t.group (turns w labels t before) (spot_stays t (i + 1) before f.copies h rest)
+      stays_on_entry i t.group (turns w labels t before) (spot_holds w labels copies Here stays_in_turns stays_on_entry t (i + 1) before f.copies h rest)
 
 under_is : (parent : Option ℕ) (p : ℕ) → group_under parent ≡ p + 1 → parent ≡ Some p
 under_is None p e = absurd (omega (arith, e))
 under_is (Some q) p e = ap (λ (n : ℕ). Some n) (let same : q ≡ p = omega (arith, e) in same)
 
-pub stands_below : Stand → Room → Many → Enters → Stays → Turned → Applied → Below → One
-    → (w : Whole) (items : List Item) (st : State) (t : Tree) (k p : ℕ) (row : ItemRow) (s : Spot) → w.items ≡ length items → AreAugmented w items st
-    → IsTree (labels_of (layout_of w items).spots) st.groups t → slice_get (tree_list None 1 t) k ≡ Some row → slice_get (layout_of w items).spots row.number ≡ Some s → p < length items
-    → s.group ≡ p + 1 → row.parent ≡ Some p
-stands_below stand room many enters stays turned_law applied below one w items st t k p row s long g is at there lt own =
+-- an item that stood at the top or below a node before the rounds stands there in the end
+pub stays_after : Room → Many → Applied → (w : Whole) (items : List Item) (st : State) (i g : ℕ) → w.items ≡ length items → AreAugmented w items st → g ≤ length items
+    → IsIn i g (placement w (layout_of w items)).groups → IsIn i g st.groups
+stays_after room many applied w items st i g long grafted le first =
     let l : LayoutView = layout_of w items in
     let are : AreLaid w l = laid_whole w items (sym long) in
     let labels : List Label = labels_of l.spots in
     let modules = are.modules in
     let count : length labels ≡ length l.spots = length-map l.spots (λ x. x.label) in
     let size = are.long in
-    let whole : w.items ≡ length labels = omega (arith, size, count) in
-    let low : p + 1 ≤ length labels = omega (arith, lt, whole, long) in
+    let low : g ≤ length labels = omega (arith, le, size, count, long) in
     let old : State = placement w l in
-    let first : IsIn row.number (p + 1) old.groups =
-    placed_stays w labels l.copies (p + 1) row.number low room many enters stays turned_law 0 row.number s l.spots whole (omega (arith, count)) are.all (omega arith) there own in
     let h : HaveEntered labels l.copies 0 old = whole_entered w items (sym long) in
     let e = many labels l.copies 0 old h in
     let r = room labels l.copies 0 old h in
     let paths : length (module_paths w) ≡ length w.augments = length-map w.augments _ in
-    let last : IsIn row.number (p + 1) st.groups =
-    applied labels 0 (p + 1) row.number (module_paths w) old st g.applied (omega (arith, e, r)) (omega (arith, e, paths, modules)) low first in
+    applied labels 0 g i (module_paths w) old st grafted.applied (omega (arith, e, r)) (omega (arith, e, paths, modules)) low first
+
+-- so does one that is laid there
+pub stays_laid : Room → Many → Enters → Stays → Turned → Applied → (w : Whole) (items : List Item) (st : State) (i g : ℕ) (s : Spot) → w.items ≡ length items → AreAugmented w items st
+    → slice_get (layout_of w items).spots i ≡ Some s → g ≤ length items → s.group ≡ g → IsIn i g st.groups
+stays_laid room many enters stays turned_law applied w items st i g s long grafted at le own =
+    let l : LayoutView = layout_of w items in
+    let are : AreLaid w l = laid_whole w items (sym long) in
+    let labels : List Label = labels_of l.spots in
+    let count : length labels ≡ length l.spots = length-map l.spots (λ x. x.label) in
+    let size = are.long in
+    let whole : w.items ≡ length labels = omega (arith, size, count) in
+    stays_after room many applied w items st i g long grafted le
+    (placed_stays w labels l.copies g i (omega (arith, le, whole, long)) room many enters stays turned_law 0 i s l.spots whole (omega (arith, count)) are.all (omega arith) at own)
+
+pub stands_below : Stand → Room → Many → Enters → Stays → Turned → Applied → Below → One
+    → (w : Whole) (items : List Item) (st : State) (t : Tree) (k p : ℕ) (row : ItemRow) (s : Spot) → w.items ≡ length items → AreAugmented w items st
+    → IsTree (labels_of (layout_of w items).spots) st.groups t → slice_get (tree_list None 1 t) k ≡ Some row → slice_get (layout_of w items).spots row.number ≡ Some s → p < length items
+    → s.group ≡ p + 1 → row.parent ≡ Some p
+stands_below stand room many enters stays turned_law applied below one w items st t k p row s long g is at there lt own =
+    let last : IsIn row.number (p + 1) st.groups = stays_laid room many enters stays turned_law applied w items st row.number (p + 1) s long g there (omega (arith, lt)) own in
     let once : StandOnce (length items) st.groups = once_of stand w items st long g in
-    under_is row.parent p (one st.groups (length items) row.number (group_under row.parent) (p + 1) once (below labels st.groups k row t is at) last)
+    under_is row.parent p
+    (one st.groups (length items) row.number (group_under row.parent) (p + 1) once (below (labels_of (layout_of w items).spots) st.groups k row t is at) last)

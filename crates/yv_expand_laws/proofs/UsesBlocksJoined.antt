@@ -67,7 +67,7 @@ module _ (files : Files) (augments : List ℕ) (many : ℕ) (items : List Item) 
   untaken_by : (i a : ℕ) → HasUntaken w_of items i a → UntakenBy files augments many items (slice_get (layout_of w_of items).spots i) i a
   untaken_by i a h = subst (λ o. UntakenBy files augments many items o i a) (sym h.at) (h.of_uses, (h.target, h.node, (h.place, h.there, h.reaches), h.target_at, h.untaken))
 
-  untaken_there : (tree : List ItemRow) (i a : ℕ) (f : Refusal) (row : Row) → IsThere tree i → HasUntaken w_of items i a
+  pub untaken_there : (tree : List ItemRow) (i a : ℕ) (f : Refusal) (row : Row) → IsThere tree i → HasUntaken w_of items i a
       → slice_get (rows_of files) a ≡ Some row → f ≡ refusal_at code.BadAugment row.file row.head → Untaken w_of items tree f
   untaken_there tree i a f row t h found is = (
     t.place,

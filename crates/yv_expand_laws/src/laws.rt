@@ -17,7 +17,7 @@ ghost use Rattle.yv_expand_laws.specs.FinalTree.{FinalTreeShows};
 ghost use Rattle.yv_expand_laws.specs.StatementItems.{StatementsShow};
 ghost use Rattle.yv_expand_laws.specs.Impositions.{ImpositionsAreOne};
 ghost use Rattle.yv_expand_laws.specs.Marks.{BlocksAreMarked};
-ghost use Rattle.yv_expand_laws.specs.Misplacements.{MisplacementsByModulesAreOne};
+ghost use Rattle.yv_expand_laws.specs.Misplacements.{MisplacementsAreOne, MisplacementsByModulesAreOne, MisplacementsByUsesAreOne};
 ghost use Rattle.yv_expand_laws.specs.ModuleBlocks.{ModuleBlocksAreOne};
 ghost use Rattle.yv_expand_laws.specs.PathTargets.{PathsReach};
 ghost use Rattle.yv_expand_laws.specs.RefinedBlocks.{BlockIsMissed, BlockIsRefined};
@@ -351,4 +351,32 @@ pub fn what_a_copy_gives_stands_below_its_target()
     yv_expand_rounds::laws::parents_come_first();
     yv_expand_rounds::laws::what_is_given_follows_the_augment();
     a_copy_ends_where_its_turn_led();
+}
+
+/// An augment of a uses is refused by number, at an item of the final tree that stands in its block
+/// and below a node that doesn't take it, exactly where it is refused for its block in what the
+/// files expand to (RFC 7950, sections 7.13 and 7.17).
+pub fn misplacements_by_uses_are_one()
+    ensures { (files : Files) → MisplacementsByUsesAreOne files }
+{
+    yv_expand_augments::laws::what_is_given_stands_below_its_target();
+    yv_expand_rounds::laws::each_item_stands_once();
+    yv_expand_rounds::laws::entering_keeps_groups();
+    yv_expand_rounds::laws::items_stand_in_one_group();
+    yv_expand_rounds::laws::items_stay_when_others_enter();
+    yv_expand_rounds::laws::items_stay_below_their_nodes();
+    yv_expand_rounds::laws::what_is_given_follows_the_augment();
+    a_copy_ends_where_its_turn_led();
+    what_a_copy_gives_stands_below_its_target();
+    blocks_of_uses_are_one();
+}
+
+/// An augment is refused by number, at an item of the final tree that stands in its block and below
+/// a node that doesn't take it, exactly where it is refused for its block in what the files expand
+/// to (RFC 7950, section 7.17).
+pub fn misplacements_are_one()
+    ensures { (files : Files) → MisplacementsAreOne files }
+{
+    misplacements_by_modules_are_one();
+    misplacements_by_uses_are_one();
 }
