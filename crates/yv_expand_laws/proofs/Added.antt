@@ -20,7 +20,7 @@ use Rattle.yv_expand.specs.Expands.{Expands, is_augment, is_item, those}
 use Rattle.yv_expand.specs.Expands.Expands.{nothing, node, operation, other, uses}
 use Rattle.yv_expand_augments.specs.Kinds.{is_uses, kind_of}
 use Rattle.yv_expand_tree.proofs.Standing.{in_first, in_lists, in_second, listed_long}
-use Rattle.yv_expand_laws.specs.Expansions.{AllRefer}
+use Rattle.yv_expand_definition.specs.Expansion.{AllRefer}
 use Rattle.yv_expand_laws.proofs.Finding.{not_none}
 use Rattle.yv_expand_laws.proofs.Framing.{nothing_stands}
 use Rattle.yv_expand_laws.proofs.Kinding.{input_is, operation_item, output_is, statement_kind}

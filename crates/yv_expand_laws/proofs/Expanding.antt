@@ -10,8 +10,9 @@ use Rattle.yv_expand_rounds.specs.declared.label.Label.{Label}
 use Rattle.yv_expand.specs.Expands.{Expands}
 use Rattle.yv_expand.specs.Expands.Expands.{nothing, other, node, operation, uses}
 use Rattle.yv_expand_augments.specs.Spots.{LayoutView, Whole}
+use Rattle.yv_expand_definition.specs.Expansion.{AllRefer}
 use Rattle.yv_expand_laws.specs.Blocks.{Block}
-use Rattle.yv_expand_laws.specs.Expansions.{AllRefer, ExpansionLies, spot_view}
+use Rattle.yv_expand_laws.specs.Expansions.{ExpansionLies, spot_view}
 use Rattle.yv_expand_laws.specs.Layout.{Lie}
 use Rattle.yv_expand_laws.proofs.Lying.{Lies, empty_lies, Part, Parts, all_lie, no_parts, node_part, one_part, operation_part}
 use Rattle.yv_expand_laws.proofs.Using.{uses_part}

@@ -85,3 +85,7 @@ pub mod Added
 pub mod UsesGroups
 pub mod UsesMisplaced
 pub mod MisplacementsJoined
+pub mod RefusedKinds
+pub mod Among
+pub mod RefusalsJoined
+pub mod LeftSchema

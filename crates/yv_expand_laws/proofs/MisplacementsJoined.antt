@@ -1,7 +1,6 @@
 -- The augments that give items to nodes which don't take them are refused so by both definitions.
-use Rattle.std.proofs.Common.{◌⊎◌, inl, inr, ◌≡◌, ℕ, Bool, List, [], ◌∷◌, length, map, Some, sym, refl, subst}
+use Rattle.std.proofs.Common.{inl, inr, ◌≡◌, ℕ, Bool, List, length, map, Some, sym, refl, subst}
 use Rattle.std.specs.List.{Contains, slice_get}
-use Rattle.std.proofs.lemmas.Bool.{cases_eq}
 use Rattle.std.proofs.lemmas.Option.{slice_get_within}
 use Rattle.yv_statement.specs.Order.{refusal_at}
 use Rattle.yv_statement.specs.declared.refusal.Code.TheVariants as code
@@ -24,11 +23,9 @@ use Rattle.yv_expand_laws.specs.CopyEnds.{CopiesEnd}
 use Rattle.yv_expand_laws.specs.Files.{expansion_of, labels_in}
 use Rattle.yv_expand_laws.specs.Misplacements.{HasMisplaced, MisplacedByUses, MisplacementsAreOne, MisplacementsByModulesAreOne, MisplacementsByUsesAreOne}
 use Rattle.yv_expand_laws.specs.UsesBlocks.{HasUntaken, UsesBlocksAreOne}
+use Rattle.yv_expand_laws.proofs.Among.{is_or_not}
 use Rattle.yv_expand_laws.proofs.AugmentLaws.{Laws}
-use Rattle.yv_expand_laws.proofs.Finding.{there_first, there_later}
-use Rattle.yv_expand_laws.proofs.Framing.{nothing_stands}
 use Rattle.yv_expand_laws.proofs.ModulesMisplaced.{GivenBelow, StandsBelow}
-use Rattle.yv_expand_laws.proofs.Showing.{first_or}
 use Rattle.yv_expand_laws.proofs.UsesBlocksJoined.{untaken_there}
 use Rattle.yv_expand_laws.proofs.UsesMisplaced.{uses_misplaced, uses_untaken}
 use Rattle.yv_expand_laws.proofs.UsesTargetsJoined.{no_module}
@@ -59,16 +56,6 @@ misplacements_by_uses files given_below below laws ends_there gives_there blocks
           x.number a there h in
           subst By (sym final.augments) (a, never, misplaced, row, found, is)),
     )
-
-is_or_not : (xs : List ℕ) (a : ℕ) → Contains xs a ⊎ (Contains xs a → ⊥)
-is_or_not [] a = inr (nothing_stands a)
-is_or_not (x ∷ xs) a = elim (cases_eq x a) [
-  | inl same ↦ inl (subst (λ (n : ℕ). Contains (x ∷ xs) n) same (there_first x xs))
-  | inr other ↦ elim (is_or_not xs a) [
-    | inl there ↦ inl (there_later x a xs there)
-    | inr never ↦ inr (λ h. elim (first_or x xs a h) [ inl same ↦ other same | inr there ↦ never there ])
-  ]
-]
 
 puts : (rows : List Row) (spots : List Spot) (tree : List ItemRow) (a : ℕ) (f : Refusal) (q : Row) → HasMisplaced rows spots tree a → slice_get rows a ≡ Some q
     → f ≡ refusal_at code.BadAugment q.file q.head → PutsMisplaced rows spots tree f

@@ -34,9 +34,9 @@ use Rattle.yv_expand_augments.specs.declared.spot.Spot.{Spot}
 use Rattle.yv_expand_augments.proofs.Given.{once_of}
 use Rattle.yv_expand_changes.specs.Refusals.{IsThere}
 use Rattle.yv_expand_tree.proofs.Standing.{parents_first}
+use Rattle.yv_expand_definition.specs.Expansion.{AllRefer}
 use Rattle.yv_expand_laws.specs.CopiesGive.{CopiesGive}
 use Rattle.yv_expand_laws.specs.CopyEnds.{CopiesEnd}
-use Rattle.yv_expand_laws.specs.Expansions.{AllRefer}
 use Rattle.yv_expand_laws.specs.Files.{expansion_of, labels_in}
 use Rattle.yv_expand_laws.specs.Misplacements.{HasMisplaced}
 use Rattle.yv_expand_laws.specs.Under.{Under}

@@ -1,10 +1,7 @@
 -- The items of an expansion lie in blocks.
-use Rattle.std.specs.Prelude.{◌≡◌, ℕ, ◌+◌, ◌<◌, true, List, length, map, Option, Some, drop, slice_get}
+use Rattle.std.specs.Prelude.{◌≡◌, ℕ, ◌+◌, ◌<◌, List, length, map, Option, Some, drop, slice_get}
 use Rattle.std.specs.List.{Contains}
-use Rattle.yv_link_scopes.specs.Files.{Briefs}
 use Rattle.yv_link_scopes.specs.Rows.{Row}
-use Rattle.yv_link_definitions.specs.Refers.{RefersTo}
-use Rattle.yv_link_definitions.specs.Refers as refers
 use Rattle.yv_expand.specs.Tree.{count, item_list}
 use Rattle.yv_expand.specs.Tree as expansion
 use Rattle.yv_expand_rounds.specs.declared.label.Label.{Label}
@@ -15,6 +12,7 @@ use Rattle.yv_expand_augments.specs.Augmentation.{path_in, placed_from}
 use Rattle.yv_expand_augments.specs.Kinds.{is_uses}
 use Rattle.yv_expand_augments.specs.Spots.{LayoutView, Whole, group_below, laid_from, spot_at}
 use Rattle.yv_expand_augments.specs.declared.spot.Spot.{Spot}
+use Rattle.yv_expand_definition.specs.Expansion.{AllRefer}
 use Rattle.yv_expand_laws.specs.Blocks.{Block}
 use Rattle.yv_expand_laws.specs.Layout as laid
 use Rattle.yv_expand_laws.specs.Layout.{Lie, placed_on}
@@ -22,10 +20,6 @@ use Rattle.yv_expand_laws.specs.Layout.{Lie, placed_on}
 -- what is asked of a spot
 abbrev pub spot_view : Whole → Spot → laid.Spot
 spot_view w s = record { group = s.group; is_uses = is_uses s.label.kind; first = s.first; paths = map (path_in w s.module_file) (augments_giving w.rows s.statement) }
-
--- each uses refers to a grouping
-abbrev pub AllRefer : Briefs → List Row → Type 0
-AllRefer files rows = (k : ℕ) (r : Row) → slice_get rows k ≡ Some r → refers.is_uses r ≡ true → (d : ℕ) × RefersTo files rows k d
 
 -- The items that numbered statements give below a parent, laid behind others, lie in a block: of those at the top all stand in the group
 -- in which `group_below` puts them. The block begins where the others end.

@@ -35,3 +35,5 @@ pub mod TakenBlocks
 pub mod Misplacements
 pub mod CopyEnds
 pub mod CopiesGive
+pub mod Refusals
+pub mod LeftSchema

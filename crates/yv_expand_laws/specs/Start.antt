@@ -7,10 +7,10 @@ use Rattle.yv_expand.specs.Tree as expansion
 use Rattle.yv_expand.specs.Expands.{Expands}
 use Rattle.yv_expand_augments.specs.Augmentation.{placement}
 use Rattle.yv_expand_augments.specs.Spots.{Whole, labels_of, layout_of, top_group}
+use Rattle.yv_expand_definition.specs.Expansion.{AllRefer}
 use Rattle.yv_expand_definition.specs.Nodes.{Forest}
 use Rattle.yv_expand_laws.specs.Blocks.{Block}
 use Rattle.yv_expand_laws.specs.Comes.{Comes}
-use Rattle.yv_expand_laws.specs.Expansions.{AllRefer}
 use Rattle.yv_expand_laws.specs.Shows.{Items, Shows}
 use Rattle.yv_expand_laws.specs.ItemProperties.{AreItems}
 

@@ -16,8 +16,8 @@ use Rattle.yv_expand_augments.specs.RefineTargets.{refined_all}
 use Rattle.yv_expand_augments.specs.Spots.{Whole, layout_of, own_module_file, spot_at, top_group, whole}
 use Rattle.yv_expand_augments.specs.declared.spot.Spot.{Spot}
 use Rattle.yv_expand_changes.specs.Changes.{changes}
+use Rattle.yv_expand_definition.specs.Expansion.{AllRefer}
 use Rattle.yv_expand_definition.specs.Gives.{Gives, Product}
-use Rattle.yv_expand_laws.specs.Expansions.{AllRefer}
 use Rattle.yv_expand_laws.specs.Shows.{Items, Shows}
 use Rattle.yv_expand_laws.specs.ItemProperties.{AreItems}
 

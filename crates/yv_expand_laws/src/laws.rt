@@ -17,12 +17,14 @@ ghost use Rattle.yv_expand_laws.specs.FinalTree.{FinalTreeShows};
 ghost use Rattle.yv_expand_laws.specs.StatementItems.{StatementsShow};
 ghost use Rattle.yv_expand_laws.specs.Impositions.{ImpositionsAreOne};
 ghost use Rattle.yv_expand_laws.specs.Marks.{BlocksAreMarked};
+ghost use Rattle.yv_expand_laws.specs.LeftSchema.{LeftIsSchema};
 ghost use Rattle.yv_expand_laws.specs.Misplacements.{MisplacementsAreOne, MisplacementsByModulesAreOne, MisplacementsByUsesAreOne};
 ghost use Rattle.yv_expand_laws.specs.ModuleBlocks.{ModuleBlocksAreOne};
 ghost use Rattle.yv_expand_laws.specs.PathTargets.{PathsReach};
 ghost use Rattle.yv_expand_laws.specs.RefinedBlocks.{BlockIsMissed, BlockIsRefined};
 ghost use Rattle.yv_expand_laws.specs.Refines.{RefinesAreOne};
 ghost use Rattle.yv_expand_laws.specs.RefineStep.{RefineChanges, RefineMisses};
+ghost use Rattle.yv_expand_laws.specs.Refusals.{FinalRefusalsAreOne, RefusalsAreOne};
 ghost use Rattle.yv_expand_laws.specs.Rounds.{RoundAdds, RoundMisses, RoundTakes, RoundWaits};
 ghost use Rattle.yv_expand_laws.specs.Schema.{LeftShows};
 ghost use Rattle.yv_expand_laws.specs.Shows.{AreLabels, Items};
@@ -379,4 +381,38 @@ pub fn misplacements_are_one()
 {
     misplacements_by_modules_are_one();
     misplacements_by_uses_are_one();
+}
+
+/// A final tree of files is refused by number exactly for what is refused of what the files expand
+/// to: for depths, refines and augments (RFC 7950, sections 3 and 7.12 to 7.17).
+pub fn refusals_are_one()
+    ensures { (files : Files) → RefusalsAreOne files }
+{
+    yv_expand_definition::laws::files_expand_to_one_tree();
+    yv_expand_definition::laws::files_expand_to_a_tree();
+    items_of_files_show_nodes();
+    depths_are_one();
+    refines_are_one();
+    targets_are_one();
+    targets_of_uses_are_one();
+    misplacements_are_one();
+    impositions_are_one();
+}
+
+/// Where files have a final tree, they are refused for a final tree exactly where they are refused
+/// for what they expand to (RFC 7950, sections 3 and 7.12 to 7.17).
+pub fn refusals_of_final_trees_are_one()
+    ensures { (files : Files) → FinalRefusalsAreOne files }
+{
+    refusals_are_one();
+}
+
+/// The items of files show nodes, and what is left of the final tree when conditions were asked
+/// shows, of these, the nodes of the schema of the files (RFC 7950, section 7.20.2).
+pub fn what_is_left_shows_the_schema()
+    ensures { (files : Files) → LeftIsSchema files }
+{
+    yv_expand_definition::laws::files_expand_to_a_tree();
+    items_of_files_show_nodes();
+    what_is_left_is_the_schema();
 }
