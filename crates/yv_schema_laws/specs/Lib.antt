@@ -1,0 +1,2 @@
+pub mod SchemaTree
+pub mod TreeNotes

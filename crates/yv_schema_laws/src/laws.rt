@@ -1,0 +1,66 @@
+//! Laws about the definitions only. These functions do nothing: the contract of each is the law.
+ghost use Rattle.std.specs.Prelude.{List, None, Option};
+ghost use Rattle.yv_statement.specs.Order.{IsLeast};
+ghost use Rattle.yv_statement.specs.Selection.{Selected};
+ghost use Rattle.yv_link_scopes.specs.Files.{Files};
+ghost use Rattle.yv_link_features.specs.Refusals.{BadFeatures};
+ghost use Rattle.yv_expand_tree.specs.Final.{Final, IsFinal};
+ghost use Rattle.yv_expand_laws.specs.Files.{HaveRoots};
+ghost use Rattle.yv_expand_laws.specs.StatementItems.{AreSound};
+ghost use Rattle.yv_nodes.specs.Link.{Link};
+ghost use Rattle.yv_nodes.specs.Rows.{Note};
+ghost use Rattle.yv_nodes.specs.Tree.{Forest};
+ghost use Rattle.yv_schema.specs.Schema.{AreNotes, AreReferences, IsSchema};
+ghost use Rattle.yv_schema_laws.specs.SchemaTree.{AreTreeReferences, IsSchemaTree};
+ghost use Rattle.yv_schema_laws.specs.TreeNotes.{AreTreeNotes};
+
+/// The schema tree of files is that of the tree to which they expand: it has the nodes that the
+/// conditions leave of that tree, in its order, each as its statement and its refines say it. A
+/// schema tree by that definition is one by numbered items too, where the files have a final tree
+/// by number (RFC 7950, sections 5.6.5, 7.12 to 7.17, and 7.20.2).
+pub fn a_schema_is_that_of_the_tree()
+    ensures gives { (choice : Selected) (files : Files) (tree : Forest) → AreSound files
+        → HaveRoots files → IsLeast (BadFeatures files) None → IsSchema choice files tree
+        → IsSchemaTree choice files tree }
+    ensures takes { (choice : Selected) (files : Files) (tree : Forest) (f : Final)
+        → AreSound files → HaveRoots files → IsLeast (BadFeatures files) None
+        → IsFinal choice files f → IsSchemaTree choice files tree → IsSchema choice files tree }
+{
+    yv_expand_tree::laws::what_is_left_are_nodes();
+    yv_expand_definition::laws::files_have_one_schema();
+    yv_expand_laws::laws::what_is_left_shows_the_schema();
+}
+
+/// The leafrefs of files lead where those of the tree lead to which the files expand (RFC 7950,
+/// sections 9.9.2 and 9.9.3).
+pub fn references_are_those_of_the_tree()
+    ensures gives { (choice : Selected) (files : Files) (links : List (Option Link))
+        → AreSound files → HaveRoots files → IsLeast (BadFeatures files) None
+        → AreReferences choice files links → AreTreeReferences choice files links }
+    ensures takes { (choice : Selected) (files : Files) (links : List (Option Link)) (f : Final)
+        → AreSound files → HaveRoots files → IsLeast (BadFeatures files) None
+        → IsFinal choice files f → AreTreeReferences choice files links
+        → AreReferences choice files links }
+{
+    yv_expand_tree::laws::what_is_left_are_nodes();
+    yv_expand_definition::laws::files_have_one_schema();
+    yv_expand_laws::laws::what_is_left_shows_the_schema();
+}
+
+/// The augments of modules that add nodes to the schema tree are those that give nodes of the tree
+/// to which the files expand: each is noted with the nodes that it gives, and with the node above
+/// these as its target (RFC 7950, section 7.17).
+pub fn notes_are_those_of_the_tree()
+    ensures gives { (choice : Selected) (files : Files) (notes : List Note) → AreSound files
+        → HaveRoots files → IsLeast (BadFeatures files) None → AreNotes choice files notes
+        → AreTreeNotes choice files notes }
+    ensures takes { (choice : Selected) (files : Files) (notes : List Note) (f : Final)
+        → AreSound files → HaveRoots files → IsLeast (BadFeatures files) None
+        → IsFinal choice files f → AreTreeNotes choice files notes → AreNotes choice files notes }
+{
+    yv_expand_tree::laws::what_is_left_are_nodes();
+    yv_expand_tree::laws::given_nodes_stand_below_their_target();
+    yv_expand_tree::laws::no_item_is_left_twice();
+    yv_expand_definition::laws::files_have_one_schema();
+    yv_expand_laws::laws::what_is_left_shows_the_schema();
+}
