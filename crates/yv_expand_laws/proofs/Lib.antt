@@ -89,3 +89,5 @@ pub mod RefusedKinds
 pub mod Among
 pub mod RefusalsJoined
 pub mod LeftSchema
+pub mod Conforming
+pub mod SoundFiles

@@ -37,3 +37,4 @@ pub mod CopyEnds
 pub mod CopiesGive
 pub mod Refusals
 pub mod LeftSchema
+pub mod Conformance

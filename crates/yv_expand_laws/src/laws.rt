@@ -7,15 +7,16 @@ ghost use Rattle.yv_expand_rounds.specs.declared.label.Label.{Label};
 ghost use Rattle.yv_expand_augments.specs.Spots.{Whole};
 ghost use Rattle.yv_expand_laws.specs.FirstItems.{BeginningShows};
 ghost use Rattle.yv_expand_laws.specs.Conditions.{FilesAsk, MarksAreConditions, MarksAsk};
+ghost use Rattle.yv_expand_laws.specs.Conformance.{AreAccepted, ConformingLeftIsSchema, ConformingRefusalsAreOne, NoFileIsBad};
 ghost use Rattle.yv_expand_laws.specs.CopiesGive.{CopiesGive};
 ghost use Rattle.yv_expand_laws.specs.CopyEnds.{CopiesEnd};
 ghost use Rattle.yv_expand_laws.specs.Depths.{DepthsAreOne};
 ghost use Rattle.yv_expand_laws.specs.BlockEntry.{BlockKeeps, BlockShows, SpotsEnter};
 ghost use Rattle.yv_expand_laws.specs.Expansions.{ExpansionLies, PlacedIsTold};
-ghost use Rattle.yv_expand_laws.specs.Files.{FilesShow, ItemsShow, ModulesShow};
+ghost use Rattle.yv_expand_laws.specs.Files.{FilesShow, HaveRoots, ItemsShow, ModulesShow};
 ghost use Rattle.yv_expand_laws.specs.FinalTree.{FinalTreeShows};
-ghost use Rattle.yv_expand_laws.specs.StatementItems.{StatementsShow};
-ghost use Rattle.yv_expand_laws.specs.Impositions.{ImpositionsAreOne};
+ghost use Rattle.yv_expand_laws.specs.StatementItems.{AreSound, StatementsShow};
+ghost use Rattle.yv_expand_laws.specs.Impositions.{ImpositionsAreOne, UsesAreOptional};
 ghost use Rattle.yv_expand_laws.specs.Marks.{BlocksAreMarked};
 ghost use Rattle.yv_expand_laws.specs.LeftSchema.{LeftIsSchema};
 ghost use Rattle.yv_expand_laws.specs.Misplacements.{MisplacementsAreOne, MisplacementsByModulesAreOne, MisplacementsByUsesAreOne};
@@ -415,4 +416,61 @@ pub fn what_is_left_shows_the_schema()
     yv_expand_definition::laws::files_expand_to_a_tree();
     items_of_files_show_nodes();
     what_is_left_is_the_schema();
+}
+
+/// Where nothing is refused of any file by itself, the root of none is an augment: each is a module
+/// or a submodule (RFC 7950, sections 7.1 and 7.2).
+pub fn files_that_conform_have_roots()
+    ensures { (files : Files) → NoFileIsBad files → HaveRoots files }
+{
+    yv_expand::conformance_laws::what_is_not_refused_fits();
+}
+
+/// Where nothing is refused of any file by itself, no uses says that it is mandatory: `mandatory`
+/// and `min-elements` are no substatements of it (RFC 7950, section 7.13.1).
+pub fn uses_that_conform_are_optional()
+    ensures { (files : Files) → NoFileIsBad files → UsesAreOptional files }
+{
+    yv_expand::conformance_laws::what_is_not_refused_fits();
+    yv_expand::conformance_laws::numbered_statements_fit();
+    yv_link_scopes::laws::statements_have_their_rows();
+}
+
+/// Where nothing is refused of files by themselves, nor of the names of their definitions, they are
+/// sound: each uses refers to a grouping, and an augment that gives something has a statement in
+/// its block that gives a schema node, or a uses (RFC 7950, sections 7.13 and 7.17).
+pub fn files_that_conform_are_sound()
+    ensures { (files : Files) → AreAccepted files → AreSound files }
+{
+    yv_base_tables::laws::a_number_is_listed_at_its_place();
+    yv_expand::conformance_laws::what_is_not_refused_fits();
+    yv_expand::conformance_laws::numbered_statements_fit();
+    yv_link_scopes::laws::a_name_means_something_or_nothing();
+    yv_link_scopes::laws::modules_are_files();
+    yv_link_scopes::laws::roots_come_first();
+    yv_link_scopes::laws::statements_have_their_rows();
+    yv_link_scopes::laws::statements_stand_in_their_blocks();
+}
+
+/// Where nothing is refused of files by themselves, nor of the names of their definitions, they are
+/// refused for their final tree exactly where they are refused for what they expand to (RFC 7950,
+/// sections 3 and 7.12 to 7.17).
+pub fn refusals_of_conforming_files_are_one()
+    ensures { (files : Files) → ConformingRefusalsAreOne files }
+{
+    files_that_conform_have_roots();
+    uses_that_conform_are_optional();
+    files_that_conform_are_sound();
+    refusals_of_final_trees_are_one();
+}
+
+/// Where nothing is refused of files by themselves, nor of the names of their definitions, nor of
+/// their features, what is left of their final tree when conditions were asked shows the nodes of
+/// their schema (RFC 7950, section 7.20.2).
+pub fn what_is_left_of_conforming_files_shows_the_schema()
+    ensures { (files : Files) → ConformingLeftIsSchema files }
+{
+    files_that_conform_have_roots();
+    files_that_conform_are_sound();
+    what_is_left_shows_the_schema();
 }
