@@ -4,3 +4,6 @@ pub mod Trees
 pub mod Schemas
 pub mod Added
 pub mod Notes
+pub mod Phases
+pub mod Refusals
+pub mod Limits

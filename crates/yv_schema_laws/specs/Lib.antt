@@ -1,2 +1,3 @@
 pub mod SchemaTree
 pub mod TreeNotes
+pub mod TreeRefusals

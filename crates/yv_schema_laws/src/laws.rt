@@ -1,18 +1,25 @@
 //! Laws about the definitions only. These functions do nothing: the contract of each is the law.
-ghost use Rattle.std.specs.Prelude.{List, None, Option};
+ghost use Rattle.std.specs.Prelude.{◌≤◌, ◌↔◌, ℕ, List, None, Option, Some, length};
 ghost use Rattle.yv_statement.specs.Order.{IsLeast};
+ghost use Rattle.yv_statement.specs.declared.refusal.Refusal.{Refusal};
 ghost use Rattle.yv_statement.specs.Selection.{Selected};
 ghost use Rattle.yv_link_scopes.specs.Files.{Files};
+ghost use Rattle.yv_link_scopes.specs.RowList.{rows_of};
 ghost use Rattle.yv_link_features.specs.Refusals.{BadFeatures};
+ghost use Rattle.yv_expand.specs.Limit.{TooMany};
+ghost use Rattle.yv_expand_tree.specs.FileOrder.{marks_of};
 ghost use Rattle.yv_expand_tree.specs.Final.{Final, IsFinal};
+ghost use Rattle.yv_expand_laws.specs.Conformance.{AreAccepted};
 ghost use Rattle.yv_expand_laws.specs.Files.{HaveRoots};
 ghost use Rattle.yv_expand_laws.specs.StatementItems.{AreSound};
 ghost use Rattle.yv_nodes.specs.Link.{Link};
 ghost use Rattle.yv_nodes.specs.Rows.{Note};
 ghost use Rattle.yv_nodes.specs.Tree.{Forest};
+ghost use Rattle.yv_schema.specs.Refuses.{Refuses};
 ghost use Rattle.yv_schema.specs.Schema.{AreNotes, AreReferences, IsSchema};
 ghost use Rattle.yv_schema_laws.specs.SchemaTree.{AreTreeReferences, IsSchemaTree};
 ghost use Rattle.yv_schema_laws.specs.TreeNotes.{AreTreeNotes};
+ghost use Rattle.yv_schema_laws.specs.TreeRefusals.{RefusesBeforeExpansion, TreeRefuses};
 
 /// The schema tree of files is that of the tree to which they expand: it has the nodes that the
 /// conditions leave of that tree, in its order, each as its statement and its refines say it. A
@@ -63,4 +70,48 @@ pub fn notes_are_those_of_the_tree()
     yv_expand_tree::laws::no_item_is_left_twice();
     yv_expand_definition::laws::files_have_one_schema();
     yv_expand_laws::laws::what_is_left_shows_the_schema();
+}
+
+/// Where nothing is refused of files by themselves, nor of the names of their definitions, nor of
+/// their features, and they have a final tree by number, their compilation is refused for exactly
+/// what is refused by the tree to which they expand (RFC 7950, sections 3, 7.5 to 7.17, and 9.9).
+pub fn refusals_are_those_of_the_tree()
+    ensures { (choice : Selected) (files : Files) (limit : ℕ) (f : Final) (r : Refusal)
+        → AreAccepted files → IsLeast (BadFeatures files) None → IsFinal choice files f
+        → Refuses choice files limit r ↔ TreeRefuses choice files limit r }
+{
+    yv_expand_tree::laws::what_is_left_are_nodes();
+    yv_expand_definition::laws::files_have_one_schema();
+    yv_expand_laws::laws::what_is_left_shows_the_schema();
+    yv_expand_laws::laws::files_that_conform_have_roots();
+    yv_expand_laws::laws::files_that_conform_are_sound();
+    yv_expand_laws::laws::refusals_of_conforming_files_are_one();
+}
+
+/// The refusal that the compilation of files answers, the least of all, or that it answers none, is
+/// the same by the tree to which they expand: where they have a final tree by number, where
+/// something is refused before they are expanded, and where they pass the limit (RFC 7950, sections
+/// 3, 7.5 to 7.17, and 9.9).
+pub fn least_refusals_are_those_of_the_tree()
+    ensures with_final_tree { (choice : Selected) (files : Files) (limit : ℕ)
+        (f : Final) (o : Option Refusal)
+        → length (rows_of files) ≤ 4294967293 → IsFinal choice files f
+        → IsLeast (Refuses choice files limit) o ↔ IsLeast (TreeRefuses choice files limit) o }
+    ensures with_early_refusal { (choice : Selected) (files : Files) (limit : ℕ)
+        (r : Refusal) (o : Option Refusal)
+        → RefusesBeforeExpansion files r
+        → IsLeast (Refuses choice files limit) o ↔ IsLeast (TreeRefuses choice files limit) o }
+    ensures past_the_limit { (choice : Selected) (files : Files) (limit : ℕ)
+        (r : Refusal) (o : Option Refusal)
+        → IsLeast (TooMany files (marks_of choice files) limit) (Some r)
+        → IsLeast (Refuses choice files limit) o ↔ IsLeast (TreeRefuses choice files limit) o }
+{
+    yv_link::laws::links_have_phases();
+    yv_expand_tree::laws::refusals_of_expansions_have_phases();
+    yv_expand_tree::laws::what_is_left_are_nodes();
+    yv_expand_definition::laws::files_have_one_schema();
+    yv_expand_laws::laws::what_is_left_shows_the_schema();
+    yv_expand_laws::laws::files_that_conform_have_roots();
+    yv_expand_laws::laws::files_that_conform_are_sound();
+    yv_expand_laws::laws::refusals_of_conforming_files_are_one();
 }

@@ -1,0 +1,48 @@
+-- What the compilation of files refuses, by the tree to which they expand (RFC 7950, sections 3,
+-- 7.5 to 7.17, and 9.9).
+use Rattle.std.specs.Prelude.{◌⊎◌, ℕ, length}
+use Rattle.yv_statement.specs.declared.refusal.Refusal.{Refusal}
+use Rattle.yv_statement.specs.Order.{Among}
+use Rattle.yv_statement.specs.Selection.{Selected}
+use Rattle.yv_link_scopes.specs.Files.{Files}
+use Rattle.yv_link.specs.Links.{BadLinks}
+use Rattle.yv_link_definitions.specs.Refusals.{BadNames}
+use Rattle.yv_expand.specs.Limit.{TooMany}
+use Rattle.yv_expand_tree.specs.FileOrder.{marks_of}
+use Rattle.yv_expand_definition.specs.Refusals.{BadExpanded}
+use Rattle.yv_nodes.specs.Tree.{Forest}
+use Rattle.yv_node_leafrefs.specs.Bad.{BadLeafrefs}
+use Rattle.yv_node_checks.specs.Bad.{BadTree}
+use Rattle.yv_schema_tables.specs.Bad.{BadRows}
+use Rattle.yv_schema.specs.Refuses.{BadFile, BadTyping}
+use Rattle.yv_schema_laws.specs.SchemaTree.{IsSchemaTree, TreeBasis, leafrefs_of}
+
+-- f stands in the schema tree of a basis: a duplicate name, a list whose key or `unique` statements
+-- name what they may not, a leafref that leads nowhere or to itself, or what is wrong else
+abbrev pub BadTreeNodes : TreeBasis → Forest → Refusal → Type 0
+BadTreeNodes b top f = BadRows top f ⊎ (BadTree top f ⊎ BadLeafrefs (leafrefs_of b) f)
+
+-- f stands in the schema tree of the files
+pub record BadTreeSchema (choice : Selected) (files : Files) (f : Refusal) : Type 0 where
+  pub tree : Forest
+  pub schema : IsSchemaTree choice files tree
+  pub stands : BadTreeNodes schema.basis tree f
+
+-- the expansion passes the limit, or something is wrong with what the files expand to
+abbrev pub BadTreeExpansion : Selected → Files → (limit : ℕ) → Refusal → Type 0
+BadTreeExpansion choice files limit f =
+    TooMany files (marks_of choice files) limit f ⊎ BadExpanded choice files f
+
+-- what is refused before files are expanded: of every file as such, of its links to others, its
+-- features and its identities, and of the names of its definitions
+abbrev pub RefusesBeforeExpansion : Files → Refusal → Type 0
+RefusesBeforeExpansion files f =
+    Among files BadFile (length files) f ⊎ (BadLinks files f ⊎ BadNames files f)
+
+-- the refusals of files: those before the expansion, those of the tree to which they expand, those
+-- of the types of every file, and those of the schema tree
+abbrev pub TreeRefuses : Selected → Files → (limit : ℕ) → Refusal → Type 0
+TreeRefuses choice files limit f =
+    RefusesBeforeExpansion files f
+    ⊎ (BadTreeExpansion choice files limit f
+    ⊎ (BadTyping choice files f ⊎ BadTreeSchema choice files f))
