@@ -12,7 +12,7 @@ use std::io::{ErrorKind, Read};
 use std::rt::{Env, Files};
 use std::{env, io};
 use yv_job::{Command, Job, JobFault, read_job};
-use yv_refusal_notes::push_shown;
+use yv_note_text::push_shown;
 use yv_run::{RunEnd, Status, run_with_note};
 use yv_streams::{Counted, Input, InputFault, read_input};
 
@@ -194,7 +194,8 @@ fn run_over<R: Print + AllocGlobal, D: Read + Drop>(
 // The job's files, read in order, under the names that the job gives them.
 fn inputs<R: Files + AllocGlobal>(rt: &R, job: &Job) -> Result<Vec<Input>, RunEnd>
     ensures each { IfOk result (λ v. length v.items ≡ length job.now.files.items) }
-    ensures names { IfOk result (λ v. map (λ i. (file_of i).name) v.items ≡ map string_bytes job.now.files.items) }
+    ensures names { IfOk result
+        (λ v. map (λ i. (file_of i).name) v.items ≡ map string_bytes job.now.files.items) }
 {
     let mut inputs = Vec::new(rt.alloc());
     for name in job.files.iter() {

@@ -1,4 +1,5 @@
--- Inner definitions, which only clauses of private functions cite: how the nodes of a row are marked.
+-- Inner definitions, which only clauses of private functions cite: how the nodes of a row are
+-- marked.
 use Rattle.std.specs.Prelude.{◌≡◌, ℕ, ◌+◌, ◌⊎◌, Bool, List, ◌++◌, length}
 use Rattle.std.specs.List.{All, Contains, count_by}
 use Rattle.yv_base_graph.specs.Graph.{IsMarked}

@@ -1,4 +1,5 @@
--- Inner definitions, which only clauses of private functions cite: the nodes that have an edge to a node of their own rank.
+-- Inner definitions, which only clauses of private functions cite: the nodes that have an edge to a
+-- node of their own rank.
 use Rattle.std.specs.Prelude.{◌≡◌, ℕ, ◌<◌, Bool, List, length, slice_index}
 use Rattle.yv_base_graph.specs.Graph.{Graph, HasEdge, IsMarked}
 

@@ -1,4 +1,5 @@
--- Inner definitions, which only clauses of private functions cite: the search along the edges, and what it keeps.
+-- Inner definitions, which only clauses of private functions cite: the search along the edges, and
+-- what it keeps.
 use Rattle.std.specs.Prelude.{◌≡◌, ℕ, ◌+◌, ◌-◌, ◌*◌, ◌<◌, ◌≤◌, ◌⊎◌, Bool, true, false, min}
 use Rattle.std.specs.Prelude.{List, [], ◌∷◌, ◌++◌, length, set, take, drop, slice_get, slice_index_or, slice_index, Some}
 use Rattle.std.specs.List.{count_by}
@@ -100,7 +101,8 @@ Reaches g a b = (a ≡ b) ⊎ LeadsTo g a b
 abbrev pub NoHead : List ℕ → ℕ → ℕ → Type 0
 NoHead heads q p = (h : ℕ) → Among h heads → q < h → h ≤ p → ⊥
 
--- an edge that was followed leads to a node that is done, or to one of the same group or a later one
+-- an edge that was followed leads to a node that is done, or to one of the same group or a later
+-- one
 abbrev pub IsFollowed : Progress → ℕ → ℕ → ℕ → Type 0
 IsFollowed s x p y =
     ((r : ℕ) × (state_of s.states y ≡ Done r))
@@ -111,8 +113,9 @@ is_new New = true
 is_new (Pending p) = false
 is_new (Done r) = false
 
--- ranks never rise along an edge and fall from each node below the least, and the least leads to itself; so at the end it
--- is the first on a cycle; nodes of one rank lead to one another, so an edge between them is one of a cycle
+-- ranks never rise along an edge and fall from each node below the least, and the least leads to
+-- itself; so at the end it is the first on a cycle; nodes of one rank lead to one another, so an
+-- edge between them is one of a cycle
 pub record IsSearch (g : Graph) (s : Progress) : Type 0 where
   pub each : length s.states ≡ length g
   pub each_cursor : length s.cursors ≡ length g

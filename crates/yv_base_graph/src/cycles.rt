@@ -8,7 +8,8 @@ ghost use Rattle.yv_base_graph.specs.Ranks.{IfRanks, IfCycle};
 use crate::search::Search;
 use std::alloc::{AllocError, Global};
 
-/// The first node that leads to itself, for a caller that needs no order of the nodes, and so not `rank`.
+/// The first node that leads to itself, for a caller that needs no order of the nodes, and so not
+/// `rank`.
 pub fn first_on_cycle(alloc: Global, graph: &[Vec<usize>]) -> Result<Option<usize>, AllocError>
     requires graph { IsGraph graph.now }
     ensures first { IfOk result (λ found. IfSome found (IsFirstOnCycle graph.now)) }
@@ -75,8 +76,10 @@ pub enum Ranking {
 /// Ranks the nodes, or finds the first that leads to itself.
 pub fn rank(alloc: Global, graph: &[Vec<usize>]) -> Result<Ranking, AllocError>
     requires graph { IsGraph graph.now }
-    ensures ranks { IfOk result (λ ranked. IfRanks ranked (λ ranks order. AreRanks graph.now ranks)) }
-    ensures order { IfOk result (λ ranked. IfRanks ranked (λ ranks order. IsOrder graph.now order)) }
+    ensures ranks { IfOk result
+        (λ ranked. IfRanks ranked (λ ranks order. AreRanks graph.now ranks)) }
+    ensures order { IfOk result
+        (λ ranked. IfRanks ranked (λ ranks order. IsOrder graph.now order)) }
     ensures places { IfOk result (λ ranked. IfRanks ranked ArePlaces) }
     ensures cycle { IfOk result (λ ranked. IfCycle ranked (IsFirstOnCycle graph.now)) }
 {

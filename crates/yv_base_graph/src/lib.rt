@@ -1,5 +1,6 @@
-//! Graphs of numbered nodes: the nodes that a node leads to, and the nodes that lead to themselves, or else
-//! ranks that fall along each edge. All takes time linear in nodes and edges, and nothing recurses.
+//! Graphs of numbered nodes: the nodes that a node leads to, and the nodes that lead to themselves,
+//! or else ranks that fall along each edge. All takes time linear in nodes and edges, and nothing
+//! recurses.
 #![tactic(auto)]
 
 mod cycles;

@@ -9,7 +9,8 @@ use std::alloc::{AllocError, Global};
 // Marks each node of the row, and adds those that weren't marked to the list.
 fn mark_row(row: &[usize], marks: &mut Vec<bool>, found: &mut Vec<usize>) -> Result<(), AllocError>
     requires { All (λ b. b < length marks.old.items) row.now }
-    ensures { OnOk result (MarksRow row.now marks.old.items found.old.items marks.new.items found.new.items) }
+    ensures { OnOk result
+        (MarksRow row.now marks.old.items found.old.items marks.new.items found.new.items) }
 {
     for node in row {
         let node = *node;
@@ -22,8 +23,9 @@ fn mark_row(row: &[usize], marks: &mut Vec<bool>, found: &mut Vec<usize>) -> Res
     Ok(())
 }
 
-/// Marks exactly the nodes that a node leads to by one edge or more: the node itself only where it is
-/// on a cycle. It is for a caller that asks what one node needs; `cyclic` and `rank` answer for all nodes.
+/// Marks exactly the nodes that a node leads to by one edge or more: the node itself only where it
+/// is on a cycle. It is for a caller that asks what one node needs; `cyclic` and `rank` answer for
+/// all nodes.
 pub fn reachable_from(
     alloc: Global,
     graph: &[Vec<usize>],

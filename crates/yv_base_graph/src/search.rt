@@ -1,5 +1,5 @@
-//! A search along the edges that finds the groups of nodes that lead to one another: each node is met once,
-//! and its edges are followed one by one, by stacks in place of recursion.
+//! A search along the edges that finds the groups of nodes that lead to one another: each node is
+//! met once, and its edges are followed one by one, by stacks in place of recursion.
 ghost use Rattle.std.specs.Prelude.{◌≡◌, ℕ, ◌-◌, ◌<◌, length, slice_index, IfOk, OnOk, IsTrue, false, map};
 ghost use Rattle.std.specs.List.{All};
 ghost use Rattle.yv_base_graph.specs.Graph.{IsGraph};
@@ -28,7 +28,8 @@ pub struct Search {
     states: Vec<State>,
     /// How many edges of each node were passed.
     cursors: Vec<usize>,
-    /// The nodes that were met and whose groups aren't whole yet, in the order in which they were met.
+    /// The nodes that were met and whose groups aren't whole yet, in the order in which they were
+    /// met.
     pending: Vec<usize>,
     /// The places at which the groups of the pending nodes begin.
     heads: Vec<usize>,
@@ -201,8 +202,8 @@ impl Search {
         requires next { IsNext graph.now self.old node cursor target }
         ensures { OnOk result (Steps graph.now self.old self.new) }
     {
-        // An edge to a new node is passed only once that node was visited: where both are then of one group, the
-        // edge's node leads to itself.
+        // An edge to a new node is passed only once that node was visited: where both are then of
+        // one group, the edge's node leads to itself.
         match self.states[target] {
             State::New => self.enter(target),
             State::Pending(place) => {

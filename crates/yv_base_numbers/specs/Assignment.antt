@@ -17,8 +17,8 @@ pub record IsHighest (ns : List ℤ) (h : ℤ) : Type 0 where
   pub there : slice_get ns place ≡ Some h
   pub above : (k : ℕ) (n : ℤ) → slice_get ns k ≡ Some n → n ≤ℤ h
 
--- The number that is stated. Where nothing is: 0 for the first entry, and one more than the highest before it for a later
--- one. What is no number assigns none.
+-- The number that is stated. Where nothing is: 0 for the first entry, and one more than the highest
+-- before it for a later one. What is no number assigns none.
 pub data IsAssigned (before : List ℤ) : StatedNumber → ℤ → Type 0 where
   own_number : {n : ℤ} → IsAssigned before (whole n) n
   first : before ≡ [] → IsAssigned before nothing (pos 0)
@@ -29,8 +29,8 @@ abbrev pub IsOfKind : NumberKind → ℤ → Type 0
 IsOfKind Enumeration n = (neg_ℤ (pos (2 ^ 31)) ≤ℤ n) × (n <ℤ pos (2 ^ 31))
 IsOfKind Bits n = (pos 0 ≤ℤ n) × (n <ℤ pos (2 ^ 32))
 
--- The numbers of all entries of a new type: names differ, numbers differ and are of the kind, and each is assigned
--- behind those before it.
+-- The numbers of all entries of a new type: names differ, numbers differ and are of the kind, and
+-- each is assigned behind those before it.
 pub record AreNumbers (kind : NumberKind) (es : List Entry) (ns : List ℤ) : Type 0 where
   pub one_each : length es ≡ length ns
   pub names_differ : AreDistinct (names_of es)
@@ -43,8 +43,8 @@ pub data StatesNoOther (n : ℤ) : StatedNumber → Type 0 where
   without_number : StatesNoOther n nothing
   same_number : StatesNoOther n (whole n)
 
--- The numbers of all entries of a type that is derived from one with these numbers: names differ, each is one of the
--- base and keeps its number, and nothing else is stated.
+-- The numbers of all entries of a type that is derived from one with these numbers: names differ,
+-- each is one of the base and keeps its number, and nothing else is stated.
 pub record AreKept (base : List ℕ → Option ℤ) (es : List Entry) (ns : List ℤ) : Type 0 where
   pub one_each : length es ≡ length ns
   pub names_differ : AreDistinct (names_of es)

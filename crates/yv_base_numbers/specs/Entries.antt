@@ -1,11 +1,12 @@
--- The `enum` and `bit` statements of a type, as they are numbered: what each is named, and what its `value` or `position`
--- states (RFC 7950, sections 9.6.4, 9.6.4.2, 9.7.4 and 9.7.4.2).
+-- The `enum` and `bit` statements of a type, as they are numbered: what each is named, and what its
+-- `value` or `position` states (RFC 7950, sections 9.6.4, 9.6.4.2, 9.7.4 and 9.7.4.2).
 use Rattle.std.specs.Prelude.{ℕ, ℤ, List, Option, Some, None, option_map, if◌then◌else◌}
 use Rattle.std.specs.Str.Parse.{without_leading_sign, starts_with_minus}
 use Rattle.yv_base_numbers.specs.Numbers.{is_numeral, value_after, with_sign}
 
--- What an entry states: nothing, a whole number of any size, or what is no whole number. The check of arguments, which comes
--- before, refuses the last. It says no number, so that the entry is wrong.
+-- What an entry states: nothing, a whole number of any size, or what is no whole number. The check
+-- of arguments, which comes before, refuses the last. It says no number, so that the entry is
+-- wrong.
 pub data StatedNumber : Type 0 where
   nothing : StatedNumber
   whole : ℤ → StatedNumber
@@ -19,8 +20,8 @@ pub record Entry : Type 0 where
 abbrev pub decimal_number : List ℕ → Option ℕ
 decimal_number ds = if is_numeral 10 ds then Some (value_after 10 0 ds) else None
 
--- The whole number of any size that a sign, or none, and decimal digits write. That it is the one of the grammar is said
--- by the law `whole_numbers_are_written`.
+-- The whole number of any size that a sign, or none, and decimal digits write. That it is the one
+-- of the grammar is said by the law `whole_numbers_are_written`.
 abbrev pub whole_number : List ℕ → Option ℤ
 whole_number text = option_map (with_sign (starts_with_minus text)) (decimal_number (without_leading_sign text))
 

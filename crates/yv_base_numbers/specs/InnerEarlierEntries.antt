@@ -24,7 +24,8 @@ pub record Keeps (seen : EarlierEntries) (ps : List Pair) : Type 0 where
   pub numbers : (n : ℤ) → contains int_cmp seen.taken n ≡ is_taken ps n
   pub top : seen.highest ≡ highest ps
 
--- Behind the pairs that were kept it tells whether an entry isn't wrong, and then it keeps the entry's pair too.
+-- Behind the pairs that were kept it tells whether an entry isn't wrong, and then it keeps the
+-- entry's pair too.
 abbrev pub Adds : {S : Type 0} → (S → List Pair → Type 0) → (List Pair → Bool) → (List Pair → Pair) → S → S → Bool → Type 0
 Adds {S} holds wrong pair old new good =
     (ps : List Pair) → holds old ps →

@@ -1,5 +1,6 @@
--- The numbers of enumerations and of bits as functions, which leave out what is wrong. `Assigned` says which numbers
--- entries have by the RFC; that these functions answer just those, and find nothing wrong just there, is said by the laws
+-- The numbers of enumerations and of bits as functions, which leave out what is wrong. `Assigned`
+-- says which numbers entries have by the RFC; that these functions answer just those, and find
+-- nothing wrong just there, is said by the laws
 -- `numbers_are_assigned` and `numbers_are_kept`.
 use Rattle.std.specs.Prelude.{◌≡◌, ℕ, ◌<◌, ℤ, pos, negsuc, ◌+ℤ◌, int_le, Bool, true, false, not, ◌&&◌, ◌||◌, List, [], ◌∷◌, ◌++◌, take, slice_get, Option, Some, None, is_some, if◌then◌else◌}
 use Rattle.std.specs.BTreeMap.{BTreeMap, get_by}
@@ -55,7 +56,8 @@ number_from after no_number = None
 abbrev pub number_of : List Pair → Entry → Option ℤ
 number_of before e = number_from (next_number (highest before)) e.stated
 
--- the name with its number; an entry that has no number is wrong, so that it doesn't matter which one stands here
+-- the name with its number; an entry that has no number is wrong, so that it doesn't matter which
+-- one stands here
 abbrev pub pair_of : List Pair → Entry → Pair
 pair_of before e = record { name = e.name; number = unwrap_or (number_of before e) (pos 0) }
 
@@ -69,8 +71,8 @@ abbrev pub is_free : NumberKind → List Pair → Option ℤ → Bool
 is_free kind before None = false
 is_free kind before (Some n) = not (is_taken before n) && is_number kind n
 
--- Behind these pairs an entry of a new type is wrong: its name or its number is taken, or it has no number, or the kind
--- hasn't the number.
+-- Behind these pairs an entry of a new type is wrong: its name or its number is taken, or it has no
+-- number, or the kind hasn't the number.
 abbrev pub is_wrong : NumberKind → List Pair → Entry → Bool
 is_wrong kind before e = is_some (number_in before e.name) || not (is_free kind before (number_of before e))
 
@@ -85,8 +87,8 @@ agrees nothing (Some n) = true
 agrees (whole m) (Some n) = int_eq m n
 agrees no_number (Some n) = false
 
--- Behind these pairs an entry of a derived type is wrong: its name is taken or is none of the base's, or something other
--- than the number is stated.
+-- Behind these pairs an entry of a derived type is wrong: its name is taken or is none of the
+-- base's, or something other than the number is stated.
 abbrev pub is_wrong_in : (List ℕ → Option ℤ) → List Pair → Entry → Bool
 is_wrong_in base before e = is_some (number_in before e.name) || not (agrees e.stated (base e.name))
 

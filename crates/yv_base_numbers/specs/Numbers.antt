@@ -1,5 +1,6 @@
--- The readers of numbers as functions. `Written` says by grammar and place value what texts write; that these functions
--- answer just that is said by the laws `naturals_are_written`, `integers_are_written`, `based_integers_are_written` and
+-- The readers of numbers as functions. `Written` says by grammar and place value what texts write;
+-- that these functions answer just that is said by the laws `naturals_are_written`,
+-- `integers_are_written`, `based_integers_are_written` and
 -- `decimals_are_written`.
 use Rattle.std.specs.Prelude.{ℕ, ◌+◌, ◌*◌, ◌-◌, ◌^◌, ℤ, pos, negsuc, neg_ℤ, Bool, true, false, ◌&&◌, ◌==◌, nat_lt, nat_le, List, [], ◌∷◌, ◌++◌, take, drop, length, Option, Some, None, option_map, position, if◌then◌else◌, min, nat_eq}
 use Rattle.std.specs.List.{list_all}
@@ -52,7 +53,8 @@ abbrev pub zero_led : List ℕ → Option ℕ
 zero_led [] = Some 0
 zero_led (c ∷ cs) = if c == 120 then natural_of 16 cs else natural_of 8 (c ∷ cs)
 
--- digits of a default's text: hexadecimal behind `0x`, octal behind another leading zero, else decimal
+-- digits of a default's text: hexadecimal behind `0x`, octal behind another leading zero, else
+-- decimal
 abbrev pub based_of : List ℕ → Option ℕ
 based_of [] = None
 based_of (c ∷ cs) = if c == 48 then zero_led cs else natural_of 10 (c ∷ cs)
@@ -61,7 +63,8 @@ based_of (c ∷ cs) = if c == 48 then zero_led cs else natural_of 10 (c ∷ cs)
 unfoldable pub based_integer_of : List ℕ → Option ℤ
 based_integer_of text = option_map (with_sign (starts_with_minus text)) (based_of (without_leading_sign text))
 
--- Digits with the point left out, and zeros in the places that aren't written; only zeros stand in places behind.
+-- Digits with the point left out, and zeros in the places that aren't written; only zeros stand in
+-- places behind.
 unfoldable pub scaled_value : ℕ → List ℕ → List ℕ → Option ℕ
 scaled_value places whole fraction =
     let shown = min (length fraction) places in

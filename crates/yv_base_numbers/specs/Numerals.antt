@@ -11,8 +11,8 @@ pub data IsDigit : ℕ → ℕ → Type 0 where
 pub data IsDigitOf (radix : ℕ) : ℕ → ℕ → Type 0 where
   below : {c d : ℕ} → IsDigit c d → d < radix → IsDigitOf radix c d
 
--- One digit or more, and the number that they write: a digit counts as often as the radix to the power of how many
--- digits stand behind it.
+-- One digit or more, and the number that they write: a digit counts as often as the radix to the
+-- power of how many digits stand behind it.
 pub data IsNumeral (radix : ℕ) : List ℕ → ℕ → Type 0 where
   last : {c d : ℕ} → IsDigitOf radix c d → IsNumeral radix (c ∷ []) d
   before : {c d n : ℕ} {cs : List ℕ} → IsDigitOf radix c d → IsNumeral radix cs n → IsNumeral radix (c ∷ cs) (d * radix ^ length cs + n)
@@ -31,8 +31,8 @@ Within64Bits Writes text n = Writes text n × (n < 2 ^ 64)
 abbrev pub IsInteger : List ℕ → ℤ → Type 0
 IsInteger = HasSign (Within64Bits (IsNumeral 10))
 
--- In a default's text a numeral is decimal and doesn't begin with `0`, or it is `0` alone, `0x` and a hexadecimal
--- numeral, or `0` and an octal one.
+-- In a default's text a numeral is decimal and doesn't begin with `0`, or it is `0` alone, `0x` and
+-- a hexadecimal numeral, or `0` and an octal one.
 pub data IsBasedNumeral : List ℕ → ℕ → Type 0 where
   decimal : {c n : ℕ} {cs : List ℕ} → c ≢ 48 → IsNumeral 10 (c ∷ cs) n → IsBasedNumeral (c ∷ cs) n
   zero : {text : List ℕ} → text ≡ codes "0" → IsBasedNumeral text 0
@@ -43,8 +43,9 @@ pub data IsBasedNumeral : List ℕ → ℕ → Type 0 where
 abbrev pub IsBasedInteger : List ℕ → ℤ → Type 0
 IsBasedInteger = HasSign (Within64Bits IsBasedNumeral)
 
--- A decimal times ten to the power of `places`, where that is a whole number m, so that only zeros stand behind the
--- places. The decimal is n; or n and, for k digits behind the point, f parts of 10 ^ k.
+-- A decimal times ten to the power of `places`, where that is a whole number m, so that only zeros
+-- stand behind the places. The decimal is n; or n and, for k digits behind the point, f parts of 10
+-- ^ k.
 pub data IsScaled (places : ℕ) : List ℕ → ℕ → Type 0 where
   whole : {text : List ℕ} {m n : ℕ} → IsNumeral 10 text n → m ≡ n * 10 ^ places → IsScaled places text m
   with_point : {text above below : List ℕ} {m n f : ℕ} → text ≡ above ++ codes "." ++ below

@@ -50,8 +50,8 @@ around_dots digits base text (Some i) =
 abbrev pub part_of : Option ℕ → List Interval → List ℕ → Option Interval
 part_of digits base text = around_dots digits base text (dots_at text)
 
--- The text restricts a type of these intervals to those: they are what its parts say, with bars between; they
--- ascend; and each lies within one of the type's.
+-- The text restricts a type of these intervals to those: they are what its parts say, with bars
+-- between; they ascend; and each lies within one of the type's.
 pub record Restricts (digits : Option ℕ) (base : List Interval) (text : List ℕ) (is : List Interval) : Type 0 where
   pub parts : map (part_of digits base) (slice_split (λ c. c == 124) text) ≡ map (λ i. Some i) is
   pub ascending : ascend is ≡ true

@@ -27,7 +27,8 @@ pub fn part_of(digits: Option<u32>, base: &[Span], text: &[u8]) -> Option<Span>
 }
 
 fn between(low: Option<Integer>, high: Option<Integer>) -> Option<Span>
-    ensures { option_map interval result ≡ between (option_map integer low) (option_map integer high) }
+    ensures { option_map interval result
+        ≡ between (option_map integer low) (option_map integer high) }
 {
     match (low, high) {
         (Some(low), Some(high)) => Some(Span { low, high }),

@@ -6,9 +6,9 @@ ghost use Rattle.yv_base_numbers.specs.Numbers.{integer, value_after, within_64_
 use crate::integer::Integer;
 use crate::number::{are_digits, digits, is_negative, is_numeral, with_sign, without_sign};
 
-/// The number of a decimal text, scaled by so many fraction digits: `3.14` is 314 by two. `None` where the text
-/// is not a decimal, has another digit than zero after those places, or the scaled number has more than 64 bits. It
-/// takes time linear in the text and the places.
+/// The number of a decimal text, scaled by so many fraction digits: `3.14` is 314 by two. `None`
+/// where the text is not a decimal, has another digit than zero after those places, or the scaled
+/// number has more than 64 bits. It takes time linear in the text and the places.
 #[tactic(auto, unfolding(crate::specs::Numbers::scaled_of))]
 pub fn scaled_of(places: u32, text: &[u8]) -> Option<Integer>
     ensures { option_map integer result ≡ scaled_of places text.now }

@@ -10,10 +10,11 @@ use crate::stated_numbers::whole_number;
 use std::alloc::{AllocError, Global};
 use std::collections::BTreeSet;
 
-/// The numbers of a new type with these entries (RFC 7950, sections 9.6.4.2 and 9.7.4.2): the stated one; else 0 for
-/// the first, and one more than the highest so far for a later one. An entry is wrong where its name or its number is
-/// that of a right one before it, where the kind hasn't its number, or where it states what is not a whole number; it is left
-/// out. It takes time n log n.
+/// The numbers of a new type with these entries (RFC 7950, sections 9.6.4.2 and 9.7.4.2): the
+/// stated one; else 0 for the first, and one more than the highest so far for a later one. An entry
+/// is wrong where its name or its number is that of a right one before it, where the kind hasn't
+/// its number, or where it states what is not a whole number; it is left out. It takes time n log
+/// n.
 pub fn number_entries<'a>(
     alloc: Global,
     kind: NumberKind,
@@ -36,7 +37,8 @@ pub fn number_entries<'a>(
     })
 }
 
-// What is kept of the entries that were passed: their names with their numbers, the numbers, and the highest one.
+// What is kept of the entries that were passed: their names with their numbers, the numbers, and
+// the highest one.
 #[derive(Drop)]
 struct EarlierEntries<'a> {
     names: Numbering<'a>,
@@ -89,7 +91,9 @@ impl<'a> EarlierEntries<'a> {
 
     // Whether the name or the number is taken.
     fn has(&self, name: &'a str, number: i64) -> bool
-        ensures { result ≡ (is_some (table_of self.now.names name.now) || contains int_cmp self.now.taken number) }
+        ensures { result
+            ≡ (is_some (table_of self.now.names name.now)
+            || contains int_cmp self.now.taken number) }
     {
         self.names.has(name) || self.taken.contains(&number)
     }
@@ -118,7 +122,9 @@ fn higher(highest: Option<i64>, number: i64) -> i64
 // The number that is stated, or the next one; none where either kind hasn't that.
 fn number_of(highest: Option<i64>, stated: Option<&str>) -> Option<i64>
     ensures some { IfSome result (λ n. number_behind highest stated.entry ≡ Some n) }
-    ensures none { IfNone result ((kind : NumberKind) (n : ℤ) → number_behind highest stated.entry ≡ Some n → is_number kind n ≡ false) }
+    ensures none { IfNone result
+        ((kind : NumberKind) (n : ℤ) → number_behind highest stated.entry ≡ Some n
+        → is_number kind n ≡ false) }
 {
     match stated {
         Some(text) => whole_number(text),
@@ -128,7 +134,8 @@ fn number_of(highest: Option<i64>, stated: Option<&str>) -> Option<i64>
 
 fn next_number(highest: Option<i64>) -> Option<i64>
     ensures some { IfSome result (λ n. n ≡ next_number highest) }
-    ensures none { IfNone result ((kind : NumberKind) → is_number kind (next_number highest) ≡ false) }
+    ensures none { IfNone result
+        ((kind : NumberKind) → is_number kind (next_number highest) ≡ false) }
 {
     match highest {
         Some(highest) => highest.checked_add(1),

@@ -17,9 +17,10 @@ pub struct Span {
     pub high: Integer,
 }
 
-/// The intervals of a type's numbers, or of the lengths of its texts or octets: none is empty, and each begins above
-/// the one before it, as RFC 7950, sections 9.2.4 and 9.4.4, ask of a `range` and of a `length`. So a number is found
-/// by binary search. Copies share one list. Contracts see it as the list of the intervals.
+/// The intervals of a type's numbers, or of the lengths of its texts or octets: none is empty, and
+/// each begins above the one before it, as RFC 7950, sections 9.2.4 and 9.4.4, ask of a `range` and
+/// of a `length`. So a number is found by binary search. Copies share one list. Contracts see it as
+/// the list of the intervals.
 #[derive(Drop)]
 pub struct Intervals {
     spans: RcSlice<Span>,
@@ -41,8 +42,10 @@ impl Intervals {
     /// These intervals, or `None` where they don't ascend or one is empty. It takes linear time.
     pub fn new(spans: Vec<Span>) -> Result<Option<Intervals>, AllocError>
         ensures same { IfOk result (λ found. IfSome found (λ v. v ≡ map interval spans.items)) }
-        ensures orders { IfOk result (λ found. IfSome found (λ v. ascend (map interval spans.items) ≡ true)) }
-        ensures refuses { IfOk result (λ found. IfNone found (ascend (map interval spans.items) ≡ false)) }
+        ensures orders { IfOk result
+            (λ found. IfSome found (λ v. ascend (map interval spans.items) ≡ true)) }
+        ensures refuses { IfOk result
+            (λ found. IfNone found (ascend (map interval spans.items) ≡ false)) }
     {
         if ascend(&spans) {
             Ok(Some(Intervals {

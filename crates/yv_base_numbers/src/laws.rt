@@ -21,5 +21,6 @@ pub fn based_integers_are_written()
 
 /// A text is read as the scaled number of the decimal that it writes, and as no other.
 pub fn decimals_are_written()
-    ensures { (places : ℕ) (text : List ℕ) (z : ℤ) → (scaled_of places text ≡ Some z) ↔ IsDecimal places text z }
+    ensures { (places : ℕ) (text : List ℕ) (z : ℤ) → (scaled_of places text ≡ Some z)
+        ↔ IsDecimal places text z }
 {}

@@ -1,5 +1,5 @@
-//! Numbers that texts of YANG modules and data write, and the intervals of a type's numbers (RFC 7950, sections 9.2
-//! to 9.4).
+//! Numbers that texts of YANG modules and data write, and the intervals of a type's numbers (RFC
+//! 7950, sections 9.2 to 9.4).
 #![tactic(auto)]
 
 mod bound;

@@ -6,8 +6,8 @@ ghost use Rattle.yv_base_numbers.specs.Numbers.{integer, digit_of, is_digit, is_
 
 use crate::integer::Integer;
 
-/// The whole number that a sign, or none, and decimal digits write, or `None` where the text is another or the number
-/// has more than 64 bits. It takes linear time.
+/// The whole number that a sign, or none, and decimal digits write, or `None` where the text is
+/// another or the number has more than 64 bits. It takes linear time.
 #[tactic(auto, unfolding(crate::specs::Numbers::integer_of))]
 pub fn integer_of(text: &[u8]) -> Option<Integer>
     ensures { option_map integer result ≡ integer_of text.now }
@@ -18,7 +18,8 @@ pub fn integer_of(text: &[u8]) -> Option<Integer>
     }
 }
 
-/// The whole number of a default's text: hexadecimal after `0x`, octal after another leading zero. `None` is as for
+/// The whole number of a default's text: hexadecimal after `0x`, octal after another leading zero.
+/// `None` is as for
 /// `integer_of`.
 #[tactic(auto, unfolding(crate::specs::Numbers::based_integer_of))]
 pub fn based_integer_of(text: &[u8]) -> Option<Integer>

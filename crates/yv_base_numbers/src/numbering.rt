@@ -8,15 +8,16 @@ use std::alloc::{AllocError, Global};
 use std::collections::BTreeMap;
 use std::marker::Model;
 
-/// What is numbered: the values of an enumeration, by the numbers of int32, or bits, by those of uint32.
+/// What is numbered: the values of an enumeration, by the numbers of int32, or bits, by those of
+/// uint32.
 #[derive(Clone, Copy, Drop)]
 pub enum NumberKind {
     Enumeration,
     Bits,
 }
 
-/// An `enum` or `bit` statement: its name, and the text of its `value` or `position`, where it has one. Contracts see the
-/// name, and what the text states.
+/// An `enum` or `bit` statement: its name, and the text of its `value` or `position`, where it has
+/// one. Contracts see the name, and what the text states.
 #[derive(Drop)]
 pub struct ListedEntry<'a> {
     pub name: &'a str,
@@ -38,8 +39,8 @@ pub struct Numbering<'a> {
     map: BTreeMap<&'a [u8], i64>,
 }
 
-/// The result for a type's entries: the numbers of those that are right, so that types derived from this one are
-/// judged only by them, and the place of the first wrong one among the entries.
+/// The result for a type's entries: the numbers of those that are right, so that types derived from
+/// this one are judged only by them, and the place of the first wrong one among the entries.
 #[derive(Drop)]
 pub struct NumberedEntries<'a> {
     pub numbering: Numbering<'a>,
@@ -77,18 +78,21 @@ impl<'a> Numbering<'a> {
         Ok(())
     }
 
-    /// The numbers of a type that is derived from the one with these numbers and lists some of its names (RFC 7950,
-    /// sections 9.6.3 and 9.7.3): each keeps its number. An entry is wrong where its name is not one of this type's or is
-    /// a right one's before it, or where something other than its number is stated. It takes time n log n.
+    /// The numbers of a type that is derived from the one with these numbers and lists some of its
+    /// names (RFC 7950, sections 9.6.3 and 9.7.3): each keeps its number. An entry is wrong where
+    /// its name is not one of this type's or is a right one's before it, or where something other
+    /// than its number is stated. It takes time n log n.
     pub fn derive(
         &self,
         alloc: Global,
         entries: &[ListedEntry<'a>],
     ) -> Result<NumberedEntries<'a>, AllocError>
         ensures numbers { IfOk result (λ r. (name : List ℕ)
-            → table_of r.numbering name ≡ number_in (keep_numbers (table_of self.now) entries.now) name) }
+            → table_of r.numbering name
+            ≡ number_in (keep_numbers (table_of self.now) entries.now) name) }
         ensures wrong { IfOk result (λ r.
-            IsFirstWrong (keep_numbers (table_of self.now)) (is_wrong_in (table_of self.now)) entries.now r.first_wrong) }
+            IsFirstWrong (keep_numbers (table_of self.now)) (is_wrong_in (table_of self.now))
+            entries.now r.first_wrong) }
     {
         let mut numbering = Numbering::new(alloc);
         let mut first_wrong = None;

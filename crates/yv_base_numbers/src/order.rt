@@ -29,7 +29,8 @@ fn ends_below(span: Span, others: &[Span]) -> bool
     }
 }
 
-/// Whether the number lies in one of some intervals that ascend: in the last that doesn't begin above it, or in none.
+/// Whether the number lies in one of some intervals that ascend: in the last that doesn't begin
+/// above it, or in none.
 pub fn are_among(spans: &[Span], number: Integer) -> bool
     requires { ascend (map interval spans.now) ≡ true }
     ensures { result ≡ are_among (map interval spans.now) (integer number) }

@@ -8,10 +8,11 @@ use crate::parts::{intervals_of, pieces};
 use crate::restriction_order::lie_within;
 use std::alloc::{AllocError, Global};
 
-/// The intervals that the argument of a `range` leaves of a type's (RFC 7950, sections 9.2.4 and 9.3.4), or that of a
+/// The intervals that the argument of a `range` leaves of a type's (RFC 7950, sections 9.2.4 and
+/// 9.3.4), or that of a
 /// `length` (section 9.4.4), or `None` where it doesn't restrict that type. The type's numbers are whole, or decimals
-/// with so many fraction digits, which count as the number scaled by them. It takes time linear in the text,
-/// and for each of its parts one logarithmic in the count of the type's intervals.
+/// with so many fraction digits, which count as the number scaled by them. It takes time linear in
+/// the text, and for each of its parts one logarithmic in the count of the type's intervals.
 pub fn restrict(
     alloc: Global,
     text: &str,
@@ -32,8 +33,14 @@ pub fn restrict(
 // These intervals, where they ascend and lie within the base's.
 fn restricted_to(base: &Intervals, spans: Vec<Span>) -> Result<Option<Intervals>, AllocError>
     ensures some { IfOk result (λ found. IfSome found (λ v. v ≡ map interval spans.items)) }
-    ensures takes { IfOk result (λ found. IfSome found (λ v. (ascend (map interval spans.items) && lie_within base.now (map interval spans.items)) ≡ true)) }
-    ensures refuses { IfOk result (λ found. IfNone found ((ascend (map interval spans.items) && lie_within base.now (map interval spans.items)) ≡ false)) }
+    ensures takes { IfOk result
+        (λ found. IfSome found
+        (λ v. (ascend (map interval spans.items) && lie_within base.now (map interval spans.items))
+        ≡ true)) }
+    ensures refuses { IfOk result
+        (λ found. IfNone found
+        ((ascend (map interval spans.items) && lie_within base.now (map interval spans.items))
+        ≡ false)) }
 {
     match Intervals::new(spans)? {
         Some(intervals) => {

@@ -6,14 +6,16 @@ ghost use Rattle.yv_base_numbers.specs.Entries.{Entry, whole_number};
 ghost use Rattle.yv_base_numbers.specs.Numberings.{IsFirstWrong, is_wrong, is_wrong_in, keep_numbers, number_entries};
 ghost use Rattle.yv_base_numbers.specs.declared.numbering.NumberKind.{NumberKind};
 
-/// No entry of a new type is wrong exactly where all have the numbers that are assigned to them, and then each name
-/// gets just this number.
+/// No entry of a new type is wrong exactly where all have the numbers that are assigned to them,
+/// and then each name gets just this number.
 pub fn numbers_are_assigned()
     ensures right { (kind : NumberKind) (es : List Entry) (ns : List ℤ) → AreNumbers kind es ns
         → IsFirstWrong (number_entries kind) (is_wrong kind) es None }
     ensures same { (kind : NumberKind) (es : List Entry) (ns : List ℤ) → AreNumbers kind es ns
-        → (map (λ p. p.name) (number_entries kind es) ≡ names_of es) × (map (λ p. p.number) (number_entries kind es) ≡ ns) }
-    ensures there { (kind : NumberKind) (es : List Entry) → IsFirstWrong (number_entries kind) (is_wrong kind) es None
+        → (map (λ p. p.name) (number_entries kind es) ≡ names_of es)
+        × (map (λ p. p.number) (number_entries kind es) ≡ ns) }
+    ensures there { (kind : NumberKind) (es : List Entry)
+        → IsFirstWrong (number_entries kind) (is_wrong kind) es None
         → AreNumbers kind es (map (λ p. p.number) (number_entries kind es)) }
 {}
 
@@ -22,12 +24,16 @@ pub fn numbers_are_kept()
     ensures right { (base : List ℕ → Option ℤ) (es : List Entry) (ns : List ℤ) → AreKept base es ns
         → IsFirstWrong (keep_numbers base) (is_wrong_in base) es None }
     ensures same { (base : List ℕ → Option ℤ) (es : List Entry) (ns : List ℤ) → AreKept base es ns
-        → (map (λ p. p.name) (keep_numbers base es) ≡ names_of es) × (map (λ p. p.number) (keep_numbers base es) ≡ ns) }
-    ensures there { (base : List ℕ → Option ℤ) (es : List Entry) → IsFirstWrong (keep_numbers base) (is_wrong_in base) es None
+        → (map (λ p. p.name) (keep_numbers base es) ≡ names_of es)
+        × (map (λ p. p.number) (keep_numbers base es) ≡ ns) }
+    ensures there { (base : List ℕ → Option ℤ) (es : List Entry)
+        → IsFirstWrong (keep_numbers base) (is_wrong_in base) es None
         → AreKept base es (map (λ p. p.number) (keep_numbers base es)) }
 {}
 
-/// A text states the whole number of any size that its sign, or none, and its decimal numeral write, and no other.
+/// A text states the whole number of any size that its sign, or none, and its decimal numeral
+/// write, and no other.
 pub fn whole_numbers_are_written()
-    ensures { (text : List ℕ) (z : ℤ) → (whole_number text ≡ Some z) ↔ HasSign (IsNumeral 10) text z }
+    ensures { (text : List ℕ) (z : ℤ) → (whole_number text ≡ Some z)
+        ↔ HasSign (IsNumeral 10) text z }
 {}

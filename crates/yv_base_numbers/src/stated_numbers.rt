@@ -9,7 +9,8 @@ ghost use Rattle.yv_base_numbers.specs.Numberings.{agrees};
 use crate::integer::Integer;
 use crate::number::integer_of;
 
-/// The whole number of a text, where it has at most 64 bits with its sign. Neither kind has another number.
+/// The whole number of a text, where it has at most 64 bits with its sign. Neither kind has another
+/// number.
 pub(crate) fn whole_number(text: &str) -> Option<i64>
     ensures some { IfSome result (λ n. whole_number text.now ≡ Some n) }
     ensures none { IfNone result ((n : ℤ) → whole_number text.now ≡ Some n → fits n ≡ false) }

@@ -5,7 +5,8 @@ abbrev pub is_place : ℕ → Option ℕ → Bool
 is_place place None = false
 is_place place (Some p) = p == place
 
--- the numbers whose place this is, ascending, where the first of these places is that of this number
+-- the numbers whose place this is, ascending, where the first of these places is that of this
+-- number
 abbrev pub numbers_from : (place number : ℕ) → List (Option ℕ) → List ℕ
 numbers_from place number [] = []
 numbers_from place number (p ∷ ps) =

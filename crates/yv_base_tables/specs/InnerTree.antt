@@ -1,4 +1,5 @@
--- Inner definitions: how a `PathTree` keeps paths. Public clauses cite `IsPathTree`, `IsAdded` and `HoldsPaths` alone.
+-- Inner definitions: how a `PathTree` keeps paths. Public clauses cite `IsPathTree`, `IsAdded` and
+-- `HoldsPaths` alone.
 use Rattle.std.specs.Prelude.{◌≡◌, ℕ, ◌<◌, ◌≤◌, List, [], length, Option, Some, None, slice_get, vec_capacity, vec_len}
 use Rattle.std.specs.Ordering.{nat_cmp, ordering_then}
 use Rattle.std.specs.BTreeMap.{get}

@@ -49,7 +49,8 @@ impl Chains {
     pub(crate) fn write(&self, place: usize, numbers: &mut Vec<usize>) -> Result<(), AllocError>
         requires place { place < length self.now.firsts.items }
         requires chain { (ks : List ℕ) × IsChain self.now place ks }
-        ensures { (ks : List ℕ) → IsChain self.now place ks → OnOk result (numbers.new.items ≡ numbers.old.items ++ ks) }
+        ensures { (ks : List ℕ) → IsChain self.now place ks
+            → OnOk result (numbers.new.items ≡ numbers.old.items ++ ks) }
     {
         let mut next = self.firsts[place];
         while let Some(number) = next {

@@ -25,7 +25,8 @@ fn part(numbers: &[usize], start: usize, end: usize) -> &[usize]
     &numbers[start..end]
 }
 
-/// Numbers from 0, each at one place or at none, by place. Contracts see the list of the numbers of each place.
+/// Numbers from 0, each at one place or at none, by place. Contracts see the list of the numbers of
+/// each place.
 #[derive(Drop)]
 pub struct Families {
     // Where the numbers of each place end among all of them.
@@ -45,8 +46,9 @@ impl Model for Families {
 }
 
 impl Families {
-    /// The numbers at each of so many places; `places` gives the place of each number. A number at a later place is left
-    /// out. Takes time and memory linear in numbers and places. Err only if memory runs out.
+    /// The numbers at each of so many places; `places` gives the place of each number. A number at
+    /// a later place is left out. Takes time and memory linear in numbers and places. Err only if
+    /// memory runs out.
     pub fn new(
         alloc: Global,
         places: &[Option<usize>],

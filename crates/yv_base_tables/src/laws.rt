@@ -5,7 +5,8 @@ ghost use Rattle.yv_base_tables.specs.Families.{by_place, numbers_at};
 /// A number is listed at its place and at no other.
 pub fn a_number_is_listed_at_its_place()
     ensures { (places : List (Option ℕ)) (place number : ℕ)
-        → Contains (numbers_at places place) number ↔ (slice_get places number ≡ Some (Some place)) }
+        → Contains (numbers_at places place) number
+        ↔ (slice_get places number ≡ Some (Some place)) }
 {}
 
 /// Each place below the count has its numbers.

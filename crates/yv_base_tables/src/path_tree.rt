@@ -6,15 +6,16 @@ ghost use Rattle.yv_base_tables.specs.InnerTree.{HasRoom, branches_in};
 use std::alloc::{AllocError, Global};
 use std::collections::BTreeMap;
 
-/// Different paths, each with a number, where what a path has before its last step has a number too: the empty path is 0. Takes memory
-/// for each step that no path before had there.
+/// Different paths, each with a number, where what a path has before its last step has a number
+/// too: the empty path is 0. Takes memory for each step that no path before had there.
 #[derive(Drop)]
 pub struct PathTree {
     // The last step of each path; 0 of the first.
     steps: Vec<usize>,
     // The paths that go on from each by one step.
     branches: Vec<Vec<usize>>,
-    // For each path and a step the path that goes on so. Steps are chosen by strangers, so they are kept in order.
+    // For each path and a step the path that goes on so. Steps are chosen by strangers, so they are
+    // kept in order.
     known: BTreeMap<(usize, usize), usize>,
     deepest: usize,
 }
@@ -22,7 +23,8 @@ pub struct PathTree {
 // Makes room for one more path that goes on from a numbered one.
 fn make_room(branches: &mut [Vec<usize>], front: usize) -> Result<(), AllocError>
     ensures room { OnOk result (HasRoom branches.new front) }
-    ensures keeps { (number : ℕ) → branches_in branches.new number ≡ branches_in branches.old number }
+    ensures keeps { (number : ℕ) → branches_in branches.new number
+        ≡ branches_in branches.old number }
 {
     if front < branches.len() {
         branches[front].reserve(1)?;
@@ -30,10 +32,12 @@ fn make_room(branches: &mut [Vec<usize>], front: usize) -> Result<(), AllocError
     Ok(())
 }
 
-// A path goes on from a numbered one, behind those that did before; from none where no path has this number.
+// A path goes on from a numbered one, behind those that did before; from none where no path has
+// this number.
 fn branch(branches: &mut [Vec<usize>], front: usize, path: usize) -> Result<(), AllocError>
     ensures here { front < length branches.old
-        → OnOk result (branches_in branches.new front ≡ branches_in branches.old front ++ path ∷ []) }
+        → OnOk result
+        (branches_in branches.new front ≡ branches_in branches.old front ++ path ∷ []) }
     ensures others { (other : ℕ) → (other ≡ front → ⊥)
         → OnOk result (branches_in branches.new other ≡ branches_in branches.old other) }
     ensures full { OnErr result (HasRoom branches.old front → ⊥) }
@@ -63,17 +67,20 @@ impl PathTree {
         })
     }
 
-    /// The path that goes on from a numbered one by a step, if there is one. Takes time log n in paths.
+    /// The path that goes on from a numbered one by a step, if there is one. Takes time log n in
+    /// paths.
     pub fn next(&self, front: usize, step: usize) -> Option<usize>
-        ensures some { (paths : List (List ℕ)) → IsPathTree paths self.now → IfSome result (GoesOn paths front step) }
-        ensures all { (paths : List (List ℕ)) (path : ℕ) → IsPathTree paths self.now → GoesOn paths front step path
+        ensures some { (paths : List (List ℕ)) → IsPathTree paths self.now
+            → IfSome result (GoesOn paths front step) }
+        ensures all { (paths : List (List ℕ)) (path : ℕ) → IsPathTree paths self.now
+            → GoesOn paths front step path
             → result ≡ Some path }
     {
         self.known.get(&(front, step)).copied()
     }
 
-    // A path of so many steps that goes on from a numbered one by a step, and is a new one. Room for it is made first, so that none is
-    // half added where memory runs out.
+    // A path of so many steps that goes on from a numbered one by a step, and is a new one. Room
+    // for it is made first, so that none is half added where memory runs out.
     fn grow(
         &mut self,
         alloc: Global,
@@ -81,10 +88,12 @@ impl PathTree {
         step: usize,
         depth: usize,
     ) -> Result<usize, AllocError>
-        ensures adds { (paths : List (List ℕ)) (steps : List ℕ) → IsPathTree paths self.old → slice_get paths front ≡ Some steps
+        ensures adds { (paths : List (List ℕ)) (steps : List ℕ) → IsPathTree paths self.old
+            → slice_get paths front ≡ Some steps
             → depth ≡ length steps + 1 → ((path : ℕ) → GoesOn paths front step path → ⊥)
             → IfOk result (λ path. IsAdded paths (steps ++ step ∷ []) path self.new) }
-        ensures keeps { (paths : List (List ℕ)) (steps : List ℕ) → IsPathTree paths self.old → slice_get paths front ≡ Some steps
+        ensures keeps { (paths : List (List ℕ)) (steps : List ℕ) → IsPathTree paths self.old
+            → slice_get paths front ≡ Some steps
             → OnErr result (IsPathTree paths self.new) }
     {
         let path = self.steps.len();
@@ -99,7 +108,8 @@ impl PathTree {
         Ok(path)
     }
 
-    // The path of so many steps that goes on from a numbered one by a step, which is a new one where there was none.
+    // The path of so many steps that goes on from a numbered one by a step, which is a new one
+    // where there was none.
     fn go_on(
         &mut self,
         alloc: Global,
@@ -107,9 +117,12 @@ impl PathTree {
         step: usize,
         depth: usize,
     ) -> Result<usize, AllocError>
-        ensures adds { (paths : List (List ℕ)) (steps : List ℕ) → IsPathTree paths self.old → slice_get paths front ≡ Some steps
-            → depth ≡ length steps + 1 → IfOk result (λ path. IsAdded paths (steps ++ step ∷ []) path self.new) }
-        ensures keeps { (paths : List (List ℕ)) (steps : List ℕ) → IsPathTree paths self.old → slice_get paths front ≡ Some steps
+        ensures adds { (paths : List (List ℕ)) (steps : List ℕ) → IsPathTree paths self.old
+            → slice_get paths front ≡ Some steps
+            → depth ≡ length steps + 1
+            → IfOk result (λ path. IsAdded paths (steps ++ step ∷ []) path self.new) }
+        ensures keeps { (paths : List (List ℕ)) (steps : List ℕ) → IsPathTree paths self.old
+            → slice_get paths front ≡ Some steps
             → OnErr result (IsPathTree paths self.new) }
     {
         match self.next(front, step) {
@@ -118,11 +131,13 @@ impl PathTree {
         }
     }
 
-    /// The number of a path, which is a new one where none has these steps. Takes time n log n in its steps. Err only if memory runs
-    /// out, and then the paths that were there are there still, with their numbers; some that the new one begins with may be there too.
+    /// The number of a path, which is a new one where none has these steps. Takes time n log n in
+    /// its steps. Err only if memory runs out, and then the paths that were there are there still,
+    /// with their numbers; some that the new one begins with may be there too.
     pub fn add(&mut self, alloc: Global, steps: &[usize]) -> Result<usize, AllocError>
         ensures { (paths : List (List ℕ)) → IsPathTree paths self.old
-            → MatchResult result (λ path. IsAdded paths steps.now path self.new) (λ error. HoldsPaths paths self.new) }
+            → MatchResult result (λ path. IsAdded paths steps.now path self.new)
+            (λ error. HoldsPaths paths self.new) }
     {
         let mut path = 0;
         for (place, step) in steps.iter().enumerate() {
@@ -133,9 +148,11 @@ impl PathTree {
 
     /// The paths that go on from a numbered one by one step.
     pub fn branches(&self, front: usize) -> &[usize]
-        ensures some { (paths : List (List ℕ)) (path : ℕ) → IsPathTree paths self.now → StandsIn result.now path
+        ensures some { (paths : List (List ℕ)) (path : ℕ) → IsPathTree paths self.now
+            → StandsIn result.now path
             → (step : ℕ) × GoesOn paths front step path }
-        ensures all { (paths : List (List ℕ)) (step path : ℕ) → IsPathTree paths self.now → GoesOn paths front step path
+        ensures all { (paths : List (List ℕ)) (step path : ℕ) → IsPathTree paths self.now
+            → GoesOn paths front step path
             → StandsIn result.now path }
     {
         match self.branches.get(front) {
@@ -144,9 +161,11 @@ impl PathTree {
         }
     }
 
-    /// The last step of a path. What it answers of the empty path, or of a number that no path has, means nothing.
+    /// The last step of a path. What it answers of the empty path, or of a number that no path has,
+    /// means nothing.
     pub fn step(&self, path: usize) -> usize
-        ensures { (paths : List (List ℕ)) (front step : ℕ) → IsPathTree paths self.now → GoesOn paths front step path
+        ensures { (paths : List (List ℕ)) (front step : ℕ) → IsPathTree paths self.now
+            → GoesOn paths front step path
             → result ≡ step }
     {
         self.steps.get(path).copied().unwrap_or(0)
@@ -154,9 +173,11 @@ impl PathTree {
 
     /// How many steps a path has than which none has more.
     pub fn deepest(&self) -> usize
-        ensures most { (paths : List (List ℕ)) (path : ℕ) (steps : List ℕ) → IsPathTree paths self.now
+        ensures most { (paths : List (List ℕ)) (path : ℕ) (steps : List ℕ)
+            → IsPathTree paths self.now
             → slice_get paths path ≡ Some steps → length steps ≤ result }
-        ensures reaches { (paths : List (List ℕ)) → IsPathTree paths self.now → IsReached paths result }
+        ensures reaches { (paths : List (List ℕ)) → IsPathTree paths self.now
+            → IsReached paths result }
     {
         self.deepest
     }

@@ -14,9 +14,11 @@ pub struct Sparse<T> {
 impl<T: Drop> Sparse<T> {
     ghost use Rattle.yv_base_tables.specs.Sparse.{at, item_at};
 
-    /// The values at the places of a list. Takes time n log n in the values, and memory for them only; besides, time linear in places.
+    /// The values at the places of a list. Takes time n log n in the values, and memory for them
+    /// only; besides, time linear in places.
     pub fn of(alloc: Global, items: Vec<Option<T>>) -> Result<Sparse<T>, AllocError>
-        ensures { IfOk result (λ sparse. (place : ℕ) → at sparse place ≡ item_at items.items place) }
+        ensures { IfOk result
+            (λ sparse. (place : ℕ) → at sparse place ≡ item_at items.items place) }
     {
         let mut map = BTreeMap::new(alloc);
         let mut left = items;

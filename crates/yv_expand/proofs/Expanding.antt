@@ -5,27 +5,28 @@ use Rattle.std.proofs.lemmas.List.{length-map}
 use Rattle.yv_link_scopes.specs.Files.{Files, Briefs, brief_of}
 use Rattle.yv_link_scopes.specs.Rows.{Row}
 use Rattle.yv_link_scopes.specs.RowList.{rows_of}
-use Rattle.yv_expand.specs.Limit.{Fits, given_at, given_before}
-use Rattle.yv_expand.specs.Weigh.{block_of}
+use Rattle.yv_expand.specs.Limit.{Fits}
+use Rattle.yv_expand.specs.StatementBlocks.{given_at, given_before, block_of, augments_of, is_augment, is_node_or_uses, those}
 use Rattle.yv_expand.specs.Tree.{Tree, Item, all_of, count, join, item_list}
-use Rattle.yv_expand.specs.Expansion.{AreAdded, AreTrees, IsWhole, augments_of}
-use Rattle.yv_expand.specs.Expands.{blocks_of, is_augment, is_item, those, Expands}
+use Rattle.yv_expand.specs.Expansion.{AreAdded, AreTrees, IsWhole}
+use Rattle.yv_expand.specs.Expands.{blocks_of, Expands}
 use Rattle.yv_expand.specs.InnerItems.{Lists, ArePlaced, Give, numbers_at, top_place, tops_before, origins}
 use Rattle.yv_expand.proofs.Once.{Expanded, weighed}
 use Rattle.yv_expand.proofs.Listing.{all_at}
 use Rattle.yv_expand.proofs.Giving.{AreOf, gives, tree_before, trees_each, trees_of, trees_whole}
 use Rattle.yv_expand.proofs.Filing.{given_lists, top_lists}
 
--- what files that fit the limit come to: their own trees in this order, and what their augments give
+-- what files that fit the limit come to: their own trees in this order, and what their augments
+-- give
 pub record Given (files : Files) (marks : List Bool) (order : List ℕ) : Type 0 where
   pub trees : List Tree
   pub are : AreTrees (map brief_of files) (rows_of files) marks order trees
   pub added : List Tree
   pub are_added : AreAdded (map brief_of files) (rows_of files) marks added
   pub tops : Give (map brief_of files) (rows_of files)
-      (origins (those is_item (rows_of files) (flat_map (given_at (map brief_of files) (rows_of files) marks) order))) (all_of trees)
+      (origins (those is_node_or_uses (rows_of files) (flat_map (given_at (map brief_of files) (rows_of files) marks) order))) (all_of trees)
   pub others : Give (map brief_of files) (rows_of files)
-      (origins (those is_item (rows_of files) (blocks_of (rows_of files) (given_before (map brief_of files) (rows_of files) marks (length files))))) (all_of added)
+      (origins (those is_node_or_uses (rows_of files) (blocks_of (rows_of files) (given_before (map brief_of files) (rows_of files) marks (length files))))) (all_of added)
 
 pub files_give : (files : Files) (marks : List Bool) (order : List ℕ) (limit : ℕ) → All (λ file. file < length (map brief_of files)) order → Fits files marks limit
     → Given files marks order
@@ -52,7 +53,7 @@ files_give files marks order limit within (n, weigh, fits) =
       added = added;
       are_added = record { each = moved.0; expands = moved.1 };
       tops = gives briefs rows (trees_whole briefs rows (given_at briefs rows marks) order trees are);
-      others = subst (Give briefs rows (origins (those is_item rows (blocks_of rows numbers)))) whole_added (gives briefs rows found.given_expands);
+      others = subst (Give briefs rows (origins (those is_node_or_uses rows (blocks_of rows numbers)))) whole_added (gives briefs rows found.given_expands);
     }
 
 -- what is filed by file is what stands at the tops of the files that are given
@@ -66,9 +67,9 @@ firsts_are test files marks lists firsts placed are =
 
 -- what the augments among these give
 pub added_are : (files : Files) (own : Lists) (numbers applied added : List ℕ)
-    → ((b : ℕ) → b < length (rows_of files) → numbers_at own b ≡ those is_item (rows_of files) (block_of (rows_of files) b))
+    → ((b : ℕ) → b < length (rows_of files) → numbers_at own b ≡ those is_node_or_uses (rows_of files) (block_of (rows_of files) b))
     → applied ≡ those is_augment (rows_of files) numbers → added ≡ flat_map (numbers_at own) applied
-    → added ≡ those is_item (rows_of files) (blocks_of (rows_of files) numbers)
+    → added ≡ those is_node_or_uses (rows_of files) (blocks_of (rows_of files) numbers)
 added_are files own numbers applied added are is given =
     given ∙ ap (flat_map (numbers_at own)) is ∙ given_lists (map brief_of files) (rows_of files) own are numbers
 

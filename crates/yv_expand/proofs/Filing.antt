@@ -7,9 +7,8 @@ use Rattle.std.proofs.lemmas.List.Elements.{All-head, All-tail}
 use Rattle.std.proofs.lemmas.Option.{slice_get_cases, slice_get_within}
 use Rattle.yv_link_scopes.specs.Files.{Briefs, module_file_at}
 use Rattle.yv_link_scopes.specs.Rows.{Row}
-use Rattle.yv_expand.specs.Weigh.{block_of, top_of, stands_in, numbers_from}
-use Rattle.yv_expand.specs.Limit.{given_at, given_before}
-use Rattle.yv_expand.specs.Expands.{is_item, is_augment, is_at, those, blocks_of}
+use Rattle.yv_expand.specs.StatementBlocks.{block_of, top_of, stands_in, numbers_from, given_at, given_before, is_node_or_uses, is_augment, is_at, those}
+use Rattle.yv_expand.specs.Expands.{blocks_of}
 use Rattle.yv_expand.specs.InnerItems.{Lists, ArePlaced, is_place, block_place, top_place, placed_from, numbers_at, numbers_in, top_at, tops_before}
 use Rattle.yv_expand.proofs.Giving.{passing}
 
@@ -101,20 +100,20 @@ module _ (files : Briefs) (rows : List Row) where
       ∙ those_numbers test (stands_in k) (λ j r. is_place k (block_place test j r)) (block_same test k) 0 rows whole_stands
 
   -- what augments give is gathered from their blocks
-  pub given_lists : (own : Lists) → ((b : ℕ) → b < length rows → numbers_at own b ≡ those is_item rows (block_of rows b)) → (numbers : List ℕ)
-      → flat_map (numbers_at own) (those is_augment rows numbers) ≡ those is_item rows (blocks_of rows numbers)
+  pub given_lists : (own : Lists) → ((b : ℕ) → b < length rows → numbers_at own b ≡ those is_node_or_uses rows (block_of rows b)) → (numbers : List ℕ)
+      → flat_map (numbers_at own) (those is_augment rows numbers) ≡ those is_node_or_uses rows (blocks_of rows numbers)
   given_lists own are [] = refl
   given_lists own are (k ∷ ks) = by (is_at is_augment rows k) refl (given_lists own are ks)
     where
       by : (b : Bool) → is_at is_augment rows k ≡ b
-          → flat_map (numbers_at own) (those is_augment rows ks) ≡ those is_item rows (blocks_of rows ks)
+          → flat_map (numbers_at own) (those is_augment rows ks) ≡ those is_node_or_uses rows (blocks_of rows ks)
           → flat_map (numbers_at own) (cond b (k ∷ those is_augment rows ks) (those is_augment rows ks))
-          ≡ those is_item rows (flat_map (block_of rows) (cond b (k ∷ those is_augment rows ks) (those is_augment rows ks)))
+          ≡ those is_node_or_uses rows (flat_map (block_of rows) (cond b (k ∷ those is_augment rows ks) (those is_augment rows ks)))
       by true is e =
           let (r, at, passes) = passing files rows is_augment k is in
           ap (λ (l : List ℕ). l ++ flat_map (numbers_at own) (those is_augment rows ks)) (are k (slice_get_within rows k r at))
-          ∙ ap (λ (l : List ℕ). those is_item rows (block_of rows k) ++ l) e
-          ∙ sym (those_both is_item rows (block_of rows k) (blocks_of rows ks))
+          ∙ ap (λ (l : List ℕ). those is_node_or_uses rows (block_of rows k) ++ l) e
+          ∙ sym (those_both is_node_or_uses rows (block_of rows k) (blocks_of rows ks))
       by false isnt e = e
 
   -- what is filed by file is what stands at its top

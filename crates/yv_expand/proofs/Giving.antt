@@ -6,12 +6,11 @@ use Rattle.std.proofs.lemmas.Option.{same_Some, slice_get_cases}
 use Rattle.yv_link_scopes.specs.Files.{Briefs}
 use Rattle.yv_link_scopes.specs.Rows.{Row}
 use Rattle.yv_link_definitions.specs.Refers.{RefersTo}
-use Rattle.yv_expand.specs.Weigh.{block_of}
-use Rattle.yv_expand.specs.Limit.{given_at, given_before}
-use Rattle.yv_expand.specs.declared.item.Origin.{Origin}
-use Rattle.yv_expand.specs.declared.item.Origin.TheVariants.{Statement, Input, Output}
+use Rattle.yv_expand.specs.StatementBlocks.{block_of, given_at, given_before, is_node_or_uses, is_operation, is_input, is_output, is_at, those, first_of, part, part_block, input_of, output_of}
+use Rattle.yv_expand.specs.declared.origin.Origin.{Origin}
+use Rattle.yv_expand.specs.declared.origin.Origin.TheVariants.{Statement, Input, Output}
 use Rattle.yv_expand.specs.Tree.{Tree, none, item, join, all_of}
-use Rattle.yv_expand.specs.Expands.{Expands, nothing, other, node, operation, uses, is_item, is_operation, is_input, is_output, is_at, those, first_of, part, part_block, input_of, output_of}
+use Rattle.yv_expand.specs.Expands.{Expands, nothing, other, node, operation, uses}
 use Rattle.yv_expand.specs.InnerItems.{Give, no_more, one_more, StandBelow, below_node, below_operation, below_uses, below_input, below_output, items_among, origins}
 use Rattle.yv_expand.proofs.Listing.{longer, pushed_at}
 use Rattle.yv_expand.proofs.Once.{both_expand}
@@ -169,14 +168,14 @@ module _ (files : Briefs) (rows : List Row) where
   at_is : (test : Row → Bool) (k : ℕ) (r : Row) (b : Bool) → slice_get rows k ≡ Some r → test r ≡ b → is_at test rows k ≡ b
   at_is test k r b at is = ap (λ (o : Option Row). unwrap_or (option_map test o) false) at ∙ is
 
-  item_past : (k : ℕ) (r : Row) (others : List ℕ) → slice_get rows k ≡ Some r → is_item r ≡ false → items_among rows (k ∷ others) ≡ items_among rows others
+  item_past : (k : ℕ) (r : Row) (others : List ℕ) → slice_get rows k ≡ Some r → is_node_or_uses r ≡ false → items_among rows (k ∷ others) ≡ items_among rows others
   item_past k r others at isnt =
-      ap (λ (b : Bool). origins (cond b (k ∷ those is_item rows others) (those is_item rows others))) (at_is is_item k r false at isnt)
+      ap (λ (b : Bool). origins (cond b (k ∷ those is_node_or_uses rows others) (those is_node_or_uses rows others))) (at_is is_node_or_uses k r false at isnt)
 
-  item_here : (k : ℕ) (r : Row) (others : List ℕ) → slice_get rows k ≡ Some r → is_item r ≡ true
+  item_here : (k : ℕ) (r : Row) (others : List ℕ) → slice_get rows k ≡ Some r → is_node_or_uses r ≡ true
       → items_among rows (k ∷ others) ≡ Statement k ∷ items_among rows others
   item_here k r others at is =
-      ap (λ (b : Bool). origins (cond b (k ∷ those is_item rows others) (those is_item rows others))) (at_is is_item k r true at is)
+      ap (λ (b : Bool). origins (cond b (k ∷ those is_node_or_uses rows others) (those is_node_or_uses rows others))) (at_is is_node_or_uses k r true at is)
 
   -- a part of an operation gives what stands in it
   abbrev IsPart : ℕ → Type 0

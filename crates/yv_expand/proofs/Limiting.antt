@@ -15,8 +15,9 @@ use Rattle.yv_link_scopes.specs.Files.{Brief, Briefs, Files, brief_of, module_fi
 use Rattle.yv_link_scopes.specs.Rows.{Row}
 use Rattle.yv_link_scopes.specs.RowList.{rows_of}
 use Rattle.yv_expand.specs.Units.{saturate}
-use Rattle.yv_expand.specs.Weigh.{Weigh, nothing, other, node, uses, stands_in}
-use Rattle.yv_expand.specs.Limit.{Fits, Passes, given_at, given_before}
+use Rattle.yv_expand.specs.Weigh.{Weigh, nothing, other, node, uses}
+use Rattle.yv_expand.specs.StatementBlocks.{stands_in, given_at, given_before}
+use Rattle.yv_expand.specs.Limit.{Fits, Passes}
 use Rattle.yv_expand.specs.InnerLists.{Lists, ArePlaced, is_place, sum_at, top_place, top_sum}
 use Rattle.yv_expand.specs.InnerSteps.{AreSettled}
 use Rattle.yv_expand.proofs.Settling.{list_sum, top_split}

@@ -1,4 +1,5 @@
--- Statements have one expansion at most, which has no more items than units, and one where units can be counted.
+-- Statements have one expansion at most, which has no more items than units, and one where units
+-- can be counted.
 use Rattle.std.proofs.Common.{◌≡◌, ℕ, ◌+◌, ◌≤◌, Bool, true, false, cond, List, ◌∷◌, ◌++◌, refl, sym, ◌∙◌, ap, subst, arith, Option, Some}
 use Rattle.std.specs.List.{slice_get, flat_map}
 use Rattle.std.specs.Option.{option_map, unwrap_or}
@@ -6,11 +7,12 @@ use Rattle.std.proofs.lemmas.Option.{same_Some}
 use Rattle.yv_link_scopes.specs.Files.{Briefs}
 use Rattle.yv_link_scopes.specs.Rows.{Row}
 use Rattle.yv_expand.specs.Weigh as weigh
-use Rattle.yv_expand.specs.Weigh.{Weigh, block_of}
-use Rattle.yv_expand.specs.declared.item.Origin.{Origin}
-use Rattle.yv_expand.specs.declared.item.Origin.TheVariants.{Statement, Input, Output}
+use Rattle.yv_expand.specs.Weigh.{Weigh}
+use Rattle.yv_expand.specs.StatementBlocks.{block_of, is_node_or_uses, is_operation, is_input, is_output, is_augment, is_at, those, first_of, part, part_block, input_of, output_of}
+use Rattle.yv_expand.specs.declared.origin.Origin.{Origin}
+use Rattle.yv_expand.specs.declared.origin.Origin.TheVariants.{Statement, Input, Output}
 use Rattle.yv_expand.specs.Tree.{Tree, none, item, count, join}
-use Rattle.yv_expand.specs.Expands.{Expands, nothing, other, node, operation, uses, is_item, is_operation, is_input, is_output, is_augment, is_at, those, first_of, blocks_of, part, part_block, input_of, output_of}
+use Rattle.yv_expand.specs.Expands.{Expands, nothing, other, node, operation, uses, blocks_of}
 use Rattle.yv_expand.proofs.Words.{no_units_no_item, no_units_no_input, no_units_no_output, no_units_no_augment, item_no_input, item_no_output, item_no_augment, input_no_output, input_no_augment, output_no_augment, input_no_item, output_no_item, augment_no_item, item_units, operation_units, operation_item, uses_item, counts_uses, named_no_operation}
 use Rattle.yv_expand.proofs.Referring.{MeansOne, refers_one, refers_word, operation_refers}
 
@@ -29,17 +31,17 @@ module _ {files : Briefs} {rows : List Row} where
   pub expands_one : MeansOne → {numbers : List ℕ} {t u : Tree} → Expands files rows numbers t → Expands files rows numbers u → t ≡ u
   expands_one one nothing nothing = refl
   expands_one one (other at isnt e) (other at' isnt' f) = expands_one one e f
-  expands_one one (other at isnt e) (node at' is simple without b f) = absurd (not_both is_item rows _ _ _ at' at is isnt)
+  expands_one one (other at isnt e) (node at' is simple without b f) = absurd (not_both is_node_or_uses rows _ _ _ at' at is isnt)
   expands_one one (other {k = k} {r = r} at isnt e) (operation {r = s} at' is i o f) =
-      absurd (not_both is_item rows k s r at' at (operation_item s is) isnt)
-  expands_one one (other at isnt e) (uses at' is refers b g f) = absurd (not_both is_item rows _ _ _ at' at is isnt)
-  expands_one one (node at is simple without b e) (other at' isnt f) = absurd (not_both is_item rows _ _ _ at at' is isnt)
+      absurd (not_both is_node_or_uses rows k s r at' at (operation_item s is) isnt)
+  expands_one one (other at isnt e) (uses at' is refers b g f) = absurd (not_both is_node_or_uses rows _ _ _ at' at is isnt)
+  expands_one one (node at is simple without b e) (other at' isnt f) = absurd (not_both is_node_or_uses rows _ _ _ at at' is isnt)
   expands_one one (node {k = k} {below = x} {behind = y} at is simple without b e) (node {below = z} {behind = w} at' is' simple' without' c f) =
       same_item (Statement k) x z y w (expands_one one b c) (expands_one one e f)
   expands_one one (node at is simple without b e) (operation at' is' i o f) = absurd (not_both is_operation rows _ _ _ at' at is' simple)
   expands_one one (node at is simple without b e) (uses {d = d} at' is' refers c g f) = absurd (without d refers)
   expands_one one (operation {k = k} {r = r} at is i o e) (other {r = s} at' isnt f) =
-      absurd (not_both is_item rows k r s at at' (operation_item r is) isnt)
+      absurd (not_both is_node_or_uses rows k r s at at' (operation_item r is) isnt)
   expands_one one (operation at is i o e) (node at' is' simple without b f) = absurd (not_both is_operation rows _ _ _ at at' is simple)
   expands_one one (operation {k = k} {input = a} {output = b} {behind = y} at is i o e) (operation {input = c} {output = d} {behind = w} at' is' i' o' f) =
       let p : Origin = part (Input k) (input_of rows k) in
@@ -49,7 +51,7 @@ module _ {files : Briefs} {rows : List Row} where
       same_item (Statement k) (item p a (item q b none)) (item p c (item q d none)) y w both (expands_one one e f)
   expands_one one (operation {k = k} {r = r} at is i o e) (uses {d = d} at' is' refers c g f) =
       absurd (operation_refers files rows k d r at is refers)
-  expands_one one (uses at is refers b g e) (other at' isnt f) = absurd (not_both is_item rows _ _ _ at at' is isnt)
+  expands_one one (uses at is refers b g e) (other at' isnt f) = absurd (not_both is_node_or_uses rows _ _ _ at at' is isnt)
   expands_one one (uses {d = d} at is refers b g e) (node at' is' simple without c f) = absurd (without d refers)
   expands_one one (uses {k = k} {d = d} at is refers b g e) (operation {r = r} at' is' i o f) =
       absurd (operation_refers files rows k d r at' is' refers)
@@ -85,7 +87,8 @@ module _ (rows : List Row) where
   here_given k others is = ap (λ (b : Bool). flat_map (block_of rows) (cond b (k ∷ those is_augment rows others) (those is_augment rows others))) is
 
 module _ (files : Briefs) (rows : List Row) where
-  -- what numbered statements give, the first input and the first output among them, and the augments among them
+  -- what numbered statements give, the first input and the first output among them, and the
+  -- augments among them
   pub record Expanded (numbers : List ℕ) (n : ℕ) : Type 0 where
     pub tree : Tree
     pub input : Tree
@@ -175,7 +178,7 @@ module _ (files : Briefs) (rows : List Row) where
     within = omega (arith, b.within, w.within, count_joined b.tree w.given);
   }
 
-  with_none : (k n m : ℕ) (r : Row) (others : List ℕ) → slice_get rows k ≡ Some r → is_item r ≡ false → (input output augment : Bool)
+  with_none : (k n m : ℕ) (r : Row) (others : List ℕ) → slice_get rows k ≡ Some r → is_node_or_uses r ≡ false → (input output augment : Bool)
       → is_input r ≡ input → is_output r ≡ output → is_augment r ≡ augment → Expanded (block_of rows k) n → Expanded others m → Expanded (k ∷ others) (n + m)
   with_none k n m r others at isnt true output augment i o a b w = with_input k n m r others at i b w
   with_none k n m r others at isnt false true augment i o a b w = with_output k n m r others at o i b w
@@ -212,12 +215,12 @@ module _ (files : Briefs) (rows : List Row) where
       let rest : Expanded others m = weighed w in
       with_tree k m m r others rest.tree at (no_units_no_input r u) (no_units_no_output r u) (no_units_no_augment r u) rest
       (other at (no_units_no_item r u) rest.expands) (omega arith)
-  weighed (weigh.node {k = k} {own = own} {n = n} {m = m} {r = r} {others = others} at u without b w) = by (is_operation r) (is_item r) refl refl (weighed b) (weighed w)
+  weighed (weigh.node {k = k} {own = own} {n = n} {m = m} {r = r} {others = others} at u without b w) = by (is_operation r) (is_node_or_uses r) refl refl (weighed b) (weighed w)
     where
-      by : (op it : Bool) → is_operation r ≡ op → is_item r ≡ it → Expanded (block_of rows k) n → Expanded others m → Expanded (k ∷ others) (own + n + m)
+      by : (op it : Bool) → is_operation r ≡ op → is_node_or_uses r ≡ it → Expanded (block_of rows k) n → Expanded others m → Expanded (k ∷ others) (own + n + m)
       by true it is it_is inner rest =
           let single : own ≡ 3 = same_Some own 3 (sym u ∙ operation_units r is) in
-          let an_item : is_item r ≡ true = operation_item r is in
+          let an_item : is_node_or_uses r ≡ true = operation_item r is in
           let p : Origin = part (Input k) (input_of rows k) in
           let q : Origin = part (Output k) (output_of rows k) in
           let t : Tree = item (Statement k) (item p inner.input (item q inner.output none)) rest.tree in
@@ -231,7 +234,7 @@ module _ (files : Briefs) (rows : List Row) where
           more_room (k ∷ others) (n + m) (own + n + m) (omega arith)
           (with_none k n m r others at not_item (is_input r) (is_output r) (is_augment r) refl refl refl inner rest)
   weighed (weigh.uses {k = k} {d = d} {own = own} {g = g} {n = n} {m = m} {r = r} {others = others} at u refers c b w) =
-      let is : is_item r ≡ true = uses_item r (counts_uses r own u (refers_word files rows k d r at refers)) in
+      let is : is_node_or_uses r ≡ true = uses_item r (counts_uses r own u (refers_word files rows k d r at refers)) in
       let isnt : is_operation r ≡ false = named_no_operation r (refers_word files rows k d r at refers) in
       let single : own ≡ 1 = same_Some own 1 (sym u ∙ item_units r is isnt) in
       let copied : Expanded (block_of rows d) g = weighed c in

@@ -6,8 +6,8 @@ use Rattle.std.specs.Prelude.{Result, Ok, Err}
 use Rattle.std.proofs.lemmas.Option.{same_Some}
 use Rattle.yv_link_scopes.specs.Files.{Briefs}
 use Rattle.yv_link_scopes.specs.Rows.{Row}
-use Rattle.yv_expand.specs.declared.item.Origin.{Origin}
-use Rattle.yv_expand.specs.declared.item.Origin.TheVariants.{Statement}
+use Rattle.yv_expand.specs.declared.origin.Origin.{Origin}
+use Rattle.yv_expand.specs.declared.origin.Origin.TheVariants.{Statement}
 use Rattle.yv_expand.specs.Tree.{Tree, Item, count, item_list}
 use Rattle.yv_expand.specs.InnerItems.{Give, no_more, one_more, StandBelow, items_below, origins, item_at}
 use Rattle.yv_expand.proofs.Listing.{longer}
@@ -136,7 +136,8 @@ module _ (files : Briefs) (rows : List Row) where
   give_many [] t no_more = omega arith
   give_many (o ∷ os) t (one_more {inner = inner} {below = below} {behind = behind} s g h) = omega (arith, give_many os behind h)
 
-  -- where an item is taken from the stack, the whole has room for what is left there with what stands below it
+  -- where an item is taken from the stack, the whole has room for what is left there with what
+  -- stands below it
   pub stack_room : Lengths → (a : Item) (items old stack popped : List Item) (t : Tree) → stack ≡ popped ++ a ∷ []
       → Whole stack items (old ++ item_list None (length old) t)
       → (inner : List Origin) × StandBelow files rows a.origin inner × (length popped + length inner < length old + count t)

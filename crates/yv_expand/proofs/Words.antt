@@ -12,7 +12,7 @@ use Rattle.yv_link_scopes.specs.Rows.{Row}
 use Rattle.yv_link_definitions.specs.BuiltIn.{is_among}
 use Rattle.yv_link_definitions.specs.Refers.{is_type, is_uses}
 use Rattle.yv_expand.specs.Units.{units_of, nodes, operations, keywords_passed}
-use Rattle.yv_expand.specs.Expands.{is_item, is_operation, is_input, is_output, is_augment}
+use Rattle.yv_expand.specs.StatementBlocks.{is_node_or_uses, is_operation, is_input, is_output, is_augment}
 
 -- a statement has one keyword
 pub word_is : (head : Head) (u : List ℕ) → has_word u head ≡ true → head.keyword ≡ u
@@ -22,29 +22,29 @@ pub false_true : false ≡ true → ⊥
 false_true h = cc
 
 -- what is an input, an output or an augment is no item
-pub input_no_item : (r : Row) → is_input r ≡ true → is_item r ≡ false
-unfolding is_item
+pub input_no_item : (r : Row) → is_input r ≡ true → is_node_or_uses r ≡ false
+unfolding is_node_or_uses
 input_no_item r h = ap (λ (w : List ℕ). is_among nodes w || is_among operations w) (word_is r.head (codes "input") h)
 
-pub output_no_item : (r : Row) → is_output r ≡ true → is_item r ≡ false
-unfolding is_item
+pub output_no_item : (r : Row) → is_output r ≡ true → is_node_or_uses r ≡ false
+unfolding is_node_or_uses
 output_no_item r h = ap (λ (w : List ℕ). is_among nodes w || is_among operations w) (word_is r.head (codes "output") h)
 
-pub augment_no_item : (r : Row) → is_augment r ≡ true → is_item r ≡ false
-unfolding is_item
+pub augment_no_item : (r : Row) → is_augment r ≡ true → is_node_or_uses r ≡ false
+unfolding is_node_or_uses
 augment_no_item r h = ap (λ (w : List ℕ). is_among nodes w || is_among operations w) (word_is r.head (codes "augment") h)
 
 -- an operation is an item
-pub operation_item : (r : Row) → is_operation r ≡ true → is_item r ≡ true
-unfolding is_item is_operation
+pub operation_item : (r : Row) → is_operation r ≡ true → is_node_or_uses r ≡ true
+unfolding is_node_or_uses is_operation
 operation_item r h = by (is_among nodes r.head.keyword) (is_among operations r.head.keyword) h
   where
     by : (a b : Bool) → b ≡ true → (a || b) ≡ true
     by true b e = refl
     by false b e = e
 
-pub no_item_no_operation : (r : Row) → is_item r ≡ false → is_operation r ≡ false
-unfolding is_item is_operation
+pub no_item_no_operation : (r : Row) → is_node_or_uses r ≡ false → is_operation r ≡ false
+unfolding is_node_or_uses is_operation
 no_item_no_operation r h = by (is_among nodes r.head.keyword) (is_among operations r.head.keyword) h
   where
     by : (a b : Bool) → (a || b) ≡ false → b ≡ false
@@ -52,8 +52,8 @@ no_item_no_operation r h = by (is_among nodes r.head.keyword) (is_among operatio
     by false b e = e
 
 -- what counts nothing is no item, no part and no augment
-pub no_units_no_item : (r : Row) → units_of r.head.keyword ≡ None → is_item r ≡ false
-unfolding units_of is_item
+pub no_units_no_item : (r : Row) → units_of r.head.keyword ≡ None → is_node_or_uses r ≡ false
+unfolding units_of is_node_or_uses
 no_units_no_item r e = by (is_among nodes r.head.keyword) (is_among operations r.head.keyword) (is_among keywords_passed r.head.keyword) 1 3 0 e
   where
     by : (b c d : Bool) (x y z : ℕ) → (if b then Some x else if c then Some y else if d then Some z else None) ≡ None → (b || c) ≡ false
@@ -89,21 +89,21 @@ no_units_no_augment r e = by (is_augment r) refl
     by false h = refl
 
 -- an item is no part and no augment
-pub item_no_input : (r : Row) → is_item r ≡ true → is_input r ≡ false
+pub item_no_input : (r : Row) → is_node_or_uses r ≡ true → is_input r ≡ false
 item_no_input r is = by (is_input r) refl
   where
     by : (b : Bool) → is_input r ≡ b → b ≡ false
     by true h = absurd (false_true (sym (input_no_item r h) ∙ is))
     by false h = refl
 
-pub item_no_output : (r : Row) → is_item r ≡ true → is_output r ≡ false
+pub item_no_output : (r : Row) → is_node_or_uses r ≡ true → is_output r ≡ false
 item_no_output r is = by (is_output r) refl
   where
     by : (b : Bool) → is_output r ≡ b → b ≡ false
     by true h = absurd (false_true (sym (output_no_item r h) ∙ is))
     by false h = refl
 
-pub item_no_augment : (r : Row) → is_item r ≡ true → is_augment r ≡ false
+pub item_no_augment : (r : Row) → is_node_or_uses r ≡ true → is_augment r ≡ false
 item_no_augment r is = by (is_augment r) refl
   where
     by : (b : Bool) → is_augment r ≡ b → b ≡ false
@@ -121,8 +121,8 @@ pub output_no_augment : (r : Row) → is_output r ≡ true → is_augment r ≡ 
 output_no_augment r h = ap (λ (w : List ℕ). bytes_eq w (codes "augment")) (word_is r.head (codes "output") h)
 
 -- an item that is no operation counts one
-pub item_units : (r : Row) → is_item r ≡ true → is_operation r ≡ false → units_of r.head.keyword ≡ Some 1
-unfolding units_of is_item is_operation
+pub item_units : (r : Row) → is_node_or_uses r ≡ true → is_operation r ≡ false → units_of r.head.keyword ≡ Some 1
+unfolding units_of is_node_or_uses is_operation
 item_units r is isnt = by (is_among nodes r.head.keyword) (is_among operations r.head.keyword) (is_among keywords_passed r.head.keyword) 1 3 0 is isnt
   where
     by : (a b c : Bool) (x y z : ℕ) → (a || b) ≡ true → b ≡ false → (if a then Some x else if b then Some y else if c then Some z else None) ≡ Some x
@@ -152,8 +152,8 @@ counts_uses r own u (inl t) =
     absurd (let bad : None ≡ Some own = sym type_units ∙ ap units_of (sym (word_is r.head (codes "type") t)) ∙ u in cc)
 counts_uses r own u (inr h) = h
 
-pub uses_item : (r : Row) → is_uses r ≡ true → is_item r ≡ true
-unfolding is_item
+pub uses_item : (r : Row) → is_uses r ≡ true → is_node_or_uses r ≡ true
+unfolding is_node_or_uses
 uses_item r h = ap (λ (w : List ℕ). is_among nodes w || is_among operations w) (word_is r.head (codes "uses") h)
 
 -- a type or a uses is no operation, and nor is a part

@@ -3,20 +3,16 @@ use Rattle.std.specs.Prelude.{◌≡◌, ℕ, Bool, List, length, map, None, Som
 use Rattle.yv_link_scopes.specs.Files.{Files, Briefs, brief_of}
 use Rattle.yv_link_scopes.specs.Rows.{Row}
 use Rattle.yv_link_scopes.specs.RowList.{rows_of}
-use Rattle.yv_expand.specs.Limit.{given_at, given_before}
-use Rattle.yv_expand.specs.Weigh.{block_of}
+use Rattle.yv_expand.specs.StatementBlocks.{given_at, block_of, augments_of}
 use Rattle.yv_expand.specs.Tree.{Tree, Item, all_of, count, join, item_list}
-use Rattle.yv_expand.specs.Expands.{Expands, is_augment, those}
+use Rattle.yv_expand.specs.Expands.{Expands}
 
--- a tree for each of the files of this order: what the statements at its top give; a file that isn't given has an empty one
+-- a tree for each of the files of this order: what the statements at its top give; a file that
+-- isn't given has an empty one
 pub record AreTrees (files : Briefs) (rows : List Row) (marks : List Bool) (order : List ℕ) (trees : List Tree) : Type 0 where
   pub each : length trees ≡ length order
   pub expands : (n file : ℕ) (t : Tree) → slice_get order n ≡ Some file → slice_get trees n ≡ Some t
       → Expands files rows (given_at files rows marks file) t
-
--- the augments of modules: those at the tops of the files that are given, by file and statement (RFC 7950, section 7.17)
-abbrev pub augments_of : Briefs → List Row → List Bool → List ℕ
-augments_of files rows marks = those is_augment rows (given_before files rows marks (length files))
 
 -- a tree for each augment of a module: what stands in its block
 pub record AreAdded (files : Briefs) (rows : List Row) (marks : List Bool) (trees : List Tree) : Type 0 where
@@ -24,8 +20,8 @@ pub record AreAdded (files : Briefs) (rows : List Row) (marks : List Bool) (tree
   pub expands : (n k : ℕ) (t : Tree) → slice_get (augments_of files rows marks) n ≡ Some k → slice_get trees n ≡ Some t
       → Expands files rows (block_of rows k) t
 
--- these are so many items of the expansion of these files, one file behind the other in this order, and behind them what the augments
--- of modules give, augment by augment
+-- these are so many items of the expansion of these files, one file behind the other in this order,
+-- and behind them what the augments of modules give, augment by augment
 pub record IsWhole (files : Files) (marks : List Bool) (order : List ℕ) (own : ℕ) (items : List Item) : Type 0 where
   pub trees : List Tree
   pub are : AreTrees (map brief_of files) (rows_of files) marks order trees

@@ -1,4 +1,5 @@
--- Inner definitions, which only private clauses cite: items by the block or the file in which they stand, and what they give.
+-- Inner definitions, which only private clauses cite: items by the block or the file in which they
+-- stand, and what they give.
 use Rattle.std.specs.Prelude.{◌≡◌, ℕ, zero, suc, ◌<◌, ◌==◌, ◌&&◌, not, Bool, true, false, List, [], ◌∷◌, ◌++◌, length, map, if◌then◌else◌, Option, Some, None, slice_get, slice_index_or}
 use Rattle.std.specs.Option.{unwrap_or}
 use Rattle.std.specs.declared.vec.Vec.{Vec}
@@ -6,11 +7,11 @@ use Rattle.std.specs.declared.alloc.Global.{Global}
 use Rattle.yv_link_scopes.specs.Files.{Briefs, module_file_at}
 use Rattle.yv_link_scopes.specs.Rows.{Row}
 use Rattle.yv_link_definitions.specs.Refers.{RefersTo}
-use Rattle.yv_expand.specs.Weigh.{block_of, numbers_from}
-use Rattle.yv_expand.specs.declared.item.Origin.{Origin}
-use Rattle.yv_expand.specs.declared.item.Origin.TheVariants.{Statement, Input, Output}
+use Rattle.yv_expand.specs.StatementBlocks.{block_of, numbers_from, is_node_or_uses, is_operation, is_input, is_output, is_augment, those, part, input_of, output_of}
+use Rattle.yv_expand.specs.declared.origin.Origin.{Origin}
+use Rattle.yv_expand.specs.declared.origin.Origin.TheVariants.{Statement, Input, Output}
 use Rattle.yv_expand.specs.Tree.{Tree, Item, none, item}
-use Rattle.yv_expand.specs.Expands.{is_item, is_operation, is_input, is_output, is_augment, those, blocks_of, part, input_of, output_of}
+use Rattle.yv_expand.specs.Expands.{blocks_of}
 use Rattle.yv_expand.specs.declared.blocks.Blocks.{Blocks}
 use Rattle.yv_expand.specs.declared.lists.WantedFiles.{WantedFiles}
 use Rattle.yv_expand.specs.declared.lists.WantedFiles.TheVariants.{Items, Inputs, Outputs, Augments}
@@ -20,7 +21,7 @@ Lists = List (Vec ℕ Global)
 
 -- whether a statement is one of those that are wanted
 abbrev pub is_wanted : WantedFiles → Row → Bool
-is_wanted Items r = is_item r
+is_wanted Items r = is_node_or_uses r
 is_wanted Inputs r = is_input r
 is_wanted Outputs r = is_output r
 is_wanted Augments r = is_augment r
@@ -70,22 +71,24 @@ abbrev pub tops_before : Lists → List Bool → ℕ → List ℕ
 tops_before lists marks zero = []
 tops_before lists marks (suc file) = tops_before lists marks file ++ top_at lists marks file
 
--- for each statement the items in its block, the inputs and outputs there, and the items in the blocks of the augments there
+-- for each statement the items in its block, the inputs and outputs there, and the items in the
+-- blocks of the augments there
 pub record AreBlocks (rows : List Row) (blocks : Blocks) : Type 0 where
-  pub own : (k : ℕ) → k < length rows → numbers_at blocks.own.items k ≡ those is_item rows (block_of rows k)
+  pub own : (k : ℕ) → k < length rows → numbers_at blocks.own.items k ≡ those is_node_or_uses rows (block_of rows k)
   pub inputs : (k : ℕ) → k < length rows → numbers_at blocks.inputs.items k ≡ those is_input rows (block_of rows k)
   pub outputs : (k : ℕ) → k < length rows → numbers_at blocks.outputs.items k ≡ those is_output rows (block_of rows k)
-  pub given : (k : ℕ) → k < length rows → numbers_at blocks.given.items k ≡ those is_item rows (blocks_of rows (block_of rows k))
+  pub given : (k : ℕ) → k < length rows → numbers_at blocks.given.items k ≡ those is_node_or_uses rows (blocks_of rows (block_of rows k))
 
 -- what numbered statements are as origins, and the items among them
 abbrev pub origins : List ℕ → List Origin
 origins numbers = map Statement numbers
 
 abbrev pub items_among : List Row → List ℕ → List Origin
-items_among rows numbers = origins (those is_item rows numbers)
+items_among rows numbers = origins (those is_node_or_uses rows numbers)
 
--- what stands below an item, in order: below an operation its two parts, below a uses what it copies and what its augments give,
--- below another statement the items of its block, and below a part that isn't written nothing
+-- what stands below an item, in order: below an operation its two parts, below a uses what it
+-- copies and what its augments give, below another statement the items of its block, and below a
+-- part that isn't written nothing
 pub data StandBelow (files : Briefs) (rows : List Row) : Origin → List Origin → Type 0 where
   below_node : {k : ℕ} {r : Row} → slice_get rows k ≡ Some r → is_operation r ≡ false → ((d : ℕ) → RefersTo files rows k d → ⊥)
       → StandBelow files rows (Statement k) (items_among rows (block_of rows k))

@@ -1,4 +1,5 @@
--- Inner definitions, which only private clauses cite: statements by the block or the file in which they count.
+-- Inner definitions, which only private clauses cite: statements by the block or the file in which
+-- they count.
 use Rattle.std.specs.Prelude.{◌≡◌, ℕ, ◌+◌, ◌==◌, ◌&&◌, not, Bool, false, List, [], ◌∷◌, length, if◌then◌else◌, Option, Some, None, slice_get, slice_index_or}
 use Rattle.std.specs.Option.{is_some, unwrap_or}
 use Rattle.std.specs.declared.vec.Vec.{Vec}
@@ -6,7 +7,7 @@ use Rattle.std.specs.declared.alloc.Global.{Global}
 use Rattle.yv_link_scopes.specs.Files.{Briefs, module_file_at}
 use Rattle.yv_link_scopes.specs.Rows.{Row}
 use Rattle.yv_expand.specs.Units.{units_of, saturate}
-use Rattle.yv_expand.specs.Weigh.{numbers_from}
+use Rattle.yv_expand.specs.StatementBlocks.{numbers_from}
 
 abbrev pub Lists : Type 0
 Lists = List (Vec ℕ Global)

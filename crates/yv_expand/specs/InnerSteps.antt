@@ -1,4 +1,5 @@
--- Inner definitions, which only private clauses cite: from each statement to those whose units it takes.
+-- Inner definitions, which only private clauses cite: from each statement to those whose units it
+-- takes.
 use Rattle.std.specs.Prelude.{◌≡◌, ◌↔◌, ℕ, ◌+◌, ◌⊎◌, List, [], ◌∷◌, ◌++◌, length, Option, Some, None, slice_get, slice_index_or}
 use Rattle.std.specs.declared.vec.Vec.{Vec}
 use Rattle.std.specs.declared.alloc.Global.{Global}
@@ -6,7 +7,8 @@ use Rattle.yv_link_scopes.specs.Files.{Briefs}
 use Rattle.yv_link_scopes.specs.Rows.{Row}
 use Rattle.yv_link_definitions.specs.Refers.{RefersTo}
 use Rattle.yv_expand.specs.Units.{units_of, saturate}
-use Rattle.yv_expand.specs.Weigh.{block_of, Weigh}
+use Rattle.yv_expand.specs.StatementBlocks.{block_of}
+use Rattle.yv_expand.specs.Weigh.{Weigh}
 use Rattle.yv_expand.specs.InnerLists.{Lists, part_place, placed_from}
 
 -- a statement that counts uses a grouping
@@ -30,7 +32,8 @@ pub record AreSteps (files : Briefs) (rows : List Row) (g : Lists) : Type 0 wher
 abbrev pub Brings : Briefs → List Row → ℕ → ℕ → Type 0
 Brings files rows k g = ((d : ℕ) × RefersTo files rows k d × Weigh files rows (block_of rows d) g) ⊎ (((d : ℕ) → RefersTo files rows k d → ⊥) × (g ≡ 0))
 
--- the worth of a statement that counts is what it takes, that of another what the statements in its block take
+-- the worth of a statement that counts is what it takes, that of another what the statements in its
+-- block take
 abbrev pub WorthBy : Briefs → List Row → ℕ → Option ℕ → ℕ → Type 0
 WorthBy files rows k None n = Weigh files rows (block_of rows k) n
 WorthBy files rows k (Some own) n = (g : ℕ) × (b : ℕ) × Brings files rows k g × Weigh files rows (block_of rows k) b × (n ≡ own + g + b)

@@ -2,7 +2,8 @@
 use Rattle.std.specs.Prelude.{◌≡◌, ◌<◌, ℕ, List, Some, slice_get}
 use Rattle.yv_expand.specs.Tree.{Item}
 
--- what contracts see of an `Expansion`: its limit, how many items the memory that was asked for has room for, and the items
+-- what contracts see of an `Expansion`: its limit, how many items the memory that was asked for has
+-- room for, and the items
 pub record WithinLimit : Type 0 where
   pub limit : ℕ
   pub capacity : ℕ

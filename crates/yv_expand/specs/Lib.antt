@@ -11,3 +11,4 @@ pub mod ItemLimit
 pub mod Expands
 pub mod Expansion
 pub mod InnerItems
+pub mod StatementBlocks

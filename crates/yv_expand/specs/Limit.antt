@@ -1,21 +1,13 @@
 -- Where the units of files pass a limit.
-use Rattle.std.specs.Prelude.{ℕ, zero, suc, ◌+◌, ◌≤◌, ◌<◌, Bool, false, List, [], ◌++◌, length, map, if◌then◌else◌, slice_index_or}
+use Rattle.std.specs.Prelude.{ℕ, ◌+◌, ◌≤◌, ◌<◌, Bool, List, length, map}
 use Rattle.yv_statement.specs.Order.{Stands, Among, refusal_at}
 use Rattle.yv_statement.specs.declared.refusal.Refusal.{Refusal}
 use Rattle.yv_statement.specs.declared.refusal.Code.TheVariants as code
 use Rattle.yv_link_scopes.specs.Files.{Files, Briefs, brief_of}
 use Rattle.yv_link_scopes.specs.Rows.{Row}
 use Rattle.yv_link_scopes.specs.RowList.{rows_of}
-use Rattle.yv_expand.specs.Weigh.{top_of, Weigh}
-
--- the statements at the top of a file that is given; a file without a mark isn't
-abbrev pub given_at : Briefs → List Row → List Bool → ℕ → List ℕ
-given_at files rows marks file = if slice_index_or marks file false then top_of files rows file else []
-
--- those of the first files
-abbrev pub given_before : Briefs → List Row → List Bool → ℕ → List ℕ
-given_before files rows marks zero = []
-given_before files rows marks (suc file) = given_before files rows marks file ++ given_at files rows marks file
+use Rattle.yv_expand.specs.StatementBlocks.{given_before}
+use Rattle.yv_expand.specs.Weigh.{Weigh}
 
 -- the files before this one fit the limit, and with this one they don't
 pub record Passes (files : Briefs) (rows : List Row) (marks : List Bool) (limit file : ℕ) : Type 0 where

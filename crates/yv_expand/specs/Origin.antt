@@ -1,9 +1,10 @@
--- What items are made of.
+-- The statements from which schema nodes come.
 use Rattle.std.specs.Prelude.{ℕ}
-use Rattle.yv_expand.specs.declared.item.Origin.{Origin}
-use Rattle.yv_expand.specs.declared.item.Origin.TheVariants.{Statement, Input, Output}
+use Rattle.yv_expand.specs.declared.origin.Origin.{Origin}
+use Rattle.yv_expand.specs.declared.origin.Origin.TheVariants.{Statement, Input, Output}
 
--- the number of the statement that gives an item: the one that it is made of, or the operation that doesn't write it
+-- the number of the statement: the one that gives the node, or the operation that does not write
+-- its input or output
 abbrev pub number_of : Origin → ℕ
 number_of (Statement k) = k
 number_of (Input k) = k

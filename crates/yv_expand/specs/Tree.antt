@@ -1,7 +1,8 @@
--- The expansion of statements as a tree: the schema nodes that they give, copies of groupings included, and each uses above
--- what it copies and what its augments give (RFC 7950, sections 7.12, 7.13 and 7.17).
+-- The expansion of statements as a tree: the schema nodes that they give, copies of groupings
+-- included, and each uses above what it copies and what its augments give (RFC 7950, sections 7.12,
+-- 7.13 and 7.17).
 use Rattle.std.specs.Prelude.{ℕ, ◌+◌, List, [], ◌∷◌, ◌++◌, Option, Some}
-use Rattle.yv_expand.specs.declared.item.Origin.{Origin}
+use Rattle.yv_expand.specs.declared.origin.Origin.{Origin}
 use Rattle.yv_expand.specs.declared.item.PlacedItem.{PlacedItem}
 
 -- items of one parent, in order: what the first is made of, the items below it, and those behind it
@@ -37,7 +38,8 @@ abbrev pub all_of : {A : Type 0} → List (Forest A) → Forest A
 all_of [] = none
 all_of (t ∷ ts) = join t (all_of ts)
 
--- the items as a list, each before those below it, with the number of its parent, where the first has the number `first`
+-- the items as a list, each before those below it, with the number of its parent, where the first
+-- has the number `first`
 abbrev pub item_list : {A : Type 0} → Option ℕ → ℕ → Forest A → List (PlacedItem A)
 item_list parent first none = []
 item_list parent first (item origin below behind) =

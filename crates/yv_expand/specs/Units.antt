@@ -2,14 +2,15 @@
 use Rattle.std.specs.Prelude.{ℕ, List, [], ◌∷◌, Option, Some, None, codes, if◌then◌else◌, min}
 use Rattle.yv_link_definitions.specs.BuiltIn.{is_among}
 
--- a schema node each (RFC 7950, section 3), and a uses, which counts one besides the nodes of its grouping; a case that is
--- left out (section 7.9.2) isn't counted
+-- a schema node each (RFC 7950, section 3), and a uses, which counts one besides the nodes of its
+-- grouping; a case that is left out (section 7.9.2) isn't counted
 abbrev pub nodes : List (List ℕ)
 nodes =
     codes "container" ∷ codes "leaf" ∷ codes "leaf-list" ∷ codes "list" ∷ codes "choice" ∷ codes "case" ∷ codes "anydata" ∷ codes "anyxml"
     ∷ codes "notification" ∷ codes "uses" ∷ []
 
--- a schema node with those for its input and its output, which are there in any case (sections 7.14 and 7.15)
+-- a schema node with those for its input and its output, which are there in any case (sections 7.14
+-- and 7.15)
 abbrev pub operations : List (List ℕ)
 operations = codes "rpc" ∷ codes "action" ∷ []
 
@@ -17,7 +18,8 @@ operations = codes "rpc" ∷ codes "action" ∷ []
 abbrev pub keywords_passed : List (List ℕ)
 keywords_passed = codes "input" ∷ codes "output" ∷ codes "augment" ∷ []
 
--- what a statement of a keyword counts by itself; none where neither it nor what stands in it counts
+-- what a statement of a keyword counts by itself; none where neither it nor what stands in it
+-- counts
 unfoldable pub units_of : List ℕ → Option ℕ
 units_of word =
     if is_among nodes word then Some 1

@@ -1,30 +1,15 @@
 -- How many units the expansion of statements takes (RFC 7950, sections 7.12 and 7.13).
-use Rattle.std.specs.Prelude.{◌≡◌, ℕ, ◌+◌, ◌==◌, ◌&&◌, not, Bool, List, [], ◌∷◌, if◌then◌else◌, Some, None, slice_get}
-use Rattle.yv_link_scopes.specs.Files.{Briefs, module_file_at}
+use Rattle.std.specs.Prelude.{◌≡◌, ℕ, ◌+◌, List, [], ◌∷◌, Some, None, slice_get}
+use Rattle.yv_link_scopes.specs.Files.{Briefs}
 use Rattle.yv_link_scopes.specs.Rows.{Row}
 use Rattle.yv_link_definitions.specs.Refers.{RefersTo}
 use Rattle.yv_expand.specs.Units.{units_of}
+use Rattle.yv_expand.specs.StatementBlocks.{block_of}
 
--- the numbers of the statements that pass, in order, the first statement having this number
-abbrev pub numbers_from : (ℕ → Row → Bool) → ℕ → List Row → List ℕ
-numbers_from passes number [] = []
-numbers_from passes number (r ∷ rs) = if passes number r then number ∷ numbers_from passes (number + 1) rs else numbers_from passes (number + 1) rs
-
--- a statement stands in a block that isn't its own
-abbrev pub stands_in : ℕ → ℕ → Row → Bool
-stands_in block k r = (r.scope == block) && not (r.scope == k)
-
--- the statements of a block
-abbrev pub block_of : List Row → ℕ → List ℕ
-block_of rows block = numbers_from (stands_in block) 0 rows
-
--- the statements at the top of a file: those of it in the block of its module's root
-abbrev pub top_of : Briefs → List Row → ℕ → List ℕ
-top_of files rows file = numbers_from (λ k r. stands_in (module_file_at files file) k r && (r.file == file)) 0 rows
-
--- The numbered statements take so many units: each what it counts by itself, what the statements of its block take, and,
--- if it uses a grouping, once more what those in the block of that grouping take. A grouping itself takes none. No number
--- is that of a statement from which a grouping is reached that leads to itself.
+-- The numbered statements take so many units: each what it counts by itself, what the statements of
+-- its block take, and, if it uses a grouping, once more what those in the block of that grouping
+-- take. A grouping itself takes none. No number is that of a statement from which a grouping is
+-- reached that leads to itself.
 pub data Weigh (files : Briefs) (rows : List Row) : List ℕ → ℕ → Type 0 where
   nothing : Weigh files rows [] 0
   other : {k m : ℕ} {r : Row} {others : List ℕ} → slice_get rows k ≡ Some r → units_of r.head.keyword ≡ None → Weigh files rows others m

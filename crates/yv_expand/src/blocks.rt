@@ -3,20 +3,22 @@ ghost use Rattle.std.specs.Prelude.{◌≡◌, ◌<◌, ◌≤◌, ◌+◌, ◌+
 ghost use Rattle.std.specs.List.{flat_map};
 ghost use Rattle.yv_link_scopes.specs.Views.{lent_in, files_in, rows_in};
 ghost use Rattle.yv_link_definitions.specs.Meanings.{AreNames};
-ghost use Rattle.yv_expand.specs.declared.item.Origin.{Origin};
-ghost use Rattle.yv_expand.specs.declared.item.Origin.TheVariants.{Statement, Input, Output};
-ghost use Rattle.yv_expand.specs.Expands.{is_at, is_operation, part};
+ghost use Rattle.yv_expand.specs.declared.origin.Origin.{Origin};
+ghost use Rattle.yv_expand.specs.declared.origin.Origin.TheVariants.{Statement, Input, Output};
+ghost use Rattle.yv_expand.specs.StatementBlocks.{is_at, is_operation, part};
 ghost use Rattle.yv_expand.specs.InnerItems.{AreBlocks, StandBelow, items_below, numbers_at, origins};
 
-use crate::item::{Item, Origin};
+use crate::item::Item;
 use crate::lists::{WantedFiles, numbers_at, of_blocks};
+use crate::origin::Origin;
 use crate::own::is_operation;
 use crate::stack::put;
 use std::alloc::{AllocError, Global};
 use yv_link_definitions::Names;
 use yv_link_scopes::Rows;
 
-/// For each statement the items in its block, the inputs and outputs there, and the items that its augments give.
+/// For each statement the items in its block, the inputs and outputs there, and the items that its
+/// augments give.
 #[derive(Drop)]
 pub(crate) struct Blocks {
     own: Vec<Vec<usize>>,
@@ -36,14 +38,16 @@ fn given_by(alloc: Global, own: &[Vec<usize>], augments: &[usize]) -> Result<Vec
     Ok(given)
 }
 
-// The same for each statement, whose augments these are. A uses is copied often, and its augments may be many and empty: what
-// they give is gathered once.
+// The same for each statement, whose augments these are. A uses is copied often, and its augments
+// may be many and empty: what they give is gathered once.
 fn all_given(
     alloc: Global,
     own: &[Vec<usize>],
     augments: &[Vec<usize>],
 ) -> Result<Vec<Vec<usize>>, AllocError>
-    ensures { IfOk result (λ all. (k : ℕ) → numbers_at all.items k ≡ flat_map (numbers_at own.now) (numbers_at augments.now k)) }
+    ensures { IfOk result
+        (λ all. (k : ℕ) → numbers_at all.items k
+        ≡ flat_map (numbers_at own.now) (numbers_at augments.now k)) }
 {
     let mut all = Vec::new(alloc);
     for numbers in augments {
@@ -94,7 +98,8 @@ impl Blocks {
         alloc: Global,
         augments: &[usize],
     ) -> Result<Vec<usize>, AllocError>
-        ensures { IfOk result (λ given. given.items ≡ flat_map (numbers_at self.now.own.items) augments.now) }
+        ensures { IfOk result
+            (λ given. given.items ≡ flat_map (numbers_at self.now.own.items) augments.now) }
     {
         given_by(alloc, &self.own, augments)
     }
@@ -108,9 +113,11 @@ impl Blocks {
     ) -> Result<(), AllocError>
         ensures full { OnErr result (vec_capacity stack.old < length stack.old.items + 2) }
         ensures grows { vec_capacity stack.old ≤ vec_capacity stack.new }
-        ensures items { OnOk result (stack.new.items ≡ stack.old.items ++ reverse (items_below parent
+        ensures items { OnOk result
+            (stack.new.items ≡ stack.old.items ++ reverse (items_below parent
             (part (Input operation) (slice_get (numbers_at self.now.inputs.items operation) 0)
-            ∷ part (Output operation) (slice_get (numbers_at self.now.outputs.items operation) 0) ∷ []))) }
+            ∷ part (Output operation) (slice_get (numbers_at self.now.outputs.items operation) 0)
+            ∷ []))) }
     {
         let output = part(
             Origin::Output(operation),
@@ -131,7 +138,8 @@ impl Blocks {
         Ok(())
     }
 
-    // Puts what a uses of a grouping gives on a stack, the first on top: what it copies comes before what its augments give.
+    // Puts what a uses of a grouping gives on a stack, the first on top: what it copies comes
+    // before what its augments give.
     fn put_uses(
         &self,
         stack: &mut Vec<Item>,
@@ -140,10 +148,14 @@ impl Blocks {
         parent: Option<usize>,
     ) -> Result<(), AllocError>
         ensures full { OnErr result (vec_capacity stack.old < length stack.old.items
-            + (length (numbers_at self.now.own.items grouping) + length (numbers_at self.now.given.items uses))) }
+            +
+            (length (numbers_at self.now.own.items grouping)
+            + length (numbers_at self.now.given.items uses))) }
         ensures grows { vec_capacity stack.old ≤ vec_capacity stack.new }
-        ensures items { OnOk result (stack.new.items ≡ stack.old.items ++ reverse (items_below parent
-            (origins (numbers_at self.now.own.items grouping) ++ origins (numbers_at self.now.given.items uses)))) }
+        ensures items { OnOk result
+            (stack.new.items ≡ stack.old.items ++ reverse (items_below parent
+            (origins (numbers_at self.now.own.items grouping)
+            ++ origins (numbers_at self.now.given.items uses)))) }
     {
         put(stack, numbers_at(&self.given, uses), parent)?;
         put(stack, numbers_at(&self.own, grouping), parent)
@@ -158,11 +170,16 @@ impl Blocks {
         statement: usize,
         parent: Option<usize>,
     ) -> Result<(), AllocError>
-        ensures some { OnOk result ((these : List Origin) × (stack.new.items ≡ stack.old.items ++ reverse (items_below parent these))) }
-        ensures below { (these : List Origin) → AreNames (lent_in rows.now) names.now → AreBlocks (rows_in rows.now) self.now
+        ensures some { OnOk result
+            ((these : List Origin)
+            × (stack.new.items ≡ stack.old.items ++ reverse (items_below parent these))) }
+        ensures below { (these : List Origin) → AreNames (lent_in rows.now) names.now
+            → AreBlocks (rows_in rows.now) self.now
             → StandBelow (files_in rows.now) (rows_in rows.now) (Statement statement) these
-            → OnOk result (stack.new.items ≡ stack.old.items ++ reverse (items_below parent these)) }
-        ensures full { (these : List Origin) → AreNames (lent_in rows.now) names.now → AreBlocks (rows_in rows.now) self.now
+            → OnOk result
+            (stack.new.items ≡ stack.old.items ++ reverse (items_below parent these)) }
+        ensures full { (these : List Origin) → AreNames (lent_in rows.now) names.now
+            → AreBlocks (rows_in rows.now) self.now
             → StandBelow (files_in rows.now) (rows_in rows.now) (Statement statement) these
             → OnErr result (vec_capacity stack.old < length stack.old.items + length these) }
         ensures grows { vec_capacity stack.old ≤ vec_capacity stack.new }
@@ -185,11 +202,16 @@ impl Blocks {
         origin: Origin,
         parent: Option<usize>,
     ) -> Result<(), AllocError>
-        ensures some { OnOk result ((these : List Origin) × (stack.new.items ≡ stack.old.items ++ reverse (items_below parent these))) }
-        ensures below { (these : List Origin) → AreNames (lent_in rows.now) names.now → AreBlocks (rows_in rows.now) self.now
+        ensures some { OnOk result
+            ((these : List Origin)
+            × (stack.new.items ≡ stack.old.items ++ reverse (items_below parent these))) }
+        ensures below { (these : List Origin) → AreNames (lent_in rows.now) names.now
+            → AreBlocks (rows_in rows.now) self.now
             → StandBelow (files_in rows.now) (rows_in rows.now) origin these
-            → OnOk result (stack.new.items ≡ stack.old.items ++ reverse (items_below parent these)) }
-        ensures full { (these : List Origin) → AreNames (lent_in rows.now) names.now → AreBlocks (rows_in rows.now) self.now
+            → OnOk result
+            (stack.new.items ≡ stack.old.items ++ reverse (items_below parent these)) }
+        ensures full { (these : List Origin) → AreNames (lent_in rows.now) names.now
+            → AreBlocks (rows_in rows.now) self.now
             → StandBelow (files_in rows.now) (rows_in rows.now) origin these
             → OnErr result (vec_capacity stack.old < length stack.old.items + length these) }
         ensures grows { vec_capacity stack.old ≤ vec_capacity stack.new }

@@ -19,13 +19,16 @@ pub fn what_is_not_refused_fits()
 
 /// Each numbered statement of files that conform fits in the block of some statement.
 pub fn numbered_statements_fit()
-    ensures { (files : Files) (k : ℕ) (t : Tree) → Conform files → slice_get (statements_of files) k ≡ Some t
+    ensures { (files : Files) (k : ℕ) (t : Tree) → Conform files → slice_get (statements_of files) k
+        ≡ Some t
         → (parent : Keyword) × FitsIn parent t }
 {}
 
-/// In files that conform, nothing in the block of a leaf, leaf-list, anydata or anyxml gives a schema node.
+/// In files that conform, nothing in the block of a leaf, leaf-list, anydata or anyxml gives a
+/// schema node.
 pub fn no_node_stands_in_a_leaf()
-    ensures { (files : Files) (k j : ℕ) (q r : Row) → Conform files → slice_get (rows_of files) k ≡ Some q → is_lowest q ≡ true
+    ensures { (files : Files) (k j : ℕ) (q r : Row) → Conform files → slice_get (rows_of files) k
+        ≡ Some q → is_lowest q ≡ true
         → slice_get (rows_of files) j ≡ Some r → r.scope ≡ k → gives_nodes r ≡ false }
 {
     yv_link_scopes::laws::modules_are_files();

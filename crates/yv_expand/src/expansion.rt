@@ -5,7 +5,8 @@ use crate::item::Item;
 use std::alloc::{AllocError, Global};
 use std::marker::Model;
 
-/// Items with numbers from 0, each after its parent, and never more than a limit. Contracts see the limit and the items.
+/// Items with numbers from 0, each after its parent, and never more than a limit. Contracts see the
+/// limit and the items.
 #[derive(Drop)]
 pub struct Expansion {
     limit: u32,
@@ -68,8 +69,8 @@ impl Expansion {
         self.items.as_slice()
     }
 
-    /// Adds an item after the others. There must be room, and its parent must be there. An error, which changes nothing, occurs
-    /// only where more memory had to be allocated.
+    /// Adds an item after the others. There must be room, and its parent must be there. An error,
+    /// which changes nothing, occurs only where more memory had to be allocated.
     pub fn push(&mut self, item: Item) -> Result<(), AllocError>
         requires room { length self.old.items < self.old.limit }
         requires parent { (p : ℕ) → item.parent ≡ Some p → p < length self.old.items }

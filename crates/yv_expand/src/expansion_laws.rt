@@ -4,12 +4,14 @@ ghost use Rattle.yv_expand.specs.Tree.{Forest, count, join, item_list};
 
 /// A list has as many items as its tree.
 pub fn a_tree_is_listed_whole<O>()
-    ensures { (parent : Option ℕ) (first : ℕ) (t : Forest O) → length (item_list parent first t) ≡ count t }
+    ensures { (parent : Option ℕ) (first : ℕ) (t : Forest O) → length (item_list parent first t)
+        ≡ count t }
 {}
 
 /// Trees are listed one after the other.
 pub fn trees_are_listed_in_order<O>()
     ensures count { (t u : Forest O) → count (join t u) ≡ count t + count u }
     ensures lists { (parent : Option ℕ) (first : ℕ) (t u : Forest O)
-        → item_list parent first (join t u) ≡ item_list parent first t ++ item_list parent (first + count t) u }
+        → item_list parent first (join t u) ≡ item_list parent first t
+        ++ item_list parent (first + count t) u }
 {}

@@ -1,8 +1,8 @@
 //! What files expand to.
 use crate::expansion::Expansion;
 
-/// The expansion of files. After the items of the files' own trees comes what the augments of modules give, augment by augment,
-/// and below no node yet.
+/// The expansion of files. After the items of the files' own trees comes what the augments of
+/// modules give, augment by augment, and below no node yet.
 #[derive(Drop)]
 pub struct FileExpansion {
     /// All items.

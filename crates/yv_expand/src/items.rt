@@ -7,15 +7,16 @@ ghost use Rattle.yv_expand.specs.InnerItems.{AreBlocks, Give, origins};
 
 use crate::blocks::Blocks;
 use crate::expansion::Expansion;
-use crate::item::{Item, Origin};
+use crate::item::Item;
+use crate::origin::Origin;
 use crate::stack::put;
 use std::alloc::AllocError;
 use yv_link_definitions::Names;
 use yv_link_scopes::Rows;
 
-/// Adds the items of these statements after the others, at the top, each with all that is below it, which must fit the limit.
-/// The caller lends the stack. An error occurs only where one of the two lists had no room for the limit, and more memory had to be
-/// allocated.
+/// Adds the items of these statements after the others, at the top, each with all that is below it,
+/// which must fit the limit. The caller lends the stack. An error occurs only where one of the two
+/// lists had no room for the limit, and more memory had to be allocated.
 pub(crate) fn add_items(
     rows: &Rows<'_, '_>,
     names: &Names,
@@ -29,11 +30,15 @@ pub(crate) fn add_items(
     requires blocks { AreBlocks (rows_in rows.now) blocks.now }
     requires fits { (t : Tree) × Give (files_in rows.now) (rows_in rows.now) (origins firsts.now) t
         × (length expansion.old.items + count t ≤ expansion.old.limit) }
-    ensures full { OnErr result ((vec_capacity stack.old < expansion.old.limit) ⊎ (expansion.old.capacity < expansion.old.limit)) }
+    ensures full { OnErr result
+        ((vec_capacity stack.old < expansion.old.limit)
+        ⊎ (expansion.old.capacity < expansion.old.limit)) }
     ensures empty { OnOk result (stack.new.items ≡ []) }
     ensures limit { expansion.new.limit ≡ expansion.old.limit }
     ensures items { (t : Tree) → Give (files_in rows.now) (rows_in rows.now) (origins firsts.now) t
-        → OnOk result (expansion.new.items ≡ expansion.old.items ++ item_list None (length expansion.old.items) t) }
+        → OnOk result
+        (expansion.new.items ≡ expansion.old.items
+        ++ item_list None (length expansion.old.items) t) }
 {
     crate::expansion_laws::a_tree_is_listed_whole::<Origin>();
     put(stack, firsts, None)?;

@@ -3,17 +3,18 @@ ghost use Rattle.std.specs.Prelude.{◌≡◌, ◌≤◌, ◌<◌, ℕ, All, Boo
 ghost use Rattle.yv_link_scopes.specs.Files.{Briefs, Files, brief_of};
 ghost use Rattle.yv_link_scopes.specs.Rows.{Row};
 ghost use Rattle.yv_link_scopes.specs.RowList.{rows_of};
-ghost use Rattle.yv_expand.specs.Limit.{given_before};
+ghost use Rattle.yv_expand.specs.StatementBlocks.{given_before};
 ghost use Rattle.yv_expand.specs.Weigh.{Weigh};
 ghost use Rattle.yv_expand.specs.Tree.{Item, Tree, count};
 ghost use Rattle.yv_expand.specs.Expands.{Expands};
 ghost use Rattle.yv_expand.specs.Expansion.{IsWhole};
 
-use crate::item::Origin;
+use crate::origin::Origin;
 
 /// Statements have one expansion at most.
 pub fn an_expansion_is_one()
-    ensures { (files : Briefs) (rows : List Row) (numbers : List ℕ) (t u : Tree) → Expands files rows numbers t
+    ensures { (files : Briefs) (rows : List Row) (numbers : List ℕ) (t u : Tree)
+        → Expands files rows numbers t
         → Expands files rows numbers u → t ≡ u }
 {
     yv_link_scopes::laws::a_name_means_one_thing();
@@ -21,7 +22,8 @@ pub fn an_expansion_is_one()
 
 /// An expansion has no more items than units were counted for it.
 pub fn items_are_within_units()
-    ensures { (files : Briefs) (rows : List Row) (numbers : List ℕ) (t : Tree) (n : ℕ) → Expands files rows numbers t
+    ensures { (files : Briefs) (rows : List Row) (numbers : List ℕ) (t : Tree) (n : ℕ)
+        → Expands files rows numbers t
         → Weigh files rows numbers n → count t ≤ n }
 {
     yv_link_scopes::laws::a_name_means_one_thing();
@@ -29,25 +31,32 @@ pub fn items_are_within_units()
 
 /// Statements whose units can be counted have an expansion.
 pub fn what_weighs_expands()
-    ensures { (files : Briefs) (rows : List Row) (numbers : List ℕ) (n : ℕ) → Weigh files rows numbers n
+    ensures { (files : Briefs) (rows : List Row) (numbers : List ℕ) (n : ℕ)
+        → Weigh files rows numbers n
         → (t : Tree) × Expands files rows numbers t }
 {}
 
-/// Files have at most one expansion in an order, and one number of items that are the files' own trees.
+/// Files have at most one expansion in an order, and one number of items that are the files' own
+/// trees.
 pub fn a_whole_is_one()
-    ensures { (files : Files) (marks : List Bool) (order : List ℕ) (own own' : ℕ) (items items' : List Item)
-        → IsWhole files marks order own items → IsWhole files marks order own' items' → (own ≡ own') × (items ≡ items') }
+    ensures { (files : Files) (marks : List Bool) (order : List ℕ) (own own' : ℕ)
+        (items items' : List Item)
+        → IsWhole files marks order own items → IsWhole files marks order own' items' → (own ≡ own')
+        × (items ≡ items') }
 {
     yv_link_scopes::laws::a_name_means_one_thing();
 }
 
-/// The expansion of files in an order that lists no file twice has no more items than units were counted for the files that are
-/// given. A file's units cover its own items and what is in the blocks of its augments.
+/// The expansion of files in an order that lists no file twice has no more items than units were
+/// counted for the files that are given. A file's units cover its own items and what is in the
+/// blocks of its augments.
 pub fn a_whole_is_within_units()
-    ensures { (files : Files) (marks : List Bool) (order : List ℕ) (own units : ℕ) (items : List Item) → IsWhole files marks order own items
+    ensures { (files : Files) (marks : List Bool) (order : List ℕ) (own units : ℕ)
+        (items : List Item) → IsWhole files marks order own items
         → All (λ file. file < length files) order
         → ((i k n : ℕ) → slice_get order i ≡ Some n → slice_get order k ≡ Some n → i ≡ k)
-        → Weigh (map brief_of files) (rows_of files) (given_before (map brief_of files) (rows_of files) marks (length files)) units
+        → Weigh (map brief_of files) (rows_of files)
+        (given_before (map brief_of files) (rows_of files) marks (length files)) units
         → length items ≤ units }
 {
     yv_link_scopes::laws::a_name_means_one_thing();

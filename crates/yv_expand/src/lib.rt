@@ -1,7 +1,7 @@
-//! The expansion of files within a limit: each schema node that their statements give, with copies of what is in
-//! groupings and what augments give below each uses, as one list (RFC 7950, sections 7.12, 7.13 and 7.17). The files are in
-//! an order that the caller gives. All takes time linear in statements, items and the order, except for one look-up of a name for
-//! each file.
+//! The expansion of files within a limit: each schema node that their statements give, with copies
+//! of what is in groupings and what augments give below each uses, as one list (RFC 7950, sections
+//! 7.12, 7.13 and 7.17). The files are in an order that the caller gives. All takes time linear in
+//! statements, items and the order, except for one look-up of a name for each file.
 #![tactic(auto)]
 
 mod blocks;
@@ -14,6 +14,7 @@ mod items;
 pub mod laws;
 mod limit;
 mod lists;
+mod origin;
 mod own;
 mod stack;
 mod steps;
@@ -26,7 +27,8 @@ mod whole;
 
 pub use expansion::Expansion;
 pub use file_expansion::FileExpansion;
-pub use item::{Item, Origin, PlacedItem, RemainingNode};
+pub use item::{Item, PlacedItem, RemainingNode};
 pub use limit::too_many;
+pub use origin::Origin;
 pub use weights::Units;
 pub use whole::expand;

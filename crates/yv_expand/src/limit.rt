@@ -17,7 +17,9 @@ use yv_statement::{Code, Refusal, lesser, refusal_if};
 
 // The units of a file, or none where it isn't given.
 fn file_units(values: &[u64], tops: &[Vec<usize>], given: &[bool], file: usize) -> u64
-    ensures { result ≡ (if slice_index_or given.now file false then top_sum values.now (slice_get tops.now file) else 0) }
+    ensures { result
+        ≡ (if slice_index_or given.now file false then top_sum values.now (slice_get tops.now file)
+        else 0) }
 {
     if !given.get(file).copied().unwrap_or(false) {
         return 0;
@@ -44,7 +46,8 @@ fn first_past(
     given: &[bool],
     limit: u32,
 ) -> Option<Refusal>
-    requires { ArePlaced (top_place (files_in rows.now)) (rows_in rows.now) (length (files_in rows.now)) tops.now }
+    requires { ArePlaced (top_place (files_in rows.now)) (rows_in rows.now)
+        (length (files_in rows.now)) tops.now }
     ensures refusal { AreSettled (files_in rows.now) (rows_in rows.now) values.now
         → IsLeast (TooMany (lent_in rows.now) given.now limit) result }
     ensures fits { AreSettled (files_in rows.now) (rows_in rows.now) values.now
@@ -63,10 +66,11 @@ fn first_past(
     least
 }
 
-/// The refusal of the first file with which the units of files pass the limit, at its root (RFC 7950, sections 7.12
-/// and 7.13): those of the files that are marked as given, in their order. A file without a mark isn't given. A node
-/// counts one, an rpc or an action three with its input and output, and a uses one and besides once more what is
-/// in its grouping. Takes time linear in statements, also where the units are too many to be reported.
+/// The refusal of the first file with which the units of files pass the limit, at its root (RFC
+/// 7950, sections 7.12 and 7.13): those of the files that are marked as given, in their order. A
+/// file without a mark isn't given. A node counts one, an rpc or an action three with its input and
+/// output, and a uses one and besides once more what is in its grouping. Takes time linear in
+/// statements, also where the units are too many to be reported.
 pub fn too_many(
     alloc: Global,
     rows: &Rows<'_, '_>,

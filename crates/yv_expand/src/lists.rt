@@ -6,7 +6,7 @@ ghost use Rattle.yv_link_scopes.specs.Rows.{row};
 ghost use Rattle.yv_link_scopes.specs.Views.{files_in, rows_in};
 ghost use Rattle.yv_expand.specs.InnerItems.{AreEmpty, AreModuleFiles, ArePlaced, block_place, is_wanted, top_place, numbers_at, top_at, tops_before};
 
-use crate::own::is_item;
+use crate::own::is_node_or_uses;
 use std::alloc::{AllocError, Global};
 use yv_link_scopes::{Entry, Rows};
 
@@ -36,7 +36,7 @@ fn is_wanted(wanted: WantedFiles, entry: &Entry<'_, '_>) -> bool
     ensures { result ≡ is_wanted wanted (row entry.now) }
 {
     match wanted {
-        WantedFiles::Items => is_item(entry),
+        WantedFiles::Items => is_node_or_uses(entry),
         WantedFiles::Inputs => entry.statement.keyword() == "input",
         WantedFiles::Outputs => entry.statement.keyword() == "output",
         WantedFiles::Augments => entry.statement.keyword() == "augment",
@@ -54,8 +54,8 @@ fn block_place(wanted: WantedFiles, number: usize, entry: &Entry<'_, '_>) -> Opt
     }
 }
 
-// For each file that of its module. A name is looked up once for a file, and not for each statement at its top: the
-// names may be long.
+// For each file that of its module. A name is looked up once for a file, and not for each statement
+// at its top: the names may be long.
 fn module_files(alloc: Global, rows: &Rows<'_, '_>) -> Result<Vec<usize>, AllocError>
     ensures { IfOk result (λ module_files. AreModuleFiles (files_in rows.now) module_files.items) }
 {
@@ -73,7 +73,8 @@ fn top_place(
     number: usize,
     entry: &Entry<'_, '_>,
 ) -> Option<usize>
-    ensures { (files : Briefs) → AreModuleFiles files module_files.now → result ≡ top_place (is_wanted wanted) files number (row entry.now) }
+    ensures { (files : Briefs) → AreModuleFiles files module_files.now → result
+        ≡ top_place (is_wanted wanted) files number (row entry.now) }
 {
     let file = entry.file as usize;
     let module_file = module_files.get(file).copied().unwrap_or(file);
@@ -90,7 +91,9 @@ pub(crate) fn of_blocks(
     rows: &Rows<'_, '_>,
     wanted: WantedFiles,
 ) -> Result<Vec<Vec<usize>>, AllocError>
-    ensures { IfOk result (λ lists. ArePlaced (block_place (is_wanted wanted)) (rows_in rows.now) (length (rows_in rows.now)) lists.items) }
+    ensures { IfOk result
+        (λ lists. ArePlaced (block_place (is_wanted wanted)) (rows_in rows.now)
+        (length (rows_in rows.now)) lists.items) }
 {
     yv_link_scopes::laws::blocks_are_nested();
     let entries = rows.entries();
@@ -109,7 +112,8 @@ pub(crate) fn of_files(
     rows: &Rows<'_, '_>,
     wanted: WantedFiles,
 ) -> Result<Vec<Vec<usize>>, AllocError>
-    ensures { IfOk result (λ lists. ArePlaced (top_place (is_wanted wanted) (files_in rows.now)) (rows_in rows.now)
+    ensures { IfOk result
+        (λ lists. ArePlaced (top_place (is_wanted wanted) (files_in rows.now)) (rows_in rows.now)
         (length (files_in rows.now)) lists.items) }
 {
     yv_link_scopes::laws::roots_come_first();
@@ -150,7 +154,8 @@ pub(crate) fn firsts(
     tops: &[Vec<usize>],
     given: &[bool],
 ) -> Result<Vec<usize>, AllocError>
-    ensures { IfOk result (λ firsts. firsts.items ≡ tops_before tops.now given.now (length tops.now)) }
+    ensures { IfOk result
+        (λ firsts. firsts.items ≡ tops_before tops.now given.now (length tops.now)) }
 {
     let mut firsts = Vec::new(alloc);
     for file in 0..tops.len() {
@@ -166,7 +171,8 @@ pub(crate) fn firsts_in(
     given: &[bool],
     order: &[usize],
 ) -> Result<Vec<usize>, AllocError>
-    ensures { IfOk result (λ firsts. firsts.items ≡ flat_map (top_at tops.now given.now) order.now) }
+    ensures { IfOk result
+        (λ firsts. firsts.items ≡ flat_map (top_at tops.now given.now) order.now) }
 {
     let mut firsts = Vec::new(alloc);
     for file in order {

@@ -3,7 +3,7 @@ ghost use Rattle.std.specs.Prelude.{◌≡◌, map};
 ghost use Rattle.yv_link_scopes.specs.Rows.{row};
 ghost use Rattle.yv_link_definitions.specs.BuiltIn.{is_among};
 ghost use Rattle.yv_expand.specs.Units.{nodes, operations};
-ghost use Rattle.yv_expand.specs.Expands.{is_item, is_operation};
+ghost use Rattle.yv_expand.specs.StatementBlocks.{is_node_or_uses, is_operation};
 
 use yv_link_scopes::Entry;
 
@@ -35,7 +35,7 @@ fn is_among(words: &[&str], name: &str) -> bool
 }
 
 /// Whether a statement is an rpc or an action.
-#[tactic(auto, unfolding(crate::specs::Expands::is_operation))]
+#[tactic(auto, unfolding(crate::specs::StatementBlocks::is_operation))]
 pub(crate) fn is_operation(entry: &Entry<'_, '_>) -> bool
     ensures { result ≡ is_operation (row entry.now) }
 {
@@ -43,9 +43,9 @@ pub(crate) fn is_operation(entry: &Entry<'_, '_>) -> bool
 }
 
 /// Whether a statement is an item: one that gives a schema node, or a uses.
-#[tactic(auto, unfolding(crate::specs::Expands::is_item))]
-pub(crate) fn is_item(entry: &Entry<'_, '_>) -> bool
-    ensures { result ≡ is_item (row entry.now) }
+#[tactic(auto, unfolding(crate::specs::StatementBlocks::is_node_or_uses))]
+pub(crate) fn is_node_or_uses(entry: &Entry<'_, '_>) -> bool
+    ensures { result ≡ is_node_or_uses (row entry.now) }
 {
     let keyword = entry.statement.keyword();
     is_among(&NODES, keyword) || is_among(&OPERATIONS, keyword)

@@ -2,7 +2,8 @@
 ghost use Rattle.std.specs.Prelude.{◌≡◌, ◌<◌, ◌≤◌, ◌+◌, ◌++◌, length, reverse, vec_capacity, OnErr, OnOk};
 ghost use Rattle.yv_expand.specs.InnerItems.{items_below, origins};
 
-use crate::item::{Item, Origin};
+use crate::item::Item;
+use crate::origin::Origin;
 use std::alloc::AllocError;
 
 /// Puts the items of statements of one parent on a stack, the first on top.
@@ -11,8 +12,10 @@ pub(crate) fn put(
     numbers: &[usize],
     parent: Option<usize>,
 ) -> Result<(), AllocError>
-    ensures items { OnOk result (stack.new.items ≡ stack.old.items ++ reverse (items_below parent (origins numbers.now))) }
-    ensures full { OnErr result (vec_capacity stack.old < length stack.old.items + length numbers.now) }
+    ensures items { OnOk result
+        (stack.new.items ≡ stack.old.items ++ reverse (items_below parent (origins numbers.now))) }
+    ensures full { OnErr result
+        (vec_capacity stack.old < length stack.old.items + length numbers.now) }
     ensures grows { vec_capacity stack.old ≤ vec_capacity stack.new }
 {
     let mut rest = numbers;

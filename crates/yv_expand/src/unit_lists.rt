@@ -31,8 +31,8 @@ fn part_place(number: usize, entry: &Entry<'_, '_>) -> Option<usize>
     }
 }
 
-// For each file that of its module. A name is looked up once for a file, and not for each statement at its top: the
-// names may be long.
+// For each file that of its module. A name is looked up once for a file, and not for each statement
+// at its top: the names may be long.
 fn module_files(alloc: Global, rows: &Rows<'_, '_>) -> Result<Vec<usize>, AllocError>
     ensures { IfOk result (λ module_files. AreModuleFiles (files_in rows.now) module_files.items) }
 {
@@ -45,7 +45,8 @@ fn module_files(alloc: Global, rows: &Rows<'_, '_>) -> Result<Vec<usize>, AllocE
 
 // The file at whose top a statement counts.
 fn top_place(module_files: &[usize], number: usize, entry: &Entry<'_, '_>) -> Option<usize>
-    ensures { (files : Briefs) → AreModuleFiles files module_files.now → result ≡ top_place files number (row entry.now) }
+    ensures { (files : Briefs) → AreModuleFiles files module_files.now → result
+        ≡ top_place files number (row entry.now) }
 {
     let file = entry.file as usize;
     let module_file = module_files.get(file).copied().unwrap_or(file);
@@ -58,7 +59,8 @@ fn top_place(module_files: &[usize], number: usize, entry: &Entry<'_, '_>) -> Op
 
 /// For each statement those in its block that count.
 pub(crate) fn parts(alloc: Global, rows: &Rows<'_, '_>) -> Result<Vec<Vec<usize>>, AllocError>
-    ensures { IfOk result (λ lists. ArePlaced part_place (rows_in rows.now) (length (rows_in rows.now)) lists.items) }
+    ensures { IfOk result
+        (λ lists. ArePlaced part_place (rows_in rows.now) (length (rows_in rows.now)) lists.items) }
 {
     yv_link_scopes::laws::blocks_are_nested();
     let entries = rows.entries();
@@ -73,7 +75,9 @@ pub(crate) fn parts(alloc: Global, rows: &Rows<'_, '_>) -> Result<Vec<Vec<usize>
 
 /// For each file those at its top that count.
 pub(crate) fn tops(alloc: Global, rows: &Rows<'_, '_>) -> Result<Vec<Vec<usize>>, AllocError>
-    ensures { IfOk result (λ lists. ArePlaced (top_place (files_in rows.now)) (rows_in rows.now) (length (files_in rows.now)) lists.items) }
+    ensures { IfOk result
+        (λ lists. ArePlaced (top_place (files_in rows.now)) (rows_in rows.now)
+        (length (files_in rows.now)) lists.items) }
 {
     yv_link_scopes::laws::roots_come_first();
     let module_files = module_files(alloc, rows)?;

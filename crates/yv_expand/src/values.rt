@@ -39,7 +39,8 @@ pub(crate) fn values(
 ) -> Result<Vec<u64>, AllocError>
     requires each { length steps.now ≡ length (rows_in rows.now) }
     requires within { All (λ a. a < length steps.now) order.now }
-    ensures { (files : Briefs) → AreSteps files (rows_in rows.now) steps.now → IsOrder steps.now order.now
+    ensures { (files : Briefs) → AreSteps files (rows_in rows.now) steps.now
+        → IsOrder steps.now order.now
         → IfOk result (λ values. AreSettled files (rows_in rows.now) values.items) }
 {
     let entries = rows.entries();

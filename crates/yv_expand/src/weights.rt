@@ -17,7 +17,8 @@ use std::alloc::{AllocError, Global};
 use yv_link_definitions::Names;
 use yv_link_scopes::{Entry, Rows};
 
-/// The value of each statement: what it takes, or, where it doesn't count, what the statements in its block take.
+/// The value of each statement: what it takes, or, where it doesn't count, what the statements in
+/// its block take.
 pub(crate) fn weigh_statements(
     alloc: Global,
     rows: &Rows<'_, '_>,
@@ -34,7 +35,8 @@ pub(crate) fn weigh_statements(
 
 // How many units a statement takes.
 fn weight(values: &[u64], number: usize, entry: &Entry<'_, '_>) -> u64
-    ensures { (files : Briefs) (rows : List Row) → slice_get rows number ≡ Some (row entry.now) → IsSettled files rows values.now number
+    ensures { (files : Briefs) (rows : List Row) → slice_get rows number ≡ Some (row entry.now)
+        → IsSettled files rows values.now number
         → (n : ℕ) × Weighs files rows number n × (result ≡ saturate n) }
 {
     match own_units(entry) {
@@ -55,7 +57,8 @@ fn weights(alloc: Global, rows: &Rows<'_, '_>, values: &[u64]) -> Result<Vec<u64
     Ok(weights)
 }
 
-/// How many units each statement of files takes in which nothing is wrong with the names of definitions.
+/// How many units each statement of files takes in which nothing is wrong with the names of
+/// definitions.
 #[derive(Drop)]
 pub struct Units {
     weights: Vec<u64>,
@@ -64,20 +67,23 @@ pub struct Units {
 impl Units {
     /// Counts the units of files, given their names. Takes time linear in statements.
     pub fn read(alloc: Global, rows: &Rows<'_, '_>, names: &Names) -> Result<Units, AllocError>
-        ensures { AreNames (lent_in rows.now) names.now → IfOk result (AreUnits (lent_in rows.now)) }
+        ensures { AreNames (lent_in rows.now) names.now
+            → IfOk result (AreUnits (lent_in rows.now)) }
     {
         let values = weigh_statements(alloc, rows, names)?;
         let weights = weights(alloc, rows, &values)?;
         Ok(Units { weights })
     }
 
-    /// How many units the statement of a number takes with all that is in it, or 2 to the 64 less one where these
-    /// are more: a node one, an rpc or an action three with its input and output, a uses one and besides once more what
-    /// is in its grouping, and a statement that makes no nodes, as a grouping, none (RFC 7950, sections 7.12 and
+    /// How many units the statement of a number takes with all that is in it, or 2 to the 64 less
+    /// one where these are more: a node one, an rpc or an action three with its input and output, a
+    /// uses one and besides once more what is in its grouping, and a statement that makes no nodes,
+    /// as a grouping, none (RFC 7950, sections 7.12 and
     /// 7.13). 0 past the last statement.
     pub fn weight(&self, number: usize) -> u64
         ensures { (files : Files) → AreUnits files self.now → number < length (rows_of files)
-            → (n : ℕ) × Weighs (map brief_of files) (rows_of files) number n × (result ≡ saturate n) }
+            → (n : ℕ) × Weighs (map brief_of files) (rows_of files) number n
+            × (result ≡ saturate n) }
     {
         value(&self.weights, number)
     }

@@ -6,15 +6,16 @@ ghost use Rattle.yv_statement.specs.declared.refusal.Stop.TheVariants.{Fault, Pa
 ghost use Rattle.yv_link_scopes.specs.Views.{files_in, lent_in, rows_in};
 ghost use Rattle.yv_link_definitions.specs.Meanings.{AreNames};
 ghost use Rattle.yv_expand.specs.Limit.{Fits, TooMany};
-ghost use Rattle.yv_expand.specs.Expansion.{IsWhole, augments_of};
+ghost use Rattle.yv_expand.specs.Expansion.{IsWhole};
+ghost use Rattle.yv_expand.specs.StatementBlocks.{augments_of};
 
 use crate::blocks::Blocks;
 use crate::expansion::Expansion;
 use crate::file_expansion::FileExpansion;
-use crate::item::Origin;
 use crate::items::add_items;
 use crate::limit::too_many;
 use crate::lists::{WantedFiles, firsts, firsts_in, of_files};
+use crate::origin::Origin;
 use std::alloc::{AllocError, Global};
 use yv_link_definitions::Names;
 use yv_link_scopes::Rows;
@@ -30,12 +31,15 @@ fn within(
     limit: u32,
 ) -> Result<FileExpansion, AllocError>
     requires within { All (λ file. file < length (files_in rows.now)) order.now }
-    requires once { (i k n : ℕ) → slice_get order.now i ≡ Some n → slice_get order.now k ≡ Some n → i ≡ k }
+    requires once { (i k n : ℕ) → slice_get order.now i ≡ Some n → slice_get order.now k ≡ Some n
+        → i ≡ k }
     requires names { AreNames (lent_in rows.now) names.now }
     requires fits { Fits (lent_in rows.now) given.now limit }
     ensures limit { IfOk result (λ e. e.expansion.limit ≡ limit) }
-    ensures augments { IfOk result (λ e. e.augments.items ≡ augments_of (files_in rows.now) (rows_in rows.now) given.now) }
-    ensures expands { IfOk result (λ e. IsWhole (lent_in rows.now) given.now order.now e.own e.expansion.items) }
+    ensures augments { IfOk result
+        (λ e. e.augments.items ≡ augments_of (files_in rows.now) (rows_in rows.now) given.now) }
+    ensures expands { IfOk result
+        (λ e. IsWhole (lent_in rows.now) given.now order.now e.own e.expansion.items) }
 {
     yv_link_scopes::laws::a_name_means_one_thing();
     crate::expansion_laws::a_tree_is_listed_whole::<Origin>();
@@ -65,11 +69,12 @@ fn within(
     })
 }
 
-/// The expansion of the files of an order that are marked as given, one file after the other in this order and each item before
-/// those below it (RFC 7950, sections 7.12 and 7.13), and after it what the augments at the tops of all files that are given
-/// give, by file and statement (section 7.17), or, where the units of these pass the limit, the refusal of the first file by number
-/// with which they do. A file without a mark isn't given. An expansion has no more items than units, since the order lists no file
-/// twice.
+/// The expansion of the files of an order that are marked as given, one file after the other in
+/// this order and each item before those below it (RFC 7950, sections 7.12 and 7.13), and after it
+/// what the augments at the tops of all files that are given give, by file and statement (section
+/// 7.17), or, where the units of these pass the limit, the refusal of the first file by number with
+/// which they do. A file without a mark isn't given. An expansion has no more items than units,
+/// since the order lists no file twice.
 pub fn expand(
     alloc: Global,
     rows: &Rows<'_, '_>,
@@ -79,15 +84,20 @@ pub fn expand(
     limit: u32,
 ) -> Result<FileExpansion, Stop>
     requires within { All (λ file. file < length (files_in rows.now)) order.now }
-    requires once { (i k n : ℕ) → slice_get order.now i ≡ Some n → slice_get order.now k ≡ Some n → i ≡ k }
+    requires once { (i k n : ℕ) → slice_get order.now i ≡ Some n → slice_get order.now k ≡ Some n
+        → i ≡ k }
     requires names { AreNames (lent_in rows.now) names.now }
     ensures expands { AreNames (lent_in rows.now) names.now
-        → IfOk result (λ e. IsWhole (lent_in rows.now) given.now order.now e.own e.expansion.items) }
-    ensures augments { IfOk result (λ e. e.augments.items ≡ augments_of (files_in rows.now) (rows_in rows.now) given.now) }
+        → IfOk result
+        (λ e. IsWhole (lent_in rows.now) given.now order.now e.own e.expansion.items) }
+    ensures augments { IfOk result
+        (λ e. e.augments.items ≡ augments_of (files_in rows.now) (rows_in rows.now) given.now) }
     ensures limit { IfOk result (λ e. e.expansion.limit ≡ limit) }
-    ensures fits { AreNames (lent_in rows.now) names.now → OnOk result (IsLeast (TooMany (lent_in rows.now) given.now limit) None) }
+    ensures fits { AreNames (lent_in rows.now) names.now
+        → OnOk result (IsLeast (TooMany (lent_in rows.now) given.now limit) None) }
     ensures refusal { AreNames (lent_in rows.now) names.now
-        → (r : Refusal) → result ≡ Err (Fault r) → IsLeast (TooMany (lent_in rows.now) given.now limit) (Some r) }
+        → (r : Refusal) → result ≡ Err (Fault r)
+        → IsLeast (TooMany (lent_in rows.now) given.now limit) (Some r) }
     ensures builds { result ≢ Err PatternBuild }
 {
     if let Some(refusal) = too_many(alloc, rows, names, given, limit)? {

@@ -19,7 +19,7 @@ use Rattle.yv_expand_rounds.specs.Turns.{State, target}
 use Rattle.yv_expand_augments.specs.Refusals.{RefusesIf}
 use Rattle.yv_expand_augments.specs.AugmentOrder.{augments_giving}
 use Rattle.yv_expand_augments.specs.Augmentation.{copy_turn, last_of, path_in, turns, turns_from}
-use Rattle.yv_expand_augments.specs.Kinds.{is_uses}
+use Rattle.yv_expand_rounds.specs.Kinds.{is_uses}
 use Rattle.yv_expand_augments.specs.InnerSchedule.{AreIdle, AreOrdered, AreStretches, IsCovered, IsEnded, IsFrom, IsSource, IsReady, IsRefusalOf, IsStretch, MissesBetween, MissesIdle, added_to}
 use Rattle.yv_expand_augments.specs.Spots.{Whole}
 use Rattle.yv_expand_augments.specs.MissingTargets.{MissesInTurn, MissesOf, after_turns, augments_in, next_number, node_reached}

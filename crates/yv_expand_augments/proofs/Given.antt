@@ -18,7 +18,7 @@ use Rattle.yv_expand_rounds.specs.Turns.{State, given_group, group_of_target, is
 use Rattle.yv_expand_augments.specs.AugmentOrder.{augments_giving}
 use Rattle.yv_expand_augments.specs.Augmentation.{AreAugmented, copy_turn, last_of, module_paths, path_in, placement, placed_from, turns, turns_from}
 use Rattle.yv_expand_augments.specs.InnerLayout.{AreLaid, Fits}
-use Rattle.yv_expand_augments.specs.Kinds.{is_uses}
+use Rattle.yv_expand_rounds.specs.Kinds.{is_uses}
 use Rattle.yv_expand_augments.specs.Spots.{LayoutView, Whole, copies_of, copy_group, labels_of, layout_of, laid_from, one_more, spot_of}
 use Rattle.yv_expand_augments.specs.declared.spot.Spot.{Spot}
 use Rattle.yv_expand_augments.proofs.Bounds.{laid_whole, pushed_at}

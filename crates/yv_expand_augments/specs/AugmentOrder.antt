@@ -5,17 +5,17 @@ use Rattle.yv_link_scopes.specs.Files.{has_word}
 use Rattle.yv_link_scopes.specs.Names.{first_where}
 use Rattle.yv_link_scopes.specs.Rows.{Row}
 use Rattle.yv_base_tables.specs.Families.{numbers_at}
-use Rattle.yv_expand_augments.specs.Kinds.{kind_of_keyword}
+use Rattle.yv_expand_rounds.specs.Kinds.{kind_of_keyword}
 
 abbrev pub is_augment : Row → Bool
 is_augment r = has_word (codes "augment") r.head
 
-abbrev pub is_item : Row → Bool
-is_item r = is_some (kind_of_keyword r.head.keyword)
+abbrev pub is_node_or_uses : Row → Bool
+is_node_or_uses r = is_some (kind_of_keyword r.head.keyword)
 
 -- for each statement that is an item the block in which it stands
 abbrev pub item_places : List Row → List (Option ℕ)
-item_places rows = map (λ r. if is_item r then Some r.scope else None) rows
+item_places rows = map (λ r. if is_node_or_uses r then Some r.scope else None) rows
 
 -- the numbered statement is an augment in whose block an item stands
 abbrev pub gives : List Row → ℕ → Row → Bool

@@ -1,4 +1,5 @@
--- Only private clauses cite this: which of some different paths lead to nodes at a copy, and aims by their places among these.
+-- Only private clauses cite this: which of some different paths lead to nodes at a copy, and aims
+-- by their places among these.
 use Rattle.std.specs.Prelude.{◌≡◌, ℕ, ◌+◌, ◌==◌, Bool, List, [], ◌∷◌, length, map, filter, if◌then◌else◌, Option, Some, None, is_some, slice_get, slice_index_or}
 use Rattle.std.specs.Option.{unwrap_or}
 use Rattle.yv_expand_rounds.specs.declared.arrivals.Arrival.{Arrival}

@@ -1,5 +1,5 @@
--- Only private clauses cite this: the items of the final tree one by one, first what is around each, and then what each has, from the last
--- to the first.
+-- Only private clauses cite this: the items of the final tree one by one, first what is around
+-- each, and then what each has, from the last to the first.
 use Rattle.std.specs.Prelude.{◌≡◌, ◌≤◌, ℕ, ◌+◌, ◌==◌, ◌&&◌, ◌||◌, ◌⊎◌, not, Bool, false, List, [], ◌∷◌, if◌then◌else◌, Option, Some, None, slice_get}
 use Rattle.yv_statement.specs.declared.refusal.Refusal.{Refusal}
 use Rattle.yv_link_scopes.specs.Rows.{Row}
@@ -12,7 +12,8 @@ use Rattle.yv_expand_augments.specs.declared.spot.Spot.{Spot}
 abbrev pub AreShallow : List ItemRow → Type 0
 AreShallow tree = (k : ℕ) (x : ItemRow) → slice_get tree k ≡ Some x → x.depth ≤ k + 1
 
--- what is around the items of each depth, by two marks: they are state data where no `config` says more, and stand in an operation
+-- what is around the items of each depth, by two marks: they are state data where no `config` says
+-- more, and stand in an operation
 abbrev pub around_marks : (states operations : ℕ → Bool) → (depth : ℕ) → Around
 around_marks states operations depth = record { is_config = not (states depth); in_operation = operations depth }
 
@@ -27,7 +28,8 @@ configuration_marks spots told around (x ∷ xs) =
     is_configuration (inside spots told x.number (around x.depth))
     ∷ configuration_marks spots told (enter (x.depth + 1) (inside spots told x.number (around x.depth)) around) xs
 
--- of each depth, whether a mandatory item stands there that no augment of a module gave, behind the last item above it: one more item
+-- of each depth, whether a mandatory item stands there that no augment of a module gave, behind the
+-- last item above it: one more item
 abbrev pub meet : (depth : ℕ) → (counts : Bool) → (ℕ → Bool) → ℕ → Bool
 meet depth counts found d = if d == depth then counts || found depth else (if d == depth + 1 then false else found d)
 

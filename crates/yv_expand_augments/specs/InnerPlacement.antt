@@ -4,7 +4,8 @@ use Rattle.yv_statement.specs.declared.refusal.Code.TheVariants as code
 use Rattle.yv_statement.specs.declared.refusal.Refusal.{Refusal}
 use Rattle.yv_link_scopes.specs.Rows.{Row}
 use Rattle.yv_expand_augments.specs.InnerRefusals.{refusal_of_row}
-use Rattle.yv_expand_augments.specs.Placement.{augment_around, takes}
+use Rattle.yv_expand_augments.specs.Placement.{augment_around}
+use Rattle.yv_expand_rounds.specs.Kinds.{takes}
 use Rattle.yv_expand_augments.specs.declared.spot.Spot.{Spot}
 
 -- the refusal of an augment, if there is one and it is bad

@@ -1,4 +1,5 @@
--- Only private clauses cite this: what the refines of `uses` statements aim at, made once for all copies in one module that are alike.
+-- Only private clauses cite this: what the refines of `uses` statements aim at, made once for all
+-- copies in one module that are alike.
 use Rattle.std.specs.Prelude.{◌≡◌, ℕ, ◌<◌, List, length, map, Option, Some, slice_get}
 use Rattle.std.specs.Ordering.{nat_cmp, ordering_then}
 use Rattle.std.specs.declared.cmp.Ordering.{Ordering}
@@ -15,7 +16,8 @@ use Rattle.yv_expand_augments.specs.declared.refine_targets.UsesTargets.{UsesTar
 use Rattle.yv_expand_augments.specs.declared.refine_targets.RefineTargets.{RefineTargets}
 use Rattle.yv_expand_augments.specs.declared.refine_targets.KeptTargets.{KeptTargets}
 
--- these are the refines of a block in order, each with the number of the path that it has in the module of the file `module_file`
+-- these are the refines of a block in order, each with the number of the path that it has in the
+-- module of the file `module_file`
 pub record AreTargets (w : Whole) (statement module_file : ℕ) (aims : List RefineTarget) (paths : List (List ℕ)) : Type 0 where
   pub refines : map (λ a. a.refine) aims ≡ refines_in w.rows statement
   pub each : map (λ a. slice_get paths a.path) aims ≡ map (λ k. Some (path_in w module_file k)) (refines_in w.rows statement)
@@ -53,7 +55,8 @@ pub record IsPlaced (aims : RefineTargets) (number : ℕ) (paths : List ℕ) (pl
 abbrev pub StandWithin : (places : ℕ) → List RefinedUses → Type 0
 StandWithin places us = (k : ℕ) (u : RefinedUses) → slice_get us k ≡ Some u → u.aims < places
 
--- the aims that are known have their numbers, those that are kept stand at their places, and those of each copy do
+-- the aims that are known have their numbers, those that are kept stand at their places, and those
+-- of each copy do
 pub record AreRefineTargets (w : Whole) (aims : RefineTargets) : Type 0 where
   pub known : (statement module_file number : ℕ) → number_in aims statement module_file ≡ Some number → HasNumber w aims statement module_file number
   pub each : length aims.kept.items ≡ length aims.aimed.items

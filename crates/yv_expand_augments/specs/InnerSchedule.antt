@@ -1,4 +1,5 @@
--- Only private clauses cite this: the augments of `uses` statements in order, worked out once for all copies in one module.
+-- Only private clauses cite this: the augments of `uses` statements in order, worked out once for
+-- all copies in one module.
 use Rattle.std.specs.Prelude.{◌≡◌, ℕ, ◌+◌, ◌<◌, ◌≤◌, ◌==◌, Bool, true, false, List, [], ◌∷◌, length, Option, Some, None, slice_get}
 use Rattle.std.specs.Option.{option_and_then}
 use Rattle.std.specs.Ordering.{nat_cmp}
@@ -36,7 +37,8 @@ abbrev pub AreOrdered : List Row → List AddressedAugment → Type 0
 AreOrdered rows idle = (i k : ℕ) (x y : AddressedAugment) (f g : Refusal) → i < k → slice_get idle i ≡ Some x → slice_get idle k ≡ Some y
     → IsRefusalOf rows x.augment f → IsRefusalOf rows y.augment g → IsUpTo f g
 
--- one of the augments of a `uses` from one place to another, with its path in the module of the file `module_file`
+-- one of the augments of a `uses` from one place to another, with its path in the module of the
+-- file `module_file`
 pub record IsFrom (w : Whole) (statement module_file from to : ℕ) (x : AddressedAugment) : Type 0 where
   pub place : ℕ
   pub from_on : from ≤ place
@@ -56,7 +58,8 @@ pub record IsCovered (rows : List Row) (idle : List AddressedAugment) (path : Li
   pub refused : IsRefusalOf rows addressed.augment refusal
   pub first : IsUpTo refusal f
 
--- the augments of a `uses` from one place to another give nothing, and these are the first of each path
+-- the augments of a `uses` from one place to another give nothing, and these are the first of each
+-- path
 pub record AreIdle (w : Whole) (statement module_file from to : ℕ) (idle : List AddressedAugment) : Type 0 where
   pub ascend : from ≤ to
   pub within : to ≤ length (augments_in w.rows statement)
@@ -158,7 +161,8 @@ abbrev pub MissesBetween : Whole → List Label → Spot → (end : ℕ) → Sta
 MissesBetween w labels s end st from to f =
     (k : ℕ) × (from ≤ k) × (k < to) × (a : ℕ) × (slice_get (augments_in w.rows s.statement) k ≡ Some a) × MissesInTurn w labels s end st k a f
 
--- the first augments of a copy had their turns, and this is the number of the next copy of one that gives something
+-- the first augments of a copy had their turns, and this is the number of the next copy of one that
+-- gives something
 pub record IsReady (w : Whole) (labels : List Label) (s : Spot) (st : State) (count number : ℕ) (g : Augmentation) : Type 0 where
   pub grafting : IsAugmentation labels (after_turns w labels s count st) g
   pub long : length labels ≡ w.items

@@ -1,17 +1,17 @@
--- Augments of modules that add mandatory configuration nodes to nodes of other modules (RFC 7950, sections 3 and 7.17).
+-- Augments of modules that add mandatory configuration nodes to nodes of other modules (RFC 7950,
+-- sections 3 and 7.17).
 use Rattle.std.specs.Prelude.{◌≡◌, ◌≢◌, ℕ, ◌&&◌, ◌||◌, ◌⊎◌, not, Bool, true, false, List, length, Option, Some, None, slice_get, slice_index_or}
 use Rattle.std.specs.Option.{is_some, unwrap_or}
 use Rattle.yv_statement.specs.declared.refusal.Code.TheVariants as code
 use Rattle.yv_statement.specs.declared.refusal.Refusal.{Refusal}
 use Rattle.yv_link_scopes.specs.Rows.{Row}
-use Rattle.yv_expand_rounds.specs.declared.label.ItemKind.{ItemKind}
-use Rattle.yv_expand_rounds.specs.declared.label.ItemKind.TheVariants as kind
 use Rattle.yv_expand_rounds.specs.Tree.{Tree, none, item}
 use Rattle.yv_expand_augments.specs.Refusals.{RefusesIf}
 use Rattle.yv_expand_augments.specs.Remains.{is_marked}
 use Rattle.yv_expand_augments.specs.Spots.{source_in, spot_at}
 use Rattle.yv_expand_augments.specs.declared.mandatory_nodes.RefinedMarks.{RefinedMarks}
 use Rattle.yv_expand_augments.specs.declared.spot.Spot.{Spot}
+use Rattle.yv_expand_rounds.specs.Kinds.{is_container, is_operation_or_notification}
 
 -- the augment of a module in whose block an item stands, if it stands in one
 abbrev pub source_of : (items : ℕ) → (augments : List ℕ) → Option Spot → Option ℕ
@@ -21,7 +21,8 @@ source_of items augments (Some s) = source_in items augments s.group
 abbrev pub is_given : List Spot → (augments : List ℕ) → (number : ℕ) → Bool
 is_given spots augments i = is_some (source_of (length spots) augments (slice_get spots i))
 
--- what is told of numbered items, as refines have left them: whether one is mandatory by itself, whether it has a presence, and what its
+-- what is told of numbered items, as refines have left them: whether one is mandatory by itself,
+-- whether it has a presence, and what its
 -- `config` says
 pub record MarksView : Type 0 where
   pub mandatory : ℕ → Bool
@@ -35,10 +36,6 @@ told_in m = record {
   config = λ i. slice_index_or m.config.now i None;
 }
 
-abbrev pub is_container : ItemKind → Bool
-is_container kind.Container = true
-is_container _ = false
-
 abbrev pub is_container_without : (presence : Bool) → Option Spot → Bool
 is_container_without presence None = false
 is_container_without presence (Some s) = is_container s.label.kind && not presence
@@ -47,15 +44,16 @@ is_container_without presence (Some s) = is_container s.label.kind && not presen
 abbrev pub is_mandatory : List Spot → MarksView → (number : ℕ) → (has_mandatory : Bool) → Bool
 is_mandatory spots told i has = told.mandatory i || (is_container_without (told.presence i) (slice_get spots i) && has)
 
--- one of these items is mandatory, as things stood before any augment of a module was applied: what these give is passed over
+-- one of these items is mandatory, as things stood before any augment of a module was applied: what
+-- these give is passed over
 abbrev pub has_mandatory : List Spot → (augments : List ℕ) → MarksView → Tree → Bool
 has_mandatory spots augments told none = false
 has_mandatory spots augments told (item i below behind) =
     (not (is_given spots augments i) && is_mandatory spots told i (has_mandatory spots augments told below))
     || has_mandatory spots augments told behind
 
--- what is around an item: whether it is configuration without a `config` of its own, and whether it stands in an rpc, action or
--- notification (section 7.21.1)
+-- what is around an item: whether it is configuration without a `config` of its own, and whether it
+-- stands in an rpc, action or notification (section 7.21.1)
 pub record Around : Type 0 where
   pub is_config : Bool
   pub in_operation : Bool
@@ -63,12 +61,6 @@ pub record Around : Type 0 where
 -- at the top
 abbrev pub nothing_around : Around
 nothing_around = record { is_config = true; in_operation = false }
-
-abbrev pub is_operation_or_notification : ItemKind → Bool
-is_operation_or_notification kind.Rpc = true
-is_operation_or_notification kind.Action = true
-is_operation_or_notification kind.Notification = true
-is_operation_or_notification _ = false
 
 abbrev pub is_some_operation : Option Spot → Bool
 is_some_operation None = false
@@ -85,7 +77,8 @@ inside spots told i a = record {
 abbrev pub is_configuration : (inside : Around) → Bool
 is_configuration a = a.is_config && not a.in_operation
 
--- an item in the block of an augment of a module stands below a node of another module, and is required: the augment is refused
+-- an item in the block of an augment of a module stands below a node of another module, and is
+-- required: the augment is refused
 abbrev pub IsMandatoryAdded : List Row → List Spot → (augments : List ℕ) → (parent : Option ℕ) → (number : ℕ) → (required : Bool)
     → Refusal → Type 0
 IsMandatoryAdded rows spots augments parent i required f =
@@ -93,8 +86,8 @@ IsMandatoryAdded rows spots augments parent i required f =
     × (source_of (length spots) augments (Some s) ≡ Some augment)
     × RefusesIf rows code.BadAugment ((s.module_file ≢ node.module_file) × (required ≡ true)) augment f
 
--- an augment of a module adds a mandatory configuration node to a node of another module, among the items of this tree below a parent,
--- where this is around them
+-- an augment of a module adds a mandatory configuration node to a node of another module, among the
+-- items of this tree below a parent, where this is around them
 abbrev pub ImposesMandatory : List Row → List Spot → (augments : List ℕ) → MarksView → (parent : Option ℕ) → Around → Tree → Refusal → Type 0
 ImposesMandatory rows spots augments told parent a none f = ⊥
 ImposesMandatory rows spots augments told parent a (item i below behind) f =

@@ -14,7 +14,7 @@ use Rattle.yv_expand_rounds.specs.declared.row.ItemRow.{ItemRow}
 use Rattle.yv_expand_rounds.specs.Groups.{group_of_augment, members_of}
 use Rattle.yv_expand_rounds.specs.Paths.{path_end}
 use Rattle.yv_expand_rounds.specs.Turns.{State, target}
-use Rattle.yv_expand_augments.specs.Kinds.{is_uses}
+use Rattle.yv_expand_rounds.specs.Kinds.{is_uses}
 use Rattle.yv_expand_augments.specs.Ends.{end_at}
 use Rattle.yv_expand_augments.specs.Refusals.{RefusesIf}
 use Rattle.yv_expand_augments.specs.AugmentOrder.{is_augment, is_giving}
@@ -42,7 +42,8 @@ next_number rows s count = s.first + length (had_turns rows s count)
 abbrev pub after_turns : Whole → List Label → Spot → (count : ℕ) → State → State
 after_turns w labels s count st = turns_from w labels s s.first (had_turns w.rows s count) st
 
--- The path of an augment leads to what comes before the first item that it gives; where it gives nothing, to what the uses gives.
+-- The path of an augment leads to what comes before the first item that it gives; where it gives
+-- nothing, to what the uses gives.
 abbrev pub limit_of : Whole → List Label → Spot → (end number augment : ℕ) → State → ℕ
 limit_of w labels s end number a st =
     if is_giving w.rows s.statement a then last_of (members_of st.groups (group_of_augment labels number)) else end

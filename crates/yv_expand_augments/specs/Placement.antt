@@ -1,54 +1,15 @@
 -- What augments put where it may not stand (RFC 7950, section 7.17).
-use Rattle.std.specs.Prelude.{◌≡◌, ℕ, ◌||◌, Bool, true, false, List, length, if◌then◌else◌, Option, Some, None, slice_get}
+use Rattle.std.specs.Prelude.{◌≡◌, ℕ, false, List, length, if◌then◌else◌, Option, Some, None, slice_get}
 use Rattle.yv_statement.specs.Order.{Among}
 use Rattle.yv_statement.specs.declared.refusal.Code.TheVariants as code
 use Rattle.yv_statement.specs.declared.refusal.Refusal.{Refusal}
 use Rattle.yv_link_scopes.specs.Rows.{Row}
-use Rattle.yv_expand_rounds.specs.declared.label.ItemKind.{ItemKind}
-use Rattle.yv_expand_rounds.specs.declared.label.ItemKind.TheVariants as kind
 use Rattle.yv_expand_rounds.specs.declared.row.ItemRow.{ItemRow}
-use Rattle.yv_expand_rounds.specs.Labels.{is_case}
-use Rattle.yv_expand_augments.specs.Kinds.{is_uses}
+use Rattle.yv_expand_rounds.specs.Kinds.{takes}
 use Rattle.yv_expand_augments.specs.AugmentOrder.{is_augment}
 use Rattle.yv_expand_augments.specs.Spots.{spot_at}
 use Rattle.yv_expand_augments.specs.Refusals.{RefusesIf}
 use Rattle.yv_expand_augments.specs.declared.spot.Spot.{Spot}
-
--- a container, leaf, leaf-list, list, choice, anydata or anyxml
-abbrev pub is_data : ItemKind → Bool
-is_data kind.Container = true
-is_data kind.Leaf = true
-is_data kind.LeafList = true
-is_data kind.List = true
-is_data kind.Choice = true
-is_data kind.Anydata = true
-is_data kind.Anyxml = true
-is_data _ = false
-
-abbrev pub is_action_or_notification : ItemKind → Bool
-is_action_or_notification kind.Action = true
-is_action_or_notification kind.Notification = true
-is_action_or_notification _ = false
-
-abbrev pub is_part : ItemKind → Bool
-is_part kind.Input = true
-is_part kind.Output = true
-is_part _ = false
-
--- A node takes what an augment of it may have in its block. A choice takes cases and shorthand nodes; a container or list takes data
--- definitions, actions and notifications; a case, input, output or notification takes data definitions. Other nodes take nothing, but
--- an operation has its input and output.
-abbrev pub takes : (node given : ItemKind) → Bool
-takes kind.Choice given = is_data given || is_case given
-takes kind.Container given = is_data given || (is_uses given || is_action_or_notification given)
-takes kind.List given = is_data given || (is_uses given || is_action_or_notification given)
-takes kind.Case given = is_data given || is_uses given
-takes kind.Input given = is_data given || is_uses given
-takes kind.Output given = is_data given || is_uses given
-takes kind.Notification given = is_data given || is_uses given
-takes kind.Rpc given = is_part given
-takes kind.Action given = is_part given
-takes _ given = false
 
 abbrev pub augment_at : (number : ℕ) → Option Row → Option ℕ
 augment_at number None = None
@@ -59,7 +20,8 @@ abbrev pub augment_around : List Row → Option Row → Option ℕ
 augment_around rows None = None
 augment_around rows (Some r) = augment_at r.scope (slice_get rows r.scope)
 
--- an item of the final tree stands in the block of an augment, and below a node that doesn't take it: the augment is refused
+-- an item of the final tree stands in the block of an augment, and below a node that doesn't take
+-- it: the augment is refused
 abbrev pub IsMisplaced : List Row → List Spot → ItemRow → Refusal → Type 0
 IsMisplaced rows spots x f =
     (s : Spot) × (node : Spot) × (augment : ℕ) × (slice_get spots x.number ≡ Some s) × (spot_at spots x.parent ≡ Some node)

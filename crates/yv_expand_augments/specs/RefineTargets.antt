@@ -1,7 +1,6 @@
 -- What refines mean (RFC 7950, sections 6.5 and 7.13.2).
-use Rattle.std.specs.Prelude.{ℕ, ◌+◌, Bool, List, [], ◌∷◌, ◌++◌, map, if◌then◌else◌, Option, Some, None, codes}
+use Rattle.std.specs.Prelude.{ℕ, ◌+◌, List, [], ◌∷◌, ◌++◌, map, if◌then◌else◌, Option, Some, None}
 use Rattle.std.specs.Option.{option_and_then}
-use Rattle.yv_link_scopes.specs.Files.{has_word}
 use Rattle.yv_link_scopes.specs.Rows.{Row}
 use Rattle.yv_base_tables.specs.Families.{numbers_at}
 use Rattle.yv_expand.specs.Tree.{Item}
@@ -13,12 +12,10 @@ use Rattle.yv_expand_rounds.specs.Turns.{State}
 use Rattle.yv_expand_refines.specs.Targets.{RefineMeaning}
 use Rattle.yv_expand_augments.specs.Ends.{end_at}
 use Rattle.yv_expand_augments.specs.Augmentation.{path_in, placed_from}
-use Rattle.yv_expand_augments.specs.Kinds.{is_uses}
+use Rattle.yv_expand_rounds.specs.Kinds.{is_uses}
 use Rattle.yv_expand_augments.specs.Spots.{LayoutView, Whole, labels_of, layout_of}
 use Rattle.yv_expand_augments.specs.declared.spot.Spot.{Spot}
-
-abbrev pub is_refine : Row → Bool
-is_refine r = has_word (codes "refine") r.head
+use Rattle.yv_expand.specs.StatementBlocks.{is_refine}
 
 -- for each refine the block in which it stands
 abbrev pub refine_places : List Row → List (Option ℕ)
@@ -33,11 +30,13 @@ abbrev pub node_at : End → Option ℕ
 node_at (Node i) = Some i
 node_at _ = None
 
--- the node that a refine of a uses means, among what the uses gives: what its own augments give stands nowhere yet
+-- the node that a refine of a uses means, among what the uses gives: what its own augments give
+-- stands nowhere yet
 abbrev pub node_meant : Whole → List Label → Spot → (end refine : ℕ) → State → Option ℕ
 node_meant w labels s end refine st = option_and_then node_at (path_end labels st.groups end (path_in w s.module_file refine) (Start s.group))
 
--- what those of the item of this number mean, if it is a uses, when all items behind it have entered
+-- what those of the item of this number mean, if it is a uses, when all items behind it have
+-- entered
 abbrev pub refined_at : Whole → List Label → Spot → (number end : ℕ) → State → List RefineMeaning
 refined_at w labels s number end st =
     if is_uses s.label.kind

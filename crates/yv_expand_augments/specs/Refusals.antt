@@ -8,7 +8,7 @@ use Rattle.yv_link_scopes.specs.Rows.{Row}
 use Rattle.yv_expand.specs.Tree.{Item}
 use Rattle.yv_expand_rounds.specs.Turns.{State, target_of}
 use Rattle.yv_expand_rounds.specs.declared.row.ItemRow.{ItemRow}
-use Rattle.yv_expand_augments.specs.Kinds.{is_uses}
+use Rattle.yv_expand_rounds.specs.Kinds.{is_uses}
 use Rattle.yv_expand_augments.specs.Spots.{Whole, labels_of, layout_of}
 use Rattle.yv_expand_augments.specs.declared.spot.Spot.{Spot}
 
@@ -16,7 +16,8 @@ use Rattle.yv_expand_augments.specs.declared.spot.Spot.{Spot}
 abbrev pub RefusesIf : List Row → Code → Type 0 → (statement : ℕ) → Refusal → Type 0
 RefusesIf rows c P k f = (r : Row) × (slice_get rows k ≡ Some r) × Stands P (refusal_at c r.file r.head) f
 
--- the augment of a module at this place adds to no node: it was never applied, or its path ends where no augment may add
+-- the augment of a module at this place adds to no node: it was never applied, or its path ends
+-- where no augment may add
 abbrev pub HasNoTarget : Whole → List Item → State → (place : ℕ) → Type 0
 HasNoTarget w items st place = target_of (labels_of (layout_of w items).spots) st.ends place ≡ None
 

@@ -1,4 +1,5 @@
--- Where items stand before any augment is applied, and what is known of them (RFC 7950, sections 7.13 and 7.17).
+-- Where items stand before any augment is applied, and what is known of them (RFC 7950, sections
+-- 7.13 and 7.17).
 use Rattle.std.specs.Prelude.{ℕ, ◌+◌, ◌-◌, nat_lt, List, [], ◌∷◌, ◌++◌, length, map, if◌then◌else◌, Option, Some, None, slice_get}
 use Rattle.std.specs.Option.{is_some}
 use Rattle.yv_link_scopes.specs.Files.{Briefs, module_file_at}
@@ -6,11 +7,13 @@ use Rattle.yv_link_scopes.specs.Rows.{Row}
 use Rattle.yv_expand.specs.Origin.{number_of}
 use Rattle.yv_expand.specs.Tree.{Item}
 use Rattle.yv_expand_rounds.specs.declared.label.Label.{Label}
-use Rattle.yv_expand_augments.specs.Kinds.{is_uses, label_of}
+use Rattle.yv_expand_rounds.specs.Kinds.{is_uses}
+use Rattle.yv_expand_augments.specs.Kinds.{label_of}
 use Rattle.yv_expand_augments.specs.AugmentOrder.{augments_giving, is_giving, ordinal, place_of}
 use Rattle.yv_expand_augments.specs.declared.spot.Spot.{Spot}
 
--- the statements of files, the augments of modules by file and statement, and how many items there are
+-- the statements of files, the augments of modules by file and statement, and how many items there
+-- are
 pub record Whole : Type 0 where
   pub files : Briefs
   pub rows : List Row
@@ -28,12 +31,14 @@ abbrev pub own_module_file : Briefs → Option Row → ℕ
 own_module_file files None = 0
 own_module_file files (Some r) = module_file_at files r.file
 
--- the file of the module to which an item belongs: that of the item above it, and of one at the top that of its statement
+-- the file of the module to which an item belongs: that of the item above it, and of one at the top
+-- that of its statement
 abbrev pub module_file_below : Briefs → Option Row → Option Spot → ℕ
 module_file_below files r None = own_module_file files r
 module_file_below files r (Some s) = s.module_file
 
--- the group of what the numbered copy of an augment gives, until it is applied: behind those of items
+-- the group of what the numbered copy of an augment gives, until it is applied: behind those of
+-- items
 abbrev pub copy_group : Whole → ℕ → ℕ
 copy_group w number = w.items + 1 + number
 
@@ -46,7 +51,8 @@ abbrev pub top_group : Whole → Option Row → ℕ
 top_group w None = 0
 top_group w (Some r) = top_group_of w (place_of w.augments r.scope)
 
--- the group of an item in a uses: what its augments give stands nowhere yet, and what it copies stands where the uses does
+-- the group of an item in a uses: what its augments give stands nowhere yet, and what it copies
+-- stands where the uses does
 abbrev pub used_group : Whole → Spot → Option Row → ℕ
 used_group w s None = s.group
 used_group w s (Some r) = if is_giving w.rows s.statement r.scope then copy_group w (s.first + ordinal w.rows r.scope) else s.group
@@ -56,8 +62,9 @@ group_below w r None s = top_group w r
 group_below w r (Some p) None = 0
 group_below w r (Some p) (Some s) = if is_uses s.label.kind then used_group w s r else p + 1
 
--- The augment of a module in whose block the items of a group stand, if it is that of one: what these augments give stands behind the groups
--- of so many items, one group for each of the augments in order. A uses there is looked through, since what it copies stands in its group.
+-- The augment of a module in whose block the items of a group stand, if it is that of one: what
+-- these augments give stands behind the groups of so many items, one group for each of the augments
+-- in order. A uses there is looked through, since what it copies stands in its group.
 abbrev pub source_in : (items : ℕ) → (augments : List ℕ) → (group : ℕ) → Option ℕ
 source_in items augments group = if nat_lt items group then slice_get augments (group - items - 1) else None
 
@@ -79,7 +86,8 @@ spot_of w spots copies x =
 abbrev pub copies_of : List Row → Spot → ℕ
 copies_of rows s = if is_uses s.label.kind then length (augments_giving rows s.statement) else 0
 
--- items so far, and how many copies of augments there are: first those of modules, and then those of each uses
+-- items so far, and how many copies of augments there are: first those of modules, and then those
+-- of each uses
 pub record LayoutView : Type 0 where
   pub spots : List Spot
   pub copies : ℕ

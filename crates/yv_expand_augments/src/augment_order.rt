@@ -4,8 +4,8 @@ ghost use Rattle.yv_link_scopes.specs.Views.{rows_in};
 ghost use Rattle.yv_link_scopes.specs.Rows.{Row, row};
 ghost use Rattle.yv_base_tables.specs.Families.{by_place, numbers_at};
 ghost use Rattle.yv_expand_augments.specs.InnerCounts.{count_at, count_more};
-ghost use Rattle.yv_expand_augments.specs.AugmentOrder.{gives, giving_from, giving_places, is_augment, is_in, is_item, item_places, place_before, place_of};
-ghost use Rattle.yv_expand_augments.specs.RefineTargets.{is_refine};
+ghost use Rattle.yv_expand_augments.specs.AugmentOrder.{gives, giving_from, giving_places, is_augment, is_in, is_node_or_uses, item_places, place_before, place_of};
+ghost use Rattle.yv_expand.specs.StatementBlocks.{is_refine};
 
 use crate::if_features::is_augment;
 use crate::kinds::kind_of_keyword;
@@ -15,7 +15,8 @@ use yv_link_scopes::{Entry, Rows};
 
 // The block in which a statement stands that is an item.
 fn item_place(entry: &Entry<'_, '_>) -> Option<usize>
-    ensures { result ≡ (if is_item (row entry.now) then Some (row entry.now).scope else None) }
+    ensures { result
+        ≡ (if is_node_or_uses (row entry.now) then Some (row entry.now).scope else None) }
 {
     if kind_of_keyword(entry.statement.keyword()).is_some() {
         Some(entry.scope)
@@ -40,7 +41,9 @@ pub(crate) fn augment_places(
     alloc: Global,
     rows: &Rows<'_, '_>,
 ) -> Result<Vec<Option<usize>>, AllocError>
-    ensures { IfOk result (λ places. map (λ r. if is_augment r then Some r.scope else None) (rows_in rows.now) ≡ places.items) }
+    ensures { IfOk result
+        (λ places. map (λ r. if is_augment r then Some r.scope else None) (rows_in rows.now)
+        ≡ places.items) }
 {
     let mut places = Vec::new(alloc);
     for entry in rows.entries() {
@@ -65,7 +68,9 @@ pub(crate) fn refine_places(
     alloc: Global,
     rows: &Rows<'_, '_>,
 ) -> Result<Vec<Option<usize>>, AllocError>
-    ensures { IfOk result (λ places. map (λ r. if is_refine r then Some r.scope else None) (rows_in rows.now) ≡ places.items) }
+    ensures { IfOk result
+        (λ places. map (λ r. if is_refine r then Some r.scope else None) (rows_in rows.now)
+        ≡ places.items) }
 {
     let mut places = Vec::new(alloc);
     for entry in rows.entries() {
@@ -76,7 +81,9 @@ pub(crate) fn refine_places(
 
 // That of each statement.
 fn item_places(alloc: Global, rows: &Rows<'_, '_>) -> Result<Vec<Option<usize>>, AllocError>
-    ensures { IfOk result (λ places. map (λ r. if is_item r then Some r.scope else None) (rows_in rows.now) ≡ places.items) }
+    ensures { IfOk result
+        (λ places. map (λ r. if is_node_or_uses r then Some r.scope else None) (rows_in rows.now)
+        ≡ places.items) }
 {
     let mut places = Vec::new(alloc);
     for entry in rows.entries() {
@@ -87,7 +94,8 @@ fn item_places(alloc: Global, rows: &Rows<'_, '_>) -> Result<Vec<Option<usize>>,
 
 // Whether a numbered statement is an augment in whose block an item stands.
 fn gives(items: &Families, number: usize, entry: &Entry<'_, '_>) -> bool
-    ensures { (rows : List Row) → items.now ≡ by_place (item_places rows) (length rows) → number < length rows
+    ensures { (rows : List Row) → items.now ≡ by_place (item_places rows) (length rows) → number
+        < length rows
         → result ≡ gives rows number (row entry.now) }
 {
     yv_base_tables::laws::each_place_has_its_numbers();
@@ -96,8 +104,10 @@ fn gives(items: &Families, number: usize, entry: &Entry<'_, '_>) -> bool
 
 // The block in which such an augment stands.
 fn giving_place(items: &Families, number: usize, entry: &Entry<'_, '_>) -> Option<usize>
-    ensures { (rows : List Row) → items.now ≡ by_place (item_places rows) (length rows) → number < length rows
-        → result ≡ (if gives rows number (row entry.now) then Some (row entry.now).scope else None) }
+    ensures { (rows : List Row) → items.now ≡ by_place (item_places rows) (length rows) → number
+        < length rows
+        → result
+        ≡ (if gives rows number (row entry.now) then Some (row entry.now).scope else None) }
 {
     if gives(items, number, entry) {
         Some(entry.scope)
@@ -113,7 +123,8 @@ fn places_of(
     items: &Families,
 ) -> Result<Vec<Option<usize>>, AllocError>
     requires { items.now ≡ by_place (item_places (rows_in rows.now)) (length (rows_in rows.now)) }
-    ensures { IfOk result (λ places. places.items ≡ giving_from (rows_in rows.now) 0 (rows_in rows.now)) }
+    ensures { IfOk result
+        (λ places. places.items ≡ giving_from (rows_in rows.now) 0 (rows_in rows.now)) }
 {
     let mut places = Vec::new(alloc);
     for (number, entry) in rows.entries().iter().enumerate() {
@@ -150,8 +161,11 @@ fn next(counts: &mut Vec<usize>, place: Option<usize>) -> usize
 
 /// For each number that has a place how many numbers of this place come before it.
 pub(crate) fn ordinals(alloc: Global, places: &[Option<usize>]) -> Result<Vec<usize>, AllocError>
-    requires { (a block : ℕ) → slice_get places.now a ≡ Some (Some block) → block < length places.now }
-    ensures { IfOk result (λ ordinals. (a : ℕ) → slice_index_or ordinals.items a 0 ≡ place_before places.now a (slice_get places.now a)) }
+    requires { (a block : ℕ) → slice_get places.now a ≡ Some (Some block) → block
+        < length places.now }
+    ensures { IfOk result
+        (λ ordinals. (a : ℕ) → slice_index_or ordinals.items a 0
+        ≡ place_before places.now a (slice_get places.now a)) }
 {
     let mut counts = vec![in alloc; 0; places.len()]?;
     let mut ordinals = Vec::new(alloc);
@@ -167,7 +181,9 @@ pub(crate) fn places_in(
     numbers: &[usize],
     count: usize,
 ) -> Result<Vec<Option<usize>>, AllocError>
-    ensures { IfOk result (λ places. (a : ℕ) → a < count → slice_index_or places.items a None ≡ place_of numbers.now a) }
+    ensures { IfOk result
+        (λ places. (a : ℕ) → a < count → slice_index_or places.items a None
+        ≡ place_of numbers.now a) }
 {
     let mut places = vec![in alloc; None; count]?;
     let mut left = numbers.len();

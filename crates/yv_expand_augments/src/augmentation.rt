@@ -11,7 +11,7 @@ ghost use Rattle.yv_expand_rounds.specs.InnerState.{IsAugmentation};
 ghost use Rattle.yv_expand_augments.specs.Augmentation.{copy_turn, last_of, module_paths, path_in, placement, turns};
 ghost use Rattle.yv_expand_augments.specs.Spots.{Whole, copies_of, labels_of, layout_of, whole};
 ghost use Rattle.yv_expand_augments.specs.Refusals.{RefusesIf};
-ghost use Rattle.yv_expand_augments.specs.Kinds.{is_uses};
+ghost use Rattle.yv_expand_rounds.specs.Kinds.{is_uses};
 ghost use Rattle.yv_expand_augments.specs.FinalItems.{AreAugmentedItems, AreAugmentedTree};
 ghost use Rattle.yv_expand_augments.specs.MissingTargets.{MissesAt, MissesOf, augments_in, next_number};
 ghost use Rattle.yv_expand_augments.specs.RefineTargets.{refine_meanings};
@@ -121,7 +121,8 @@ impl Plan<'_, '_, '_> {
         refused_at(self.rows, Code::AugmentTarget, bad, it.augment)
     }
 
-    // The least refusal of these augments of a uses, which give nothing: that of the first which adds to no node.
+    // The least refusal of these augments of a uses, which give nothing: that of the first which
+    // adds to no node.
     fn first_missing(
         &self,
         grafting: &Augmentation,
@@ -131,7 +132,9 @@ impl Plan<'_, '_, '_> {
     ) -> Option<Refusal>
         ensures { (labels : List Label) (st : State) → IsAugmentation labels st grafting.now
             → AreOrdered (rows_in self.now.rows.now) idle.now
-            → IsLeast (MissesIdle (rows_in self.now.rows.now) (added_to labels st end spot.now.group) idle.now) result }
+            → IsLeast
+            (MissesIdle (rows_in self.now.rows.now) (added_to labels st end spot.now.group)
+            idle.now) result }
     {
         for it in idle {
             let missing = self.refusal_of_target(grafting, spot.group, end, it);
@@ -142,7 +145,8 @@ impl Plan<'_, '_, '_> {
         None
     }
 
-    // The turn of the numbered copy of an augment of a uses that gives something. Its refusal, if it adds to no node.
+    // The turn of the numbered copy of an augment of a uses that gives something. Its refusal, if
+    // it adds to no node.
     fn give(
         &self,
         grafting: Augmentation,
@@ -151,12 +155,21 @@ impl Plan<'_, '_, '_> {
         it: &AddressedAugment,
     ) -> Result<TurnResult, AllocError>
         requires few { number < 2 ^ 63 }
-        ensures state { (labels : List Label) (st : State) → IsAugmentation labels st grafting → length labels ≡ length self.now.items.now
-            → it.now.path.items ≡ path_in (whole_in self.now) spot.now.module_file it.now.augment → number < length st.ends
-            → IfOk result (λ turned. IsAugmentation labels (copy_turn (whole_in self.now) labels spot.now number it.now.augment st) turned.grafting) }
-        ensures lacks { (labels : List Label) (st : State) → IsAugmentation labels st grafting → length labels ≡ length self.now.items.now
-            → IfOk result (λ turned. IsLeast (RefusesIf (rows_in self.now.rows.now) AugmentTarget (added_to labels st
-            (last_of (members_of st.groups (group_of_augment labels number))) spot.now.group it.now.path.items ≡ None) it.now.augment)
+        ensures state { (labels : List Label) (st : State) → IsAugmentation labels st grafting
+            → length labels ≡ length self.now.items.now
+            → it.now.path.items ≡ path_in (whole_in self.now) spot.now.module_file it.now.augment
+            → number < length st.ends
+            → IfOk result
+            (λ turned. IsAugmentation labels
+            (copy_turn (whole_in self.now) labels spot.now number it.now.augment st)
+            turned.grafting) }
+        ensures lacks { (labels : List Label) (st : State) → IsAugmentation labels st grafting
+            → length labels ≡ length self.now.items.now
+            → IfOk result
+            (λ turned. IsLeast
+            (RefusesIf (rows_in self.now.rows.now) AugmentTarget (added_to labels st
+            (last_of (members_of st.groups (group_of_augment labels number))) spot.now.group
+            it.now.path.items ≡ None) it.now.augment)
             turned.missing) }
     {
         let group = self.copy_group(number);
@@ -176,17 +189,26 @@ impl Plan<'_, '_, '_> {
         stretch: &Stretch,
     ) -> Result<FollowedPath, AllocError>
         requires few { number < 2 ^ 63 }
-        ensures number { (from to : ℕ) → IsStretch (whole_in self.now) spot.now.statement spot.now.module_file from to stretch.now
+        ensures number { (from to : ℕ)
+            → IsStretch (whole_in self.now) spot.now.statement spot.now.module_file from to
+            stretch.now
             → number ≡ next_number (rows_in self.now.rows.now) spot.now from
-            → IfOk result (λ followed. followed.number ≡ next_number (rows_in self.now.rows.now) spot.now to) }
+            → IfOk result
+            (λ followed. followed.number ≡ next_number (rows_in self.now.rows.now) spot.now to) }
         ensures ready { (labels : List Label) (st : State) (from to : ℕ)
             → IsReady (whole_in self.now) labels spot.now st from number grafting
-            → IsStretch (whole_in self.now) spot.now.statement spot.now.module_file from to stretch.now
-            → IfOk result (λ followed. IsReady (whole_in self.now) labels spot.now st to followed.number followed.grafting) }
+            → IsStretch (whole_in self.now) spot.now.statement spot.now.module_file from to
+            stretch.now
+            → IfOk result
+            (λ followed. IsReady (whole_in self.now) labels spot.now st to followed.number
+            followed.grafting) }
         ensures lacks { (labels : List Label) (st : State) (from to : ℕ)
             → IsReady (whole_in self.now) labels spot.now st from number grafting
-            → IsStretch (whole_in self.now) spot.now.statement spot.now.module_file from to stretch.now
-            → IfOk result (λ followed. IsLeast (MissesBetween (whole_in self.now) labels spot.now end st from to) followed.missing) }
+            → IsStretch (whole_in self.now) spot.now.statement spot.now.module_file from to
+            stretch.now
+            → IfOk result
+            (λ followed. IsLeast (MissesBetween (whole_in self.now) labels spot.now end st from to)
+            followed.missing) }
     {
         yv_expand_rounds::laws::turns_keep_augments();
         let missing = self.first_missing(&grafting, spot, end, &stretch.idle);
@@ -229,12 +251,18 @@ impl Plan<'_, '_, '_> {
         requires schedules { AreSchedules (whole_in self.now) schedules.old }
         requires few { IsNumbered (rows_in self.now.rows.now) spot.now }
         ensures schedules { OnOk result (AreSchedules (whole_in self.now) schedules.new) }
-        ensures state { (labels : List Label) (st : State) → IsAugmentation labels st grafting → length labels ≡ length self.now.items.now
+        ensures state { (labels : List Label) (st : State) → IsAugmentation labels st grafting
+            → length labels ≡ length self.now.items.now
             → spot.now.first + copies_of (rows_in self.now.rows.now) spot.now ≤ length st.ends
-            → IfOk result (λ turned. IsAugmentation labels (turns (whole_in self.now) labels spot.now st) turned.grafting) }
-        ensures lacks { (labels : List Label) (st : State) → IsAugmentation labels st grafting → length labels ≡ length self.now.items.now
+            → IfOk result
+            (λ turned. IsAugmentation labels (turns (whole_in self.now) labels spot.now st)
+            turned.grafting) }
+        ensures lacks { (labels : List Label) (st : State) → IsAugmentation labels st grafting
+            → length labels ≡ length self.now.items.now
             → spot.now.first + copies_of (rows_in self.now.rows.now) spot.now ≤ length st.ends
-            → IfOk result (λ turned. IsLeast (MissesOf (whole_in self.now) labels spot.now end st) turned.missing) }
+            → IfOk result
+            (λ turned. IsLeast (MissesOf (whole_in self.now) labels spot.now end st)
+            turned.missing) }
     {
         let mut least = None;
         if !self.has_augments(spot) {
@@ -257,18 +285,23 @@ impl Plan<'_, '_, '_> {
         })
     }
 
-    // The items enter from the last to the first, and before a uses enters its refines are followed, and its augments have their turns.
+    // The items enter from the last to the first, and before a uses enters its refines are
+    // followed, and its augments have their turns.
     fn place(&self, alloc: Global, layout: &Layout, ends: &[usize]) -> Result<Placer, AllocError>
         requires plan { IsPlan self.now }
         requires lays { AreLaid (whole_in self.now) (laid_in layout.now) }
         requires few { layout.now.copies < 2 ^ 63 }
         ensures state { IfOk result (λ told.
-            IsAugmentation (labels_of (laid_in layout.now).spots) (placement (whole_in self.now) (laid_in layout.now)) told.grafting) }
+            IsAugmentation (labels_of (laid_in layout.now).spots)
+            (placement (whole_in self.now) (laid_in layout.now)) told.grafting) }
         ensures lacks { IfOk result (λ told. (i : ℕ)
-            → IsLeast (MissesAt (whole_in self.now) (laid_in layout.now) (slice_index_or ends.now i 0) i)
+            → IsLeast
+            (MissesAt (whole_in self.now) (laid_in layout.now) (slice_index_or ends.now i 0) i)
             (slice_index_or told.missing.items i None)) }
         ensures refines { IfOk result (λ told.
-            all_meant told.refined ≡ refine_meanings (whole_in self.now) (laid_in layout.now) (λ i. slice_index_or ends.now i 0)) }
+            all_meant told.refined
+            ≡ refine_meanings (whole_in self.now) (laid_in layout.now)
+            (λ i. slice_index_or ends.now i 0)) }
     {
         yv_expand_rounds::laws::turns_keep_augments();
         let labels = labels(alloc, &layout.spots)?;
@@ -297,7 +330,8 @@ impl Plan<'_, '_, '_> {
     // The paths of the augments of modules.
     fn module_paths(&self, alloc: Global) -> Result<Vec<Vec<usize>>, AllocError>
         requires { IsPlan self.now }
-        ensures { IfOk result (λ paths. map (λ p. p.items) paths.items ≡ module_paths (whole_in self.now)) }
+        ensures { IfOk result
+            (λ paths. map (λ p. p.items) paths.items ≡ module_paths (whole_in self.now)) }
     {
         let mut paths = Vec::new(alloc);
         for augment in self.augments {
@@ -319,10 +353,11 @@ pub struct AugmentedItems {
 }
 
 impl AugmentedItems {
-    /// The node to which an augment of a module adds, by its place among these. None where its path leads nowhere, or ends where
-    /// no augment may add.
+    /// The node to which an augment of a module adds, by its place among these. None where its path
+    /// leads nowhere, or ends where no augment may add.
     pub fn target(&self, place: usize) -> Option<usize>
-        ensures { (w : Whole) (items : List Item) (st : State) → AreAugmentedItems w items st self.now
+        ensures { (w : Whole) (items : List Item) (st : State)
+            → AreAugmentedItems w items st self.now
             → result ≡ target_of (labels_of (layout_of w items).spots) st.ends place }
     {
         self.grafting.target(place)
@@ -330,7 +365,8 @@ impl AugmentedItems {
 
     /// The final tree, and what is still asked of it.
     pub fn into_grown(self) -> Result<AugmentedTree, AllocError>
-        ensures { (w : Whole) (items : List Item) (st : State) → AreAugmentedItems w items st self → IfOk result (AreAugmentedTree w items st) }
+        ensures { (w : Whole) (items : List Item) (st : State) → AreAugmentedItems w items st self
+            → IfOk result (AreAugmentedTree w items st) }
     {
         let AugmentedItems {
             spots,
@@ -348,9 +384,10 @@ impl AugmentedItems {
     }
 }
 
-/// Applies the augments of an expansion of files whose items these are: those of each uses, inner ones first, and then those of modules
-/// in rounds, whose statements are given by file and statement (RFC 7950, sections 7.13 and 7.17). Err if memory
-/// runs out, and where there are more than 2 to the 32 less 3 statements.
+/// Applies the augments of an expansion of files whose items these are: those of each uses, inner
+/// ones first, and then those of modules in rounds, whose statements are given by file and
+/// statement (RFC 7950, sections 7.13 and 7.17). Err if memory runs out, and where there are more
+/// than 2 to the 32 less 3 statements.
 pub fn apply_augments(
     alloc: Global,
     rows: &Rows<'_, '_>,
@@ -358,7 +395,9 @@ pub fn apply_augments(
     augments: &[usize],
 ) -> Result<AugmentedItems, AllocError>
     ensures { IfOk result (λ grafts. (st : State)
-        × AreAugmentedItems (whole (files_in rows.now) (rows_in rows.now) augments.now (length items.now)) items.now st grafts) }
+        × AreAugmentedItems
+        (whole (files_in rows.now) (rows_in rows.now) augments.now (length items.now)) items.now st
+        grafts) }
 {
     yv_expand_rounds::laws::each_item_stands_once();
     yv_expand_rounds::laws::turns_keep_augments();

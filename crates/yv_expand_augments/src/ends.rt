@@ -23,7 +23,8 @@ fn is_from(items: &[Item], number: usize, next: usize) -> bool
 fn end(items: &[Item], ends: &[usize], number: usize) -> usize
     requires within { number < length items.now }
     requires each { length ends.now ≡ length items.now }
-    requires knows { (i : ℕ) → number < i → i < length items.now → slice_index_or ends.now i 0 ≡ end_at items.now i }
+    requires knows { (i : ℕ) → number < i → i < length items.now → slice_index_or ends.now i 0
+        ≡ end_at items.now i }
     ensures { result ≡ end_at items.now number }
 {
     let mut next = number + 1;

@@ -17,22 +17,25 @@ use yv_statement::{Refusal, lesser};
 pub struct AugmentedTree {
     /// What was known of each item before any augment was applied.
     pub spots: Vec<Spot>,
-    /// What the refines of each `uses` mean, those of an inner one before those of an outer one: the node at which the path of each ends,
-    /// among what the `uses` gives before its own augments. Copies of one `uses` in one module share what its refines aim at.
+    /// What the refines of each `uses` mean, those of an inner one before those of an outer one:
+    /// the node at which the path of each ends, among what the `uses` gives before its own
+    /// augments. Copies of one `uses` in one module share what its refines aim at.
     pub refined: Refinements,
-    /// The final tree in order: each item before those below it and, of the children of one parent, those that augments of modules give
-    /// after the others, each by number. A uses is among them, with nothing below it: what it gives follows it as its siblings. What an
-    /// augment without a target gives isn't among them.
+    /// The final tree in order: each item before those below it and, of the children of one parent,
+    /// those that augments of modules give after the others, each by number. A uses is among them,
+    /// with nothing below it: what it gives follows it as its siblings. What an augment without a
+    /// target gives isn't among them.
     pub tree: Vec<ItemRow>,
     // Of each item the least refusal of its augments, if it is a uses.
     pub(crate) missing: Vec<Option<Refusal>>,
 }
 
 impl AugmentedTree {
-    /// The least `AugmentTarget` of an augment of a `uses` that is an item of the final tree: in its turn the augment added to no node.
-    /// Takes time linear in items.
+    /// The least `AugmentTarget` of an augment of a `uses` that is an item of the final tree: in
+    /// its turn the augment added to no node. Takes time linear in items.
     pub fn first_untargeted(&self) -> Option<Refusal>
-        ensures { (w : Whole) (items : List Item) (st : State) → AreAugmentedTree w items st self.now
+        ensures { (w : Whole) (items : List Item) (st : State)
+            → AreAugmentedTree w items st self.now
             → IsLeast (MissesTarget w items self.now.tree.items) result }
     {
         let mut least = None;

@@ -44,7 +44,8 @@ pub(crate) fn is_augment(entry: &Entry<'_, '_>) -> bool
 
 // Whether what stands in a block is there by the conditions of the block, if that is an augment.
 fn block_on(rows: &Rows<'_, '_>, statements: &[bool], block: usize) -> bool
-    ensures { result ≡ block_on (is_marked statements.now) block (slice_get (rows_in rows.now) block) }
+    ensures { result
+        ≡ block_on (is_marked statements.now) block (slice_get (rows_in rows.now) block) }
 {
     match rows.entries().get(block) {
         Some(entry) => {
@@ -60,7 +61,9 @@ fn block_on(rows: &Rows<'_, '_>, statements: &[bool], block: usize) -> bool
 
 // The same of the block in which a numbered statement stands.
 fn augment_on(rows: &Rows<'_, '_>, statements: &[bool], statement: usize) -> bool
-    ensures { result ≡ augment_on (rows_in rows.now) (is_marked statements.now) (slice_get (rows_in rows.now) statement) }
+    ensures { result
+        ≡ augment_on (rows_in rows.now) (is_marked statements.now)
+        (slice_get (rows_in rows.now) statement) }
 {
     match rows.entries().get(statement) {
         Some(entry) => block_on(rows, statements, entry.scope),
@@ -78,13 +81,15 @@ fn item_on(
     item: &Item,
 ) -> bool
     ensures { result ≡ (own && (above_on spots.now marks.now item.now.parent
-        && augment_on (rows_in rows.now) (is_marked statements.now) (slice_get (rows_in rows.now) (number_of item.now.origin)))) }
+        && augment_on (rows_in rows.now) (is_marked statements.now)
+        (slice_get (rows_in rows.now) (number_of item.now.origin)))) }
 {
     own && above_on(spots, marks, item.parent) && augment_on(rows, statements, item.origin.number())
 }
 
-/// A mark for each item that is there by its own mark and those of what gave it: the conditions of each uses above it, and of the
-/// augment whose block contains its statement. The final tree (`left`) says whether the nodes above it are there too.
+/// A mark for each item that is there by its own mark and those of what gave it: the conditions of
+/// each uses above it, and of the augment whose block contains its statement. The final tree
+/// (`left`) says whether the nodes above it are there too.
 pub fn items_on(
     alloc: Global,
     rows: &Rows<'_, '_>,
@@ -94,7 +99,9 @@ pub fn items_on(
     own: &[bool],
 ) -> Result<Vec<bool>, AllocError>
     requires { ParentsComeFirst items.now }
-    ensures { IfOk result (λ marks. AreOn (rows_in rows.now) spots.now items.now (is_marked statements.now) (is_marked own.now)
+    ensures { IfOk result
+        (λ marks. AreOn (rows_in rows.now) spots.now items.now (is_marked statements.now)
+        (is_marked own.now)
         marks.items) }
 {
     let mut marks = Vec::new(alloc);

@@ -3,33 +3,34 @@ ghost use Rattle.std.specs.Prelude.{◌≡◌, List, map};
 ghost use Rattle.yv_link_scopes.specs.Views.{rows_in};
 ghost use Rattle.yv_link_scopes.specs.Rows.{Row};
 ghost use Rattle.yv_expand_paths.specs.PathTables.{AreNames};
-ghost use Rattle.yv_expand_rounds.specs.Labels.{is_case};
-ghost use Rattle.yv_expand_augments.specs.Kinds.{is_uses, kind_of_keyword, kind_in, kind_of, label_of, name_number};
+ghost use Rattle.yv_expand_rounds.specs.Kinds.{is_case};
+ghost use Rattle.yv_expand_rounds.specs.Kinds.{is_uses, kind_of_keyword, kind_in};
+ghost use Rattle.yv_expand_augments.specs.Kinds.{kind_of, label_of, name_number};
 
 use yv_expand::Origin;
 use yv_expand_paths::{NodeNames, qualified_name};
-use yv_expand_rounds::{ItemKind, Label};
+use yv_expand_rounds::{Label, StatementKind};
 use yv_link_scopes::Rows;
 
-static KINDS: [(&str, ItemKind); 14] = [
-    ("container", ItemKind::Container),
-    ("leaf", ItemKind::Leaf),
-    ("leaf-list", ItemKind::LeafList),
-    ("list", ItemKind::List),
-    ("choice", ItemKind::Choice),
-    ("case", ItemKind::Case),
-    ("anydata", ItemKind::Anydata),
-    ("anyxml", ItemKind::Anyxml),
-    ("rpc", ItemKind::Rpc),
-    ("action", ItemKind::Action),
-    ("input", ItemKind::Input),
-    ("output", ItemKind::Output),
-    ("notification", ItemKind::Notification),
-    ("uses", ItemKind::Uses),
+static KINDS: [(&str, StatementKind); 14] = [
+    ("container", StatementKind::Container),
+    ("leaf", StatementKind::Leaf),
+    ("leaf-list", StatementKind::LeafList),
+    ("list", StatementKind::List),
+    ("choice", StatementKind::Choice),
+    ("case", StatementKind::Case),
+    ("anydata", StatementKind::Anydata),
+    ("anyxml", StatementKind::Anyxml),
+    ("rpc", StatementKind::Rpc),
+    ("action", StatementKind::Action),
+    ("input", StatementKind::Input),
+    ("output", StatementKind::Output),
+    ("notification", StatementKind::Notification),
+    ("uses", StatementKind::Uses),
 ];
 
 // The kind that a table gives a keyword.
-fn kind_in(kinds: &[(&str, ItemKind)], keyword: &str) -> Option<ItemKind>
+fn kind_in(kinds: &[(&str, StatementKind)], keyword: &str) -> Option<StatementKind>
     ensures { result ≡ kind_in (map (λ k. (k.0.now, k.1)) kinds.now) keyword.now }
 {
     for entry in kinds {
@@ -41,24 +42,26 @@ fn kind_in(kinds: &[(&str, ItemKind)], keyword: &str) -> Option<ItemKind>
 }
 
 /// The kind of the items that statements of a keyword give; others give none.
-#[tactic(auto, unfolding(crate::specs::Kinds::kind_of_keyword))]
-pub(crate) fn kind_of_keyword(keyword: &str) -> Option<ItemKind>
+#[tactic(auto, unfolding(yv_expand_rounds::specs::Kinds::kind_of_keyword))]
+pub(crate) fn kind_of_keyword(keyword: &str) -> Option<StatementKind>
     ensures { result ≡ kind_of_keyword keyword.now }
 {
     kind_in(&KINDS, keyword)
 }
 
 // The kind of an item.
-fn kind_of(rows: &Rows<'_, '_>, origin: Origin) -> ItemKind
+fn kind_of(rows: &Rows<'_, '_>, origin: Origin) -> StatementKind
     ensures { result ≡ kind_of (rows_in rows.now) origin }
 {
     match origin {
         Origin::Statement(number) => match rows.entries().get(number) {
-            Some(entry) => kind_of_keyword(entry.statement.keyword()).unwrap_or(ItemKind::Uses),
-            None => ItemKind::Leaf,
+            Some(entry) => kind_of_keyword(entry.statement.keyword()).unwrap_or(
+                StatementKind::Uses,
+            ),
+            None => StatementKind::Leaf,
         },
-        Origin::Input(_) => ItemKind::Input,
-        Origin::Output(_) => ItemKind::Output,
+        Origin::Input(_) => StatementKind::Input,
+        Origin::Output(_) => StatementKind::Output,
     }
 }
 
@@ -73,7 +76,8 @@ fn name_number(names: &NodeNames<'_>, origin: Origin) -> Option<u32>
     }
 }
 
-/// What is known of an item that belongs to the module of the file `module_file`, and that an augment of a module gives or none.
+/// What is known of an item that belongs to the module of the file `module_file`, and that an
+/// augment of a module gives or none.
 pub(crate) fn label_of(
     rows: &Rows<'_, '_>,
     names: &NodeNames<'_>,
@@ -92,21 +96,21 @@ pub(crate) fn label_of(
 }
 
 /// Whether an item is a uses, and so not a node.
-pub(crate) fn is_uses(kind: ItemKind) -> bool
+pub(crate) fn is_uses(kind: StatementKind) -> bool
     ensures { result ≡ is_uses kind }
 {
     match kind {
-        ItemKind::Uses => true,
+        StatementKind::Uses => true,
         _ => false,
     }
 }
 
 /// Whether an item is a case.
-pub(crate) fn is_case(kind: ItemKind) -> bool
+pub(crate) fn is_case(kind: StatementKind) -> bool
     ensures { result ≡ is_case kind }
 {
     match kind {
-        ItemKind::Case => true,
+        StatementKind::Case => true,
         _ => false,
     }
 }

@@ -14,31 +14,40 @@ ghost use Rattle.yv_expand_augments.specs.declared.spot.Spot.{Spot};
 
 /// There is one answer to which items are there by their conditions.
 pub fn if_features_have_one_answer()
-    ensures { (rows : List Row) (spots : List Spot) (items : List Item) (statements own : ℕ → Bool) (a b : List Bool)
-        → ParentsComeFirst items → AreOn rows spots items statements own a → AreOn rows spots items statements own b → a ≡ b }
+    ensures { (rows : List Row) (spots : List Spot) (items : List Item) (statements own : ℕ → Bool)
+        (a b : List Bool)
+        → ParentsComeFirst items → AreOn rows spots items statements own a
+        → AreOn rows spots items statements own b → a ≡ b }
 {}
 
 /// Applying augments leads to one state.
 pub fn augments_come_to_one()
-    ensures { (w : Whole) (items : List Item) (a b : State) → AreAugmented w items a → AreAugmented w items b → a ≡ b }
+    ensures { (w : Whole) (items : List Item) (a b : State) → AreAugmented w items a
+        → AreAugmented w items b → a ≡ b }
 {
     yv_expand_rounds::laws::rounds_come_to_one();
 }
 
 /// Once all augments are applied, each item is in exactly one group, once.
 pub fn items_stand_once()
-    ensures { (w : Whole) (items : List Item) (st : State) → w.items ≡ length items → AreAugmented w items st
+    ensures { (w : Whole) (items : List Item) (st : State) → w.items ≡ length items
+        → AreAugmented w items st
         → StandOnce (length items) st.groups }
 {
     yv_expand_rounds::laws::each_item_stands_once();
 }
 
-/// What an augment of a module gives is in the final tree only below the node to which the augment adds.
+/// What an augment of a module gives is in the final tree only below the node to which the augment
+/// adds.
 pub fn what_is_given_stands_below_its_target()
-    ensures { (w : Whole) (items : List Item) (st : State) (t : Tree) (k place : ℕ) (row : ItemRow) (s : Spot) → w.items ≡ length items
-        → AreAugmented w items st → IsTree (labels_of (layout_of w items).spots) st.groups t → slice_get (tree_list None 1 t) k ≡ Some row
-        → slice_get (layout_of w items).spots row.number ≡ Some s → place < length w.augments → s.group ≡ copy_group w place
-        → (p : ℕ) × (row.parent ≡ Some p) × (target_of (labels_of (layout_of w items).spots) st.ends place ≡ Some p) }
+    ensures { (w : Whole) (items : List Item) (st : State) (t : Tree) (k place : ℕ) (row : ItemRow)
+        (s : Spot) → w.items ≡ length items
+        → AreAugmented w items st → IsTree (labels_of (layout_of w items).spots) st.groups t
+        → slice_get (tree_list None 1 t) k ≡ Some row
+        → slice_get (layout_of w items).spots row.number ≡ Some s → place < length w.augments
+        → s.group ≡ copy_group w place
+        → (p : ℕ) × (row.parent ≡ Some p)
+        × (target_of (labels_of (layout_of w items).spots) st.ends place ≡ Some p) }
 {
     yv_expand_rounds::laws::a_tree_has_no_item_twice();
     yv_expand_rounds::laws::each_item_stands_once();

@@ -2,7 +2,7 @@
 ghost use Rattle.std.specs.Prelude.{◌≡◌, ◌<◌, ◌+◌, ◌^◌, true, List, length, slice_get, IfOk, OnOk};
 ghost use Rattle.yv_link_scopes.specs.Views.{files_in, rows_in};
 ghost use Rattle.yv_expand.specs.Origin.{number_of};
-ghost use Rattle.yv_expand_augments.specs.Kinds.{is_uses};
+ghost use Rattle.yv_expand_rounds.specs.Kinds.{is_uses};
 ghost use Rattle.yv_expand_augments.specs.AugmentOrder.{ordinal};
 ghost use Rattle.yv_expand_augments.specs.Spots.{copies_of, copy_group, source_in, group_below, module_file_below, layout_of, spot_at, spot_of, top_group, used_group};
 
@@ -52,7 +52,8 @@ impl Plan<'_, '_, '_> {
     // The group of an item at the top.
     fn top_group(&self, statement: usize) -> usize
         requires { IsPlan self.now }
-        ensures { result ≡ top_group (whole_in self.now) (slice_get (rows_in self.now.rows.now) statement) }
+        ensures { result
+            ≡ top_group (whole_in self.now) (slice_get (rows_in self.now.rows.now) statement) }
     {
         yv_link_scopes::laws::blocks_are_nested();
         let entries = self.rows.entries();
@@ -69,7 +70,9 @@ impl Plan<'_, '_, '_> {
     fn given_group(&self, spot: &Spot, augment: usize) -> usize
         requires plan { IsPlan self.now }
         requires few { spot.now.first + ordinal (rows_in self.now.rows.now) augment < 2 ^ 63 }
-        ensures { result ≡ copy_group (whole_in self.now) (spot.now.first + ordinal (rows_in self.now.rows.now) augment) }
+        ensures { result
+            ≡ copy_group (whole_in self.now)
+            (spot.now.first + ordinal (rows_in self.now.rows.now) augment) }
     {
         self.copy_group(spot.first + self.ordinal(augment))
     }
@@ -79,7 +82,9 @@ impl Plan<'_, '_, '_> {
         requires plan { IsPlan self.now }
         requires few { IsNumbered (rows_in self.now.rows.now) spot.now }
         requires uses { is_uses spot.now.label.kind ≡ true }
-        ensures { result ≡ used_group (whole_in self.now) spot.now (slice_get (rows_in self.now.rows.now) statement) }
+        ensures { result
+            ≡ used_group (whole_in self.now) spot.now
+            (slice_get (rows_in self.now.rows.now) statement) }
     {
         match self.rows.entries().get(statement) {
             Some(entry) => {
@@ -98,7 +103,8 @@ impl Plan<'_, '_, '_> {
         requires plan { IsPlan self.now }
         requires few { AreNumbered (rows_in self.now.rows.now) spots.now }
         ensures { result ≡ group_below (whole_in self.now)
-            (slice_get (rows_in self.now.rows.now) (number_of item.now.origin)) item.now.parent (spot_at spots.now item.now.parent) }
+            (slice_get (rows_in self.now.rows.now) (number_of item.now.origin)) item.now.parent
+            (spot_at spots.now item.now.parent) }
     {
         let statement = item.origin.number();
         let Some(parent) = item.parent else {
@@ -120,7 +126,8 @@ impl Plan<'_, '_, '_> {
     fn module_file_below(&self, spots: &[Spot], item: &Item) -> u32
         requires { IsPlan self.now }
         ensures { result ≡ module_file_below (files_in self.now.rows.now)
-            (slice_get (rows_in self.now.rows.now) (number_of item.now.origin)) (spot_at spots.now item.now.parent) }
+            (slice_get (rows_in self.now.rows.now) (number_of item.now.origin))
+            (spot_at spots.now item.now.parent) }
     {
         match spot_at(spots, item.parent) {
             Some(spot) => spot.module_file,
@@ -150,7 +157,9 @@ impl Plan<'_, '_, '_> {
     // Lists the augments of which an item adds copies.
     fn add_copies(&self, copies: &mut Vec<usize>, spot: &Spot) -> Result<(), AllocError>
         requires { IsPlan self.now }
-        ensures { OnOk result (length copies.new.items ≡ length copies.old.items + copies_of (rows_in self.now.rows.now) spot.now) }
+        ensures { OnOk result
+            (length copies.new.items ≡ length copies.old.items
+            + copies_of (rows_in self.now.rows.now) spot.now) }
     {
         if is_uses(spot.label.kind) {
             copies.extend_from_slice(self.augments_giving(spot.statement))?;
@@ -158,12 +167,13 @@ impl Plan<'_, '_, '_> {
         Ok(())
     }
 
-    /// All items, one after the other. The augment of each copy is listed meanwhile: so the copies are counted within the length of
-    /// a list in memory.
+    /// All items, one after the other. The augment of each copy is listed meanwhile: so the copies
+    /// are counted within the length of a list in memory.
     #[tactic(auto, unfolding(crate::specs::Spots::layout_of))]
     pub(crate) fn lay(&self, alloc: Global, items: &[Item]) -> Result<Layout, AllocError>
         requires { IsPlan self.now }
-        ensures lays { IfOk result (λ layout. laid_in layout ≡ layout_of (whole_in self.now) items.now) }
+        ensures lays { IfOk result
+            (λ layout. laid_in layout ≡ layout_of (whole_in self.now) items.now) }
         ensures few { IfOk result (λ layout. layout.copies < 2 ^ 63) }
     {
         let mut spots = Vec::new(alloc);

@@ -1,4 +1,5 @@
-//! Which of the different paths of refines lead to nodes at a copy, and aims by their places among these.
+//! Which of the different paths of refines lead to nodes at a copy, and aims by their places among
+//! these.
 ghost use Rattle.std.specs.Prelude.{◌≡◌, ◌==◌, ◌++◌, ◌∷◌, ℕ, [], List, Some, map, if◌then◌else◌, IfOk, OnOk};
 ghost use Rattle.std.specs.BTreeMap.{get};
 ghost use Rattle.std.specs.Ordering.{nat_cmp};
@@ -36,8 +37,10 @@ impl LeadingPaths {
 
     // Notes where a path leads, if it leads to a node.
     fn note(&mut self, arrival: Arrival) -> Result<(), AllocError>
-        ensures paths { OnOk result (self.new.paths.items ≡ self.old.paths.items ++ paths_of (arrival ∷ [])) }
-        ensures targets { OnOk result (self.new.targets.items ≡ self.old.targets.items ++ targets_of (arrival ∷ [])) }
+        ensures paths { OnOk result
+            (self.new.paths.items ≡ self.old.paths.items ++ paths_of (arrival ∷ [])) }
+        ensures targets { OnOk result
+            (self.new.targets.items ≡ self.old.targets.items ++ targets_of (arrival ∷ [])) }
     {
         if let Some(item) = node_at(arrival.end) {
             self.paths.push(arrival.path)?;
@@ -49,11 +52,13 @@ impl LeadingPaths {
     /// Those of these paths that lead to nodes.
     pub(crate) fn read(alloc: Global, arrivals: &[Arrival]) -> Result<LeadingPaths, AllocError>
         ensures { (labels : List Label) (st : State) (end group : ℕ) (all : List (List ℕ))
-            → AreArrivals labels st.groups end group all arrivals.now → IfOk result (IsLed (target_of_path labels st end group) all) }
+            → AreArrivals labels st.groups end group all arrivals.now
+            → IfOk result (IsLed (target_of_path labels st end group) all) }
     {
+        // The targets of each copy stay, so that no more memory is taken for them than they need.
         let mut led = LeadingPaths {
-            paths: Vec::new(alloc),
-            targets: Vec::new(alloc),
+            paths: Vec::with_capacity(alloc, arrivals.len())?,
+            targets: Vec::with_capacity(alloc, arrivals.len())?,
         };
         for arrival in arrivals {
             led.note(*arrival)?;
@@ -68,7 +73,9 @@ fn put_first(
     path: usize,
     place: usize,
 ) -> Result<(), AllocError>
-    ensures { OnOk result ((p : ℕ) → get nat_cmp places.new p ≡ (if path == p then Some place else get nat_cmp places.old p)) }
+    ensures { OnOk result
+        ((p : ℕ) → get nat_cmp places.new p
+        ≡ (if path == p then Some place else get nat_cmp places.old p)) }
 {
     places.insert(path, place)?;
     Ok(())
@@ -76,7 +83,8 @@ fn put_first(
 
 // For each path its first place among these.
 fn places_of(alloc: Global, paths: &[usize]) -> Result<BTreeMap<usize, usize>, AllocError>
-    ensures { IfOk result (λ places. (path : ℕ) → get nat_cmp places path ≡ first_from 0 paths.now path) }
+    ensures { IfOk result
+        (λ places. (path : ℕ) → get nat_cmp places path ≡ first_from 0 paths.now path) }
 {
     let mut places = BTreeMap::new(alloc);
     let mut left = paths.len();
@@ -87,8 +95,8 @@ fn places_of(alloc: Global, paths: &[usize]) -> Result<BTreeMap<usize, usize>, A
     Ok(places)
 }
 
-/// Aims by the places of their paths among these; one whose path isn't among them gets the place after the last. Takes time n log n in
-/// both.
+/// Aims by the places of their paths among these; one whose path isn't among them gets the place
+/// after the last. Takes time n log n in both.
 pub(crate) fn place_aims(
     alloc: Global,
     aims: &[RefineTarget],

@@ -4,7 +4,8 @@ ghost use Rattle.std.specs.Option.{unwrap_or};
 ghost use Rattle.yv_statement.specs.Order.{IsLeast};
 ghost use Rattle.yv_link_scopes.specs.Views.{rows_in};
 ghost use Rattle.yv_expand_rounds.specs.Tree.{Tree, tree_list};
-ghost use Rattle.yv_expand_augments.specs.MandatoryNodes.{ImposesMandatory, source_of, inside, is_configuration, is_container, is_container_without, is_given, is_mandatory, is_operation_or_notification, is_some_operation, nothing_around, told_in};
+ghost use Rattle.yv_expand_augments.specs.MandatoryNodes.{ImposesMandatory, source_of, inside, is_configuration, is_container_without, is_given, is_mandatory, is_some_operation, nothing_around, told_in};
+ghost use Rattle.yv_expand_rounds.specs.Kinds.{is_container, is_operation_or_notification};
 ghost use Rattle.yv_expand_augments.specs.InnerMandatoryNodes.{AreShallow, around_marks, configuration_marks, counts, enter, mandatory_refusal, is_mandatory_added, meet};
 ghost use Rattle.yv_expand_augments.specs.Remains.{is_marked};
 ghost use Rattle.yv_expand_augments.specs.Spots.{spot_at};
@@ -14,14 +15,15 @@ use crate::placement::refusal_of_augment;
 use crate::remains::is_marked;
 use crate::spot::Spot;
 use std::alloc::{AllocError, Global};
-use yv_expand_rounds::{ItemKind, ItemRow};
+use yv_expand_rounds::{ItemRow, StatementKind};
 use yv_link_scopes::Rows;
 use yv_statement::{Refusal, lesser};
 
 /// What is known of each item, as refines have left it. A number without a mark has none of these.
 #[derive(Clone, Copy)]
 pub struct RefinedMarks<'m> {
-    /// A leaf, choice, anydata or anyxml with `mandatory true`, or a list or leaf-list with min-elements above 0.
+    /// A leaf, choice, anydata or anyxml with `mandatory true`, or a list or leaf-list with
+    /// min-elements above 0.
     pub mandatory: &'m [bool],
     /// It has a `presence` statement.
     pub presence: &'m [bool],
@@ -29,7 +31,8 @@ pub struct RefinedMarks<'m> {
     pub config: &'m [Option<bool>],
 }
 
-// The augment of a module in whose block an item stands, if it stands in one; there are so many items.
+// The augment of a module in whose block an item stands, if it stands in one; there are so many
+// items.
 fn source_of(items: usize, augments: &[usize], spot: Option<Spot>) -> Option<usize>
     ensures { result ≡ source_of items augments.now spot }
 {
@@ -43,11 +46,11 @@ fn is_given(spots: &[Spot], augments: &[usize], number: usize) -> bool
     source_of(spots.len(), augments, spots.get(number).copied()).is_some()
 }
 
-fn is_container(kind: ItemKind) -> bool
+fn is_container(kind: StatementKind) -> bool
     ensures { result ≡ is_container kind }
 {
     match kind {
-        ItemKind::Container => true,
+        StatementKind::Container => true,
         _ => false,
     }
 }
@@ -148,7 +151,9 @@ fn mandatory_refusal_at(
 
 // Gives a depth a mark, or takes it.
 fn put(found: &mut Vec<bool>, depth: usize, mark: bool) -> Result<(), AllocError>
-    ensures { OnOk result ((d : ℕ) → is_marked found.new.items d ≡ (if d == depth then mark else is_marked found.old.items d)) }
+    ensures { OnOk result
+        ((d : ℕ) → is_marked found.new.items d
+        ≡ (if d == depth then mark else is_marked found.old.items d)) }
 {
     while found.len() <= depth {
         found.push(false)?;
@@ -159,7 +164,9 @@ fn put(found: &mut Vec<bool>, depth: usize, mark: bool) -> Result<(), AllocError
 
 // An item of this depth is met, before those at the next one: what was found there stands below it.
 fn meet(found: &mut Vec<bool>, depth: usize, next: usize, counts: bool) -> Result<(), AllocError>
-    ensures { next ≡ depth + 1 → OnOk result ((d : ℕ) → is_marked found.new.items d ≡ meet depth counts (is_marked found.old.items) d) }
+    ensures { next ≡ depth + 1
+        → OnOk result
+        ((d : ℕ) → is_marked found.new.items d ≡ meet depth counts (is_marked found.old.items) d) }
 {
     let mark = counts || is_marked(found, depth);
     put(found, next, false)?;
@@ -181,11 +188,11 @@ fn config_inside(marks: &RefinedMarks<'_>, number: usize, is_config: bool) -> bo
     config_of(marks.config, number).unwrap_or(is_config)
 }
 
-fn is_operation_or_notification(kind: ItemKind) -> bool
+fn is_operation_or_notification(kind: StatementKind) -> bool
     ensures { result ≡ is_operation_or_notification kind }
 {
     match kind {
-        ItemKind::Rpc | ItemKind::Action | ItemKind::Notification => true,
+        StatementKind::Rpc | StatementKind::Action | StatementKind::Notification => true,
         _ => false,
     }
 }
@@ -200,7 +207,8 @@ fn is_some_operation(spot: Option<Spot>) -> bool
     }
 }
 
-// Whether what stands in an item stands in an operation or a notification, by the item and by what is around it.
+// Whether what stands in an item stands in an operation or a notification, by the item and by what
+// is around it.
 fn operation_inside(spots: &[Spot], number: usize, in_operation: bool) -> bool
     ensures { result ≡ (is_some_operation (slice_get spots.now number) || in_operation) }
 {
@@ -214,7 +222,8 @@ fn is_configuration(is_config: bool, in_operation: bool) -> bool
     is_config && !in_operation
 }
 
-// The item of this row is met, where those below it stand at the next depth: whether it is configuration.
+// The item of this row is met, where those below it stand at the next depth: whether it is
+// configuration.
 fn enter(
     states: &mut Vec<bool>,
     operations: &mut Vec<bool>,
@@ -223,9 +232,12 @@ fn enter(
     row: &ItemRow,
     next: usize,
 ) -> Result<bool, AllocError>
-    ensures value { IfOk result (λ mark. mark ≡ is_configuration (inside spots.now (told_in marks.now) row.now.number
-        (around_marks (is_marked states.old.items) (is_marked operations.old.items) row.now.depth))) }
-    ensures around { OnOk result ((d : ℕ) → around_marks (is_marked states.new.items) (is_marked operations.new.items) d
+    ensures value { IfOk result
+        (λ mark. mark ≡ is_configuration (inside spots.now (told_in marks.now) row.now.number
+        (around_marks (is_marked states.old.items) (is_marked operations.old.items)
+        row.now.depth))) }
+    ensures around { OnOk result
+        ((d : ℕ) → around_marks (is_marked states.new.items) (is_marked operations.new.items) d
         ≡ enter next (inside spots.now (told_in marks.now) row.now.number
         (around_marks (is_marked states.old.items) (is_marked operations.old.items) row.now.depth))
         (around_marks (is_marked states.old.items) (is_marked operations.old.items)) d) }
@@ -237,7 +249,8 @@ fn enter(
     Ok(is_configuration(is_config, in_operation))
 }
 
-// The depth of what stands below an item. In the list of a tree no depth is above the length of the list.
+// The depth of what stands below an item. In the list of a tree no depth is above the length of the
+// list.
 fn next_depth(row: &ItemRow) -> usize
     ensures { row.now.depth + 1 < 2 ^ 64 → result ≡ row.now.depth + 1 }
 {
@@ -252,7 +265,9 @@ fn mark_configuration(
     tree: &[ItemRow],
 ) -> Result<Vec<bool>, AllocError>
     ensures { AreShallow tree.now
-        → IfOk result (λ places. places.items ≡ configuration_marks spots.now (told_in marks.now) (λ d. nothing_around) tree.now) }
+        → IfOk result
+        (λ places. places.items
+        ≡ configuration_marks spots.now (told_in marks.now) (λ d. nothing_around) tree.now) }
 {
     let mut places = Vec::new(alloc);
     let mut states = Vec::new(alloc);
@@ -265,10 +280,11 @@ fn mark_configuration(
     Ok(places)
 }
 
-/// The least `BadAugment` of an augment of a module that adds a mandatory configuration node to a node of another module, judged on
-/// what it gave before any augment of a module was applied: itself, and below containers without presence. Whether an item is
-/// configuration is judged in the final tree: nothing in an operation or a notification is. These are the items of the final
-/// tree, the spots of all items, and the augments of modules. Takes time and memory linear in items.
+/// The least `BadAugment` of an augment of a module that adds a mandatory configuration node to a
+/// node of another module, judged on what it gave before any augment of a module was applied:
+/// itself, and below containers without presence. Whether an item is configuration is judged in the
+/// final tree: nothing in an operation or a notification is. These are the items of the final tree,
+/// the spots of all items, and the augments of modules. Takes time and memory linear in items.
 pub fn first_imposed(
     alloc: Global,
     rows: &Rows<'_, '_>,
@@ -278,7 +294,10 @@ pub fn first_imposed(
     tree: &[ItemRow],
 ) -> Result<Option<Refusal>, AllocError>
     ensures { (t : Tree) → tree.now ≡ tree_list None 1 t
-        → IfOk result (IsLeast (ImposesMandatory (rows_in rows.now) spots.now augments.now (told_in marks.now) None nothing_around t)) }
+        → IfOk result
+        (IsLeast
+        (ImposesMandatory (rows_in rows.now) spots.now augments.now (told_in marks.now) None
+        nothing_around t)) }
 {
     let configured = mark_configuration(alloc, spots, marks, tree)?;
     let mut found = Vec::new(alloc);

@@ -3,7 +3,8 @@ ghost use Rattle.std.specs.Prelude.{◌≡◌, slice_get};
 ghost use Rattle.yv_statement.specs.Order.{IsLeast};
 ghost use Rattle.yv_link_scopes.specs.Views.{rows_in};
 ghost use Rattle.yv_expand_augments.specs.InnerPlacement.{placement_refusal, refusal_of_augment};
-ghost use Rattle.yv_expand_augments.specs.Placement.{PutsMisplaced, augment_around, augment_at, is_action_or_notification, is_data, is_part, takes};
+ghost use Rattle.yv_expand_augments.specs.Placement.{PutsMisplaced, augment_around, augment_at};
+ghost use Rattle.yv_expand_rounds.specs.Kinds.{is_action_or_notification, is_data, is_part, takes};
 ghost use Rattle.yv_expand_augments.specs.Spots.{spot_at};
 
 use crate::if_features::is_augment;
@@ -11,58 +12,59 @@ use crate::kinds::{is_case, is_uses};
 use crate::layout::spot_at;
 use crate::refusals::refused_at;
 use crate::spot::Spot;
-use yv_expand_rounds::{ItemKind, ItemRow};
+use yv_expand_rounds::{ItemRow, StatementKind};
 use yv_link_scopes::Rows;
 use yv_statement::{Code, Refusal, lesser};
 
 // Whether it is a data definition, but no uses.
-fn is_data(kind: ItemKind) -> bool
+fn is_data(kind: StatementKind) -> bool
     ensures { result ≡ is_data kind }
 {
     match kind {
-        ItemKind::Container
-        | ItemKind::Leaf
-        | ItemKind::LeafList
-        | ItemKind::List
-        | ItemKind::Choice
-        | ItemKind::Anydata
-        | ItemKind::Anyxml => true,
+        StatementKind::Container
+        | StatementKind::Leaf
+        | StatementKind::LeafList
+        | StatementKind::List
+        | StatementKind::Choice
+        | StatementKind::Anydata
+        | StatementKind::Anyxml => true,
         _ => false,
     }
 }
 
-fn is_action_or_notification(kind: ItemKind) -> bool
+fn is_action_or_notification(kind: StatementKind) -> bool
     ensures { result ≡ is_action_or_notification kind }
 {
     match kind {
-        ItemKind::Action | ItemKind::Notification => true,
+        StatementKind::Action | StatementKind::Notification => true,
         _ => false,
     }
 }
 
 // Whether it is the input or output of an operation.
-fn is_part(kind: ItemKind) -> bool
+fn is_part(kind: StatementKind) -> bool
     ensures { result ≡ is_part kind }
 {
     match kind {
-        ItemKind::Input | ItemKind::Output => true,
+        StatementKind::Input | StatementKind::Output => true,
         _ => false,
     }
 }
 
 // Whether an item may stand below a node by an augment of the node.
-fn takes(node: ItemKind, given: ItemKind) -> bool
+fn takes(node: StatementKind, given: StatementKind) -> bool
     ensures { result ≡ takes node given }
 {
     match node {
-        ItemKind::Choice => is_data(given) || is_case(given),
-        ItemKind::Container | ItemKind::List => {
+        StatementKind::Choice => is_data(given) || is_case(given),
+        StatementKind::Container | StatementKind::List => {
             is_data(given) || (is_uses(given) || is_action_or_notification(given))
         }
-        ItemKind::Case | ItemKind::Input | ItemKind::Output | ItemKind::Notification => {
-            is_data(given) || is_uses(given)
-        }
-        ItemKind::Rpc | ItemKind::Action => is_part(given),
+        StatementKind::Case
+        | StatementKind::Input
+        | StatementKind::Output
+        | StatementKind::Notification => { is_data(given) || is_uses(given) }
+        StatementKind::Rpc | StatementKind::Action => is_part(given),
         _ => false,
     }
 }
@@ -117,7 +119,9 @@ fn placement_refusal(rows: &Rows<'_, '_>, item: Option<Spot>, node: Option<Spot>
 
 // The same, by the place of the item.
 fn placement_refusal_at(rows: &Rows<'_, '_>, spots: &[Spot], row: &ItemRow) -> Option<Refusal>
-    ensures { result ≡ placement_refusal (rows_in rows.now) (slice_get spots.now row.now.number) (spot_at spots.now row.now.parent) }
+    ensures { result
+        ≡ placement_refusal (rows_in rows.now) (slice_get spots.now row.now.number)
+        (spot_at spots.now row.now.parent) }
 {
     placement_refusal(
         rows,
@@ -126,8 +130,9 @@ fn placement_refusal_at(rows: &Rows<'_, '_>, spots: &[Spot], row: &ItemRow) -> O
     )
 }
 
-/// The least `BadAugment` of an augment that gives an item to a node that doesn't take it: of a `uses` or of a module, if it is there
-/// in the end and has a target. These are the items of the final tree and the spots of all items. Takes time linear in items.
+/// The least `BadAugment` of an augment that gives an item to a node that doesn't take it: of a
+/// `uses` or of a module, if it is there in the end and has a target. These are the items of the
+/// final tree and the spots of all items. Takes time linear in items.
 pub fn first_misplaced(rows: &Rows<'_, '_>, spots: &[Spot], tree: &[ItemRow]) -> Option<Refusal>
     ensures { IsLeast (PutsMisplaced (rows_in rows.now) spots.now tree.now) result }
 {

@@ -21,8 +21,8 @@ use yv_link_scopes::Rows;
 // No node has this name.
 const NO_NAME: usize = 4_294_967_295;
 
-// For each file that of its module. A name is looked up once for a file, and not for each item at its top: the names may be
-// long.
+// For each file that of its module. A name is looked up once for a file, and not for each item at
+// its top: the names may be long.
 fn module_files(alloc: Global, rows: &Rows<'_, '_>) -> Result<Vec<u32>, AllocError>
     ensures { IfOk result (λ module_files. AreModuleFiles (files_in rows.now) module_files.items) }
 {
@@ -60,8 +60,9 @@ fn names_of(
     Ok(names)
 }
 
-/// Statements, the augments of modules among them, and the items; for each file that of its module, the names
-/// and the paths, the refines and augments of each block, and which of these give something.
+/// Statements, the augments of modules among them, and the items; for each file that of its module,
+/// the names and the paths, the refines and augments of each block, and which of these give
+/// something.
 #[derive(Drop)]
 pub(crate) struct Plan<'r, 'a, 'b> {
     pub rows: &'r Rows<'a, 'b>,
@@ -90,7 +91,9 @@ impl<'r, 'a, 'b> Plan<'r, 'a, 'b> {
         items: &'r [Item],
     ) -> Result<Plan<'r, 'a, 'b>, AllocError>
         ensures plan { IfOk result IsPlan }
-        ensures whole { IfOk result (λ plan. whole_in plan ≡ whole (files_in rows.now) (rows_in rows.now) augments.now (length items.now)) }
+        ensures whole { IfOk result
+            (λ plan. whole_in plan
+            ≡ whole (files_in rows.now) (rows_in rows.now) augments.now (length items.now)) }
     {
         yv_link_scopes::laws::blocks_are_nested();
         let names = NodeNames::read(alloc, rows)?;
@@ -123,7 +126,9 @@ impl<'r, 'a, 'b> Plan<'r, 'a, 'b> {
     /// The file of the module of a numbered statement's file.
     pub(crate) fn own_module_file(&self, statement: usize) -> u32
         requires { IsPlan self.now }
-        ensures { result ≡ own_module_file (files_in self.now.rows.now) (slice_get (rows_in self.now.rows.now) statement) }
+        ensures { result
+            ≡ own_module_file (files_in self.now.rows.now)
+            (slice_get (rows_in self.now.rows.now) statement) }
     {
         match self.rows.entries().get(statement) {
             Some(entry) => {
@@ -197,7 +202,8 @@ impl<'r, 'a, 'b> Plan<'r, 'a, 'b> {
         augment: usize,
     ) -> Result<Vec<usize>, AllocError>
         requires { IsPlan self.now }
-        ensures { IfOk result (λ path. path.items ≡ path_in (whole_in self.now) module_file augment) }
+        ensures { IfOk result
+            (λ path. path.items ≡ path_in (whole_in self.now) module_file augment) }
     {
         names_of(alloc, module_file, self.paths.of(augment))
     }

@@ -1,4 +1,5 @@
-//! What the refines of `uses` statements aim at, made once for all copies of a `uses` in one module, and what they mean.
+//! What the refines of `uses` statements aim at, made once for all copies of a `uses` in one
+//! module, and what they mean.
 ghost use Rattle.std.specs.Prelude.{◌≡◌, ◌<◌, ◌==◌, ◌&&◌, not, ◌++◌, ℕ, [], List, Some, length, map, slice_get, IfOk, IfSome, OnOk};
 ghost use Rattle.yv_link_scopes.specs.Views.{rows_in};
 ghost use Rattle.yv_expand_rounds.specs.declared.label.Label.{Label};
@@ -9,7 +10,7 @@ ghost use Rattle.yv_expand_refines.specs.Targets.{targets_at, all_meant, meaning
 ghost use Rattle.yv_expand_augments.specs.InnerLeadingPaths.{IsLed, place_aim};
 ghost use Rattle.yv_expand_augments.specs.InnerPaths.{target_of_path};
 ghost use Rattle.yv_expand_augments.specs.RefineTargets.{refined_at, refines_in};
-ghost use Rattle.yv_expand_augments.specs.Kinds.{is_uses};
+ghost use Rattle.yv_expand_rounds.specs.Kinds.{is_uses};
 ghost use Rattle.yv_expand_augments.specs.Spots.{Whole};
 
 use crate::kinds::is_uses;
@@ -22,15 +23,16 @@ use yv_base_tables::PathTree;
 use yv_expand_refines::{RefineTarget, RefinedUses, Refinements};
 use yv_expand_rounds::Augmentation;
 
-// What the refines of a `uses` aim at in a module: each with the number of its path among the different ones.
+// What the refines of a `uses` aim at in a module: each with the number of its path among the
+// different ones.
 #[derive(Drop)]
 struct UsesTargets {
     paths: PathTree,
     aims: Vec<RefineTarget>,
 }
 
-// The paths that lead to nodes at a copy, and the place of the aims that are noted for copies where these do. Copies of one `uses` are
-// alike, so that those of the copy before are kept.
+// The paths that lead to nodes at a copy, and the place of the aims that are noted for copies where
+// these do. Copies of one `uses` are alike, so that those of the copy before are kept.
 #[derive(Drop)]
 struct KeptTargets {
     paths: Vec<usize>,
@@ -40,7 +42,8 @@ struct KeptTargets {
 /// What the refines of items mean, as far as these were looked at.
 #[derive(Drop)]
 pub(crate) struct RefineTargets {
-    // For each `uses` that refines and each module to which copies of it belong the number of what its refines aim at.
+    // For each `uses` that refines and each module to which copies of it belong the number of what
+    // its refines aim at.
     known: BTreeMap<(usize, u32), usize>,
     aimed: Vec<UsesTargets>,
     // By number what is kept of the copy before.
@@ -67,7 +70,8 @@ impl RefineTargets {
         }
     }
 
-    // The number of what the refines of a `uses` aim at in the module of this file, if that was made.
+    // The number of what the refines of a `uses` aim at in the module of this file, if that was
+    // made.
     fn find(&self, statement: usize, module_file: u32) -> Option<usize>
         ensures { result ≡ number_in self.now statement module_file }
     {
@@ -81,8 +85,11 @@ impl RefineTargets {
         module_file: u32,
         aimed: UsesTargets,
     ) -> Result<usize, AllocError>
-        ensures aims { (w : Whole) → AreRefineTargets w self.old → IsUsesTargets w statement module_file aimed → OnOk result (AreRefineTargets w self.new) }
-        ensures number { (w : Whole) → AreRefineTargets w self.old → IsUsesTargets w statement module_file aimed
+        ensures aims { (w : Whole) → AreRefineTargets w self.old
+            → IsUsesTargets w statement module_file aimed
+            → OnOk result (AreRefineTargets w self.new) }
+        ensures number { (w : Whole) → AreRefineTargets w self.old
+            → IsUsesTargets w statement module_file aimed
             → IfOk result (HasNumber w self.new statement module_file) }
         ensures means { self.new.refinements ≡ self.old.refinements }
     {
@@ -103,7 +110,8 @@ impl RefineTargets {
         number: usize,
     ) -> Result<LeadingPaths, AllocError>
         requires { number < length self.now.aimed.items }
-        ensures { (labels : List Label) (st : State) (all : List (List ℕ)) (aimed : UsesTargets) → IsAugmentation labels st grafting.now
+        ensures { (labels : List Label) (st : State) (all : List (List ℕ)) (aimed : UsesTargets)
+            → IsAugmentation labels st grafting.now
             → slice_get self.now.aimed.items number ≡ Some aimed → IsPathTree all aimed.paths
             → IfOk result (IsLed (target_of_path labels st end group) all) }
     {
@@ -113,7 +121,8 @@ impl RefineTargets {
 
     // The place of aims for copies where these paths lead to nodes, if they did at the copy before.
     fn last_place(&self, number: usize, paths: &[usize]) -> Option<usize>
-        ensures { (w : Whole) → AreRefineTargets w self.now → IfSome result (IsPlaced self.now number paths.now) }
+        ensures { (w : Whole) → AreRefineTargets w self.now
+            → IfSome result (IsPlaced self.now number paths.now) }
     {
         match self.kept.get(number) {
             Some(Some(kept)) => {
@@ -137,11 +146,14 @@ impl RefineTargets {
         requires { number < length self.old.kept.items }
         ensures aims { (w : Whole) → AreRefineTargets w self.old
             → ((aimed : UsesTargets) → slice_get self.old.aimed.items number ≡ Some aimed
-            → aims.items ≡ map (place_aim paths.items) aimed.aims.items) → OnOk result (AreRefineTargets w self.new) }
+            → aims.items ≡ map (place_aim paths.items) aimed.aims.items)
+            → OnOk result (AreRefineTargets w self.new) }
         ensures place { ((aimed : UsesTargets) → slice_get self.old.aimed.items number ≡ Some aimed
-            → aims.items ≡ map (place_aim paths.items) aimed.aims.items) → IfOk result (IsPlaced self.new number paths.items) }
+            → aims.items ≡ map (place_aim paths.items) aimed.aims.items)
+            → IfOk result (IsPlaced self.new number paths.items) }
         ensures aims_at { self.new.aimed ≡ self.old.aimed }
-        ensures means { (w : Whole) → AreRefineTargets w self.old → OnOk result (all_meant self.new.refinements ≡ all_meant self.old.refinements) }
+        ensures means { (w : Whole) → AreRefineTargets w self.old
+            → OnOk result (all_meant self.new.refinements ≡ all_meant self.old.refinements) }
     {
         let place = self.refinements.aims.len();
         self.refinements.aims.push(aims)?;
@@ -158,10 +170,13 @@ impl RefineTargets {
     ) -> Result<usize, AllocError>
         requires aims_at { number < length self.old.aimed.items }
         requires keeps { number < length self.old.kept.items }
-        ensures aims { (w : Whole) → AreRefineTargets w self.old → OnOk result (AreRefineTargets w self.new) }
-        ensures place { (w : Whole) → AreRefineTargets w self.old → IfOk result (IsPlaced self.new number paths.items) }
+        ensures aims { (w : Whole) → AreRefineTargets w self.old
+            → OnOk result (AreRefineTargets w self.new) }
+        ensures place { (w : Whole) → AreRefineTargets w self.old
+            → IfOk result (IsPlaced self.new number paths.items) }
         ensures aims_at { self.new.aimed ≡ self.old.aimed }
-        ensures means { (w : Whole) → AreRefineTargets w self.old → OnOk result (all_meant self.new.refinements ≡ all_meant self.old.refinements) }
+        ensures means { (w : Whole) → AreRefineTargets w self.old
+            → OnOk result (all_meant self.new.refinements ≡ all_meant self.old.refinements) }
     {
         match self.last_place(number, &paths) {
             Some(place) => Ok(place),
@@ -180,9 +195,12 @@ impl RefineTargets {
         targets: Vec<Option<usize>>,
     ) -> Result<(), AllocError>
         requires { place < length self.old.refinements.aims.items }
-        ensures aims { (w : Whole) → AreRefineTargets w self.old → OnOk result (AreRefineTargets w self.new) }
+        ensures aims { (w : Whole) → AreRefineTargets w self.old
+            → OnOk result (AreRefineTargets w self.new) }
         ensures means { OnOk result (all_meant self.new.refinements
-            ≡ all_meant self.old.refinements ++ map (meaning_of item targets.items) (targets_at self.old.refinements.aims.items place)) }
+            ≡ all_meant self.old.refinements
+            ++ map (meaning_of item targets.items)
+            (targets_at self.old.refinements.aims.items place)) }
     {
         self.refinements.uses.push(RefinedUses {
             item,
@@ -230,7 +248,8 @@ impl Plan<'_, '_, '_> {
         Ok(UsesTargets { paths, aims })
     }
 
-    // The number of what the refines of a `uses` aim at in a module, which is made where it wasn't yet.
+    // The number of what the refines of a `uses` aim at in a module, which is made where it wasn't
+    // yet.
     fn number_of_targets(
         &self,
         alloc: Global,
@@ -241,8 +260,10 @@ impl Plan<'_, '_, '_> {
         requires plan { IsPlan self.now }
         requires aims { AreRefineTargets (whole_in self.now) aims.old }
         ensures aims { OnOk result (AreRefineTargets (whole_in self.now) aims.new) }
-        ensures number { IfOk result (HasNumber (whole_in self.now) aims.new statement module_file) }
-        ensures means { OnOk result (all_meant aims.new.refinements ≡ all_meant aims.old.refinements) }
+        ensures number { IfOk result
+            (HasNumber (whole_in self.now) aims.new statement module_file) }
+        ensures means { OnOk result
+            (all_meant aims.new.refinements ≡ all_meant aims.old.refinements) }
     {
         match aims.find(statement, module_file) {
             Some(number) => Ok(number),
@@ -268,7 +289,8 @@ impl Plan<'_, '_, '_> {
         ensures aims { OnOk result (AreRefineTargets (whole_in self.now) aims.new) }
         ensures means { (labels : List Label) (st : State) → IsAugmentation labels st grafting.now
             → OnOk result (all_meant aims.new.refinements
-            ≡ all_meant aims.old.refinements ++ refined_at (whole_in self.now) labels spot.now item end st) }
+            ≡ all_meant aims.old.refinements
+            ++ refined_at (whole_in self.now) labels spot.now item end st) }
     {
         if !self.has_refines(spot) {
             return Ok(());

@@ -52,7 +52,8 @@ fn depth_refusal(rows: &Rows<'_, '_>, depth: usize, spot: Option<Spot>) -> Optio
 
 // The refusal of an item of the final tree, if it stands too deep.
 fn too_deep(rows: &Rows<'_, '_>, spots: &[Spot], row: &ItemRow) -> Option<Refusal>
-    ensures { result ≡ depth_refusal (rows_in rows.now) row.now.depth (slice_get spots.now row.now.number) }
+    ensures { result
+        ≡ depth_refusal (rows_in rows.now) row.now.depth (slice_get spots.now row.now.number) }
 {
     depth_refusal(rows, row.depth, spots.get(row.number).copied())
 }
@@ -67,7 +68,8 @@ pub(crate) fn is_absent(target: Option<usize>) -> bool
     }
 }
 
-/// The least `TreeTooDeep` of a node of the final tree at depth 129, of whose items these are the spots. Takes time linear in items.
+/// The least `TreeTooDeep` of a node of the final tree at depth 129, of whose items these are the
+/// spots. Takes time linear in items.
 pub fn first_too_deep(rows: &Rows<'_, '_>, spots: &[Spot], tree: &[ItemRow]) -> Option<Refusal>
     ensures { IsLeast (TooDeep (rows_in rows.now) spots.now tree.now) result }
 {
@@ -81,17 +83,21 @@ pub fn first_too_deep(rows: &Rows<'_, '_>, spots: &[Spot], tree: &[ItemRow]) -> 
 impl AugmentedItems {
     // The refusal of an augment of a module that adds to no node.
     fn without_target(&self, rows: &Rows<'_, '_>, place: usize, augment: usize) -> Option<Refusal>
-        ensures { (w : Whole) (items : List Item) (st : State) → AreAugmentedItems w items st self.now
-            → IsLeast (RefusesIf (rows_in rows.now) AugmentTarget (HasNoTarget w items st place) augment) result }
+        ensures { (w : Whole) (items : List Item) (st : State)
+            → AreAugmentedItems w items st self.now
+            → IsLeast
+            (RefusesIf (rows_in rows.now) AugmentTarget (HasNoTarget w items st place) augment)
+            result }
     {
         let bad = is_absent(self.target(place));
         refused_at(rows, Code::AugmentTarget, bad, augment)
     }
 
-    /// The least `AugmentTarget` of an augment of a module, `augments` being their statements: one that was never applied, or whose
-    /// path ends where no augment may add.
+    /// The least `AugmentTarget` of an augment of a module, `augments` being their statements: one
+    /// that was never applied, or whose path ends where no augment may add.
     pub fn first_without_target(&self, rows: &Rows<'_, '_>, augments: &[usize]) -> Option<Refusal>
-        ensures { (w : Whole) (items : List Item) (st : State) → AreAugmentedItems w items st self.now → w.rows ≡ rows_in rows.now
+        ensures { (w : Whole) (items : List Item) (st : State)
+            → AreAugmentedItems w items st self.now → w.rows ≡ rows_in rows.now
             → w.augments ≡ augments.now → IsLeast (BadTarget w items st) result }
     {
         let mut least = None;

@@ -87,8 +87,9 @@ fn scan(
     Ok(rows)
 }
 
-/// What is left of the final tree, as a list. An item without a mark is left out, and so is a uses, which is not a schema node, with
-/// everything below either. Takes time and memory linear in the list.
+/// What is left of the final tree, as a list. An item without a mark is left out, and so is a uses,
+/// which is not a schema node, with everything below either. Takes time and memory linear in the
+/// list.
 pub fn remaining_rows(
     alloc: Global,
     spots: &[Spot],
@@ -96,7 +97,8 @@ pub fn remaining_rows(
     marks: &[bool],
 ) -> Result<Vec<ItemRow>, AllocError>
     ensures { (t : Tree) → tree.now ≡ tree_list None 1 t
-        → IfOk result (λ rows. rows.items ≡ tree_list None 1 (remains (is_left spots.now marks.now) t)) }
+        → IfOk result
+        (λ rows. rows.items ≡ tree_list None 1 (remains (is_left spots.now marks.now) t)) }
 {
     scan(alloc, spots, tree, marks)
 }

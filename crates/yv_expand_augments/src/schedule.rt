@@ -1,4 +1,5 @@
-//! The augments of `uses` statements in order, worked out once for all copies of a `uses` in one module.
+//! The augments of `uses` statements in order, worked out once for all copies of a `uses` in one
+//! module.
 ghost use Rattle.std.specs.Prelude.{◌≡◌, ◌<◌, ◌+◌, ℕ, true, Some, length, slice_get, IfOk, OnOk};
 ghost use Rattle.std.specs.BTreeMap.{get};
 ghost use Rattle.std.specs.Ordering.{nat_cmp};
@@ -22,8 +23,9 @@ pub(crate) struct AddressedAugment {
     pub path: Vec<usize>,
 }
 
-/// Augments of a `uses` that follow one another: some that give nothing, and then one that gives something, if there is one. Of those
-/// that give nothing and have the same path only the first is kept: they can only be refused, and are refused together.
+/// Augments of a `uses` that follow one another: some that give nothing, and then one that gives
+/// something, if there is one. Of those that give nothing and have the same path only the first is
+/// kept: they can only be refused, and are refused together.
 #[derive(Drop)]
 pub(crate) struct Stretch {
     pub idle: Vec<AddressedAugment>,
@@ -40,7 +42,8 @@ struct Schedule {
 /// The augments of `uses` statements, as far as these were looked at.
 #[derive(Drop)]
 pub(crate) struct Schedules {
-    // By the statement of the `uses`. Copies in one module come one after the other, so only those of the last module are kept.
+    // By the statement of the `uses`. Copies in one module come one after the other, so only those
+    // of the last module are kept.
     known: BTreeMap<usize, Schedule>,
 }
 
@@ -62,10 +65,12 @@ fn is_up_to(first: Refusal, second: Refusal) -> bool
 struct ScheduleDraft {
     stretches: Vec<Stretch>,
     idle: Vec<AddressedAugment>,
-    // The paths of `idle`, and their numbers in this tree, which has numbers for what these paths begin with too.
+    // The paths of `idle`, and their numbers in this tree, which has numbers for what these paths
+    // begin with too.
     paths: PathTree,
     known: BTreeSet<usize>,
-    // The refusal of the last augment after the stretches, also if `idle` has its path already. These refusals never go back.
+    // The refusal of the last augment after the stretches, also if `idle` has its path already.
+    // These refusals never go back.
     last: Option<Refusal>,
 }
 
@@ -74,7 +79,8 @@ impl ScheduleDraft {
 
     // No augment was looked at.
     fn new(alloc: Global) -> Result<ScheduleDraft, AllocError>
-        ensures { (w : Whole) (statement module_file : ℕ) → IfOk result (IsGathering w statement module_file 0) }
+        ensures { (w : Whole) (statement module_file : ℕ)
+            → IfOk result (IsGathering w statement module_file 0) }
     {
         Ok(ScheduleDraft {
             stretches: Vec::new(alloc),
@@ -87,9 +93,12 @@ impl ScheduleDraft {
 
     // Ends a stretch, with an augment that gives something or without one.
     fn close(&mut self, alloc: Global, giving: Option<AddressedAugment>) -> Result<(), AllocError>
-        ensures gathers { (w : Whole) (statement module_file count next : ℕ) → IsGathering w statement module_file count self.old
-            → IsEnded w statement module_file count next giving → OnOk result (IsGathering w statement module_file next self.new) }
-        ensures ends { (w : Whole) (statement module_file count next : ℕ) → IsGathering w statement module_file count self.old
+        ensures gathers { (w : Whole) (statement module_file count next : ℕ)
+            → IsGathering w statement module_file count self.old
+            → IsEnded w statement module_file count next giving
+            → OnOk result (IsGathering w statement module_file next self.new) }
+        ensures ends { (w : Whole) (statement module_file count next : ℕ)
+            → IsGathering w statement module_file count self.old
             → IsEnded w statement module_file count next giving
             → OnOk result (AreStretches w statement module_file 0 next self.new.stretches.items) }
         ensures follows { (refusal : Refusal) → OnOk result (IsFollowed self.new.last refusal) }
@@ -102,7 +111,8 @@ impl ScheduleDraft {
         Ok(())
     }
 
-    // Whether the next augment, which has this refusal, may join those after the stretches: its refusal doesn't go back.
+    // Whether the next augment, which has this refusal, may join those after the stretches: its
+    // refusal doesn't go back.
     fn is_followed(&self, refusal: Refusal) -> bool
         ensures { result ≡ true → IsFollowed self.now.last refusal }
     {
@@ -114,7 +124,8 @@ impl ScheduleDraft {
 
     // Ends a stretch if the refusal of the next augment goes back.
     fn keep_order(&mut self, alloc: Global, refusal: Refusal) -> Result<(), AllocError>
-        ensures gathers { (w : Whole) (statement module_file count : ℕ) → IsGathering w statement module_file count self.old
+        ensures gathers { (w : Whole) (statement module_file count : ℕ)
+            → IsGathering w statement module_file count self.old
             → OnOk result (IsGathering w statement module_file count self.new) }
         ensures follows { OnOk result (IsFollowed self.new.last refusal) }
     {
@@ -131,7 +142,8 @@ impl ScheduleDraft {
         it: AddressedAugment,
         refusal: Refusal,
     ) -> Result<(), AllocError>
-        ensures { (w : Whole) (statement module_file count : ℕ) → IsGathering w statement module_file count self.old
+        ensures { (w : Whole) (statement module_file count : ℕ)
+            → IsGathering w statement module_file count self.old
             → IsNext w statement module_file count it refusal → IsFollowed self.old.last refusal
             → OnOk result (IsGathering w statement module_file (count + 1) self.new) }
     {
@@ -151,8 +163,10 @@ impl ScheduleDraft {
         it: AddressedAugment,
         refusal: Refusal,
     ) -> Result<(), AllocError>
-        ensures { (w : Whole) (statement module_file count : ℕ) → IsGathering w statement module_file count self.old
-            → IsNext w statement module_file count it refusal → OnOk result (IsGathering w statement module_file (count + 1) self.new) }
+        ensures { (w : Whole) (statement module_file count : ℕ)
+            → IsGathering w statement module_file count self.old
+            → IsNext w statement module_file count it refusal
+            → OnOk result (IsGathering w statement module_file (count + 1) self.new) }
     {
         self.keep_order(alloc, refusal)?;
         self.push(alloc, it, refusal)
@@ -221,9 +235,11 @@ impl Plan<'_, '_, '_> {
     ) -> Result<(), AllocError>
         requires plan { IsPlan self.now }
         requires within { augment < length (rows_in self.now.rows.now) }
-        ensures { (count : ℕ) → IsGathering (whole_in self.now) statement module_file count gathering.old
+        ensures { (count : ℕ)
+            → IsGathering (whole_in self.now) statement module_file count gathering.old
             → slice_get (augments_in (rows_in self.now.rows.now) statement) count ≡ Some augment
-            → OnOk result (IsGathering (whole_in self.now) statement module_file (count + 1) gathering.new) }
+            → OnOk result
+            (IsGathering (whole_in self.now) statement module_file (count + 1) gathering.new) }
     {
         let path = self.path(alloc, module_file, augment)?;
         let it = AddressedAugment { augment, path };
@@ -270,7 +286,8 @@ impl Plan<'_, '_, '_> {
         requires schedules { AreSchedules (whole_in self.now) schedules.old }
         ensures schedules { OnOk result (AreSchedules (whole_in self.now) schedules.new) }
         ensures ready { OnOk result (AreStretches (whole_in self.now) statement module_file 0
-            (length (augments_in (rows_in self.now.rows.now) statement)) (stretches_in schedules.new statement)) }
+            (length (augments_in (rows_in self.now.rows.now) statement))
+            (stretches_in schedules.new statement)) }
     {
         if schedules.is_ready(statement, module_file) {
             return Ok(());

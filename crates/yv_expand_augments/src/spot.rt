@@ -11,8 +11,9 @@ pub struct Spot {
     pub module_file: u32,
     /// Its kind, the number of its module and name, and whether an augment of a module gives it.
     pub label: Label,
-    /// The group that it is in: 0 at the top, and one more than the number of the node above it. A uses is where the nodes that
-    /// it copies are. What an augment gives is in a group after the groups of items, until it is applied.
+    /// The group that it is in: 0 at the top, and one more than the number of the node above it. A
+    /// uses is where the nodes that it copies are. What an augment gives is in a group after the
+    /// groups of items, until it is applied.
     pub group: usize,
     /// Of a uses the number of the first copy of its augments that give something.
     pub first: usize,

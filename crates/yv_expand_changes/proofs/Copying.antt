@@ -62,7 +62,8 @@ rest_none path (t ∷ ts) runs item h =
     by true m = ap (λ n. get_or runs n []) (omega arith) ∙ h 0 (ap (λ x. Some x) (means item t m))
     by false m = refl
 
--- an item to which one path is the first that leads, and the runs of the others that lead there are empty
+-- an item to which one path is the first that leads, and the runs of the others that lead there are
+-- empty
 rest_first : (path : ℕ) (ts : List (Option ℕ)) (runs : List (List ℕ)) (item p : ℕ) → first_from path ts item ≡ Some p
     → ((k : ℕ) → slice_get ts k ≡ Some (Some item) → (path + k ≢ p) → get_or runs (path + k) [] ≡ []) → rest path ts runs item ≡ get_or runs p []
 unfolding rest

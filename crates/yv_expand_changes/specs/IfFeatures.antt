@@ -8,10 +8,7 @@ use Rattle.yv_link_scopes.specs.RowList.{rows_of, statements_of}
 use Rattle.yv_link_features.specs.Blocks.{all_hold}
 use Rattle.yv_expand_augments.specs.Remains.{is_marked}
 use Rattle.yv_expand_augments.specs.declared.spot.Spot.{Spot}
-
--- whether the expression of an `if-feature` in a file holds
-abbrev pub Truth : Type 0
-Truth = ℕ → List ℕ → Bool
+use Rattle.yv_expand_changes.specs.Truth.{Truth}
 
 -- a statement of a file with this block is there: each of its conditions holds
 abbrev pub is_on : Truth → (file : ℕ) → Forest → Bool

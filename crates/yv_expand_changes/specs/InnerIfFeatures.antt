@@ -1,7 +1,8 @@
 -- Only private clauses cite this: whether a statement that may not be there is on.
 use Rattle.std.specs.Prelude.{ℕ, Bool, true, Option, Some, None}
 use Rattle.yv_statement.specs.Tree.{Tree}
-use Rattle.yv_expand_changes.specs.IfFeatures.{Truth, is_on}
+use Rattle.yv_expand_changes.specs.Truth.{Truth}
+use Rattle.yv_expand_changes.specs.IfFeatures.{is_on}
 
 -- the conditions of a statement hold in a file; there are none where there is no statement
 abbrev pub is_on_in : Truth → (file : ℕ) → Option Tree → Bool

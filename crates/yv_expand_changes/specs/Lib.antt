@@ -3,6 +3,7 @@ pub mod Changes
 pub mod Refusals
 pub mod InnerLists
 pub mod InnerAlike
+pub mod InnerFirstPaths
 pub mod InnerRuns
 pub mod InnerRefusals
 pub mod IfFeatures
@@ -10,3 +11,4 @@ pub mod Properties
 pub mod InnerIfFeatures
 pub mod InnerProperties
 pub mod InnerSequences
+pub mod Truth

@@ -60,7 +60,8 @@ pub fn statement_marks<'a, 'b>(
     linked: &Linked<'a, 'b>,
     rows: &Rows<'a, 'b>,
 ) -> Result<Vec<bool>, AllocError>
-    ensures { IfOk result (λ marks. marks.items ≡ statement_marks (truth_in linked.now) (lent_in rows.now)) }
+    ensures { IfOk result
+        (λ marks. marks.items ≡ statement_marks (truth_in linked.now) (lent_in rows.now)) }
 {
     yv_link_scopes::laws::statements_have_their_rows();
     let mut marks = Vec::new(alloc);
@@ -91,7 +92,8 @@ fn sequence_marks(
     statements: &[bool],
     changes: &Changes,
 ) -> Result<Vec<bool>, AllocError>
-    ensures { IfOk result (λ marks. marks.items ≡ map (list_all (is_marked statements.now)) changes.now.sequences) }
+    ensures { IfOk result
+        (λ marks. marks.items ≡ map (list_all (is_marked statements.now)) changes.now.sequences) }
 {
     let mut marks = Vec::new(alloc);
     for sequence in 0..changes.count() {
@@ -104,7 +106,8 @@ fn sequence_marks(
 
 // Whether a statement has a mark, and the sequence of the refines that change its item.
 fn is_on_with(statements: &[bool], known: &[bool], spot: &Spot, sequence: Option<usize>) -> bool
-    ensures { result ≡ (is_marked statements.now spot.now.statement && known_of known.now sequence true) }
+    ensures { result
+        ≡ (is_marked statements.now spot.now.statement && known_of known.now sequence true) }
 {
     is_marked(statements, spot.statement) && known_of(known, sequence, true)
 }
@@ -117,7 +120,8 @@ pub fn item_marks(
     spots: &[Spot],
     changes: &Changes,
 ) -> Result<Vec<bool>, AllocError>
-    ensures { IfOk result (λ marks. marks.items ≡ item_marks statements.now spots.now (each changes.now)) }
+    ensures { IfOk result
+        (λ marks. marks.items ≡ item_marks statements.now spots.now (each changes.now)) }
 {
     let known = sequence_marks(alloc, statements, changes)?;
     let mut marks = Vec::new(alloc);

@@ -35,9 +35,13 @@ fn note_copy(
     changes: &mut Changes,
 ) -> Result<(), AllocError>
     requires { AreKnown (lent_in rows.now) aims.now changes.old.runs known.old.items }
-    ensures knows { OnOk result (AreKnown (lent_in rows.now) aims.now changes.new.runs known.new.items) }
-    ensures each { (refined : List RefineMeaning) → each changes.old ≡ all_changes (lent_in rows.now) spots.now refined
-        → OnOk result (each changes.new ≡ all_changes (lent_in rows.now) spots.now (refined ++ meant_at aims.now uses.now)) }
+    ensures knows { OnOk result
+        (AreKnown (lent_in rows.now) aims.now changes.new.runs known.new.items) }
+    ensures each { (refined : List RefineMeaning) → each changes.old
+        ≡ all_changes (lent_in rows.now) spots.now refined
+        → OnOk result
+        (each changes.new
+        ≡ all_changes (lent_in rows.now) spots.now (refined ++ meant_at aims.now uses.now)) }
 {
     let place = uses.aims;
     if place >= aims.len() {
@@ -56,7 +60,8 @@ pub fn changes(
     spots: &[Spot],
     refinements: &Refinements,
 ) -> Result<Changes, AllocError>
-    ensures { IfOk result (λ c. each c ≡ all_changes (lent_in rows.now) spots.now (all_meant refinements.now)) }
+    ensures { IfOk result
+        (λ c. each c ≡ all_changes (lent_in rows.now) spots.now (all_meant refinements.now)) }
 {
     let aims = refinements.aims.as_slice();
     let mut changes = Changes::none(alloc, spots.len())?;

@@ -41,7 +41,8 @@ fn keep_all(
     changes: &mut Changes,
     runs: Vec<Vec<usize>>,
 ) -> Result<Vec<Option<usize>>, AllocError>
-    ensures numbers { IfOk result (λ numbers. AreRuns changes.new.runs numbers.items (lists_of runs.items)) }
+    ensures numbers { IfOk result
+        (λ numbers. AreRuns changes.new.runs numbers.items (lists_of runs.items)) }
     ensures each { OnOk result (each changes.new ≡ each changes.old) }
     ensures runs { OnOk result (KeepsRuns changes.old.runs changes.new.runs) }
 {
@@ -58,7 +59,8 @@ fn note_item(
     target: Option<usize>,
     number: Option<usize>,
 ) -> Result<(), AllocError>
-    ensures each { (run : List ℕ) → IsRun changes.old.runs number run → OnOk result (each changes.new ≡ note_run target run (each changes.old)) }
+    ensures each { (run : List ℕ) → IsRun changes.old.runs number run
+        → OnOk result (each changes.new ≡ note_run target run (each changes.old)) }
     ensures runs { changes.new.runs ≡ changes.old.runs }
 {
     if let (Some(item), Some(number)) = (target, number) {
@@ -133,7 +135,8 @@ impl KnownRuns {
     ) -> Result<(), AllocError>
         ensures knows { IsKnown (lent_in rows.now) aims.now changes.old.runs self.old
             → OnOk result (IsKnown (lent_in rows.now) aims.now changes.new.runs self.new) }
-        ensures each { (refined : List RefineMeaning) → IsKnown (lent_in rows.now) aims.now changes.old.runs self.old
+        ensures each { (refined : List RefineMeaning)
+            → IsKnown (lent_in rows.now) aims.now changes.old.runs self.old
             → each changes.old ≡ all_changes (lent_in rows.now) spots.now refined
             → OnOk result (each changes.new ≡ all_changes (lent_in rows.now) spots.now
             (refined ++ map (meaning_of uses.now.item uses.now.targets.items) aims.now)) }

@@ -70,7 +70,8 @@ fn sequences_said(
     changes: &Changes,
 ) -> Result<Vec<StatedProperties>, AllocError>
     requires { AreSaid (lent_in rows.now) each.now }
-    ensures { IfOk result (λ said. said.items ≡ map (said_by_refines (lent_in rows.now)) changes.now.sequences) }
+    ensures { IfOk result
+        (λ said. said.items ≡ map (said_by_refines (lent_in rows.now)) changes.now.sequences) }
 {
     yv_node_properties::laws::the_last_statement_stands();
     let mut said = Vec::new(alloc);
@@ -91,7 +92,8 @@ fn said_of(
     later: StatedProperties,
 ) -> StatedProperties
     requires { AreSaid (lent_in rows.now) each.now }
-    ensures { (changes : List ℕ) → later ≡ said_by_refines (lent_in rows.now) changes → result ≡ said_of (lent_in rows.now) item.now changes }
+    ensures { (changes : List ℕ) → later ≡ said_by_refines (lent_in rows.now) changes → result
+        ≡ said_of (lent_in rows.now) item.now changes }
 {
     yv_node_properties::laws::the_last_statement_stands();
     match item.origin {
@@ -108,7 +110,8 @@ pub fn said_of_all(
     items: &[Item],
     changes: &Changes,
 ) -> Result<Vec<StatedProperties>, AllocError>
-    ensures { IfOk result (λ said. said.items ≡ said_of_all (lent_in rows.now) items.now (each changes.now)) }
+    ensures { IfOk result
+        (λ said. said.items ≡ said_of_all (lent_in rows.now) items.now (each changes.now)) }
 {
     yv_node_properties::laws::the_last_statement_stands();
     let each = all_said(alloc, rows)?;
@@ -137,8 +140,10 @@ impl ItemProperties {
     /// What is known of items, by what their statements say.
     pub fn of(alloc: Global, said: &[StatedProperties]) -> Result<ItemProperties, AllocError>
         ensures mandatory { IfOk result (λ told. told.mandatory.items ≡ map is_mandatory said.now) }
-        ensures presence { IfOk result (λ told. told.presence.items ≡ map (λ (s : StatedProperties). s.presence) said.now) }
-        ensures config { IfOk result (λ told. told.config.items ≡ map (λ (s : StatedProperties). s.config) said.now) }
+        ensures presence { IfOk result
+            (λ told. told.presence.items ≡ map (λ (s : StatedProperties). s.presence) said.now) }
+        ensures config { IfOk result
+            (λ told. told.config.items ≡ map (λ (s : StatedProperties). s.config) said.now) }
     {
         let mut told = ItemProperties {
             mandatory: Vec::new(alloc),
@@ -156,7 +161,8 @@ impl ItemProperties {
     /// The same as marks that are lent.
     pub fn marks(&self) -> RefinedMarks<'_>
         ensures { (said : List StatedProperties) → self.now.mandatory.items ≡ map is_mandatory said
-            → self.now.presence.items ≡ map (λ (s : StatedProperties). s.presence) said → self.now.config.items ≡ map (λ (s : StatedProperties). s.config) said
+            → self.now.presence.items ≡ map (λ (s : StatedProperties). s.presence) said
+            → self.now.config.items ≡ map (λ (s : StatedProperties). s.config) said
             → told_in result ≡ told_of said }
     {
         RefinedMarks {

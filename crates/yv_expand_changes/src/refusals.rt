@@ -59,7 +59,9 @@ fn refusal_of_refine(
     ways: &[Option<Way>],
     aim: RefineTarget,
 ) -> Option<Refusal>
-    ensures { result ≡ refusal_of_code (code_at (lent_in rows.now) aim.refine (slice_index_or ways.now aim.path None))
+    ensures { result
+        ≡ refusal_of_code
+        (code_at (lent_in rows.now) aim.refine (slice_index_or ways.now aim.path None))
         (slice_get (rows_in rows.now) aim.refine) }
 {
     let code = code_at(rows, way_at(ways, aim.path), aim.refine);
@@ -100,7 +102,8 @@ fn nothing_judged(
 
 // The least refusal of copies that agree on these ways, if such were judged.
 fn known_refusal(judged: &Option<Judgement>, ways: &[Option<Way>]) -> Option<Option<Refusal>>
-    ensures { (files : Files) (aims : List RefineTarget) → IsJudged files aims judged.now → IfSome result (IsLeastOf files aims ways.now) }
+    ensures { (files : Files) (aims : List RefineTarget) → IsJudged files aims judged.now
+        → IfSome result (IsLeastOf files aims ways.now) }
 {
     match judged {
         Some(judged) if is_same(&judged.ways, ways) => Some(judged.least),
@@ -117,9 +120,11 @@ fn judge(
     aims: &[RefineTarget],
     judged: &mut Option<Judgement>,
 ) -> Result<Option<Refusal>, AllocError>
-    ensures judges { IsJudged (lent_in rows.now) aims.now judged.old → OnOk result (IsJudged (lent_in rows.now) aims.now judged.new) }
+    ensures judges { IsJudged (lent_in rows.now) aims.now judged.old
+        → OnOk result (IsJudged (lent_in rows.now) aims.now judged.new) }
     ensures least { IsJudged (lent_in rows.now) aims.now judged.old
-        → IfOk result (IsLeastOf (lent_in rows.now) aims.now (ways_of spots.now uses.now.targets.items)) }
+        → IfOk result
+        (IsLeastOf (lent_in rows.now) aims.now (ways_of spots.now uses.now.targets.items)) }
 {
     let ways = read_ways(alloc, spots, &uses.targets)?;
     if let Some(least) = known_refusal(judged, &ways) {
@@ -143,7 +148,8 @@ fn wrong(
     requires { AreJudged (lent_in rows.now) aims.now judged.old.items }
     ensures judges { OnOk result (AreJudged (lent_in rows.now) aims.now judged.new.items) }
     ensures least { (tree : List ItemRow) → AreItems items.now tree
-        → IfOk result (IsLeast (BadRefines (lent_in rows.now) spots.now (meant_at aims.now uses.now) tree)) }
+        → IfOk result
+        (IsLeast (BadRefines (lent_in rows.now) spots.now (meant_at aims.now uses.now) tree)) }
 {
     let place = uses.aims;
     if place >= aims.len() || !items.contains(&uses.item) {
@@ -163,7 +169,8 @@ pub fn first_wrong(
     refinements: &Refinements,
     tree: &[ItemRow],
 ) -> Result<Option<Refusal>, AllocError>
-    ensures { IfOk result (IsLeast (BadRefines (lent_in rows.now) spots.now (all_meant refinements.now) tree.now)) }
+    ensures { IfOk result
+        (IsLeast (BadRefines (lent_in rows.now) spots.now (all_meant refinements.now) tree.now)) }
 {
     let aims = refinements.aims.as_slice();
     let items = items_of(alloc, tree)?;

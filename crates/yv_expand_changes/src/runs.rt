@@ -21,7 +21,8 @@ pub(crate) fn way_at(ways: &[Option<Way>], path: usize) -> Option<Way>
 // So many empty runs.
 fn no_runs(alloc: Global, count: usize) -> Result<Vec<Vec<usize>>, AllocError>
     ensures each { IfOk result (λ runs. length (lists_of runs.items) ≡ count) }
-    ensures none { IfOk result (λ runs. (path : ℕ) → slice_index_or (lists_of runs.items) path [] ≡ []) }
+    ensures none { IfOk result
+        (λ runs. (path : ℕ) → slice_index_or (lists_of runs.items) path [] ≡ []) }
 {
     let mut runs = Vec::new(alloc);
     for _ in 0..count {
@@ -33,7 +34,8 @@ fn no_runs(alloc: Global, count: usize) -> Result<Vec<Vec<usize>>, AllocError>
 // Puts a refine behind those of a run that there is.
 fn push_at(runs: &mut Vec<Vec<usize>>, path: usize, refine: usize) -> Result<(), AllocError>
     ensures { OnOk result (lists_of runs.new.items
-        ≡ slice_set (lists_of runs.old.items) path (slice_index_or (lists_of runs.old.items) path [] ++ refine ∷ [])) }
+        ≡ slice_set (lists_of runs.old.items) path
+        (slice_index_or (lists_of runs.old.items) path [] ++ refine ∷ [])) }
 {
     if path < runs.len() {
         runs[path].push(refine)?;
@@ -61,7 +63,8 @@ pub(crate) fn read_runs(
     ways: &[Option<Way>],
     aims: &[RefineTarget],
 ) -> Result<Vec<Vec<usize>>, AllocError>
-    ensures { IfOk result (λ runs. lists_of runs.items ≡ runs_of (lent_in rows.now) ways.now aims.now) }
+    ensures { IfOk result
+        (λ runs. lists_of runs.items ≡ runs_of (lent_in rows.now) ways.now aims.now) }
 {
     let mut runs = no_runs(alloc, ways.len())?;
     for aim in aims {

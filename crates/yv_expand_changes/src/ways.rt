@@ -1,10 +1,11 @@
 //! On what the copies of a `uses` agree that are alike.
-ghost use Rattle.std.specs.Prelude.{◌≡◌, ℕ, List, Option, Some, slice_get, if◌then◌else◌, IfOk, IsTrue, OnOk};
+ghost use Rattle.std.specs.Prelude.{◌≡◌, ℕ, List, None, Option, Some, slice_get, if◌then◌else◌, IfOk, IsTrue, OnOk};
 ghost use Rattle.std.specs.BTreeMap.{get};
 ghost use Rattle.std.specs.Option.{option_map};
 ghost use Rattle.std.specs.Ordering.{nat_cmp};
 ghost use Rattle.yv_expand_changes.specs.Changes.{is_meant};
 ghost use Rattle.yv_expand_changes.specs.InnerAlike.{first_from, way_of_target, ways_of};
+ghost use Rattle.yv_expand_changes.specs.InnerFirstPaths.{AreFirsts, are_rising, is_after};
 
 use std::alloc::{AllocError, Global};
 use std::collections::BTreeMap;
@@ -34,12 +35,38 @@ fn put_first(
     Ok(())
 }
 
+// Whether an item comes after another one, if there is one.
+fn is_after(last: Option<usize>, target: Option<usize>) -> bool
+    ensures { result ≡ is_after last target }
+{
+    match (last, target) {
+        (Some(last), Some(target)) => last < target,
+        (None, Some(_)) => true,
+        (_, None) => false,
+    }
+}
+
+// Whether each path leads to an item, which comes after that of the path before.
+fn are_rising(targets: &[Option<usize>]) -> bool
+    ensures { result ≡ are_rising None targets.now }
+{
+    let mut last = None;
+    for target in targets {
+        if !is_after(last, *target) {
+            return false;
+        }
+        last = *target;
+    }
+    true
+}
+
 // For each item the first path that leads to it.
 fn first_paths(
     alloc: Global,
     targets: &[Option<usize>],
 ) -> Result<BTreeMap<usize, usize>, AllocError>
-    ensures { IfOk result (λ firsts. (item : ℕ) → get nat_cmp firsts item ≡ first_from 0 targets.now item) }
+    ensures { IfOk result
+        (λ firsts. (item : ℕ) → get nat_cmp firsts item ≡ first_from 0 targets.now item) }
 {
     let mut firsts = BTreeMap::new(alloc);
     let mut left = targets.len();
@@ -48,6 +75,33 @@ fn first_paths(
         put_first(&mut firsts, targets[left], left)?;
     }
     Ok(firsts)
+}
+
+// For each item the first path that leads to it. Nothing is kept where items rise from path to
+// path, as those of refines in the order of their nodes do: each path is then the first to its
+// item.
+fn firsts_unless_rising(
+    alloc: Global,
+    targets: &[Option<usize>],
+) -> Result<Option<BTreeMap<usize, usize>>, AllocError>
+    ensures { IfOk result (AreFirsts targets.now) }
+{
+    if are_rising(targets) {
+        return Ok(None);
+    }
+    let firsts = first_paths(alloc, targets)?;
+    Ok(Some(firsts))
+}
+
+// The first path that leads to the item of this path.
+fn first_path(firsts: &Option<BTreeMap<usize, usize>>, path: usize, item: usize) -> Option<usize>
+    ensures { (targets : List (Option ℕ)) → AreFirsts targets firsts.now
+        → slice_get targets path ≡ Some (Some item) → result ≡ first_from 0 targets item }
+{
+    match firsts {
+        Some(firsts) => firsts.get(&item).copied(),
+        None => Some(path),
+    }
 }
 
 // The statement that gives an item.
@@ -60,19 +114,42 @@ fn statement_of(spots: &[Spot], item: usize) -> Option<usize>
     }
 }
 
-// On what copies agree where a path leads to this item.
-fn way_to(spots: &[Spot], firsts: &BTreeMap<usize, usize>, target: Option<usize>) -> Option<Way>
-    ensures { (targets : List (Option ℕ)) → ((item : ℕ) → get nat_cmp firsts.now item ≡ first_from 0 targets item)
-        → result ≡ way_of_target spots.now targets target }
+// On what copies agree where this path leads to this item.
+fn way_to(
+    spots: &[Spot],
+    firsts: &Option<BTreeMap<usize, usize>>,
+    path: usize,
+    target: Option<usize>,
+) -> Option<Way>
+    ensures { (targets : List (Option ℕ)) → AreFirsts targets firsts.now
+        → slice_get targets path ≡ Some target → result ≡ way_of_target spots.now targets target }
 {
     let item = target?;
     Some(Way {
         statement: statement_of(spots, item),
-        first: firsts.get(&item).copied(),
+        first: first_path(firsts, path, item),
     })
 }
 
-/// On what copies agree where the paths lead to these items. Takes time n log n in paths.
+// On what copies agree where the paths lead to these items, by the first path to each.
+fn ways_by(
+    alloc: Global,
+    spots: &[Spot],
+    firsts: &Option<BTreeMap<usize, usize>>,
+    targets: &[Option<usize>],
+) -> Result<Vec<Option<Way>>, AllocError>
+    requires { AreFirsts targets.now firsts.now }
+    ensures { IfOk result (λ ways. ways.items ≡ ways_of spots.now targets.now) }
+{
+    let mut ways = Vec::with_capacity(alloc, targets.len())?;
+    for (path, target) in targets.iter().enumerate() {
+        ways.push(way_to(spots, firsts, path, *target))?;
+    }
+    Ok(ways)
+}
+
+/// On what copies agree where the paths lead to these items. Takes time n log n in paths, and
+/// linear in them where items rise from path to path.
 pub(crate) fn read_ways(
     alloc: Global,
     spots: &[Spot],
@@ -80,12 +157,8 @@ pub(crate) fn read_ways(
 ) -> Result<Vec<Option<Way>>, AllocError>
     ensures { IfOk result (λ ways. ways.items ≡ ways_of spots.now targets.now) }
 {
-    let firsts = first_paths(alloc, targets)?;
-    let mut ways = Vec::new(alloc);
-    for target in targets {
-        ways.push(way_to(spots, &firsts, *target))?;
-    }
-    Ok(ways)
+    let firsts = firsts_unless_rising(alloc, targets)?;
+    ways_by(alloc, spots, &firsts, targets)
 }
 
 /// Whether two copies agree.

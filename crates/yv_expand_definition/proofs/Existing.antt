@@ -14,14 +14,12 @@ use Rattle.yv_link_scopes.specs.declared.kind.NameKind.TheVariants.{Prefix, Incl
 use Rattle.yv_link_definitions.specs.BuiltIn.{is_among, is_built_in}
 use Rattle.yv_link_definitions.specs.Refers.{RefersTo, is_type, is_uses, names_definition}
 use Rattle.yv_expand.specs.Units.{nodes, operations}
-use Rattle.yv_expand.specs.Weigh.{block_of}
+use Rattle.yv_expand.specs.StatementBlocks.{block_of, is_augment, is_node_or_uses, is_operation, those, is_refine}
 use Rattle.yv_expand.specs.Tree.{Tree}
-use Rattle.yv_expand.specs.Expands.{Expands, is_augment, is_item, is_operation, those}
-use Rattle.yv_expand_rounds.specs.Labels.{may_be_target}
-use Rattle.yv_expand_rounds.specs.declared.label.ItemKind.{ItemKind}
-use Rattle.yv_expand_rounds.specs.declared.label.ItemKind.TheVariants as kind
-use Rattle.yv_expand_augments.specs.Kinds.{kind_of_keyword}
-use Rattle.yv_expand_augments.specs.RefineTargets.{is_refine}
+use Rattle.yv_expand.specs.Expands.{Expands}
+use Rattle.yv_expand_rounds.specs.Kinds.{may_be_target, kind_of_keyword}
+use Rattle.yv_expand_rounds.specs.declared.statement_kind.StatementKind.{StatementKind}
+use Rattle.yv_expand_rounds.specs.declared.statement_kind.StatementKind.TheVariants as kind
 use Rattle.yv_expand_definition.specs.Nodes.{Forest, Node, join}
 use Rattle.yv_expand_definition.specs.Paths.{Leads, at, node_at_end, path_of, shorthand_case}
 use Rattle.yv_expand_definition.specs.Gives.{AugmentsGive, Gives, MeansNone, Misses, PathLeads, Product, Reaches, RefinesGive, add_block, add_refusal, is_fit, nothing}
@@ -120,7 +118,7 @@ left_is true b h = refl
 left_is false b h = h
 
 abbrev IsKind : List ℕ → Type 0
-IsKind word = (kd : ItemKind) × (kind_of_keyword word ≡ Some kd)
+IsKind word = (kd : StatementKind) × (kind_of_keyword word ≡ Some kd)
 
 nodes_are : AllByRecursion IsKind nodes
 unfolding kind_of_keyword
@@ -143,31 +141,31 @@ unfolding kind_of_keyword
 operations_are = ((kind.Rpc, refl), ((kind.Action, refl), tt))
 
 -- an item is of a kind
-item_kind : (r : Row) → is_item r ≡ true → (kd : ItemKind) × (kind_of_keyword r.head.keyword ≡ Some kd)
-unfolding is_item
+item_kind : (r : Row) → is_node_or_uses r ≡ true → (kd : StatementKind) × (kind_of_keyword r.head.keyword ≡ Some kd)
+unfolding is_node_or_uses
 item_kind r h = elim (either_is (is_among nodes r.head.keyword) (is_among operations r.head.keyword) h) [
   | inl a ↦ among_all IsKind nodes r.head.keyword nodes_are a
   | inr b ↦ among_all IsKind operations r.head.keyword operations_are b
 ]
 
 -- an operation is an item, and no uses
-operation_item : (r : Row) → is_operation r ≡ true → (is_item r ≡ true) × (is_uses r ≡ false)
-unfolding is_item is_operation
+operation_item : (r : Row) → is_operation r ≡ true → (is_node_or_uses r ≡ true) × (is_uses r ≡ false)
+unfolding is_node_or_uses is_operation
 operation_item r h = (
   right_is (is_among nodes r.head.keyword) (is_among operations r.head.keyword) h,
   among_all (λ word. bytes_eq word (codes "uses") ≡ false) operations r.head.keyword (refl, (refl, tt)) h,
 )
 
 -- no type is an item
-no_type : (r : Row) → is_item r ≡ true → is_type r ≡ false
-unfolding is_item
+no_type : (r : Row) → is_node_or_uses r ≡ true → is_type r ≡ false
+unfolding is_node_or_uses
 no_type r h = elim (either_is (is_among nodes r.head.keyword) (is_among operations r.head.keyword) h) [
   | inl a ↦ among_all (λ word. bytes_eq word (codes "type") ≡ false) nodes r.head.keyword (refl, (refl, (refl, (refl, (refl, (refl, (refl, (refl, (refl, (refl, tt)))))))))) a
   | inr b ↦ among_all (λ word. bytes_eq word (codes "type") ≡ false) operations r.head.keyword (refl, (refl, tt)) b
 ]
 
 -- an item that refers to a definition is a uses
-refers_uses : (files : Briefs) (rows : List Row) (k d : ℕ) (r : Row) → slice_get rows k ≡ Some r → is_item r ≡ true → RefersTo files rows k d → is_uses r ≡ true
+refers_uses : (files : Briefs) (rows : List Row) (k d : ℕ) (r : Row) → slice_get rows k ≡ Some r → is_node_or_uses r ≡ true → RefersTo files rows k d → is_uses r ≡ true
 refers_uses files rows k d r is item (name_kind, refers) =
     by name_kind (ap (names_definition name_kind) (same_Some r refers.statement (sym is ∙ refers.at)) ∙ refers.names)
   where

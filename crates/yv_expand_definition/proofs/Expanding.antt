@@ -8,11 +8,10 @@ use Rattle.yv_statement.specs.declared.refusal.Code.TheVariants as code
 use Rattle.yv_link_scopes.specs.Files.{Files, brief_of, module_file_at}
 use Rattle.yv_link_scopes.specs.RowList.{rows_of}
 use Rattle.yv_link_scopes.specs.Rows.{Row}
-use Rattle.yv_expand.specs.Limit.{given_at, given_before}
+use Rattle.yv_expand.specs.StatementBlocks.{given_at, given_before, block_of, top_of, is_at, is_augment, augments_of}
 use Rattle.yv_expand.specs.Tree.{Item, Tree}
-use Rattle.yv_expand.specs.Weigh.{block_of, top_of}
-use Rattle.yv_expand.specs.Expands.{Expands, is_at, is_augment}
-use Rattle.yv_expand.specs.Expansion.{AreAdded, AreTrees, IsWhole, augments_of}
+use Rattle.yv_expand.specs.Expands.{Expands}
+use Rattle.yv_expand.specs.Expansion.{AreAdded, AreTrees, IsWhole}
 use Rattle.yv_expand_definition.specs.Nodes.{Forest, Node, insert, nodes_given}
 use Rattle.yv_expand_definition.specs.Paths.{End, Leads, path_of}
 use Rattle.yv_expand_definition.specs.Gives.{Gives, Misses, Product, Reaches, add_block, add_refusal, both, nothing}

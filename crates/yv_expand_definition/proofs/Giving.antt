@@ -8,12 +8,11 @@ use Rattle.yv_link_scopes.specs.RowList.{rows_of}
 use Rattle.yv_link_scopes.specs.Rows.{Row}
 use Rattle.yv_link_definitions.specs.Refers.{RefersTo, is_uses}
 use Rattle.yv_expand_paths.specs.Names.{node_name}
-use Rattle.yv_expand.specs.Weigh.{block_of}
-use Rattle.yv_expand.specs.declared.item.Origin.TheVariants.{Statement, Input, Output}
-use Rattle.yv_expand.specs.Expands.{input_of, is_item, is_operation, output_of, part}
-use Rattle.yv_expand_rounds.specs.declared.label.ItemKind.{ItemKind}
-use Rattle.yv_expand_rounds.specs.declared.label.ItemKind.TheVariants as kind
-use Rattle.yv_expand_augments.specs.Kinds.{kind_of_keyword}
+use Rattle.yv_expand.specs.StatementBlocks.{block_of, input_of, is_node_or_uses, is_operation, output_of, part}
+use Rattle.yv_expand.specs.declared.origin.Origin.TheVariants.{Statement, Input, Output}
+use Rattle.yv_expand_rounds.specs.declared.statement_kind.StatementKind.{StatementKind}
+use Rattle.yv_expand_rounds.specs.declared.statement_kind.StatementKind.TheVariants as kind
+use Rattle.yv_expand_rounds.specs.Kinds.{kind_of_keyword}
 use Rattle.std.specs.Prelude.{codes}
 use Rattle.yv_expand_definition.specs.Nodes.{Forest, Node, join}
 use Rattle.yv_expand_definition.specs.Paths.{at, Leads, path_of}
@@ -63,22 +62,22 @@ module _ (files : Files) (module_file : ℕ) (one_meant : RefersToOne files) whe
     pub gives_one : {under ks : List ℕ} {m n : Product} → Gives files module_file under ks m → Gives files module_file under ks n → m ≡ n
     gives_one no_statements no_statements = refl
     gives_one (other is item e) (other is' item' f) = gives_one e f
-    gives_one (other {k = k} is item e) (one_node is' item' o u kd b f) = absurd (clash is_item (rows_of files) k _ _ is is' item item')
-    gives_one (other {k = k} is item e) (operation is' item' o u kd i p f) = absurd (clash is_item (rows_of files) k _ _ is is' item item')
-    gives_one (other {k = k} is item e) (uses is' item' u d c x y f) = absurd (clash is_item (rows_of files) k _ _ is is' item item')
-    gives_one (one_node {k = k} is item o u kd b e) (other is' item' f) = absurd (clash is_item (rows_of files) k _ _ is' is item' item)
+    gives_one (other {k = k} is item e) (one_node is' item' o u kd b f) = absurd (clash is_node_or_uses (rows_of files) k _ _ is is' item item')
+    gives_one (other {k = k} is item e) (operation is' item' o u kd i p f) = absurd (clash is_node_or_uses (rows_of files) k _ _ is is' item item')
+    gives_one (other {k = k} is item e) (uses is' item' u d c x y f) = absurd (clash is_node_or_uses (rows_of files) k _ _ is is' item item')
+    gives_one (one_node {k = k} is item o u kd b e) (other is' item' f) = absurd (clash is_node_or_uses (rows_of files) k _ _ is' is item' item)
     gives_one {under = under} (one_node {k = k} {r = r} {kd = kd} {below = below} is item o u known b e)
         (one_node {r = s} {kd = kd'} {below = low} is' item' o' u' known' c f) =
         let row : r ≡ s = same_Some r s (sym is ∙ is') in
         let same : kd ≡ kd' = same_Some kd kd' (sym known ∙ (ap (λ (x : Row). kind_of_keyword x.head.keyword) row ∙ known')) in
         same_two both
         (ap (λ (x : Row). one module_file under (Statement k) kd (node_name x.head) below) row
-        ∙ same_two (λ (y : ItemKind) (z : Product). one module_file under (Statement k) y (node_name s.head) z) same (gives_one b c))
+        ∙ same_two (λ (y : StatementKind) (z : Product). one module_file under (Statement k) y (node_name s.head) z) same (gives_one b c))
         (gives_one e f)
     gives_one (one_node {k = k} is item o u kd b e) (operation is' item' o' u' kd' i p f) =
         absurd (clash is_operation (rows_of files) k _ _ is is' o o')
     gives_one (one_node {k = k} is item o u kd b e) (uses is' item' u' d c x y f) = absurd (clash is_uses (rows_of files) k _ _ is is' u u')
-    gives_one (operation {k = k} is item o u kd i p e) (other is' item' f) = absurd (clash is_item (rows_of files) k _ _ is' is item' item)
+    gives_one (operation {k = k} is item o u kd i p e) (other is' item' f) = absurd (clash is_node_or_uses (rows_of files) k _ _ is' is item' item)
     gives_one (operation {k = k} is item o u kd i p e) (one_node is' item' o' u' kd' b f) =
         absurd (clash is_operation (rows_of files) k _ _ is' is o' o)
     gives_one {under = under} (operation {k = k} {r = r} {kd = kd} {input = input} {output = output} is item o u known i p e)
@@ -90,11 +89,11 @@ module _ (files : Files) (module_file : ℕ) (one_meant : RefersToOne files) whe
         (one module_file under (part (Output k) (output_of rows k)) kind.Output (codes "output") y) in
         same_two both
         (ap (λ (x : Row). one module_file under (Statement k) kd (node_name x.head) (parts input output)) row
-        ∙ same_two (λ (y : ItemKind) (z : Product). one module_file under (Statement k) y (node_name s.head) z) same
+        ∙ same_two (λ (y : StatementKind) (z : Product). one module_file under (Statement k) y (node_name s.head) z) same
         (same_two parts (gives_one i j) (gives_one p q)))
         (gives_one e f)
     gives_one (operation {k = k} is item o u kd i p e) (uses is' item' u' d c x y f) = absurd (clash is_uses (rows_of files) k _ _ is is' u u')
-    gives_one (uses {k = k} is item u d c x y e) (other is' item' f) = absurd (clash is_item (rows_of files) k _ _ is' is item' item)
+    gives_one (uses {k = k} is item u d c x y e) (other is' item' f) = absurd (clash is_node_or_uses (rows_of files) k _ _ is' is item' item)
     gives_one (uses {k = k} is item u d c x y e) (one_node is' item' o' u' kd' b f) = absurd (clash is_uses (rows_of files) k _ _ is' is u' u)
     gives_one (uses {k = k} is item u d c x y e) (operation is' item' o' u' kd' i p f) =
         absurd (clash is_uses (rows_of files) k _ _ is' is u' u)

@@ -5,7 +5,7 @@ use Rattle.std.proofs.lemmas.Bool.{false≢true}
 use Rattle.yv_link_scopes.specs.Files.{Files}
 use Rattle.yv_link_scopes.specs.RowList.{rows_of}
 use Rattle.yv_link_scopes.specs.Rows.{Row}
-use Rattle.yv_expand.specs.Expands.{is_item}
+use Rattle.yv_expand.specs.StatementBlocks.{is_node_or_uses}
 use Rattle.yv_expand_definition.specs.Gives.{Gives, Product, Reaches, nothing}
 use Rattle.yv_expand_definition.specs.Gives.Gives.{no_statements, other, one_node, operation, uses}
 use Rattle.yv_expand_definition.specs.Nodes.{Forest, Node, nodes_given, insert, is_later, join, node, none}
@@ -44,7 +44,7 @@ later : (k j : ℕ) (ks : List ℕ) → Contains ks j → Contains (k ∷ ks) j
 later k j ks (i, l, e) = (suc i, omega (arith, l), e)
 
 pub gives_none : (files : Files) (module_file : ℕ) {under ks : List ℕ} {m : Product} → Gives files module_file under ks m
-    → ((k : ℕ) (r : Row) → Contains ks k → slice_get (rows_of files) k ≡ Some r → is_item r ≡ false) → m ≡ nothing
+    → ((k : ℕ) (r : Row) → Contains ks k → slice_get (rows_of files) k ≡ Some r → is_node_or_uses r ≡ false) → m ≡ nothing
 gives_none files module_file no_statements all = refl
 gives_none files module_file (other {k = k} {ks = ks} is no_item e) all = gives_none files module_file e (λ j r h. all j r (later k j ks h))
 gives_none files module_file (one_node {k = k} {r = r} {ks = ks} is item o u known b e) all = absurd (false≢true (sym (all k r (first k ks) is) ∙ item))

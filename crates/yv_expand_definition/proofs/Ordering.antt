@@ -1,4 +1,5 @@
--- What augments of modules give to one node stands in one order, in whichever round they are applied.
+-- What augments of modules give to one node stands in one order, in whichever round they are
+-- applied.
 use Rattle.std.proofs.lemmas.Bool.{ltb-true, lt-ltb, le-ltb}
 use Rattle.std.proofs.Common.{◌≡◌, ℕ, ◌<◌, ◌∙◌, ap, sym, refl, arith, Bool, true, false, nat_lt, if◌then◌else◌, Option, Some, None}
 use Rattle.yv_expand_definition.specs.Nodes.{Forest, Node, none, node, nodes_given, insert, is_later, join}

@@ -1,9 +1,10 @@
--- Why "the first node of a name" has to be the first in order. The module a has a container t. Three augments of the module b, which are
--- the statements 1 to 3: the first adds a leaf x to /a:t/b:p, the second a leaf s to /a:t/b:p/b:x, and the third a container p with a
--- container x to /a:t. In the first round only the third is applied. File 0 is that of a, and file 1 is that of b.
+-- Why "the first node of a name" has to be the first in order. The module a has a container t.
+-- Three augments of the module b, which are the statements 1 to 3: the first adds a leaf x to
+-- /a:t/b:p, the second a leaf s to /a:t/b:p/b:x, and the third a container p with a container x to
+-- /a:t. In the first round only the third is applied. File 0 is that of a, and file 1 is that of b.
 use Rattle.std.specs.Prelude.{refl, ℕ, false, List, [], ◌∷◌, Option, Some, None, codes}
-use Rattle.yv_expand.specs.declared.item.Origin.TheVariants.{Statement}
-use Rattle.yv_expand_rounds.specs.declared.label.ItemKind.TheVariants as kind
+use Rattle.yv_expand.specs.declared.origin.Origin.TheVariants.{Statement}
+use Rattle.yv_expand_rounds.specs.declared.statement_kind.StatementKind.TheVariants as kind
 use Rattle.yv_expand_definition.specs.Nodes.{Forest, Node, none, node, nodes_given, insert}
 use Rattle.yv_expand_definition.specs.Paths.{Leads, Step, at}
 

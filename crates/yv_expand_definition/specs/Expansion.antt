@@ -5,8 +5,7 @@ use Rattle.yv_link_scopes.specs.Files.{Briefs, Files, brief_of, module_file_at}
 use Rattle.yv_link_scopes.specs.RowList.{rows_of}
 use Rattle.yv_link_scopes.specs.Rows.{Row}
 use Rattle.yv_link_definitions.specs.Refers.{RefersTo, is_uses}
-use Rattle.yv_expand.specs.Weigh.{top_of}
-use Rattle.yv_expand.specs.Expansion.{augments_of}
+use Rattle.yv_expand.specs.StatementBlocks.{top_of, augments_of}
 use Rattle.yv_expand_definition.specs.Gives.{Gives, Product, both, nothing}
 use Rattle.yv_expand_definition.specs.Rounds.{Rounds}
 
@@ -17,8 +16,8 @@ pub data Tops (files : Files) : (order : List ℕ) → Product → Type 0 where
       → Gives files (module_file_at (map brief_of files) file) [] (top_of (map brief_of files) (rows_of files) file) m → Tops files others behind
       → Tops files (file ∷ others) (both m behind)
 
--- What files expand to, and what is refused of their refines and augments: the files of the modules that are implemented, module by
--- module in this order, and the augments of those that are marked.
+-- What files expand to, and what is refused of their refines and augments: the files of the modules
+-- that are implemented, module by module in this order, and the augments of those that are marked.
 pub record Expand (files : Files) (marks : List Bool) (order : List ℕ) (m : Product) : Type 0 where
   pub own : Product
   pub tops : Tops files order own

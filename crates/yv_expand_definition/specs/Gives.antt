@@ -9,17 +9,13 @@ use Rattle.yv_link_scopes.specs.RowList.{rows_of, statements_of}
 use Rattle.yv_link_scopes.specs.Rows.{Row}
 use Rattle.yv_link_definitions.specs.Refers.{RefersTo, is_uses}
 use Rattle.yv_expand_paths.specs.Names.{node_name}
-use Rattle.yv_expand.specs.Weigh.{block_of}
+use Rattle.yv_expand.specs.StatementBlocks.{block_of, input_of, is_augment, is_node_or_uses, is_operation, output_of, part, part_block, those, is_refine}
 use Rattle.yv_expand.specs.Origin.{number_of}
-use Rattle.yv_expand.specs.declared.item.Origin.{Origin}
-use Rattle.yv_expand.specs.declared.item.Origin.TheVariants.{Statement, Input, Output}
-use Rattle.yv_expand.specs.Expands.{input_of, is_augment, is_item, is_operation, output_of, part, part_block, those}
-use Rattle.yv_expand_rounds.specs.declared.label.ItemKind.{ItemKind}
-use Rattle.yv_expand_rounds.specs.declared.label.ItemKind.TheVariants as kind
-use Rattle.yv_expand_rounds.specs.Labels.{may_be_target}
-use Rattle.yv_expand_augments.specs.Kinds.{kind_of_keyword}
-use Rattle.yv_expand_augments.specs.Placement.{takes}
-use Rattle.yv_expand_augments.specs.RefineTargets.{is_refine}
+use Rattle.yv_expand.specs.declared.origin.Origin.{Origin}
+use Rattle.yv_expand.specs.declared.origin.Origin.TheVariants.{Statement, Input, Output}
+use Rattle.yv_expand_rounds.specs.declared.statement_kind.StatementKind.{StatementKind}
+use Rattle.yv_expand_rounds.specs.declared.statement_kind.StatementKind.TheVariants as kind
+use Rattle.yv_expand_rounds.specs.Kinds.{may_be_target, kind_of_keyword, takes}
 use Rattle.yv_expand_changes.specs.AllowedRefines.{is_some_fit}
 use Rattle.yv_expand_definition.specs.Nodes.{Node, Forest, none, node, join}
 use Rattle.yv_expand_definition.specs.Paths.{End, at, Leads, LeadsNowhere, path_of}
@@ -45,8 +41,9 @@ both first others = record { nodes = join first.nodes others.nodes; wrong = firs
 abbrev pub add_refusal : Code → (statement : ℕ) → Product → Product
 add_refusal c k m = record m { wrong = m.wrong ++ record { code = c; statement = k } ∷ [] }
 
--- a node that a statement of the module `module_file` gives, under these uses and augments, and what is below it
-abbrev pub one : (module_file : ℕ) → (under : List ℕ) → Origin → ItemKind → (name : List ℕ) → (below : Product) → Product
+-- a node that a statement of the module `module_file` gives, under these uses and augments, and
+-- what is below it
+abbrev pub one : (module_file : ℕ) → (under : List ℕ) → Origin → StatementKind → (name : List ℕ) → (below : Product) → Product
 one module_file under o k name below = record below {
   nodes = node (record { origin = o; under = under; module_file = module_file; kind = k; name = name; refines = []; giver = None }) below.nodes none;
 }
@@ -66,8 +63,8 @@ is_fit files k g = is_some_fit (slice_get (rows_of files) (number_of g.origin)) 
 abbrev pub MeansNone : Files → (module_file k : ℕ) → Forest → Type 0
 MeansNone files module_file k nodes = (g : Node) (below there : Forest) → PathLeads files module_file k nodes (at g below g below) there → ⊥
 
--- (7.13.2) The refines of a uses in order, each by its path among what the uses copies: it changes the node that it means, if it is fit
--- for it. A refused one changes nothing.
+-- (7.13.2) The refines of a uses in order, each by its path among what the uses copies: it changes
+-- the node that it means, if it is fit for it. A refused one changes nothing.
 pub data RefinesGive (files : Files) (module_file : ℕ) : List ℕ → Product → Product → Type 0 where
   none_left : {m : Product} → RefinesGive files module_file [] m m
   changes : {k : ℕ} {ks : List ℕ} {m last : Product} {g : Node} {below there : Forest}
@@ -78,7 +75,8 @@ pub data RefinesGive (files : Files) (module_file : ℕ) : List ℕ → Product 
   without_target : {k : ℕ} {ks : List ℕ} {m last : Product} → MeansNone files module_file k m.nodes
       → RefinesGive files module_file ks (add_refusal code.RefineTarget k m) last → RefinesGive files module_file (k ∷ ks) m last
 
--- (7.17) an augment's path leads to a node that may be its target, and when something is put into what this has these are the nodes
+-- (7.17) an augment's path leads to a node that may be its target, and when something is put into
+-- what this has these are the nodes
 pub record Reaches (files : Files) (module_file a : ℕ) (put : Forest → Forest) (nodes there : Forest) (target : Node) : Type 0 where
   pub below : Forest
   pub leads : PathLeads files module_file a nodes (at target below target (put below)) there
@@ -88,38 +86,41 @@ pub record Reaches (files : Files) (module_file a : ℕ) (put : Forest → Fores
 abbrev pub Misses : Files → (module_file a : ℕ) → Forest → Type 0
 Misses files module_file a nodes = (g : Node) (there : Forest) → Reaches files module_file a (λ below. below) nodes there g → ⊥
 
-abbrev pub is_taken : ItemKind → Option ItemKind → Bool
+abbrev pub is_taken : StatementKind → Option StatementKind → Bool
 is_taken target None = true
 is_taken target (Some k) = takes target k
 
 -- a target takes all that stands in the block of an augment
-abbrev pub takes_block : List Row → (augment : ℕ) → ItemKind → Bool
+abbrev pub takes_block : List Row → (augment : ℕ) → StatementKind → Bool
 takes_block rows a target =
-    list_all (λ k. is_taken target (option_and_then (λ r. kind_of_keyword r.head.keyword) (slice_get rows k))) (those is_item rows (block_of rows a))
+    list_all (λ k. is_taken target (option_and_then (λ r. kind_of_keyword r.head.keyword) (slice_get rows k))) (those is_node_or_uses rows (block_of rows a))
 
 abbrev pub judge : (is_taken : Bool) → (augment : ℕ) → Product → Product
 judge true a m = m
 judge false a m = add_refusal code.BadAugment a m
 
--- when an augment has added what its block gives these are the nodes; and it is refused where its target doesn't take what is in its block
+-- when an augment has added what its block gives these are the nodes; and it is refused where its
+-- target doesn't take what is in its block
 abbrev pub add_block : Files → (augment : ℕ) → (target : Node) → (before block : Product) → (there : Forest) → Product
 add_block files a target before block there =
     judge (takes_block (rows_of files) a target.kind) a (record { nodes = there; wrong = before.wrong ++ block.wrong })
 
 mutual
-  -- (7.12 to 7.16) What numbered statements give, in order, to the module of the file `module_file`, under these uses and augments, innermost
-  -- first: a node each, above what its block gives; an operation above its input and its output; and a uses a copy of what stands in the
-  -- block of its grouping, with its refines, and then with its augments. Other statements give none.
+  -- (7.12 to 7.16) What numbered statements give, in order, to the module of the file
+  -- `module_file`, under these uses and augments, innermost first: a node each, above what its
+  -- block gives; an operation above its input and its output; and a uses a copy of what stands in
+  -- the block of its grouping, with its refines, and then with its augments. Other statements give
+  -- none.
   pub data Gives (files : Files) (module_file : ℕ) : (under : List ℕ) → List ℕ → Product → Type 0 where
     no_statements : {under : List ℕ} → Gives files module_file under [] nothing
-    other : {under : List ℕ} {k : ℕ} {r : Row} {ks : List ℕ} {m : Product} → slice_get (rows_of files) k ≡ Some r → is_item r ≡ false
+    other : {under : List ℕ} {k : ℕ} {r : Row} {ks : List ℕ} {m : Product} → slice_get (rows_of files) k ≡ Some r → is_node_or_uses r ≡ false
         → Gives files module_file under ks m → Gives files module_file under (k ∷ ks) m
-    one_node : {under : List ℕ} {k : ℕ} {r : Row} {kd : ItemKind} {ks : List ℕ} {below behind : Product} → slice_get (rows_of files) k ≡ Some r
-        → is_item r ≡ true → is_operation r ≡ false → is_uses r ≡ false → kind_of_keyword r.head.keyword ≡ Some kd
+    one_node : {under : List ℕ} {k : ℕ} {r : Row} {kd : StatementKind} {ks : List ℕ} {below behind : Product} → slice_get (rows_of files) k ≡ Some r
+        → is_node_or_uses r ≡ true → is_operation r ≡ false → is_uses r ≡ false → kind_of_keyword r.head.keyword ≡ Some kd
         → Gives files module_file under (block_of (rows_of files) k) below → Gives files module_file under ks behind
         → Gives files module_file under (k ∷ ks) (both (one module_file under (Statement k) kd (node_name r.head) below) behind)
-    operation : {under : List ℕ} {k : ℕ} {r : Row} {kd : ItemKind} {ks : List ℕ} {input output behind : Product} → slice_get (rows_of files) k ≡ Some r
-        → is_item r ≡ true → is_operation r ≡ true → is_uses r ≡ false → kind_of_keyword r.head.keyword ≡ Some kd
+    operation : {under : List ℕ} {k : ℕ} {r : Row} {kd : StatementKind} {ks : List ℕ} {input output behind : Product} → slice_get (rows_of files) k ≡ Some r
+        → is_node_or_uses r ≡ true → is_operation r ≡ true → is_uses r ≡ false → kind_of_keyword r.head.keyword ≡ Some kd
         → Gives files module_file under (part_block (rows_of files) (input_of (rows_of files) k)) input
         → Gives files module_file under (part_block (rows_of files) (output_of (rows_of files) k)) output
         → Gives files module_file under ks behind
@@ -127,14 +128,14 @@ mutual
         (both (one module_file under (part (Input k) (input_of (rows_of files) k)) kind.Input (codes "input") input)
         (one module_file under (part (Output k) (output_of (rows_of files) k)) kind.Output (codes "output") output))) behind)
     uses : {under : List ℕ} {k d : ℕ} {r : Row} {ks : List ℕ} {copies refined given behind : Product} → slice_get (rows_of files) k ≡ Some r
-        → is_item r ≡ true → is_uses r ≡ true → RefersTo (map brief_of files) (rows_of files) k d
+        → is_node_or_uses r ≡ true → is_uses r ≡ true → RefersTo (map brief_of files) (rows_of files) k d
         → Gives files module_file (k ∷ under) (block_of (rows_of files) d) copies
         → RefinesGive files module_file (those is_refine (rows_of files) (block_of (rows_of files) k)) copies refined
         → AugmentsGive files module_file (k ∷ under) (those is_augment (rows_of files) (block_of (rows_of files) k)) refined given
         → Gives files module_file under ks behind → Gives files module_file under (k ∷ ks) (both given behind)
 
-  -- (7.17) The augments of a uses in order, each by its path among what the uses copies and the earlier ones gave: what its block gives
-  -- stands behind what its target has.
+  -- (7.17) The augments of a uses in order, each by its path among what the uses copies and the
+  -- earlier ones gave: what its block gives stands behind what its target has.
   pub data AugmentsGive (files : Files) (module_file : ℕ) : (under : List ℕ) → List ℕ → Product → Product → Type 0 where
     none_left : {under : List ℕ} {m : Product} → AugmentsGive files module_file under [] m m
     adds : {under others : List ℕ} {a : ℕ} {m block last : Product} {there : Forest} {target : Node}

@@ -1,17 +1,20 @@
--- The nodes of a schema as a tree, before any condition is asked (RFC 7950, sections 3, 7.12, 7.13 and 7.17).
+-- The nodes of a schema as a tree, before any condition is asked (RFC 7950, sections 3, 7.12, 7.13
+-- and 7.17).
 use Rattle.std.specs.Prelude.{ℕ, nat_lt, Bool, false, List, ◌∷◌, ◌++◌, Option, Some, None, if◌then◌else◌}
-use Rattle.yv_expand_rounds.specs.declared.label.ItemKind.{ItemKind}
-use Rattle.yv_expand.specs.declared.item.Origin.{Origin}
+use Rattle.yv_expand_rounds.specs.declared.statement_kind.StatementKind.{StatementKind}
+use Rattle.yv_expand.specs.declared.origin.Origin.{Origin}
 use Rattle.yv_expand.specs.Origin.{number_of}
 
--- a node: the numbered statement that gives it (of an operation's part that isn't written, the operation), the uses and augments round
--- this, innermost first; the file of the module to which it belongs; its kind and name; the refines that change it, in the order in which
--- they do; and the augment of a module in whose block it stands, if it stands in one, a uses there being looked through
+-- a node: the numbered statement that gives it (of an operation's part that isn't written, the
+-- operation), the uses and augments round this, innermost first; the file of the module to which it
+-- belongs; its kind and name; the refines that change it, in the order in which they do; and the
+-- augment of a module in whose block it stands, if it stands in one, a uses there being looked
+-- through
 pub record Node : Type 0 where
   pub origin : Origin
   pub under : List ℕ
   pub module_file : ℕ
-  pub kind : ItemKind
+  pub kind : StatementKind
   pub name : List ℕ
   pub refines : List ℕ
   pub giver : Option ℕ
@@ -38,8 +41,8 @@ abbrev pub is_later : (augment : ℕ) → (giver : Option ℕ) → Bool
 is_later a None = false
 is_later a (Some b) = nat_lt a b
 
--- nodes that the augment of a module gives, among those that are there: behind these but for those that later augments give, by file
--- and statement, so the order doesn't depend on the round
+-- nodes that the augment of a module gives, among those that are there: behind these but for those
+-- that later augments give, by file and statement, so the order doesn't depend on the round
 abbrev pub insert : (augment : ℕ) → (nodes : Forest) → (there : Forest) → Forest
 insert a nodes none = nodes
 insert a nodes (node g below behind) =

@@ -6,7 +6,7 @@ use Rattle.yv_link_scopes.specs.RowList.{rows_of}
 use Rattle.yv_link_scopes.specs.Names.{local_of}
 use Rattle.yv_link_scopes.specs.Rows.{Row, name_in}
 use Rattle.yv_expand_paths.specs.Paths.{module_file_of, steps_of}
-use Rattle.yv_expand_rounds.specs.Labels.{is_case, is_choice}
+use Rattle.yv_expand_rounds.specs.Kinds.{is_case, is_choice}
 use Rattle.yv_expand_definition.specs.Nodes.{Node, Forest, none, node, join}
 
 -- a step: the file of its module, and its name; no file where its prefix stands for no module
@@ -31,7 +31,8 @@ answers s g = is_module_file s.module_file g.module_file && bytes_eq s.name g.na
 abbrev pub is_shorthand : (in_choice : Bool) → Node → Bool
 is_shorthand in_choice g = in_choice && not (is_case g.kind)
 
--- the end of a path: a case that is left out; or a node with what stands below it, and what will stand below and in place of it
+-- the end of a path: a case that is left out; or a node with what stands below it, and what will
+-- stand below and in place of it
 pub data End : Type 0 where
   shorthand_case : End
   at : (was : Node) → (below : Forest) → (is : Node) → (below_it : Forest) → End
@@ -41,8 +42,9 @@ abbrev pub node_at_end : End → Option (Node × Forest)
 node_at_end shorthand_case = None
 node_at_end (at g below h there) = Some (g, below)
 
--- A path leads among nodes, which may be those of a choice, to an end; with the exchange that the end tells, the nodes are the last ones.
--- At each step the first node in order is meant that answers it. A case that is left out is a step with the name of its node.
+-- A path leads among nodes, which may be those of a choice, to an end; with the exchange that the
+-- end tells, the nodes are the last ones. At each step the first node in order is meant that
+-- answers it. A case that is left out is a step with the name of its node.
 pub data Leads : (in_choice : Bool) → List Step → (nodes : Forest) → End → (exchanged : Forest) → Type 0 where
   past : {c : Bool} {s : Step} {ss : List Step} {e : End} {g : Node} {below behind there : Forest} → answers s g ≡ false
       → Leads c (s ∷ ss) behind e there → Leads c (s ∷ ss) (node g below behind) e (node g below there)

@@ -10,7 +10,7 @@ use Rattle.yv_link_scopes.specs.Files.{Files}
 use Rattle.yv_link_scopes.specs.RowList.{rows_of}
 use Rattle.yv_link_scopes.specs.Rows.{Row}
 use Rattle.yv_expand.specs.Origin.{number_of}
-use Rattle.yv_expand_augments.specs.MandatoryNodes.{is_container, is_operation_or_notification}
+use Rattle.yv_expand_rounds.specs.Kinds.{is_container, is_operation_or_notification}
 use Rattle.yv_node_properties.specs.Marks.{is_mandatory, stated_of}
 use Rattle.yv_node_properties.specs.Properties.{last_said, statements_of_origin}
 use Rattle.yv_node_properties.specs.declared.properties.StatedProperties.{StatedProperties}
@@ -19,8 +19,8 @@ use Rattle.yv_expand_definition.specs.Nodes.{Node, Forest, none, node}
 use Rattle.yv_expand_definition.specs.Expansion.{Expand}
 use Rattle.yv_expand_definition.specs.Gives.{Product, Wrong}
 
--- a node stands among these, or below one of them; below it stands this, and above it, innermost first, stand these behind those that
--- stand above all
+-- a node stands among these, or below one of them; below it stands this, and above it, innermost
+-- first, stand these behind those that stand above all
 pub data Stands : (nodes : Forest) → (above_all : List Node) → (g : Node) → (below : Forest) → (above : List Node) → Type 0 where
   here : {outer : List Node} {g : Node} {below behind : Forest} → Stands (node g below behind) outer g below outer
   under : {outer above : List Node} {f g : Node} {below behind b : Forest} → Stands below (f ∷ outer) g b above → Stands (node f below behind) outer g b above

@@ -4,7 +4,7 @@ use Rattle.yv_statement.specs.declared.refusal.Code.TheVariants as code
 use Rattle.yv_link_scopes.specs.Files.{Files, brief_of, module_file_at}
 use Rattle.yv_link_scopes.specs.RowList.{rows_of}
 use Rattle.yv_link_scopes.specs.Rows.{Row}
-use Rattle.yv_expand.specs.Weigh.{block_of}
+use Rattle.yv_expand.specs.StatementBlocks.{block_of}
 use Rattle.yv_expand_definition.specs.Nodes.{Node, Forest, nodes_given, insert}
 use Rattle.yv_expand_definition.specs.Paths.{End}
 use Rattle.yv_expand_definition.specs.Gives.{Gives, Product, Misses, PathLeads, PathLeadsNowhere, Reaches, add_block, add_refusal}
@@ -13,8 +13,9 @@ use Rattle.yv_expand_definition.specs.Gives.{Gives, Product, Misses, PathLeads, 
 abbrev pub IsModuleFile : Files → (k module_file : ℕ) → Type 0
 IsModuleFile files k module_file = (r : Row) × (slice_get (rows_of files) k ≡ Some r) × (module_file ≡ module_file_at (map brief_of files) r.file)
 
--- (7.17) A round: each augment of a module that waits, by file and statement, has its turn. What its block gives stands behind what its
--- target has, but before what later ones gave. Those whose path leads nowhere wait on.
+-- (7.17) A round: each augment of a module that waits, by file and statement, has its turn. What
+-- its block gives stands behind what its target has, but before what later ones gave. Those whose
+-- path leads nowhere wait on.
 pub data Round (files : Files) : (waiting : List ℕ) → Product → (still : List ℕ) → Product → Type 0 where
   none_left : {m : Product} → Round files [] m [] m
   adds : {module_file a : ℕ} {others still : List ℕ} {m block last : Product} {there : Forest} {target : Node} → IsModuleFile files a module_file

@@ -9,16 +9,16 @@ use Rattle.yv_link_scopes.specs.RowList.{rows_of}
 use Rattle.yv_link_scopes.specs.Rows.{Row}
 use Rattle.yv_link_definitions.specs.Refers as refers
 use Rattle.yv_link_definitions.specs.Refers.{RefersTo}
-use Rattle.yv_expand.specs.Limit.{given_at}
+use Rattle.yv_expand.specs.StatementBlocks.{given_at, block_of, augments_of, is_augment, is_node_or_uses, those}
 use Rattle.yv_expand.specs.Origin.{number_of}
-use Rattle.yv_expand.specs.Weigh.{block_of}
 use Rattle.yv_expand.specs.Tree.{Item, Tree, all_of, count, item, join, item_list, none}
-use Rattle.yv_expand.specs.declared.item.Origin.{Origin}
-use Rattle.yv_expand.specs.declared.item.Origin.TheVariants.{Statement}
-use Rattle.yv_expand.specs.Expansion.{IsWhole, augments_of}
-use Rattle.yv_expand.specs.Expands.{Expands, is_augment, is_item, those}
+use Rattle.yv_expand.specs.declared.origin.Origin.{Origin}
+use Rattle.yv_expand.specs.declared.origin.Origin.TheVariants.{Statement}
+use Rattle.yv_expand.specs.Expansion.{IsWhole}
+use Rattle.yv_expand.specs.Expands.{Expands}
 use Rattle.yv_expand.specs.Expands.Expands.{nothing, node, operation, other, uses}
-use Rattle.yv_expand_augments.specs.Kinds.{is_uses, kind_of}
+use Rattle.yv_expand_rounds.specs.Kinds.{is_uses}
+use Rattle.yv_expand_augments.specs.Kinds.{kind_of}
 use Rattle.yv_expand_tree.proofs.Standing.{in_first, in_lists, in_second, listed_long}
 use Rattle.yv_expand_definition.specs.Expansion.{AllRefer}
 use Rattle.yv_expand_laws.proofs.Finding.{not_none}
@@ -34,7 +34,7 @@ pub record IsAdded (rows : List Row) (k j : ℕ) : Type 0 where
   pub among : Contains (those is_augment rows (block_of rows k)) augment
   pub there : Contains (block_of rows augment) j
   pub at : slice_get rows j ≡ Some row
-  pub item : is_item row ≡ true
+  pub item : is_node_or_uses row ≡ true
 
 module _ (files : Briefs) (rows : List Row) (refer : AllRefer files rows) where
   abbrev HaveAdded : Tree → Type 0

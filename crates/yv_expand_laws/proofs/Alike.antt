@@ -1,13 +1,14 @@
--- Nodes that differ by their refines alone: paths lead to the same places among them, and blocks give them in the same order.
+-- Nodes that differ by their refines alone: paths lead to the same places among them, and blocks
+-- give them in the same order.
 use Rattle.std.proofs.Common.{◌⊎◌, inl, inr, ◌≡◌, ℕ, ◌+◌, ◌<◌, ◌≤◌, ◌&&◌, not, Bool, true, false, List, [], ◌∷◌, refl, sym, ◌∙◌, ap, subst, arith}
 use Rattle.std.specs.List.{Contains}
 use Rattle.std.specs.Str.{bytes_eq}
 use Rattle.std.proofs.lemmas.Bool.{false≢true}
-use Rattle.yv_expand_rounds.specs.declared.label.ItemKind.{ItemKind}
+use Rattle.yv_expand_rounds.specs.declared.statement_kind.StatementKind.{StatementKind}
 use Rattle.yv_expand_rounds.specs.declared.label.Label.{Label}
 use Rattle.yv_expand_rounds.specs.Groups.{Groups, members_of}
-use Rattle.yv_expand_rounds.specs.Labels.{is_choice, may_be_target}
-use Rattle.yv_expand_rounds.specs.Labels as labels_are
+use Rattle.yv_expand_rounds.specs.Kinds.{is_choice, may_be_target}
+use Rattle.yv_expand_rounds.specs.Kinds as kinds_are
 use Rattle.yv_expand_definition.specs.Nodes.{Forest, Node, join, none, node}
 use Rattle.yv_expand_definition.specs.Paths.{Leads, Step, answers, at, is_module_file, is_shorthand}
 use Rattle.yv_expand_definition.specs.Paths.Leads.{past, to, into, into_case}
@@ -47,7 +48,7 @@ answers_alike s g h b l is =
     ap (λ (x : ℕ). is_module_file s.module_file x && bytes_eq s.name h.name) (sym l.module_file) ∙ (ap (λ x. is_module_file s.module_file g.module_file && bytes_eq s.name x) (sym l.name) ∙ is)
 
 shorthand_alike : (c : Bool) (g h : Node) (b : Bool) → IsLike g h → is_shorthand c g ≡ b → is_shorthand c h ≡ b
-shorthand_alike c g h b l is = ap (λ (k : ItemKind). c && not (labels_are.is_case k)) (sym l.kind) ∙ is
+shorthand_alike c g h b l is = ap (λ (k : StatementKind). c && not (kinds_are.is_case k)) (sym l.kind) ∙ is
 
 -- what a path means among nodes that are alike, and what becomes of them there
 pub record LikeEnd (c : Bool) (ss : List Step) (nodes : Forest) (target : Node) (below : Forest) (is : Node) (put there : Forest) : Type 0 where
@@ -90,7 +91,7 @@ leads_alike {c = c} (into {s = s} {t = t} {ss = ss} {g = g} {below = under} {beh
       leads = λ other other_put o p. (let x = q.leads other other_put o p in (
         node k x.0 last,
         into (answers_alike s g k true like meets) (shorthand_alike c g k false like short)
-            (subst (λ (d : ItemKind). Leads (is_choice d) (t ∷ ss) low (at q.meant q.low other other_put) x.0) like.kind x.1),
+            (subst (λ (d : StatementKind). Leads (is_choice d) (t ∷ ss) low (at q.meant q.low other other_put) x.0) like.kind x.1),
         node_alike like x.2 F,
       ));
     }

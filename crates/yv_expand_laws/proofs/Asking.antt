@@ -16,15 +16,12 @@ use Rattle.yv_link_scopes.specs.declared.kind.NameKind.{NameKind as NameKind}
 use Rattle.yv_link_scopes.specs.declared.kind.NameKind.TheVariants.{Prefix, Include, Typedef, Grouping, Feature, Identity, Extension}
 use Rattle.yv_link_definitions.specs.BuiltIn.{is_built_in}
 use Rattle.yv_link_definitions.specs.Refers.{RefersTo, is_type, is_uses, names_definition}
-use Rattle.yv_expand.specs.Limit.{given_at, given_before}
+use Rattle.yv_expand.specs.StatementBlocks.{given_at, given_before, block_of, numbers_from, stands_in, top_of, augments_of, first_of, input_of, is_at, is_augment, is_node_or_uses, output_of, part, part_block, those}
 use Rattle.yv_expand.specs.Units.{nodes, operations}
-use Rattle.yv_expand.specs.Weigh.{block_of, numbers_from, stands_in, top_of}
 use Rattle.yv_expand.specs.Origin.{number_of}
-use Rattle.yv_expand.specs.declared.item.Origin.{Origin}
-use Rattle.yv_expand.specs.declared.item.Origin.TheVariants.{Input, Output}
-use Rattle.yv_expand.specs.Expansion.{augments_of}
-use Rattle.yv_expand.specs.Expands.{first_of, input_of, is_at, is_augment, is_item, output_of, part, part_block, those}
-use Rattle.yv_expand_augments.specs.Kinds.{kind_of_keyword}
+use Rattle.yv_expand.specs.declared.origin.Origin.{Origin}
+use Rattle.yv_expand.specs.declared.origin.Origin.TheVariants.{Input, Output}
+use Rattle.yv_expand_rounds.specs.Kinds.{kind_of_keyword}
 use Rattle.yv_expand_definition.specs.Expansion.{Tops}
 use Rattle.yv_expand_definition.specs.Expansion.Tops.{no_files, one_more as one_more_top}
 use Rattle.yv_expand_definition.specs.Gives.{AugmentsGive, Gives, Product, RefinesGive, add_block, judge}
@@ -56,8 +53,8 @@ more_within xs ys zs w k h = elim (Contains-append_cases xs zs k h) [
 ]
 
 -- the keyword of an item has no prefix
-item_plain : (r : Row) → is_item r ≡ true → is_extended r.head.keyword ≡ false
-unfolding is_item
+item_plain : (r : Row) → is_node_or_uses r ≡ true → is_extended r.head.keyword ≡ false
+unfolding is_node_or_uses
 item_plain r h = elim (either_is _ _ h) [
   | inl a ↦ among_all (λ word. is_extended word ≡ false) nodes r.head.keyword (refl, (refl, (refl, (refl, (refl, (refl, (refl, (refl, (refl, (refl, tt)))))))))) a
   | inr b ↦ among_all (λ word. is_extended word ≡ false) operations r.head.keyword (refl, (refl, tt)) b
@@ -74,7 +71,7 @@ module _ (rows : List Row) where
   word_asked k word (r, at, apart) is plain =
       (r, at, apart, ap is_extended ((bytes_eq-Decides r.head.keyword word).0 (is r at)) ∙ plain)
 
-  pub item_asked : (k : ℕ) (r : Row) → IsBelow k → slice_get rows k ≡ Some r → is_item r ≡ true → IsAsked rows k
+  pub item_asked : (k : ℕ) (r : Row) → IsBelow k → slice_get rows k ≡ Some r → is_node_or_uses r ≡ true → IsAsked rows k
   item_asked k r (q, at, apart) there item =
       (q, at, apart, ap (λ (z : Row). is_extended z.head.keyword) (same_Some q r (sym at ∙ there)) ∙ item_plain r item)
 
@@ -275,7 +272,8 @@ module _ (files : Files) where
       by true = refl
       by false = refl
 
-  -- a statement of a list stands in a block, and what is round it beyond the next node is among these
+  -- a statement of a list stands in a block, and what is round it beyond the next node is among
+  -- these
   abbrev Starts : (above under : List ℕ) → ℕ → Type 0
   Starts above under k = IsBelow rows k × Reaches rows above under k
 

@@ -1,4 +1,5 @@
--- Before any augment of a module has its turn the top shows what the modules give, and the group of each augment what its block gives.
+-- Before any augment of a module has its turn the top shows what the modules give, and the group of
+-- each augment what its block gives.
 use Rattle.std.proofs.Common.{inl, inr, ◌≡◌, ℕ, ◌+◌, ◌<◌, ◌≤◌, Bool, false, List, [], length, sym, ◌∙◌, subst, arith, None}
 use Rattle.std.specs.List.{Contains}
 use Rattle.std.proofs.lemmas.List.{length-replicate}

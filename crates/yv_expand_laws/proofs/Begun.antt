@@ -1,4 +1,5 @@
--- How the items of files lie: in one block for the tops of all files and, behind it, in one for each augment of a module.
+-- How the items of files lie: in one block for the tops of all files and, behind it, in one for
+-- each augment of a module.
 use Rattle.std.proofs.Common.{◌≡◌, ℕ, ◌+◌, ◌≤◌, false, List, [], ◌++◌, length, map, refl, sym, ◌∙◌, ap, subst, arith, None}
 use Rattle.std.specs.List.{slice_get}
 use Rattle.std.specs.Option.{is_some}

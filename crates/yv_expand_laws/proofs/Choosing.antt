@@ -6,12 +6,11 @@ use Rattle.std.proofs.lemmas.Bool.{false≢true}
 use Rattle.std.proofs.lemmas.Option.{same_Some}
 use Rattle.yv_link_scopes.specs.Rows.{Row}
 use Rattle.yv_base_tables.specs.Families.{is_place, numbers_from}
-use Rattle.yv_expand.specs.Weigh.{block_of, stands_in}
-use Rattle.yv_expand.specs.Weigh as weigh
-use Rattle.yv_expand.specs.Expands.{is_at, is_augment, those}
+use Rattle.yv_expand.specs.StatementBlocks.{block_of, stands_in, is_at, is_augment, those, is_refine}
+use Rattle.yv_expand.specs.StatementBlocks as blocks
 use Rattle.yv_expand_augments.specs.AugmentOrder.{augments_giving, giving_from, giving_places, gives, is_giving, is_in, item_places, ordinal, place_before}
 use Rattle.yv_expand_augments.specs.AugmentOrder as augmented
-use Rattle.yv_expand_augments.specs.RefineTargets.{is_refine, refines_in}
+use Rattle.yv_expand_augments.specs.RefineTargets.{refines_in}
 use Rattle.yv_expand_augments.specs.MissingTargets.{augments_in}
 use Rattle.yv_expand_laws.proofs.Finding.{there_first, there_later}
 use Rattle.yv_expand_laws.proofs.Framing.{nothing_stands}
@@ -54,7 +53,7 @@ row_at test rows k h = by (slice_get rows k) refl h
     by (Some r) at h = (r, at, h)
 
 -- the statements of a block stand in it
-pub numbered_in : (passes : ℕ → Row → Bool) (n : ℕ) (rs : List Row) (j : ℕ) → Contains (weigh.numbers_from passes n rs) j
+pub numbered_in : (passes : ℕ → Row → Bool) (n : ℕ) (rs : List Row) (j : ℕ) → Contains (blocks.numbers_from passes n rs) j
     → (i : ℕ) × (r : Row) × (j ≡ n + i) × (slice_get rs i ≡ Some r) × (passes j r ≡ true)
 numbered_in passes n [] j h = absurd (nothing_stands j h)
 numbered_in passes n (r ∷ rs) j h = by (passes n r) refl h (λ h. later (numbered_in passes (n + 1) rs j h))
@@ -62,11 +61,11 @@ numbered_in passes n (r ∷ rs) j h = by (passes n r) refl h (λ h. later (numbe
     later : (i : ℕ) × (q : Row) × (j ≡ n + 1 + i) × (slice_get rs i ≡ Some q) × (passes j q ≡ true) → (i : ℕ) × (q : Row) × (j ≡ n + i) × (slice_get (r ∷ rs) i ≡ Some q) × (passes j q ≡ true)
     later x = (suc x.0, x.1, (let e = x.2 in omega (arith, e)), x.3, x.4)
 
-    by : (b : Bool) → passes n r ≡ b → Contains (if b then n ∷ weigh.numbers_from passes (n + 1) rs else weigh.numbers_from passes (n + 1) rs) j
-        → (Contains (weigh.numbers_from passes (n + 1) rs) j → (i : ℕ) × (q : Row) × (j ≡ n + i) × (slice_get (r ∷ rs) i ≡ Some q) × (passes j q ≡ true))
+    by : (b : Bool) → passes n r ≡ b → Contains (if b then n ∷ blocks.numbers_from passes (n + 1) rs else blocks.numbers_from passes (n + 1) rs) j
+        → (Contains (blocks.numbers_from passes (n + 1) rs) j → (i : ℕ) × (q : Row) × (j ≡ n + i) × (slice_get (r ∷ rs) i ≡ Some q) × (passes j q ≡ true))
         → (i : ℕ) × (q : Row) × (j ≡ n + i) × (slice_get (r ∷ rs) i ≡ Some q) × (passes j q ≡ true)
     by false is h go = go h
-    by true is h go = elim (first_or n (weigh.numbers_from passes (n + 1) rs) j h) [
+    by true is h go = elim (first_or n (blocks.numbers_from passes (n + 1) rs) j h) [
       | inl same ↦ (0, r, (omega (arith, same)), refl, ap (λ (m : ℕ). passes m r) (sym same) ∙ is)
       | inr rest ↦ go rest
     ]
@@ -115,8 +114,8 @@ map_at f (x ∷ xs) (suc j) r at = map_at f xs j r at
 
 -- in the block of an augment of a block that gives nothing stands no item
 pub nothing_given : (rows : List Row) (u a : ℕ) (q : Row) → slice_get rows a ≡ Some q → is_augment q ≡ true → q.scope ≡ u → is_giving rows u a ≡ false
-    → (j : ℕ) (r : Row) → slice_get rows j ≡ Some r → r.scope ≡ a → augmented.is_item r ≡ false
-nothing_given rows u a q at is_aug scope gives_none j r row in_block = by (augmented.is_item r) refl
+    → (j : ℕ) (r : Row) → slice_get rows j ≡ Some r → r.scope ≡ a → augmented.is_node_or_uses r ≡ false
+nothing_given rows u a q at is_aug scope gives_none j r row in_block = by (augmented.is_node_or_uses r) refl
   where
     told : is_in u (Some (if gives rows a q then Some q.scope else None)) ≡ false
     told = ap (is_in u) (sym (place_of_row rows a q at)) ∙ gives_none
@@ -129,11 +128,11 @@ nothing_given rows u a q at is_aug scope gives_none j r row in_block = by (augme
     few true is h = eqb-true (length (numbers_from a 0 (item_places rows))) 0 is
     few false is h = absurd (false≢true (sym h ∙ (ap (λ (b : Bool). b && true) is_aug)))
 
-    by : (b : Bool) → augmented.is_item r ≡ b → augmented.is_item r ≡ false
+    by : (b : Bool) → augmented.is_node_or_uses r ≡ b → augmented.is_node_or_uses r ≡ false
     by false is = is
     by true is =
         absurd (numbers_none a 0 (item_places rows) j
-        (map_at (λ r. if augmented.is_item r then Some r.scope else None) rows j r row ∙ (ap (λ (b : Bool). Some (if b then Some r.scope else None)) is ∙ ap (λ (m : ℕ). Some (Some m)) in_block))
+        (map_at (λ r. if augmented.is_node_or_uses r then Some r.scope else None) rows j r row ∙ (ap (λ (b : Bool). Some (if b then Some r.scope else None)) is ∙ ap (λ (m : ℕ). Some (Some m)) in_block))
         (few (length (numbers_from a 0 (item_places rows)) == 0) refl (no_gives (gives rows a q) refl told)))
 
 -- the place of a number among those of its place
@@ -180,9 +179,10 @@ ordinal_is rows u xs a ys e =
     ap (place_before (giving_places rows) a) (ap (slice_get (giving_places rows)) same ∙ r.2)
     ∙ (ap (λ (m : ℕ). length (numbers_from u 0 (take m (giving_places rows)))) same ∙ r.3)
 
--- the statements of a block that pass a test are those among its statements, where the statement of the block itself doesn't pass
+-- the statements of a block that pass a test are those among its statements, where the statement of
+-- the block itself doesn't pass
 same_tested : (test : Row → Bool) (rows : List Row) (u : ℕ) (n : ℕ) (rs : List Row) → ((i : ℕ) → slice_get rows (n + i) ≡ slice_get rs i) → ((r : Row) → slice_get rows u ≡ Some r → test r ≡ false)
-    → numbers_from u n (map (λ r. if test r then Some r.scope else None) rs) ≡ filter (is_at test rows) (weigh.numbers_from (stands_in u) n rs)
+    → numbers_from u n (map (λ r. if test r then Some r.scope else None) rs) ≡ filter (is_at test rows) (blocks.numbers_from (stands_in u) n rs)
 same_tested test rows u n [] told no_test = refl
 same_tested test rows u n (r ∷ rs) told no_test =
     by (test r) refl (r.scope == u) refl (r.scope == n) refl
@@ -198,7 +198,7 @@ same_tested test rows u n (r ∷ rs) told no_test =
     theirs = numbers_from u (n + 1) (map (λ r. if test r then Some r.scope else None) rs)
 
     mine : List ℕ
-    mine = weigh.numbers_from (stands_in u) (n + 1) rs
+    mine = blocks.numbers_from (stands_in u) (n + 1) rs
 
     kept : (b : Bool) → is_at test rows n ≡ b → filter (is_at test rows) (n ∷ mine) ≡ cond b (n ∷ filter (is_at test rows) mine) (filter (is_at test rows) mine)
     kept b e = ap (λ (b : Bool). cond b (n ∷ filter (is_at test rows) mine) (filter (is_at test rows) mine)) e
@@ -215,8 +215,8 @@ same_tested test rows u n (r ∷ rs) told no_test =
         ∙ ap (λ (x : Bool). filter (is_at test rows) (if b && not x then n ∷ mine else mine)) f
 
     by : (a : Bool) → test r ≡ a → (b : Bool) → (r.scope == u) ≡ b → (d : Bool) → (r.scope == n) ≡ d
-        → numbers_from u (n + 1) (map (λ r. if test r then Some r.scope else None) rs) ≡ filter (is_at test rows) (weigh.numbers_from (stands_in u) (n + 1) rs)
-        → numbers_from u n (map (λ r. if test r then Some r.scope else None) (r ∷ rs)) ≡ filter (is_at test rows) (weigh.numbers_from (stands_in u) n (r ∷ rs))
+        → numbers_from u (n + 1) (map (λ r. if test r then Some r.scope else None) rs) ≡ filter (is_at test rows) (blocks.numbers_from (stands_in u) (n + 1) rs)
+        → numbers_from u n (map (λ r. if test r then Some r.scope else None) (r ∷ rs)) ≡ filter (is_at test rows) (blocks.numbers_from (stands_in u) n (r ∷ rs))
     by true e true f true g rest =
         (let su : r.scope ≡ u = eqb-true r.scope u f in let sn : r.scope ≡ n = eqb-true r.scope n g in let same : u ≡ n = omega (arith, su, sn) in
         absurd (false≢true (sym (no_test r (ap (slice_get rows) same ∙ row)) ∙ e)))

@@ -16,7 +16,7 @@ use Rattle.yv_expand_rounds.specs.Turns.{State, given_group, group_of_target, ta
 use Rattle.yv_expand_augments.specs.AugmentOrder.{augments_giving, is_giving}
 use Rattle.yv_expand_augments.specs.Augmentation.{AreAugmented, module_paths, placement, placed_from, turns}
 use Rattle.yv_expand_augments.specs.InnerLayout.{AreLaid, Fits}
-use Rattle.yv_expand_augments.specs.Kinds.{is_uses}
+use Rattle.yv_expand_rounds.specs.Kinds.{is_uses}
 use Rattle.yv_expand_augments.specs.Spots.{LayoutView, Whole, copies_of, copy_group, labels_of, layout_of}
 use Rattle.yv_expand_augments.specs.MissingTargets.{augments_in, next_number}
 use Rattle.yv_expand_augments.specs.declared.spot.Spot.{Spot}

@@ -1,4 +1,5 @@
--- The copy of an augment of a uses ends, when all augments were applied, where its path led in its turn.
+-- The copy of an augment of a uses ends, when all augments were applied, where its path led in its
+-- turn.
 use Rattle.std.proofs.Common.{◌⊎◌, inl, inr, ◌≡◌, ◌≢◌, ℕ, zero, suc, ◌+◌, ◌<◌, ◌≤◌, Bool, true, false, cond, if◌then◌else◌, List, [], ◌∷◌, ◌++◌, drop, length, take, get_or, Option, Some, None, refl, sym, ◌∙◌, ap, subst, arith}
 use Rattle.std.specs.List.{filter, slice_get}
 use Rattle.std.specs.Option.{option_and_then}
@@ -18,7 +19,7 @@ use Rattle.yv_expand_augments.specs.Ends.{end_at}
 use Rattle.yv_expand_augments.specs.AugmentOrder.{augments_giving, is_giving}
 use Rattle.yv_expand_augments.specs.Augmentation.{copy_turn, last_of, module_paths, path_in, placement, placed_from, turns, turns_from}
 use Rattle.yv_expand_augments.specs.InnerLayout.{AreLaid}
-use Rattle.yv_expand_augments.specs.Kinds.{is_uses}
+use Rattle.yv_expand_rounds.specs.Kinds.{is_uses}
 use Rattle.yv_expand_augments.specs.Spots.{LayoutView, Whole, copies_of, labels_of, layout_of, laid_from, one_more, spot_of}
 use Rattle.yv_expand_augments.specs.MissingTargets.{after_turns, augments_in, had_turns, next_number}
 use Rattle.yv_expand_augments.specs.declared.spot.Spot.{Spot}

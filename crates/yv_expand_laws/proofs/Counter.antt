@@ -1,9 +1,10 @@
--- Why what is shown needs bounds at any depth: of item 0, in the range from 0 to before 3, stands item 5 below. Without bounds at depth
--- the range shows one node above another, where the path leads; the numbered path, which ends at 3, leads nowhere.
+-- Why what is shown needs bounds at any depth: of item 0, in the range from 0 to before 3, stands
+-- item 5 below. Without bounds at depth the range shows one node above another, where the path
+-- leads; the numbered path, which ends at 3, leads nowhere.
 use Rattle.std.proofs.Common.{◌≡◌, false, List, [], ◌∷◌, refl, None, Some}
 use Rattle.yv_expand_rounds.specs.declared.end.End.TheVariants as end
 use Rattle.yv_expand_rounds.specs.declared.label.Label.{Label}
-use Rattle.yv_expand_rounds.specs.declared.label.ItemKind.TheVariants as kind
+use Rattle.yv_expand_rounds.specs.declared.statement_kind.StatementKind.TheVariants as kind
 use Rattle.yv_expand_rounds.specs.Groups.{Groups}
 use Rattle.yv_expand_rounds.specs.Paths.{path_end}
 

@@ -12,13 +12,13 @@ use Rattle.yv_expand.specs.Tree.{Item}
 use Rattle.yv_expand_rounds.specs.declared.label.Label.{Label}
 use Rattle.yv_expand_rounds.specs.declared.row.ItemRow.{ItemRow}
 use Rattle.yv_expand_rounds.specs.Groups.{Groups}
-use Rattle.yv_expand_rounds.specs.Labels as labels_are
+use Rattle.yv_expand_rounds.specs.Kinds as kinds_are
 use Rattle.yv_expand_rounds.specs.Placements.{StandOnce}
 use Rattle.yv_expand_rounds.specs.Tree.{IsTree, Tree, item, tree_list}
 use Rattle.yv_expand_rounds.specs.Tree as by_number
 use Rattle.yv_expand_augments.specs.Refusals.{TooDeep}
 use Rattle.yv_expand_augments.specs.Augmentation.{AreAugmented}
-use Rattle.yv_expand_augments.specs.Kinds.{is_uses}
+use Rattle.yv_expand_rounds.specs.Kinds.{is_uses}
 use Rattle.yv_expand_augments.specs.Spots.{Whole, labels_of, layout_of, whole}
 use Rattle.yv_expand_augments.specs.declared.spot.Spot.{Spot}
 use Rattle.yv_expand_tree.specs.Final.{spots_of, final_items}
@@ -164,7 +164,7 @@ module _ (files : Files) (marks : List Bool) (items : List Item) (its : Items) (
   abbrev spots : List Spot
   spots = (layout_of w items).spots
 
-  label_at : (i : ℕ) (s : Spot) → slice_get spots i ≡ Some s → its.is_node i ≡ labels_are.is_node s.label.kind
+  label_at : (i : ℕ) (s : Spot) → slice_get spots i ≡ Some s → its.is_node i ≡ kinds_are.is_node s.label.kind
   label_at i s at =
       tells.told.node i ∙ ap is_some_node (slice_get-map (λ (z : Spot). z.label) spots i ∙ ap (option_map (λ (z : Spot). z.label)) at)
 

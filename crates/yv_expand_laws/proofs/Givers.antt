@@ -68,7 +68,8 @@ first_or_later : (P : ℕ → Type 0) (g : ℕ) → P g → (first : Spot) (othe
 first_or_later P g here first others group later zero s at = subst P (sym group ∙ ap (λ (z : Spot). z.group) (same_Some first s at)) here
 first_or_later P g here first others group later (suc j) s at = later j s at
 
--- in a block stand no groups but that of the block, those of items, and those of copies of augments of uses
+-- in a block stand no groups but that of the block, those of items, and those of copies of augments
+-- of uses
 module _ (labels : List Label) (P : ℕ → Type 0) (most : ℕ) (of_items : (x : ℕ) → x ≤ length labels → P x) (of_copies : (k : ℕ) → most ≤ k → P (group_of_augment labels k)) where
   mutual
     pub groups_of : (g : ℕ) → P g → {lo hi c e : ℕ} (b : Block lo hi c e) → hi ≤ length labels → most ≤ c → (spots : List Spot) → Lie labels g b spots → (j : ℕ) (s : Spot)

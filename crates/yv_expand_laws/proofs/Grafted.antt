@@ -1,4 +1,5 @@
--- What stands in the final tree stood at the top before the rounds, or in what an augment of a module gives that adds to a node.
+-- What stands in the final tree stood at the top before the rounds, or in what an augment of a
+-- module gives that adds to a node.
 use Rattle.std.proofs.Common.{◌⊎◌, inl, inr, ◌≡◌, ◌≢◌, ℕ, zero, suc, ◌+◌, ◌<◌, ◌≤◌, ◌==◌, if◌then◌else◌, Bool, true, false, List, [], ◌∷◌, length, set, get_or, refl, sym, ◌∙◌, ap, subst, arith, Option, Some, None}
 use Rattle.std.specs.List.{Contains, slice_get}
 use Rattle.std.specs.Option.{option_and_then}
@@ -21,7 +22,7 @@ use Rattle.yv_expand_rounds.specs.Tree.Make.{no_items as none_made, one_more as 
 use Rattle.yv_expand_rounds.specs.Turns.{State, give, is_applied, is_some, is_some_target, settle, target, target_of, turn}
 use Rattle.yv_expand_augments.specs.AugmentOrder.{augments_giving}
 use Rattle.yv_expand_augments.specs.Augmentation.{copy_turn, last_of, module_paths, path_in, placement, placed_from, turns_from}
-use Rattle.yv_expand_augments.specs.Kinds.{is_uses}
+use Rattle.yv_expand_rounds.specs.Kinds.{is_uses}
 use Rattle.yv_expand_augments.specs.Spots.{LayoutView, Whole, labels_of, layout_of, laid_from, one_more, spot_of}
 use Rattle.yv_expand_augments.specs.declared.spot.Spot.{Spot}
 use Rattle.yv_expand_augments.proofs.Entering.{whole_entered}

@@ -12,19 +12,20 @@ use Rattle.yv_link_scopes.specs.Files.{Files, brief_of}
 use Rattle.yv_link_scopes.specs.RowList.{rows_of}
 use Rattle.yv_link_scopes.specs.Rows.{Row}
 use Rattle.yv_expand.specs.Tree.{Item}
-use Rattle.yv_expand.specs.declared.item.Origin.{Origin}
+use Rattle.yv_expand.specs.declared.origin.Origin.{Origin}
 use Rattle.yv_expand.specs.Expansion.{IsWhole}
-use Rattle.yv_expand_rounds.specs.declared.label.ItemKind.{ItemKind}
+use Rattle.yv_expand_rounds.specs.declared.statement_kind.StatementKind.{StatementKind}
 use Rattle.yv_expand_rounds.specs.declared.label.Label.{Label}
 use Rattle.yv_expand_rounds.specs.declared.row.ItemRow.{ItemRow}
-use Rattle.yv_expand_rounds.specs.Labels as labels_are
+use Rattle.yv_expand_rounds.specs.Kinds as kinds_are
 use Rattle.yv_expand_rounds.specs.Tree.{IsTree, Tree, item, tree_list}
 use Rattle.yv_expand_rounds.specs.Tree as by_number
 use Rattle.yv_expand_augments.specs.Ends.{end_at}
 use Rattle.yv_expand_augments.specs.Augmentation.{AreAugmented}
-use Rattle.yv_expand_augments.specs.MandatoryNodes.{Around, ImposesMandatory, MarksView, source_of, inside, is_container, is_container_without, is_given, is_operation_or_notification, is_some_operation, nothing_around}
+use Rattle.yv_expand_augments.specs.MandatoryNodes.{Around, ImposesMandatory, MarksView, source_of, inside, is_container_without, is_given, is_some_operation, nothing_around}
+use Rattle.yv_expand_rounds.specs.Kinds.{is_container, is_operation_or_notification, is_uses}
 use Rattle.yv_expand_augments.specs.MandatoryNodes as by_item
-use Rattle.yv_expand_augments.specs.Kinds.{is_uses, kind_of}
+use Rattle.yv_expand_augments.specs.Kinds.{kind_of}
 use Rattle.yv_expand_augments.specs.RefineTargets.{refined_all}
 use Rattle.yv_expand_augments.specs.Spots.{Whole, source_in, labels_of, layout_of, spot_at, whole}
 use Rattle.yv_expand_augments.specs.declared.spot.Spot.{Spot}
@@ -147,7 +148,7 @@ module _ (files : Files) (marks : List Bool) (order : List ℕ) (own : ℕ) (ite
         ap (λ (b : Bool). b || (is_container_without (told.presence i) (slice_get spots i) && has)) mandatory_is
         ∙ (ap (λ o. is_mandatory (by_node.said_of files g) || (is_container_without (told.presence i) o && has)) t.spot
         ∙ (ap (λ (b : Bool). is_mandatory (by_node.said_of files g) || ((is_container t.s.label.kind && not b) && has)) presence_is
-        ∙ (ap (λ (k : ItemKind). is_mandatory (by_node.said_of files g) || ((is_container k && not (by_node.said_of files g).presence) && has)) (sym kind_here)
+        ∙ (ap (λ (k : StatementKind). is_mandatory (by_node.said_of files g) || ((is_container k && not (by_node.said_of files g).presence) && has)) (sym kind_here)
         ∙ ap (λ (b : Bool). is_mandatory (by_node.said_of files g) || b) (shape (is_container g.kind) (not (by_node.said_of files g).presence) has))))
       where
         shape : (a b c : Bool) → ((a && b) && c) ≡ (a && b && c)
@@ -166,8 +167,8 @@ module _ (files : Files) (marks : List Bool) (order : List ℕ) (own : ℕ) (ite
         ap (λ (b : Bool). b || (is_container_without (told.presence i) (slice_get spots i) && has)) (mandatory_is ∙ silent)
         ∙ (ap (λ o. is_container_without (told.presence i) o && has) t.spot ∙ no_container t.s.label.kind of_uses (told.presence i))
       where
-        no_container : (k : ItemKind) → is_uses k ≡ true → (p : Bool) → ((is_container k && not p) && has) ≡ false
-        no_container k is p = ap (λ (z : ItemKind). (is_container z && not p) && has) (uses_only k is)
+        no_container : (k : StatementKind) → is_uses k ≡ true → (p : Bool) → ((is_container k && not p) && has) ≡ false
+        no_container k is p = ap (λ (z : StatementKind). (is_container z && not p) && has) (uses_only k is)
 
         unchanged : g.refines ≡ []
         unchanged =
@@ -197,7 +198,7 @@ module _ (files : Files) (marks : List Bool) (order : List ℕ) (own : ℕ) (ite
   flipped true h = refl
   flipped false h = absurd (false≢true (sym h))
 
-  label_at : (i : ℕ) (t : IsThere i) → its.is_node i ≡ labels_are.is_node t.s.label.kind
+  label_at : (i : ℕ) (t : IsThere i) → its.is_node i ≡ kinds_are.is_node t.s.label.kind
   label_at i t =
       tells.told.node i ∙ ap is_some_node (slice_get-map (λ (z : Spot). z.label) spots i ∙ ap (option_map (λ (z : Spot). z.label)) t.spot)
 
@@ -240,7 +241,7 @@ module _ (files : Files) (marks : List Bool) (order : List ℕ) (own : ℕ) (ite
         ap (λ o. unwrap_or o a.is_config) (config_is i t) ∙ ap (unwrap_or (by_node.said_of files (its.node_of i)).config) r.config;
     operation =
         ap (λ o. is_some_operation o || a.in_operation) t.spot
-        ∙ (ap (λ (k : ItemKind). is_operation_or_notification k || a.in_operation) (sym (kind_here i t)) ∙ ap (λ (b : Bool). is_operation_or_notification (its.node_of i).kind || b) r.operation);
+        ∙ (ap (λ (k : StatementKind). is_operation_or_notification k || a.in_operation) (sym (kind_here i t)) ∙ ap (λ (b : Bool). is_operation_or_notification (its.node_of i).kind || b) r.operation);
     above = inr (i, outer, t, refl, refl);
   }
 

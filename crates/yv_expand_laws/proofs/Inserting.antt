@@ -1,4 +1,5 @@
--- What an augment of a module gives stands among what is there by the order of items as it does by that of nodes.
+-- What an augment of a module gives stands among what is there by the order of items as it does by
+-- that of nodes.
 use Rattle.std.proofs.Common.{◌⊎◌, inl, inr, ◌≡◌, ℕ, ◌+◌, Bool, true, false, if◌then◌else◌, List, [], ◌∷◌, ◌++◌, refl, sym, ◌∙◌, ap, subst, Some}
 use Rattle.std.specs.List.{Contains}
 use Rattle.std.proofs.lemmas.Bool.{false≢true}
@@ -15,7 +16,8 @@ use Rattle.yv_expand_laws.proofs.Showing.{first_or}
 use Rattle.yv_expand_laws.proofs.Walking.{not_so}
 use Rattle.yv_expand_laws.proofs.Standing.{ascend_joined, either, or_cases, or_left, or_none, or_right, stands_joined, stands_wider}
 
--- what is told of items but which node one shows: where this is told alike of all that are owned, they show the same
+-- what is told of items but which node one shows: where this is told alike of all that are owned,
+-- they show the same
 pub stands_by : (groups : Groups) (its new : Items) → new.given ≡ its.given → ((i : ℕ) → new.is_node i ≡ its.is_node i) → {owns : ℕ → Bool} {items : List ℕ} {f : Forest}
     → ((i : ℕ) → owns i ≡ true → new.node_of i ≡ its.node_of i) → Stand its groups owns items f → Stand new groups owns items f
 stands_by groups its new marks nodes same none_stand = none_stand
@@ -25,7 +27,8 @@ stands_by groups its new marks nodes {owns = owns} same (shown_node {i = i} {ite
     (shown_node low rest (nodes i ∙ is_node) s (subst (λ given. Orders given (Contains (members_of groups (i + 1))) items) (sym marks) o)
     (stands_by groups its new marks nodes (λ j h. same j (s.below_in j h)) B) (stands_by groups its new marks nodes (λ j h. same j (s.behind_in j h)) F))
 
--- where the first items of a block are told to be given by an augment, and others as before, they show what the augment gives
+-- where the first items of a block are told to be given by an augment, and others as before, they
+-- show what the augment gives
 pub given_shown : (groups : Groups) (a : ℕ) (its new : Items) → new.given ≡ its.given → ((i : ℕ) → new.is_node i ≡ its.is_node i) → {owns : ℕ → Bool} {items : List ℕ} {f : Forest}
     → ((i : ℕ) → Contains items i → new.node_of i ≡ record (its.node_of i) { giver = Some a })
     → ((x i : ℕ) → owns x ≡ true → Contains (members_of groups (x + 1)) i → new.node_of i ≡ its.node_of i) → Stand its groups owns items f

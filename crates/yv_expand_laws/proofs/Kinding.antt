@@ -15,15 +15,13 @@ use Rattle.yv_link_scopes.specs.declared.kind.NameKind.TheVariants.{Prefix, Incl
 use Rattle.yv_link_definitions.specs.BuiltIn.{is_among, is_built_in}
 use Rattle.yv_link_definitions.specs.Refers.{RefersTo, is_type, is_uses, names_definition}
 use Rattle.yv_expand.specs.Units.{nodes, operations}
-use Rattle.yv_expand.specs.Weigh.{block_of}
-use Rattle.yv_expand.specs.declared.item.Origin.TheVariants.{Input, Output}
-use Rattle.yv_expand.specs.Expands.{input_of, is_at, is_augment, is_input, is_item, is_operation, is_output, output_of, part}
-use Rattle.yv_expand_rounds.specs.Labels.{is_node}
-use Rattle.yv_expand_rounds.specs.declared.label.ItemKind.{ItemKind}
-use Rattle.yv_expand_rounds.specs.declared.label.ItemKind.TheVariants as kind
-use Rattle.yv_expand_augments.specs.Kinds.{kind_of_keyword}
+use Rattle.yv_expand.specs.StatementBlocks.{block_of, input_of, is_at, is_augment, is_input, is_node_or_uses, is_operation, is_output, output_of, part, is_refine}
+use Rattle.yv_expand.specs.declared.origin.Origin.TheVariants.{Input, Output}
+use Rattle.yv_expand_rounds.specs.Kinds.{is_node, kind_of_keyword}
+use Rattle.yv_expand_rounds.specs.declared.statement_kind.StatementKind.{StatementKind}
+use Rattle.yv_expand_rounds.specs.declared.statement_kind.StatementKind.TheVariants as kind
 use Rattle.yv_expand_augments.specs.Kinds as kinds
-use Rattle.yv_expand_augments.specs.RefineTargets.{is_refine}
+use Rattle.yv_expand_rounds.specs.Kinds as kinds_are
 use Rattle.yv_expand_laws.specs.ItemProperties.{name_at, name_of}
 use Rattle.yv_expand_laws.proofs.Choosing.{first_passes, row_at}
 
@@ -53,7 +51,7 @@ left_is true b h = refl
 left_is false b h = h
 
 abbrev IsKind : List ℕ → Type 0
-IsKind word = (kd : ItemKind) × (kind_of_keyword word ≡ Some kd) × (kinds.is_uses kd ≡ bytes_eq word (codes "uses"))
+IsKind word = (kd : StatementKind) × (kind_of_keyword word ≡ Some kd) × (kinds_are.is_uses kd ≡ bytes_eq word (codes "uses"))
 
 nodes_are : Each IsKind nodes
 unfolding kind_of_keyword
@@ -82,30 +80,30 @@ unfolding kind_of_keyword
 operations_are = ((kind.Rpc, refl, refl), ((kind.Action, refl, refl), tt))
 
 -- an item is of a kind
-pub item_kind : (r : Row) → is_item r ≡ true → (kd : ItemKind) × (kind_of_keyword r.head.keyword ≡ Some kd) × (kinds.is_uses kd ≡ is_uses r)
-unfolding is_item
+pub item_kind : (r : Row) → is_node_or_uses r ≡ true → (kd : StatementKind) × (kind_of_keyword r.head.keyword ≡ Some kd) × (kinds_are.is_uses kd ≡ is_uses r)
+unfolding is_node_or_uses
 item_kind r h = elim (either_is (is_among nodes r.head.keyword) (is_among operations r.head.keyword) h) [
   | inl a ↦ among_all IsKind nodes r.head.keyword nodes_are a
   | inr b ↦ among_all IsKind operations r.head.keyword operations_are b
 ]
 
 -- an operation is an item, and no uses
-pub operation_item : (r : Row) → is_operation r ≡ true → (is_item r ≡ true) × (is_uses r ≡ false)
-unfolding is_item is_operation
+pub operation_item : (r : Row) → is_operation r ≡ true → (is_node_or_uses r ≡ true) × (is_uses r ≡ false)
+unfolding is_node_or_uses is_operation
 operation_item r h = (
   right_is (is_among nodes r.head.keyword) (is_among operations r.head.keyword) h,
   among_all (λ word. bytes_eq word (codes "uses") ≡ false) operations r.head.keyword (refl, (refl, tt)) h,
 )
 
-no_type : (r : Row) → is_item r ≡ true → is_type r ≡ false
-unfolding is_item
+no_type : (r : Row) → is_node_or_uses r ≡ true → is_type r ≡ false
+unfolding is_node_or_uses
 no_type r h = elim (either_is (is_among nodes r.head.keyword) (is_among operations r.head.keyword) h) [
   | inl a ↦ among_all (λ word. bytes_eq word (codes "type") ≡ false) nodes r.head.keyword (refl, (refl, (refl, (refl, (refl, (refl, (refl, (refl, (refl, (refl, tt)))))))))) a
   | inr b ↦ among_all (λ word. bytes_eq word (codes "type") ≡ false) operations r.head.keyword (refl, (refl, tt)) b
 ]
 
 -- what is no uses is a node
-pub node_is : (k : ItemKind) → is_node k ≡ not (kinds.is_uses k)
+pub node_is : (k : StatementKind) → is_node k ≡ not (kinds_are.is_uses k)
 node_is kind.Uses = refl
 node_is kind.Container = refl
 node_is kind.Leaf = refl
@@ -121,7 +119,7 @@ node_is kind.Input = refl
 node_is kind.Output = refl
 node_is kind.Notification = refl
 
-pub uses_only : (k : ItemKind) → kinds.is_uses k ≡ true → k ≡ kind.Uses
+pub uses_only : (k : StatementKind) → kinds_are.is_uses k ≡ true → k ≡ kind.Uses
 uses_only kind.Uses h = refl
 uses_only kind.Container h = absurd (false≢true h)
 uses_only kind.Leaf h = absurd (false≢true h)
@@ -138,9 +136,9 @@ uses_only kind.Output h = absurd (false≢true h)
 uses_only kind.Notification h = absurd (false≢true h)
 
 -- the kind of a numbered statement that is an item
-pub statement_kind : (rows : List Row) (k : ℕ) (r : Row) → slice_get rows k ≡ Some r → is_item r ≡ true → kinds.is_uses (kinds.kind_at (slice_get rows k)) ≡ is_uses r
+pub statement_kind : (rows : List Row) (k : ℕ) (r : Row) → slice_get rows k ≡ Some r → is_node_or_uses r ≡ true → kinds_are.is_uses (kinds.kind_at (slice_get rows k)) ≡ is_uses r
 statement_kind rows k r at item =
-    (let kd = item_kind r item in ap (λ o. kinds.is_uses (kinds.kind_at o)) at ∙ (ap (λ o. kinds.is_uses (unwrap_or o kind.Uses)) kd.1 ∙ kd.2))
+    (let kd = item_kind r item in ap (λ o. kinds_are.is_uses (kinds.kind_at o)) at ∙ (ap (λ o. kinds_are.is_uses (unwrap_or o kind.Uses)) kd.1 ∙ kd.2))
 
 input_kind : kind_of_keyword (codes "input") ≡ Some kind.Input
 unfolding kind_of_keyword
@@ -150,15 +148,15 @@ output_kind : kind_of_keyword (codes "output") ≡ Some kind.Output
 unfolding kind_of_keyword
 output_kind = refl
 
-pub input_no_uses : (r : Row) → is_input r ≡ true → kinds.is_uses (kinds.kind_at (Some r)) ≡ false
+pub input_no_uses : (r : Row) → is_input r ≡ true → kinds_are.is_uses (kinds.kind_at (Some r)) ≡ false
 input_no_uses r h =
-    ap (λ word. kinds.is_uses (unwrap_or (kind_of_keyword word) kind.Uses)) ((bytes_eq-Decides r.head.keyword (codes "input")).0 h)
-    ∙ ap (λ o. kinds.is_uses (unwrap_or o kind.Uses)) input_kind
+    ap (λ word. kinds_are.is_uses (unwrap_or (kind_of_keyword word) kind.Uses)) ((bytes_eq-Decides r.head.keyword (codes "input")).0 h)
+    ∙ ap (λ o. kinds_are.is_uses (unwrap_or o kind.Uses)) input_kind
 
-pub output_no_uses : (r : Row) → is_output r ≡ true → kinds.is_uses (kinds.kind_at (Some r)) ≡ false
+pub output_no_uses : (r : Row) → is_output r ≡ true → kinds_are.is_uses (kinds.kind_at (Some r)) ≡ false
 output_no_uses r h =
-    ap (λ word. kinds.is_uses (unwrap_or (kind_of_keyword word) kind.Uses)) ((bytes_eq-Decides r.head.keyword (codes "output")).0 h)
-    ∙ ap (λ o. kinds.is_uses (unwrap_or o kind.Uses)) output_kind
+    ap (λ word. kinds_are.is_uses (unwrap_or (kind_of_keyword word) kind.Uses)) ((bytes_eq-Decides r.head.keyword (codes "output")).0 h)
+    ∙ ap (λ o. kinds_are.is_uses (unwrap_or o kind.Uses)) output_kind
 
 -- a statement of one word is none of another
 other_word : (r : Row) (u v : List ℕ) → has_word u r.head ≡ true → bytes_eq u v ≡ false → has_word v r.head ≡ false
@@ -202,7 +200,7 @@ output_is rows k = by (output_of rows k) refl
         )
 
 -- an item that refers to a definition is a uses, and that is no augment
-pub refers_uses : (files : Briefs) (rows : List Row) (k d : ℕ) (r : Row) → slice_get rows k ≡ Some r → is_item r ≡ true → RefersTo files rows k d
+pub refers_uses : (files : Briefs) (rows : List Row) (k d : ℕ) (r : Row) → slice_get rows k ≡ Some r → is_node_or_uses r ≡ true → RefersTo files rows k d
     → (is_uses r ≡ true) × ((q : Row) × (slice_get rows d ≡ Some q) × (is_augment q ≡ false))
 refers_uses files rows k d r at item (name_kind, R) = by name_kind (ap (names_definition name_kind) (sym same) ∙ R.names) R.means
   where

@@ -51,7 +51,8 @@ not_true false e = refl
 pub from_left : (a b : Bool) → a ≡ true → b ≡ true → (a && b) ≡ true
 from_left a b p q = ap (λ (c : Bool). c && b) p ∙ q
 
--- where a node of a name stands one is found, and none of the name comes before the one that is found
+-- where a node of a name stands one is found, and none of the name comes before the one that is
+-- found
 pub first_is : (given : ℕ → Bool) (labels : List Label) (name : ℕ) → ((i : ℕ) → given i ≡ is_given labels i) → (xs : List ℕ) (j : ℕ) → Contains xs j
     → is_named labels name j ≡ true → (first_named labels name xs ≡ None → ⊥) × ((i : ℕ) → first_named labels name xs ≡ Some i → comes_before given j i ≡ false)
 first_is given labels name marks xs j there ok = by (is_given labels j) refl (least own xs) refl

@@ -22,7 +22,8 @@ use Rattle.yv_expand_augments.specs.RefineTargets.{refined_all}
 use Rattle.yv_expand_augments.specs.Spots.{Whole, labels_of, layout_of, whole}
 use Rattle.yv_expand_augments.specs.declared.spot.Spot.{Spot}
 use Rattle.yv_expand_changes.specs.Changes.{all_changes}
-use Rattle.yv_expand_changes.specs.IfFeatures.{Truth, item_marks, statement_marks}
+use Rattle.yv_expand_changes.specs.Truth.{Truth}
+use Rattle.yv_expand_changes.specs.IfFeatures.{item_marks, statement_marks}
 use Rattle.yv_expand_tree.specs.FileOrder.{marks_of, order_of}
 use Rattle.yv_expand_tree.specs.Remains.{nodes_of}
 use Rattle.yv_expand_definition.specs.Remains.{remains}

@@ -7,16 +7,16 @@ use Rattle.std.proofs.lemmas.Option.{same_Some}
 use Rattle.yv_link_scopes.specs.Rows.{Row}
 use Rattle.yv_expand.specs.Origin.{number_of}
 use Rattle.yv_expand.specs.Tree.{Item, Tree, count, item, join, item_list, none}
-use Rattle.yv_expand.specs.declared.item.Origin.{Origin}
-use Rattle.yv_expand.specs.declared.item.Origin.TheVariants.{Statement, Input, Output}
+use Rattle.yv_expand.specs.declared.origin.Origin.{Origin}
+use Rattle.yv_expand.specs.declared.origin.Origin.TheVariants.{Statement, Input, Output}
 use Rattle.yv_link_definitions.specs.Refers as refers
 use Rattle.yv_link_definitions.specs.Refers.{RefersTo}
-use Rattle.yv_expand.specs.Weigh.{block_of}
+use Rattle.yv_expand.specs.StatementBlocks.{block_of, first_of, input_of, is_at, is_input, is_node_or_uses, is_operation, is_output, output_of, part, part_block}
 use Rattle.yv_expand_rounds.specs.declared.label.Label.{Label}
-use Rattle.yv_expand.specs.Expands.{first_of, input_of, is_at, is_input, is_item, is_operation, is_output, output_of, part, part_block}
 use Rattle.yv_expand_augments.specs.AugmentOrder.{augments_giving}
 use Rattle.yv_expand_augments.specs.Augmentation.{path_in}
-use Rattle.yv_expand_augments.specs.Kinds.{is_uses, kind_at, kind_of}
+use Rattle.yv_expand_rounds.specs.Kinds.{is_uses}
+use Rattle.yv_expand_augments.specs.Kinds.{kind_at, kind_of}
 use Rattle.yv_expand_augments.specs.Spots.{LayoutView, Whole, copies_of, group_below, laid_from, spot_at, spot_of, used_group}
 use Rattle.yv_expand_augments.specs.declared.spot.Spot.{Spot}
 use Rattle.yv_expand_laws.specs.Blocks.{Augments, Block, augment, no_augments, uses}
@@ -149,8 +149,9 @@ module _ (w : Whole) (labels : List Label) where
     );
   })
 
-  -- Each statement gives a part of the items: whatever they are laid behind, those of the part lie in a block of the group in which the
-  -- statement puts them. A statement that is no item gives none.
+  -- Each statement gives a part of the items: whatever they are laid behind, those of the part lie
+  -- in a block of the group in which the statement puts them. A statement that is no item gives
+  -- none.
   abbrev pub PartLies : (k : ℕ) → Tree → Type 0
   PartLies k t =
       (l : LayoutView) (parent : Option ℕ) (g n hi c : ℕ) → length l.spots ≡ n → l.copies ≡ c → n + count t ≡ hi → ((p : ℕ) → parent ≡ Some p → p < n)
@@ -158,7 +159,7 @@ module _ (w : Whole) (labels : List Label) where
 
   pub record Part (k : ℕ) (t : Tree) : Type 0 where
     pub lies : PartLies k t
-    pub nothing : (r : Row) → slice_get w.rows k ≡ Some r → is_item r ≡ false → t ≡ none
+    pub nothing : (r : Row) → slice_get w.rows k ≡ Some r → is_node_or_uses r ≡ false → t ≡ none
 
   pub data Parts : List ℕ → Tree → Type 0 where
     no_parts : Parts [] none
@@ -217,13 +218,13 @@ module _ (w : Whole) (labels : List Label) where
       )
 
   -- the part that a statement gives which is no operation and no uses
-  pub node_part : (k : ℕ) (r : Row) (below : Tree) → slice_get w.rows k ≡ Some r → is_item r ≡ true → refers.is_uses r ≡ false → Parts (block_of w.rows k) below
+  pub node_part : (k : ℕ) (r : Row) (below : Tree) → slice_get w.rows k ≡ Some r → is_node_or_uses r ≡ true → refers.is_uses r ≡ false → Parts (block_of w.rows k) below
       → Part k (item (Statement k) below none)
   node_part k r below at is_one no_uses P = record {
     lies = λ l parent g n hi c long copies ends less group.
         own_lies (Statement k) below (below_lies P) (statement_kind w.rows k r at is_one ∙ no_uses) l parent g n hi c long copies ends
         (ap (λ o. group_below w o parent (spot_at l.spots parent)) at ∙ group r at);
-    nothing = λ q row none_is. absurd (false≢true (sym none_is ∙ (ap is_item (same_Some q r (sym row ∙ at)) ∙ is_one)));
+    nothing = λ q row none_is. absurd (false≢true (sym none_is ∙ (ap is_node_or_uses (same_Some q r (sym row ∙ at)) ∙ is_one)));
   }
 
   -- an operation's input and output
@@ -260,5 +261,5 @@ module _ (w : Whole) (labels : List Label) where
         (part_no_uses (Input k) is_input (block_of w.rows k) refl input_no_uses) (part_no_uses (Output k) is_output (block_of w.rows k) refl output_no_uses))
         (statement_kind w.rows k r at (operation_item r is_one).0 ∙ (operation_item r is_one).1) l parent g n hi c long copies ends
         (ap (λ o. group_below w o parent (spot_at l.spots parent)) at ∙ group r at);
-    nothing = λ q row none_is. absurd (false≢true (sym none_is ∙ (ap is_item (same_Some q r (sym row ∙ at)) ∙ (operation_item r is_one).0)));
+    nothing = λ q row none_is. absurd (false≢true (sym none_is ∙ (ap is_node_or_uses (same_Some q r (sym row ∙ at)) ∙ (operation_item r is_one).0)));
   }

@@ -1,4 +1,5 @@
--- Items that are laid behind others: where those that follow have entered, and what is told of items then.
+-- Items that are laid behind others: where those that follow have entered, and what is told of
+-- items then.
 use Rattle.std.proofs.Common.{inl, inr, ◌≡◌, ℕ, zero, suc, ◌+◌, ◌-◌, ◌<◌, ◌≤◌, nat_le, Bool, true, false, if◌then◌else◌, List, [], ◌∷◌, ◌++◌, length, map, drop, length-append, append_assoc, refl, sym, ◌∙◌, ap, subst, arith, Option, Some, None}
 use Rattle.std.specs.List.{slice_get}
 use Rattle.std.specs.Option.{is_some}
@@ -139,7 +140,8 @@ module _ (files : Files) (augments : List ℕ) (many : ℕ) (items : List Item) 
     pub empty : (x : ℕ) → n < x → x ≤ hi → members_of st.groups x ≡ []
     pub marks : HasMarks its.given (mark_of w) st
 
-  -- a block of items that are laid gives what their statements give, and at its items that is refused which is refused of these
+  -- a block of items that are laid gives what their statements give, and at its items that is
+  -- refused which is refused of these
   abbrev pub Makes : {l : LayoutView} {these : List Item} {g n hi c e : ℕ} → Lies w labels l these g n hi c e → (Product → Type 0) → Type 0
   Makes {l = l} {these = these} {g = g} {n = n} {hi = hi} {c = c} {e = e} F G =
       (m : Product) (behind : List Item) (rest : List Spot) → G m → IsHere l these behind n c F.new rest → MayRun g n hi c e (state hi rest)

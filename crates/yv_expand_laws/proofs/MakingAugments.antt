@@ -7,9 +7,8 @@ use Rattle.yv_statement.specs.declared.refusal.Code.TheVariants as code
 use Rattle.yv_link_scopes.specs.Files.{Files, brief_of, has_word}
 use Rattle.yv_link_scopes.specs.RowList.{rows_of}
 use Rattle.yv_link_scopes.specs.Rows.{Row}
-use Rattle.yv_expand.specs.Weigh.{block_of}
+use Rattle.yv_expand.specs.StatementBlocks.{block_of, is_augment, is_node_or_uses}
 use Rattle.yv_expand.specs.Tree.{Item, Tree, count, join, item_list, none}
-use Rattle.yv_expand.specs.Expands.{is_augment, is_item}
 use Rattle.yv_expand_rounds.specs.declared.label.Label.{Label}
 use Rattle.yv_expand_rounds.specs.Groups.{group_of_augment, members_of}
 use Rattle.yv_expand_rounds.specs.Turns.{State}
@@ -17,7 +16,7 @@ use Rattle.yv_expand_augments.specs.Ends.{end_at}
 use Rattle.yv_expand_augments.specs.AugmentOrder.{augments_giving, is_giving, ordinal}
 use Rattle.yv_expand_augments.specs.Augmentation.{path_in, placed_from}
 use Rattle.yv_expand_augments.specs.InnerEnds.{is_from_at}
-use Rattle.yv_expand_augments.specs.Kinds.{is_uses}
+use Rattle.yv_expand_rounds.specs.Kinds.{is_uses}
 use Rattle.yv_expand_augments.specs.Placement.{augment_at}
 use Rattle.yv_expand_augments.specs.RefineTargets.{refined_from}
 use Rattle.yv_expand_augments.specs.Spots.{LayoutView, Whole, copy_group, module_file_below, labels_of, layout_of, laid_from, whole}
@@ -92,7 +91,8 @@ module _ (files : Files) (augments : List ℕ) (many : ℕ) (items : List Item) 
           pub marks : HasMarks its.given (mark_of w) st
           pub marked : AllMarked labels its.given (mark_of w) augs
 
-        -- they add to nodes what the augments do, and at their items that is refused which is refused of these
+        -- they add to nodes what the augments do, and at their items that is refused which is
+        -- refused of these
         abbrev pub AllMakes : {l : LayoutView} {these : List Item} {n hi c e k own : ℕ} {paths : List (List ℕ)} → AllLies w labels l these n hi c e k own paths → (augments : List ℕ) → Spot
             → (under : List ℕ) → Type 0
         AllMakes {l = l} {these = these} {n = n} {hi = hi} {c = c} {e = e} {k = k} {own = own} F adding s under =
@@ -108,12 +108,12 @@ module _ (files : Files) (augments : List ℕ) (many : ℕ) (items : List Item) 
         parts_make_split (x ∷ xs) ys (one_part {t = t} P more) =
             let s = parts_make_split xs ys more in (join t s.0, s.1, ap (join t) s.2 ∙ sym (joined_assoc t s.0 s.1), one_part P s.3, s.4)
 
-        none_made : {ks : List ℕ} {t : Tree} → PartsMake files augments many items its facts each ks t → ((k : ℕ) → Contains ks k → (r : Row) × (slice_get w.rows k ≡ Some r) × (is_item r ≡ false)) → t ≡ none
+        none_made : {ks : List ℕ} {t : Tree} → PartsMake files augments many items its facts each ks t → ((k : ℕ) → Contains ks k → (r : Row) × (slice_get w.rows k ≡ Some r) × (is_node_or_uses r ≡ false)) → t ≡ none
         none_made no_parts all = refl
         none_made (one_part {k = k} {ks = ks} {u = u} P more) all =
             let r = all k (there_first k ks) in ap (λ x. join x u) (P.nothing r.0 r.1 r.2) ∙ none_made more (λ j h. all j (there_later k j ks h))
 
-        some_made : {ks : List ℕ} {t : Tree} → PartsMake files augments many items its facts each ks t → (k : ℕ) (r : Row) → Contains ks k → slice_get w.rows k ≡ Some r → is_item r ≡ true → 1 ≤ count t
+        some_made : {ks : List ℕ} {t : Tree} → PartsMake files augments many items its facts each ks t → (k : ℕ) (r : Row) → Contains ks k → slice_get w.rows k ≡ Some r → is_node_or_uses r ≡ true → 1 ≤ count t
         some_made no_parts k r there at is = absurd (nothing_stands k there)
         some_made (one_part {k = x} {ks = ks} {t = t} {u = u} P more) k r there at is = elim (first_or x ks k there) [
           | inl same ↦ (let a = count_joined t u in let b = P.some r (ap (slice_get w.rows) same ∙ at) is in omega (arith, a, b))
@@ -127,7 +127,7 @@ module _ (files : Files) (augments : List ℕ) (many : ℕ) (items : List Item) 
           -- an augment that gives no item
           quiet_makes : (a : ℕ) (others : List ℕ) (q : Row) → slice_get w.rows a ≡ Some q → is_augment q ≡ true → is_giving w.rows s.statement a ≡ false
               → {l : LayoutView} {these : List Item} {n hi c e k own : ℕ} {paths : List (List ℕ)} (F : AllLies w labels l these n hi c e k own paths)
-              → ((j : ℕ) (r : Row) → Contains (block_of w.rows a) j → slice_get w.rows j ≡ Some r → is_item r ≡ false) → AllMakes F others s round → AllMakes F (a ∷ others) s round
+              → ((j : ℕ) (r : Row) → Contains (block_of w.rows a) j → slice_get w.rows j ≡ Some r → is_node_or_uses r ≡ false) → AllMakes F others s round → AllMakes F (a ∷ others) s round
           quiet_makes a others q at_a is_aug quiet {n = n} F no_items later g m last behind rest aug here may = by aug
             where
               now : Items
@@ -318,7 +318,7 @@ module _ (files : Files) (augments : List ℕ) (many : ℕ) (items : List Item) 
                   → GivenMade (a ∷ others) l n hi c k own t (filter (is_giving w.rows s.statement) (a ∷ others))
               by false is x y whole_is A R later =
                   let q = augs a (there_first a others) in
-                  let no_items : (j : ℕ) (r : Row) → Contains (block_of w.rows a) j → slice_get w.rows j ≡ Some r → is_item r ≡ false =
+                  let no_items : (j : ℕ) (r : Row) → Contains (block_of w.rows a) j → slice_get w.rows j ≡ Some r → is_node_or_uses r ≡ false =
                   λ j r h row. (let b = block_scope w.rows a j h in
                   no_item w labels (each_label files augments many items its facts each) r (nothing_given w.rows s.statement a q.0 q.1 q.2 q.3 is j r row (ap (λ (z : Row). z.scope) (same_Some r b.0 (sym row ∙ b.1)) ∙ b.2))) in
                   let empty : x ≡ none = none_made A (λ j h. (let b = block_scope w.rows a j h in (b.0, b.1, no_items j b.0 h b.1))) in

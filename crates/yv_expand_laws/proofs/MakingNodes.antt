@@ -1,4 +1,5 @@
--- Items that are laid behind others lie in a block, which gives what their statements give: nodes, and operations with their parts.
+-- Items that are laid behind others lie in a block, which gives what their statements give: nodes,
+-- and operations with their parts.
 use Rattle.std.proofs.Common.{inl, ◌≡◌, ℕ, ◌+◌, ◌<◌, ◌≤◌, Bool, true, false, if◌then◌else◌, List, [], ◌∷◌, ◌++◌, length, map, drop, length-append, append_assoc, refl, sym, ◌∙◌, ap, subst, arith, codes, Option, Some, None}
 use Rattle.std.specs.List.{Contains, slice_get}
 use Rattle.std.specs.Option.{option_map, unwrap_or}
@@ -11,20 +12,20 @@ use Rattle.yv_link_scopes.specs.Rows.{Row}
 use Rattle.yv_link_definitions.specs.Refers as refers
 use Rattle.yv_link_definitions.specs.Refers.{RefersTo}
 use Rattle.yv_expand_paths.specs.Names.{node_name}
-use Rattle.yv_expand.specs.Weigh.{block_of}
+use Rattle.yv_expand.specs.StatementBlocks.{block_of, input_of, is_input, is_node_or_uses, is_operation, is_output, output_of, part as part_of, part_block}
 use Rattle.yv_expand.specs.Origin.{number_of}
 use Rattle.yv_expand.specs.Tree.{Item, Tree, count, item, join, item_list, none}
-use Rattle.yv_expand.specs.declared.item.Origin.{Origin}
-use Rattle.yv_expand.specs.declared.item.Origin.TheVariants.{Statement, Input, Output}
-use Rattle.yv_expand.specs.Expands.{input_of, is_input, is_item, is_operation, is_output, output_of, part as part_of, part_block}
-use Rattle.yv_expand_rounds.specs.declared.label.ItemKind.{ItemKind}
-use Rattle.yv_expand_rounds.specs.declared.label.ItemKind.TheVariants as kind
+use Rattle.yv_expand.specs.declared.origin.Origin.{Origin}
+use Rattle.yv_expand.specs.declared.origin.Origin.TheVariants.{Statement, Input, Output}
+use Rattle.yv_expand_rounds.specs.declared.statement_kind.StatementKind.{StatementKind}
+use Rattle.yv_expand_rounds.specs.declared.statement_kind.StatementKind.TheVariants as kind
 use Rattle.yv_expand_rounds.specs.declared.label.Label.{Label}
-use Rattle.yv_expand_rounds.specs.Labels as labels_are
+use Rattle.yv_expand_rounds.specs.Kinds as kinds_are
 use Rattle.yv_expand_rounds.specs.Turns.{State}
 use Rattle.yv_expand_augments.specs.Ends.{end_at}
 use Rattle.yv_expand_augments.specs.Augmentation.{placed_from}
-use Rattle.yv_expand_augments.specs.Kinds.{is_uses, kind_at, kind_of}
+use Rattle.yv_expand_rounds.specs.Kinds.{is_uses}
+use Rattle.yv_expand_augments.specs.Kinds.{kind_at, kind_of}
 use Rattle.yv_expand_augments.specs.RefineTargets.{node_meant, refined_from, refines_in}
 use Rattle.yv_expand_augments.specs.Spots.{LayoutView, Whole, group_below, module_file_below, labels_of, layout_of, spot_at, spot_of, whole}
 use Rattle.yv_expand_augments.specs.declared.spot.Spot.{Spot}
@@ -80,7 +81,7 @@ module _ (files : Files) (augments : List ℕ) (many : ℕ) (items : List Item) 
     abbrev pub made_of : Origin → (module_file : ℕ) → (under : List ℕ) → Node
     made_of o module_file under = record { origin = o; under = under; module_file = module_file; kind = kind_of w.rows o; name = name_of w.rows o; refines = []; giver = None }
 
-    node_is : (g : Node) (o : Origin) (u : List ℕ) (h : ℕ) (k : ItemKind) (n : List ℕ) → g.origin ≡ o → g.under ≡ u → g.module_file ≡ h → g.kind ≡ k → g.name ≡ n → g.giver ≡ None
+    node_is : (g : Node) (o : Origin) (u : List ℕ) (h : ℕ) (k : StatementKind) (n : List ℕ) → g.origin ≡ o → g.under ≡ u → g.module_file ≡ h → g.kind ≡ k → g.name ≡ n → g.giver ≡ None
         → (let made : Node = record { origin = o; under = u; module_file = h; kind = k; name = n; refines = []; giver = None } in record g { refines = [] } ≡ made)
     node_is g o u h k n origin under module_file kind name giver =
         ap (λ x. record g { refines = []; origin = x }) origin
@@ -122,7 +123,7 @@ module _ (files : Files) (augments : List ℕ) (many : ℕ) (items : List Item) 
     abbrev pub OwnGives : Origin → (ℕ → List ℕ → Product → Type 0) → ℕ → List ℕ → Product → Type 0
     OwnGives o G module_file under m = (b : Product) × G module_file under b × (m.nodes ≡ node (made_of o module_file under) b.nodes nodes.none) × (m.wrong ≡ b.wrong)
 
-    node_kind : (k : ItemKind) → is_uses k ≡ false → labels_are.is_node k ≡ true
+    node_kind : (k : StatementKind) → is_uses k ≡ false → kinds_are.is_node k ≡ true
     node_kind kind.Uses isnt = absurd (false≢true (sym isnt))
     node_kind kind.Container isnt = refl
     node_kind kind.Leaf isnt = refl
@@ -234,8 +235,8 @@ module _ (files : Files) (augments : List ℕ) (many : ℕ) (items : List Item) 
       pub makes : (l : LayoutView) (parent : Option ℕ) (g n hi c module_file : ℕ) (under : List ℕ) → length l.spots ≡ n → l.copies ≡ c → n + count t ≡ hi
           → ((p : ℕ) → parent ≡ Some p → p < n) → ((r : Row) → slice_get w.rows k ≡ Some r → StandsBelow (Some r) l parent g module_file under)
           → (e : ℕ) × (F : Lies w labels l (item_list parent n t) g n hi c e) × Makes files augments many items its F (Given (k ∷ []) module_file under)
-      pub nothing : (r : Row) → slice_get w.rows k ≡ Some r → is_item r ≡ false → t ≡ none
-      pub some : (r : Row) → slice_get w.rows k ≡ Some r → is_item r ≡ true → 1 ≤ count t
+      pub nothing : (r : Row) → slice_get w.rows k ≡ Some r → is_node_or_uses r ≡ false → t ≡ none
+      pub some : (r : Row) → slice_get w.rows k ≡ Some r → is_node_or_uses r ≡ true → 1 ≤ count t
 
     pub data PartsMake : List ℕ → Tree → Type 0 where
       no_parts : PartsMake [] none
@@ -303,14 +304,14 @@ module _ (files : Files) (augments : List ℕ) (many : ℕ) (items : List Item) 
     pub makes_for : {l : LayoutView} {these : List Item} {g n hi c e : ℕ} (F : Lies w labels l these g n hi c e) (G H : Product → Type 0) → ((m : Product) → H m → G m) → Makes files augments many items its F G → Makes files augments many items its F H
     makes_for F G H all makes m behind rest gives here may = makes m behind rest (all m gives) here may
 
-    pub node_makes : (k : ℕ) (r : Row) (under_it : Tree) → slice_get w.rows k ≡ Some r → is_item r ≡ true → is_operation r ≡ false → refers.is_uses r ≡ false
+    pub node_makes : (k : ℕ) (r : Row) (under_it : Tree) → slice_get w.rows k ≡ Some r → is_node_or_uses r ≡ true → is_operation r ≡ false → refers.is_uses r ≡ false
         → PartsMake (block_of w.rows k) under_it → PartMakes k (item (Statement k) under_it none)
     node_makes k r under_it at is_one no_operation no_uses P = record {
       makes = λ l parent g n hi c module_file under long all_copies ends less stands.
           (let a = own_makes (Statement k) under_it (Given (block_of w.rows k)) (below_make P) (statement_kind w.rows k r at is_one ∙ no_uses) l parent g n hi c module_file under
           long all_copies ends less (subst (λ o. StandsBelow o l parent g module_file under) (sym at) (stands r at)) in
           (a.0, a.1, makes_for a.1 (OwnGives (Statement k) (Given (block_of w.rows k)) module_file under) (Given (k ∷ []) module_file under) (gives_one module_file under) a.2));
-      nothing = λ q row none_is. absurd (false≢true (sym none_is ∙ (ap is_item (same_Some q r (sym row ∙ at)) ∙ is_one)));
+      nothing = λ q row none_is. absurd (false≢true (sym none_is ∙ (ap is_node_or_uses (same_Some q r (sym row ∙ at)) ∙ is_one)));
       some = λ q row is. omega arith;
     }
       where
@@ -318,11 +319,11 @@ module _ (files : Files) (augments : List ℕ) (many : ℕ) (items : List Item) 
         gives_one module_file under m gives = by gives
           where
             by : {m : Product} → Gives files module_file under (k ∷ []) m → OwnGives (Statement k) (Given (block_of w.rows k)) module_file under m
-            by (gives_other at' isnt e) = absurd (clash is_item w.rows k _ _ at' at isnt is_one)
+            by (gives_other at' isnt e) = absurd (clash is_node_or_uses w.rows k _ _ at' at isnt is_one)
             by (gives_node {r = q} {kd = kd} {below = below} at' is_item' o u known B gives_nothing) = (
               below,
               B,
-              ap (λ (z : ItemKind). node (record { origin = Statement k; under = under; module_file = module_file; kind = z; name = node_name q.head; refines = []; giver = None }) below.nodes nodes.none)
+              ap (λ (z : StatementKind). node (record { origin = Statement k; under = under; module_file = module_file; kind = z; name = node_name q.head; refines = []; giver = None }) below.nodes nodes.none)
                   (sym (ap kind_at at' ∙ ap (λ x. unwrap_or x kind.Uses) known))
                   ∙ ap (λ z. node (record { origin = Statement k; under = under; module_file = module_file; kind = kind_at (slice_get w.rows k); name = z; refines = []; giver = None }) below.nodes nodes.none)
                   (sym (ap name_at at')),
@@ -342,7 +343,7 @@ module _ (files : Files) (augments : List ℕ) (many : ℕ) (items : List Item) 
           (statement_kind w.rows k r at (operation_item r is_one).0 ∙ (operation_item r is_one).1) l parent g n hi c module_file under
           long all_copies ends less (subst (λ o. StandsBelow o l parent g module_file under) (sym at) (stands r at)) in
           (a.0, a.1, makes_for a.1 (OwnGives (Statement k) Both module_file under) (Given (k ∷ []) module_file under) (gives_one module_file under) a.2));
-      nothing = λ q row none_is. absurd (false≢true (sym none_is ∙ (ap is_item (same_Some q r (sym row ∙ at)) ∙ (operation_item r is_one).0)));
+      nothing = λ q row none_is. absurd (false≢true (sym none_is ∙ (ap is_node_or_uses (same_Some q r (sym row ∙ at)) ∙ (operation_item r is_one).0)));
       some = λ q row is. omega arith;
     }
       where
@@ -361,20 +362,20 @@ module _ (files : Files) (augments : List ℕ) (many : ℕ) (items : List Item) 
         in_is : (module_file : ℕ) (under : List ℕ) (b : Forest) → node (record { origin = in_origin; under = under; module_file = module_file; kind = kind.Input; name = codes "input"; refines = []; giver = None }) b nodes.none
             ≡ node (made_of in_origin module_file under) b nodes.none
         in_is module_file under b =
-            ap (λ (z : ItemKind). node (record { origin = in_origin; under = under; module_file = module_file; kind = z; name = codes "input"; refines = []; giver = None }) b nodes.none) (sym (input_is w.rows k).0)
+            ap (λ (z : StatementKind). node (record { origin = in_origin; under = under; module_file = module_file; kind = z; name = codes "input"; refines = []; giver = None }) b nodes.none) (sym (input_is w.rows k).0)
             ∙ ap (λ z. node (record { origin = in_origin; under = under; module_file = module_file; kind = kind_of w.rows in_origin; name = z; refines = []; giver = None }) b nodes.none) (sym (input_is w.rows k).1)
 
         out_is : (module_file : ℕ) (under : List ℕ) (b : Forest) → node (record { origin = out_origin; under = under; module_file = module_file; kind = kind.Output; name = codes "output"; refines = []; giver = None }) b nodes.none
             ≡ node (made_of out_origin module_file under) b nodes.none
         out_is module_file under b =
-            ap (λ (z : ItemKind). node (record { origin = out_origin; under = under; module_file = module_file; kind = z; name = codes "output"; refines = []; giver = None }) b nodes.none) (sym (output_is w.rows k).0)
+            ap (λ (z : StatementKind). node (record { origin = out_origin; under = under; module_file = module_file; kind = z; name = codes "output"; refines = []; giver = None }) b nodes.none) (sym (output_is w.rows k).0)
             ∙ ap (λ z. node (record { origin = out_origin; under = under; module_file = module_file; kind = kind_of w.rows out_origin; name = z; refines = []; giver = None }) b nodes.none) (sym (output_is w.rows k).1)
 
         gives_one : (module_file : ℕ) (under : List ℕ) (m : Product) → Given (k ∷ []) module_file under m → OwnGives (Statement k) Both module_file under m
         gives_one module_file under m gives = by gives
           where
             by : {m : Product} → Gives files module_file under (k ∷ []) m → OwnGives (Statement k) Both module_file under m
-            by (gives_other at' isnt e) = absurd (clash is_item w.rows k _ _ at' at isnt (operation_item r is_one).0)
+            by (gives_other at' isnt e) = absurd (clash is_node_or_uses w.rows k _ _ at' at isnt (operation_item r is_one).0)
             by (gives_node at' is_item' o u known B e) = absurd (clash is_operation w.rows k _ _ at' at o is_one)
             by (gives_operation {r = q} {kd = kd} {input = x} {output = y} at' is_item' o u known I' O' gives_nothing) =
                 let f : Forest = node (record { origin = in_origin; under = under; module_file = module_file; kind = kind.Input; name = codes "input"; refines = []; giver = None }) x.nodes nodes.none in
@@ -384,7 +385,7 @@ module _ (files : Files) (augments : List ℕ) (many : ℕ) (items : List Item) 
                 let two : Product = record { nodes = nodes.join f g; wrong = x.wrong ++ y.wrong } in (
                   two,
                   (a, b, (x, I', in_is module_file under x.nodes, refl), (y, O', out_is module_file under y.nodes, refl), refl, refl),
-                  ap (λ (z : ItemKind). node (record { origin = Statement k; under = under; module_file = module_file; kind = z; name = node_name q.head; refines = []; giver = None }) (nodes.join f g) nodes.none)
+                  ap (λ (z : StatementKind). node (record { origin = Statement k; under = under; module_file = module_file; kind = z; name = node_name q.head; refines = []; giver = None }) (nodes.join f g) nodes.none)
                       (sym (ap kind_at at' ∙ ap (λ x. unwrap_or x kind.Uses) known))
                       ∙ ap (λ z. node (record { origin = Statement k; under = under; module_file = module_file; kind = kind_at (slice_get w.rows k); name = z; refines = []; giver = None }) (nodes.join f g) nodes.none)
                       (sym (ap name_at at')),

@@ -8,7 +8,7 @@ use Rattle.std.proofs.lemmas.Option.{same_Some}
 use Rattle.yv_link_scopes.specs.Files.{Files, brief_of}
 use Rattle.yv_link_scopes.specs.RowList.{rows_of, statements_of}
 use Rattle.yv_link_scopes.specs.Rows.{Row}
-use Rattle.yv_expand_paths.specs.Paths.{has_path}
+use Rattle.yv_expand_paths.specs.InnerSteps.{has_path}
 use Rattle.yv_expand.specs.Origin.{number_of}
 use Rattle.yv_expand.specs.Tree.{Item}
 use Rattle.yv_expand_rounds.specs.declared.end.End.{End}
@@ -25,8 +25,7 @@ use Rattle.yv_expand_augments.specs.declared.spot.Spot.{Spot}
 use Rattle.yv_expand_changes.specs.Changes.{changes, is_change, is_fit_at_item, is_meant}
 use Rattle.yv_expand_changes.specs.AllowedRefines.{is_some_fit}
 use Rattle.yv_expand_refines.specs.Targets.{RefineMeaning}
-use Rattle.yv_expand_definition.specs.Gives.{Product, is_fit}
-use Rattle.yv_expand_definition.specs.Gives.{RefinesGive as AreRefined}
+use Rattle.yv_expand_definition.specs.Gives.{Product, is_fit, RefinesGive as AreRefined}
 use Rattle.yv_expand_definition.specs.Gives.RefinesGive.{none_left as refined_all, changes as refine_changes, unfit as refine_unfit, without_target as refine_misses}
 use Rattle.yv_expand_definition.specs.Nodes.{Forest, Node}
 use Rattle.yv_expand_definition.specs.Paths.{path_of}
@@ -185,8 +184,9 @@ module _ (files : Files) (augments : List ℕ) (many : ℕ) (items : List Item) 
             subst (λ z. (D : Comes labels (noted files spots its z) _ _ _ _ block f) × Same (λ x. Keeps D x) Q) (append_assoc refined (y ∷ []) (meant_all s n limit now ks))
             (r.0, same_then (λ x. Keeps r.0 x) P Q r.1 kept)
 
-        -- With its refines the block gives the nodes that are refined, and they mean items of it. Those are refused that are refused for what
-        -- they mean by number. The block keeps the same items.
+        -- With its refines the block gives the nodes that are refined, and they mean items of it.
+        -- Those are refused that are refused for what they mean by number. The block keeps the same
+        -- items.
         pub refines_come : (ks : List ℕ) → ((k : ℕ) → Contains ks k → (r : Row) × (slice_get (rows_of files) k ≡ Some r) × (has_path r ≡ true)) → {m last : Product}
             → AreRefined files s.module_file ks m last → (refined : List RefineMeaning) → (C : Comes labels (noted files spots its refined) _ _ _ _ block m.nodes)
             → RefinedSo ks last.nodes refined (λ x. Keeps C x) × Targets (λ i. i < mid) (meant_all s n limit now ks)

@@ -1,4 +1,5 @@
--- A uses gives what it copies, refined, with what its augments add; and so each statement gives what its items show.
+-- A uses gives what it copies, refined, with what its augments add; and so each statement gives
+-- what its items show.
 use Rattle.std.proofs.Common.{inl, inr, ◌≡◌, ◌≢◌, ℕ, ◌+◌, ◌<◌, ◌≤◌, ◌||◌, Bool, true, false, if◌then◌else◌, List, [], ◌∷◌, ◌++◌, length, map, drop, length-append, append_assoc, refl, sym, ◌∙◌, ap, subst, arith, codes, Option, Some, None}
 use Rattle.std.specs.List.{Contains, filter, slice_get}
 use Rattle.std.specs.Option.{option_map}
@@ -10,26 +11,27 @@ use Rattle.yv_link_scopes.specs.RowList.{rows_of}
 use Rattle.yv_link_scopes.specs.Rows.{Row}
 use Rattle.yv_link_definitions.specs.Refers as refers
 use Rattle.yv_link_definitions.specs.Refers.{RefersTo}
-use Rattle.yv_expand_paths.specs.Paths.{has_path}
-use Rattle.yv_expand.specs.Weigh.{block_of}
+use Rattle.yv_expand_paths.specs.InnerSteps.{has_path}
+use Rattle.yv_expand.specs.StatementBlocks.{block_of, is_at, is_augment, is_node_or_uses, those, is_refine}
 use Rattle.yv_expand.specs.Tree.{Item, Tree, count, item, join, item_list, none}
-use Rattle.yv_expand.specs.declared.item.Origin.TheVariants.{Statement}
-use Rattle.yv_expand.specs.Expands.{Expands, blocks_of, is_at, is_augment, is_item, those}
+use Rattle.yv_expand.specs.declared.origin.Origin.TheVariants.{Statement}
+use Rattle.yv_expand.specs.Expands.{Expands, blocks_of}
 use Rattle.yv_expand.specs.Expands.Expands.{nothing as expands_nothing, other as expands_other, node as expands_node, operation as expands_operation, uses as expands_uses}
-use Rattle.yv_expand_rounds.specs.declared.label.ItemKind.{ItemKind}
-use Rattle.yv_expand_rounds.specs.declared.label.ItemKind.TheVariants as kind
+use Rattle.yv_expand_rounds.specs.declared.statement_kind.StatementKind.{StatementKind}
+use Rattle.yv_expand_rounds.specs.declared.statement_kind.StatementKind.TheVariants as kind
 use Rattle.yv_expand_rounds.specs.declared.label.Label.{Label}
 use Rattle.yv_expand_rounds.specs.Groups.{members_of}
-use Rattle.yv_expand_rounds.specs.Labels as labels_are
+use Rattle.yv_expand_rounds.specs.Kinds as kinds_are
 use Rattle.yv_expand_rounds.specs.Turns.{State}
 use Rattle.yv_expand_augments.specs.Ends.{end_at, is_above, is_from}
 use Rattle.yv_expand_augments.specs.Ends as ends
 use Rattle.yv_expand_augments.specs.AugmentOrder.{augments_giving, is_giving, ordinal}
 use Rattle.yv_expand_augments.specs.Augmentation.{path_in, placed_from}
 use Rattle.yv_expand_augments.specs.InnerEnds.{is_from_at}
-use Rattle.yv_expand_augments.specs.Kinds.{is_uses, kind_at}
+use Rattle.yv_expand_rounds.specs.Kinds.{is_uses}
+use Rattle.yv_expand_augments.specs.Kinds.{kind_at}
 use Rattle.yv_expand_augments.specs.Placement.{augment_at}
-use Rattle.yv_expand_augments.specs.RefineTargets.{is_refine, node_meant, refined_at, refined_from, refines_in}
+use Rattle.yv_expand_augments.specs.RefineTargets.{node_meant, refined_at, refined_from, refines_in}
 use Rattle.yv_expand_augments.specs.Spots.{LayoutView, Whole, copy_group, module_file_below, labels_of, layout_of, spot_at, spot_of, whole}
 use Rattle.yv_expand_augments.specs.MissingTargets.{augments_in}
 use Rattle.yv_expand_augments.specs.declared.spot.Spot.{Spot}
@@ -37,8 +39,7 @@ use Rattle.yv_expand_augments.proofs.Ending.{drop_drop, run_yes}
 use Rattle.yv_expand_augments.proofs.Turning.{giving_filtered}
 use Rattle.yv_expand_changes.specs.Changes.{changes}
 use Rattle.yv_expand_refines.specs.Targets.{RefineMeaning}
-use Rattle.yv_expand_definition.specs.Gives.{AugmentsGive, Gives, Product, takes_block}
-use Rattle.yv_expand_definition.specs.Gives.{RefinesGive as AreRefined}
+use Rattle.yv_expand_definition.specs.Gives.{AugmentsGive, Gives, Product, takes_block, RefinesGive as AreRefined}
 use Rattle.yv_expand_definition.specs.Gives.Gives.{no_statements as gives_nothing, other as gives_other, one_node as gives_node, operation as gives_operation, uses as gives_uses}
 use Rattle.yv_expand_definition.specs.Nodes.{Forest, Node, node}
 use Rattle.yv_expand_definition.specs.Nodes as nodes
@@ -101,7 +102,7 @@ module _ (files : Files) (augments : List ℕ) (many : ℕ) (items : List Item) 
   module _ (facts : ShowNodes files w items (λ i. None) its) (each : length items ≡ many) where
     module _ (sound : AreSound files) (have : HaveStatements (rows_of files) items) where
       module _ (one_meant : RefersToOne files) where
-        uses_kind : (k : ItemKind) → is_uses k ≡ true → labels_are.is_node k ≡ false
+        uses_kind : (k : StatementKind) → is_uses k ≡ true → kinds_are.is_node k ≡ false
         uses_kind kind.Uses is = refl
         uses_kind kind.Container is = absurd (false≢true is)
         uses_kind kind.Leaf is = absurd (false≢true is)
@@ -118,7 +119,7 @@ module _ (files : Files) (augments : List ℕ) (many : ℕ) (items : List Item) 
         uses_kind kind.Notification is = absurd (false≢true is)
 
         -- a uses, above what it copies and what its augments give
-        module _ (k meant_one : ℕ) (r : Row) (at : slice_get w.rows k ≡ Some r) (is_one : is_item r ≡ true) (is_a_uses : refers.is_uses r ≡ true) (refers_to : RefersTo w.files w.rows k meant_one)
+        module _ (k meant_one : ℕ) (r : Row) (at : slice_get w.rows k ≡ Some r) (is_one : is_node_or_uses r ≡ true) (is_a_uses : refers.is_uses r ≡ true) (refers_to : RefersTo w.files w.rows k meant_one)
             (l : LayoutView) (parent : Option ℕ) (first others : List Item) (n mid hi c own d e : ℕ) (under : List ℕ) (long : length l.spots ≡ n) (all_copies : l.copies ≡ c)
             (less : (p : ℕ) → parent ≡ Some p → p < n) where
           abbrev x : Item
@@ -360,12 +361,12 @@ module _ (files : Files) (augments : List ℕ) (many : ℕ) (items : List Item) 
                         (λ a. (let r = bad_reach w labels s now hi B.2 now_is reach a in (
                           (λ h. (let (i, ends, few, kind) = r.0 h in
                               let t = spot_there i few in
-                              (of_uses_is, (i, t.0, ends_so (Some i) a ends, t.1, ap (λ (z : ItemKind). takes_block w.rows a z) (sym (facts.told.kind i t.0 t.1)) ∙ kind)))),
+                              (of_uses_is, (i, t.0, ends_so (Some i) a ends, t.1, ap (λ (z : StatementKind). takes_block w.rows a z) (sym (facts.told.kind i t.0 t.1)) ∙ kind)))),
                           (λ (is, (i, t, ends, there, kind)). r.1 (
                             i,
                             ends_is (Some i) a ends,
                             label_there i t there,
-                            ap (λ (z : ItemKind). takes_block w.rows a z) (facts.told.kind i t there) ∙ kind,
+                            ap (λ (z : StatementKind). takes_block w.rows a z) (facts.told.kind i t there) ∙ kind,
                           )),
                         )))
                         C.1 E.1 D.2 B.3,
@@ -388,7 +389,7 @@ module _ (files : Files) (augments : List ℕ) (many : ℕ) (items : List Item) 
                 subst (λ z. Come files augments many items (stage n (s ∷ z)) whole_lies.block m.nodes m.wrong) (sym (append_assoc p.new q.new rest)) (by gives)
               where
                 by : {m : Product} → Gives files s.module_file under (k ∷ []) m → Come files augments many items (stage n (s ∷ (p.new ++ (q.new ++ rest)))) whole_lies.block m.nodes m.wrong
-                by (gives_other at' isnt e) = absurd (clash is_item w.rows k _ _ at' at isnt is_one)
+                by (gives_other at' isnt e) = absurd (clash is_node_or_uses w.rows k _ _ at' at isnt is_one)
                 by (gives_node at' is_item' o u known B e) = absurd (clash refers.is_uses w.rows k _ _ at' at u is_a_uses)
                 by (gives_operation at' is_item' o u known I O e) = absurd (clash refers.is_uses w.rows k _ _ at' at u is_a_uses)
                 by (gives_uses {d = other_one} {copies = copied} {refined = refined_made} {given = given} at' is_item' u refers' C R A gives_nothing) =
@@ -420,11 +421,11 @@ module _ (files : Files) (augments : List ℕ) (many : ℕ) (items : List Item) 
                 let same = ap (ends.run_length j) (append_assoc (item_list (Some m) (m + 1) t) (item_list (Some parent) (m + 1 + count t) u) ys) in
                 omega (arith, a, b, here, same)
 
-        pub uses_makes : (k d : ℕ) (r : Row) (copied given : Tree) → slice_get w.rows k ≡ Some r → is_item r ≡ true → RefersTo w.files w.rows k d → PartsMake files augments many items its facts each (block_of w.rows d) copied
+        pub uses_makes : (k d : ℕ) (r : Row) (copied given : Tree) → slice_get w.rows k ≡ Some r → is_node_or_uses r ≡ true → RefersTo w.files w.rows k d → PartsMake files augments many items its facts each (block_of w.rows d) copied
             → PartsMake files augments many items its facts each (blocks_of w.rows (block_of w.rows k)) given → PartMakes files augments many items its facts each k (item (Statement k) (join copied given) none)
         uses_makes k d r copied given at is_one node_meant C G = record {
           makes = makes;
-          nothing = λ q row none_is. absurd (false≢true (sym none_is ∙ (ap is_item (same_Some q r (sym row ∙ at)) ∙ is_one)));
+          nothing = λ q row none_is. absurd (false≢true (sym none_is ∙ (ap is_node_or_uses (same_Some q r (sym row ∙ at)) ∙ is_one)));
           some = λ q row is. omega arith;
         }
           where
@@ -494,7 +495,7 @@ module _ (files : Files) (augments : List ℕ) (many : ℕ) (items : List Item) 
                           ∙ (ap (augment_at d) found.1.1 ∙ ap (λ (b : Bool). if b then Some d else None) found.1.2)))),
                     )
 
-        other_makes : (k : ℕ) (r : Row) → slice_get w.rows k ≡ Some r → is_item r ≡ false → PartMakes files augments many items its facts each k none
+        other_makes : (k : ℕ) (r : Row) → slice_get w.rows k ≡ Some r → is_node_or_uses r ≡ false → PartMakes files augments many items its facts each k none
         other_makes k r at is_none = record {
           makes = λ l parent g n hi c module_file under long all_copies ends_are less stands.
               (let h : n ≡ hi = omega (arith, ends_are) in
@@ -502,14 +503,14 @@ module _ (files : Files) (augments : List ℕ) (many : ℕ) (items : List Item) 
               (empty_lies w labels l g n c all_copies, none_come_here l g n c all_copies module_file under) in
               (c, pair.0, pair.1));
           nothing = λ q row none_is. refl;
-          some = λ q row is. absurd (clash is_item w.rows k r q at row is_none is);
+          some = λ q row is. absurd (clash is_node_or_uses w.rows k r q at row is_none is);
         }
           where
             nothing_given : {module_file : ℕ} {under : List ℕ} {m : Product} → Gives files module_file under (k ∷ []) m → (m.nodes ≡ nodes.none) × (m.wrong ≡ [])
             nothing_given (gives_other at' isnt gives_nothing) = (refl, refl)
-            nothing_given (gives_node at' is_item' o u known B e) = absurd (clash is_item w.rows k _ _ at at' is_none is_item')
-            nothing_given (gives_operation at' is_item' o u known I O e) = absurd (clash is_item w.rows k _ _ at at' is_none is_item')
-            nothing_given (gives_uses at' is_item' u d C R A e) = absurd (clash is_item w.rows k _ _ at at' is_none is_item')
+            nothing_given (gives_node at' is_item' o u known B e) = absurd (clash is_node_or_uses w.rows k _ _ at at' is_none is_item')
+            nothing_given (gives_operation at' is_item' o u known I O e) = absurd (clash is_node_or_uses w.rows k _ _ at at' is_none is_item')
+            nothing_given (gives_uses at' is_item' u d C R A e) = absurd (clash is_node_or_uses w.rows k _ _ at at' is_none is_item')
 
             none_come_here : (l : LayoutView) (g n c : ℕ) (all_copies : l.copies ≡ c) (module_file : ℕ) (under : List ℕ)
                 → Makes files augments many items its (empty_lies w labels l g n c all_copies) (Given files augments many items its facts each (k ∷ []) module_file under)

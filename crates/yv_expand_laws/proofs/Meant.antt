@@ -10,11 +10,11 @@ use Rattle.yv_expand_rounds.specs.declared.end.End.TheVariants as end
 use Rattle.yv_expand_rounds.specs.declared.label.Label.{Label}
 use Rattle.yv_expand_rounds.specs.Groups.{Groups, members_of}
 use Rattle.yv_expand_rounds.specs.Labels.{is_named, is_some_named}
-use Rattle.yv_expand_rounds.specs.Labels as labels_are
+use Rattle.yv_expand_rounds.specs.Kinds as kinds_are
 use Rattle.yv_expand_rounds.specs.Paths.{answer, end_at, before, path_end, first_named, is_shorthand, step_end}
 use Rattle.yv_expand_rounds.specs.Turns.{State}
 use Rattle.yv_expand_augments.specs.Augmentation.{path_in, placed_from}
-use Rattle.yv_expand_augments.specs.Kinds.{is_uses}
+use Rattle.yv_expand_rounds.specs.Kinds.{is_uses}
 use Rattle.yv_expand_augments.specs.RefineTargets.{node_meant, node_at, refined_from, refines_in}
 use Rattle.yv_expand_augments.specs.Spots.{Whole}
 use Rattle.yv_expand_augments.specs.declared.spot.Spot.{Spot}
@@ -33,7 +33,7 @@ module _ (labels : List Label) where
     where
       by : (o : Option Label) → is_some_named name o ≡ true → is_some_node o ≡ true
       by None h = absurd (false≢true h)
-      by (Some l) h = left_is (labels_are.is_node l.kind) _ h
+      by (Some l) h = left_is (kinds_are.is_node l.kind) _ h
 
   -- an end is no item, or a node
   abbrev EndIsNode : End → Type 0

@@ -8,7 +8,7 @@ use Rattle.yv_statement.specs.declared.refusal.Refusal.{Refusal}
 use Rattle.yv_link_scopes.specs.Files.{Files, brief_of}
 use Rattle.yv_link_scopes.specs.RowList.{rows_of}
 use Rattle.yv_link_scopes.specs.Rows.{Row}
-use Rattle.yv_expand.specs.Expansion.{augments_of}
+use Rattle.yv_expand.specs.StatementBlocks.{augments_of}
 use Rattle.yv_expand_rounds.specs.Tree.{IsTree}
 use Rattle.yv_expand_rounds.specs.declared.row.ItemRow.{ItemRow}
 use Rattle.yv_expand_augments.specs.Augmentation.{AreAugmented}

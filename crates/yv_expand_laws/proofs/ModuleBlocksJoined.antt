@@ -6,10 +6,10 @@ use Rattle.std.proofs.lemmas.Option.{same_Some, slice_get_within}
 use Rattle.yv_statement.specs.declared.refusal.Code.TheVariants as code
 use Rattle.yv_link_scopes.specs.Files.{Files, brief_of}
 use Rattle.yv_link_scopes.specs.RowList.{rows_of}
-use Rattle.yv_expand.specs.Expansion.{augments_of}
+use Rattle.yv_expand.specs.StatementBlocks.{augments_of}
 use Rattle.yv_expand_rounds.specs.declared.end.End.{End}
 use Rattle.yv_expand_rounds.specs.declared.end.End.TheVariants as end_is
-use Rattle.yv_expand_rounds.specs.declared.label.ItemKind.{ItemKind}
+use Rattle.yv_expand_rounds.specs.declared.statement_kind.StatementKind.{StatementKind}
 use Rattle.yv_expand_rounds.specs.declared.label.Label.{Label}
 use Rattle.yv_expand_rounds.specs.Turns.{is_some_target, target}
 use Rattle.yv_expand_augments.specs.Augmentation.{AreAugmented}
@@ -63,7 +63,7 @@ module_blocks_are_one files one_meant choice f its m r sound roots final tells E
     let By : List ℕ → Type 0 = λ a. ModuleUntaken (whole (map brief_of files) (rows_of files) a (length f.items)) f.items f.state r in (
       (λ untaken.
           let (k, less, a, at, (u, (row, found, is))) = subst By final.augments untaken in
-          let kind : takes_block (rows_of files) a (its.node_of u.target).kind ≡ false = ap (λ (z : ItemKind). takes_block (rows_of files) a z) (tells.told.kind u.target u.node u.target_at) ∙ u.untaken in
+          let kind : takes_block (rows_of files) a (its.node_of u.target).kind ≡ false = ap (λ (z : StatementKind). takes_block (rows_of files) a z) (tells.told.kind u.target u.node u.target_at) ∙ u.untaken in
           (a, at_there augments k a at, (known k a at).1 u.target u.adds kind, row, found, is)),
       (λ (a, there, refused, row, found, is).
           let k = contains_at augments a there in
@@ -81,7 +81,7 @@ module_blocks_are_one files one_meant choice f its m r sound roots final tells E
                 adds = aims;
                 node = t.0;
                 target_at = t.1;
-                untaken = ap (λ (z : ItemKind). takes_block (rows_of files) a z) (sym (tells.told.kind i t.0 t.1)) ∙ kind;
+                untaken = ap (λ (z : StatementKind). takes_block (rows_of files) a z) (sym (tells.told.kind i t.0 t.1)) ∙ kind;
               },
               (row, found, is),
             ),

@@ -8,12 +8,11 @@ use Rattle.yv_link_scopes.specs.RowList.{rows_of}
 use Rattle.yv_link_scopes.specs.Rows.{Row}
 use Rattle.yv_link_scopes.proofs.Bodies.{module_file_at_within}
 use Rattle.yv_link_scopes.proofs.Within.{rows_of_files, rows_of_roots}
-use Rattle.yv_expand.specs.Limit.{given_at}
-use Rattle.yv_expand.specs.Weigh.{block_of, top_of}
+use Rattle.yv_expand.specs.StatementBlocks.{given_at, block_of, top_of, augments_of, is_augment}
 use Rattle.yv_expand.specs.Origin.{number_of}
 use Rattle.yv_expand.specs.Tree.{Item, Tree, all_of, count, join}
-use Rattle.yv_expand.specs.Expansion.{IsWhole, augments_of}
-use Rattle.yv_expand.specs.Expands.{Expands, is_augment}
+use Rattle.yv_expand.specs.Expansion.{IsWhole}
+use Rattle.yv_expand.specs.Expands.{Expands}
 use Rattle.yv_expand_rounds.specs.declared.label.Label.{Label}
 use Rattle.yv_expand_rounds.specs.Groups.{group_of_augment, members_of}
 use Rattle.yv_expand_rounds.specs.Turns.{State}

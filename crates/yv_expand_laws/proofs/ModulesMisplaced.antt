@@ -1,4 +1,5 @@
--- The augments of modules that give items to nodes which don't take them are refused so by both definitions.
+-- The augments of modules that give items to nodes which don't take them are refused so by both
+-- definitions.
 use Rattle.std.proofs.Common.{inl, inr, ◌≡◌, ℕ, suc, ◌+◌, ◌-◌, ◌<◌, ◌≤◌, Bool, true, false, if◌then◌else◌, List, [], ◌∷◌, length, map, Option, Some, None, refl, sym, ◌∙◌, ap, subst, arith}
 use Rattle.std.specs.List.{Contains, slice_get}
 use Rattle.std.proofs.lemmas.Bool.{cases_lt, false≢true}
@@ -7,26 +8,26 @@ use Rattle.std.proofs.lemmas.Option.{same_Some, slice_get_within}
 use Rattle.yv_link_scopes.specs.Files.{Files, brief_of}
 use Rattle.yv_link_scopes.specs.RowList.{rows_of}
 use Rattle.yv_link_scopes.specs.Rows.{Row}
-use Rattle.yv_expand.specs.Weigh.{block_of}
+use Rattle.yv_expand.specs.StatementBlocks.{block_of, augments_of, is_node_or_uses}
 use Rattle.yv_expand.specs.Origin.{number_of}
 use Rattle.yv_expand.specs.Tree.{Item, all_of, join}
-use Rattle.yv_expand.specs.declared.item.Origin.{Origin}
-use Rattle.yv_expand.specs.declared.item.Origin.TheVariants.{Input, Output, Statement}
-use Rattle.yv_expand.specs.Expansion.{IsWhole, augments_of}
-use Rattle.yv_expand.specs.Expands.{is_item}
+use Rattle.yv_expand.specs.declared.origin.Origin.{Origin}
+use Rattle.yv_expand.specs.declared.origin.Origin.TheVariants.{Input, Output, Statement}
+use Rattle.yv_expand.specs.Expansion.{IsWhole}
 use Rattle.yv_expand_rounds.specs.Groups.{Groups, group_of_augment, members_of, times}
 use Rattle.yv_expand_rounds.specs.Placements.{HaveEntered, StandOnce}
 use Rattle.yv_expand_rounds.specs.Tree.{IsTree, Tree}
 use Rattle.yv_expand_rounds.specs.Tree as by_number
 use Rattle.yv_expand_rounds.specs.Turns.{State, target_of}
-use Rattle.yv_expand_rounds.specs.declared.label.ItemKind.{ItemKind}
-use Rattle.yv_expand_rounds.specs.declared.label.ItemKind.TheVariants as kind
+use Rattle.yv_expand_rounds.specs.declared.statement_kind.StatementKind.{StatementKind}
+use Rattle.yv_expand_rounds.specs.declared.statement_kind.StatementKind.TheVariants as kind
 use Rattle.yv_expand_rounds.specs.declared.label.Label.{Label}
 use Rattle.yv_expand_rounds.specs.declared.row.ItemRow.{ItemRow}
 use Rattle.yv_expand_augments.specs.Augmentation.{AreAugmented}
 use Rattle.yv_expand_augments.specs.AugmentOrder.{place_of}
-use Rattle.yv_expand_augments.specs.Kinds.{is_uses, kind_at, kind_of}
-use Rattle.yv_expand_augments.specs.Placement.{augment_around, takes}
+use Rattle.yv_expand_rounds.specs.Kinds.{is_uses, takes}
+use Rattle.yv_expand_augments.specs.Kinds.{kind_at, kind_of}
+use Rattle.yv_expand_augments.specs.Placement.{augment_around}
 use Rattle.yv_expand_augments.specs.Spots.{Whole, copy_group, source_in, group_below, labels_of, layout_of, spot_at, top_group_of, top_group, used_group, whole}
 use Rattle.yv_expand_augments.specs.declared.spot.Spot.{Spot}
 use Rattle.yv_expand_augments.proofs.Entering.{whole_entered}
@@ -56,7 +57,7 @@ use Rattle.yv_expand_laws.proofs.Trees.{contained}
 use Rattle.yv_expand_laws.proofs.Trees as often
 
 -- what takes something is no uses
-takes_no_uses : (k g : ItemKind) → takes k g ≡ true → is_uses k ≡ false
+takes_no_uses : (k g : StatementKind) → takes k g ≡ true → is_uses k ≡ false
 takes_no_uses kind.Uses g h = absurd (false≢true h)
 takes_no_uses kind.Container g h = refl
 takes_no_uses kind.Leaf g h = refl
@@ -129,7 +130,7 @@ module _ (files : Files) (marks : List Bool) (order : List ℕ) (own : ℕ) (ite
         ∙ ap (top_group_of w) (place_is augments (augments_rise files marks) k a at_k)))))
 
     -- an operation's part that isn't written stands below it, and is taken
-    pub part_taken : (k p : ℕ) (y : Item) (row : ItemRow) (above : Spot) (part : ItemKind) → slice_get (by_number.tree_list None 1 tree) k ≡ Some row → row.number ≡ i
+    pub part_taken : (k p : ℕ) (y : Item) (row : ItemRow) (above : Spot) (part : StatementKind) → slice_get (by_number.tree_list None 1 tree) k ≡ Some row → row.number ≡ i
         → spot_at spots row.parent ≡ Some above → x.parent ≡ Some p → slice_get items p ≡ Some y → takes (kind_of rows y.origin) part ≡ true
         → takes above.label.kind part ≡ true
     part_taken k p y row above part at_row is node_is up at_y taken =
@@ -150,7 +151,7 @@ module _ (files : Files) (marks : List Bool) (order : List ℕ) (own : ℕ) (ite
         let parent : row.parent ≡ Some p =
         stands_below_law w items st tree k p row s refl grafted is_tree at_row (ap (slice_get spots) is ∙ at) (omega (arith, few, first)) in_it in
         let one : z.0 ≡ above = same_Some z.0 above (sym z.1 ∙ (ap (spot_at spots) (sym parent) ∙ node_is)) in
-        ap (λ (u : Spot). takes u.label.kind part) (sym one) ∙ (ap (λ (q : ItemKind). takes q part) kind_z ∙ taken)
+        ap (λ (u : Spot). takes u.label.kind part) (sym one) ∙ (ap (λ (q : StatementKind). takes q part) kind_z ∙ taken)
 
   -- where an item of its block isn't taken, the block isn't
   pub block_untaken : (k a : ℕ) → slice_get augments k ≡ Some a → HasMisplaced rows spots (by_number.tree_list None 1 tree) a → IsUntaken w items st k a
@@ -169,7 +170,7 @@ module _ (files : Files) (marks : List Bool) (order : List ℕ) (own : ℕ) (ite
       around_is x statement j r origin at_j = sym (ap (augment_around rows) (ap (slice_get rows) (statement ∙ ap number_of origin) ∙ at_j)) ∙ h.around
 
       top_case : (x : Item) → slice_get items h.row.number ≡ Some x → h.spot.statement ≡ number_of x.origin → h.spot.label.kind ≡ kind_of rows x.origin → (j : ℕ) (r : Row) → x.parent ≡ None
-          → x.origin ≡ Statement j → slice_get rows j ≡ Some r → is_item r ≡ true → IsUntaken w items st k a
+          → x.origin ≡ Statement j → slice_get rows j ≡ Some r → is_node_or_uses r ≡ true → IsUntaken w items st k a
       top_case x x_at statement kind_is j r top origin at_j is_one =
           let around = around_is x statement j r origin at_j in
           let scope : r.scope ≡ a = scope_of rows a q.row kind.Leaf q.at q.is r around in
@@ -235,7 +236,7 @@ module _ (files : Files) (marks : List Bool) (order : List ℕ) (own : ℕ) (ite
         subst (λ (n : ℕ). Contains (members_of start.groups n) i) (same ∙ ap (group_of_augment labels) place) g.1
 
     -- an item has each statement of a block that gives one
-    item_of : (k a j : ℕ) (r : Row) → slice_get augments k ≡ Some a → Contains (block_of rows a) j → slice_get rows j ≡ Some r → is_item r ≡ true
+    item_of : (k a j : ℕ) (r : Row) → slice_get augments k ≡ Some a → Contains (block_of rows a) j → slice_get rows j ≡ Some r → is_node_or_uses r ≡ true
         → (i : ℕ) × (slice_get items i ≡ Some (record { origin = Statement j; parent = None }))
     item_of k a j r at_k there at_j is_one =
         let l = slice_get_within augments k a at_k in

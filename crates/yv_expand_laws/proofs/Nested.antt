@@ -11,18 +11,18 @@ use Rattle.yv_link_scopes.specs.Files.{Briefs, Files, brief_of}
 use Rattle.yv_link_scopes.specs.RowList.{rows_of}
 use Rattle.yv_link_scopes.specs.Rows.{Row}
 use Rattle.yv_link_definitions.specs.Refers as refers
-use Rattle.yv_expand.specs.Limit.{given_at}
+use Rattle.yv_expand.specs.StatementBlocks.{given_at, block_of, top_of, augments_of, first_of, input_of, is_at, is_augment, is_input, is_node_or_uses, is_operation, is_output, output_of, part, part_block, those}
 use Rattle.yv_expand.specs.Units.{operations}
-use Rattle.yv_expand.specs.Weigh.{block_of, top_of}
 use Rattle.yv_expand.specs.Tree.{Item, Tree, all_of, count, item, join, item_list, none}
-use Rattle.yv_expand.specs.declared.item.Origin.{Origin}
-use Rattle.yv_expand.specs.declared.item.Origin.TheVariants.{Input, Output, Statement}
-use Rattle.yv_expand.specs.Expansion.{IsWhole, augments_of}
-use Rattle.yv_expand.specs.Expands.{Expands, first_of, input_of, is_at, is_augment, is_input, is_item, is_operation, is_output, output_of, part, part_block, those}
+use Rattle.yv_expand.specs.declared.origin.Origin.{Origin}
+use Rattle.yv_expand.specs.declared.origin.Origin.TheVariants.{Input, Output, Statement}
+use Rattle.yv_expand.specs.Expansion.{IsWhole}
+use Rattle.yv_expand.specs.Expands.{Expands}
 use Rattle.yv_expand.specs.Expands.Expands.{nothing, other, node, operation, uses}
-use Rattle.yv_expand_rounds.specs.declared.label.ItemKind.TheVariants as kind
-use Rattle.yv_expand_augments.specs.Kinds.{kind_at, kind_of_keyword, kind_of}
-use Rattle.yv_expand_augments.specs.Placement.{augment_around, augment_at, takes}
+use Rattle.yv_expand_rounds.specs.declared.statement_kind.StatementKind.TheVariants as kind
+use Rattle.yv_expand_augments.specs.Kinds.{kind_at, kind_of}
+use Rattle.yv_expand_rounds.specs.Kinds.{kind_of_keyword, takes}
+use Rattle.yv_expand_augments.specs.Placement.{augment_around, augment_at}
 use Rattle.yv_expand_tree.proofs.Standing.{in_first, in_lists, in_second}
 use Rattle.yv_expand_laws.proofs.Asking.{IsBelow, block_below, top_below}
 use Rattle.yv_expand_laws.proofs.Choosing.{block_scope, filter_in, row_at}
@@ -72,7 +72,7 @@ module _ (files : Files) (marks : List Bool) where
     pub row : Row
     pub is : q ≡ Statement statement
     pub at : slice_get rows statement ≡ Some row
-    pub item : is_item row ≡ true
+    pub item : is_node_or_uses row ≡ true
     pub of_uses : refers.is_uses row ≡ true
     pub among : Contains (those is_augment rows (block_of rows statement)) a
 
@@ -86,13 +86,13 @@ module _ (files : Files) (marks : List Bool) where
   -- an item may stand below another: its statement does so, or it is the part of an operation
   abbrev pub MayBelow : Origin → Origin → Type 0
   MayBelow q (Statement j) =
-      (r : Row) × (slice_get rows j ≡ Some r) × (Contains augments r.scope → ⊥) × ((augment_around rows (Some r) ≡ None) ⊎ (IsOf q r.scope × (is_item r ≡ true)))
+      (r : Row) × (slice_get rows j ≡ Some r) × (Contains augments r.scope → ⊥) × ((augment_around rows (Some r) ≡ None) ⊎ (IsOf q r.scope × (is_node_or_uses r ≡ true)))
   MayBelow q (Input k) = takes (kind_of rows q) kind.Input ≡ true
   MayBelow q (Output k) = takes (kind_of rows q) kind.Output ≡ true
 
   -- an item at the top is made of a statement that is one
   abbrev pub IsOwn : Origin → Type 0
-  IsOwn o = (k : ℕ) × (r : Row) × (o ≡ Statement k) × (slice_get rows k ≡ Some r) × (is_item r ≡ true)
+  IsOwn o = (k : ℕ) × (r : Row) × (o ≡ Statement k) × (slice_get rows k ≡ Some r) × (is_node_or_uses r ≡ true)
 
   abbrev AllMay : Origin → Tree → Type 0
   AllMay q none = Unit {0}
@@ -125,9 +125,9 @@ module _ (files : Files) (marks : List Bool) where
   all_apart : (q : Origin) (ks : List ℕ) → AllAlone ks → AllApart q ks
   all_apart q ks all k h = (let x = all k h in (x.0, x.1, x.2, inl x.3))
 
-  item_may : (q : Origin) (k : ℕ) (r : Row) → slice_get rows k ≡ Some r → is_item r ≡ true → Apart q k → MayBelow q (Statement k)
+  item_may : (q : Origin) (k : ℕ) (r : Row) → slice_get rows k ≡ Some r → is_node_or_uses r ≡ true → Apart q k → MayBelow q (Statement k)
   item_may q k r at is (z, at_z, never, inl alone) = (z, at_z, never, inl alone)
-  item_may q k r at is (z, at_z, never, inr of) = (z, at_z, never, inr (of, ap is_item (same_Some z r (sym at_z ∙ at)) ∙ is))
+  item_may q k r at is (z, at_z, never, inr of) = (z, at_z, never, inr (of, ap is_node_or_uses (same_Some z r (sym at_z ∙ at)) ∙ is))
 
   first_there : (xs : List ℕ) (j : ℕ) → slice_get xs 0 ≡ Some j → Contains xs j
   first_there [] j e = absurd (not_none e)

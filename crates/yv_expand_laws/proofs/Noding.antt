@@ -6,11 +6,12 @@ use Rattle.yv_link_scopes.specs.Files.{Files}
 use Rattle.yv_link_scopes.specs.Rows.{Row}
 use Rattle.yv_expand.specs.Origin.{number_of}
 use Rattle.yv_expand.specs.Tree.{Item, all_of, join}
-use Rattle.yv_expand.specs.declared.item.Origin.TheVariants.{Statement}
-use Rattle.yv_expand_rounds.specs.declared.label.ItemKind.TheVariants as kind
+use Rattle.yv_expand.specs.declared.origin.Origin.TheVariants.{Statement}
+use Rattle.yv_expand_rounds.specs.declared.statement_kind.StatementKind.TheVariants as kind
 use Rattle.yv_expand_rounds.specs.declared.label.Label.{Label}
 use Rattle.yv_expand_rounds.specs.Order.{is_given}
-use Rattle.yv_expand_augments.specs.Kinds.{is_uses, kind_of}
+use Rattle.yv_expand_rounds.specs.Kinds.{is_uses}
+use Rattle.yv_expand_augments.specs.Kinds.{kind_of}
 use Rattle.yv_expand_augments.specs.RefineTargets.{refined_all}
 use Rattle.yv_expand_augments.specs.Spots.{Whole, labels_of, layout_of, spot_at}
 use Rattle.yv_expand_augments.specs.declared.spot.Spot.{Spot}

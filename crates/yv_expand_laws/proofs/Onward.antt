@@ -8,7 +8,7 @@ use Rattle.yv_expand_rounds.specs.Turns.{State, turn}
 use Rattle.yv_expand_augments.specs.AugmentOrder.{augments_giving}
 use Rattle.yv_expand_augments.specs.Augmentation.{copy_turn, last_of, path_in, placed_from, turns, turns_from}
 use Rattle.yv_expand_augments.specs.InnerLayout.{Fits}
-use Rattle.yv_expand_augments.specs.Kinds.{is_uses}
+use Rattle.yv_expand_rounds.specs.Kinds.{is_uses}
 use Rattle.yv_expand_augments.specs.Spots.{Whole, copies_of}
 use Rattle.yv_expand_augments.specs.declared.spot.Spot.{Spot}
 use Rattle.yv_expand_augments.proofs.Entering.{placed_entered}

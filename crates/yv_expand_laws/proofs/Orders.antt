@@ -1,4 +1,5 @@
--- The augments of modules are in the order of their numbers, and which statements stand at the tops of files and in the blocks of augments.
+-- The augments of modules are in the order of their numbers, and which statements stand at the tops
+-- of files and in the blocks of augments.
 use Rattle.std.proofs.Common.{inl, inr, ◌≡◌, ◌≢◌, ℕ, zero, suc, ◌+◌, ◌<◌, ◌≤◌, ◌==◌, ◌&&◌, not, cond, Bool, true, false, if◌then◌else◌, List, [], ◌∷◌, ◌++◌, length, map, get_or, refl, sym, ◌∙◌, ap, subst, arith, eqb-true, eq-eqb, Some, None}
 use Rattle.std.specs.List.{Contains, filter, position_from, slice_get}
 use Rattle.std.proofs.lemmas.Bool.{cases_lt, false≢true, ne_eqb}
@@ -9,11 +10,8 @@ use Rattle.yv_link_scopes.specs.Files.{Briefs, Files, brief_of, module_file_at, 
 use Rattle.yv_link_scopes.specs.RowList.{bodies, body_of, roots_from, rows_of}
 use Rattle.yv_link_scopes.specs.Rows.{Row, is_extended, row_list}
 use Rattle.yv_link_scopes.proofs.Within.{rows_of_roots}
-use Rattle.yv_expand.specs.Limit.{given_at, given_before}
-use Rattle.yv_expand.specs.Weigh.{block_of, stands_in, top_of}
-use Rattle.yv_expand.specs.Weigh as weigh
-use Rattle.yv_expand.specs.Expansion.{augments_of}
-use Rattle.yv_expand.specs.Expands.{is_at, is_augment}
+use Rattle.yv_expand.specs.StatementBlocks.{given_at, given_before, block_of, stands_in, top_of, augments_of, is_at, is_augment}
+use Rattle.yv_expand.specs.StatementBlocks as blocks
 use Rattle.yv_expand_augments.specs.AugmentOrder.{place_of}
 use Rattle.yv_expand_tree.proofs.Nesting.{block_file}
 use Rattle.yv_expand_tree.proofs.Standing.{in_lists}
@@ -70,11 +68,11 @@ rises_append (x ∷ xs) ys R S less = (
   rises_append xs ys R.1 S (λ a b ha hb. less a b (there_later x a xs ha) hb),
 )
 
-rises_numbers : (passes : ℕ → Row → Bool) (n : ℕ) (rs : List Row) → Rises (weigh.numbers_from passes n rs)
+rises_numbers : (passes : ℕ → Row → Bool) (n : ℕ) (rs : List Row) → Rises (blocks.numbers_from passes n rs)
 rises_numbers passes n [] = tt
 rises_numbers passes n (r ∷ rs) = by (passes n r) (rises_numbers passes (n + 1) rs)
   where
-    by : (b : Bool) → Rises (weigh.numbers_from passes (n + 1) rs) → Rises (if b then n ∷ weigh.numbers_from passes (n + 1) rs else weigh.numbers_from passes (n + 1) rs)
+    by : (b : Bool) → Rises (blocks.numbers_from passes (n + 1) rs) → Rises (if b then n ∷ blocks.numbers_from passes (n + 1) rs else blocks.numbers_from passes (n + 1) rs)
     by true later = (λ y h. (let x = numbered_in passes (n + 1) rs y h in let e = x.2 in omega (arith, e)), later)
     by false later = later
 

@@ -1,4 +1,5 @@
--- In their turns augments of a uses reach the items that show the nodes to which their paths lead, those too that give no item.
+-- In their turns augments of a uses reach the items that show the nodes to which their paths lead,
+-- those too that give no item.
 use Rattle.std.proofs.Common.{◌⊎◌, inl, inr, ◌≡◌, ◌≢◌, ℕ, zero, suc, ◌+◌, ◌<◌, ◌≤◌, cond, Bool, true, false, if◌then◌else◌, List, [], ◌∷◌, length, take, Option, Some, None, refl, sym, ◌∙◌, ap, subst, arith}
 use Rattle.std.specs.List.{Contains, filter, slice_get}
 use Rattle.std.proofs.lemmas.Bool.{false≢true}
@@ -131,8 +132,8 @@ module _ (w : Whole) (labels : List Label) (s : Spot) where
     first_giving end b others k st is ends = (0, refl, giving_is end k b st is ∙ ends)
 
   module _ (its : Items) where
-    -- the augments of a uses in order, of which those that give an item are these: what they add, which of them miss,
-    -- and of which the target doesn't take the block
+    -- the augments of a uses in order, of which those that give an item are these: what they add,
+    -- which of them miss, and of which the target doesn't take the block
     pub data Goes : (adding : List ℕ) → (lo hi c e k own : ℕ) → Augments lo hi c e k own → (m last : Forest) → (missed bad : List ℕ) → Type 0 where
       all_went : {lo c k : ℕ} {m : Forest} → Goes [] _ _ _ _ _ _ (no_augments {lo = lo} {c = c} {k = k}) m m [] []
       hits_still : {a : ℕ} {others : List ℕ} {lo hi c e k own : ℕ} {augs : Augments lo hi c e k own} {m last below there : Forest} {target : Node} {missed bad : List ℕ} (ss : List Step)

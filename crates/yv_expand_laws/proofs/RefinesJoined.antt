@@ -8,12 +8,12 @@ use Rattle.yv_statement.specs.declared.refusal.Code.TheVariants as code
 use Rattle.yv_link_scopes.specs.Files.{Files, brief_of}
 use Rattle.yv_link_scopes.specs.RowList.{rows_of}
 use Rattle.yv_expand.specs.Tree.{Item}
-use Rattle.yv_expand.specs.Expansion.{augments_of}
+use Rattle.yv_expand.specs.StatementBlocks.{augments_of}
 use Rattle.yv_expand_rounds.specs.declared.label.Label.{Label}
 use Rattle.yv_expand_rounds.specs.Tree.{IsTree}
 use Rattle.yv_expand_augments.specs.Ends.{end_at}
 use Rattle.yv_expand_augments.specs.Augmentation.{AreAugmented, placed_from}
-use Rattle.yv_expand_augments.specs.Kinds.{is_uses}
+use Rattle.yv_expand_rounds.specs.Kinds.{is_uses}
 use Rattle.yv_expand_augments.specs.RefineTargets.{node_meant, refined_all, refined_at, refined_from, refines_in}
 use Rattle.yv_expand_augments.specs.Spots.{Whole, labels_of, layout_of, whole}
 use Rattle.yv_expand_augments.specs.declared.spot.Spot.{Spot}

@@ -1,4 +1,5 @@
--- What is refused of the refines and of the augments of uses in a block is what is refused at the items that the block keeps.
+-- What is refused of the refines and of the augments of uses in a block is what is refused at the
+-- items that the block keeps.
 use Rattle.std.proofs.Common.{◌⊎◌, inl, inr, ◌≡◌, ℕ, ◌+◌, ◌<◌, ◌≤◌, Bool, true, false, if◌then◌else◌, List, [], ◌∷◌, ◌++◌, drop, map, refl, sym, ◌∙◌, ap, subst, arith, Option, Some, None}
 use Rattle.std.specs.List.{Contains, slice_get}
 use Rattle.std.proofs.lemmas.Bool.{false≢true}
@@ -11,7 +12,7 @@ use Rattle.yv_expand.specs.Tree.{Item}
 use Rattle.yv_expand_rounds.specs.declared.label.Label.{Label}
 use Rattle.yv_expand_augments.specs.Ends.{end_at}
 use Rattle.yv_expand_augments.specs.Augmentation.{placed_from}
-use Rattle.yv_expand_augments.specs.Kinds.{is_uses}
+use Rattle.yv_expand_rounds.specs.Kinds.{is_uses}
 use Rattle.yv_expand_augments.specs.RefineTargets.{node_meant, refined_at, refines_in}
 use Rattle.yv_expand_augments.specs.Spots.{Whole, labels_of, layout_of, whole}
 use Rattle.yv_expand_augments.specs.MissingTargets.{augments_in}
@@ -42,7 +43,8 @@ no_wrong x (i, l, e) = omega (arith, l)
 abbrev wrong_so : Code → ℕ → Wrong
 wrong_so c k = record { code = c; statement = k }
 
--- an augment of a uses has no target, or one that doesn't take its block: it is none of these, which are those of modules
+-- an augment of a uses has no target, or one that doesn't take its block: it is none of these,
+-- which are those of modules
 abbrev pub IsOfUses : (augments : List ℕ) → Wrong → Type 0
 IsOfUses augments e = ((e.code ≡ code.AugmentTarget) ⊎ (e.code ≡ code.BadAugment)) × (Contains augments e.statement → ⊥)
 
@@ -274,7 +276,8 @@ module _ (files : Files) (augments : List ℕ) (many : ℕ) (items : List Item) 
   abbrev pub Come : Items → {lo hi c e : ℕ} → Block lo hi c e → Forest → List Wrong → Type 0
   Come now block f xs = (C : Comes labels now _ _ _ _ block f) × TellsOf augments AskedAt (λ x. Keeps C x) xs
 
-  -- augments of a uses add to nodes, and of them that is refused which is refused at items that they keep, or of themselves
+  -- augments of a uses add to nodes, and of them that is refused which is refused at items that
+  -- they keep, or of themselves
   abbrev pub Go : Items → Spot → (adding : List ℕ) → {lo hi c e k own : ℕ} → Augments lo hi c e k own → (m last : Forest) → (old new : List Wrong) → Type 0
   Go now s adding augs m last old new =
       (missed : List ℕ) × (bad : List ℕ) × (G : Goes w labels s now adding _ _ _ _ _ _ augs m last missed bad)

@@ -1,4 +1,5 @@
--- What stands right below a node in an expansion stands in the block of its statement, or is a part of it that isn't written.
+-- What stands right below a node in an expansion stands in the block of its statement, or is a part
+-- of it that isn't written.
 use Rattle.std.proofs.Common.{inl, inr, ◌⊎◌, ◌≡◌, ℕ, zero, suc, ◌+◌, not, Bool, true, false, List, [], ◌∷◌, map, length, refl, sym, ◌∙◌, ap, subst, arith, codes, Option, Some, None}
 use Rattle.std.specs.List.{Contains, slice_get}
 use Rattle.std.specs.Option.{unwrap_or}
@@ -9,16 +10,16 @@ use Rattle.yv_link_scopes.specs.Files.{Briefs, Files, brief_of}
 use Rattle.yv_link_scopes.specs.RowList.{rows_of}
 use Rattle.yv_link_scopes.specs.Rows.{Row}
 use Rattle.yv_link_definitions.specs.Refers as refers
-use Rattle.yv_expand.specs.Limit.{given_at}
-use Rattle.yv_expand.specs.Weigh.{block_of}
+use Rattle.yv_expand.specs.StatementBlocks.{given_at, block_of, augments_of, first_of, input_of, is_at, is_input, is_node_or_uses, is_output, output_of, part, part_block, those}
 use Rattle.yv_expand.specs.Origin.{number_of}
 use Rattle.yv_expand.specs.Tree.{Item, Tree, all_of, count, item, join, item_list, none}
-use Rattle.yv_expand.specs.declared.item.Origin.{Origin}
-use Rattle.yv_expand.specs.declared.item.Origin.TheVariants.{Statement, Input, Output}
-use Rattle.yv_expand.specs.Expansion.{IsWhole, augments_of}
-use Rattle.yv_expand.specs.Expands.{Expands, first_of, input_of, is_at, is_input, is_item, is_output, node, nothing, operation, other, output_of, part, part_block, those, uses}
-use Rattle.yv_expand_rounds.specs.declared.label.ItemKind.TheVariants as kind
-use Rattle.yv_expand_augments.specs.Kinds.{is_uses, kind_at, kind_of_keyword, kind_of}
+use Rattle.yv_expand.specs.declared.origin.Origin.{Origin}
+use Rattle.yv_expand.specs.declared.origin.Origin.TheVariants.{Statement, Input, Output}
+use Rattle.yv_expand.specs.Expansion.{IsWhole}
+use Rattle.yv_expand.specs.Expands.{Expands, node, nothing, operation, other, uses}
+use Rattle.yv_expand_rounds.specs.declared.statement_kind.StatementKind.TheVariants as kind
+use Rattle.yv_expand_rounds.specs.Kinds.{is_uses, kind_of_keyword}
+use Rattle.yv_expand_augments.specs.Kinds.{kind_at, kind_of}
 use Rattle.yv_expand_tree.proofs.Standing.{in_first, in_lists, in_second, listed_long}
 use Rattle.yv_expand_laws.specs.Conditions.{gives_node, is_node_kind, stands_in_node}
 use Rattle.yv_expand_laws.proofs.Choosing.{block_scope, filter_in, first_passes, row_at}
@@ -69,7 +70,7 @@ module _ (rows : List Row) where
       let x = block_scope rows k j h in
       ap (stands_in_node rows) x.1 ∙ (ap (λ (n : ℕ). gives_node (slice_get rows n)) x.2 ∙ is)
 
-  item_gives : (k : ℕ) (r : Row) → slice_get rows k ≡ Some r → is_item r ≡ true → is_uses (kind_of rows (Statement k)) ≡ false
+  item_gives : (k : ℕ) (r : Row) → slice_get rows k ≡ Some r → is_node_or_uses r ≡ true → is_uses (kind_of rows (Statement k)) ≡ false
       → gives_node (slice_get rows k) ≡ true
   item_gives k r at is isnt =
       let kd = item_kind r is in
@@ -191,7 +192,8 @@ module _ (rows : List Row) where
         ]
       ]
 
--- an item of files that stands below one that is a node stands in the block of its statement, or is a part of it that isn't written
+-- an item of files that stands below one that is a node stands in the block of its statement, or is
+-- a part of it that isn't written
 pub stands_below : (files : Files) (marks : List Bool) (order : List ℕ) (own : ℕ) (items : List Item)
     → IsWhole files marks order own items → (i p : ℕ) (x y : Item)
     → slice_get items i ≡ Some x → x.parent ≡ Some p → slice_get items p ≡ Some y → is_uses (kind_of (rows_of files) y.origin) ≡ false
@@ -237,7 +239,7 @@ module _ (rows : List Row) where
   uses_all [] each = tt
   uses_all (t ∷ ts) each = uses_joined t (all_of ts) (each 0 t refl) (uses_all ts (λ n u at. each (suc n) u at))
 
-  statement_uses : (k : ℕ) (r : Row) → slice_get rows k ≡ Some r → is_item r ≡ true → is_uses (kind_of rows (Statement k)) ≡ true
+  statement_uses : (k : ℕ) (r : Row) → slice_get rows k ≡ Some r → is_node_or_uses r ≡ true → is_uses (kind_of rows (Statement k)) ≡ true
       → IsUsesAt (Statement k)
   statement_uses k r at given is = (k, r, refl, at, sym (statement_kind rows k r at given) ∙ is)
 

@@ -1,4 +1,5 @@
--- A block that has entered shows what it gives, where one turn does what it should (`TurnAdds`, `TurnMisses`).
+-- A block that has entered shows what it gives, where one turn does what it should (`TurnAdds`,
+-- `TurnMisses`).
 use Rattle.std.proofs.Common.{◌⊎◌, inl, inr, ◌≡◌, ◌≢◌, ℕ, ◌+◌, ◌-◌, ◌<◌, ◌≤◌, ◌==◌, ◌||◌, ◌&&◌, nat_lt, Bool, true, false, if◌then◌else◌, List, [], ◌∷◌, ◌++◌, length, length-set, get_or, refl, sym, ◌∙◌, ap, subst, arith, eqb-true, eq-eqb, None}
 use Rattle.std.specs.List.{Contains}
 use Rattle.std.proofs.lemmas.Bool.{cases_lt, false≢true, lt-ltb}
@@ -238,7 +239,8 @@ module _ (labels : List Label) (its : Items) (mark : ℕ → Bool) (below_mark :
   last_from [] n x there all = absurd (nothing_stands x there)
   last_from (y ∷ ys) n x there all = all (last_of (y ∷ ys)) (Contains-get_or (y ∷ ys) (length (y ∷ ys) - 1) 0 (omega arith))
 
-  -- when turns of the copies from k on are due, of items from `cur` to before `end`: what is there so far is from `lo + 1` on
+  -- when turns of the copies from k on are due, of items from `cur` to before `end`: what is there
+  -- so far is from `lo + 1` on
   pub record AreDue (g lo hi cur end k own : ℕ) (st : State) : Type 0 where
     pub room : length st.groups ≡ length labels + 1 + length st.ends
     pub items : end ≤ length labels

@@ -1,9 +1,10 @@
--- The smallest case with the difficulty: item 0 is a uses of a grouping with one node (1), which its augment gives a node (2); a sibling (3)
--- stands behind. What the block does is computed, and it is what the block gives.
+-- The smallest case with the difficulty: item 0 is a uses of a grouping with one node (1), which
+-- its augment gives a node (2); a sibling (3) stands behind. What the block does is computed, and
+-- it is what the block gives.
 use Rattle.std.proofs.Common.{◌≡◌, false, List, [], ◌∷◌, refl, Some}
 use Rattle.yv_expand_rounds.specs.declared.end.End.TheVariants as end
 use Rattle.yv_expand_rounds.specs.declared.label.Label.{Label}
-use Rattle.yv_expand_rounds.specs.declared.label.ItemKind.TheVariants as kind
+use Rattle.yv_expand_rounds.specs.declared.statement_kind.StatementKind.TheVariants as kind
 use Rattle.yv_expand_rounds.specs.Placements.{nothing}
 use Rattle.yv_expand_rounds.specs.Turns.{State}
 use Rattle.yv_expand_laws.specs.Blocks.{Augments, Block, augment, item, no_augments, enter_block, uses}

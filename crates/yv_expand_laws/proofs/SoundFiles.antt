@@ -30,15 +30,14 @@ use Rattle.yv_link_definitions.specs.Refers.{RefersTo}
 use Rattle.yv_link_definitions.specs.Refusals.{BadNames}
 use Rattle.yv_base_tables.specs.Families.{numbers_at}
 use Rattle.yv_expand.specs.Conformance.{Conform}
-use Rattle.yv_expand.specs.Expands.{is_item}
+use Rattle.yv_expand.specs.StatementBlocks.{is_node_or_uses, block_of, stands_in}
 use Rattle.yv_expand.specs.Units.{nodes, operations}
-use Rattle.yv_expand.specs.Weigh.{block_of, stands_in}
 use Rattle.yv_expand.proofs.Listing.{numbers_have}
 use Rattle.yv_expand.proofs.Words.{word_is}
-use Rattle.yv_expand_rounds.specs.declared.label.ItemKind.{ItemKind}
+use Rattle.yv_expand_rounds.specs.declared.statement_kind.StatementKind.{StatementKind}
 use Rattle.yv_expand_augments.specs.AugmentOrder.{giving_from, giving_places, gives, is_augment, is_giving, is_in, item_places}
 use Rattle.yv_expand_augments.specs.AugmentOrder as order
-use Rattle.yv_expand_augments.specs.Kinds.{kind_in, kind_of_keyword, kinds}
+use Rattle.yv_expand_rounds.specs.Kinds.{kind_in, kind_of_keyword, kinds}
 use Rattle.yv_expand_definition.specs.Expansion.{AllRefer}
 use Rattle.yv_expand_laws.specs.StatementItems.{AreSound}
 use Rattle.yv_expand_laws.proofs.Choosing.{left_is, right_is}
@@ -88,18 +87,18 @@ some_there (n ∷ ns) h = (n, there_first n ns)
 
 -- what stands at a place is an item of that block
 placed_at : (rows : List Row) (k a : ℕ) → slice_get (item_places rows) k ≡ Some (Some a)
-    → (r : Row) × (slice_get rows k ≡ Some r) × (order.is_item r ≡ true) × (r.scope ≡ a)
+    → (r : Row) × (slice_get rows k ≡ Some r) × (order.is_node_or_uses r ≡ true) × (r.scope ≡ a)
 placed_at [] k a at = absurd (let bad : None ≡ Some (Some a) = at in cc)
-placed_at (r ∷ rs) zero a at = by (order.is_item r) refl (same_Some _ _ at)
+placed_at (r ∷ rs) zero a at = by (order.is_node_or_uses r) refl (same_Some _ _ at)
   where
-    by : (b : Bool) → order.is_item r ≡ b → (if b then Some r.scope else None) ≡ Some a
-        → (q : Row) × (Some r ≡ Some q) × (order.is_item q ≡ true) × (q.scope ≡ a)
+    by : (b : Bool) → order.is_node_or_uses r ≡ b → (if b then Some r.scope else None) ≡ Some a
+        → (q : Row) × (Some r ≡ Some q) × (order.is_node_or_uses q ≡ true) × (q.scope ≡ a)
     by true is e = (r, refl, is, same_Some r.scope a e)
     by false is e = absurd (let bad : None ≡ Some a = e in cc)
 placed_at (r ∷ rs) (suc k) a at = placed_at rs k a at
 
 -- what has a kind is an item, or an input or an output
-in_kinds : (P : List ℕ → Bool) (ns : List (List ℕ × ItemKind)) (w : List ℕ) → list_all (λ n. P n.0) ns ≡ true → is_some (kind_in ns w) ≡ true
+in_kinds : (P : List ℕ → Bool) (ns : List (List ℕ × StatementKind)) (w : List ℕ) → list_all (λ n. P n.0) ns ≡ true → is_some (kind_in ns w) ≡ true
     → P w ≡ true
 in_kinds P [] w all is = absurd (false≢true is)
 in_kinds P (n ∷ ns) w all is = by (bytes_eq n.0 w) refl is (in_kinds P ns w (right_is (P n.0) (list_all (λ x. P x.0) ns) all))
@@ -119,15 +118,15 @@ either_kind : (w : List ℕ) → is_some (kind_of_keyword w) ≡ true → is_eit
 unfolding kind_of_keyword
 either_kind w is = in_kinds is_either kinds w refl is
 
-either_item : (r : Row) → order.is_item r ≡ true → (is_item r || is_part r.head.keyword) ≡ true
-unfolding is_item
+either_item : (r : Row) → order.is_node_or_uses r ≡ true → (is_node_or_uses r || is_part r.head.keyword) ≡ true
+unfolding is_node_or_uses
 either_item r is = either_kind r.head.keyword is
 
 no_augment : is_some (kind_of_keyword (codes "augment")) ≡ false
 unfolding kind_of_keyword
 no_augment = refl
 
-item_no_augment : (r : Row) → order.is_item r ≡ true → is_augment r ≡ true → ⊥
+item_no_augment : (r : Row) → order.is_node_or_uses r ≡ true → is_augment r ≡ true → ⊥
 item_no_augment r item augment =
     false≢true (sym no_augment ∙ (ap (λ (w : List ℕ). is_some (kind_of_keyword w)) (sym (word_is r.head (codes "augment") augment)) ∙ item))
 
@@ -231,7 +230,7 @@ module _ (roots_first : RootsFirst) (rows : HaveRows) (stand : StandInBlocks) (m
   ]
 
   pub gives_item : (block a : ℕ) → is_giving (rows_of files) block a ≡ true
-      → (k : ℕ) × (r : Row) × Contains (block_of (rows_of files) a) k × (slice_get (rows_of files) k ≡ Some r) × (is_item r ≡ true)
+      → (k : ℕ) × (r : Row) × Contains (block_of (rows_of files) a) k × (slice_get (rows_of files) k ≡ Some r) × (is_node_or_uses r ≡ true)
   gives_item block a is =
       let (q, row, given) = giving_row (rows_of files) block a is in
       let augment : is_augment q ≡ true = left_is (is_augment q) (not (length (numbers_at (item_places (rows_of files)) a) == 0)) given in
@@ -240,10 +239,10 @@ module _ (roots_first : RootsFirst) (rows : HaveRows) (stand : StandInBlocks) (m
       let (r, inner, item, scope) = placed_at (rows_of files) k a (listed (item_places (rows_of files)) a k there) in
       let apart : r.scope ≡ k → ⊥ = λ same.
       item_no_augment r item (ap is_augment (same_Some r q (sym inner ∙ (ap (slice_get (rows_of files)) (sym same ∙ scope) ∙ row))) ∙ augment) in
-      (k, r, in_block (rows_of files) a k r inner scope apart, inner, by q r k row augment inner scope apart (is_item r) refl (either_item r item))
+      (k, r, in_block (rows_of files) a k r inner scope apart, inner, by q r k row augment inner scope apart (is_node_or_uses r) refl (either_item r item))
     where
       by : (q r : Row) (k : ℕ) → slice_get (rows_of files) a ≡ Some q → is_augment q ≡ true → slice_get (rows_of files) k ≡ Some r → r.scope ≡ a
-          → (r.scope ≡ k → ⊥) → (b : Bool) → is_item r ≡ b → (b || is_part r.head.keyword) ≡ true → is_item r ≡ true
+          → (r.scope ≡ k → ⊥) → (b : Bool) → is_node_or_uses r ≡ b → (b || is_part r.head.keyword) ≡ true → is_node_or_uses r ≡ true
       by q r k row augment inner scope apart true is part = is
       by q r k row augment inner scope apart false is part = absurd (part_outside a k q r row augment inner scope apart part)
 

@@ -13,7 +13,7 @@ use Rattle.yv_expand_rounds.specs.Paths.{path_end}
 use Rattle.yv_expand_rounds.specs.Turns.{State}
 use Rattle.yv_expand_augments.specs.AugmentOrder.{augments_giving}
 use Rattle.yv_expand_augments.specs.Augmentation.{path_in, placed_from, turns, turns_from}
-use Rattle.yv_expand_augments.specs.Kinds.{is_uses}
+use Rattle.yv_expand_rounds.specs.Kinds.{is_uses}
 use Rattle.yv_expand_augments.specs.RefineTargets.{node_meant, node_at, refined_at, refined_from, refines_in}
 use Rattle.yv_expand_augments.specs.Spots.{Whole}
 use Rattle.yv_expand_augments.specs.declared.spot.Spot.{Spot}

@@ -1,4 +1,5 @@
--- Before any augment of a module has its turn the block of the modules stands at the top, and that of each augment in its group.
+-- Before any augment of a module has its turn the block of the modules stands at the top, and that
+-- of each augment in its group.
 use Rattle.std.proofs.Common.{inl, inr, ◌≡◌, ℕ, ◌+◌, ◌<◌, ◌≤◌, Bool, false, List, [], length, ◌∙◌, subst, arith}
 use Rattle.std.specs.List.{Contains}
 use Rattle.yv_expand_rounds.specs.declared.label.Label.{Label}

@@ -7,13 +7,13 @@ use Rattle.std.proofs.lemmas.Bool.{false≢true, ne_eqb}
 use Rattle.std.proofs.lemmas.Option.{same_Some}
 use Rattle.yv_link_scopes.specs.Rows.{Row}
 use Rattle.yv_expand.specs.Units.{nodes, operations}
-use Rattle.yv_expand.specs.Weigh.{block_of, stands_in}
-use Rattle.yv_expand.specs.Weigh as weigh
-use Rattle.yv_expand.specs.Expands.{is_at, is_augment, is_item, those}
-use Rattle.yv_expand_rounds.specs.declared.label.ItemKind.{ItemKind}
-use Rattle.yv_expand_rounds.specs.declared.label.ItemKind.TheVariants as kind
-use Rattle.yv_expand_augments.specs.Kinds.{kind_at, kind_of_keyword}
-use Rattle.yv_expand_augments.specs.Placement.{augment_around, augment_at, takes}
+use Rattle.yv_expand.specs.StatementBlocks.{block_of, stands_in, is_at, is_augment, is_node_or_uses, those}
+use Rattle.yv_expand.specs.StatementBlocks as blocks
+use Rattle.yv_expand_rounds.specs.declared.statement_kind.StatementKind.{StatementKind}
+use Rattle.yv_expand_rounds.specs.declared.statement_kind.StatementKind.TheVariants as kind
+use Rattle.yv_expand_augments.specs.Kinds.{kind_at}
+use Rattle.yv_expand_rounds.specs.Kinds.{kind_of_keyword, takes}
+use Rattle.yv_expand_augments.specs.Placement.{augment_around, augment_at}
 use Rattle.yv_expand_definition.specs.Gives.{is_taken, takes_block}
 use Rattle.yv_expand_laws.specs.TakenBlocks.{IsNotTaken, TargetsTake}
 use Rattle.yv_expand_laws.proofs.Choosing.{block_scope, filter_in, row_at}
@@ -23,8 +23,8 @@ use Rattle.yv_expand_laws.proofs.Kinding.{among_all, either_is, item_kind}
 use Rattle.yv_expand_laws.proofs.Showing.{first_or}
 use Rattle.yv_expand_laws.proofs.StatementMarks.{both_true}
 
-pub item_no_augment : (r : Row) → is_item r ≡ true → is_augment r ≡ false
-unfolding is_item
+pub item_no_augment : (r : Row) → is_node_or_uses r ≡ true → is_augment r ≡ false
+unfolding is_node_or_uses
 item_no_augment r h = elim (either_is _ _ h) [
   | inl a ↦ among_all (λ word. bytes_eq word (codes "augment") ≡ false) nodes r.head.keyword (refl, (refl, (refl, (refl, (refl, (refl, (refl, (refl, (refl, (refl, tt)))))))))) a
   | inr b ↦ among_all (λ word. bytes_eq word (codes "augment") ≡ false) operations r.head.keyword (refl, (refl, tt)) b
@@ -63,26 +63,26 @@ chosen p (x ∷ xs) k there is = by (p x) refl (first_or x xs k there) (λ h. ch
 
 -- a statement that passes is among the numbers of those that do
 numbered : (passes : ℕ → Row → Bool) (n : ℕ) (rs : List Row) (i j : ℕ) (r : Row) → j ≡ n + i → slice_get rs i ≡ Some r → passes j r ≡ true
-    → Contains (weigh.numbers_from passes n rs) j
+    → Contains (blocks.numbers_from passes n rs) j
 numbered passes n [] i j r e at is = absurd (not_none at)
 numbered passes n (q ∷ rs) zero j r e at is =
     ap_in (passes n q) (ap (λ (m : ℕ). passes m q) (let f : n ≡ j = omega (arith, e) in f) ∙ (ap (passes j) (same_Some q r at) ∙ is))
   where
-    ap_in : (b : Bool) → b ≡ true → Contains (if b then n ∷ weigh.numbers_from passes (n + 1) rs else weigh.numbers_from passes (n + 1) rs) j
-    ap_in true h = subst (λ (m : ℕ). Contains (n ∷ weigh.numbers_from passes (n + 1) rs) m) (let f : n ≡ j = omega (arith, e) in f) (there_first n (weigh.numbers_from passes (n + 1) rs))
+    ap_in : (b : Bool) → b ≡ true → Contains (if b then n ∷ blocks.numbers_from passes (n + 1) rs else blocks.numbers_from passes (n + 1) rs) j
+    ap_in true h = subst (λ (m : ℕ). Contains (n ∷ blocks.numbers_from passes (n + 1) rs) m) (let f : n ≡ j = omega (arith, e) in f) (there_first n (blocks.numbers_from passes (n + 1) rs))
     ap_in false h = absurd (false≢true h)
 numbered passes n (q ∷ rs) (suc i) j r e at is = in_rest (passes n q) (numbered passes (n + 1) rs i j r (omega (arith, e)) at is)
   where
-    in_rest : (b : Bool) → Contains (weigh.numbers_from passes (n + 1) rs) j → Contains (if b then n ∷ weigh.numbers_from passes (n + 1) rs else weigh.numbers_from passes (n + 1) rs) j
-    in_rest true h = there_later n j (weigh.numbers_from passes (n + 1) rs) h
+    in_rest : (b : Bool) → Contains (blocks.numbers_from passes (n + 1) rs) j → Contains (if b then n ∷ blocks.numbers_from passes (n + 1) rs else blocks.numbers_from passes (n + 1) rs) j
+    in_rest true h = there_later n j (blocks.numbers_from passes (n + 1) rs) h
     in_rest false h = h
 
-module _ (rows : List Row) (a : ℕ) (q : Row) (node : ItemKind) (at_a : slice_get rows a ≡ Some q) (is_one : is_augment q ≡ true) where
+module _ (rows : List Row) (a : ℕ) (q : Row) (node : StatementKind) (at_a : slice_get rows a ≡ Some q) (is_one : is_augment q ≡ true) where
   abbrev taken_at : ℕ → Bool
   taken_at k = is_taken node (option_and_then (λ r. kind_of_keyword r.head.keyword) (slice_get rows k))
 
   -- what is taken at a statement is taken of its item
-  taken_is : (k : ℕ) (r : Row) → slice_get rows k ≡ Some r → is_item r ≡ true → taken_at k ≡ takes node (kind_at (Some r))
+  taken_is : (k : ℕ) (r : Row) → slice_get rows k ≡ Some r → is_node_or_uses r ≡ true → taken_at k ≡ takes node (kind_at (Some r))
   taken_is k r at item =
       let kd = item_kind r item in
       ap (λ o. is_taken node (option_and_then (λ (z : Row). kind_of_keyword z.head.keyword) o)) at
@@ -105,9 +105,9 @@ module _ (rows : List Row) (a : ℕ) (q : Row) (node : ItemKind) (at_a : slice_g
 
   not_taken : takes_block rows a node ≡ false → IsNotTaken rows a node
   not_taken h =
-      let x = one_fails taken_at (those is_item rows (block_of rows a)) h in
-      let y = filter_in (is_at is_item rows) (block_of rows a) x.0 x.1 in
-      let z = row_at is_item rows x.0 y.1 in
+      let x = one_fails taken_at (those is_node_or_uses rows (block_of rows a)) h in
+      let y = filter_in (is_at is_node_or_uses rows) (block_of rows a) x.0 x.1 in
+      let z = row_at is_node_or_uses rows x.0 y.1 in
       let b = block_scope rows a x.0 y.0 in
       record {
         statement = x.0;
@@ -119,7 +119,7 @@ module _ (rows : List Row) (a : ℕ) (q : Row) (node : ItemKind) (at_a : slice_g
       }
 
   -- an item around which the augment is stands in its block
-  pub stands_there : (j : ℕ) (r : Row) → slice_get rows j ≡ Some r → is_item r ≡ true → augment_around rows (Some r) ≡ Some a → Contains (block_of rows a) j
+  pub stands_there : (j : ℕ) (r : Row) → slice_get rows j ≡ Some r → is_node_or_uses r ≡ true → augment_around rows (Some r) ≡ Some a → Contains (block_of rows a) j
   stands_there j r at item around =
       let scope : r.scope ≡ a = scope_of r around in
       let other : r.scope ≢ j =
@@ -130,9 +130,9 @@ module _ (rows : List Row) (a : ℕ) (q : Row) (node : ItemKind) (at_a : slice_g
 
   refuses_block : IsNotTaken rows a node → takes_block rows a node ≡ false
   refuses_block n =
-      all_fail taken_at (those is_item rows (block_of rows a)) n.statement
-      (chosen (is_at is_item rows) (block_of rows a) n.statement (stands_there n.statement n.row n.at n.item n.around)
-      (ap (λ o. unwrap_or (option_map is_item o) false) n.at ∙ n.item))
+      all_fail taken_at (those is_node_or_uses rows (block_of rows a)) n.statement
+      (chosen (is_at is_node_or_uses rows) (block_of rows a) n.statement (stands_there n.statement n.row n.at n.item n.around)
+      (ap (λ o. unwrap_or (option_map is_node_or_uses o) false) n.at ∙ n.item))
       (taken_is n.statement n.row n.at n.item ∙ n.taken)
 
 pub targets_take : (rows : List Row) → TargetsTake rows

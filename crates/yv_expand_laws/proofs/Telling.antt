@@ -11,18 +11,20 @@ use Rattle.yv_link_scopes.specs.Files.{Files, brief_of}
 use Rattle.yv_link_scopes.specs.RowList.{rows_of}
 use Rattle.yv_link_scopes.specs.Names.{local_of}
 use Rattle.yv_link_scopes.specs.Rows.{Row, name_in}
-use Rattle.yv_expand_paths.specs.Names.{node_name, qualified_name}
-use Rattle.yv_expand_paths.specs.Names as names
-use Rattle.yv_expand_paths.specs.Paths.{module_file_of, path_at, step_number, step_of, steps_of}
+use Rattle.yv_expand_paths.specs.Names.{node_name}
+use Rattle.yv_expand_paths.specs.InnerNameNumbers.{qualified_name}
+use Rattle.yv_expand_paths.specs.InnerNameNumbers as name_numbers
+use Rattle.yv_expand_paths.specs.Paths.{module_file_of, steps_of}
+use Rattle.yv_expand_paths.specs.InnerSteps.{path_at, step_number, step_of}
 use Rattle.yv_expand_paths.specs.declared.step.SchemaStep.{SchemaStep as NumberedStep}
 use Rattle.yv_expand_paths.proofs.Stepping.{input_there, number_there, number_within, output_there, step_is}
 use Rattle.yv_expand.specs.Origin.{number_of}
 use Rattle.yv_expand.specs.Tree.{Item}
-use Rattle.yv_expand.specs.declared.item.Origin.{Origin}
-use Rattle.yv_expand.specs.declared.item.Origin.TheVariants.{Statement, Input, Output}
+use Rattle.yv_expand.specs.declared.origin.Origin.{Origin}
+use Rattle.yv_expand.specs.declared.origin.Origin.TheVariants.{Statement, Input, Output}
 use Rattle.yv_expand_rounds.specs.declared.label.Label.{Label}
 use Rattle.yv_expand_rounds.specs.Labels.{is_named, is_some_named}
-use Rattle.yv_expand_rounds.specs.Labels as labels_are
+use Rattle.yv_expand_rounds.specs.Kinds as kinds_are
 use Rattle.yv_expand_augments.specs.Augmentation.{step_name}
 use Rattle.yv_expand_augments.specs.Kinds.{label_of, name_number}
 use Rattle.yv_expand_augments.specs.Spots.{LayoutView, Whole, source_in, labels_of, layout_of, laid_from, one_more, spot_of, whole}
@@ -114,7 +116,7 @@ module_file_is (Some m) h is = ap (λ (z : ℕ). Some z) (eqb-true m h is)
 
 module _ (files : Files) (few : length (rows_of files) ≤ 4294967293) where
   -- a step by number is the name of those nodes that answer it
-  step_agrees : (file own module_file : ℕ) (text name : List ℕ) (number : ℕ) → names.number_of (rows_of files) name ≡ Some number
+  step_agrees : (file own module_file : ℕ) (text name : List ℕ) (number : ℕ) → name_numbers.number_of (rows_of files) name ≡ Some number
       → (qualified_name module_file number == step_name own (step_of (map brief_of files) (rows_of files) file text)) ≡ (is_module_file (module_file_of (map brief_of files) (rows_of files) file own text) module_file && bytes_eq (local_of text) name)
   step_agrees file own module_file text name number numbered =
       same_truth (qualified_name module_file number == step_name own (step_of (map brief_of files) (rows_of files) file text)) (is_module_file (module_file_of (map brief_of files) (rows_of files) file own text) module_file && bytes_eq (local_of text) name)
@@ -147,13 +149,13 @@ module _ (files : Files) (few : length (rows_of files) ≤ 4294967293) where
               (sym (same_Some (step_number own s) (qualified_name module_file number) (ap (option_map (step_number own)) (sym is) ∙ e)) ∙ ap (step_name own) (sym is))
 
   -- the number of an item's name
-  name_there : (o : Origin) → number_of o < length (rows_of files) → (n : ℕ) × (name_number (rows_of files) o ≡ Some n) × (names.number_of (rows_of files) (name_of (rows_of files) o) ≡ Some n)
+  name_there : (o : Origin) → number_of o < length (rows_of files) → (n : ℕ) × (name_number (rows_of files) o ≡ Some n) × (name_numbers.number_of (rows_of files) (name_of (rows_of files) o) ≡ Some n)
   name_there (Input k) l = (let x = input_there (rows_of files) in (x.0, x.1, x.1))
   name_there (Output k) l = (let x = output_there (rows_of files) in (x.0, x.1, x.1))
   name_there (Statement k) l =
       let x = number_there (rows_of files) k l in
       let r = there_is (rows_of files) k l in
-      (x.0, x.1, ap (λ o. names.number_of (rows_of files) (name_at o)) r.1 ∙ (sym (ap (option_and_then (λ (z : Row). names.number_of (rows_of files) (node_name z.head))) r.1) ∙ x.1))
+      (x.0, x.1, ap (λ o. name_numbers.number_of (rows_of files) (name_at o)) r.1 ∙ (sym (ap (option_and_then (λ (z : Row). name_numbers.number_of (rows_of files) (node_name z.head))) r.1) ∙ x.1))
 
 module _ (files : Files) (few : length (rows_of files) ≤ 4294967293) (augments : List ℕ) (count : ℕ) (items : List Item) (have : HaveStatements (rows_of files) items) (its : Items)
     (are : AreItems (whole (map brief_of files) (rows_of files) augments count) items its) where
@@ -184,7 +186,7 @@ module _ (files : Files) (few : length (rows_of files) ≤ 4294967293) (augments
           ap (λ (h : ℕ). is_module_file (module_file_of (map brief_of files) (rows_of files) file module_file text) h && bytes_eq (local_of text) (its.node_of i).name) (are.module_file i s.0 s.1)
           ∙ ap (λ z. is_module_file (module_file_of (map brief_of files) (rows_of files) file module_file text) s.0.module_file && bytes_eq (local_of text) z) (are.name i x.0 x.1) in
           ap (is_some_named (number file module_file text)) at
-          ∙ (ap (λ (b : Bool). labels_are.is_node l.kind && b) (ap (λ (z : ℕ). z == number file module_file text) name ∙ (agree ∙ sym shown))
+          ∙ (ap (λ (b : Bool). kinds_are.is_node l.kind && b) (ap (λ (z : ℕ). z == number file module_file text) name ∙ (agree ∙ sym shown))
           ∙ ap (λ (b : Bool). b && answers (step file module_file text) (its.node_of i)) (sym (are.node i ∙ ap is_some_node at)))
 
   all_agree : (file module_file : ℕ) (texts : List (List ℕ)) → Agree (labels_of (layout_of w items).spots) its (map (step_name module_file) (map (step_of (map brief_of files) (rows_of files) file) texts)) (map (step file module_file) texts)

@@ -19,7 +19,7 @@ use Rattle.yv_expand_augments.specs.Ends.{end_at}
 use Rattle.yv_expand_augments.specs.AugmentOrder.{augments_giving, is_giving}
 use Rattle.yv_expand_augments.specs.Augmentation.{AreAugmented, path_in, placement, placed_from, turns, turns_from}
 use Rattle.yv_expand_augments.specs.InnerLayout.{AreLaid}
-use Rattle.yv_expand_augments.specs.Kinds.{is_uses}
+use Rattle.yv_expand_rounds.specs.Kinds.{is_uses}
 use Rattle.yv_expand_augments.specs.Spots.{LayoutView, Whole, copies_of, labels_of, layout_of}
 use Rattle.yv_expand_augments.specs.MissingTargets.{after_turns, augments_in, had_turns, limit_of, next_number, node_reached}
 use Rattle.yv_expand_augments.specs.declared.spot.Spot.{Spot}

@@ -6,9 +6,10 @@ use Rattle.std.proofs.lemmas.Option.{same_Some}
 use Rattle.yv_link_scopes.specs.Files.{Briefs}
 use Rattle.yv_link_scopes.specs.Rows.{Row}
 use Rattle.yv_expand.specs.Tree.{Item, Tree as Expansion, all_of, count, item, join, item_list, none}
-use Rattle.yv_expand.specs.declared.item.Origin.{Origin}
-use Rattle.yv_expand.specs.declared.item.Origin.TheVariants.{Statement}
-use Rattle.yv_expand.specs.Expands.{Expands, is_item}
+use Rattle.yv_expand.specs.declared.origin.Origin.{Origin}
+use Rattle.yv_expand.specs.declared.origin.Origin.TheVariants.{Statement}
+use Rattle.yv_expand.specs.Expands.{Expands}
+use Rattle.yv_expand.specs.StatementBlocks.{is_node_or_uses}
 use Rattle.yv_expand.specs.Expands.Expands.{nothing, other, node, operation, uses}
 use Rattle.yv_expand_tree.proofs.Standing.{in_second}
 use Rattle.yv_expand_laws.proofs.Finding.{not_none}
@@ -20,10 +21,10 @@ abbrev pub HasTop : ℕ → Expansion → Type 0
 HasTop j none = ⊥
 HasTop j (item o below behind) = (o ≡ Statement j) ⊎ HasTop j behind
 
-pub expands_top : {files : Briefs} {rows : List Row} {numbers : List ℕ} {t : Expansion} → Expands files rows numbers t → (j : ℕ) (r : Row) → Contains numbers j → slice_get rows j ≡ Some r → is_item r ≡ true → HasTop j t
+pub expands_top : {files : Briefs} {rows : List Row} {numbers : List ℕ} {t : Expansion} → Expands files rows numbers t → (j : ℕ) (r : Row) → Contains numbers j → slice_get rows j ≡ Some r → is_node_or_uses r ≡ true → HasTop j t
 expands_top nothing j r there at is = absurd (nothing_stands j there)
 expands_top {rows = rows} (other {k = k} {r = q} {others = others} at_k isnt E) j r there at is = elim (first_or k others j there) [
-  | inl same ↦ absurd (false≢true (sym isnt ∙ (ap is_item (same_Some q r (sym at_k ∙ (ap (slice_get rows) same ∙ at))) ∙ is)))
+  | inl same ↦ absurd (false≢true (sym isnt ∙ (ap is_node_or_uses (same_Some q r (sym at_k ∙ (ap (slice_get rows) same ∙ at))) ∙ is)))
   | inr h ↦ expands_top E j r h at is
 ]
 expands_top (node {k = k} {others = others} at_k is_k no_operation none_meant B E) j r there at is = elim (first_or k others j there) [

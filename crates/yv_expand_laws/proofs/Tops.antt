@@ -1,11 +1,12 @@
--- The tops of files, and behind them the blocks of the augments of modules, lie in blocks that give what their statements give.
+-- The tops of files, and behind them the blocks of the augments of modules, lie in blocks that give
+-- what their statements give.
 use Rattle.std.proofs.Common.{inl, ◌≡◌, ℕ, ◌+◌, ◌<◌, ◌≤◌, false, List, [], ◌∷◌, ◌++◌, length, map, length-append, append_assoc, refl, sym, ◌∙◌, ap, subst, arith, Some, None}
 use Rattle.std.specs.List.{Contains, slice_get}
 use Rattle.std.proofs.lemmas.List.{append-nil}
 use Rattle.yv_link_scopes.specs.Files.{Files, brief_of, module_file_at}
 use Rattle.yv_link_scopes.specs.RowList.{rows_of}
 use Rattle.yv_link_scopes.specs.Rows.{Row}
-use Rattle.yv_expand.specs.Weigh.{top_of}
+use Rattle.yv_expand.specs.StatementBlocks.{top_of}
 use Rattle.yv_expand.specs.Tree.{Item, Tree, all_of, count, item_list}
 use Rattle.yv_expand_rounds.specs.declared.label.Label.{Label}
 use Rattle.yv_expand_rounds.specs.Groups.{group_of_augment, members_of}
@@ -40,7 +41,8 @@ use Rattle.yv_expand_laws.proofs.Showing.{may_block, may_others}
 use Rattle.yv_expand_laws.proofs.Staging.{noted_alike}
 
 module _ (files : Files) (augments : List ℕ) (many : ℕ) (items : List Item) where
-  -- the blocks of augments give what this says of each, by its place, and at their items that is refused which is refused of these
+  -- the blocks of augments give what this says of each, by its place, and at their items that is
+  -- refused which is refused of these
   abbrev pub AllCome : Items → (made : ℕ → Product → Type 0) → {lo hi c e k own : ℕ} → Augments lo hi c e k own → Type 0
   AllCome now made no_augments = Unit {0}
   AllCome now made {k = k} (augment mid d names block others) = ((m : Product) → made k m → Come files augments many items now block m.nodes m.wrong) × AllCome now made others
@@ -71,7 +73,8 @@ module _ (files : Files) (augments : List ℕ) (many : ℕ) (items : List Item) 
   abbrev pub Given : List ℕ → (module_file : ℕ) → (under : List ℕ) → Product → Type 0
   Given ks module_file under m = Gives files module_file under ks m
 
-  -- statements of which all items stand in one group, at the top or in that of an augment of a module
+  -- statements of which all items stand in one group, at the top or in that of an augment of a
+  -- module
   pub record TopPart (ks : List ℕ) (t : Tree) (g module_file : ℕ) (under : List ℕ) : Type 0 where
     pub parts : PartsMake files augments many items its facts each ks t
     pub stands : (k : ℕ) (r : Row) → Contains ks k → slice_get w.rows k ≡ Some r

@@ -6,10 +6,10 @@ use Rattle.std.proofs.lemmas.Bool.{false≢true}
 use Rattle.yv_link_scopes.specs.Rows.{Row}
 use Rattle.yv_expand.specs.Origin.{number_of}
 use Rattle.yv_expand.specs.Tree.{Item}
-use Rattle.yv_expand.specs.Expands.{is_augment, is_item}
-use Rattle.yv_expand_rounds.specs.declared.label.ItemKind.{ItemKind}
+use Rattle.yv_expand.specs.StatementBlocks.{is_augment, is_node_or_uses}
+use Rattle.yv_expand_rounds.specs.declared.statement_kind.StatementKind.{StatementKind}
 use Rattle.yv_expand_augments.specs.AugmentOrder.{is_giving, ordinal}
-use Rattle.yv_expand_augments.specs.Kinds.{is_uses}
+use Rattle.yv_expand_rounds.specs.Kinds.{is_uses}
 use Rattle.yv_expand_augments.specs.MissingTargets.{augments_in, had_turns, next_number}
 use Rattle.yv_expand_augments.specs.Spots.{Whole, copy_group, group_below, layout_of, spot_at, used_group}
 use Rattle.yv_expand_augments.specs.declared.spot.Spot.{Spot}
@@ -22,12 +22,12 @@ use Rattle.yv_expand_laws.proofs.Laid.{group_at}
 
 -- an augment of a block gives something where an item stands in its own
 pub item_gives : (rows : List Row) (u a j : ℕ) (q r : Row) → slice_get rows a ≡ Some q → is_augment q ≡ true → q.scope ≡ u → slice_get rows j ≡ Some r → r.scope ≡ a
-    → is_item r ≡ true → is_giving rows u a ≡ true
+    → is_node_or_uses r ≡ true → is_giving rows u a ≡ true
 item_gives rows u a j q r at is scope row in_block item = by (is_giving rows u a) refl
   where
     by : (b : Bool) → is_giving rows u a ≡ b → is_giving rows u a ≡ true
     by true h = h
-    by false h = absurd (false≢true (sym (nothing_given rows u a q at is scope h j r row in_block) ∙ ap (λ (o : Option ItemKind). is_some o) (item_kind r item).1))
+    by false h = absurd (false≢true (sym (nothing_given rows u a q at is scope h j r row in_block) ∙ ap (λ (o : Option StatementKind). is_some o) (item_kind r item).1))
 
 -- the number of its copy
 number_is : (rows : List Row) (s : Spot) (place a : ℕ) → slice_get (augments_in rows s.statement) place ≡ Some a → is_giving rows s.statement a ≡ true

@@ -1,5 +1,5 @@
--- An augment of a uses gives an item to a node that doesn't take it exactly where it adds, at a uses
--- in the final tree, to a node that doesn't take its block.
+-- An augment of a uses gives an item to a node that doesn't take it exactly where it adds, at a
+-- uses in the final tree, to a node that doesn't take its block.
 use Rattle.std.proofs.Common.{inl, inr, ◌≡◌, ℕ, ◌+◌, ◌<◌, Bool, true, false, if◌then◌else◌, List, drop, length, map, Option, Some, None, refl, sym, ◌∙◌, ap, subst, arith}
 use Rattle.std.specs.List.{Contains, slice_get}
 use Rattle.std.proofs.lemmas.Bool.{false≢true}
@@ -7,28 +7,28 @@ use Rattle.std.proofs.lemmas.Option.{same_Some, slice_get_within}
 use Rattle.yv_link_scopes.specs.Files.{Files, brief_of}
 use Rattle.yv_link_scopes.specs.RowList.{rows_of}
 use Rattle.yv_link_scopes.specs.Rows.{Row}
-use Rattle.yv_expand.specs.Weigh.{block_of}
+use Rattle.yv_expand.specs.StatementBlocks.{block_of, augments_of, is_at, is_augment, is_node_or_uses, those}
 use Rattle.yv_expand.specs.Origin.{number_of}
 use Rattle.yv_expand.specs.Tree.{Item, all_of, join}
-use Rattle.yv_expand.specs.declared.item.Origin.{Origin}
-use Rattle.yv_expand.specs.declared.item.Origin.TheVariants.{Input, Output, Statement}
-use Rattle.yv_expand.specs.Expansion.{IsWhole, augments_of}
-use Rattle.yv_expand.specs.Expands.{is_at, is_augment, is_item, those}
+use Rattle.yv_expand.specs.declared.origin.Origin.{Origin}
+use Rattle.yv_expand.specs.declared.origin.Origin.TheVariants.{Input, Output, Statement}
+use Rattle.yv_expand.specs.Expansion.{IsWhole}
 use Rattle.yv_expand_rounds.specs.Groups.{IsIn, group_of_augment}
 use Rattle.yv_expand_rounds.specs.Placements.{StandOnce}
 use Rattle.yv_expand_rounds.specs.Tree.{IsTree, Tree, group_under}
 use Rattle.yv_expand_rounds.specs.Tree as by_number
 use Rattle.yv_expand_rounds.specs.Turns.{State, given_group, group_of_target, target_of}
-use Rattle.yv_expand_rounds.specs.declared.label.ItemKind.{ItemKind}
-use Rattle.yv_expand_rounds.specs.declared.label.ItemKind.TheVariants as kind
+use Rattle.yv_expand_rounds.specs.declared.statement_kind.StatementKind.{StatementKind}
+use Rattle.yv_expand_rounds.specs.declared.statement_kind.StatementKind.TheVariants as kind
 use Rattle.yv_expand_rounds.specs.declared.label.Label.{Label}
 use Rattle.yv_expand_rounds.specs.declared.row.ItemRow.{ItemRow}
 use Rattle.yv_expand_augments.specs.Ends.{end_at}
 use Rattle.yv_expand_augments.specs.Augmentation.{AreAugmented, placed_from}
 use Rattle.yv_expand_augments.specs.AugmentOrder.{is_giving, place_of}
-use Rattle.yv_expand_augments.specs.Kinds.{is_uses, kind_at, kind_of}
+use Rattle.yv_expand_rounds.specs.Kinds.{is_uses, takes}
+use Rattle.yv_expand_augments.specs.Kinds.{kind_at, kind_of}
 use Rattle.yv_expand_augments.specs.MissingTargets.{after_turns, augments_in, next_number, node_reached}
-use Rattle.yv_expand_augments.specs.Placement.{augment_around, augment_at, takes}
+use Rattle.yv_expand_augments.specs.Placement.{augment_around, augment_at}
 use Rattle.yv_expand_augments.specs.Spots.{Whole, copy_group, group_below, layout_of, spot_at, top_group, top_group_of}
 use Rattle.yv_expand_augments.specs.declared.spot.Spot.{Spot}
 use Rattle.yv_expand_augments.proofs.Given.{once_of}
@@ -124,7 +124,7 @@ module _ (files : Files) (marks : List Bool) (order : List ℕ) (own : ℕ) (ite
         (laws.one st.groups (length items) h.row.number (group_under h.row.parent) 0 once (laws.below labels st.groups h.place h.row tree is_tree h.at) last) h.node_is
 
     uses_case : (p : ℕ) (y x : Item) → slice_get items h.row.number ≡ Some x → h.spot.statement ≡ number_of x.origin → h.spot.label.kind ≡ kind_of rows x.origin → x.parent ≡ Some p
-        → slice_get items p ≡ Some y → (j : ℕ) (r : Row) → x.origin ≡ Statement j → slice_get rows j ≡ Some r → is_item r ≡ true → IsOf files marks y.origin r.scope
+        → slice_get items p ≡ Some y → (j : ℕ) (r : Row) → x.origin ≡ Statement j → slice_get rows j ≡ Some r → is_node_or_uses r ≡ true → IsOf files marks y.origin r.scope
         → (i : ℕ) × IsThere placed i × HasUntaken w items i a
     uses_case p y x x_at statement kind_is up at_y j r origin at_j is_one of =
         let around : augment_around rows (Some r) ≡ Some a = around_is x statement j r origin at_j in
@@ -253,7 +253,7 @@ module _ (files : Files) (marks : List Bool) (order : List ℕ) (own : ℕ) (ite
       (z : ℕ) × (g : Spot) × GivesItem i place a s z g × (g.statement ≡ j) × (g.label.kind ≡ kind_at (slice_get rows j))
 
   laid_item : (i place a j z : ℕ) (s : Spot) (q r : Row) → slice_get spots i ≡ Some s → is_uses s.label.kind ≡ true → slice_get (augments_in rows s.statement) place ≡ Some a
-      → slice_get rows a ≡ Some q → is_augment q ≡ true → q.scope ≡ s.statement → slice_get rows j ≡ Some r → r.scope ≡ a → is_item r ≡ true
+      → slice_get rows a ≡ Some q → is_augment q ≡ true → q.scope ≡ s.statement → slice_get rows j ≡ Some r → r.scope ≡ a → is_node_or_uses r ≡ true
       → slice_get items z ≡ Some (record { origin = Statement j; parent = Some i }) → HasItem i place a s j
   laid_item i place a j z s q r at of_uses at_place at_a is_aug scope_a at_j scope is_one x_at =
       let x : Item = record { origin = Statement j; parent = Some i } in
@@ -317,10 +317,10 @@ module _ (files : Files) (marks : List Bool) (order : List ℕ) (own : ℕ) (ite
         scope = ap (λ (z : Row). z.scope) (same_Some q b.0 (sym at_a ∙ b.1)) ∙ (b.2 ∙ sym of_k);
       }
 
-  untaken_item : AllRefer (map brief_of files) rows → (i a j : ℕ) (r : Row) (h : HasUntaken w items i a) → IsAmong i a h.spot → slice_get rows j ≡ Some r → is_item r ≡ true
+  untaken_item : AllRefer (map brief_of files) rows → (i a j : ℕ) (r : Row) (h : HasUntaken w items i a) → IsAmong i a h.spot → slice_get rows j ≡ Some r → is_node_or_uses r ≡ true
       → augment_around rows (Some r) ≡ Some a → HasItem i h.place a h.spot j
   untaken_item refer i a j r h m at_j is_one around =
-      let node : ItemKind = h.node.label.kind in
+      let node : StatementKind = h.node.label.kind in
       let scope : r.scope ≡ a = scope_of rows a m.row node m.at m.is r around in
       let in_block : Contains (block_of rows a) j = stands_there rows a m.row node m.at m.is j r at_j is_one around in
       let (z, x_at) = item_added files marks order own items refer expanded i m.statement j m.item m.item_at m.origin m.of_uses

@@ -10,15 +10,14 @@ use Rattle.yv_statement.specs.declared.refusal.Refusal.{Refusal}
 use Rattle.yv_link_scopes.specs.Files.{Briefs, Files, brief_of}
 use Rattle.yv_link_scopes.specs.RowList.{rows_of}
 use Rattle.yv_link_scopes.specs.Rows.{Row}
-use Rattle.yv_expand.specs.Limit.{given_at}
-use Rattle.yv_expand.specs.Weigh.{block_of, top_of}
+use Rattle.yv_expand.specs.StatementBlocks.{given_at, block_of, top_of, augments_of, first_of, input_of, is_at, is_augment, is_input, is_output, output_of, part, part_block, those}
 use Rattle.yv_base_tables.specs.Families.{is_place, numbers_from}
 use Rattle.yv_expand.specs.Origin.{number_of}
 use Rattle.yv_expand.specs.Tree.{Item, Tree, all_of, count, item, join, item_list, none}
-use Rattle.yv_expand.specs.declared.item.Origin.{Origin}
-use Rattle.yv_expand.specs.declared.item.Origin.TheVariants.{Input, Output}
-use Rattle.yv_expand.specs.Expansion.{IsWhole, augments_of}
-use Rattle.yv_expand.specs.Expands.{Expands, first_of, input_of, is_at, is_augment, is_input, is_output, output_of, part, part_block, those}
+use Rattle.yv_expand.specs.declared.origin.Origin.{Origin}
+use Rattle.yv_expand.specs.declared.origin.Origin.TheVariants.{Input, Output}
+use Rattle.yv_expand.specs.Expansion.{IsWhole}
+use Rattle.yv_expand.specs.Expands.{Expands}
 use Rattle.yv_expand.specs.Expands.Expands.{nothing, other, node, operation, uses}
 use Rattle.yv_expand_rounds.specs.Tree.{IsTree}
 use Rattle.yv_expand_rounds.specs.declared.row.ItemRow.{ItemRow}

@@ -8,16 +8,17 @@ use Rattle.std.proofs.lemmas.Option.{same_Some}
 use Rattle.yv_link_scopes.specs.Rows.{Row}
 use Rattle.yv_link_definitions.specs.Refers as refers
 use Rattle.yv_link_definitions.specs.Refers.{RefersTo}
-use Rattle.yv_expand.specs.Weigh.{block_of}
+use Rattle.yv_expand.specs.StatementBlocks.{block_of, is_at, is_augment, is_node_or_uses, those}
 use Rattle.yv_expand.specs.Tree.{Item, Tree, count, item, join, item_list, none}
-use Rattle.yv_expand.specs.declared.item.Origin.TheVariants.{Statement}
+use Rattle.yv_expand.specs.declared.origin.Origin.TheVariants.{Statement}
 use Rattle.yv_expand_rounds.specs.declared.label.Label.{Label}
 use Rattle.yv_expand_rounds.specs.Groups.{group_of_augment}
-use Rattle.yv_expand.specs.Expands.{blocks_of, is_at, is_augment, is_item, those}
+use Rattle.yv_expand.specs.Expands.{blocks_of}
 use Rattle.yv_expand_augments.specs.AugmentOrder.{augments_giving, is_giving, ordinal}
 use Rattle.yv_expand_augments.specs.AugmentOrder as augmented_giving
 use Rattle.yv_expand_augments.specs.Augmentation.{path_in}
-use Rattle.yv_expand_augments.specs.Kinds.{is_uses, kind_at}
+use Rattle.yv_expand_rounds.specs.Kinds.{is_uses}
+use Rattle.yv_expand_augments.specs.Kinds.{kind_at}
 use Rattle.yv_expand_augments.specs.Spots.{LayoutView, Whole, copy_group, group_below, laid_from, spot_at, spot_of, used_group}
 use Rattle.yv_expand_augments.specs.MissingTargets.{augments_in}
 use Rattle.yv_expand_augments.specs.declared.spot.Spot.{Spot}
@@ -32,17 +33,17 @@ use Rattle.yv_expand_laws.proofs.Lying.{AllLies, Lies, Part, Parts, all_lie, lai
 
 module _ (w : Whole) (labels : List Label) (each : length labels ≡ w.items) where
   -- no part is left where none is an item
-  none_given : {ks : List ℕ} {t : Tree} → Parts w labels ks t → ((k : ℕ) → Contains ks k → (r : Row) × (slice_get w.rows k ≡ Some r) × (is_item r ≡ false)) → t ≡ none
+  none_given : {ks : List ℕ} {t : Tree} → Parts w labels ks t → ((k : ℕ) → Contains ks k → (r : Row) × (slice_get w.rows k ≡ Some r) × (is_node_or_uses r ≡ false)) → t ≡ none
   none_given no_parts all = refl
   none_given (one_part {k = k} {ks = ks} {u = u} P rest) all =
       let r = all k (there_first k ks) in
       ap (λ x. join x u) (P.nothing r.0 r.1 r.2) ∙ none_given rest (λ j h. all j (there_later k j ks h))
 
   -- an item is one for both
-  pub no_item : (r : Row) → augmented_giving.is_item r ≡ false → is_item r ≡ false
-  no_item r h = by (is_item r) refl
+  pub no_item : (r : Row) → augmented_giving.is_node_or_uses r ≡ false → is_node_or_uses r ≡ false
+  no_item r h = by (is_node_or_uses r) refl
     where
-      by : (b : Bool) → is_item r ≡ b → is_item r ≡ false
+      by : (b : Bool) → is_node_or_uses r ≡ b → is_node_or_uses r ≡ false
       by false is = is
       by true is = (let kd = item_kind r is in absurd (false≢true (sym h ∙ ap is_some kd.1)))
 
@@ -127,11 +128,11 @@ module _ (w : Whole) (labels : List Label) (each : length labels ≡ w.items) wh
                 ∙ (ap (λ (z : Bool). if z then copy_group w (s.first + ordinal w.rows a) else s.group) is
                 ∙ (let e : w.items + 1 + (s.first + ordinal w.rows a) ≡ length labels + 1 + k = omega (arith, each, place, k_is) in e))
 
-  pub uses_part : (k d : ℕ) (r : Row) (copies given : Tree) → slice_get w.rows k ≡ Some r → is_item r ≡ true → RefersTo w.files w.rows k d → Parts w labels (block_of w.rows d) copies
+  pub uses_part : (k d : ℕ) (r : Row) (copies given : Tree) → slice_get w.rows k ≡ Some r → is_node_or_uses r ≡ true → RefersTo w.files w.rows k d → Parts w labels (block_of w.rows d) copies
       → Parts w labels (blocks_of w.rows (block_of w.rows k)) given → Part w labels k (item (Statement k) (join copies given) none)
   uses_part k d r copied given at is_one meant C G = record {
     lies = lies;
-    nothing = λ q row none_is. absurd (false≢true (sym none_is ∙ (ap is_item (same_Some q r (sym row ∙ at)) ∙ is_one)));
+    nothing = λ q row none_is. absurd (false≢true (sym none_is ∙ (ap is_node_or_uses (same_Some q r (sym row ∙ at)) ∙ is_one)));
   }
     where
       facts : (refers.is_uses r ≡ true) × ((q : Row) × (slice_get w.rows d ≡ Some q) × (is_augment q ≡ false))

@@ -7,7 +7,8 @@ use Rattle.yv_expand_rounds.specs.declared.end.End.{End}
 use Rattle.yv_expand_rounds.specs.declared.end.End.TheVariants as end
 use Rattle.yv_expand_rounds.specs.declared.label.Label.{Label}
 use Rattle.yv_expand_rounds.specs.Groups.{Groups, members_of}
-use Rattle.yv_expand_rounds.specs.Labels.{is_case, is_choice, is_named}
+use Rattle.yv_expand_rounds.specs.Kinds.{is_case, is_choice}
+use Rattle.yv_expand_rounds.specs.Labels.{is_named}
 use Rattle.yv_expand_rounds.specs.Paths.{end_at, path_end}
 use Rattle.yv_expand_rounds.specs.Paths as by_label
 use Rattle.yv_expand_definition.specs.Nodes.{Forest, Node, none, node, join}
@@ -81,7 +82,8 @@ module _ (labels : List Label) (its : Items) (are : AreLabels labels its) (group
       by None f = refl
       by (Some j) f = ap (λ e. Some e) (arrived_is i j is (both_true (its.is_node j) _ (sym (step j) ∙ (find_there (is_named labels n) kids j f).1)).0)
 
-  -- a path hits a node, by its item; and when this has other items below it, the nodes are the others
+  -- a path hits a node, by its item; and when this has other items below it, the nodes are the
+  -- others
   pub record Hit (c : Bool) (names items : List ℕ) (owns : ℕ → Bool) (target : Node) (below put there : Forest) : Type 0 where
     pub item : ℕ
     pub walks : walked c names items ≡ Some (end.Node item)

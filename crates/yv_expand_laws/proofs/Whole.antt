@@ -1,4 +1,5 @@
--- When the rounds of the augments of modules are over, the items of files show what the files expand to.
+-- When the rounds of the augments of modules are over, the items of files show what the files
+-- expand to.
 use Rattle.std.proofs.Common.{◌⊎◌, inl, inr, ◌≡◌, ◌≢◌, ℕ, zero, suc, ◌+◌, ◌<◌, ◌≤◌, ◌==◌, if◌then◌else◌, Bool, true, false, List, [], ◌∷◌, ◌++◌, length, map, get_or, refl, sym, ◌∙◌, ap, subst, arith, Option, Some, None, codes}
 use Rattle.std.specs.List.{Contains, slice_get}
 use Rattle.std.specs.Option.{option_map}
@@ -11,10 +12,11 @@ use Rattle.yv_statement.specs.declared.refusal.Code.TheVariants as code
 use Rattle.yv_link_scopes.specs.Files.{Briefs, Files, brief_of, has_word, module_file_at}
 use Rattle.yv_link_scopes.specs.RowList.{rows_of}
 use Rattle.yv_link_scopes.specs.Rows.{Row, name_in}
-use Rattle.yv_expand_paths.specs.Paths.{behind_root, has_path, path_at, step_of, steps_of}
-use Rattle.yv_expand.specs.Weigh.{block_of}
+use Rattle.yv_expand_paths.specs.Paths.{behind_root, steps_of}
+use Rattle.yv_expand_paths.specs.InnerSteps.{has_path, path_at, step_of}
+use Rattle.yv_expand.specs.StatementBlocks.{block_of, augments_of}
 use Rattle.yv_expand.specs.Tree.{Item, all_of, count}
-use Rattle.yv_expand.specs.Expansion.{IsWhole, augments_of}
+use Rattle.yv_expand.specs.Expansion.{IsWhole}
 use Rattle.yv_expand_rounds.specs.declared.label.Label.{Label}
 use Rattle.yv_expand_rounds.specs.Groups.{group_of_augment, members_of}
 use Rattle.yv_expand_rounds.specs.Placements.{nothing}
@@ -426,7 +428,8 @@ module _ (files : Files) (marks : List Bool) (order : List ℕ) (own : ℕ) (ite
   BlockWrong k e =
       (a : ℕ) × (module_file : ℕ) × (made : Product) × (slice_get augments k ≡ Some a) × IsModuleFile files a module_file × Gives files module_file (a ∷ []) (block_of rows a) made × Contains made.wrong e
 
-  -- of refines and of augments of uses that is refused which was, and what is refused in the blocks of augments that add
+  -- of refines and of augments of uses that is refused which was, and what is refused in the blocks
+  -- of augments that add
   record RefusesIn (old new : List Wrong) (added : List ℕ) : Type 0 where
     to : (e : Wrong) → IsAsked augments e → Contains new e → Contains old e ⊎ ((k : ℕ) × Contains added k × BlockWrong k e)
     from : (e : Wrong) → IsAsked augments e → Contains old e ⊎ ((k : ℕ) × Contains added k × BlockWrong k e) → Contains new e
@@ -524,7 +527,8 @@ module _ (files : Files) (marks : List Bool) (order : List ℕ) (own : ℕ) (ite
   abbrev pub IsApplied : State → ℕ → Type 0
   IsApplied new k = (k < length augments) × ((i : ℕ) × (turns.target_of labels new.ends k ≡ Some i))
 
-  -- of refines and of augments of uses that is refused in the end which is refused of the modules, and in the blocks of augments that add
+  -- of refines and of augments of uses that is refused in the end which is refused of the modules,
+  -- and in the blocks of augments that add
   pub asked_refused : (m : Product) (new : State) → (E : Expand files marks order m) → AreAugmented w items new → (e : Wrong) → IsAsked augments e
       → (Contains m.wrong e → Contains E.own.wrong e ⊎ ((k : ℕ) × IsApplied new k × BlockWrong k e))
       × (Contains E.own.wrong e ⊎ ((k : ℕ) × IsApplied new k × BlockWrong k e) → Contains m.wrong e)

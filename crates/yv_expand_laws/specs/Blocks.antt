@@ -1,4 +1,5 @@
--- How the items of a block enter and augments of its uses have their turns, without files and spots: what `placed_from` does of it.
+-- How the items of a block enter and augments of its uses have their turns, without files and
+-- spots: what `placed_from` does of it.
 use Rattle.std.specs.Prelude.{ℕ, ◌+◌, List}
 use Rattle.yv_expand_rounds.specs.declared.label.Label.{Label}
 use Rattle.yv_expand_rounds.specs.Groups.{group_of_augment, members_of}
@@ -7,15 +8,17 @@ use Rattle.yv_expand_rounds.specs.Turns.{State, turn}
 use Rattle.yv_expand_augments.specs.Augmentation.{last_of}
 
 mutual
-  -- Items that have the numbers from `lo` to before `hi`, with copies of augments from `c` to before `e`. The first is a node above others;
-  -- or a uses, above the copies of what its grouping has and then what its augments give. The copies of its own augments come first.
+  -- Items that have the numbers from `lo` to before `hi`, with copies of augments from `c` to
+  -- before `e`. The first is a node above others; or a uses, above the copies of what its grouping
+  -- has and then what its augments give. The copies of its own augments come first.
   pub data Block : (lo hi c e : ℕ) → Type 0 where
     nothing : {lo c : ℕ} → Block lo lo c c
     item : {lo hi c e : ℕ} (mid d : ℕ) → (below : Block (lo + 1) mid c d) → (behind : Block mid hi d e) → Block lo hi c e
     uses : {lo hi c f : ℕ} (mid end own d e : ℕ) → (copies : Block (lo + 1) mid own d) → (augments : Augments mid end d e c own)
         → (behind : Block end hi e f) → Block lo hi c f
 
-  -- what the augments of a uses give, of which the copies have the numbers from `k` to before `own`, each with its path
+  -- what the augments of a uses give, of which the copies have the numbers from `k` to before
+  -- `own`, each with its path
   pub data Augments : (lo hi c e k own : ℕ) → Type 0 where
     no_augments : {lo c k : ℕ} → Augments lo lo c c k k
     augment : {lo hi c e k own : ℕ} (mid d : ℕ) → (names : List ℕ) → (block : Block lo mid c d) → (others : Augments mid hi d e (k + 1) own)

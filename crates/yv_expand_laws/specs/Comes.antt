@@ -1,9 +1,10 @@
--- What blocks give, as a forest: `Gives` and `Augmented` of yv_expand_definition, without files and without refines.
+-- What blocks give, as a forest: `Gives` and `Augmented` of yv_expand_definition, without files and
+-- without refines.
 use Rattle.std.specs.Prelude.{◌≡◌, ℕ, ◌+◌, ◌<◌, Bool, true, false, List}
 use Rattle.std.specs.List.{Contains}
 use Rattle.yv_expand_rounds.specs.declared.label.Label.{Label}
 use Rattle.yv_expand_rounds.specs.Groups.{group_of_augment, members_of}
-use Rattle.yv_expand_rounds.specs.Labels.{may_be_target}
+use Rattle.yv_expand_rounds.specs.Kinds.{may_be_target}
 use Rattle.yv_expand_rounds.specs.Turns.{State}
 use Rattle.yv_expand_definition.specs.Nodes.{Forest, Node, join, none, node}
 use Rattle.yv_expand_definition.specs.Paths.{Leads, Step, at}
@@ -38,7 +39,8 @@ mutual
         (ss : List Step) → Agree labels its names ss → lo < mid → Misses ss m → Adds labels its _ _ _ _ _ _ others m last
         → Adds labels its _ _ _ _ _ _ (augment {lo = lo} {hi = hi} {c = c} {e = e} {k = k} {own = own} mid d names block others) m last
 
--- The mark of a group tells whether what stands there is given by an augment of a module: it is in the groups of these alone.
+-- The mark of a group tells whether what stands there is given by an augment of a module: it is in
+-- the groups of these alone.
 abbrev mutual
   pub MarksBlock : List Label → (given mark : ℕ → Bool) → (g : ℕ) → {lo hi c e : ℕ} → Block lo hi c e → Type 0
   MarksBlock labels given mark g nothing = Unit {0}

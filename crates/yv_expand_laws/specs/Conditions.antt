@@ -9,25 +9,25 @@ use Rattle.yv_link_scopes.specs.Rows.{Row, is_extended}
 use Rattle.yv_link_features.specs.On.{AllHoldBy}
 use Rattle.yv_expand.specs.Origin.{number_of}
 use Rattle.yv_expand.specs.Tree.{Item}
-use Rattle.yv_expand.specs.declared.item.Origin.{Origin}
-use Rattle.yv_expand.specs.declared.item.Origin.TheVariants.{Statement, Input, Output}
+use Rattle.yv_expand.specs.declared.origin.Origin.{Origin}
+use Rattle.yv_expand.specs.declared.origin.Origin.TheVariants.{Statement, Input, Output}
 use Rattle.yv_expand.specs.Expansion.{IsWhole}
-use Rattle.yv_expand_rounds.specs.declared.label.ItemKind.{ItemKind}
-use Rattle.yv_expand_rounds.specs.Labels.{is_node}
-use Rattle.yv_expand_augments.specs.Kinds.{kind_of_keyword}
+use Rattle.yv_expand_rounds.specs.declared.statement_kind.StatementKind.{StatementKind}
+use Rattle.yv_expand_rounds.specs.Kinds.{is_node, kind_of_keyword}
 use Rattle.yv_expand_augments.specs.Remains.{is_marked}
 use Rattle.yv_expand_augments.specs.On.{AreOn}
 use Rattle.yv_expand_augments.specs.RefineTargets.{refined_all}
 use Rattle.yv_expand_augments.specs.Spots.{layout_of}
 use Rattle.yv_expand_changes.specs.Changes.{all_changes}
-use Rattle.yv_expand_changes.specs.IfFeatures.{Truth, item_marks, statement_marks}
+use Rattle.yv_expand_changes.specs.Truth.{Truth}
+use Rattle.yv_expand_changes.specs.IfFeatures.{item_marks, statement_marks}
 use Rattle.yv_expand_definition.specs.Expansion.{Expand}
 use Rattle.yv_expand_definition.specs.Gives.{Product}
 use Rattle.yv_expand_definition.specs.Nodes.{Forest, Node, if_feature_statements, none, node}
 use Rattle.yv_expand_laws.specs.Files.{ShowFiles, expansion_of}
 use Rattle.yv_expand_laws.specs.Shows.{Items}
 
-abbrev pub is_node_kind : Option ItemKind → Bool
+abbrev pub is_node_kind : Option StatementKind → Bool
 is_node_kind None = false
 is_node_kind (Some k) = is_node k
 

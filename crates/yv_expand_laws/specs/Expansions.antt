@@ -9,7 +9,7 @@ use Rattle.yv_expand_rounds.specs.Placements.{nothing}
 use Rattle.yv_expand.specs.Expands.{Expands}
 use Rattle.yv_expand_augments.specs.AugmentOrder.{augments_giving}
 use Rattle.yv_expand_augments.specs.Augmentation.{path_in, placed_from}
-use Rattle.yv_expand_augments.specs.Kinds.{is_uses}
+use Rattle.yv_expand_rounds.specs.Kinds.{is_uses}
 use Rattle.yv_expand_augments.specs.Spots.{LayoutView, Whole, group_below, laid_from, spot_at}
 use Rattle.yv_expand_augments.specs.declared.spot.Spot.{Spot}
 use Rattle.yv_expand_definition.specs.Expansion.{AllRefer}
@@ -21,8 +21,9 @@ use Rattle.yv_expand_laws.specs.Layout.{Lie, placed_on}
 abbrev pub spot_view : Whole → Spot → laid.Spot
 spot_view w s = record { group = s.group; is_uses = is_uses s.label.kind; first = s.first; paths = map (path_in w s.module_file) (augments_giving w.rows s.statement) }
 
--- The items that numbered statements give below a parent, laid behind others, lie in a block: of those at the top all stand in the group
--- in which `group_below` puts them. The block begins where the others end.
+-- The items that numbered statements give below a parent, laid behind others, lie in a block: of
+-- those at the top all stand in the group in which `group_below` puts them. The block begins where
+-- the others end.
 abbrev pub ExpansionLies : Whole → List Label → Type 0
 ExpansionLies w labels =
     (numbers : List ℕ) (t : expansion.Tree) (before : LayoutView) (parent : Option ℕ) (g : ℕ) → length labels ≡ w.items → AllRefer w.files w.rows

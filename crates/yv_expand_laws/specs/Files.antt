@@ -4,9 +4,9 @@ use Rattle.std.specs.List.{Contains}
 use Rattle.yv_statement.specs.Tree as statement
 use Rattle.yv_link_scopes.specs.Files.{Files, brief_of, has_word}
 use Rattle.yv_link_scopes.specs.RowList.{rows_of}
-use Rattle.yv_expand.specs.Weigh.{block_of}
+use Rattle.yv_expand.specs.StatementBlocks.{block_of, augments_of}
 use Rattle.yv_expand.specs.Tree.{Item, Tree, count}
-use Rattle.yv_expand.specs.Expansion.{IsWhole, augments_of}
+use Rattle.yv_expand.specs.Expansion.{IsWhole}
 use Rattle.yv_expand_rounds.specs.declared.label.Label.{Label}
 use Rattle.yv_expand_rounds.specs.Groups.{group_of_augment}
 use Rattle.yv_expand_rounds.specs.Turns.{State}
@@ -65,8 +65,9 @@ begins_at n (t ∷ ts) (suc k) = begins_at (n + count t) ts k
 abbrev pub start_of : Files → List Bool → List Item → State
 start_of files marks items = placement (expansion_of files marks items) (layout_of (expansion_of files marks items) items)
 
--- Before any augment of a module has its turn, the top shows what the files of the modules give, module by module, and the group of each
--- of their augments what its block gives, as nodes that it gives.
+-- Before any augment of a module has its turn, the top shows what the files of the modules give,
+-- module by module, and the group of each of their augments what its block gives, as nodes that it
+-- gives.
 abbrev pub ModulesShow : Files → Type 0
 ModulesShow files =
     (marks : List Bool) (order : List ℕ) (own : ℕ) (items : List Item) (its : Items) → AreGiven files marks order

@@ -1,4 +1,5 @@
--- The final tree of files is the forest to which they expand (RFC 7950, sections 7.12, 7.13 and 7.17).
+-- The final tree of files is the forest to which they expand (RFC 7950, sections 7.12, 7.13 and
+-- 7.17).
 use Rattle.std.specs.Prelude.{◌≡◌}
 use Rattle.yv_statement.specs.Selection.{Selected}
 use Rattle.yv_link_scopes.specs.Files.{Files}
@@ -11,7 +12,8 @@ use Rattle.yv_expand_laws.specs.StatementItems.{AreSound}
 use Rattle.yv_expand_laws.specs.Shows.{Items}
 use Rattle.yv_expand_laws.specs.Trees.{forest_shown}
 
--- before any condition is asked, the final tree by number shows what the files of the implemented modules expand to
+-- before any condition is asked, the final tree by number shows what the files of the implemented
+-- modules expand to
 abbrev pub FinalTreeShows : Files → Type 0
 FinalTreeShows files =
     (choice : Selected) (f : Final) (its : Items) (m : Product) → AreSound files → HaveRoots files → IsFinal choice files f

@@ -1,5 +1,6 @@
--- What stands where before any augment of a module has its turn: the items of the modules at the top, and what each of their augments
--- gives in a group of its own, with the turns of the augments of uses (RFC 7950, sections 7.13 and 7.17).
+-- What stands where before any augment of a module has its turn: the items of the modules at the
+-- top, and what each of their augments gives in a group of its own, with the turns of the augments
+-- of uses (RFC 7950, sections 7.13 and 7.17).
 use Rattle.std.specs.Prelude.{ℕ, ◌≤◌, Bool, List, length}
 use Rattle.yv_expand_rounds.specs.declared.label.Label.{Label}
 use Rattle.yv_expand_rounds.specs.Groups.{group_of_augment}
@@ -22,7 +23,8 @@ AllShow labels its st no_augments = Unit {0}
 AllShow labels its st {lo = lo} {k = k} (augment mid d names block others) =
     ((f : Forest) → Comes labels its _ _ _ _ block f → Shows its st.groups (group_of_augment labels k) lo mid f) × AllShow labels its st others
 
--- the items of the modules and, behind them, those of the blocks of their augments have entered, the last ones first
+-- the items of the modules and, behind them, those of the blocks of their augments have entered,
+-- the last ones first
 abbrev pub first_state : List Label → {n hi d e own : ℕ} → Block 0 n own d → Augments n hi d e 0 own → State
 first_state labels {e = e} block augments = enter_block labels 0 block (run_all labels augments (nothing (length labels) e))
 

@@ -1,17 +1,19 @@
--- What the items of a block leave as it was, when they enter and the augments of their uses have their turns.
+-- What the items of a block leave as it was, when they enter and the augments of their uses have
+-- their turns.
 use Rattle.std.specs.Prelude.{◌≡◌, ◌≢◌, ℕ, ◌+◌, ◌<◌, ◌≤◌, ◌⊎◌, List, [], ◌++◌, length, None, slice_index_or}
 use Rattle.std.specs.List.{Contains}
 use Rattle.yv_expand_rounds.specs.declared.label.Label.{Label}
 use Rattle.yv_expand_rounds.specs.Groups.{group_of_augment, members_of}
 use Rattle.yv_expand_rounds.specs.Turns.{State}
 
--- Of the items from `lo` to before `hi`, with copies of augments from `c` to before `e`, this is no group of their own: neither that below
--- one of the items, nor that of one of the copies.
+-- Of the items from `lo` to before `hi`, with copies of augments from `c` to before `e`, this is no
+-- group of their own: neither that below one of the items, nor that of one of the copies.
 abbrev pub IsOutside : List Label → (lo hi c e : ℕ) → (group : ℕ) → Type 0
 IsOutside labels lo hi c e x = ((x ≤ lo) ⊎ (hi < x)) × ((x < group_of_augment labels c) ⊎ (group_of_augment labels e ≤ x))
 
--- When they have entered a group, that has some of them more, behind what it had, and all groups but this and their own have what they
--- had; and of other augments as many were applied as before, to the same ends.
+-- When they have entered a group, that has some of them more, behind what it had, and all groups
+-- but this and their own have what they had; and of other augments as many were applied as before,
+-- to the same ends.
 pub record Frame (labels : List Label) (g lo hi c e : ℕ) (old new : State) : Type 0 where
   pub groups : length new.groups ≡ length old.groups
   pub augments : length new.ends ≡ length old.ends
@@ -25,7 +27,8 @@ pub record Frame (labels : List Label) (g lo hi c e : ℕ) (old new : State) : T
 abbrev pub StandFrom : (n : ℕ) → State → Type 0
 StandFrom n st = (x i : ℕ) → Contains (members_of st.groups x) i → n ≤ i
 
--- they may enter this group: all that stands anywhere is behind them, and none of their augments has given anything or was applied
+-- they may enter this group: all that stands anywhere is behind them, and none of their augments
+-- has given anything or was applied
 pub record MayEnter (labels : List Label) (g lo hi c e : ℕ) (st : State) : Type 0 where
   pub room : length st.groups ≡ length labels + 1 + length st.ends
   pub items : hi ≤ length labels

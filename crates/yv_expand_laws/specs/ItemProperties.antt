@@ -4,14 +4,14 @@ use Rattle.yv_link_scopes.specs.Files.{Briefs, Files, brief_of}
 use Rattle.yv_link_scopes.specs.RowList.{rows_of}
 use Rattle.yv_link_scopes.specs.Rows.{Row}
 use Rattle.yv_expand_paths.specs.Names.{node_name}
-use Rattle.yv_expand_paths.specs.Paths.{has_path}
+use Rattle.yv_expand_paths.specs.InnerSteps.{has_path}
 use Rattle.yv_expand.specs.Origin.{number_of}
 use Rattle.yv_expand.specs.Tree.{Item, Tree, item_list}
-use Rattle.yv_expand.specs.declared.item.Origin.{Origin}
-use Rattle.yv_expand.specs.declared.item.Origin.TheVariants.{Statement, Input, Output}
+use Rattle.yv_expand.specs.declared.origin.Origin.{Origin}
+use Rattle.yv_expand.specs.declared.origin.Origin.TheVariants.{Statement, Input, Output}
 use Rattle.yv_expand.specs.Expands.{Expands}
 use Rattle.yv_expand_rounds.specs.declared.label.Label.{Label}
-use Rattle.yv_expand_rounds.specs.Labels as labels_are
+use Rattle.yv_expand_rounds.specs.Kinds as kinds_are
 use Rattle.yv_expand_rounds.specs.Order.{is_given}
 use Rattle.yv_expand_augments.specs.Augmentation.{path_in}
 use Rattle.yv_expand_augments.specs.Spots.{Whole, labels_of, layout_of, whole}
@@ -31,9 +31,10 @@ name_of rows (Output k) = codes "output"
 
 abbrev pub is_some_node : Option Label → Bool
 is_some_node None = false
-is_some_node (Some l) = labels_are.is_node l.kind
+is_some_node (Some l) = kinds_are.is_node l.kind
 
--- these are told as the items of an expansion are laid: of each its module_file, kind and name, and whether an augment of a module gives it
+-- these are told as the items of an expansion are laid: of each its module_file, kind and name, and
+-- whether an augment of a module gives it
 pub record AreItems (w : Whole) (items : List Item) (its : Items) : Type 0 where
   pub given : (i : ℕ) → its.given i ≡ is_given (labels_of (layout_of w items).spots) i
   pub node : (i : ℕ) → its.is_node i ≡ is_some_node (slice_get (labels_of (layout_of w items).spots) i)
@@ -54,8 +55,8 @@ ExpansionsHaveStatements files rows =
 abbrev pub LabelsTell : Whole → List Item → Items → Type 0
 LabelsTell w items its = AreItems w items its → AreLabels (labels_of (layout_of w items).spots) its
 
--- A path by numbers is the path by steps of a refine or an augment of files, where no more statements are than can be numbered with
--- their names.
+-- A path by numbers is the path by steps of a refine or an augment of files, where no more
+-- statements are than can be numbered with their names.
 abbrev pub PathsAgree : Files → (augments : List ℕ) → (count : ℕ) → List Item → Items → Type 0
 PathsAgree files augments count items its =
     (module_file k : ℕ) (r : Row) → length (rows_of files) ≤ 4294967293 → HaveStatements (rows_of files) items

@@ -1,5 +1,6 @@
--- How the spots of items lie in a block: what `laid` makes of what `Expands` gives. Of a spot only this is asked here: its group, whether it
--- is a uses, the number of the copy of its first augment, and the paths of its augments.
+-- How the spots of items lie in a block: what `laid` makes of what `Expands` gives. Of a spot only
+-- this is asked here: its group, whether it is a uses, the number of the copy of its first augment,
+-- and the paths of its augments.
 use Rattle.std.specs.Prelude.{◌≡◌, ℕ, ◌+◌, Bool, true, false, List, [], ◌∷◌, ◌++◌, length, if◌then◌else◌}
 use Rattle.yv_expand_rounds.specs.declared.label.Label.{Label}
 use Rattle.yv_expand_rounds.specs.Groups.{group_of_augment}

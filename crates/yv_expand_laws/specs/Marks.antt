@@ -12,7 +12,8 @@ use Rattle.yv_expand_laws.specs.Layout.{Lie, Spot}
 abbrev pub mark_of : Whole → ℕ → Bool
 mark_of w g = is_some (source_in w.items w.augments g)
 
--- In a block of an expansion the items of a group have its mark: an augment of a module gives all of them, or none.
+-- In a block of an expansion the items of a group have its mark: an augment of a module gives all
+-- of them, or none.
 abbrev pub BlocksAreMarked : Whole → List Item → Type 0
 BlocksAreMarked w items =
     (g lo hi c e : ℕ) (block : Block lo hi c e) (spots : List Spot) → length items ≡ w.items → length w.augments ≤ c

@@ -12,7 +12,8 @@ use Rattle.yv_link_scopes.specs.RowList.{rows_of}
 use Rattle.yv_link_scopes.specs.Rows.{Row}
 use Rattle.yv_expand.specs.Tree.{Item}
 use Rattle.yv_expand_rounds.specs.declared.row.ItemRow.{ItemRow}
-use Rattle.yv_expand_augments.specs.Placement.{PutsMisplaced, augment_around, takes}
+use Rattle.yv_expand_augments.specs.Placement.{PutsMisplaced, augment_around}
+use Rattle.yv_expand_rounds.specs.Kinds.{takes}
 use Rattle.yv_expand_augments.specs.Spots.{Whole, layout_of, spot_at}
 use Rattle.yv_expand_augments.specs.declared.spot.Spot.{Spot}
 use Rattle.yv_expand_tree.specs.Final.{Final, IsFinal, final_items, spots_of, whole_of}
@@ -25,7 +26,8 @@ use Rattle.yv_expand_laws.specs.ModuleBlocks.{RefusesModuleBlock}
 use Rattle.yv_expand_laws.specs.UsesBlocks.{RefusesUsesBlock}
 use Rattle.yv_expand_laws.specs.Shows.{Items}
 
--- an item of the final tree stands in the block of an augment, and below a node that doesn't take it
+-- an item of the final tree stands in the block of an augment, and below a node that doesn't take
+-- it
 pub record HasMisplaced (rows : List Row) (spots : List Spot) (tree : List ItemRow) (augment : ℕ) : Type 0 where
   pub place : ℕ
   pub row : ItemRow

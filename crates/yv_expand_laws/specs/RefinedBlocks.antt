@@ -14,7 +14,8 @@ use Rattle.yv_expand_laws.specs.Frames.{MayEnter}
 use Rattle.yv_expand_laws.specs.RefineStep.{add_refine}
 use Rattle.yv_expand_laws.specs.Shows.{Agree, Items}
 
--- this block, whose items show these nodes, may enter a group, and what stands there already comes behind the limit of a path
+-- this block, whose items show these nodes, may enter a group, and what stands there already comes
+-- behind the limit of a path
 pub record IsRefinable (labels : List Label) (its : Items) (mark : ℕ → Bool) (g lo hi c e limit : ℕ) (block : Block lo hi c e) (st : State) (m : Forest) : Type 0 where
   pub comes : Comes labels its _ _ _ _ block m
   pub marked : MarksBlock labels its.given mark g block
@@ -24,8 +25,8 @@ pub record IsRefinable (labels : List Label) (its : Items) (mark : ℕ → Bool)
   pub within : hi ≤ limit
   pub behind : (i : ℕ) → Contains (members_of st.groups g) i → limit ≤ i
 
--- The refine means an item of the block, which shows the node that its path means; and when the item has the refine the block gives
--- the nodes with it.
+-- The refine means an item of the block, which shows the node that its path means; and when the
+-- item has the refine the block gives the nodes with it.
 abbrev pub BlockIsRefined : List Label → Items → (mark : ℕ → Bool) → Type 0
 BlockIsRefined labels its mark =
     (g lo hi c e limit k : ℕ) (block : Block lo hi c e) (names : List ℕ) (ss : List Step) (st : State) (m below there : Forest) (target : Node)

@@ -29,8 +29,8 @@ pub record IsRoundTurn (labels : List Label) (its : Items) (giver_of : ℕ → O
   pub not_theirs : (x i : ℕ) → x ≤ length labels → Contains (members_of st.groups x) i → giver_of i ≢ Some a
   pub apart : (x : ℕ) → block.owns x ≡ true → whole.owns x ≡ false
 
--- Where its path hits a node, what it gives is inserted there. Of what then stands all stood there before, or in the block; and what moved
--- stands below an item that stood there before.
+-- Where its path hits a node, what it gives is inserted there. Of what then stands all stood there
+-- before, or in the block; and what moved stands below an item that stood there before.
 abbrev pub RoundAdds : List Label → Items → (giver_of : ℕ → Option ℕ) → Type 0
 RoundAdds labels its giver_of =
     (lo hi k a : ℕ) (names : List ℕ) (ss : List Step) (st : State) (m b below there : Forest) (target : Node)

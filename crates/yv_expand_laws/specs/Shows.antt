@@ -4,13 +4,14 @@ use Rattle.std.specs.List.{Contains}
 use Rattle.yv_expand_rounds.specs.declared.label.Label.{Label}
 use Rattle.yv_expand_rounds.specs.Groups.{Groups, members_of}
 use Rattle.yv_expand_rounds.specs.Labels.{is_named}
-use Rattle.yv_expand_rounds.specs.Labels as labels_are
+use Rattle.yv_expand_rounds.specs.Kinds as kinds_are
 use Rattle.yv_expand_rounds.specs.Order.{is_given}
 use Rattle.yv_expand_definition.specs.Nodes.{Forest, Node, none, node}
 use Rattle.yv_expand_definition.specs.Paths.{Step, answers}
 use Rattle.yv_expand_laws.specs.Order.{comes_before}
 
--- what is told of items: whether an augment of a module gives it; whether it is a node, and which node it shows
+-- what is told of items: whether an augment of a module gives it; whether it is a node, and which
+-- node it shows
 pub record Items : Type 0 where
   pub given : ℕ → Bool
   pub is_node : ℕ → Bool
@@ -28,7 +29,8 @@ pub record Orders (given : ℕ → Bool) (holds : ℕ → Type 0) (items : List 
   pub all : (i : ℕ) → holds i → Contains items i
   pub only : (i : ℕ) → Contains items i → holds i
 
--- an item is owned; and others that are owned are owned by what stands below it, or by what stands behind it, but not by both
+-- an item is owned; and others that are owned are owned by what stands below it, or by what stands
+-- behind it, but not by both
 pub record Splits (owns : ℕ → Bool) (i : ℕ) (below behind : ℕ → Bool) : Type 0 where
   pub has : owns i ≡ true
   pub below_in : (x : ℕ) → below x ≡ true → owns x ≡ true
@@ -37,8 +39,9 @@ pub record Splits (owns : ℕ → Bool) (i : ℕ) (below behind : ℕ → Bool) 
   pub not_below : below i ≡ false
   pub not_behind : behind i ≡ false
 
--- Items of one parent, in order, show these nodes, each above what the items in its group show. Each item is owned, and a node's by
--- one place alone. A uses shows nothing: what it gives stands in its own group.
+-- Items of one parent, in order, show these nodes, each above what the items in its group show.
+-- Each item is owned, and a node's by one place alone. A uses shows nothing: what it gives stands
+-- in its own group.
 pub data Stand (its : Items) (groups : Groups) : (owns : ℕ → Bool) → List ℕ → Forest → Type 0 where
   no_items : {owns : ℕ → Bool} → Stand its groups owns [] none
   not_a_node : {owns : ℕ → Bool} {i : ℕ} {others : List ℕ} {f : Forest} → owns i ≡ true → its.is_node i ≡ false
@@ -63,7 +66,7 @@ pub record Shows (its : Items) (groups : Groups) (g lo hi : ℕ) (f : Forest) : 
 -- labels tell of items what nodes do
 pub record AreLabels (labels : List Label) (its : Items) : Type 0 where
   pub given : (i : ℕ) → its.given i ≡ is_given labels i
-  pub node : (i : ℕ) (l : Label) → slice_get labels i ≡ Some l → its.is_node i ≡ labels_are.is_node l.kind
+  pub node : (i : ℕ) (l : Label) → slice_get labels i ≡ Some l → its.is_node i ≡ kinds_are.is_node l.kind
   pub within : (i : ℕ) → its.is_node i ≡ true → (l : Label) × (slice_get labels i ≡ Some l) × (l.kind ≡ (its.node_of i).kind)
 
 -- a path by numbers is a path by steps

@@ -1,4 +1,5 @@
--- What an expansion shows when its items have entered and the augments of its uses have had their turns.
+-- What an expansion shows when its items have entered and the augments of its uses have had their
+-- turns.
 use Rattle.std.specs.Prelude.{◌≡◌, ℕ, List, length, None, Some, slice_get}
 use Rattle.std.specs.List.{Contains}
 use Rattle.yv_link_scopes.specs.Rows.{Row}
@@ -21,7 +22,8 @@ pub record ShowsBlock (w : Whole) (items : List Item) (n : ℕ) : Type 0 where
   pub shows : (its : Items) (f : Forest) → AreItems w items its → Comes (labels_of (layout_of w items).spots) its _ _ _ _ block f
       → Shows its (placement w (layout_of w items)).groups 0 0 n f
 
--- Statements of which all stand at the top, and none in the block of an augment of a module, show what they give.
+-- Statements of which all stand at the top, and none in the block of an augment of a module, show
+-- what they give.
 abbrev pub StartShows : Whole → Type 0
 StartShows w =
     (numbers : List ℕ) (t : expansion.Tree) → Expands w.files w.rows numbers t → AllRefer w.files w.rows → w.items ≡ count t

@@ -4,13 +4,13 @@ use Rattle.std.specs.List.{Contains}
 use Rattle.yv_link_scopes.specs.Files.{Files, brief_of}
 use Rattle.yv_link_scopes.specs.RowList.{rows_of}
 use Rattle.yv_link_scopes.specs.Rows.{Row}
-use Rattle.yv_expand.specs.Weigh.{block_of}
+use Rattle.yv_expand.specs.StatementBlocks.{block_of, is_node_or_uses}
 use Rattle.yv_expand.specs.Origin.{number_of}
 use Rattle.yv_expand.specs.Tree.{Item, Tree, count, item_list}
-use Rattle.yv_expand.specs.Expands.{Expands, is_item}
+use Rattle.yv_expand.specs.Expands.{Expands}
 use Rattle.yv_expand_augments.specs.AugmentOrder.{is_giving}
 use Rattle.yv_expand_augments.specs.Augmentation.{placement}
-use Rattle.yv_expand_augments.specs.Kinds.{is_uses}
+use Rattle.yv_expand_rounds.specs.Kinds.{is_uses}
 use Rattle.yv_expand_augments.specs.Placement.{augment_around}
 use Rattle.yv_expand_augments.specs.RefineTargets.{refined_all}
 use Rattle.yv_expand_augments.specs.Spots.{Whole, layout_of, own_module_file, spot_at, top_group, whole}
@@ -36,8 +36,8 @@ under_of rows its r (Some p) None = []
 under_of rows its r (Some p) (Some s) =
     if is_uses s.label.kind then around rows r ++ s.statement ∷ (its.node_of p).under else (its.node_of p).under
 
--- of each item the node that it shows: with what gives it, what is round that, the refines that change it, and the augment of a module
--- that gives it, if this tells of one
+-- of each item the node that it shows: with what gives it, what is round that, the refines that
+-- change it, and the augment of a module that gives it, if this tells of one
 pub record ShowNodes (files : Files) (w : Whole) (items : List Item) (giver_at : ℕ → Option ℕ) (its : Items) : Type 0 where
   pub told : AreItems w items its
   pub origin : (i : ℕ) (x : Item) → slice_get items i ≡ Some x → (its.node_of i).origin ≡ x.origin
@@ -46,20 +46,22 @@ pub record ShowNodes (files : Files) (w : Whole) (items : List Item) (giver_at :
   pub refines : (i : ℕ) → (its.node_of i).refines ≡ changes files (layout_of w items).spots (refined_all w items) i
   pub giver : (i : ℕ) → (its.node_of i).giver ≡ giver_at i
 
--- These files have no more statements than can be numbered; each of their uses refers to a grouping; and an augment of a uses that gives
--- something has an item in its block: in files that conform no `input` or `output` stands there alone.
+-- These files have no more statements than can be numbered; each of their uses refers to a
+-- grouping; and an augment of a uses that gives something has an item in its block: in files that
+-- conform no `input` or `output` stands there alone.
 pub record AreSound (files : Files) : Type 0 where
   pub few : length (rows_of files) ≤ 4294967293
   pub refer : AllRefer (map brief_of files) (rows_of files)
   pub gives : (block a : ℕ) → is_giving (rows_of files) block a ≡ true → (k : ℕ) × (r : Row) × Contains (block_of (rows_of files) a) k
-      × (slice_get (rows_of files) k ≡ Some r) × (is_item r ≡ true)
+      × (slice_get (rows_of files) k ≡ Some r) × (is_node_or_uses r ≡ true)
 
 -- a statement stands at the top, in the module of a file
 abbrev pub StandsAtTop : Whole → (module_file : ℕ) → Row → Type 0
 StandsAtTop w module_file r = (top_group w (Some r) ≡ 0) × (own_module_file w.files (Some r) ≡ module_file) × (augment_around w.rows (Some r) ≡ None)
 
--- Statements that stand at the top, in files of one module, show what they give: each uses with what its refines change and its augments
--- add, when their items are laid, have entered, and the augments of uses have had their turns.
+-- Statements that stand at the top, in files of one module, show what they give: each uses with
+-- what its refines change and its augments add, when their items are laid, have entered, and the
+-- augments of uses have had their turns.
 abbrev pub StatementsShow : Files → (augments : List ℕ) → Type 0
 StatementsShow files augments =
     (numbers : List ℕ) (t : Tree) (module_file : ℕ) (m : Product) (its : Items) → AreSound files → Expands (map brief_of files) (rows_of files) numbers t

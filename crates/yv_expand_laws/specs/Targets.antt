@@ -9,7 +9,7 @@ use Rattle.yv_statement.specs.Selection.{Selected}
 use Rattle.yv_link_scopes.specs.Files.{Files, brief_of}
 use Rattle.yv_link_scopes.specs.RowList.{rows_of}
 use Rattle.yv_link_scopes.specs.Rows.{Row}
-use Rattle.yv_expand.specs.Expansion.{augments_of}
+use Rattle.yv_expand.specs.StatementBlocks.{augments_of}
 use Rattle.yv_expand_augments.specs.Refusals.{BadTarget}
 use Rattle.yv_expand_tree.specs.Final.{Final, IsFinal, whole_of}
 use Rattle.yv_expand_tree.specs.FileOrder.{marks_of, order_of}

@@ -9,8 +9,9 @@ use Rattle.yv_expand_definition.specs.Paths.{Step}
 use Rattle.yv_expand_laws.specs.Comes.{HasMarks, Hits, Misses}
 use Rattle.yv_expand_laws.specs.Shows.{Agree, Items, Shows}
 
--- The turn of copy k, whose path begins in group g and leads to what comes before the limit. From `lo` to before `cur` are the items that
--- the uses has so far; all else in its group is behind the limit. From `cur` to before `mid` are those of the copy, and no others.
+-- The turn of copy k, whose path begins in group g and leads to what comes before the limit. From
+-- `lo` to before `cur` are the items that the uses has so far; all else in its group is behind the
+-- limit. From `cur` to before `mid` are those of the copy, and no others.
 pub record IsTurn (labels : List Label) (its : Items) (mark : ℕ → Bool) (g lo cur mid k limit : ℕ) (st : State) : Type 0 where
   pub room : length st.groups ≡ length labels + 1 + length st.ends
   pub items : mid ≤ length labels

@@ -1,5 +1,6 @@
--- An augment of a uses whose target doesn't take its block is refused so in what the files expand to
--- exactly where, by number, it adds in its turn to an item that doesn't take it (RFC 7950, sections
+-- An augment of a uses whose target doesn't take its block is refused so in what the files expand
+-- to exactly where, by number, it adds in its turn to an item that doesn't take it (RFC 7950,
+-- sections
 -- 7.13 and 7.17).
 use Rattle.std.specs.Prelude.{◌≡◌, ◌↔◌, ℕ, ◌+◌, Bool, true, false, List, length, map, drop, Some, slice_get}
 use Rattle.std.specs.List.{Contains}
@@ -11,11 +12,11 @@ use Rattle.yv_link_scopes.specs.Files.{Files, brief_of}
 use Rattle.yv_link_scopes.specs.RowList.{rows_of}
 use Rattle.yv_link_scopes.specs.Rows.{Row}
 use Rattle.yv_expand.specs.Tree.{Item}
-use Rattle.yv_expand.specs.Expansion.{augments_of}
+use Rattle.yv_expand.specs.StatementBlocks.{augments_of}
 use Rattle.yv_expand_rounds.specs.declared.row.ItemRow.{ItemRow}
 use Rattle.yv_expand_augments.specs.Ends.{end_at}
 use Rattle.yv_expand_augments.specs.Augmentation.{placed_from}
-use Rattle.yv_expand_augments.specs.Kinds.{is_uses}
+use Rattle.yv_expand_rounds.specs.Kinds.{is_uses}
 use Rattle.yv_expand_augments.specs.Spots.{Whole, labels_of, layout_of}
 use Rattle.yv_expand_augments.specs.MissingTargets.{after_turns, augments_in, next_number, node_reached}
 use Rattle.yv_expand_augments.specs.declared.spot.Spot.{Spot}
@@ -27,8 +28,8 @@ use Rattle.yv_expand_laws.specs.Files.{HaveRoots, ShowFiles}
 use Rattle.yv_expand_laws.specs.StatementItems.{AreSound}
 use Rattle.yv_expand_laws.specs.Shows.{Items}
 
--- the numbered item is a uses, and one of its augments adds in its turn to an item that doesn't take
--- its block
+-- the numbered item is a uses, and one of its augments adds in its turn to an item that doesn't
+-- take its block
 pub record HasUntaken (w : Whole) (items : List Item) (number augment : ℕ) : Type 0 where
   pub spot : Spot
   pub at : slice_get (layout_of w items).spots number ≡ Some spot

@@ -11,7 +11,8 @@ use Rattle.yv_expand_laws.specs.Comes.{Hits, Misses}
 use Rattle.yv_expand_laws.specs.Rounds.{AreSources}
 use Rattle.yv_expand_laws.specs.Shows.{Agree, Items, Shows}
 
--- A round: each augment that waits, by its place among those of modules, has its turn, where `number` tells its number, `path` its path and
+-- A round: each augment that waits, by its place among those of modules, has its turn, where
+-- `number` tells its number, `path` its path and
 -- `block` which nodes its block gives. It is `Round` of yv_expand_definition without files and refusals.
 pub data RoundOn (number : ℕ → ℕ) (path : ℕ → List Step) (block : ℕ → Forest → Type 0) : (waiting : List ℕ) → Forest → (still : List ℕ) → Forest → Type 0 where
   none_left : {m : Forest} → RoundOn number path block [] m [] m
@@ -37,8 +38,8 @@ pub data AreWaiting (st : State) : (place : ℕ) → (paths : List (List ℕ)) �
   waits : {k : ℕ} {names : List ℕ} {others : List (List ℕ)} {waiting : List ℕ} → is_applied st k ≡ false → AreWaiting st (k + 1) others waiting
       → AreWaiting st k (names ∷ others) (k ∷ waiting)
 
--- The augments of modules at so many places: their paths have a step, and by numbers are those by steps. The items of each block have
--- numbers of their own, and no two augments have one number.
+-- The augments of modules at so many places: their paths have a step, and by numbers are those by
+-- steps. The items of each block have numbers of their own, and no two augments have one number.
 pub record ArePlaces (labels : List Label) (its : Items) (number : ℕ → ℕ) (path : ℕ → List Step) (first last : ℕ → ℕ) (paths : List (List ℕ)) : Type 0 where
   pub agree : (k : ℕ) (names : List ℕ) → slice_get paths k ≡ Some names → Agree labels its names (path k)
   pub steps : (k : ℕ) (names : List ℕ) → slice_get paths k ≡ Some names → (n : ℕ) × (ns : List ℕ) × (names ≡ n ∷ ns)
@@ -46,7 +47,8 @@ pub record ArePlaces (labels : List Label) (its : Items) (number : ℕ → ℕ) 
   pub apart : (j k x : ℕ) → j ≢ k → first j ≤ x → x < last j → (x < first k) ⊎ (last k ≤ x)
   pub numbers : (j k : ℕ) → j < length paths → k < length paths → j ≢ k → number j ≢ number k
 
--- nodes are shown by all that stands at the top; and each augment that waits has its items in its group, which show what its block gives
+-- nodes are shown by all that stands at the top; and each augment that waits has its items in its
+-- group, which show what its block gives
 pub record AreBetween (labels : List Label) (its : Items) (giver_of : ℕ → Option ℕ) (number : ℕ → ℕ) (block : ℕ → Forest → Type 0) (first last : ℕ → ℕ)
     (many : ℕ) (st : State) (m : Forest) : Type 0 where
   pub room : length st.groups ≡ length labels + 1 + length st.ends

@@ -40,137 +40,158 @@ ghost use Rattle.yv_expand_laws.specs.UsesBlocks.{UsesBlocksAreOne};
 ghost use Rattle.yv_expand_laws.specs.UsesTargets.{UsesTargetsAreOne};
 ghost use Rattle.yv_expand_laws.specs.WholeRounds.{RoundsShow};
 
-/// What an augment of a uses gives comes to stand, in its turn, behind what the node has to which its path leads; where the path leads to
-/// no such node nothing moves (RFC 7950, section 7.17).
+/// What an augment of a uses gives comes to stand, in its turn, behind what the node has to which
+/// its path leads; where the path leads to no such node nothing moves (RFC 7950, section 7.17).
 pub fn a_turn_adds_to_its_target()
-    ensures adds { (labels : List Label) (its : Items) (mark : ℕ → Bool) → AreLabels labels its → TurnAdds labels its mark }
-    ensures misses { (labels : List Label) (its : Items) (mark : ℕ → Bool) → AreLabels labels its → TurnMisses labels its mark }
+    ensures adds { (labels : List Label) (its : Items) (mark : ℕ → Bool) → AreLabels labels its
+        → TurnAdds labels its mark }
+    ensures misses { (labels : List Label) (its : Items) (mark : ℕ → Bool) → AreLabels labels its
+        → TurnMisses labels its mark }
 {}
 
-/// When the items of a block enter, with the turns of the augments of its uses, nothing else changes.
+/// When the items of a block enter, with the turns of the augments of its uses, nothing else
+/// changes.
 pub fn a_block_leaves_the_rest()
     ensures { (labels : List Label) → BlockKeeps labels }
 {}
 
-/// When the items of a block have entered they show what the block gives (RFC 7950, sections 7.12 to 7.17).
+/// When the items of a block have entered they show what the block gives (RFC 7950, sections 7.12
+/// to 7.17).
 pub fn a_block_shows_what_it_gives()
-    ensures { (labels : List Label) (its : Items) (mark : ℕ → Bool) → AreLabels labels its → ((x : ℕ) → x ≤ length labels → mark x ≡ false)
+    ensures { (labels : List Label) (its : Items) (mark : ℕ → Bool) → AreLabels labels its
+        → ((x : ℕ) → x ≤ length labels → mark x ≡ false)
         → BlockShows labels its mark }
 {}
 
-/// The items of an expansion lie in blocks as they are laid, one behind the other: a uses above its copies and what its augments give
-/// (RFC 7950, sections 7.12 to 7.17).
+/// The items of an expansion lie in blocks as they are laid, one behind the other: a uses above its
+/// copies and what its augments give (RFC 7950, sections 7.12 to 7.17).
 pub fn an_expansion_lies_in_blocks()
     ensures { (w : Whole) (labels : List Label) → ExpansionLies w labels }
 {}
 
-/// Items that lie in a block enter as the block does, and of a spot no more is asked than what is told of it.
+/// Items that lie in a block enter as the block does, and of a spot no more is asked than what is
+/// told of it.
 pub fn what_lies_in_a_block_enters_so()
     ensures tells { (w : Whole) (labels : List Label) → PlacedIsTold w labels }
     ensures enters { (labels : List Label) → SpotsEnter labels }
 {}
 
-/// Each item of an expansion is made of a statement that is there. Labels tell of the items what the nodes do that they show. A path by
-/// numbers names the nodes that the path by steps does, where no more statements are than `yv_link_scopes` reads (RFC 7950, section 6.5).
+/// Each item of an expansion is made of a statement that is there. Labels tell of the items what
+/// the nodes do that they show. A path by numbers names the nodes that the path by steps does,
+/// where no more statements are than `yv_link_scopes` reads (RFC 7950, section 6.5).
 pub fn what_is_told_of_items_is_so()
     ensures statements { (files : Briefs) (rows : List Row) → ExpansionsHaveStatements files rows }
     ensures labels { (w : Whole) (items : List Item) (its : Items) → LabelsTell w items its }
-    ensures paths { (files : Files) (augments : List ℕ) (count : ℕ) (items : List Item) (its : Items) → PathsAgree files augments count items its }
+    ensures paths { (files : Files) (augments : List ℕ) (count : ℕ) (items : List Item)
+        (its : Items) → PathsAgree files augments count items its }
 {}
 
-/// In a block of an expansion an augment of a module gives all items of a group or none, so that the first of a name is the first also
-/// of those that stand before a limit.
+/// In a block of an expansion an augment of a module gives all items of a group or none, so that
+/// the first of a name is the first also of those that stand before a limit.
 pub fn groups_of_blocks_have_one_mark()
     ensures { (w : Whole) (items : List Item) → BlocksAreMarked w items }
 {}
 
-/// All of this together: what statements expand to, laid and placed, shows at the top what its block gives, where no augment of a module
-/// gives any of it.
+/// All of this together: what statements expand to, laid and placed, shows at the top what its
+/// block gives, where no augment of a module gives any of it.
 pub fn an_expansion_shows_what_it_gives()
     ensures { (w : Whole) → StartShows w }
 {}
 
-/// Before any augment of a module has its turn, the top shows what the modules give, and the group of each of their augments what its block
-/// gives (RFC 7950, section 7.17).
+/// Before any augment of a module has its turn, the top shows what the modules give, and the group
+/// of each of their augments what its block gives (RFC 7950, section 7.17).
 pub fn modules_and_their_augments_begin_apart()
-    ensures { (labels : List Label) (its : Items) (mark : ℕ → Bool) → AreLabels labels its → ((x : ℕ) → x ≤ length labels → mark x ≡ false)
+    ensures { (labels : List Label) (its : Items) (mark : ℕ → Bool) → AreLabels labels its
+        → ((x : ℕ) → x ≤ length labels → mark x ≡ false)
         → BeginningShows labels its mark }
 {}
 
-/// A refine means the item that shows the node to which its path leads, and no item where its path leads to no node (RFC 7950,
-/// section 7.13.2).
+/// A refine means the item that shows the node to which its path leads, and no item where its path
+/// leads to no node (RFC 7950, section 7.13.2).
 pub fn a_refine_means_the_node_of_its_path()
-    ensures changes { (labels : List Label) (its : Items) → AreLabels labels its → RefineChanges labels its }
-    ensures misses { (labels : List Label) (its : Items) → AreLabels labels its → RefineMisses labels its }
+    ensures changes { (labels : List Label) (its : Items) → AreLabels labels its
+        → RefineChanges labels its }
+    ensures misses { (labels : List Label) (its : Items) → AreLabels labels its
+        → RefineMisses labels its }
 {}
 
-/// Statements of one module show what they give, when their items are laid and have entered: a uses shows the copies of what stands in its
-/// grouping, changed by its refines, with what its augments add (RFC 7950, sections 7.12 to 7.17).
+/// Statements of one module show what they give, when their items are laid and have entered: a uses
+/// shows the copies of what stands in its grouping, changed by its refines, with what its augments
+/// add (RFC 7950, sections 7.12 to 7.17).
 pub fn statements_show_what_they_give()
     ensures { (files : Files) (augments : List ℕ) → StatementsShow files augments }
 {
     yv_link_scopes::laws::a_name_means_one_thing();
 }
 
-/// Each expansion of files has the nodes that its items show: each with what gives it, the uses and augments around that, its refines and its
-/// augment of a module (RFC 7950, sections 7.12 to 7.17).
+/// Each expansion of files has the nodes that its items show: each with what gives it, the uses and
+/// augments around that, its refines and its augment of a module (RFC 7950, sections 7.12 to 7.17).
 pub fn items_of_files_show_nodes()
     ensures { (files : Files) → ItemsShow files }
 {}
 
-/// Before any augment of a module has its turn, the items of files show at the top what the files of the implemented modules give, each with
-/// what refines change and augments of uses add; and in a group for each augment of a module what its block gives (RFC 7950, sections 7.12
-/// to 7.17).
+/// Before any augment of a module has its turn, the items of files show at the top what the files
+/// of the implemented modules give, each with what refines change and augments of uses add; and in
+/// a group for each augment of a module what its block gives (RFC 7950, sections 7.12 to 7.17).
 pub fn modules_show_what_they_give()
     ensures { (files : Files) → ModulesShow files }
 {
     yv_link_scopes::laws::a_name_means_one_thing();
 }
 
-/// When a refine means an item of a block, and that item has it, the block gives the nodes with it. Where the refine's path leads to no
-/// node, it means no item (RFC 7950, section 7.13.2).
+/// When a refine means an item of a block, and that item has it, the block gives the nodes with it.
+/// Where the refine's path leads to no node, it means no item (RFC 7950, section 7.13.2).
 pub fn a_refined_block_gives_refined_nodes()
-    ensures changes { (labels : List Label) (its : Items) (mark : ℕ → Bool) → AreLabels labels its → ((x : ℕ) → x ≤ length labels → mark x ≡ false)
+    ensures changes { (labels : List Label) (its : Items) (mark : ℕ → Bool) → AreLabels labels its
+        → ((x : ℕ) → x ≤ length labels → mark x ≡ false)
         → BlockIsRefined labels its mark }
-    ensures misses { (labels : List Label) (its : Items) (mark : ℕ → Bool) → AreLabels labels its → ((x : ℕ) → x ≤ length labels → mark x ≡ false)
+    ensures misses { (labels : List Label) (its : Items) (mark : ℕ → Bool) → AreLabels labels its
+        → ((x : ℕ) → x ≤ length labels → mark x ≡ false)
         → BlockIsMissed labels its mark }
 {}
 
-/// What an augment of a module gives comes to stand, in its turn, behind what its target has, but before what later augments gave,
-/// in whichever round that is (RFC 7950, section 7.17).
+/// What an augment of a module gives comes to stand, in its turn, behind what its target has, but
+/// before what later augments gave, in whichever round that is (RFC 7950, section 7.17).
 pub fn a_round_adds_to_its_target()
-    ensures { (labels : List Label) (its : Items) (giver_of : ℕ → Option ℕ) → AreLabels labels its → RoundAdds labels its giver_of }
+    ensures { (labels : List Label) (its : Items) (giver_of : ℕ → Option ℕ) → AreLabels labels its
+        → RoundAdds labels its giver_of }
 {}
 
-/// When the rounds are over, in which augments of modules have their turns, the items show what the rounds make of the nodes that were shown
-/// before (RFC 7950, section 7.17).
+/// When the rounds are over, in which augments of modules have their turns, the items show what the
+/// rounds make of the nodes that were shown before (RFC 7950, section 7.17).
 pub fn rounds_show_what_they_make()
-    ensures { (labels : List Label) (its : Items) (giver_of : ℕ → Option ℕ) → AreLabels labels its → RoundsShow labels its giver_of }
+    ensures { (labels : List Label) (its : Items) (giver_of : ℕ → Option ℕ) → AreLabels labels its
+        → RoundsShow labels its giver_of }
 {}
 
-/// An augment of a module whose path leads nowhere waits on. One whose path leads to some end is applied; where that is no node to which
-/// it may add, nothing moves (RFC 7950, section 7.17).
+/// An augment of a module whose path leads nowhere waits on. One whose path leads to some end is
+/// applied; where that is no node to which it may add, nothing moves (RFC 7950, section 7.17).
 pub fn a_round_takes_what_leads_somewhere()
-    ensures waits { (labels : List Label) (its : Items) → AreLabels labels its → RoundWaits labels its }
-    ensures takes { (labels : List Label) (its : Items) → AreLabels labels its → RoundTakes labels its }
-    ensures misses { (labels : List Label) (its : Items) → AreLabels labels its → RoundMisses labels its }
+    ensures waits { (labels : List Label) (its : Items) → AreLabels labels its
+        → RoundWaits labels its }
+    ensures takes { (labels : List Label) (its : Items) → AreLabels labels its
+        → RoundTakes labels its }
+    ensures misses { (labels : List Label) (its : Items) → AreLabels labels its
+        → RoundMisses labels its }
 {}
 
-/// What the items at the top show, with all that stands below, is what the final tree by number shows.
+/// What the items at the top show, with all that stands below, is what the final tree by number
+/// shows.
 pub fn the_final_tree_shows_the_same()
     ensures { (labels : List Label) (its : Items) → AreLabels labels its → TreeShows labels its }
 {}
 
-/// When no augment of a module can be applied any more, the items of files show at the top, with all that stands below, what the files expand
-/// to, before any condition is asked (RFC 7950, sections 7.12 to 7.17).
+/// When no augment of a module can be applied any more, the items of files show at the top, with
+/// all that stands below, what the files expand to, before any condition is asked (RFC 7950,
+/// sections 7.12 to 7.17).
 pub fn files_show_what_they_expand_to()
     ensures { (files : Files) → FilesShow files }
 {
     yv_link_scopes::laws::a_name_means_one_thing();
 }
 
-/// Before any condition is asked, the final tree by number shows what the files of the implemented modules expand to (RFC 7950, sections 7.12
-/// to 7.17).
+/// Before any condition is asked, the final tree by number shows what the files of the implemented
+/// modules expand to (RFC 7950, sections 7.12 to 7.17).
 pub fn the_final_tree_is_what_files_expand_to()
     ensures { (files : Files) → FinalTreeShows files }
 {
@@ -298,8 +319,8 @@ pub fn targets_of_uses_are_one()
 }
 
 /// An augment of a uses is refused for its block in what the files expand to exactly where, at its
-/// uses in the final tree by number, it adds in its turn to an item that doesn't take what is in the
-/// block (RFC 7950, sections 7.13 and 7.17).
+/// uses in the final tree by number, it adds in its turn to an item that doesn't take what is in
+/// the block (RFC 7950, sections 7.13 and 7.17).
 pub fn blocks_of_uses_are_one()
     ensures { (files : Files) → UsesBlocksAreOne files }
 {
@@ -315,9 +336,9 @@ pub fn blocks_of_modules_are_one()
     yv_link_scopes::laws::a_name_means_one_thing();
 }
 
-/// An augment of a module is refused by number, at an item of the final tree that stands in its block
-/// and below a node that doesn't take it, exactly where it is refused for its block in what the files
-/// expand to (RFC 7950, section 7.17).
+/// An augment of a module is refused by number, at an item of the final tree that stands in its
+/// block and below a node that doesn't take it, exactly where it is refused for its block in what
+/// the files expand to (RFC 7950, section 7.17).
 pub fn misplacements_by_modules_are_one()
     ensures { (files : Files) → MisplacementsByModulesAreOne files }
 {
@@ -332,9 +353,9 @@ pub fn misplacements_by_modules_are_one()
     blocks_of_modules_are_one();
 }
 
-/// When all augments were applied, a copy of an augment of a uses adds to the node to which it added
-/// in its turn, and to none where it added to none: what comes later doesn't change that (RFC 7950,
-/// sections 7.13 and 7.17).
+/// When all augments were applied, a copy of an augment of a uses adds to the node to which it
+/// added in its turn, and to none where it added to none: what comes later doesn't change that (RFC
+/// 7950, sections 7.13 and 7.17).
 pub fn a_copy_ends_where_its_turn_led()
     ensures { CopiesEnd }
 {

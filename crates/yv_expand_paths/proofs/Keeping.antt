@@ -10,7 +10,7 @@ use Rattle.std.proofs.lemmas.Map.Text.{is_eq-slice_cmp}
 use Rattle.std.proofs.lemmas.Option.{slice_get_within, get_or_from_slice_get}
 use Rattle.std.proofs.lemmas.Slice.Eq.{bytes_eq-Decides}
 use denote.Ref.{Bor}
-use Rattle.yv_expand_paths.specs.Names.{place_of}
+use Rattle.yv_expand_paths.specs.InnerNameNumbers.{place_of}
 use Rattle.yv_expand_paths.specs.InnerNames.{lookup_in, first_some, keep_first}
 use Rattle.yv_expand_paths.proofs.Placing.{place_push, place_front}
 

@@ -8,8 +8,10 @@ use Rattle.yv_link_scopes.specs.Files.{Briefs}
 use Rattle.yv_link_scopes.specs.Names.{prefix_of, local_of}
 use Rattle.yv_link_scopes.specs.Rows.{Row}
 use Rattle.yv_link_scopes.specs.Scopes.{module_of}
-use Rattle.yv_expand_paths.specs.Names.{node_name, own_names, number_of, number_at, qualified_name}
-use Rattle.yv_expand_paths.specs.Paths.{module_file_with, module_file_of, step_with, step_of, step_number}
+use Rattle.yv_expand_paths.specs.Names.{node_name}
+use Rattle.yv_expand_paths.specs.InnerNameNumbers.{own_names, number_of, number_at, qualified_name}
+use Rattle.yv_expand_paths.specs.Paths.{module_file_with, module_file_of}
+use Rattle.yv_expand_paths.specs.InnerSteps.{step_with, step_of, step_number}
 use Rattle.yv_expand_paths.proofs.Placing.{place_hit, place_there, place_front, one_name}
 
 pub told_apart : (h n k m : ℕ) → n < 4294967296 → m < 4294967296 → qualified_name h n ≡ qualified_name k m → (h ≡ k) × (n ≡ m)

@@ -4,3 +4,5 @@ pub mod PathTables
 pub mod InnerNames
 pub mod InnerModuleFiles
 pub mod InnerPrefixes
+pub mod InnerNameNumbers
+pub mod InnerSteps

@@ -4,8 +4,8 @@ use Rattle.std.specs.declared.vec.Vec.{Vec}
 use Rattle.std.specs.declared.alloc.Global.{Global}
 use Rattle.yv_link_scopes.specs.Files.{Briefs}
 use Rattle.yv_link_scopes.specs.Rows.{Row}
-use Rattle.yv_expand_paths.specs.Names.{own_names, number_of}
-use Rattle.yv_expand_paths.specs.Paths.{path_at}
+use Rattle.yv_expand_paths.specs.InnerNameNumbers.{own_names, number_of}
+use Rattle.yv_expand_paths.specs.InnerSteps.{path_at}
 use Rattle.yv_expand_paths.specs.InnerNames.{table_of}
 use Rattle.yv_expand_paths.specs.declared.names.NodeNames.{NodeNames}
 use Rattle.yv_expand_paths.specs.declared.paths.Paths.{Paths}

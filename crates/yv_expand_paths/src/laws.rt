@@ -4,33 +4,42 @@ ghost use Rattle.std.specs.Option.{option_map};
 ghost use Rattle.yv_link_scopes.specs.Files.{Briefs};
 ghost use Rattle.yv_link_scopes.specs.Names.{local_of};
 ghost use Rattle.yv_link_scopes.specs.Rows.{Row};
-ghost use Rattle.yv_expand_paths.specs.Names.{number_of, number_at, qualified_name};
-ghost use Rattle.yv_expand_paths.specs.Paths.{module_file_of, step_of, step_number};
+ghost use Rattle.yv_expand_paths.specs.InnerNameNumbers.{number_of, number_at, qualified_name};
+ghost use Rattle.yv_expand_paths.specs.Paths.{module_file_of};
+ghost use Rattle.yv_expand_paths.specs.InnerSteps.{step_of, step_number};
 
 /// Two names have one number only if they are one.
 pub fn a_number_has_one_name()
-    ensures { (rows : List Row) (a b : List ℕ) (number : ℕ) → number_of rows a ≡ Some number → number_of rows b ≡ Some number → a ≡ b }
+    ensures { (rows : List Row) (a b : List ℕ) (number : ℕ) → number_of rows a ≡ Some number
+        → number_of rows b ≡ Some number → a ≡ b }
 {}
 
 /// The node of each statement has a numbered name, and so have an operation's input and output.
 pub fn names_are_numbered()
     ensures numbers { (rows : List Row) (statement : ℕ) → statement < length rows
         → (number : ℕ) × (number_at rows statement ≡ Some number) }
-    ensures input { (rows : List Row) → (number : ℕ) × (number_of rows (codes "input") ≡ Some number) }
-    ensures output { (rows : List Row) → (number : ℕ) × (number_of rows (codes "output") ≡ Some number) }
-    ensures within { (rows : List Row) (name : List ℕ) (number : ℕ) → number_of rows name ≡ Some number → number < length rows + 2 }
+    ensures input { (rows : List Row) → (number : ℕ)
+        × (number_of rows (codes "input") ≡ Some number) }
+    ensures output { (rows : List Row) → (number : ℕ)
+        × (number_of rows (codes "output") ≡ Some number) }
+    ensures within { (rows : List Row) (name : List ℕ) (number : ℕ) → number_of rows name
+        ≡ Some number → number < length rows + 2 }
 {}
 
 /// One number is that of one module and one name.
 pub fn a_qualified_name_is_one()
-    ensures { (module_file name other_module_file other_name : ℕ) → name < 4294967296 → other_name < 4294967296
-        → qualified_name module_file name ≡ qualified_name other_module_file other_name → (module_file ≡ other_module_file) × (name ≡ other_name) }
+    ensures { (module_file name other_module_file other_name : ℕ) → name < 4294967296 → other_name
+        < 4294967296
+        → qualified_name module_file name ≡ qualified_name other_module_file other_name
+        → (module_file ≡ other_module_file) × (name ≡ other_name) }
 {}
 
 /// A step has the number of those nodes that have its name and belong to its module, and no other.
 pub fn a_step_has_its_nodes_number()
-    ensures { (files : Briefs) (rows : List Row) (file own module_file : ℕ) (text name : List ℕ) (number : ℕ) → length rows ≤ 4294967293
+    ensures { (files : Briefs) (rows : List Row) (file own module_file : ℕ) (text name : List ℕ)
+        (number : ℕ) → length rows ≤ 4294967293
         → number_of rows name ≡ Some number
-        → (option_map (step_number own) (step_of files rows file text) ≡ Some (qualified_name module_file number))
+        → (option_map (step_number own) (step_of files rows file text)
+        ≡ Some (qualified_name module_file number))
         ↔ ((module_file_of files rows file own text ≡ Some module_file) × (local_of text ≡ name)) }
 {}

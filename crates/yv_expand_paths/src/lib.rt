@@ -1,5 +1,5 @@
-//! Names of schema nodes and the steps of schema paths as numbers, so that they are compared once for a statement and not
-//! for each of its copies (RFC 7950, section 6.5).
+//! Names of schema nodes and the steps of schema paths as numbers, so that they are compared once
+//! for a statement and not for each of its copies (RFC 7950, section 6.5).
 #![tactic(auto)]
 
 pub mod laws;

@@ -2,7 +2,8 @@
 ghost use Rattle.std.specs.Prelude.{◌≡◌, ◌≤◌, ℕ, List, None, Some, map, codes, length, slice_get, IfOk, OnOk};
 ghost use Rattle.yv_link_scopes.specs.Rows.{Row};
 ghost use Rattle.yv_link_scopes.specs.Views.{rows_in};
-ghost use Rattle.yv_expand_paths.specs.Names.{node_name, own_names, place_of, number_of, number_at};
+ghost use Rattle.yv_expand_paths.specs.Names.{node_name};
+ghost use Rattle.yv_expand_paths.specs.InnerNameNumbers.{own_names, place_of, number_of, number_at};
 ghost use Rattle.yv_expand_paths.specs.InnerNames.{table_of};
 
 use crate::table::Table;
@@ -10,8 +11,8 @@ use std::alloc::{AllocError, Global};
 use yv_link_scopes::{Rows, name_of};
 use yv_statement::Statement;
 
-/// The name of the node that a statement gives: its argument, or of an input or output, which has none, its keyword
-/// (RFC 7950, section 7.14).
+/// The name of the node that a statement gives: its argument, or of an input or output, which has
+/// none, its keyword (RFC 7950, section 7.14).
 pub fn node_name<'a>(statement: &'a Statement<'_>) -> &'a str
     ensures { result.now ≡ node_name statement.now.head }
 {
@@ -31,7 +32,8 @@ fn numbers<'a>(
 ) -> Result<Vec<u32>, AllocError>
     requires empty { (name : List ℕ) → table_of table.old name ≡ None }
     requires few { length (rows_in rows.now) ≤ 4294967293 }
-    ensures tells { OnOk result ((name : List ℕ) → table_of table.new name ≡ place_of (own_names (rows_in rows.now)) name) }
+    ensures tells { OnOk result
+        ((name : List ℕ) → table_of table.new name ≡ place_of (own_names (rows_in rows.now)) name) }
     ensures numbers { IfOk result (λ numbers. map (λ n. Some n) numbers.items
         ≡ map (place_of (own_names (rows_in rows.now))) (own_names (rows_in rows.now))) }
 {
@@ -50,7 +52,8 @@ fn number_at(numbers: &[u32], place: usize) -> Option<u32>
     numbers.get(place).copied()
 }
 
-/// The names of the nodes that statements give, each with one number. They are kept once, in their statements.
+/// The names of the nodes that statements give, each with one number. They are kept once, in their
+/// statements.
 #[derive(Drop)]
 pub struct NodeNames<'a> {
     table: Table<'a>,
@@ -62,8 +65,8 @@ pub struct NodeNames<'a> {
 impl<'a> NodeNames<'a> {
     ghost use Rattle.yv_expand_paths.specs.PathTables.{AreNames};
 
-    /// Numbers the names of these statements, and those of an operation's input and output, which may be left out. Takes
-    /// time n log n in the text. Err only if memory runs out.
+    /// Numbers the names of these statements, and those of an operation's input and output, which
+    /// may be left out. Takes time n log n in the text. Err only if memory runs out.
     pub fn read(alloc: Global, rows: &Rows<'a, '_>) -> Result<NodeNames<'a>, AllocError>
         ensures names { IfOk result (AreNames (rows_in rows.now)) }
         ensures few { OnOk result (length (rows_in rows.now) ≤ 4294967293) }
@@ -97,14 +100,16 @@ impl<'a> NodeNames<'a> {
 
     /// The number of the name of an operation's input.
     pub fn input(&self) -> u32
-        ensures { (rows : List Row) → AreNames rows self.now → number_of rows (codes "input") ≡ Some result }
+        ensures { (rows : List Row) → AreNames rows self.now → number_of rows (codes "input")
+            ≡ Some result }
     {
         self.input
     }
 
     /// The number of the name of an operation's output.
     pub fn output(&self) -> u32
-        ensures { (rows : List Row) → AreNames rows self.now → number_of rows (codes "output") ≡ Some result }
+        ensures { (rows : List Row) → AreNames rows self.now → number_of rows (codes "output")
+            ≡ Some result }
     {
         self.output
     }

@@ -4,7 +4,8 @@ ghost use Rattle.std.specs.Option.{option_map};
 ghost use Rattle.yv_link_scopes.specs.Files.{Briefs};
 ghost use Rattle.yv_link_scopes.specs.Rows.{Row, row};
 ghost use Rattle.yv_link_scopes.specs.Views.{files_in, rows_in};
-ghost use Rattle.yv_expand_paths.specs.Paths.{behind_root, steps_of, step_with, step_of, has_path, path_of, path_at};
+ghost use Rattle.yv_expand_paths.specs.Paths.{behind_root, steps_of};
+ghost use Rattle.yv_expand_paths.specs.InnerSteps.{step_with, step_of, has_path, path_of, path_at};
 ghost use Rattle.yv_expand_paths.specs.PathTables.{AreNames};
 ghost use Rattle.yv_expand_paths.specs.InnerPrefixes.{IsPrefixTable};
 
@@ -43,7 +44,8 @@ fn read_step<'a>(
     file: usize,
     text: &'a str,
 ) -> Option<SchemaStep>
-    ensures { (files : Briefs) (rows : List Row) → IsPrefixTable files rows module_files.now → AreNames rows names.now
+    ensures { (files : Briefs) (rows : List Row) → IsPrefixTable files rows module_files.now
+        → AreNames rows names.now
         → result ≡ step_of files rows file text.now }
 {
     let name = names.get(local(text))?;
@@ -82,7 +84,9 @@ fn path<'a>(
     names: &NodeNames<'a>,
     entry: &Entry<'a, '_>,
 ) -> Result<Vec<Option<SchemaStep>>, AllocError>
-    ensures { IfOk result (λ path. (files : Briefs) (rows : List Row) → IsPrefixTable files rows module_files.now → AreNames rows names.now
+    ensures { IfOk result
+        (λ path. (files : Briefs) (rows : List Row) → IsPrefixTable files rows module_files.now
+        → AreNames rows names.now
         → path.items ≡ path_of files rows (row entry.now)) }
 {
     let file = entry.file as usize;
@@ -101,7 +105,9 @@ fn path_at<'a>(
     names: &NodeNames<'a>,
     entry: &Entry<'a, '_>,
 ) -> Result<Vec<Option<SchemaStep>>, AllocError>
-    ensures { IfOk result (λ path. (files : Briefs) (rows : List Row) → IsPrefixTable files rows module_files.now → AreNames rows names.now
+    ensures { IfOk result
+        (λ path. (files : Briefs) (rows : List Row) → IsPrefixTable files rows module_files.now
+        → AreNames rows names.now
         → path.items ≡ path_at files rows (Some (row entry.now))) }
 {
     if has_path(entry) {
@@ -120,8 +126,8 @@ pub struct Paths {
 impl Paths {
     ghost use Rattle.yv_expand_paths.specs.PathTables.{ArePaths};
 
-    /// Reads the paths of all refines and augments, whose names have these numbers. Takes time n log n and memory linear in
-    /// the text. Err only if memory runs out.
+    /// Reads the paths of all refines and augments, whose names have these numbers. Takes time n
+    /// log n and memory linear in the text. Err only if memory runs out.
     pub fn read<'a>(
         alloc: Global,
         rows: &Rows<'a, '_>,
@@ -138,8 +144,8 @@ impl Paths {
         Ok(Paths { paths })
     }
 
-    /// The steps of the path of a numbered refine or augment. A step is None where no node answers it: its prefix identifies
-    /// no module, or no node has its name.
+    /// The steps of the path of a numbered refine or augment. A step is None where no node answers
+    /// it: its prefix identifies no module, or no node has its name.
     pub fn of(&self, statement: usize) -> &[Option<SchemaStep>]
         ensures { (files : Briefs) (rows : List Row) → ArePaths files rows self.now
             → result.now ≡ path_at files rows (slice_get rows statement) }

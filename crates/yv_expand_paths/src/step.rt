@@ -1,6 +1,6 @@
 //! A step of a schema path.
 ghost use Rattle.std.specs.Prelude.{◌≡◌};
-ghost use Rattle.yv_expand_paths.specs.Names.{qualified_name};
+ghost use Rattle.yv_expand_paths.specs.InnerNameNumbers.{qualified_name};
 
 /// A step of a schema path as numbers (RFC 7950, section 6.5).
 #[derive(Clone, Copy, Debug, PartialEq, Eq)]
@@ -19,9 +19,10 @@ pub fn qualified_name(module_file: u32, name: u32) -> usize
 }
 
 impl SchemaStep {
-    ghost use Rattle.yv_expand_paths.specs.Paths.{step_number};
+    ghost use Rattle.yv_expand_paths.specs.InnerSteps.{step_number};
 
-    /// The number of its module and name, where a name without prefix is of the module of this file.
+    /// The number of its module and name, where a name without prefix is of the module of this
+    /// file.
     pub fn number(&self, own: u32) -> usize
         ensures { result ≡ step_number own self.now }
     {

@@ -30,7 +30,9 @@ impl<'a> Table<'a> {
 
     /// Gives a name this number, where it has none yet, and answers the number that it has.
     pub(crate) fn keep(&mut self, name: &'a str, number: u32) -> Result<u32, AllocError>
-        ensures tells { OnOk result ((n : List ℕ) → table_of self.new n ≡ keep_first (table_of self.old) name.now number n) }
+        ensures tells { OnOk result
+            ((n : List ℕ) → table_of self.new n
+            ≡ keep_first (table_of self.old) name.now number n) }
         ensures number { IfOk result (λ given. table_of self.new name.now ≡ Some given) }
     {
         if let Some(given) = self.get(name) {

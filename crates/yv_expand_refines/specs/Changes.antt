@@ -1,7 +1,8 @@
 -- Which refines change which items, where items that are changed alike share what changes them.
 use Rattle.std.specs.Prelude.{ℕ, List, [], Option, Some, None, map, slice_index_or}
 
--- runs of refines, sequences that are made of runs, and for each item the place of its sequence, if a refine changes it
+-- runs of refines, sequences that are made of runs, and for each item the place of its sequence, if
+-- a refine changes it
 pub record ChangesView : Type 0 where
   pub runs : List (List ℕ)
   pub sequences : List (List ℕ)

@@ -1,4 +1,5 @@
--- Only private clauses cite this: sequences, each of which goes on by a run from an earlier one, or from nothing.
+-- Only private clauses cite this: sequences, each of which goes on by a run from an earlier one, or
+-- from nothing.
 use Rattle.std.specs.Prelude.{◌≡◌, ◌<◌, ◌⊎◌, ℕ, List, [], ◌∷◌, ◌++◌, length, Option, Some, IfSome, slice_get, slice_index_or}
 use Rattle.yv_expand_refines.specs.Changes.{sequence_at}
 use Rattle.yv_expand_refines.specs.declared.joints.Joint.{Joint}
@@ -15,7 +16,8 @@ joined_from runs sequences (j ∷ js) = joined_from runs (sequences ++ join runs
 abbrev pub sequences_of : (runs : List (List ℕ)) → List Joint → List (List ℕ)
 sequences_of runs js = joined_from runs [] js
 
--- each sequence goes on by one of so many runs, from an earlier sequence; and each item has one of them, or none
+-- each sequence goes on by one of so many runs, from an earlier sequence; and each item has one of
+-- them, or none
 pub record AreJoined (count : ℕ) (js : List Joint) (of : List (Option ℕ)) : Type 0 where
   pub runs : (place : ℕ) (j : Joint) → slice_get js place ≡ Some j → j.run < count
   pub fronts : (place : ℕ) (j : Joint) → slice_get js place ≡ Some j → IfSome j.front (λ front. front < place)

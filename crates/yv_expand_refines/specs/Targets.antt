@@ -6,7 +6,8 @@ use Rattle.yv_expand_refines.specs.declared.targets.RefineTarget.{RefineTarget}
 use Rattle.yv_expand_refines.specs.declared.targets.RefinedUses.{RefinedUses}
 use Rattle.yv_expand_refines.specs.declared.targets.Refinements.{Refinements}
 
--- a refine at a copy of its uses: the item that the uses is, the statement that refines, and the item that it means, if there is one
+-- a refine at a copy of its uses: the item that the uses is, the statement that refines, and the
+-- item that it means, if there is one
 pub record RefineMeaning : Type 0 where
   pub item : ℕ
   pub refine : ℕ

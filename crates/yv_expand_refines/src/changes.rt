@@ -6,8 +6,9 @@ use crate::joints::{Joint, Joints};
 use std::alloc::{AllocError, Global};
 use std::marker::Model;
 
-/// For each item of an expansion the refines that change it, in order; items that are changed alike share one sequence of refines. A
-/// sequence goes on by a run of refines from an earlier one, or from nothing, and each that is made so is kept once.
+/// For each item of an expansion the refines that change it, in order; items that are changed alike
+/// share one sequence of refines. A sequence goes on by a run of refines from an earlier one, or
+/// from nothing, and each that is made so is kept once.
 #[derive(Drop)]
 pub struct Changes {
     runs: Vec<Vec<usize>>,
@@ -56,7 +57,8 @@ impl Changes {
         })
     }
 
-    /// Keeps a run, and answers its number: how many there were before it. It changes nothing yet. Err only if memory runs out.
+    /// Keeps a run, and answers its number: how many there were before it. It changes nothing yet.
+    /// Err only if memory runs out.
     pub fn add_run(&mut self, refines: Vec<usize>) -> Result<usize, AllocError>
         ensures number { IfOk result (λ number. number ≡ length self.old.runs) }
         ensures runs { OnOk result (self.new.runs ≡ self.old.runs ++ refines.items ∷ []) }
@@ -74,7 +76,8 @@ impl Changes {
         requires item { item < length self.old.of }
         requires run { run < length self.old.runs }
         ensures notes { OnOk result (each self.new
-            ≡ slice_set (each self.old) item (slice_index_or (each self.old) item [] ++ slice_index_or self.old.runs run [])) }
+            ≡ slice_set (each self.old) item
+            (slice_index_or (each self.old) item [] ++ slice_index_or self.old.runs run [])) }
         ensures runs { self.new.runs ≡ self.old.runs }
         ensures err { OnErr result (self.new ≡ self.old) }
     {
@@ -84,11 +87,13 @@ impl Changes {
         Ok(())
     }
 
-    /// Notes that the refines of a numbered run change an item, after those that do already. An item past the last changes nothing, and
-    /// so does a run that isn't there. Takes time log n in sequences, whatever the run's length. Err only if memory runs out.
+    /// Notes that the refines of a numbered run change an item, after those that do already. An
+    /// item past the last changes nothing, and so does a run that isn't there. Takes time log n in
+    /// sequences, whatever the run's length. Err only if memory runs out.
     pub fn note(&mut self, item: usize, run: usize) -> Result<(), AllocError>
         ensures notes { OnOk result (each self.new
-            ≡ slice_set (each self.old) item (slice_index_or (each self.old) item [] ++ slice_index_or self.old.runs run [])) }
+            ≡ slice_set (each self.old) item
+            (slice_index_or (each self.old) item [] ++ slice_index_or self.old.runs run [])) }
         ensures runs { self.new.runs ≡ self.old.runs }
         ensures err { OnErr result (self.new ≡ self.old) }
     {
@@ -108,7 +113,8 @@ impl Changes {
     /// The place of the sequence of the refines that change an item, if one does.
     pub fn sequence(&self, item: usize) -> Option<usize>
         ensures place { result ≡ slice_index_or self.now.of item None }
-        ensures refines { slice_index_or (each self.now) item [] ≡ sequence_at self.now.sequences result }
+        ensures refines { slice_index_or (each self.now) item []
+            ≡ sequence_at self.now.sequences result }
         ensures within { IfSome result (λ place. place < length self.now.sequences) }
     {
         self.of.get(item).copied().unwrap_or(None)
@@ -124,9 +130,11 @@ impl Changes {
         }
     }
 
-    /// How a sequence is made, so that what is computed of it goes on from what was computed of the earlier one.
+    /// How a sequence is made, so that what is computed of it goes on from what was computed of the
+    /// earlier one.
     pub fn link(&self, sequence: usize) -> Continuation<'_>
-        ensures sequence { slice_index_or self.now.sequences sequence [] ≡ sequence_at self.now.sequences result.front ++ result.run.now }
+        ensures sequence { slice_index_or self.now.sequences sequence []
+            ≡ sequence_at self.now.sequences result.front ++ result.run.now }
         ensures before { IfSome result.front (λ front. front < sequence) }
     {
         match self.joints.at(sequence) {

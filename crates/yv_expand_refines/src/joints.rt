@@ -17,6 +17,9 @@ pub(crate) struct Joint {
 pub(crate) struct Joints {
     pub made: Vec<Joint>,
     places: BTreeMap<Joint, usize>,
+    // By run the place of a sequence that goes on by it: of copies that are alike each item goes on
+    // as that of the copy before, and no sequence is looked up.
+    latest: Vec<usize>,
 }
 
 impl Joints {
@@ -27,6 +30,7 @@ impl Joints {
         Joints {
             made: Vec::new(alloc),
             places: BTreeMap::new(alloc),
+            latest: Vec::new(alloc),
         }
     }
 
@@ -37,16 +41,44 @@ impl Joints {
         self.made.get(place).copied()
     }
 
-    // The place of a sequence, if it was made. That it stands there is looked at, and not kept as a fact.
-    fn place(&self, joint: Joint) -> Option<usize>
+    // This place, if the sequence stands there. That it does is looked at, and not kept as a fact.
+    fn if_made(&self, place: usize, joint: Joint) -> Option<usize>
         ensures { IfSome result (λ place. slice_get self.now.made.items place ≡ Some joint) }
     {
-        let place = *self.places.get(&joint)?;
         if self.at(place) == Some(joint) {
             Some(place)
         } else {
             None
         }
+    }
+
+    // The place of a sequence, if it is the latest that goes on by its run.
+    fn latest_place(&self, joint: Joint) -> Option<usize>
+        ensures { IfSome result (λ place. slice_get self.now.made.items place ≡ Some joint) }
+    {
+        let place = *self.latest.get(joint.run)?;
+        self.if_made(place, joint)
+    }
+
+    // The place of a sequence, if it was made.
+    fn place(&self, joint: Joint) -> Option<usize>
+        ensures { IfSome result (λ place. slice_get self.now.made.items place ≡ Some joint) }
+    {
+        let place = *self.places.get(&joint)?;
+        self.if_made(place, joint)
+    }
+
+    // Notes the place of the latest sequence that goes on by a run. Runs come in the order of their
+    // numbers; one that is far ahead isn't noted.
+    fn note_latest(&mut self, run: usize, place: usize) -> Result<(), AllocError>
+        ensures { self.new.made ≡ self.old.made }
+    {
+        if run < self.latest.len() {
+            self.latest[run] = place;
+        } else if run == self.latest.len() {
+            self.latest.push(place)?;
+        }
+        Ok(())
     }
 
     // Makes a sequence behind the others, and answers its place.
@@ -57,6 +89,7 @@ impl Joints {
     {
         let place = self.made.len();
         self.places.insert(joint, place)?;
+        self.note_latest(joint.run, place)?;
         self.made.push(joint)?;
         Ok(place)
     }
@@ -67,8 +100,14 @@ impl Joints {
         ensures grows { OnOk result (Grows joint self.old.made.items self.new.made.items) }
         ensures err { OnErr result (self.new.made.items ≡ self.old.made.items) }
     {
+        if let Some(place) = self.latest_place(joint) {
+            return Ok(place);
+        }
         match self.place(joint) {
-            Some(place) => Ok(place),
+            Some(place) => {
+                self.note_latest(joint.run, place)?;
+                Ok(place)
+            }
             None => self.make(joint),
         }
     }

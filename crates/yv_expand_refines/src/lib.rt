@@ -1,5 +1,5 @@
-//! What refines mean at the copies of their `uses` and which items they change, each list kept once for all copies and items that are
-//! alike (RFC 7950, section 7.13.2).
+//! What refines mean at the copies of their `uses` and which items they change, each list kept once
+//! for all copies and items that are alike (RFC 7950, section 7.13.2).
 #![tactic(auto)]
 
 mod changes;

@@ -16,11 +16,13 @@ pub struct RefinedUses {
     pub item: usize,
     /// The place of its aims.
     pub aims: usize,
-    /// For each different path of its refines the number of the item to which it leads, if there is one.
+    /// For each different path of its refines the number of the item to which it leads, if there is
+    /// one.
     pub targets: Vec<Option<usize>>,
 }
 
-/// What refines mean at the copies of their `uses`: copies of one `uses` in one module share their aims.
+/// What refines mean at the copies of their `uses`: copies of one `uses` in one module share their
+/// aims.
 #[derive(Drop)]
 pub struct Refinements {
     /// The refines of a `uses`, in order, at each place.

@@ -1,4 +1,5 @@
--- Paths that are followed together: what was found grows level by level until nothing is left to be found.
+-- Paths that are followed together: what was found grows level by level until nothing is left to be
+-- found.
 use Rattle.std.proofs.Common.{◌≡◌, ◌⊎◌, ℕ, zero, suc, ◌+◌, ◌<◌, ◌≤◌, true, List, [], ◌∷◌, ◌++◌, get_or, length, length-append, Option, None, Some, Result, Ok, Err, inl, inr, refl, sym, ◌∙◌, ap, subst, arith}
 use Rattle.std.specs.List.{slice_get}
 use Rattle.std.specs.Option.{option_and_then}
@@ -153,7 +154,8 @@ module _ (labels : List Label) (groups : Groups) (limit : ℕ) (paths : List (Li
     abbrev pub HasDepth : (path depth : ℕ) → Type 0
     HasDepth path depth = (steps : List ℕ) × (slice_get paths path ≡ Some steps) × (length steps ≡ depth)
 
-    -- what was found leads somewhere, all that goes on from the first ones was found, and the others have so many steps
+    -- what was found leads somewhere, all that goes on from the first ones was found, and the
+    -- others have so many steps
     pub record IsDeep (depth followed : ℕ) (found : List Arrival) : Type 0 where
       pub sound : (place : ℕ) (a : Arrival) → slice_get found place ≡ Some a → Arrives labels groups limit start paths a
       pub first : slice_get found 0 ≡ Some root

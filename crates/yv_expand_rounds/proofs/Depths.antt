@@ -1,4 +1,5 @@
--- How deep the items on the stack of a listing stand: each by one below an item that is listed already.
+-- How deep the items on the stack of a listing stand: each by one below an item that is listed
+-- already.
 use Rattle.std.proofs.Common.{◌≡◌, ℕ, ◌+◌, ◌≤◌, List, [], ◌∷◌, ◌++◌, length, reverse, sym, ◌∙◌, ap, subst, arith, length-append, Option, Some, None}
 use Rattle.std.proofs.lemmas.List.{reverse-append}
 use Rattle.yv_expand_rounds.specs.declared.row.ItemRow.{ItemRow}

@@ -228,8 +228,8 @@ step_kept f marks limit (Some i) o' e at h was = elim (h i refl) [
   | inr hidden ↦ inr (subst (λ x. is_hidden_at marks x ≡ true) (step_answered f limit i e was) (at i ∙ hidden))
 ]
 
--- what a turn did: each node that was the first of its name is the first still, but in one group, or it is hidden, and what stood below
--- hidden items is hidden
+-- what a turn did: each node that was the first of its name is the first still, but in one group,
+-- or it is hidden, and what stood below hidden items is hidden
 pub record Displaces (labels : List Label) (but : ℕ) (old new : Groups) (marks : List Bool) : Type 0 where
   pub beyond : length labels < but
   pub first_is : (g name i : ℕ) → g ≢ but → first labels old g name ≡ Some i → (first labels new g name ≡ Some i) ⊎ (is_hidden marks i ≡ true)

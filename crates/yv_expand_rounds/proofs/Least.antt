@@ -107,7 +107,8 @@ same_mark : (labels : List Label) (i item : ℕ) (g : Bool) → is_given labels 
 same_mark labels i item true e f = earlier_by labels i item (nat_cmp item i) (by_marks labels item i true true f e) ∙ ap Some (by_number i item)
 same_mark labels i item false e f = earlier_by labels i item (nat_cmp item i) (by_marks labels item i false false f e) ∙ ap Some (by_number i item)
 
--- one more item, where these are the least of those that no augment of a module gives and of those that one gives
+-- one more item, where these are the least of those that no augment of a module gives and of those
+-- that one gives
 more_by : (labels : List Label) (item : ℕ) (named mark : Bool) (a b : Option ℕ) → is_given labels item ≡ mark → ((i : ℕ) → a ≡ Some i → is_given labels i ≡ false)
     → ((i : ℕ) → b ≡ Some i → is_given labels i ≡ true)
     → (if named then Some (earlier labels (option_or a b) item) else option_or a b)

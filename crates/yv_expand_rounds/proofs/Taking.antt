@@ -53,7 +53,8 @@ on_put labels y popped new parent depth gs g items order is =
     ∙ ap (λ n. on y popped + n) (on_reverse y (under parent depth items) ∙ on_under y parent depth items
     ∙ sum_by-IsPermutation (λ i. one_if (i == y)) (members_of gs g) items order.permutation)
 
--- a number is on the stack or in the groups that are left at most once, and if it is, what stands below it wasn't taken
+-- a number is on the stack or in the groups that are left at most once, and if it is, what stands
+-- below it wasn't taken
 abbrev pub IsFresh : (groups rest : Groups) → List ItemRow → ℕ → Type 0
 IsFresh groups rest stack y = (times y rest + on y stack ≡ 0) ⊎ ((times y rest + on y stack ≡ 1) × (members_of rest (y + 1) ≡ members_of groups (y + 1)))
 

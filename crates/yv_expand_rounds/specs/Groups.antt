@@ -2,8 +2,9 @@
 use Rattle.std.specs.Prelude.{ℕ, ◌+◌, ◌<◌, ◌==◌, ◌++◌, List, [], length, set, slice_index_or, sum_by, count_by}
 use Rattle.yv_expand_rounds.specs.declared.label.Label.{Label}
 
--- The items of each group, by their numbers. Group 0 is the top, and group i + 1 has what stands below item i; what a uses gives
--- stands in the group of the uses itself. Behind these each numbered augment has a group of its own.
+-- The items of each group, by their numbers. Group 0 is the top, and group i + 1 has what stands
+-- below item i; what a uses gives stands in the group of the uses itself. Behind these each
+-- numbered augment has a group of its own.
 abbrev pub Groups : Type 0
 Groups = List (List ℕ)
 

@@ -1,4 +1,5 @@
--- Inner definitions, which only private clauses cite: how paths are followed together, and what they meet on the way.
+-- Inner definitions, which only private clauses cite: how paths are followed together, and what
+-- they meet on the way.
 use Rattle.std.specs.Prelude.{◌≡◌, ℕ, ◌<◌, ◌≤◌, ◌==◌, Bool, true, false, List, Some, length, slice_get}
 use Rattle.yv_base_tables.specs.Fronts.{GoesOn}
 use Rattle.yv_expand_rounds.specs.declared.arrivals.Arrival.{Arrival}
@@ -25,7 +26,8 @@ pub record IsAmong (items : List ℕ) (e : End) : Type 0 where
 abbrev pub AreMet : List Label → Groups → (limit : ℕ) → End → (items : List ℕ) → Type 0
 AreMet labels groups limit e items = (name : ℕ) (next : End) → step_end labels groups limit e name ≡ Some next → IsAmong items next
 
--- these have all that the old ones were, in their places, and behind them only what is sound, and all that must be found
+-- these have all that the old ones were, in their places, and behind them only what is sound, and
+-- all that must be found
 pub record Gains (Sound Must : Arrival → Type 0) (old new : List Arrival) : Type 0 where
   pub longer : length old ≤ length new
   pub kept : (place : ℕ) (a : Arrival) → slice_get old place ≡ Some a → slice_get new place ≡ Some a

@@ -1,4 +1,5 @@
--- Inner definitions, which only private clauses cite: nodes to which no path from the top leads any more.
+-- Inner definitions, which only private clauses cite: nodes to which no path from the top leads any
+-- more.
 use Rattle.std.specs.Prelude.{◌≡◌, ◌⊎◌, ℕ, ◌+◌, ◌<◌, not, Bool, true, false, List, length, Option, Some, slice_get, slice_index_or, count_by}
 use Rattle.yv_expand_rounds.specs.declared.label.Label.{Label}
 use Rattle.yv_expand_rounds.specs.declared.end.End.{End}
@@ -45,8 +46,8 @@ pub record Spreads (groups : Groups) (old new : List Bool) (found : List ℕ) : 
   pub besides : (i : ℕ) → is_hidden new i ≡ true → (is_hidden old i ≡ true) ⊎ IsCovered groups new i
   pub below : (i : ℕ) → IsOneOf found i → IsCovered groups new i
 
--- nodes were hidden that were displaced when others came to stand below the node at this end, and all that stands below what was hidden
--- besides, or below this node, if it is hidden
+-- nodes were hidden that were displaced when others came to stand below the node at this end, and
+-- all that stands below what was hidden besides, or below this node, if it is hidden
 pub record Updates (groups : Groups) (old new : List Bool) (e : Option End) (displaced : List ℕ) : Type 0 where
   pub grow : Grow old new
   pub displaced_are : (i : ℕ) → IsOneOf displaced i → is_hidden new i ≡ true

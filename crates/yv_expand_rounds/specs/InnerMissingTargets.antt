@@ -1,4 +1,5 @@
--- Inner definitions, which only private clauses cite: the places of augments that add to no node, one by one.
+-- Inner definitions, which only private clauses cite: the places of augments that add to no node,
+-- one by one.
 use Rattle.std.specs.Prelude.{ℕ, ◌+◌, List, [], ◌∷◌, Option, Some, None}
 use Rattle.yv_expand_rounds.specs.declared.label.Label.{Label}
 use Rattle.yv_expand_rounds.specs.declared.end.End.{End}

@@ -1,4 +1,5 @@
--- Inner definitions, which only private clauses cite: how far the paths of augments that wait were followed.
+-- Inner definitions, which only private clauses cite: how far the paths of augments that wait were
+-- followed.
 use Rattle.std.specs.Prelude.{◌≡◌, ◌≢◌, ◌⊎◌, ◌<◌, ◌+◌, ◌-◌, ℕ, nat_lt, Bool, true, List, length, take, drop, if◌then◌else◌, Option, Some, None, slice_get, slice_index_or}
 use Rattle.yv_expand_rounds.specs.declared.label.Label.{Label}
 use Rattle.yv_expand_rounds.specs.declared.end.End.{End}

@@ -15,3 +15,4 @@ pub mod InnerHiddenNodes
 pub mod InnerPendingPaths
 pub mod InnerMissingTargets
 pub mod InnerArrivals
+pub mod Kinds

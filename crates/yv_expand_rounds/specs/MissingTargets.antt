@@ -1,4 +1,5 @@
--- Augments that add to no node: their path leads nowhere, or ends where no augment may add (RFC 7950, section 7.17).
+-- Augments that add to no node: their path leads nowhere, or ends where no augment may add (RFC
+-- 7950, section 7.17).
 use Rattle.std.specs.Prelude.{◌≡◌, ℕ, ◌≤◌, List, Option, Some, None, slice_get}
 use Rattle.yv_expand_rounds.specs.declared.label.Label.{Label}
 use Rattle.yv_expand_rounds.specs.declared.end.End.{End}

@@ -12,7 +12,7 @@ is_some_given (Some l) = l.given
 abbrev pub is_given : List Label → ℕ → Bool
 is_given labels i = is_some_given (slice_get labels i)
 
--- which of two items of one place comes first: what no augment of a module gives comes before what such an augment gives, and of two
--- such items the one with the lesser number comes first
+-- which of two items of one place comes first: what no augment of a module gives comes before what
+-- such an augment gives, and of two such items the one with the lesser number comes first
 abbrev pub sibling_cmp : List Label → ℕ → ℕ → Ordering
 sibling_cmp labels i j = ordering_then (bool_cmp (is_given labels i) (is_given labels j)) (nat_cmp i j)

@@ -1,5 +1,6 @@
--- How items come to stand in groups, from the last to the first: at a uses all that stands behind it is there, so what its
--- augments' paths meet is there, with what inner augments gave (RFC 7950, section 7.13).
+-- How items come to stand in groups, from the last to the first: at a uses all that stands behind
+-- it is there, so what its augments' paths meet is there, with what inner augments gave (RFC 7950,
+-- section 7.13).
 use Rattle.std.specs.Prelude.{◌≡◌, ℕ, ◌+◌, ◌<◌, ◌≤◌, ◌++◌, List, [], ◌∷◌, length, replicate, set, None}
 use Rattle.yv_expand_rounds.specs.declared.label.Label.{Label}
 use Rattle.yv_expand_rounds.specs.Groups.{Groups, members_of, times}
@@ -13,7 +14,8 @@ nothing items augments = record { groups = replicate (items + 1 + augments) []; 
 abbrev pub enter : (item group : ℕ) → State → State
 enter i g st = record { groups = set st.groups g (members_of st.groups g ++ i ∷ []); ends = st.ends }
 
--- The items from this number on have entered a group each, from the last to the first, and in between augments had turns.
+-- The items from this number on have entered a group each, from the last to the first, and in
+-- between augments had turns.
 pub data HaveEntered (labels : List Label) (augments : ℕ) : (first : ℕ) → State → Type 0 where
   none_yet : HaveEntered labels augments (length labels) (nothing (length labels) augments)
   one_turn : {first : ℕ} {st : State} (k start limit : ℕ) (names : List ℕ) → k < augments → HaveEntered labels augments first st

@@ -5,8 +5,8 @@ use Rattle.yv_expand_rounds.specs.declared.end.End.TheVariants as end
 use Rattle.yv_expand_rounds.specs.Paths.{path_end}
 use Rattle.yv_expand_rounds.specs.Turns.{State, is_applied, turn, is_taken}
 
--- a round: each augment in order that isn't applied is, if its target is there; their paths begin at the top, and the first has
--- this number
+-- a round: each augment in order that isn't applied is, if its target is there; their paths begin
+-- at the top, and the first has this number
 abbrev pub round : List Label → (first : ℕ) → List (List ℕ) → State → State
 round labels k [] st = st
 round labels k (names ∷ others) st = round labels (k + 1) others (turn labels k 0 (length labels) names st)

@@ -6,8 +6,9 @@ use Rattle.yv_expand_rounds.specs.declared.row.ItemRow.{ItemRow}
 use Rattle.yv_expand_rounds.specs.Groups.{Groups, members_of}
 use Rattle.yv_expand_rounds.specs.Order.{sibling_cmp}
 
--- The items of a group in order: first those that no augment of a module gives, by their numbers, so that what a block gives comes before
--- what augments of uses give, inner ones first; and then those that augments of modules give, by their numbers.
+-- The items of a group in order: first those that no augment of a module gives, by their numbers,
+-- so that what a block gives comes before what augments of uses give, inner ones first; and then
+-- those that augments of modules give, by their numbers.
 pub record AreInOrder (labels : List Label) (groups : Groups) (g : ℕ) (items : List ℕ) : Type 0 where
   pub permutation : IsPermutation (members_of groups g) items
   pub sorted : IsSorted (sibling_cmp labels) items

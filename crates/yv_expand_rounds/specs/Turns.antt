@@ -4,7 +4,7 @@ use Rattle.std.specs.Option.{option_and_then}
 use Rattle.yv_expand_rounds.specs.declared.label.Label.{Label}
 use Rattle.yv_expand_rounds.specs.declared.end.End.{End}
 use Rattle.yv_expand_rounds.specs.declared.end.End.TheVariants as end
-use Rattle.yv_expand_rounds.specs.Labels.{may_be_target}
+use Rattle.yv_expand_rounds.specs.Kinds.{may_be_target}
 use Rattle.yv_expand_rounds.specs.Groups.{Groups, group_of_augment, move_items}
 use Rattle.yv_expand_rounds.specs.Paths.{path_end}
 
@@ -30,7 +30,8 @@ abbrev pub group_of_target : (own : ℕ) → Option ℕ → ℕ
 group_of_target own None = own
 group_of_target own (Some i) = i + 1
 
--- the group where what the numbered augment gives stands: that of the node to which it adds, and its own while it adds to none
+-- the group where what the numbered augment gives stands: that of the node to which it adds, and
+-- its own while it adds to none
 abbrev pub given_group : List Label → List (Option End) → ℕ → ℕ
 given_group labels ends k = group_of_target (group_of_augment labels k) (target_of labels ends k)
 

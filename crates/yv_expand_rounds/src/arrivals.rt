@@ -1,5 +1,6 @@
-//! Many paths followed at once: wherever one has come, either the items that may answer a step are looked up among the paths or the
-//! paths that go on are looked up among the items, whichever are fewer.
+//! Many paths followed at once: wherever one has come, either the items that may answer a step are
+//! looked up among the paths or the paths that go on are looked up among the items, whichever are
+//! fewer.
 ghost use Rattle.std.specs.Prelude.{◌≡◌, ◌≤◌, ℕ, true, List, Some, length, IfOk, IfSome, OnOk, slice_get};
 ghost use Rattle.std.specs.Option.{option_map};
 ghost use Rattle.yv_base_tables.specs.Fronts.{GoesOn};
@@ -42,7 +43,8 @@ fn is_at(end: End, item: usize) -> bool
 impl ItemPlaces {
     // The name of an item.
     fn name_of(&self, item: usize) -> Option<usize>
-        ensures { result ≡ option_map (λ (l : Label). l.name) (slice_get self.now.labels.items item) }
+        ensures { result
+            ≡ option_map (λ (l : Label). l.name) (slice_get self.now.labels.items item) }
     {
         match self.labels.get(item) {
             Some(label) => Some(label.name),
@@ -50,13 +52,16 @@ impl ItemPlaces {
         }
     }
 
-    // The path that goes on by the name of an item and comes to that item, if there is one. Where the step comes to another item of
-    // that name there is none, so that no path is found twice.
+    // The path that goes on by the name of an item and comes to that item, if there is one. Where
+    // the step comes to another item of that name there is none, so that no path is found twice.
     fn meet(&self, limit: usize, paths: &PathTree, from: Arrival, item: usize) -> Option<Arrival>
-        ensures some { (labels : List Label) (groups : Groups) (all : List (List ℕ)) → ArePlaces labels groups self.now → IsPathTree all paths.now
+        ensures some { (labels : List Label) (groups : Groups) (all : List (List ℕ))
+            → ArePlaces labels groups self.now → IsPathTree all paths.now
             → IfSome result (Follows labels groups limit all from) }
-        ensures all { (labels : List Label) (groups : Groups) (all : List (List ℕ)) (next : Arrival) → ArePlaces labels groups self.now
-            → IsPathTree all paths.now → Follows labels groups limit all from next → is_at next.end item ≡ true → result ≡ Some next }
+        ensures all { (labels : List Label) (groups : Groups) (all : List (List ℕ)) (next : Arrival)
+            → ArePlaces labels groups self.now
+            → IsPathTree all paths.now → Follows labels groups limit all from next
+            → is_at next.end item ≡ true → result ≡ Some next }
         ensures there { IfSome result (λ next. is_at next.end item ≡ true) }
     {
         let name = self.name_of(item)?;
@@ -79,9 +84,11 @@ impl ItemPlaces {
         found: &mut Vec<Arrival>,
     ) -> Result<(), AllocError>
         ensures longer { OnOk result (length found.old.items ≤ length found.new.items) }
-        ensures finds { (labels : List Label) (groups : Groups) (all : List (List ℕ)) → ArePlaces labels groups self.now → IsPathTree all paths.now
+        ensures finds { (labels : List Label) (groups : Groups) (all : List (List ℕ))
+            → ArePlaces labels groups self.now → IsPathTree all paths.now
             → OnOk result (Gains (Follows labels groups limit all from)
-            (Meets labels groups limit all from items.now (length items.now)) found.old.items found.new.items) }
+            (Meets labels groups limit all from items.now (length items.now)) found.old.items
+            found.new.items) }
     {
         for item in items {
             if let Some(next) = self.meet(limit, paths, from, *item) {
@@ -93,10 +100,14 @@ impl ItemPlaces {
 
     // Where a path leads that goes on from another by one step, if it leads anywhere.
     fn branch(&self, limit: usize, paths: &PathTree, from: Arrival, path: usize) -> Option<Arrival>
-        ensures some { (labels : List Label) (groups : Groups) (all : List (List ℕ)) (step : ℕ) → ArePlaces labels groups self.now
-            → IsPathTree all paths.now → GoesOn all from.path step path → IfSome result (Follows labels groups limit all from) }
-        ensures all { (labels : List Label) (groups : Groups) (all : List (List ℕ)) (next : Arrival) → ArePlaces labels groups self.now
-            → IsPathTree all paths.now → Follows labels groups limit all from next → next.path ≡ path → result ≡ Some next }
+        ensures some { (labels : List Label) (groups : Groups) (all : List (List ℕ)) (step : ℕ)
+            → ArePlaces labels groups self.now
+            → IsPathTree all paths.now → GoesOn all from.path step path
+            → IfSome result (Follows labels groups limit all from) }
+        ensures all { (labels : List Label) (groups : Groups) (all : List (List ℕ)) (next : Arrival)
+            → ArePlaces labels groups self.now
+            → IsPathTree all paths.now → Follows labels groups limit all from next → next.path
+            ≡ path → result ≡ Some next }
     {
         let end = self.step(limit, from.end, paths.step(path))?;
         Some(Arrival { path, end })
@@ -111,8 +122,11 @@ impl ItemPlaces {
         found: &mut Vec<Arrival>,
     ) -> Result<(), AllocError>
         ensures longer { OnOk result (length found.old.items ≤ length found.new.items) }
-        ensures finds { (labels : List Label) (groups : Groups) (all : List (List ℕ)) → ArePlaces labels groups self.now → IsPathTree all paths.now
-            → OnOk result (Gains (Follows labels groups limit all from) (Follows labels groups limit all from) found.old.items found.new.items) }
+        ensures finds { (labels : List Label) (groups : Groups) (all : List (List ℕ))
+            → ArePlaces labels groups self.now → IsPathTree all paths.now
+            → OnOk result
+            (Gains (Follows labels groups limit all from) (Follows labels groups limit all from)
+            found.old.items found.new.items) }
     {
         let branches = paths.branches(from.path);
         for path in branches {
@@ -132,8 +146,11 @@ impl ItemPlaces {
         found: &mut Vec<Arrival>,
     ) -> Result<(), AllocError>
         ensures longer { OnOk result (length found.old.items ≤ length found.new.items) }
-        ensures finds { (labels : List Label) (groups : Groups) (all : List (List ℕ)) → ArePlaces labels groups self.now → IsPathTree all paths.now
-            → OnOk result (Gains (Follows labels groups limit all from) (Follows labels groups limit all from) found.old.items found.new.items) }
+        ensures finds { (labels : List Label) (groups : Groups) (all : List (List ℕ))
+            → ArePlaces labels groups self.now → IsPathTree all paths.now
+            → OnOk result
+            (Gains (Follows labels groups limit all from) (Follows labels groups limit all from)
+            found.old.items found.new.items) }
     {
         if let End::ShorthandCase(item) = from.end {
             return self.meet_all(limit, paths, from, &[item], found);
@@ -145,7 +162,8 @@ impl ItemPlaces {
         }
     }
 
-    // Finds the paths that go on by one step from those that were found, but for the first ones. Tells how many were there.
+    // Finds the paths that go on by one step from those that were found, but for the first ones.
+    // Tells how many were there.
     fn deepen(
         &self,
         limit: usize,
@@ -154,9 +172,13 @@ impl ItemPlaces {
         found: &mut Vec<Arrival>,
     ) -> Result<usize, AllocError>
         ensures count { IfOk result (λ count. count ≡ length found.old.items) }
-        ensures finds { (labels : List Label) (groups : Groups) (all : List (List ℕ)) → ArePlaces labels groups self.now → IsPathTree all paths.now
-            → OnOk result (Gains (FollowsSome labels groups limit all found.old.items first (length found.old.items))
-            (FollowsSome labels groups limit all found.old.items first (length found.old.items)) found.old.items found.new.items) }
+        ensures finds { (labels : List Label) (groups : Groups) (all : List (List ℕ))
+            → ArePlaces labels groups self.now → IsPathTree all paths.now
+            → OnOk result
+            (Gains
+            (FollowsSome labels groups limit all found.old.items first (length found.old.items))
+            (FollowsSome labels groups limit all found.old.items first (length found.old.items))
+            found.old.items found.new.items) }
     {
         let count = found.len();
         for place in first..count {
@@ -168,8 +190,9 @@ impl ItemPlaces {
 }
 
 impl Augmentation {
-    /// Where each of these paths leads that leads somewhere, as `walk` says, in time n log n in the fewer of the paths and the nodes
-    /// before the limit that they may meet. Err only if memory runs out.
+    /// Where each of these paths leads that leads somewhere, as `walk` says, in time n log n in the
+    /// fewer of the paths and the nodes before the limit that they may meet. Err only if memory
+    /// runs out.
     pub fn walk_all(
         &self,
         alloc: Global,
@@ -177,8 +200,10 @@ impl Augmentation {
         limit: usize,
         paths: &PathTree,
     ) -> Result<Vec<Arrival>, AllocError>
-        ensures { (labels : List Label) (st : State) (all : List (List ℕ)) → IsAugmentation labels st self.now → IsPathTree all paths.now
-            → IfOk result (λ arrivals. AreArrivals labels st.groups limit start all arrivals.items) }
+        ensures { (labels : List Label) (st : State) (all : List (List ℕ))
+            → IsAugmentation labels st self.now → IsPathTree all paths.now
+            → IfOk result
+            (λ arrivals. AreArrivals labels st.groups limit start all arrivals.items) }
     {
         yv_base_tables::path_tree_laws::paths_have_fronts();
         let mut arrivals = Vec::new(alloc);

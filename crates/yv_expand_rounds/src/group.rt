@@ -62,16 +62,20 @@ impl Group {
         self.names.get(&name).copied()
     }
 
-    // Keeps an item for its name where none is yet, or one that comes later. Answers that one, whose place it took.
+    // Keeps an item for its name where none is yet, or one that comes later. Answers that one,
+    // whose place it took.
     fn keep(
         &mut self,
         labels: &[Label],
         name: usize,
         item: usize,
     ) -> Result<Option<usize>, AllocError>
-        ensures names { OnOk result ((n : ℕ) → first_in self.new n ≡ keep_first labels.now (first_in self.old) name item n) }
+        ensures names { OnOk result
+            ((n : ℕ) → first_in self.new n
+            ≡ keep_first labels.now (first_in self.old) name item n) }
         ensures stay { OnErr result ((n : ℕ) → first_in self.new n ≡ first_in self.old n) }
-        ensures displaces { IfOk result (λ gone. gone ≡ displaced_item labels.now (first_in self.old name) item) }
+        ensures displaces { IfOk result
+            (λ gone. gone ≡ displaced_item labels.now (first_in self.old name) item) }
         ensures members { self.new.members ≡ self.old.members }
         ensures descends { self.new.descending ≡ self.old.descending }
     {
@@ -80,9 +84,11 @@ impl Group {
         Ok(displaced_item(labels, first, item))
     }
 
-    // Keeps the number of an item for its name, if it is a node. Answers the one whose place it took.
+    // Keeps the number of an item for its name, if it is a node. Answers the one whose place it
+    // took.
     fn note(&mut self, labels: &[Label], item: usize) -> Result<Option<usize>, AllocError>
-        ensures names { OnOk result ((n : ℕ) → first_in self.new n ≡ note_item labels.now (first_in self.old) item n) }
+        ensures names { OnOk result
+            ((n : ℕ) → first_in self.new n ≡ note_item labels.now (first_in self.old) item n) }
         ensures stay { OnErr result ((n : ℕ) → first_in self.new n ≡ first_in self.old n) }
         ensures displaces { IfOk result (KeepBut (first_in self.old) (first_in self.new)) }
         ensures members { self.new.members ≡ self.old.members }
@@ -110,8 +116,8 @@ impl Group {
         }
     }
 
-    /// Adds an item after the others. Returns the node that was the first of its name before, if this one is now. Room is made first,
-    /// so that the items are as before where memory runs out.
+    /// Adds an item after the others. Returns the node that was the first of its name before, if
+    /// this one is now. Room is made first, so that the items are as before where memory runs out.
     pub(crate) fn add(&mut self, labels: &[Label], item: usize) -> Result<Option<usize>, AllocError>
         ensures state { (members : List ℕ) → IsGroup labels.now members self.old
             → OnOk result (IsGroup labels.now (members ++ item ∷ []) self.new) }
@@ -126,7 +132,8 @@ impl Group {
         Ok(displaced)
     }
 
-    /// Adds items after the others. Returns the nodes that were the first of their names before, if others are now.
+    /// Adds items after the others. Returns the nodes that were the first of their names before, if
+    /// others are now.
     pub(crate) fn join(
         &mut self,
         alloc: Global,
@@ -135,7 +142,8 @@ impl Group {
     ) -> Result<Vec<usize>, AllocError>
         ensures state { (members : List ℕ) → IsGroup labels.now members self.old
             → OnOk result (IsGroup labels.now (members ++ items.now) self.new) }
-        ensures displaces { IfOk result (λ displaced. Keep (first_in self.old) (first_in self.new) displaced.items) }
+        ensures displaces { IfOk result
+            (λ displaced. Keep (first_in self.old) (first_in self.new) displaced.items) }
     {
         let mut displaced = Vec::new(alloc);
         for item in items {
@@ -146,11 +154,15 @@ impl Group {
         Ok(displaced)
     }
 
-    // How many members stand in front of the last ones that come before the limit. None where these are more than `most`.
+    // How many members stand in front of the last ones that come before the limit. None where these
+    // are more than `most`.
     fn front(&self, limit: usize, most: usize) -> Option<usize>
         ensures within { IfSome result (λ front. front ≤ length self.now.members.items) }
-        ensures behind { (labels : List Label) (members : List ℕ) → IsGroup labels members self.now → self.now.descending ≡ true
-            → IfSome result (λ front. (place item : ℕ) → slice_get members place ≡ Some item → item < limit → front ≤ place) }
+        ensures behind { (labels : List Label) (members : List ℕ) → IsGroup labels members self.now
+            → self.now.descending ≡ true
+            → IfSome result
+            (λ front. (place item : ℕ) → slice_get members place ≡ Some item → item < limit → front
+            ≤ place) }
     {
         let count = self.members.len();
         let mut front = count;
@@ -163,11 +175,14 @@ impl Group {
         Some(front)
     }
 
-    // So many members stand in front of those that may come before the limit. None where these are more than `most`.
+    // So many members stand in front of those that may come before the limit. None where these are
+    // more than `most`.
     fn count_before(&self, limit: usize, most: usize) -> Option<usize>
         ensures within { IfSome result (λ front. front ≤ length self.now.members.items) }
         ensures behind { (labels : List Label) (members : List ℕ) → IsGroup labels members self.now
-            → IfSome result (λ front. (place item : ℕ) → slice_get members place ≡ Some item → item < limit → front ≤ place) }
+            → IfSome result
+            (λ front. (place item : ℕ) → slice_get members place ≡ Some item → item < limit → front
+            ≤ place) }
     {
         if self.descending {
             self.front(limit, most)
@@ -178,7 +193,8 @@ impl Group {
         }
     }
 
-    /// Among these members are all that come before the limit. None where they would be more than `most`; no more are looked at.
+    /// Among these members are all that come before the limit. None where they would be more than
+    /// `most`; no more are looked at.
     pub(crate) fn few(&self, limit: usize, most: usize) -> Option<&[usize]>
         ensures { (labels : List Label) (members : List ℕ) → IsGroup labels members self.now
             → IfSome result (λ few. HaveBefore members limit few.now) }

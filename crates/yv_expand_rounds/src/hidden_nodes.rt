@@ -10,8 +10,8 @@ use crate::end::End;
 use crate::places::ItemPlaces;
 use std::alloc::{AllocError, Global};
 
-/// The items that are hidden: nodes that were the first of their name until another came before them, and all that is below
-/// such a node. No path from the top leads there any more.
+/// The items that are hidden: nodes that were the first of their name until another came before
+/// them, and all that is below such a node. No path from the top leads there any more.
 #[derive(Drop)]
 pub(crate) struct HiddenNodes {
     pub marks: Vec<bool>,
@@ -53,7 +53,8 @@ impl HiddenNodes {
     // Hides an item, which is found so, if it wasn't hidden yet.
     fn hide(&mut self, item: usize, found: &mut Vec<usize>) -> Result<(), AllocError>
         ensures covers { OnOk result (is_hidden self.new.marks.items item ≡ true) }
-        ensures hides { OnOk result (Hides self.old.marks.items self.new.marks.items found.old.items found.new.items) }
+        ensures hides { OnOk result
+            (Hides self.old.marks.items self.new.marks.items found.old.items found.new.items) }
     {
         if !self.is_hidden(item) {
             self.marks[item] = true;
@@ -64,8 +65,11 @@ impl HiddenNodes {
 
     // Hides items.
     fn hide_all(&mut self, items: &[usize], found: &mut Vec<usize>) -> Result<(), AllocError>
-        ensures covers { OnOk result ((place item : ℕ) → slice_get items.now place ≡ Some item → is_hidden self.new.marks.items item ≡ true) }
-        ensures hides { OnOk result (Hides self.old.marks.items self.new.marks.items found.old.items found.new.items) }
+        ensures covers { OnOk result
+            ((place item : ℕ) → slice_get items.now place ≡ Some item
+            → is_hidden self.new.marks.items item ≡ true) }
+        ensures hides { OnOk result
+            (Hides self.old.marks.items self.new.marks.items found.old.items found.new.items) }
     {
         for item in items {
             self.hide(*item, found)?;
@@ -89,7 +93,9 @@ impl HiddenNodes {
 
     // The node at this end, if it is hidden.
     fn hidden_at(&self, alloc: Global, end: Option<End>) -> Result<Vec<usize>, AllocError>
-        ensures { IfOk result (λ found. (item : ℕ) → end ≡ Some (Node item) → is_hidden self.now.marks.items item ≡ true
+        ensures { IfOk result
+            (λ found. (item : ℕ) → end ≡ Some (Node item) → is_hidden self.now.marks.items item
+            ≡ true
             → IsOneOf found.items item) }
     {
         let mut found = Vec::new(alloc);
@@ -101,7 +107,8 @@ impl HiddenNodes {
         Ok(found)
     }
 
-    /// Hides nodes that were displaced when others were moved below the node at this end, and all that is below hidden nodes.
+    /// Hides nodes that were displaced when others were moved below the node at this end, and all
+    /// that is below hidden nodes.
     pub(crate) fn update(
         &mut self,
         places: &ItemPlaces,
@@ -109,7 +116,8 @@ impl HiddenNodes {
         displaced: &[usize],
     ) -> Result<(), AllocError>
         ensures { (labels : List Label) (groups : Groups) → ArePlaces labels groups places.now
-            → OnOk result (Updates groups self.old.marks.items self.new.marks.items end displaced.now) }
+            → OnOk result
+            (Updates groups self.old.marks.items self.new.marks.items end displaced.now) }
     {
         let mut found = self.hidden_at(places.alloc, end)?;
         self.hide_all(displaced, &mut found)?;

@@ -1,9 +1,12 @@
-//! Where schema paths lead among numbered items, and where augments put what they give (RFC 7950, sections 6.5, 7.13 and 7.17).
+//! Where schema paths lead among numbered items, and where augments put what they give (RFC 7950,
+//! sections 6.5, 7.13 and 7.17).
 //!
-//! To apply an augment only moves what is in its block to another place. The children of a node are always in order: first those that no
-//! augment of a module gives, by their numbers, and then those that such augments give, by theirs. A caller goes from the last item to
-//! the first: at a uses its augments have their turns, in order, and then it enters a group as any other item does. When all have
-//! entered, the augments of modules are applied in rounds, and then the final tree is there as a list.
+//! To apply an augment only moves what is in its block to another place. The children of a node are
+//! always in order: first those that no augment of a module gives, by their numbers, and then those
+//! that such augments give, by theirs. A caller goes from the last item to the first: at a uses its
+//! augments have their turns, in order, and then it enters a group as any other item does. When all
+//! have entered, the augments of modules are applied in rounds, and then the final tree is there as
+//! a list.
 #![tactic(auto)]
 
 mod arrivals;
@@ -18,11 +21,13 @@ mod order;
 mod places;
 mod rounds;
 mod row;
+mod statement_kind;
 mod trail;
 mod tree_list;
 
 pub use arrivals::Arrival;
 pub use augmentation::Augmentation;
 pub use end::End;
-pub use label::{ItemKind, Label};
+pub use label::Label;
 pub use row::ItemRow;
+pub use statement_kind::StatementKind;

@@ -32,8 +32,9 @@ impl Augmentation {
         }
     }
 
-    /// The least place of an augment that adds to no node: it was never applied, or its path ends where no augment may add. An
-    /// augment without a place isn't asked, as one of a uses that isn't there.
+    /// The least place of an augment that adds to no node: it was never applied, or its path ends
+    /// where no augment may add. An augment without a place isn't asked, as one of a uses that
+    /// isn't there.
     pub fn first_without_target(&self, places: &[Option<usize>]) -> Option<usize>
         ensures { (labels : List Label) (st : State) → IsAugmentation labels st self.now
             → IsFirstWithoutTarget labels st.ends places.now result }

@@ -1,4 +1,5 @@
-//! The order of items of one place: first what no augment of a module gives, then what such augments give, each by number.
+//! The order of items of one place: first what no augment of a module gives, then what such
+//! augments give, each by number.
 ghost use Rattle.std.specs.Prelude.{◌≡◌};
 ghost use Rattle.std.specs.Ordering.{is_lt};
 ghost use Rattle.std.specs.List.Sorted.{IsPermutation, IsSorted};

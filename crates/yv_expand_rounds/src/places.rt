@@ -52,9 +52,11 @@ impl ItemPlaces {
         labels: Vec<Label>,
         others: usize,
     ) -> Result<ItemPlaces, AllocError>
-        ensures state { IfOk result (ArePlaces labels.items (replicate (length labels.items + 1 + others) [])) }
+        ensures state { IfOk result
+            (ArePlaces labels.items (replicate (length labels.items + 1 + others) [])) }
         ensures keeps { IfOk result (λ places. places.labels ≡ labels) }
-        ensures count { IfOk result (λ places. length places.groups.items ≡ length labels.items + 1 + others) }
+        ensures count { IfOk result
+            (λ places. length places.groups.items ≡ length labels.items + 1 + others) }
     {
         let mut groups = Vec::new(alloc);
         for _ in 0..labels.len() {
@@ -125,7 +127,8 @@ impl ItemPlaces {
         }
     }
 
-    // Among these items are all of a group that come before the limit. None where they may be more than `most`.
+    // Among these items are all of a group that come before the limit. None where they may be more
+    // than `most`.
     fn few_of(&self, limit: usize, group: usize, most: usize) -> Option<&[usize]>
         ensures { (labels : List Label) (groups : Groups) → ArePlaces labels groups self.now
             → IfSome result (λ few. HaveBefore (members_of groups group) limit few.now) }
@@ -136,8 +139,8 @@ impl ItemPlaces {
         }
     }
 
-    /// Among these items is each to which one step leads, whatever its name. None where they may be more than `most`; at a case
-    /// that is left out only its own node answers a step.
+    /// Among these items is each to which one step leads, whatever its name. None where they may be
+    /// more than `most`; at a case that is left out only its own node answers a step.
     pub(crate) fn few(&self, limit: usize, end: End, most: usize) -> Option<&[usize]>
         ensures { (labels : List Label) (groups : Groups) → ArePlaces labels groups self.now
             → IfSome result (λ few. AreMet labels groups limit end few.now) }
@@ -191,8 +194,10 @@ impl ItemPlaces {
     /// Follows a path from the top on, as far as it leads.
     pub(crate) fn follow(&self, path: &[usize], trail: &mut Trail) -> Result<(), AllocError>
         ensures { (labels : List Label) (groups : Groups) → ArePlaces labels groups self.now
-            → Lead labels groups path.now (length trail.old.ends.items) (last_end trail.old.ends.items)
-            → OnOk result (IsFollowed labels groups path.now trail.old.ends.items trail.new.ends.items) }
+            → Lead labels groups path.now (length trail.old.ends.items)
+            (last_end trail.old.ends.items)
+            → OnOk result
+            (IsFollowed labels groups path.now trail.old.ends.items trail.new.ends.items) }
     {
         let limit = self.labels.len();
         let mut end = trail.end();
@@ -225,7 +230,8 @@ impl ItemPlaces {
         }
     }
 
-    // Gives the items of one group to another. Answers the nodes there that were the first of their names, where others are now.
+    // Gives the items of one group to another. Answers the nodes there that were the first of their
+    // names, where others are now.
     fn shift(&mut self, from: usize, to: usize) -> Result<Vec<usize>, AllocError>
         requires from { from < length self.old.groups.items }
         requires to { to < length self.old.groups.items }
@@ -233,7 +239,9 @@ impl ItemPlaces {
         ensures state { (labels : List Label) (groups : Groups) → ArePlaces labels groups self.old
             → OnOk result (ArePlaces labels (move_items from to groups) self.new) }
         ensures keeps { (labels : List Label) (groups : Groups) → ArePlaces labels groups self.old
-            → IfOk result (λ displaced. KeepFirst labels from groups (move_items from to groups) displaced.items) }
+            → IfOk result
+            (λ displaced. KeepFirst labels from groups (move_items from to groups)
+            displaced.items) }
         ensures labels { self.new.labels ≡ self.old.labels }
         ensures count { length self.new.groups.items ≡ length self.old.groups.items }
     {
@@ -242,15 +250,17 @@ impl ItemPlaces {
         Ok(displaced)
     }
 
-    /// Moves what is in a group to the node at which an augment's path ends, if that may take nodes. Returns the nodes there that
-    /// were the first of their names before, if others are now.
+    /// Moves what is in a group to the node at which an augment's path ends, if that may take
+    /// nodes. Returns the nodes there that were the first of their names before, if others are now.
     pub(crate) fn settle(&mut self, from: usize, end: End) -> Result<Vec<usize>, AllocError>
         requires behind { length self.old.labels.items < from }
         requires within { from < length self.old.groups.items }
         ensures state { (labels : List Label) (groups : Groups) → ArePlaces labels groups self.old
             → OnOk result (ArePlaces labels (give from (target labels end) groups) self.new) }
         ensures keeps { (labels : List Label) (groups : Groups) → ArePlaces labels groups self.old
-            → IfOk result (λ displaced. KeepFirst labels from groups (give from (target labels end) groups) displaced.items) }
+            → IfOk result
+            (λ displaced. KeepFirst labels from groups (give from (target labels end) groups)
+            displaced.items) }
         ensures labels { self.new.labels ≡ self.old.labels }
         ensures count { length self.new.groups.items ≡ length self.old.groups.items }
     {
@@ -264,7 +274,8 @@ impl ItemPlaces {
     /// An item enters a group. All is as before where memory runs out.
     pub(crate) fn enter(&mut self, item: usize, group: usize) -> Result<(), AllocError>
         ensures state { (labels : List Label) (groups : Groups) → ArePlaces labels groups self.old
-            → OnOk result (ArePlaces labels (set groups group (members_of groups group ++ item ∷ [])) self.new) }
+            → OnOk result
+            (ArePlaces labels (set groups group (members_of groups group ++ item ∷ [])) self.new) }
         ensures keeps { (labels : List Label) (groups : Groups) → ArePlaces labels groups self.old
             → OnErr result (ArePlaces labels groups self.new) }
         ensures labels { self.new.labels ≡ self.old.labels }
@@ -278,7 +289,8 @@ impl ItemPlaces {
 
     /// The items of a group.
     pub(crate) fn members(&self, group: usize) -> &[usize]
-        ensures { (labels : List Label) (groups : Groups) → ArePlaces labels groups self.now → result.now ≡ members_of groups group }
+        ensures { (labels : List Label) (groups : Groups) → ArePlaces labels groups self.now
+            → result.now ≡ members_of groups group }
     {
         match self.groups.get(group) {
             Some(group) => &group.members,
@@ -288,7 +300,8 @@ impl ItemPlaces {
 
     /// The items below another.
     pub(crate) fn children(&self, item: usize) -> &[usize]
-        ensures { (labels : List Label) (groups : Groups) → ArePlaces labels groups self.now → result.now ≡ members_of groups (item + 1) }
+        ensures { (labels : List Label) (groups : Groups) → ArePlaces labels groups self.now
+            → result.now ≡ members_of groups (item + 1) }
     {
         match item.checked_add(1) {
             Some(group) => self.members(group),

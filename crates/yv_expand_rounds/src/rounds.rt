@@ -1,5 +1,6 @@
-//! The augments of modules, which are applied in rounds. How far the path of each was followed is kept, so that no step is made
-//! twice, unless an item comes before another of its name that was met.
+//! The augments of modules, which are applied in rounds. How far the path of each was followed is
+//! kept, so that no step is made twice, unless an item comes before another of its name that was
+//! met.
 ghost use Rattle.std.specs.Prelude.{◌≡◌, ◌<◌, ◌≤◌, ◌+◌, [], ℕ, List, length, map, false, Some, slice_get, IfOk, OnOk, replicate, if◌then◌else◌};
 ghost use Rattle.yv_expand_rounds.specs.declared.label.Label.{Label};
 ghost use Rattle.yv_expand_rounds.specs.declared.end.End.TheVariants.{Start};
@@ -17,7 +18,8 @@ use crate::hidden_nodes::HiddenNodes;
 use crate::trail::Trail;
 use std::alloc::{AllocError, Global};
 
-/// What is known of the paths of augments that wait: how far each was followed, and which nodes no path meets any more.
+/// What is known of the paths of augments that wait: how far each was followed, and which nodes no
+/// path meets any more.
 #[derive(Drop)]
 pub(crate) struct WaitingAugment {
     pub trails: Vec<Trail>,
@@ -28,8 +30,11 @@ impl WaitingAugment {
     // So many paths, of which none was followed yet among so many items.
     fn new(alloc: Global, paths: usize, items: usize) -> Result<WaitingAugment, AllocError>
         ensures trails { IfOk result (λ waiting. length waiting.trails.items ≡ paths) }
-        ensures new { IfOk result (λ waiting. (j : ℕ) (t : Trail) → slice_get waiting.trails.items j ≡ Some t → t.ends.items ≡ []) }
-        ensures hides { IfOk result (λ waiting. waiting.hidden.marks.items ≡ replicate items false) }
+        ensures new { IfOk result
+            (λ waiting. (j : ℕ) (t : Trail) → slice_get waiting.trails.items j ≡ Some t
+            → t.ends.items ≡ []) }
+        ensures hides { IfOk result
+            (λ waiting. waiting.hidden.marks.items ≡ replicate items false) }
     {
         let mut trails = Vec::new(alloc);
         for _ in 0..paths {
@@ -50,10 +55,12 @@ impl Augmentation {
     ) -> Result<Option<End>, AllocError>
         ensures end { (labels : List Label) (st : State) → IsAugmentation labels st self.now
             → IsTrail labels st.groups hidden.now.marks.items path.now trail.old.ends.items
-            → IfOk result (λ end. end ≡ path_end labels st.groups (length labels) path.now (Start 0)) }
+            → IfOk result
+            (λ end. end ≡ path_end labels st.groups (length labels) path.now (Start 0)) }
         ensures trail { (labels : List Label) (st : State) → IsAugmentation labels st self.now
             → IsTrail labels st.groups hidden.now.marks.items path.now trail.old.ends.items
-            → OnOk result (IsTrail labels st.groups hidden.now.marks.items path.now trail.new.ends.items) }
+            → OnOk result
+            (IsTrail labels st.groups hidden.now.marks.items path.now trail.new.ends.items) }
     {
         trail.retreat(hidden);
         self.places.follow(path, trail)?;
@@ -71,19 +78,28 @@ impl Augmentation {
         requires { number < length self.old.ends.items }
         ensures state { (labels : List Label) (st : State) → IsAugmentation labels st self.old
             → IsTrail labels st.groups hidden.old.marks.items path.now trail.old.ends.items
-            → OnOk result (IsAugmentation labels (turn labels number 0 (length labels) path.now st) self.new) }
+            → OnOk result
+            (IsAugmentation labels (turn labels number 0 (length labels) path.now st) self.new) }
         ensures takes { (labels : List Label) (st : State) → IsAugmentation labels st self.old
             → IsTrail labels st.groups hidden.old.marks.items path.now trail.old.ends.items
-            → IfOk result (λ applied. applied ≡ is_taken labels number 0 (length labels) path.now st) }
-        ensures trail { (labels : List Label) (st : State) → IsAugmentation labels st self.old → IsClosed labels st.groups hidden.old.marks.items
+            → IfOk result
+            (λ applied. applied ≡ is_taken labels number 0 (length labels) path.now st) }
+        ensures trail { (labels : List Label) (st : State) → IsAugmentation labels st self.old
+            → IsClosed labels st.groups hidden.old.marks.items
             → IsTrail labels st.groups hidden.old.marks.items path.now trail.old.ends.items
-            → OnOk result (IsTrail labels (turn labels number 0 (length labels) path.now st).groups hidden.new.marks.items
+            → OnOk result
+            (IsTrail labels (turn labels number 0 (length labels) path.now st).groups
+            hidden.new.marks.items
             path.now trail.new.ends.items) }
-        ensures others { (labels : List Label) (st : State) → IsAugmentation labels st self.old → IsClosed labels st.groups hidden.old.marks.items
+        ensures others { (labels : List Label) (st : State) → IsAugmentation labels st self.old
+            → IsClosed labels st.groups hidden.old.marks.items
             → IsTrail labels st.groups hidden.old.marks.items path.now trail.old.ends.items
-            → OnOk result (StillLead labels st.groups (turn labels number 0 (length labels) path.now st).groups
+            → OnOk result
+            (StillLead labels st.groups (turn labels number 0 (length labels) path.now st).groups
             hidden.old.marks.items hidden.new.marks.items) }
-        ensures leaves { IfOk result (λ applied. count_left self.new.ends.items + (if applied then 1 else 0) ≡ count_left self.old.ends.items) }
+        ensures leaves { IfOk result
+            (λ applied. count_left self.new.ends.items + (if applied then 1 else 0)
+            ≡ count_left self.old.ends.items) }
         ensures each { length self.new.ends.items ≡ length self.old.ends.items }
     {
         let end = self.follow_on(path, trail, hidden)?;
@@ -92,7 +108,8 @@ impl Augmentation {
         Ok(applied)
     }
 
-    // A round: each augment in order that isn't applied is, if its target is there. Tells whether one was.
+    // A round: each augment in order that isn't applied is, if its target is there. Tells whether
+    // one was.
     fn round(
         &mut self,
         first: usize,
@@ -103,15 +120,20 @@ impl Augmentation {
         requires trails { length waiting.old.trails.items ≡ length paths.now }
         ensures state { (labels : List Label) (st : State) → IsAugmentation labels st self.old
             → AreWaiting labels st.groups (map (λ p. p.items) paths.now) waiting.old
-            → OnOk result (IsAugmentation labels (round labels first (map (λ p. p.items) paths.now) st) self.new) }
+            → OnOk result
+            (IsAugmentation labels (round labels first (map (λ p. p.items) paths.now) st)
+            self.new) }
         ensures any { (labels : List Label) (st : State) → IsAugmentation labels st self.old
             → AreWaiting labels st.groups (map (λ p. p.items) paths.now) waiting.old
             → IfOk result (λ any. any ≡ is_any labels first (map (λ p. p.items) paths.now) st) }
         ensures waits { (labels : List Label) (st : State) → IsAugmentation labels st self.old
             → AreWaiting labels st.groups (map (λ p. p.items) paths.now) waiting.old
-            → OnOk result (AreWaiting labels (round labels first (map (λ p. p.items) paths.now) st).groups
+            → OnOk result
+            (AreWaiting labels (round labels first (map (λ p. p.items) paths.now) st).groups
             (map (λ p. p.items) paths.now) waiting.new) }
-        ensures leaves { IfOk result (λ any. count_left self.new.ends.items + (if any then 1 else 0) ≤ count_left self.old.ends.items) }
+        ensures leaves { IfOk result
+            (λ any. count_left self.new.ends.items + (if any then 1 else 0)
+            ≤ count_left self.old.ends.items) }
         ensures each { length self.new.ends.items ≡ length self.old.ends.items }
         ensures trails { length waiting.new.trails.items ≡ length waiting.old.trails.items }
     {
@@ -129,7 +151,9 @@ impl Augmentation {
     fn run_rounds(&mut self, first: usize, paths: &[Vec<usize>]) -> Result<(), AllocError>
         requires { first + length paths.now ≤ length self.old.ends.items }
         ensures { (labels : List Label) (st : State) → IsAugmentation labels st self.old
-            → OnOk result ((new : State) × AreApplied labels first (map (λ p. p.items) paths.now) st new × IsAugmentation labels new self.new) }
+            → OnOk result
+            ((new : State) × AreApplied labels first (map (λ p. p.items) paths.now) st new
+            × IsAugmentation labels new self.new) }
     {
         let mut waiting = WaitingAugment::new(
             self.places.alloc,
@@ -140,12 +164,16 @@ impl Augmentation {
         Ok(())
     }
 
-    /// Applies augments of modules in rounds, the first of them having this number and all paths beginning at the top: a round goes
-    /// through those that aren't applied, in order, and applies each whose target is there; a round that applies none is the last
-    /// (RFC 7950, section 7.17). Where memory runs out, some may have been applied: nothing is left then.
+    /// Applies augments of modules in rounds, the first of them having this number and all paths
+    /// beginning at the top: a round goes through those that aren't applied, in order, and applies
+    /// each whose target is there; a round that applies none is the last (RFC 7950, section 7.17).
+    /// Where memory runs out, some may have been applied: nothing is left then.
     pub fn run(mut self, first: usize, paths: &[Vec<usize>]) -> Result<Augmentation, AllocError>
-        ensures { (labels : List Label) (st : State) → IsAugmentation labels st self → first + length paths.now ≤ length st.ends
-            → IfOk result (λ grafting. (new : State) × AreApplied labels first (map (λ p. p.items) paths.now) st new
+        ensures { (labels : List Label) (st : State) → IsAugmentation labels st self → first
+            + length paths.now ≤ length st.ends
+            → IfOk result
+            (λ grafting. (new : State)
+            × AreApplied labels first (map (λ p. p.items) paths.now) st new
             × IsAugmentation labels new grafting) }
     {
         let count = self.ends.len();

@@ -8,7 +8,8 @@ use crate::end::End;
 use crate::hidden_nodes::HiddenNodes;
 use std::alloc::Global;
 
-/// How far the path of an augment that waits was followed from the top: where its first steps lead, one by one.
+/// How far the path of an augment that waits was followed from the top: where its first steps lead,
+/// one by one.
 #[derive(Drop)]
 pub(crate) struct Trail {
     pub ends: Vec<End>,
@@ -47,7 +48,8 @@ impl Trail {
 
     /// Takes the last steps back that come to hidden nodes.
     pub(crate) fn retreat(&mut self, hidden: &HiddenNodes)
-        ensures keeps { (place : ℕ) (e : End) → slice_get self.new.ends.items place ≡ Some e → slice_get self.old.ends.items place ≡ Some e }
+        ensures keeps { (place : ℕ) (e : End) → slice_get self.new.ends.items place ≡ Some e
+            → slice_get self.old.ends.items place ≡ Some e }
         ensures shows { is_hidden_at hidden.now.marks.items (last_end self.new.ends.items) ≡ false }
     {
         while hidden.has(self.end()) {

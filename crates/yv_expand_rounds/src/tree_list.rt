@@ -57,7 +57,8 @@ fn put(
     parent: Option<usize>,
     depth: usize,
 ) -> Result<(), AllocError>
-    ensures { OnOk result (stack.new.items ≡ stack.old.items ++ reverse (under parent depth items.now)) }
+    ensures { OnOk result
+        (stack.new.items ≡ stack.old.items ++ reverse (under parent depth items.now)) }
 {
     let mut rest = items;
     while let Some((last, others)) = rest.split_last() {
@@ -77,7 +78,8 @@ fn list(
     labels: &[Label],
     groups: &mut Vec<Vec<usize>>,
 ) -> Result<Vec<ItemRow>, AllocError>
-    ensures { StandAtMostOnce (groups_in groups.old.items) → IfOk result (λ rows. AreRows labels.now (groups_in groups.old.items) rows.items) }
+    ensures { StandAtMostOnce (groups_in groups.old.items)
+        → IfOk result (λ rows. AreRows labels.now (groups_in groups.old.items) rows.items) }
 {
     let mut rows = Vec::new(alloc);
     let mut stack = Vec::new(alloc);
@@ -93,7 +95,8 @@ fn list(
 
 // The items of each group.
 fn members(alloc: Global, groups: Vec<Group>) -> Result<Vec<Vec<usize>>, AllocError>
-    ensures { IfOk result (λ lists. groups_in lists.items ≡ map (λ g. g.members.items) groups.items) }
+    ensures { IfOk result
+        (λ lists. groups_in lists.items ≡ map (λ g. g.members.items) groups.items) }
 {
     let mut lists = Vec::new(alloc);
     for group in groups {
@@ -104,11 +107,13 @@ fn members(alloc: Global, groups: Vec<Group>) -> Result<Vec<Vec<usize>>, AllocEr
 }
 
 impl Augmentation {
-    /// The final tree in order: each item before those below it and, of the children of one parent, those that augments of modules give
-    /// after the others, each by number. A uses is among them, with nothing below it, if what it gives is in its own group. Takes no
-    /// memory for each level, except for the items on the way.
+    /// The final tree in order: each item before those below it and, of the children of one parent,
+    /// those that augments of modules give after the others, each by number. A uses is among them,
+    /// with nothing below it, if what it gives is in its own group. Takes no memory for each level,
+    /// except for the items on the way.
     pub fn into_rows(self) -> Result<Vec<ItemRow>, AllocError>
-        ensures { (labels : List Label) (st : State) → IsAugmentation labels st self → StandOnce (length labels) st.groups
+        ensures { (labels : List Label) (st : State) → IsAugmentation labels st self
+            → StandOnce (length labels) st.groups
             → IfOk result (λ rows. AreRows labels st.groups rows.items) }
     {
         let Augmentation { places, ends: _ } = self;

@@ -11,13 +11,12 @@ use Rattle.yv_expand_rounds.specs.declared.end.End.{End}
 use Rattle.yv_expand_rounds.specs.declared.end.End.TheVariants as end
 use Rattle.yv_expand_rounds.specs.declared.label.Label.{Label}
 use Rattle.yv_expand_rounds.specs.Groups.{Groups, group_of_augment, members_of, move_items}
-use Rattle.yv_expand_rounds.specs.Labels.{may_be_target}
+use Rattle.yv_expand_rounds.specs.Kinds.{may_be_target, is_uses}
 use Rattle.yv_expand_rounds.specs.Paths.{path_end}
 use Rattle.yv_expand_rounds.specs.Rounds.{round, rounds}
 use Rattle.yv_expand_rounds.specs.Turns.{State, give, is_applied, is_some_target, settle, target, turn}
 use Rattle.yv_expand_augments.specs.AugmentOrder.{augments_giving, is_giving, ordinal, place_of}
 use Rattle.yv_expand_augments.specs.Augmentation.{AreAugmented, copy_turn, last_of, module_paths, path_in, placed_from, turns, turns_from}
-use Rattle.yv_expand_augments.specs.Kinds.{is_uses}
 use Rattle.yv_expand_augments.specs.Spots.{LayoutView, Whole, copy_group, group_below, labels_of, layout_of, laid_from, one_more, spot_at, spot_of, top_group_of, top_group, used_group}
 use Rattle.yv_expand_augments.specs.declared.spot.Spot.{Spot}
 use Rattle.yv_expand_augments.proofs.Bounds.{pushed_at}

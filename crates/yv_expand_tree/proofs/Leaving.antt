@@ -9,7 +9,8 @@ use Rattle.yv_expand.specs.Tree as expansion
 use Rattle.yv_expand.specs.Tree.{Item, Node, Nodes, count}
 use Rattle.yv_expand_rounds.specs.Tree.{Tree, none, item, tree_list}
 use Rattle.yv_expand_rounds.specs.declared.row.ItemRow.{ItemRow}
-use Rattle.yv_expand_augments.specs.Kinds.{is_uses, kind_of}
+use Rattle.yv_expand_rounds.specs.Kinds.{is_uses}
+use Rattle.yv_expand_augments.specs.Kinds.{kind_of}
 use Rattle.yv_expand_augments.specs.Remains.{is_left, is_marked, is_some_uses, remains}
 use Rattle.yv_expand_augments.specs.Spots.{LayoutView, Whole, layout_of, laid_from, one_more, spot_of}
 use Rattle.yv_expand_augments.specs.declared.spot.Spot.{Spot}

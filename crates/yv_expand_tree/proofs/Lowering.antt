@@ -11,23 +11,22 @@ use Rattle.yv_link_scopes.specs.Files.{Files}
 use Rattle.yv_link_scopes.specs.RowList.{rows_of}
 use Rattle.yv_link_scopes.specs.Rows.{Row}
 use Rattle.yv_link_definitions.specs.BuiltIn.{is_among}
-use Rattle.yv_expand.specs.Weigh.{block_of, numbers_from, stands_in}
+use Rattle.yv_expand.specs.StatementBlocks.{block_of, numbers_from, stands_in, is_at, is_node_or_uses, those}
 use Rattle.yv_expand.proofs.UnitListing.{numbers_are}
 use Rattle.yv_expand.specs.Conformance.{Conform, gives_nodes, is_lowest as is_leaf, lowest}
 use Rattle.yv_expand.specs.Tree as expansion
 use Rattle.yv_expand.specs.Tree.{Item, Node, Nodes}
-use Rattle.yv_expand.specs.Expands.{is_at, is_item, those}
 use Rattle.yv_expand_rounds.specs.Groups.{Groups, IsIn, members_of}
-use Rattle.yv_expand_rounds.specs.Labels.{may_be_target}
+use Rattle.yv_expand_rounds.specs.Kinds.{may_be_target, kind_of_keyword, kind_in, kinds}
 use Rattle.yv_expand_rounds.specs.Tree.{IsTree, Tree, group_under, tree_list}
-use Rattle.yv_expand_rounds.specs.declared.label.ItemKind.{ItemKind}
-use Rattle.yv_expand_rounds.specs.declared.label.ItemKind.TheVariants as kind
+use Rattle.yv_expand_rounds.specs.declared.statement_kind.StatementKind.{StatementKind}
+use Rattle.yv_expand_rounds.specs.declared.statement_kind.StatementKind.TheVariants as kind
 use Rattle.yv_expand_rounds.specs.declared.label.Label.{Label}
 use Rattle.yv_expand_rounds.specs.declared.row.ItemRow.{ItemRow}
-use Rattle.yv_expand_augments.specs.Kinds.{kind_at, kind_of_keyword, kind_in, kind_of, kinds}
+use Rattle.yv_expand_augments.specs.Kinds.{kind_at, kind_of}
 use Rattle.yv_expand_augments.specs.Spots.{labels_of}
 use Rattle.yv_expand_augments.specs.declared.spot.Spot.{Spot}
-use Rattle.yv_expand_changes.specs.IfFeatures.{Truth}
+use Rattle.yv_expand_changes.specs.Truth.{Truth}
 use Rattle.yv_expand_tree.specs.Final.{Final, IsFinal, spots_of, whole_of}
 use Rattle.yv_expand_tree.specs.FileOrder.{marks_of, order_of}
 use Rattle.yv_expand_tree.specs.Remains.{AreLeft}
@@ -38,7 +37,7 @@ use Rattle.yv_expand_tree.proofs.Leaving.{spot_item}
 use Rattle.yv_expand_tree.proofs.Shutting.{whole_high}
 
 -- the keyword of a kind
-abbrev is_named : List ℕ × ItemKind → Bool
+abbrev is_named : List ℕ × StatementKind → Bool
 is_named n = not (is_lowest n.1) || is_among lowest n.0
 
 and_first : (a b : Bool) → (a && b) ≡ true → a ≡ true
@@ -49,7 +48,7 @@ and_second : (a b : Bool) → (a && b) ≡ true → b ≡ true
 and_second true b h = h
 and_second false b h = absurd (false≢true h)
 
-named_in : (ns : List (List ℕ × ItemKind)) (text : List ℕ) → list_all is_named ns ≡ true → is_lowest (unwrap_or (kind_in ns text) kind.Uses) ≡ true
+named_in : (ns : List (List ℕ × StatementKind)) (text : List ℕ) → list_all is_named ns ≡ true → is_lowest (unwrap_or (kind_in ns text) kind.Uses) ≡ true
     → is_among lowest text ≡ true
 named_in [] text all low = absurd (false≢true low)
 named_in (n ∷ ns) text all low = by (bytes_eq n.0 text) refl (named_in ns text (and_second (is_named n) (list_all is_named ns) all)) low
@@ -85,7 +84,7 @@ abbrev pub Below : Type 0
 Below = (labels : List Label) (groups : Groups) (k : ℕ) (row : ItemRow) (t : Tree) → IsTree labels groups t → slice_get (tree_list None 1 t) k ≡ Some row
     → IsIn row.number (group_under row.parent) groups
 
-lowest_closed : (k : ItemKind) → is_lowest k ≡ true → may_be_target k ≡ false
+lowest_closed : (k : StatementKind) → is_lowest k ≡ true → may_be_target k ≡ false
 lowest_closed kind.Leaf low = refl
 lowest_closed kind.LeafList low = refl
 lowest_closed kind.Anydata low = refl
@@ -109,13 +108,13 @@ label_told (s ∷ spots) zero l at = (s, refl, same_Some s.label l at)
 label_told (s ∷ spots) (suc p) l at = label_told spots p l at
 
 module _ (files : Files) (fine : Conform files) (leafs : Leafs) where
-  block_empty : (k : ℕ) (r : Row) → slice_get (rows_of files) k ≡ Some r → is_lowest (kind_at (Some r)) ≡ true → those is_item (rows_of files) (block_of (rows_of files) k) ≡ []
-  unfolding is_item
+  block_empty : (k : ℕ) (r : Row) → slice_get (rows_of files) k ≡ Some r → is_lowest (kind_at (Some r)) ≡ true → those is_node_or_uses (rows_of files) (block_of (rows_of files) k) ≡ []
+  unfolding is_node_or_uses
   block_empty k r at low =
-      none_passes is_item (rows_of files) (block_of (rows_of files) k)
+      none_passes is_node_or_uses (rows_of files) (block_of (rows_of files) k)
       (λ i j there.
       let (s, here, inside) = number_told (stands_in k) (rows_of files) i j there in
-      ap (λ (o : Option Row). unwrap_or (option_map is_item o) false) here
+      ap (λ (o : Option Row). unwrap_or (option_map is_node_or_uses o) false) here
       ∙ leafs files k j r s fine at (lowest_word r low) here (scope_told k j s inside))
 
   module _ (choice : Selected) (truth : Truth) (f : Final) (is : IsFinal choice files f) (below : Below) where

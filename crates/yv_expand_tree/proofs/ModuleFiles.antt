@@ -9,12 +9,11 @@ use Rattle.yv_link_scopes.specs.Files.{Briefs, Files, brief_of, module_file_at, 
 use Rattle.yv_link_scopes.specs.RowList.{rows_of}
 use Rattle.yv_link_scopes.specs.Rows.{Row}
 use Rattle.yv_link_scopes.proofs.Within.{rows_of_roots}
-use Rattle.yv_expand.specs.Limit.{given_at, given_before}
-use Rattle.yv_expand.specs.Weigh.{block_of, numbers_from, stands_in, top_of}
+use Rattle.yv_expand.specs.StatementBlocks.{given_at, given_before, block_of, numbers_from, stands_in, top_of, augments_of, is_at, is_augment}
 use Rattle.yv_expand.specs.Origin.{number_of}
 use Rattle.yv_expand.specs.Tree.{Item, Tree, all_of, count, item, join, item_list, none}
-use Rattle.yv_expand.specs.Expansion.{AreAdded, AreTrees, augments_of}
-use Rattle.yv_expand.specs.Expands.{Expands, is_at, is_augment, node, nothing, operation, other, uses}
+use Rattle.yv_expand.specs.Expansion.{AreAdded, AreTrees}
+use Rattle.yv_expand.specs.Expands.{Expands, node, nothing, operation, other, uses}
 use Rattle.yv_expand_augments.specs.Spots.{LayoutView, Whole, module_file_below, layout_of, laid_from, one_more, own_module_file, spot_at, spot_of}
 use Rattle.yv_expand_augments.specs.declared.spot.Spot.{Spot}
 use Rattle.yv_expand_augments.proofs.Bounds.{pushed_at}

@@ -10,17 +10,17 @@ use Rattle.yv_link_scopes.specs.Files.{Briefs, Files, brief_of}
 use Rattle.yv_link_scopes.specs.RowList.{rows_of}
 use Rattle.yv_link_scopes.specs.Rows.{Row}
 use Rattle.yv_link_definitions.specs.Refers.{is_type, is_uses}
-use Rattle.yv_expand.specs.Limit.{given_at}
-use Rattle.yv_expand.specs.Weigh.{block_of}
-use Rattle.yv_expand.specs.declared.item.Origin.{Origin}
-use Rattle.yv_expand.specs.declared.item.Origin.TheVariants.{Input, Output}
+use Rattle.yv_expand.specs.StatementBlocks.{given_at, block_of, augments_of, first_of, input_of, is_at, is_input, is_node_or_uses, is_operation, is_output, output_of, part, part_block, those}
+use Rattle.yv_expand.specs.declared.origin.Origin.{Origin}
+use Rattle.yv_expand.specs.declared.origin.Origin.TheVariants.{Input, Output}
 use Rattle.yv_expand.specs.Tree.{Item, Tree, all_of, count, item, join, item_list, none}
-use Rattle.yv_expand.specs.Expansion.{IsWhole, augments_of}
-use Rattle.yv_expand.specs.Expands.{Expands, first_of, input_of, is_at, is_input, is_item, is_operation, is_output, node, nothing, operation, other, output_of, part, part_block, those, uses}
+use Rattle.yv_expand.specs.Expansion.{IsWhole}
+use Rattle.yv_expand.specs.Expands.{Expands, node, nothing, operation, other, uses}
 use Rattle.yv_expand.proofs.Referring.{refers_word}
 use Rattle.yv_expand.proofs.Words.{operation_item, word_is}
-use Rattle.yv_expand_rounds.specs.declared.label.ItemKind.TheVariants as kind
-use Rattle.yv_expand_augments.specs.Kinds.{kind_at, kind_of_keyword, kind_of}
+use Rattle.yv_expand_rounds.specs.declared.statement_kind.StatementKind.TheVariants as kind
+use Rattle.yv_expand_augments.specs.Kinds.{kind_at, kind_of}
+use Rattle.yv_expand_rounds.specs.Kinds.{kind_of_keyword}
 use Rattle.yv_expand_tree.specs.Lowest.{is_lowest}
 use Rattle.yv_expand_tree.proofs.Standing.{in_first, in_lists, in_second, listed_long}
 
@@ -97,17 +97,17 @@ module _ (rows : List Row) where
           (found.0, ap (slice_get rows) (sym same) ∙ found.1)
       by false e h others = others h
 
-  module _ (files : Briefs) (shut : (k : ℕ) (r : Row) → slice_get rows k ≡ Some r → is_lowest (kind_at (Some r)) ≡ true → those is_item rows (block_of rows k) ≡ []) where
-    nothing_given : {ks : List ℕ} {t : Tree} → Expands files rows ks t → those is_item rows ks ≡ [] → t ≡ none
+  module _ (files : Briefs) (shut : (k : ℕ) (r : Row) → slice_get rows k ≡ Some r → is_lowest (kind_at (Some r)) ≡ true → those is_node_or_uses rows (block_of rows k) ≡ []) where
+    nothing_given : {ks : List ℕ} {t : Tree} → Expands files rows ks t → those is_node_or_uses rows ks ≡ [] → t ≡ none
     nothing_given nothing empty = refl
     nothing_given (other {k = k} {r = r} {others = others} at isnt e) empty =
-        nothing_given e (sym (those_more is_item k others r false at isnt) ∙ empty)
+        nothing_given e (sym (those_more is_node_or_uses k others r false at isnt) ∙ empty)
     nothing_given (node {k = k} {r = r} {others = others} at is simple without b e) empty =
-        absurd (let bad : k ∷ those is_item rows others ≡ [] = sym (those_more is_item k others r true at is) ∙ empty in cc)
+        absurd (let bad : k ∷ those is_node_or_uses rows others ≡ [] = sym (those_more is_node_or_uses k others r true at is) ∙ empty in cc)
     nothing_given (operation {k = k} {r = r} {others = others} at is i o e) empty =
-        absurd (let bad : k ∷ those is_item rows others ≡ [] = sym (those_more is_item k others r true at (operation_item r is)) ∙ empty in cc)
+        absurd (let bad : k ∷ those is_node_or_uses rows others ≡ [] = sym (those_more is_node_or_uses k others r true at (operation_item r is)) ∙ empty in cc)
     nothing_given (uses {k = k} {r = r} {others = others} at is refers b g e) empty =
-        absurd (let bad : k ∷ those is_item rows others ≡ [] = sym (those_more is_item k others r true at is) ∙ empty in cc)
+        absurd (let bad : k ∷ those is_node_or_uses rows others ≡ [] = sym (those_more is_node_or_uses k others r true at is) ∙ empty in cc)
 
     -- a part of an operation
     part_shut : (unwritten : Origin) → is_lowest (kind_of rows unwritten) ≡ false → (written : Option ℕ)
@@ -179,7 +179,7 @@ module _ (rows : List Row) where
 
 -- so it is in the whole expansion
 pub whole_high : (files : Files) (marks : List Bool) (order : List ℕ) (own : ℕ) (items : List Item)
-    → ((k : ℕ) (r : Row) → slice_get (rows_of files) k ≡ Some r → is_lowest (kind_at (Some r)) ≡ true → those is_item (rows_of files) (block_of (rows_of files) k) ≡ [])
+    → ((k : ℕ) (r : Row) → slice_get (rows_of files) k ≡ Some r → is_lowest (kind_at (Some r)) ≡ true → those is_node_or_uses (rows_of files) (block_of (rows_of files) k) ≡ [])
     → IsWhole files marks order own items → (i p : ℕ) (x : Item) → slice_get items i ≡ Some x → x.parent ≡ Some p
     → (y : Item) × (slice_get items p ≡ Some y) × (is_lowest (kind_of (rows_of files) y.origin) ≡ false)
 whole_high files marks order own items shut is =

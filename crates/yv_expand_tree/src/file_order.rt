@@ -16,7 +16,8 @@ pub(crate) fn marks(
     rows: &Rows<'_, '_>,
     selection: &Selection,
 ) -> Result<Vec<bool>, AllocError>
-    ensures { IfOk result (λ marks. marks.items ≡ marks_of (selected_of selection.now) (lent_in rows.now)) }
+    ensures { IfOk result
+        (λ marks. marks.items ≡ marks_of (selected_of selection.now) (lent_in rows.now)) }
 {
     let mut marks = Vec::new(alloc);
     for file in rows.files() {
@@ -27,7 +28,9 @@ pub(crate) fn marks(
 
 // The module's file, of a file that isn't that.
 fn part_place(rows: &Rows<'_, '_>, file: usize) -> Option<usize>
-    ensures { result ≡ (if module_file_at (files_in rows.now) file == file then None else Some (module_file_at (files_in rows.now) file)) }
+    ensures { result
+        ≡ (if module_file_at (files_in rows.now) file == file then None
+        else Some (module_file_at (files_in rows.now) file)) }
 {
     let module_file = rows.module_file(file);
     if module_file == file {
@@ -62,9 +65,13 @@ pub(crate) fn order(
     rows: &Rows<'_, '_>,
     selection: &Selection,
 ) -> Result<Vec<usize>, AllocError>
-    ensures order { IfOk result (λ order. order.items ≡ order_of (selected_of selection.now) (lent_in rows.now)) }
-    ensures within { IfOk result (λ order. All (λ file. file < length (lent_in rows.now)) order.items) }
-    ensures once { IfOk result (λ order. (i k n : ℕ) → slice_get order.items i ≡ Some n → slice_get order.items k ≡ Some n → i ≡ k) }
+    ensures order { IfOk result
+        (λ order. order.items ≡ order_of (selected_of selection.now) (lent_in rows.now)) }
+    ensures within { IfOk result
+        (λ order. All (λ file. file < length (lent_in rows.now)) order.items) }
+    ensures once { IfOk result
+        (λ order. (i k n : ℕ) → slice_get order.items i ≡ Some n → slice_get order.items k ≡ Some n
+        → i ≡ k) }
 {
     yv_base_tables::laws::each_place_has_its_numbers();
     let places = part_places(alloc, rows)?;

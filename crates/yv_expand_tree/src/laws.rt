@@ -6,12 +6,13 @@ ghost use Rattle.yv_statement.specs.declared.refusal.Refusal.{Refusal};
 ghost use Rattle.yv_statement.specs.Selection.{Selected};
 ghost use Rattle.yv_link_scopes.specs.Files.{Files, brief_of};
 ghost use Rattle.yv_link_scopes.specs.RowList.{rows_of};
-ghost use Rattle.yv_expand.specs.Limit.{given_before};
+ghost use Rattle.yv_expand.specs.StatementBlocks.{given_before};
 ghost use Rattle.yv_expand.specs.Weigh.{Weigh};
 ghost use Rattle.yv_expand.specs.Tree.{Item, Node, Nodes, count, item_list};
-ghost use Rattle.yv_expand_augments.specs.Kinds.{is_uses, kind_of};
+ghost use Rattle.yv_expand_rounds.specs.Kinds.{is_uses};
+ghost use Rattle.yv_expand_augments.specs.Kinds.{kind_of};
 ghost use Rattle.yv_expand_augments.specs.declared.spot.Spot.{Spot};
-ghost use Rattle.yv_expand_changes.specs.IfFeatures.{Truth};
+ghost use Rattle.yv_expand_changes.specs.Truth.{Truth};
 ghost use Rattle.yv_expand_tree.specs.Refusals.{BadExpansion};
 ghost use Rattle.yv_expand_tree.specs.Final.{Final, IsFinal, spots_of};
 ghost use Rattle.yv_expand_tree.specs.FileOrder.{HaveModuleFiles, is_given, marks_of};
@@ -22,13 +23,15 @@ ghost use Rattle.yv_expand.specs.Conformance.{Conform};
 
 /// What is wrong with the expansion of files is refused in the phases 7 and 8.
 pub fn refusals_of_expansions_have_phases()
-    ensures { (choice : Selected) (files : Files) (limit : ℕ) (f : Refusal) → BadExpansion choice files limit f
+    ensures { (choice : Selected) (files : Files) (limit : ℕ) (f : Refusal)
+        → BadExpansion choice files limit f
         → (6 < phase_of f.code) × (phase_of f.code ≤ 8) }
 {}
 
 /// The files of implemented modules have one final tree.
 pub fn files_have_one_final_tree()
-    ensures { (choice : Selected) (files : Files) (a b : Final) → IsFinal choice files a → IsFinal choice files b → a ≡ b }
+    ensures { (choice : Selected) (files : Files) (a b : Final) → IsFinal choice files a
+        → IsFinal choice files b → a ≡ b }
 {
     yv_expand::laws::a_whole_is_one();
     yv_expand_augments::laws::augments_come_to_one();
@@ -37,7 +40,8 @@ pub fn files_have_one_final_tree()
 
 /// What is left of a final tree is one list of nodes.
 pub fn what_is_left_is_one()
-    ensures { (choice : Selected) (files : Files) (truth : Truth) (f : Final) (a b : Nodes) → IsFinal choice files f
+    ensures { (choice : Selected) (files : Files) (truth : Truth) (f : Final) (a b : Nodes)
+        → IsFinal choice files f
         → AreLeft truth files f a → AreLeft truth files f b → a ≡ b }
 {
     yv_expand_augments::laws::if_features_have_one_answer();
@@ -46,9 +50,12 @@ pub fn what_is_left_is_one()
 /// What is left of a final tree has no more nodes than units were counted for the files of the
 /// implemented modules.
 pub fn nodes_are_within_units()
-    ensures { (choice : Selected) (files : Files) (truth : Truth) (f : Final) (nodes : Nodes) (units : ℕ) → IsFinal choice files f
+    ensures { (choice : Selected) (files : Files) (truth : Truth) (f : Final) (nodes : Nodes)
+        (units : ℕ) → IsFinal choice files f
         → AreLeft truth files f nodes
-        → Weigh (map brief_of files) (rows_of files) (given_before (map brief_of files) (rows_of files) (marks_of choice files) (length files)) units
+        → Weigh (map brief_of files) (rows_of files)
+        (given_before (map brief_of files) (rows_of files) (marks_of choice files) (length files))
+        units
         → count nodes ≤ units }
 {
     yv_expand::laws::a_whole_is_within_units();
@@ -58,7 +65,8 @@ pub fn nodes_are_within_units()
 
 /// What is left of a final tree has no more nodes than there are items.
 pub fn nodes_are_within_items()
-    ensures { (choice : Selected) (files : Files) (truth : Truth) (f : Final) (nodes : Nodes) → IsFinal choice files f
+    ensures { (choice : Selected) (files : Files) (truth : Truth) (f : Final) (nodes : Nodes)
+        → IsFinal choice files f
         → AreLeft truth files f nodes → count nodes ≤ length f.items }
 {
     yv_expand_rounds::laws::a_tree_has_no_item_twice();
@@ -67,9 +75,12 @@ pub fn nodes_are_within_items()
 
 /// What is left are items that are no uses.
 pub fn what_is_left_are_nodes()
-    ensures { (choice : Selected) (files : Files) (truth : Truth) (f : Final) (nodes : Nodes) (place : ℕ) (x : Node)
-        → IsFinal choice files f → AreLeft truth files f nodes → slice_get (item_list None 0 nodes) place ≡ Some x
-        → (s : Spot) × (item : Item) × (slice_get (spots_of files f) x.origin ≡ Some s) × (slice_get f.items x.origin ≡ Some item)
+    ensures { (choice : Selected) (files : Files) (truth : Truth) (f : Final) (nodes : Nodes)
+        (place : ℕ) (x : Node)
+        → IsFinal choice files f → AreLeft truth files f nodes
+        → slice_get (item_list None 0 nodes) place ≡ Some x
+        → (s : Spot) × (item : Item) × (slice_get (spots_of files f) x.origin ≡ Some s)
+        × (slice_get f.items x.origin ≡ Some item)
         × (is_uses (kind_of (rows_of files) item.origin) ≡ false) }
 {
     yv_expand_rounds::laws::a_tree_has_no_item_twice();
@@ -78,8 +89,10 @@ pub fn what_is_left_are_nodes()
 
 /// No item is left twice.
 pub fn no_item_is_left_twice()
-    ensures { (choice : Selected) (files : Files) (truth : Truth) (f : Final) (nodes : Nodes) (i k : ℕ) (x y : Node)
-        → IsFinal choice files f → AreLeft truth files f nodes → slice_get (item_list None 0 nodes) i ≡ Some x
+    ensures { (choice : Selected) (files : Files) (truth : Truth) (f : Final) (nodes : Nodes)
+        (i k : ℕ) (x y : Node)
+        → IsFinal choice files f → AreLeft truth files f nodes
+        → slice_get (item_list None 0 nodes) i ≡ Some x
         → slice_get (item_list None 0 nodes) k ≡ Some y → x.origin ≡ y.origin → i ≡ k }
 {
     yv_expand_rounds::laws::a_tree_has_no_item_twice();
@@ -88,18 +101,23 @@ pub fn no_item_is_left_twice()
 
 /// An item belongs to a module that is implemented, where the files of such modules have these.
 pub fn module_files_are_of_modules()
-    ensures { (choice : Selected) (files : Files) (f : Final) (item : ℕ) (s : Spot) → HaveModuleFiles choice files → IsFinal choice files f
+    ensures { (choice : Selected) (files : Files) (f : Final) (item : ℕ) (s : Spot)
+        → HaveModuleFiles choice files → IsFinal choice files f
         → slice_get (spots_of files f) item ≡ Some s
-        → (module_file : Root) × (slice_get files s.module_file ≡ Some module_file) × (is_given choice module_file ≡ true) }
+        → (module_file : Root) × (slice_get files s.module_file ≡ Some module_file)
+        × (is_given choice module_file ≡ true) }
 {}
 
 /// A node that an augment of a module gives is below the one to which the augment adds, which is
 /// left as well.
 pub fn given_nodes_stand_below_their_target()
-    ensures { (choice : Selected) (files : Files) (truth : Truth) (f : Final) (nodes : Nodes) (place giver : ℕ) (x : Node)
-        → IsFinal choice files f → AreLeft truth files f nodes → slice_get (item_list None 0 nodes) place ≡ Some x
+    ensures { (choice : Selected) (files : Files) (truth : Truth) (f : Final) (nodes : Nodes)
+        (place giver : ℕ) (x : Node)
+        → IsFinal choice files f → AreLeft truth files f nodes
+        → slice_get (item_list None 0 nodes) place ≡ Some x
         → source_at (spots_of files f) f.augments x.origin ≡ Some giver
-        → (target : ℕ) × (node : Node) × (x.parent ≡ Some target) × (slice_get (item_list None 0 nodes) target ≡ Some node)
+        → (target : ℕ) × (node : Node) × (x.parent ≡ Some target)
+        × (slice_get (item_list None 0 nodes) target ≡ Some node)
         × (slice_index_or (targets_of files f) giver None ≡ Some node.origin) }
 {
     yv_expand_rounds::laws::a_tree_has_no_item_twice();
@@ -110,9 +128,12 @@ pub fn given_nodes_stand_below_their_target()
 /// In files that conform, a node that is left and isn't at the top is below one that is no leaf,
 /// leaf-list, anydata or anyxml.
 pub fn nothing_stands_below_a_leaf()
-    ensures { (choice : Selected) (files : Files) (truth : Truth) (f : Final) (nodes : Nodes) (place p : ℕ) (x : Node) → Conform files
-        → IsFinal choice files f → AreLeft truth files f nodes → slice_get (item_list None 0 nodes) place ≡ Some x → x.parent ≡ Some p
-        → (above : Node) × (item : Item) × (slice_get (item_list None 0 nodes) p ≡ Some above) × (slice_get f.items above.origin ≡ Some item)
+    ensures { (choice : Selected) (files : Files) (truth : Truth) (f : Final) (nodes : Nodes)
+        (place p : ℕ) (x : Node) → Conform files
+        → IsFinal choice files f → AreLeft truth files f nodes
+        → slice_get (item_list None 0 nodes) place ≡ Some x → x.parent ≡ Some p
+        → (above : Node) × (item : Item) × (slice_get (item_list None 0 nodes) p ≡ Some above)
+        × (slice_get f.items above.origin ≡ Some item)
         × (is_lowest (kind_of (rows_of files) item.origin) ≡ false) }
 {
     yv_expand::conformance_laws::no_node_stands_in_a_leaf();

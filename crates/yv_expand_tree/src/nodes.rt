@@ -11,7 +11,9 @@ use yv_expand_rounds::ItemRow;
 
 // Notes the place of a node, which is now the last of its depth.
 fn put(places: &mut Vec<Option<usize>>, depth: usize, place: usize) -> Result<(), AllocError>
-    ensures { OnOk result ((d : ℕ) → slice_index_or places.new.items d None ≡ enter depth place (λ e. slice_index_or places.old.items e None) d) }
+    ensures { OnOk result
+        ((d : ℕ) → slice_index_or places.new.items d None
+        ≡ enter depth place (λ e. slice_index_or places.old.items e None) d) }
 {
     while places.len() <= depth {
         places.push(None)?;
@@ -33,7 +35,8 @@ fn above(places: &[Option<usize>], depth: usize) -> Option<usize>
 /// The items of a tree as nodes: each with the number of its item as its origin, and the place of
 /// the node above it.
 pub(crate) fn nodes(alloc: Global, tree: &[ItemRow]) -> Result<Vec<RemainingNode>, AllocError>
-    ensures { (t : Tree) → tree.now ≡ tree_list None 1 t → IfOk result (λ nodes. nodes.items ≡ expansion.item_list None 0 (nodes_of t)) }
+    ensures { (t : Tree) → tree.now ≡ tree_list None 1 t
+        → IfOk result (λ nodes. nodes.items ≡ expansion.item_list None 0 (nodes_of t)) }
 {
     // The place of the last node at each depth.
     let mut places = Vec::new(alloc);

@@ -36,7 +36,8 @@ impl Model for FinalTree {
 // The place of the augment of a module in whose block an item stands, of so many items and
 // augments.
 fn source_of(items: usize, augments: usize, spot: &Spot) -> Option<usize>
-    ensures { (list : List ℕ) → length list ≡ augments → result ≡ source_of_spot items list (Some spot.now) }
+    ensures { (list : List ℕ) → length list ≡ augments → result
+        ≡ source_of_spot items list (Some spot.now) }
 {
     if spot.group <= items {
         return None;

@@ -10,7 +10,8 @@ ghost use Rattle.yv_link.specs.LinkedFiles.{truth_in};
 ghost use Rattle.yv_expand.specs.Limit.{TooMany};
 ghost use Rattle.yv_expand.specs.ItemLimit.{ParentsComeFirst};
 ghost use Rattle.yv_expand.specs.Tree as expansion;
-ghost use Rattle.yv_expand.specs.Expansion.{IsWhole, augments_of};
+ghost use Rattle.yv_expand.specs.Expansion.{IsWhole};
+ghost use Rattle.yv_expand.specs.StatementBlocks.{augments_of};
 ghost use Rattle.yv_expand_rounds.specs.Turns.{State};
 ghost use Rattle.yv_expand_refines.specs.Changes.{each};
 ghost use Rattle.yv_expand_augments.specs.Refusals.{BadTarget};
@@ -46,15 +47,22 @@ fn expand_files(
 ) -> Result<FileExpansion, Stop>
     requires { AreNames (lent_in rows.now) names.now }
     ensures whole { AreNames (lent_in rows.now) names.now
-        → IfOk result (λ e. IsWhole (lent_in rows.now) (marks_of (selected_of selection.now) (lent_in rows.now))
+        → IfOk result
+        (λ e. IsWhole (lent_in rows.now) (marks_of (selected_of selection.now) (lent_in rows.now))
         (order_of (selected_of selection.now) (lent_in rows.now)) e.own e.expansion.items) }
     ensures augments { IfOk result (λ e. e.augments.items
-        ≡ augments_of (files_in rows.now) (rows_in rows.now) (marks_of (selected_of selection.now) (lent_in rows.now))) }
+        ≡ augments_of (files_in rows.now) (rows_in rows.now)
+        (marks_of (selected_of selection.now) (lent_in rows.now))) }
     ensures limit { IfOk result (λ e. e.expansion.limit ≡ limit) }
     ensures fits { AreNames (lent_in rows.now) names.now
-        → OnOk result (IsLeast (TooMany (lent_in rows.now) (marks_of (selected_of selection.now) (lent_in rows.now)) limit) None) }
+        → OnOk result
+        (IsLeast
+        (TooMany (lent_in rows.now) (marks_of (selected_of selection.now) (lent_in rows.now)) limit)
+        None) }
     ensures refusal { AreNames (lent_in rows.now) names.now → (r : Refusal) → result ≡ Err (Fault r)
-        → IsLeast (TooMany (lent_in rows.now) (marks_of (selected_of selection.now) (lent_in rows.now)) limit) (Some r) }
+        → IsLeast
+        (TooMany (lent_in rows.now) (marks_of (selected_of selection.now) (lent_in rows.now)) limit)
+        (Some r) }
     ensures builds { result ≢ Err PatternBuild }
 {
     let given = marks(alloc, rows, selection)?;
@@ -70,8 +78,12 @@ fn augmented_tree(
     augments: &[usize],
 ) -> Result<(AugmentedTree, Option<Refusal>), AllocError>
     ensures { IfOk result (λ g. (st : State)
-        × AreAugmentedTree (whole (files_in rows.now) (rows_in rows.now) augments.now (length items.now)) items.now st g.0
-        × IsLeast (BadTarget (whole (files_in rows.now) (rows_in rows.now) augments.now (length items.now)) items.now st) g.1) }
+        × AreAugmentedTree
+        (whole (files_in rows.now) (rows_in rows.now) augments.now (length items.now)) items.now st
+        g.0
+        × IsLeast
+        (BadTarget (whole (files_in rows.now) (rows_in rows.now) augments.now (length items.now))
+        items.now st) g.1) }
 {
     let grafts = apply_augments(alloc, rows, items, augments)?;
     let missing = grafts.first_without_target(rows, augments);
@@ -87,10 +99,14 @@ fn remains<'a, 'b>(
 ) -> Result<Vec<RemainingNode>, AllocError>
     requires { ParentsComeFirst judged.now.items.now }
     ensures { (final : Final) → judged.now.items.now ≡ final.items
-        → AreAugmentedTree (whole_of (lent_in judged.now.rows.now) final) final.items final.state judged.now.grown.now
-        → judged.now.augments.now ≡ final.augments → judged.now.grown.now.tree.items ≡ final_items final
+        → AreAugmentedTree (whole_of (lent_in judged.now.rows.now) final) final.items final.state
+        judged.now.grown.now
+        → judged.now.augments.now ≡ final.augments → judged.now.grown.now.tree.items
+        ≡ final_items final
         → each judged.now.changes.now ≡ changes_of (lent_in judged.now.rows.now) final
-        → IfOk result (λ list. (nodes : expansion.Nodes) × AreLeft (truth_in linked.now) (lent_in judged.now.rows.now) final nodes
+        → IfOk result
+        (λ list. (nodes : expansion.Nodes)
+        × AreLeft (truth_in linked.now) (lent_in judged.now.rows.now) final nodes
         × (list.items ≡ expansion.item_list None 0 nodes)) }
 {
     let spots = &judged.grown.spots;
@@ -109,17 +125,23 @@ fn finish<'a, 'b>(
     expanded: FileExpansion,
 ) -> Result<FinalTree, Stop>
     ensures keeps { (choice : Selected)
-        → IsWhole (lent_in rows.now) (marks_of choice (lent_in rows.now)) (order_of choice (lent_in rows.now)) expanded.own expanded.expansion.items
-        → expanded.augments.items ≡ augments_of (files_in rows.now) (rows_in rows.now) (marks_of choice (lent_in rows.now))
+        → IsWhole (lent_in rows.now) (marks_of choice (lent_in rows.now))
+        (order_of choice (lent_in rows.now)) expanded.own expanded.expansion.items
+        → expanded.augments.items
+        ≡ augments_of (files_in rows.now) (rows_in rows.now) (marks_of choice (lent_in rows.now))
         → IfOk result (AreKept choice (lent_in rows.now) (truth_in linked.now)) }
     ensures limit { IfOk result (λ t. t.limit ≡ expanded.expansion.limit) }
     ensures clear { (choice : Selected)
-        → IsWhole (lent_in rows.now) (marks_of choice (lent_in rows.now)) (order_of choice (lent_in rows.now)) expanded.own expanded.expansion.items
-        → expanded.augments.items ≡ augments_of (files_in rows.now) (rows_in rows.now) (marks_of choice (lent_in rows.now))
+        → IsWhole (lent_in rows.now) (marks_of choice (lent_in rows.now))
+        (order_of choice (lent_in rows.now)) expanded.own expanded.expansion.items
+        → expanded.augments.items
+        ≡ augments_of (files_in rows.now) (rows_in rows.now) (marks_of choice (lent_in rows.now))
         → OnOk result (IsLeast (BadFinal choice (lent_in rows.now)) None) }
     ensures refusal { (choice : Selected) (r : Refusal)
-        → IsWhole (lent_in rows.now) (marks_of choice (lent_in rows.now)) (order_of choice (lent_in rows.now)) expanded.own expanded.expansion.items
-        → expanded.augments.items ≡ augments_of (files_in rows.now) (rows_in rows.now) (marks_of choice (lent_in rows.now))
+        → IsWhole (lent_in rows.now) (marks_of choice (lent_in rows.now))
+        (order_of choice (lent_in rows.now)) expanded.own expanded.expansion.items
+        → expanded.augments.items
+        ≡ augments_of (files_in rows.now) (rows_in rows.now) (marks_of choice (lent_in rows.now))
         → result ≡ Err (Fault r) → IsLeast (BadFinal choice (lent_in rows.now)) (Some r) }
     ensures builds { result ≢ Err PatternBuild }
 {
@@ -167,10 +189,12 @@ pub fn final_tree<'a, 'b>(
 ) -> Result<FinalTree, Stop>
     requires { AreNames (lent_in rows.now) names.now }
     ensures keeps { AreNames (lent_in rows.now) names.now
-        → IfOk result (AreKept (selected_of selection.now) (lent_in rows.now) (truth_in linked.now)) }
+        → IfOk result
+        (AreKept (selected_of selection.now) (lent_in rows.now) (truth_in linked.now)) }
     ensures limit { IfOk result (λ t. t.limit ≡ limit) }
     ensures clear { AreNames (lent_in rows.now) names.now
-        → OnOk result (IsLeast (BadExpansion (selected_of selection.now) (lent_in rows.now) limit) None) }
+        → OnOk result
+        (IsLeast (BadExpansion (selected_of selection.now) (lent_in rows.now) limit) None) }
     ensures refusal { AreNames (lent_in rows.now) names.now → (r : Refusal) → result ≡ Err (Fault r)
         → IsLeast (BadExpansion (selected_of selection.now) (lent_in rows.now) limit) (Some r) }
     ensures builds { result ≢ Err PatternBuild }

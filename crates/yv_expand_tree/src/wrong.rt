@@ -32,10 +32,16 @@ pub(crate) struct Judgement<'j, 'a, 'b> {
 impl Judgement<'_, '_, '_> {
     // The least BadAugment of an augment that adds a mandatory node to another module's node.
     fn first_imposed(&self, alloc: Global) -> Result<Option<Refusal>, AllocError>
-        ensures { (final : Final) → self.now.items.now ≡ final.items → self.now.augments.now ≡ final.augments
-            → AreAugmentedTree (whole_of (lent_in self.now.rows.now) final) final.items final.state self.now.grown.now
-            → self.now.grown.now.tree.items ≡ final_items final → each self.now.changes.now ≡ changes_of (lent_in self.now.rows.now) final
-            → IfOk result (IsLeast (ImposesMandatory (rows_in self.now.rows.now) (spots_of (lent_in self.now.rows.now) final) final.augments
+        ensures { (final : Final) → self.now.items.now ≡ final.items → self.now.augments.now
+            ≡ final.augments
+            → AreAugmentedTree (whole_of (lent_in self.now.rows.now) final) final.items final.state
+            self.now.grown.now
+            → self.now.grown.now.tree.items ≡ final_items final → each self.now.changes.now
+            ≡ changes_of (lent_in self.now.rows.now) final
+            → IfOk result
+            (IsLeast
+            (ImposesMandatory (rows_in self.now.rows.now)
+            (spots_of (lent_in self.now.rows.now) final) final.augments
             (told_of (said_of (lent_in self.now.rows.now) final)) None nothing_around final.tree)) }
     {
         let said = said_of_all(alloc, self.rows, self.items, self.changes)?;
@@ -58,10 +64,14 @@ impl Judgement<'_, '_, '_> {
         alloc: Global,
         missing: Option<Refusal>,
     ) -> Result<Option<Refusal>, AllocError>
-        ensures { (final : Final) → self.now.items.now ≡ final.items → self.now.augments.now ≡ final.augments
-            → AreAugmentedTree (whole_of (lent_in self.now.rows.now) final) final.items final.state self.now.grown.now
-            → self.now.grown.now.tree.items ≡ final_items final → each self.now.changes.now ≡ changes_of (lent_in self.now.rows.now) final
-            → IsLeast (BadTarget (whole_of (lent_in self.now.rows.now) final) final.items final.state) missing
+        ensures { (final : Final) → self.now.items.now ≡ final.items → self.now.augments.now
+            ≡ final.augments
+            → AreAugmentedTree (whole_of (lent_in self.now.rows.now) final) final.items final.state
+            self.now.grown.now
+            → self.now.grown.now.tree.items ≡ final_items final → each self.now.changes.now
+            ≡ changes_of (lent_in self.now.rows.now) final
+            → IsLeast
+            (BadTarget (whole_of (lent_in self.now.rows.now) final) final.items final.state) missing
             → IfOk result (IsLeast (BadStanding (lent_in self.now.rows.now) final)) }
     {
         let grown = self.grown;

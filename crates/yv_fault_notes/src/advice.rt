@@ -2,16 +2,15 @@
 use crate::choices::{push_choice, push_missing_choice};
 use crate::duplicates::{push_duplicate, push_keys, push_unique};
 use crate::front::left_out;
-use crate::numbers::push_count;
 use crate::reference::push_reference;
 use crate::spot::{Spot, items_of, node_at};
-use crate::types::push_type;
 use crate::unknown::push_unknown;
 use itoa::Buffer;
 use serde_json::Value;
 use std::alloc::{AllocError, Global};
 use yv_node_definition::NodeKind;
-use yv_refusal_notes::push_quoted;
+use yv_note_text::push_quoted;
+use yv_note_values::{push_count, push_type};
 use yv_schema_tables::Schema;
 use yv_validate::{Fault, FaultKind, MemberName};
 

@@ -56,7 +56,8 @@ fn push_sentences(
     document: &Value,
     faults: &[Fault],
 ) -> Result<(), AllocError>
-    ensures { OnOk result (AddsSentences faults.now (string_bytes text.old) (string_bytes text.new)) }
+    ensures { OnOk result
+        (AddsSentences faults.now (string_bytes text.old) (string_bytes text.new)) }
 {
     for fault in faults {
         push_sentence(alloc, text, schema, document, fault)?;
@@ -72,7 +73,8 @@ fn push_sentence(
     document: &Value,
     fault: &Fault,
 ) -> Result<(), AllocError>
-    ensures { OnOk result (AddsSentences (fault.now ∷ []) (string_bytes text.old) (string_bytes text.new)) }
+    ensures { OnOk result
+        (AddsSentences (fault.now ∷ []) (string_bytes text.old) (string_bytes text.new)) }
 {
     let whole = whole(alloc, schema, document, fault)?;
     push_line(text, whole.as_str())

@@ -1,10 +1,11 @@
 //! What is said of choices.
 use crate::beside::choice_of;
 use crate::spot::{Spot, children_at, has_children};
-use crate::words::{Joint, push_names};
+use crate::words::push_names;
 use serde_json::Value;
 use std::alloc::{AllocError, Global};
 use yv_nodes::NodeId;
+use yv_note_text::Joint;
 use yv_schema_tables::Schema;
 use yv_validate::MemberName;
 use yv_values::Meter;

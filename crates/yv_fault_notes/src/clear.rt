@@ -28,7 +28,8 @@ fn cleared_char(byte: u8) -> char
 
 // Adds bytes, and a dot for each that isn't visible.
 fn push_bytes(text: &mut String, bytes: &[u8]) -> Result<(), AllocError>
-    ensures { OnOk result (string_bytes text.new ≡ string_bytes text.old ++ map cleared_byte bytes.now) }
+    ensures { OnOk result
+        (string_bytes text.new ≡ string_bytes text.old ++ map cleared_byte bytes.now) }
 {
     for byte in bytes {
         text.push(cleared_char(*byte))?;

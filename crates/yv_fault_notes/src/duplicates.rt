@@ -1,10 +1,11 @@
 //! What is said of entries and items that repeat earlier ones.
 use crate::spot::{Spot, node_at};
-use crate::words::{Joint, push_names};
+use crate::words::push_names;
 use itoa::Buffer;
 use std::alloc::AllocError;
 use yv_node_definition::NodeKind;
 use yv_nodes::NodeId;
+use yv_note_text::Joint;
 use yv_schema_tables::Schema;
 use yv_validate::Fault;
 

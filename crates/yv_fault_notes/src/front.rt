@@ -75,7 +75,8 @@ fn shortened_line(
     left_out: usize,
 ) -> Result<String, AllocError>
     requires { left_out ≤ length path.now }
-    ensures { IfOk result (λ text. string_bytes text ≡ shortened_line fault.now (steps_of (drop left_out path.now))) }
+    ensures { IfOk result
+        (λ text. string_bytes text ≡ shortened_line fault.now (steps_of (drop left_out path.now))) }
 {
     let mut text = String::from_str(alloc, fault.kind.name())?;
     text.push_str(" ..")?;
@@ -96,7 +97,8 @@ fn push_number(text: &mut String, number: u32) -> Result<(), AllocError>
 }
 
 fn push_steps(text: &mut String, path: &[Part<'_>]) -> Result<(), AllocError>
-    ensures { OnOk result (string_bytes text.new ≡ string_bytes text.old ++ places_text (steps_of path.now)) }
+    ensures { OnOk result
+        (string_bytes text.new ≡ string_bytes text.old ++ places_text (steps_of path.now)) }
 {
     for step in path {
         push_step(text, step)?;
@@ -105,7 +107,8 @@ fn push_steps(text: &mut String, path: &[Part<'_>]) -> Result<(), AllocError>
 }
 
 fn push_step(text: &mut String, step: &Part<'_>) -> Result<(), AllocError>
-    ensures { OnOk result (string_bytes text.new ≡ string_bytes text.old ++ place_text (part_of step.now)) }
+    ensures { OnOk result
+        (string_bytes text.new ≡ string_bytes text.old ++ place_text (part_of step.now)) }
 {
     text.push_str("/")?;
     push_name(text, &step.name)?;
@@ -114,7 +117,9 @@ fn push_step(text: &mut String, step: &Part<'_>) -> Result<(), AllocError>
 
 fn push_name(text: &mut String, name: &MemberName<'_>) -> Result<(), AllocError>
     ensures { OnOk result (string_bytes text.new ≡ string_bytes text.old
-        ++ escape (member_text name.now.is_choice (option_map (λ m. m.now) name.now.module) name.now.name.now)) }
+        ++ escape
+        (member_text name.now.is_choice (option_map (λ m. m.now) name.now.module)
+        name.now.name.now)) }
 {
     if !name.is_choice {
         return push_qualified(text, name);

@@ -9,13 +9,9 @@ mod choices;
 mod clear;
 mod duplicates;
 mod front;
-mod listed_names;
-mod numbers;
 mod reference;
 mod spot;
-mod types;
 mod unknown;
-mod values;
 mod words;
 
 pub use all_sentences::sentences;

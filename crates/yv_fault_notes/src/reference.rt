@@ -1,9 +1,9 @@
 //! What is said of a reference without a target.
 use crate::spot::Spot;
-use crate::values::push_written;
 use crate::words::push_name;
 use std::alloc::{AllocError, Global};
 use yv_nodes::{Link, NodeId};
+use yv_note_values::push_written;
 use yv_schema_tables::Schema;
 
 /// Adds that the path of a leafref leads to no node with the value. Other nodes of that name may

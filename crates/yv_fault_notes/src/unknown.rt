@@ -1,11 +1,11 @@
 //! What is said of a member that names no data node of its object.
 use crate::beside::{beside, data_beside};
 use crate::spot::node_at;
-use crate::words::{Joint, push_member, push_members};
+use crate::words::{push_member, push_members};
 use std::alloc::{AllocError, Global};
 use yv_node_definition::NodeKind;
 use yv_nodes::{Node, NodeId};
-use yv_refusal_notes::{Likeness, compare, push_quoted};
+use yv_note_text::{Joint, Likeness, compare, push_quoted};
 use yv_schema_tables::Schema;
 
 // A node whose name is like that of a member.

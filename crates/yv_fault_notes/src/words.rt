@@ -2,27 +2,8 @@
 use crate::spot::node_at;
 use std::alloc::{AllocError, Global};
 use yv_nodes::NodeId;
-use yv_refusal_notes::push_quoted;
+use yv_note_text::{Joint, push_between, push_quoted};
 use yv_schema_tables::Schema;
-
-/// How many names are listed.
-pub(crate) const MOST_NAMES: usize = 8;
-
-/// The word before the last name of a list.
-#[derive(Clone, Copy)]
-pub(crate) enum Joint {
-    And,
-    Or,
-}
-
-impl Joint {
-    fn word(self) -> &'static str {
-        match self {
-            Joint::And => " and ",
-            Joint::Or => " or ",
-        }
-    }
-}
 
 /// Adds the names of the nodes of these numbers in quotes, of many the first 8.
 pub(crate) fn push_names(
@@ -32,35 +13,12 @@ pub(crate) fn push_names(
     joint: Joint,
 ) -> Result<(), AllocError> {
     for (place, id) in ids.iter().enumerate() {
-        if place >= MOST_NAMES {
-            return push_others(text, joint);
+        if !push_between(text, place, ids.len(), joint)? {
+            break;
         }
-        push_between(text, place, ids.len(), joint)?;
         push_name(text, schema, *id)?;
     }
     Ok(())
-}
-
-/// Adds what separates the name of this place, in a list of so many, from the one before it.
-pub(crate) fn push_between(
-    text: &mut String,
-    place: usize,
-    count: usize,
-    joint: Joint,
-) -> Result<(), AllocError> {
-    if place == 0 {
-        Ok(())
-    } else if place.saturating_add(1) == count {
-        text.push_str(joint.word())
-    } else {
-        text.push_str(", ")
-    }
-}
-
-/// Adds that a list is longer.
-pub(crate) fn push_others(text: &mut String, joint: Joint) -> Result<(), AllocError> {
-    text.push_str(joint.word())?;
-    text.push_str("others")
 }
 
 /// Adds the name of a node in quotes.
@@ -80,10 +38,9 @@ pub(crate) fn push_members(
     joint: Joint,
 ) -> Result<(), AllocError> {
     for (place, id) in ids.iter().enumerate() {
-        if place >= MOST_NAMES {
-            return push_others(text, joint);
+        if !push_between(text, place, ids.len(), joint)? {
+            break;
         }
-        push_between(text, place, ids.len(), joint)?;
         push_member(alloc, text, schema, *id)?;
     }
     Ok(())

@@ -45,7 +45,8 @@ files_line files = decimal (length (unwrap_or files [])) ++ (codes " files were 
 abbrev pub command_line : Text
 command_line = codes "no command was given, or not what it needs" ++ 10 ∷ []
 
--- why the command of this name, with these values of its arguments, asks for no task: the line tells of one that is wrong
+-- why the command of this name, with these values of its arguments, asks for no task: the line
+-- tells of one that is wrong
 pub data IsReason (name : Text) (rows : List Row) (line : Text) : Type 0 where
   of_limit : ((n : ℕ) → IsLimit (first_of (codes "max-nodes") rows) n → ⊥)
       → line ≡ value_line (codes "max-nodes") (codes "a number from 1 to 1000000") (first_of (codes "max-nodes") rows)

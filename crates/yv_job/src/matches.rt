@@ -84,7 +84,8 @@ fn selection_of(
     ensures nothing { let rows = rows_of (found_of below.now) in
         IfOk result (λ r. IfErr r (λ _. (c : Selected) → IsChoice rows c → ⊥)) }
     ensures reason { let rows = rows_of (found_of below.now) in
-        IfOk result (λ r. IfErr r (λ line. (name : List ℕ) → IsReason name rows (string_bytes line))) }
+        IfOk result
+        (λ r. IfErr r (λ line. (name : List ℕ) → IsReason name rows (string_bytes line))) }
 {
     let written = first(below, "support");
     let Some(support) = support_value(alloc, written)? else {

@@ -104,7 +104,8 @@ either : {P Q : Type 0} (a b : Bool) → Decides a P → Decides b Q → Decides
 either true b d e = (λ t. inl (d.0 refl), λ h. refl)
 either false b d e = (λ t. inr (e.0 t), λ h. elim h [ inl p ↦ absurd (let x = d.1 p in cc) | inr q ↦ e.1 q ])
 
--- what an index answers beside these defaults is what is kept of the target, and its defaults where they are in use
+-- what an index answers beside these defaults is what is kept of the target, and its defaults where
+-- they are in use
 pub reaches_is : (s : Rows) (is : Indexes) (uses : Uses) (m : Marks) (n : ℕ) (v : Val) (f l : ℕ) (ds : List Val) (b : Bool) → AreMarks is uses m
     → ds ≡ cond (is_used n f l m.used) (defaults_at s n) [] → (IsTrue b ↔ (IsWithin (index_of is n) (v ∷ []) f l ⊎ IsAlone (v ∷ []) ds)) → b ≡ reaches s m n v f l
 reaches_is s is uses m n v f l ds b g e h =

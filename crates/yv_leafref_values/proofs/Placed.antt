@@ -79,7 +79,8 @@ no_ends (at_node m) s spot p = refl
 
 -- ---- what is around a value
 
--- these are the objects around something that is met at a spot, where the next object has this number, and so many are entered
+-- these are the objects around something that is met at a spot, where the next object has this
+-- number, and so many are entered
 pub record IsNear (spot : Spot) (next size : ℕ) (around : List ℕ) : Type 0 where
   pub place : (first_of around ≡ first_of spot.around) ⊎ ((next ≤ first_of around) × (first_of around < next + size))
   pub outer : (n : ℕ) → n < next → is_in around n ≡ is_in spot.around n

@@ -38,7 +38,8 @@ entered_stand n i kids spot next ms inside = stand (record { node = n; item = i;
 abbrev pub Property : Type 1
 Property = Spot → ℕ → List Meeting → Type 0
 
--- it holds of what is met at a spot, where the next object has this number, if it holds of the parts
+-- it holds of what is met at a spot, where the next object has this number, if it holds of the
+-- parts
 pub record Closed (s : Rows) (P : Spot → ℕ → List Meeting → Type 0) : Type 0 where
   pub none : (spot : Spot) (next : ℕ) → P spot next []
   pub both : (spot : Spot) (next : ℕ) (xs ys : List Meeting) → P spot next xs → P spot (next + count_entered xs) ys → P spot next (xs ++ ys)

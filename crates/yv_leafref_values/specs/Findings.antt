@@ -1,5 +1,6 @@
--- What a walk keeps of what it meets, so that references can be looked up behind it: the values of targets, where their defaults are in use,
--- the objects that it entered, and the values of leafrefs.
+-- What a walk keeps of what it meets, so that references can be looked up behind it: the values of
+-- targets, where their defaults are in use, the objects that it entered, and the values of
+-- leafrefs.
 use Rattle.std.specs.Prelude.{◌≡◌, ℕ, ◌-◌, ◌⊎◌, ◌↔◌, List, [], ◌∷◌, ◌++◌, length, Bool, Option, Some, None, if◌then◌else◌}
 use Rattle.std.specs.BTreeMap.{is_at}
 use Rattle.std.specs.List.{flat_map, slice_index_or, slice_set}
@@ -29,15 +30,16 @@ pub record TargetDefault : Type 0 where
   pub target : ℕ
   pub place : ℕ
 
--- an object that was entered: the number of the one around it, its node, its number from 1 where it is an entry, and the number of the
--- last object in it
+-- an object that was entered: the number of the one around it, its node, its number from 1 where it
+-- is an entry, and the number of the last object in it
 pub record Position : Type 0 where
   pub parent : ℕ
   pub node : ℕ
   pub item : Option ℕ
   pub last : ℕ
 
--- a leafref's value: the number of the object that it is in, its node, its number from 1 where it is an item, and what it is
+-- a leafref's value: the number of the object that it is in, its node, its number from 1 where it
+-- is an item, and what it is
 pub record LeafrefValue : Type 0 where
   pub position : ℕ
   pub node : ℕ
@@ -52,7 +54,8 @@ pub record FindingsView : Type 0 where
 
 -- ---- what is kept of what is met
 
--- the number of the object in which something is, and of the one around that; the document is in no other
+-- the number of the object in which something is, and of the one around that; the document is in no
+-- other
 abbrev pub first_of : List ℕ → ℕ
 first_of [] = 0
 first_of (n ∷ ns) = n

@@ -1,4 +1,5 @@
--- Only private clauses cite this: what is answered to each value of a leafref, by what a walk has kept.
+-- Only private clauses cite this: what is answered to each value of a leafref, by what a walk has
+-- kept.
 use Rattle.std.specs.Prelude.{◌≡◌, ℕ, zero, suc, ◌+◌, ◌-◌, ◌==◌, ◌&&◌, ◌||◌, nat_le, List, [], ◌∷◌, ◌++◌, map, Bool, true, false, Option, Some, None, if◌then◌else◌}
 use Rattle.yv_values.specs.Same.{is_among, same_value}
 use Rattle.yv_values.specs.Values.{Val}

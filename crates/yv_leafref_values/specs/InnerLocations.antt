@@ -11,7 +11,8 @@ pub record Location : Type 0 where
 abbrev pub location_at : List Location → ℕ → Location
 location_at ls n = slice_index_or ls n (record { outer = 0; place = record { member = []; item = None } })
 
--- the path of the object of this number, by those around it; `most` is at least as many as there are
+-- the path of the object of this number, by those around it; `most` is at least as many as there
+-- are
 abbrev pub path_in : List Location → (most : ℕ) → ℕ → List Place
 path_in os zero n = []
 path_in os (suc most) n =

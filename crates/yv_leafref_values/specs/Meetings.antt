@@ -1,5 +1,6 @@
--- What a validation meets in a document, by the tree of its schema and in order (RFC 7950, sections 7.5 to 7.11): one list, from which the
--- faults, the references, the values of leafs and the steps are each read.
+-- What a validation meets in a document, by the tree of its schema and in order (RFC 7950, sections
+-- 7.5 to 7.11): one list, from which the faults, the references, the values of leafs and the steps
+-- are each read.
 use Rattle.std.specs.Prelude.{ℕ, ◌+◌, ◌&&◌, not, List, [], ◌∷◌, ◌++◌, length, Bool, Option, Some, None, is_some, if◌then◌else◌}
 use Rattle.std.specs.List.{sum_by}
 use Rattle.serde_json.specs.Data.{Data, array, object, Items, no_items, item, Members, no_members}
@@ -16,8 +17,8 @@ use Rattle.yv_leafref_values.specs.declared.scope.RuleScope.{RuleScope}
 use Rattle.yv_leafref_values.specs.declared.scope.RuleScope.TheVariants.{Always}
 use Rattle.yv_leafref_values.specs.InUse.{case_scope, is_asked, scope_in}
 
--- where something is met: the path of the node above it, and the numbers of the objects around it, from the closest on; of these `entry` is
--- the closest that is an entry of a list, or the document
+-- where something is met: the path of the node above it, and the numbers of the objects around it,
+-- from the closest on; of these `entry` is the closest that is an entry of a list, or the document
 pub record Spot : Type 0 where
   pub path : List Place
   pub around : List ℕ
@@ -29,8 +30,9 @@ at spot l number = spot.path ++ record { member = step_name l; item = number } �
 
 -- ---- what may be met
 
--- what is written where an object is to be: the document, a container or an entry, with its number from 1 where it is an entry; what is in
--- it is met at this spot, by these trees, and the objects in it have the numbers up to `last`
+-- what is written where an object is to be: the document, a container or an entry, with its number
+-- from 1 where it is an entry; what is in it is met at this spot, by these trees, and the objects
+-- in it have the numbers up to `last`
 pub record Stand : Type 0 where
   pub node : NodeId
   pub item : Option ℕ
@@ -89,8 +91,9 @@ count_entered ms = sum_by entered_at ms
 
 -- ---- an object, and what is in it
 
--- what is below a node: `inside` is in an object of its own, or in none, at a spot, where the next object has this number, and in a scope;
--- in the object around it are `cases`, where it is a choice, and `nodes`, where it is a case
+-- what is below a node: `inside` is in an object of its own, or in none, at a spot, where the next
+-- object has this number, and in a scope; in the object around it are `cases`, where it is a
+-- choice, and `nodes`, where it is a case
 pub record Below : Type 0 where
   pub inside : Spot → ℕ → RuleScope → Members → List Meeting
   pub cases : List Meeting
@@ -117,7 +120,8 @@ object_met n number kids spot next d below =
 
 -- ---- a node, by its kind
 
--- a container that isn't written and means nothing by itself has its nodes where it is, in its own scope (section 7.5.1)
+-- a container that isn't written and means nothing by itself has its nodes where it is, in its own
+-- scope (section 7.5.1)
 abbrev pub container_met : NodeId → Label → Forest → Spot → RuleScope → ℕ → Option Data → Below → List Meeting
 container_met n l kids spot scope next None below =
     if l.defined.has_presence then [] else below.inside (in_no_object spot l) next scope no_members
@@ -171,8 +175,8 @@ node_met n l kids spot scope next ms below =
 
 -- ---- all nodes
 
--- what is met by these trees in an object with these members: the first node has the number `first`, each tree its scope, and the next
--- object the number `next`
+-- what is met by these trees in an object with these members: the first node has the number
+-- `first`, each tree its scope, and the next object the number `next`
 abbrev pub meetings : Kind → Rows → (ℕ → Tree → RuleScope) → Spot → (next first : ℕ) → Forest → Members → List Meeting
 meetings k s scope_of spot next first no_trees ms = []
 meetings k s scope_of spot next first (tree (node l kids) ts) ms =

@@ -4,13 +4,14 @@ use Rattle.yv_node_definition.specs.Kinds.{is_choice}
 use Rattle.yv_nodes.specs.Member.{behind}
 use Rattle.yv_nodes.specs.Tree.{Label}
 
--- a step of a path: a member's name, and its number from 1 where it is an entry or an item of an array
+-- a step of a path: a member's name, and its number from 1 where it is an entry or an item of an
+-- array
 pub record Place : Type 0 where
   pub member : List ℕ
   pub item : Option ℕ
 
--- what a member of this name is called in a path: behind the name of its module, where it is written with it, and a choice, which no
--- member writes, in parentheses
+-- what a member of this name is called in a path: behind the name of its module, where it is
+-- written with it, and a choice, which no member writes, in parentheses
 abbrev pub member_text : (is_choice : Bool) → (module_file : Option (List ℕ)) → (name : List ℕ) → List ℕ
 member_text is_choice module_file name = if is_choice then codes "(" ++ behind module_file name ++ codes ")" else behind module_file name
 

@@ -21,7 +21,8 @@ is_in (m ∷ ms) n = m == n || is_in ms n
 abbrev pub is_reached : (target from : ℕ) → ValueAt → Bool
 is_reached target from v = (v.node == target) && is_in v.spot.around from
 
--- of all values those that the path of a leafref at this spot reaches: those of its target in the object to which it climbs
+-- of all values those that the path of a leafref at this spot reaches: those of its target in the
+-- object to which it climbs
 abbrev pub values_reached : List ValueAt → Link → Spot → List Val
 values_reached all link spot = map (λ v. v.value) (filter (is_reached link.target (climb 0 link.climbs spot.around)) all)
 

@@ -1,5 +1,5 @@
--- The values that leafs and leaf-lists have in a document: those that were read, and defaults in use (RFC 7950, sections 7.6.1
--- and 7.7.2).
+-- The values that leafs and leaf-lists have in a document: those that were read, and defaults in
+-- use (RFC 7950, sections 7.6.1 and 7.7.2).
 use Rattle.std.specs.Prelude.{ℕ, List, [], map}
 use Rattle.std.specs.List.{flat_map}
 use Rattle.yv_node_definition.specs.declared.kind.NodeKind.{NodeKind}

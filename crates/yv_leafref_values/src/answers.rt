@@ -21,9 +21,10 @@ use yv_nodes::{Links, NodeId};
 use yv_schema_tables::Schema;
 use yv_values::{Defaults, Meter, Tuple};
 
-/// The paths of the values of leafrefs that are the same as none that their own paths reach (RFC 7950, section 9.9), in the order in
-/// which a walk found them. Each value of a leafref that it found is looked up once, in time log n, which is one step; a path is made only
-/// for a value that is reported. It fails only if memory runs out, and then the meter is as it was.
+/// The paths of the values of leafrefs that are the same as none that their own paths reach (RFC
+/// 7950, section 9.9), in the order in which a walk found them. Each value of a leafref that it
+/// found is looked up once, in time log n, which is one step; a path is made only for a value that
+/// is reported. It fails only if memory runs out, and then the meter is as it was.
 pub fn answer(
     alloc: Global,
     schema: &Schema,
@@ -33,7 +34,10 @@ pub fn answer(
     ensures tells { IfOk result (λ paths. (k : Kind) (ms : Members) → HasMet k schema.now ms found
         → paths.items ≡ all_references k schema.now (object ms)) }
     ensures steps { OnOk result ((k : Kind) (ms : Members) → HasMet k schema.now ms found
-        → count_up meter.new ≡ count_up (meter.old + sum_by (lookups_at (link_in schema.now.links)) (all_met k schema.now (object ms)))) }
+        → count_up meter.new
+        ≡ count_up
+        (meter.old
+        + sum_by (lookups_at (link_in schema.now.links)) (all_met k schema.now (object ms)))) }
     ensures same { OnErr result (meter.new ≡ meter.old) }
 {
     let Findings {
@@ -71,9 +75,14 @@ struct Answers<'a> {
 
 impl Answers<'_> {
     fn all(&self, notes: Vec<Note>, meter: &mut Meter) -> Result<Vec<ValuePath>, AllocError>
-        ensures tells { IfOk result (λ paths. (m : Marks) → AreMarks self.now.targets self.now.uses m
-            → paths.items ≡ judge_all self.now.schema.now (link_in self.now.links.now) m self.now.positions.items notes.items) }
-        ensures steps { OnOk result (count_up meter.new ≡ count_up (meter.old + count_leafrefs (link_in self.now.links.now) notes.items)) }
+        ensures tells { IfOk result
+            (λ paths. (m : Marks) → AreMarks self.now.targets self.now.uses m
+            → paths.items
+            ≡ judge_all self.now.schema.now (link_in self.now.links.now) m self.now.positions.items
+            notes.items) }
+        ensures steps { OnOk result
+            (count_up meter.new
+            ≡ count_up (meter.old + count_leafrefs (link_in self.now.links.now) notes.items)) }
     {
         let mut names = StepNames::new(self.alloc);
         let mut values = Vec::new(self.alloc);
@@ -94,8 +103,11 @@ impl Answers<'_> {
         ensures tells { OnOk result ((m : Marks) → AreMarks self.now.targets self.now.uses m
             → paths_of self.now.schema.now self.now.positions.items values.new.items
             ≡ paths_of self.now.schema.now self.now.positions.items values.old.items
-            ++ judge self.now.schema.now (link_in self.now.links.now) m self.now.positions.items note) }
-        ensures steps { OnOk result (count_up meter.new ≡ count_up (meter.old + asked_once (link_in self.now.links.now note.node))) }
+            ++ judge self.now.schema.now (link_in self.now.links.now) m self.now.positions.items
+            note) }
+        ensures steps { OnOk result
+            (count_up meter.new
+            ≡ count_up (meter.old + asked_once (link_in self.now.links.now note.node))) }
         ensures names { OnOk result (AreNames self.now.schema.now names.new) }
     {
         let link = match self.links.link(note.node) {
@@ -125,8 +137,10 @@ impl Answers<'_> {
 
     // The defaults of a target, where they are in use in an object from the first to the last.
     fn defaults_in_use(&self, target: NodeId, first: u64, last: u64) -> Option<&Defaults>
-        ensures { (us : List TargetDefault) → Spreads [] self.now.uses us → unwrap_or (option_map (λ d. d.now) result) []
-            ≡ (if is_used target.0 first last us then defaults_at self.now.schema.now target.0 else []) }
+        ensures { (us : List TargetDefault) → Spreads [] self.now.uses us
+            → unwrap_or (option_map (λ d. d.now) result) []
+            ≡ (if is_used target.0 first last us then defaults_at self.now.schema.now target.0
+            else []) }
     {
         if self.uses.is_within(target, first, last) {
             self.defaults_of(target)
@@ -137,7 +151,8 @@ impl Answers<'_> {
 
     // The defaults of a node. What the schema doesn't have, and no link leads to, has none.
     fn defaults_of(&self, target: NodeId) -> Option<&Defaults>
-        ensures { unwrap_or (option_map (λ d. d.now) result) [] ≡ defaults_at self.now.schema.now target.0 }
+        ensures { unwrap_or (option_map (λ d. d.now) result) []
+            ≡ defaults_at self.now.schema.now target.0 }
     {
         if target.number() < self.schema.len() {
             self.schema.node(target).default_values()
@@ -146,7 +161,8 @@ impl Answers<'_> {
         }
     }
 
-    // The object that a path climbs to from another; the first `../` only leaves the leafref itself.
+    // The object that a path climbs to from another; the first `../` only leaves the leafref
+    // itself.
     fn climbed_to(&self, climbs: Option<usize>, position: u64) -> u64
         ensures { result ≡ climbed_to self.now.positions.items climbs position }
     {
@@ -191,7 +207,9 @@ impl Answers<'_> {
         values: Vec<Location>,
     ) -> Result<Vec<ValuePath>, AllocError>
         requires { AreNames self.now.schema.now names.old }
-        ensures { IfOk result (λ paths. paths.items ≡ paths_of self.now.schema.now self.now.positions.items values.items) }
+        ensures { IfOk result
+            (λ paths. paths.items
+            ≡ paths_of self.now.schema.now self.now.positions.items values.items) }
     {
         if values.is_empty() {
             return Ok(Vec::new(self.alloc));
@@ -203,7 +221,8 @@ impl Answers<'_> {
     // Where the objects are that were entered.
     fn objects(&self, names: &mut StepNames) -> Result<Vec<Location>, AllocError>
         requires { AreNames self.now.schema.now names.old }
-        ensures { IfOk result (λ objects. objects.items ≡ objects_of self.now.schema.now self.now.positions.items) }
+        ensures { IfOk result
+            (λ objects. objects.items ≡ objects_of self.now.schema.now self.now.positions.items) }
     {
         let mut objects = Vec::new(self.alloc);
         for object in &self.positions {
@@ -221,7 +240,8 @@ impl Answers<'_> {
     ) -> Result<Location, AllocError>
         requires { AreNames self.now.schema.now names.old }
         ensures names { OnOk result (AreNames self.now.schema.now names.new) }
-        ensures location { IfOk result (λ location. location ≡ location_of self.now.schema.now outer node.0 item) }
+        ensures location { IfOk result
+            (λ location. location ≡ location_of self.now.schema.now outer node.0 item) }
     {
         Ok(Location {
             outer,

@@ -51,9 +51,10 @@ impl Model for Note {
     ghost view = { λ n. record { position = n.position; node = n.node.0; item = n.item; value = n.value } };
 }
 
-/// What a walk over a document finds: the objects that it enters, with numbers from 0 on in the order in which it enters them, the
-/// document first; the values of targets, and where their defaults are in use; and the values of leafrefs. Beside values it keeps a few
-/// numbers of each, and no path. What fails for want of memory leaves it as it was.
+/// What a walk over a document finds: the objects that it enters, with numbers from 0 on in the
+/// order in which it enters them, the document first; the values of targets, and where their
+/// defaults are in use; and the values of leafrefs. Beside values it keeps a few numbers of each,
+/// and no path. What fails for want of memory leaves it as it was.
 #[derive(Drop)]
 pub struct Findings {
     pub(crate) alloc: Global,
@@ -85,12 +86,13 @@ impl Findings {
         }
     }
 
-    /// Enters an object of this container or list, which is in the object with the number `parent`; with its number from 1, where it
-    /// is a list entry. It answers the number of the object. The document is entered first, with the root as its
-    /// node and 0 as its parent.
+    /// Enters an object of this container or list, which is in the object with the number `parent`;
+    /// with its number from 1, where it is a list entry. It answers the number of the object. The
+    /// document is entered first, with the root as its node and 0 as its parent.
     pub fn enter(&mut self, parent: u64, node: NodeId, item: Option<u64>) -> Result<u64, AllocError>
         ensures number { IfOk result (λ n. n ≡ length self.old.positions) }
-        ensures positions { OnOk result (self.new.positions ≡ self.old.positions ++ open_object parent node.0 item ∷ []) }
+        ensures positions { OnOk result
+            (self.new.positions ≡ self.old.positions ++ open_object parent node.0 item ∷ []) }
         ensures indexes { self.new.indexes ≡ self.old.indexes }
         ensures uses { self.new.uses ≡ self.old.uses }
         ensures notes { self.new.notes ≡ self.old.notes }
@@ -126,7 +128,9 @@ impl Findings {
         value: &Value,
         position: u64,
     ) -> Result<(), AllocError>
-        ensures keeps { OnOk result (Finds self.old self.new (only_kept (kept_if (is_target links.now node.0) node.0 position (Some value.now)))) }
+        ensures keeps { OnOk result
+            (Finds self.old self.new
+            (only_kept (kept_if (is_target links.now node.0) node.0 position (Some value.now)))) }
         ensures same { OnErr result (self.new ≡ self.old) }
     {
         if !links.is_target(node) {
@@ -135,15 +139,18 @@ impl Findings {
         self.targets.keep(node, value.copy(self.alloc)?, position)
     }
 
-    /// Keeps that the defaults of a node are in use in the object with this number, all of them together, where the node is a target. It
-    /// copies no value: the defaults are read in the schema where a reference is looked up.
+    /// Keeps that the defaults of a node are in use in the object with this number, all of them
+    /// together, where the node is a target. It copies no value: the defaults are read in the
+    /// schema where a reference is looked up.
     pub fn use_defaults(
         &mut self,
         links: &Links,
         node: NodeId,
         position: u64,
     ) -> Result<(), AllocError>
-        ensures uses { OnOk result (Finds self.old self.new (only_used (use_if (is_target links.now node.0) node.0 position))) }
+        ensures uses { OnOk result
+            (Finds self.old self.new
+            (only_used (use_if (is_target links.now node.0) node.0 position))) }
         ensures same { OnErr result (self.new ≡ self.old) }
     {
         if !links.is_target(node) {
@@ -152,8 +159,8 @@ impl Findings {
         self.uses.add(node, position)
     }
 
-    /// Notes a value of a leafref in the object with this number, where the leafref has a link; with its number from 1, where it is an
-    /// item of a leaf-list.
+    /// Notes a value of a leafref in the object with this number, where the leafref has a link;
+    /// with its number from 1, where it is an item of a leaf-list.
     pub fn note(
         &mut self,
         links: &Links,
@@ -162,7 +169,10 @@ impl Findings {
         value: &Value,
         position: u64,
     ) -> Result<(), AllocError>
-        ensures notes { OnOk result (Finds self.old self.new (only_notes (value_notes (link_in links.now node.0) position node.0 item (Some value.now)))) }
+        ensures notes { OnOk result
+            (Finds self.old self.new
+            (only_notes
+            (value_notes (link_in links.now node.0) position node.0 item (Some value.now)))) }
         ensures same { OnErr result (self.new ≡ self.old) }
     {
         if links.link(node).is_none() {

@@ -27,28 +27,47 @@ pub fn met_behind()
         → Finds a b (met_in s xs) → Finds b c (met_in s ys) → Finds a c (met_in s (xs ++ ys)) }
 {}
 
-/// What is found of a value that is written for a leaf or an item: the value of a target, and that of a leafref.
+/// What is found of a value that is written for a leaf or an item: the value of a target, and that
+/// of a leafref.
 pub fn value_met()
-    ensures { (s : Rows) (m : WrittenValue) (v : Option Val) → value_of m.label m.found ≡ v → met_in s (at_value m ∷ [])
+    ensures { (s : Rows) (m : WrittenValue) (v : Option Val) → value_of m.label m.found ≡ v
+        → met_in s (at_value m ∷ [])
         ≡ record {
           kept = kept_if (is_target s.links m.node.0) m.node.0 (first_of m.spot.around) v;
           used = [];
           positions = [];
-          notes = value_notes (link_in s.links m.node.0) (first_of m.spot.around) m.node.0 (number_of m.before) v;
+          notes = value_notes (link_in s.links m.node.0) (first_of m.spot.around) m.node.0
+              (number_of m.before) v;
         } }
 {}
 
 /// What is found of a node apart from what is below it: the defaults that are in use.
 pub fn default_met()
     ensures { (s : Rows) (m : Node) → met_in s (at_node m ∷ [])
-        ≡ only_used (used_if (is_target s.links m.node.0) m.node.0 (first_of m.spot.around) (in_use m.label.defined.kind m.label m.scope (found_of m))) }
+        ≡ only_used
+        (used_if (is_target s.links m.node.0) m.node.0 (first_of m.spot.around)
+        (in_use m.label.defined.kind m.label m.scope (found_of m))) }
 {}
 
 /// What is found of an object that is entered, walked over and left.
 pub fn object_met()
-    ensures { (s : Rows) (a b c d : Findings) (n : NodeId) (item : Option ℕ) (spot : Spot) (ts : Forest) (ms : Members) (inside : List Meeting)
-        → b.positions ≡ a.positions ++ open_object (second_of spot.around) n.0 item ∷ [] → b.indexes ≡ a.indexes → b.uses ≡ a.uses → b.notes ≡ a.notes
+    ensures { (s : Rows) (a b c d : Findings) (n : NodeId) (item : Option ℕ) (spot : Spot)
+        (ts : Forest) (ms : Members) (inside : List Meeting)
+        → b.positions ≡ a.positions ++ open_object (second_of spot.around) n.0 item ∷ [] → b.indexes
+        ≡ a.indexes → b.uses ≡ a.uses → b.notes ≡ a.notes
         → Finds b c (met_in s inside)
-        → d.positions ≡ end_object c.positions (length a.positions) → d.indexes ≡ c.indexes → d.uses ≡ c.uses → d.notes ≡ c.notes
-        → Finds a d (met_in s (stand (record { node = n; item = item; spot = spot; last = length a.positions + count_entered inside; trees = ts; found = object ms }) ∷ inside)) }
+        → d.positions ≡ end_object c.positions (length a.positions) → d.indexes ≡ c.indexes → d.uses
+        ≡ c.uses → d.notes ≡ c.notes
+        → Finds a d
+        (met_in s
+        (stand
+        (record {
+          node = n;
+          item = item;
+          spot = spot;
+          last = length a.positions
+              + count_entered inside;
+          trees = ts;
+          found = object ms;
+        }) ∷ inside)) }
 {}

@@ -1,4 +1,5 @@
-//! The values of leafrefs in a JSON document, and those of their targets (RFC 7950, sections 9.9 and 9.9.3).
+//! The values of leafrefs in a JSON document, and those of their targets (RFC 7950, sections 9.9
+//! and 9.9.3).
 #![tactic(auto)]
 
 mod answers;

@@ -33,7 +33,8 @@ impl StepNames {
     pub(crate) fn name_of(&mut self, schema: &Schema, node: NodeId) -> Result<Rc<Step>, AllocError>
         requires { AreNames schema.now self.old }
         ensures names { OnOk result (AreNames schema.now self.new) }
-        ensures name { IfOk result (λ name. name.value.member ≡ (place_at schema.now node.0 None).member) }
+        ensures name { IfOk result
+            (λ name. name.value.member ≡ (place_at schema.now node.0 None).member) }
     {
         if let Some(name) = self.steps.get(&node.0) {
             return name.clone();

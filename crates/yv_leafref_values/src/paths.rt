@@ -10,8 +10,8 @@ use std::alloc::{AllocError, Global};
 use std::marker::Model;
 use std::rc::Rc;
 
-/// Where something is: the number of the object around it, what its member is called, and its number from 1 where it is an entry or an
-/// item.
+/// Where something is: the number of the object around it, what its member is called, and its
+/// number from 1 where it is an entry or an item.
 #[derive(Drop)]
 pub(crate) struct Location {
     pub(crate) outer: u64,
@@ -34,8 +34,8 @@ pub(crate) struct Locations {
     pub(crate) values: Vec<Location>,
 }
 
-/// The path to a value of a document from the top. All such paths share where the objects are, so that one takes as much memory where
-/// it is long as where it is short.
+/// The path to a value of a document from the top. All such paths share where the objects are, so
+/// that one takes as much memory where it is long as where it is short.
 #[derive(Drop)]
 pub struct ValuePath {
     locations: Rc<Locations>,
@@ -94,8 +94,14 @@ pub struct LastStep<'p> {
 impl<'p> ValueSteps<'p> {
     /// The last step, and those before it; None where there are no steps.
     pub fn split_last(&self) -> Option<LastStep<'p>>
-        ensures { MatchOption result (left_steps self.now ≡ []) (λ last. left_steps self.now ≡ left_steps last.before
-            ++ record { member = member_text last.name.is_choice (option_map (λ m. m.now) last.name.module) last.name.name.now; item = last.item } ∷ []) }
+        ensures { MatchOption result (left_steps self.now ≡ [])
+            (λ last. left_steps self.now ≡ left_steps last.before
+            ++ record {
+              member = member_text last.name.is_choice
+                  (option_map (λ m. m.now) last.name.module) last.name.name.now;
+              item = last.item;
+            }
+            ∷ []) }
     {
         match self.end {
             End::Value(number) => last_of_value(self.locations, number),
@@ -105,9 +111,15 @@ impl<'p> ValueSteps<'p> {
 }
 
 fn last_of_value<'p>(locations: &'p Locations, number: u64) -> Option<LastStep<'p>>
-    ensures { MatchOption result (numbered_path locations.now.objects.items locations.now.values.items number ≡ [])
-        (λ last. numbered_path locations.now.objects.items locations.now.values.items number ≡ left_steps last.before
-        ++ record { member = member_text last.name.is_choice (option_map (λ m. m.now) last.name.module) last.name.name.now; item = last.item } ∷ []) }
+    ensures { MatchOption result
+        (numbered_path locations.now.objects.items locations.now.values.items number ≡ [])
+        (λ last. numbered_path locations.now.objects.items locations.now.values.items number
+        ≡ left_steps last.before
+        ++ record {
+          member = member_text last.name.is_choice
+              (option_map (λ m. m.now) last.name.module) last.name.name.now;
+          item = last.item;
+        } ∷ []) }
 {
     match locations.values.get(number as usize) {
         None => None,
@@ -118,7 +130,11 @@ fn last_of_value<'p>(locations: &'p Locations, number: u64) -> Option<LastStep<'
 fn last_of_object<'p>(locations: &'p Locations, most: u64, number: u64) -> Option<LastStep<'p>>
     ensures { MatchOption result (path_in locations.now.objects.items most number ≡ [])
         (λ last. path_in locations.now.objects.items most number ≡ left_steps last.before
-        ++ record { member = member_text last.name.is_choice (option_map (λ m. m.now) last.name.module) last.name.name.now; item = last.item } ∷ []) }
+        ++ record {
+          member = member_text last.name.is_choice
+              (option_map (λ m. m.now) last.name.module) last.name.name.now;
+          item = last.item;
+        } ∷ []) }
 {
     if most == 0 || number == 0 {
         return None;
@@ -131,9 +147,14 @@ fn last_of_object<'p>(locations: &'p Locations, most: u64, number: u64) -> Optio
 
 // The step of a location, in an object in which at most so many others are.
 fn last_at<'p>(locations: &'p Locations, location: &'p Location, most: u64) -> LastStep<'p>
-    ensures before { left_steps result.before ≡ path_in locations.now.objects.items most location.now.outer }
+    ensures before { left_steps result.before
+        ≡ path_in locations.now.objects.items most location.now.outer }
     ensures step { location.now.place
-        ≡ record { member = member_text result.name.is_choice (option_map (λ m. m.now) result.name.module) result.name.name.now; item = result.item } }
+        ≡ record {
+          member = member_text result.name.is_choice
+              (option_map (λ m. m.now) result.name.module) result.name.name.now;
+          item = result.item;
+        } }
 {
     LastStep {
         name: location.name.parts(),
@@ -147,7 +168,8 @@ fn last_at<'p>(locations: &'p Locations, location: &'p Location, most: u64) -> L
 
 /// The paths to all values of these locations.
 pub(crate) fn share(alloc: Global, locations: Locations) -> Result<Vec<ValuePath>, AllocError>
-    ensures { IfOk result (λ paths. paths.items ≡ map (value_path locations.objects.items) locations.values.items) }
+    ensures { IfOk result
+        (λ paths. paths.items ≡ map (value_path locations.objects.items) locations.values.items) }
 {
     let many = locations.values.len() as u64;
     let shared = Rc::new(alloc, locations)?;

@@ -22,8 +22,9 @@ pub struct MemberName<'s> {
     pub is_choice: bool,
 }
 
-/// A step of a path: a member's name, and its number from 1 where it is an entry or an item of an array. Names of the schema are
-/// shared with it, since a name may be as long as its file, and many faults may lie below it.
+/// A step of a path: a member's name, and its number from 1 where it is an entry or an item of an
+/// array. Names of the schema are shared with it, since a name may be as long as its file, and many
+/// faults may lie below it.
 #[derive(Drop)]
 pub struct Step {
     /// The name of the module, where the member is written with it.
@@ -49,7 +50,8 @@ impl Model for Step {
 impl Step {
     ghost use Rattle.yv_leafref_values.specs.Place.{member_text};
 
-    /// A member of this name without a module, as one that names no node; with its number from 1, where it is an entry or an item.
+    /// A member of this name without a module, as one that names no node; with its number from 1,
+    /// where it is an entry or an item.
     pub fn of_name(name: RcStr, item: Option<u64>) -> Step
         ensures { result ≡ record { member = rc_str_bytes name; item = item } }
     {
@@ -61,9 +63,11 @@ impl Step {
         }
     }
 
-    /// A node, over the names of the schema; with its number from 1, where it is an entry or an item.
+    /// A node, over the names of the schema; with its number from 1, where it is an entry or an
+    /// item.
     pub fn of(node: &Node, item: Option<u64>) -> Result<Step, AllocError>
-        ensures { IfOk result (λ step. step ≡ record { member = step_name node.now.label; item = item }) }
+        ensures { IfOk result
+            (λ step. step ≡ record { member = step_name node.now.label; item = item }) }
     {
         Ok(Step {
             module: node.shared_qualifier()?,
@@ -75,7 +79,8 @@ impl Step {
 
     /// The parts of the member's name. It takes no memory.
     pub fn parts(&self) -> MemberName<'_>
-        ensures { self.now.member ≡ member_text result.is_choice (option_map (λ m. m.now) result.module) result.name.now }
+        ensures { self.now.member
+            ≡ member_text result.is_choice (option_map (λ m. m.now) result.module) result.name.now }
     {
         MemberName {
             module: text_of(&self.module),
@@ -84,8 +89,8 @@ impl Step {
         }
     }
 
-    /// The member's name, with its module in front where it is written with it; that of a choice in parentheses.
-    /// The text is made anew.
+    /// The member's name, with its module in front where it is written with it; that of a choice in
+    /// parentheses. The text is made anew.
     pub fn member(&self, alloc: Global) -> Result<String, AllocError>
         ensures { IfOk result (λ text. string_bytes text ≡ self.now.member) }
     {
@@ -115,7 +120,8 @@ fn qualified_name(
     module_file: &Option<RcStr>,
     name: &str,
 ) -> Result<String, AllocError>
-    ensures { IfOk result (λ text. string_bytes text ≡ behind (option_map rc_str_bytes module_file.now) name.now) }
+    ensures { IfOk result
+        (λ text. string_bytes text ≡ behind (option_map rc_str_bytes module_file.now) name.now) }
 {
     let mut text = String::new(alloc);
     if let Some(module) = module_file {

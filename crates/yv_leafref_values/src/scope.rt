@@ -6,7 +6,8 @@ use yv_nodes::NodeId;
 use yv_statement::Kind;
 use yv_walk::Existence;
 
-/// Where the rules of a node hold: always, in a case if one of these nodes exists, only by default, or not at all.
+/// Where the rules of a node hold: always, in a case if one of these nodes exists, only by default,
+/// or not at all.
 #[derive(Clone, Copy, Debug, PartialEq, Eq)]
 pub enum RuleScope {
     Always,
@@ -18,7 +19,8 @@ pub enum RuleScope {
 }
 
 impl RuleScope {
-    /// The scope of a node in this scope, which is configuration or not, in a document of this kind.
+    /// The scope of a node in this scope, which is configuration or not, in a document of this
+    /// kind.
     pub fn narrow(self, kind: Kind, is_config: bool) -> RuleScope
         ensures { result ≡ scope_in kind is_config self }
     {

@@ -44,7 +44,9 @@ impl Targets {
         value: Value,
         place: u64,
     ) -> Result<(), AllocError>
-        ensures keeps { OnOk result (Gains self.old self.new (record { target = target.0; value = value; place = place } ∷ [])) }
+        ensures keeps { OnOk result
+            (Gains self.old self.new
+            (record { target = target.0; value = value; place = place } ∷ [])) }
         ensures same { OnErr result (self.new ≡ self.old) }
     {
         let mut key = Tuple::new(self.alloc);
@@ -58,7 +60,10 @@ impl Targets {
     // Keeps the first value of a target.
     fn keep_first(&mut self, target: NodeId, key: Tuple, place: u64) -> Result<(), AllocError>
         requires { index_of self.old target.0 ≡ [] }
-        ensures keeps { OnOk result ((v : Val) → key ≡ v ∷ [] → Gains self.old self.new (record { target = target.0; value = v; place = place } ∷ [])) }
+        ensures keeps { OnOk result
+            ((v : Val) → key ≡ v ∷ []
+            → Gains self.old self.new
+            (record { target = target.0; value = v; place = place } ∷ [])) }
         ensures same { OnErr result (self.new ≡ self.old) }
     {
         let mut index = Index::new(self.alloc);
@@ -67,8 +72,8 @@ impl Targets {
         Ok(())
     }
 
-    /// Whether a value of a target was kept at a place from the first to the last, both included, or is one of these others, the
-    /// target's defaults. It is one step.
+    /// Whether a value of a target was kept at a place from the first to the last, both included,
+    /// or is one of these others, the target's defaults. It is one step.
     pub(crate) fn within_or_among(
         &self,
         meter: &mut Meter,
@@ -79,7 +84,8 @@ impl Targets {
         others: Option<&Defaults>,
     ) -> bool
         ensures finds { IsTrue result ↔
-            (IsWithin (index_of self.now target.0) key.now first last ⊎ IsAlone key.now (unwrap_or (option_map (λ o. o.now) others.entry) [])) }
+            (IsWithin (index_of self.now target.0) key.now first last
+            ⊎ IsAlone key.now (unwrap_or (option_map (λ o. o.now) others.entry) [])) }
         ensures steps { meter.new ≡ count_up (meter.old + 1) }
     {
         match self.indexes.get(&target.0) {

@@ -9,8 +9,9 @@ use std::marker::Model;
 use yv_nodes::NodeId;
 use yv_values::KeyPlaces;
 
-/// For each target the numbers of the objects in which its defaults are in use. The values themselves are only in the schema: a long
-/// default costs the same for each object as a short one, and many cost the same as one.
+/// For each target the numbers of the objects in which its defaults are in use. The values
+/// themselves are only in the schema: a long default costs the same for each object as a short one,
+/// and many cost the same as one.
 #[derive(Drop)]
 pub(crate) struct Uses {
     alloc: Global,
@@ -36,9 +37,11 @@ impl Uses {
         }
     }
 
-    /// Adds a place where the defaults of a target are in use. It costs least where its places come in ascending order.
+    /// Adds a place where the defaults of a target are in use. It costs least where its places come
+    /// in ascending order.
     pub(crate) fn add(&mut self, target: NodeId, place: u64) -> Result<(), AllocError>
-        ensures adds { OnOk result (Spreads self.old self.new (record { target = target.0; place = place } ∷ [])) }
+        ensures adds { OnOk result
+            (Spreads self.old self.new (record { target = target.0; place = place } ∷ [])) }
         ensures same { OnErr result (self.new ≡ self.old) }
     {
         match self.places.get_mut(&target.0) {
@@ -50,7 +53,8 @@ impl Uses {
     // Adds the first place of a target.
     fn add_first(&mut self, target: NodeId, place: u64) -> Result<(), AllocError>
         requires { places_of self.old target.0 ≡ [] }
-        ensures adds { OnOk result (Spreads self.old self.new (record { target = target.0; place = place } ∷ [])) }
+        ensures adds { OnOk result
+            (Spreads self.old self.new (record { target = target.0; place = place } ∷ [])) }
         ensures same { OnErr result (self.new ≡ self.old) }
     {
         let places = KeyPlaces::new(self.alloc, place)?;
@@ -58,7 +62,8 @@ impl Uses {
         Ok(())
     }
 
-    /// Whether the defaults of a target are in use at a place from the first to the last, both included.
+    /// Whether the defaults of a target are in use at a place from the first to the last, both
+    /// included.
     pub(crate) fn is_within(&self, target: NodeId, first: u64, last: u64) -> bool
         ensures { IsTrue result ↔ HasBetween (places_of self.now target.0) first last }
     {

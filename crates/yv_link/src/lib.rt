@@ -1,5 +1,5 @@
-//! Modules as a whole: which files there are, which modules prefixes identify, which features are on, and which
-//! identities there are (RFC 7950, sections 5.1, 5.6.1, 6.2.1, 7.18 and 7.20).
+//! Modules as a whole: which files there are, which modules prefixes identify, which features are
+//! on, and which identities there are (RFC 7950, sections 5.1, 5.6.1, 6.2.1, 7.18 and 7.20).
 #![tactic(auto)]
 
 pub mod laws;

@@ -23,7 +23,8 @@ use yv_statement::{Selection, Statement, Stop};
 // The statements of the files, or the least refusal of their modules.
 fn read_rows<'a, 'b>(alloc: Global, files: &'a [Statement<'b>]) -> Result<Rows<'a, 'b>, Stop>
     ensures lends { IfOk result (λ rows. lent_in rows ≡ files.now) }
-    ensures clear { OnOk result (IsLeast (BadModules (map brief_of files.now) (rows_of files.now)) None) }
+    ensures clear { OnOk result
+        (IsLeast (BadModules (map brief_of files.now) (rows_of files.now)) None) }
     ensures refusal { (r : Refusal) → result ≡ Err (Fault r)
         → IsLeast (BadModules (map brief_of files.now) (rows_of files.now)) (Some r) }
     ensures builds { result ≢ Err PatternBuild }
@@ -36,7 +37,8 @@ fn read_rows<'a, 'b>(alloc: Global, files: &'a [Statement<'b>]) -> Result<Rows<'
     Ok(rows)
 }
 
-// The files of which nothing is wrong with modules, or the least refusal of their features and identities.
+// The files of which nothing is wrong with modules, or the least refusal of their features and
+// identities.
 fn linked_rows<'a, 'b>(
     alloc: Global,
     rows: Rows<'a, 'b>,
@@ -45,7 +47,8 @@ fn linked_rows<'a, 'b>(
     requires { IsLeast (BadModules (map brief_of (lent_in rows)) (rows_of (lent_in rows))) None }
     ensures links { IfOk result (AreLinked (lent_in rows.entry) (selected_of selection.now)) }
     ensures clear { OnOk result (IsLeast (BadLinks (lent_in rows.entry)) None) }
-    ensures refusal { (r : Refusal) → result ≡ Err (Fault r) → IsLeast (BadLinks (lent_in rows.entry)) (Some r) }
+    ensures refusal { (r : Refusal) → result ≡ Err (Fault r)
+        → IsLeast (BadLinks (lent_in rows.entry)) (Some r) }
     ensures builds { result ≢ Err PatternBuild }
 {
     let modules = read_modules(alloc, &rows, selection)?;
@@ -65,9 +68,9 @@ fn linked_rows<'a, 'b>(
     })
 }
 
-/// The files as a whole, or the least refusal of their modules, features and identities by phase, file, offset and
-/// code. Statements that the tables of the language don't allow are not refused here. More than 2^32 - 3 statements are
-/// answered as if memory ran out.
+/// The files as a whole, or the least refusal of their modules, features and identities by phase,
+/// file, offset and code. Statements that the tables of the language don't allow are not refused
+/// here. More than 2^32 - 3 statements are answered as if memory ran out.
 pub fn link<'a, 'b>(
     alloc: Global,
     files: &'a [Statement<'b>],
@@ -75,7 +78,8 @@ pub fn link<'a, 'b>(
 ) -> Result<Linked<'a, 'b>, Stop>
     ensures links { IfOk result (AreLinked files.now (selected_of selection.now)) }
     ensures clear { OnOk result (IsLeast (BadLinks files.now) None) }
-    ensures refusal { (r : Refusal) → result ≡ Err (Fault r) → IsLeast (BadLinks files.now) (Some r) }
+    ensures refusal { (r : Refusal) → result ≡ Err (Fault r)
+        → IsLeast (BadLinks files.now) (Some r) }
     ensures builds { result ≢ Err PatternBuild }
     ensures many { 4294967293 < length (rows_of files.now) → result ≡ Err NoMemory }
 {

@@ -11,8 +11,8 @@ use yv_link_identities::{Identities, IdentityRef};
 use yv_link_scopes::Rows;
 use yv_statement::Statement;
 
-/// Files in which nothing is wrong with modules, features and identities. A file is meant by its place in the list
-/// of files. Of the readers only `descendants` allocates memory.
+/// Files in which nothing is wrong with modules, features and identities. A file is meant by its
+/// place in the list of files. Of the readers only `descendants` allocates memory.
 #[derive(Drop)]
 pub struct Linked<'a, 'b> {
     pub(crate) rows: Rows<'a, 'b>,
@@ -30,14 +30,16 @@ impl<'a, 'b> Linked<'a, 'b> {
 
     /// The statements of the files, in the order of the files.
     pub fn statements(&self) -> &'a [Statement<'b>]
-        ensures { (files : Files) (choice : Selected) → AreLinked files choice self.now → result.now ≡ files }
+        ensures { (files : Files) (choice : Selected) → AreLinked files choice self.now → result.now
+            ≡ files }
     {
         self.rows.statements()
     }
 
     /// All statements of the files as one numbered list.
     pub fn rows(&self) -> &Rows<'a, 'b>
-        ensures { (files : Files) (choice : Selected) → AreLinked files choice self.now → lent_in result.now ≡ files }
+        ensures { (files : Files) (choice : Selected) → AreLinked files choice self.now
+            → lent_in result.now ≡ files }
     {
         &self.rows
     }
@@ -60,8 +62,8 @@ impl<'a, 'b> Linked<'a, 'b> {
         self.module_at(number)
     }
 
-    /// Whether the expression of an `if-feature` holds in a file (RFC 7950, section 7.20.2). A text that is not an
-    /// expression doesn't, nor does one with a name that means no feature.
+    /// Whether the expression of an `if-feature` holds in a file (RFC 7950, section 7.20.2). A text
+    /// that is not an expression doesn't, nor does one with a name that means no feature.
     pub fn holds(&self, file: u32, if_feature: &'a str) -> bool
         ensures truth { result ≡ truth_in self.now file if_feature.now }
         ensures holds { (files : Files) (choice : Selected) → AreLinked files choice self.now
@@ -78,9 +80,9 @@ impl<'a, 'b> Linked<'a, 'b> {
         self.identities.identity(&self.rows, file as usize, name)
     }
 
-    /// Whether an identity is derived from another, in one step or more (RFC 7950, section 7.18.2). Where identities
-    /// have several bases each it may take one step for each way to a base: use `descendants` for files from
-    /// strangers.
+    /// Whether an identity is derived from another, in one step or more (RFC 7950, section 7.18.2).
+    /// Where identities have several bases each it may take one step for each way to a base: use
+    /// `descendants` for files from strangers.
     pub fn derived(&self, identity: IdentityRef, base: IdentityRef) -> bool
         ensures { (files : Files) (choice : Selected) → AreLinked files choice self.now
             → IsTrue result ↔ IsDerived (map brief_of files) (rows_of files) identity base }
@@ -88,14 +90,15 @@ impl<'a, 'b> Linked<'a, 'b> {
         self.identities.is_derived(identity, base)
     }
 
-    /// All identities that are derived from one, in the order of the statements. Takes time n log n in these and in the
-    /// bases that they name among these and that one.
+    /// All identities that are derived from one, in the order of the statements. Takes time n log n
+    /// in these and in the bases that they name among these and that one.
     pub fn descendants(
         &self,
         alloc: Global,
         base: IdentityRef,
     ) -> Result<Vec<IdentityRef>, AllocError>
-        ensures { IfOk result (λ found. (files : Files) (choice : Selected) → AreLinked files choice self.now
+        ensures { IfOk result
+            (λ found. (files : Files) (choice : Selected) → AreLinked files choice self.now
             → AreDescendants (map brief_of files) (rows_of files) base found.items) }
     {
         self.identities.descendants(alloc, base)

@@ -46,7 +46,8 @@ pub(crate) fn read_modules(
     rows: &Rows<'_, '_>,
     selection: &Selection,
 ) -> Result<Vec<Option<ModuleRef>>, AllocError>
-    ensures { IfOk result (λ modules. AreModules (selected_of selection.now) (files_in rows.now) modules.items) }
+    ensures { IfOk result
+        (λ modules. AreModules (selected_of selection.now) (files_in rows.now) modules.items) }
 {
     let mut modules = Vec::new(alloc);
     for number in 0..rows.files().len() {

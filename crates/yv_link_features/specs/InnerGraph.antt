@@ -1,4 +1,5 @@
--- Only private clauses cite this: the conditions of each statement, and what each depends on, as lists of numbers.
+-- Only private clauses cite this: the conditions of each statement, and what each depends on, as
+-- lists of numbers.
 use Rattle.std.specs.Prelude.{◌≡◌, ◌↔◌, ℕ, ◌<◌, true, List, [], ◌∷◌, ◌++◌, length, map, take, Option, Some, None}
 use Rattle.std.specs.Prelude.{slice_get, slice_index, slice_index_or}
 use Rattle.std.specs.List.{All, Contains}
@@ -20,7 +21,8 @@ IsIfFeatureAt rows k i = (q : Row) × (slice_get rows i ≡ Some q) × (is_if_fe
 abbrev pub numbers_at : List (Vec ℕ Global) → ℕ → List ℕ
 numbers_at lists k = slice_index_or (map (λ v. v.items) lists) k []
 
--- a list for each statement, with the numbers of its conditions, as far as the first n statements go
+-- a list for each statement, with the numbers of its conditions, as far as the first n statements
+-- go
 pub record ListsUpTo (rows : List Row) (n : ℕ) (lists : List (Vec ℕ Global)) : Type 0 where
   pub each : length lists ≡ length rows
   pub exact : (k i : ℕ) → Contains (numbers_at lists k) i ↔ ((i < n) × IsIfFeatureAt rows k i)

@@ -12,7 +12,8 @@ use Rattle.yv_link_scopes.specs.declared.kind.NameKind.TheVariants.{Feature}
 abbrev pub Meaning : Type 0
 Meaning = ℕ → List ℕ → Option ℕ
 
--- a name is looked up at the root of the file's module, or of the module for which its prefix stands
+-- a name is looked up at the root of the file's module, or of the module for which its prefix
+-- stands
 abbrev pub looked_up : Table → Briefs → List Row → Meaning
 looked_up table files rows file name = option_and_then (λ block. table block (local_of name)) (block_of files rows file name)
 

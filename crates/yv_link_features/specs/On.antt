@@ -1,4 +1,5 @@
--- The features that are on, and which expressions hold (RFC 7950, sections 5.6.1, 7.20.1 and 7.20.2).
+-- The features that are on, and which expressions hold (RFC 7950, sections 5.6.1, 7.20.1 and
+-- 7.20.2).
 use Rattle.std.specs.Prelude.{◌≡◌, ◌↔◌, ℕ, ◌==◌, ◌&&◌, Bool, true, List, [], map, Option, Some, None, IsTrue, slice_get}
 use Rattle.yv_statement.specs.Selection.{Selected, is_supported}
 use Rattle.yv_link_scopes.specs.Files.{Files, Brief, Briefs, brief_of}
@@ -19,7 +20,8 @@ has_support files choice r = is_supported choice (module_name_in (slice_get file
 abbrev pub is_if_feature_of : ℕ → Row → Bool
 is_if_feature_of number q = is_if_feature q && (q.scope == number)
 
--- each condition of a numbered statement is true in its file, where this says which expressions are true in which files
+-- each condition of a numbered statement is true in its file, where this says which expressions are
+-- true in which files
 abbrev pub AllHoldBy : (IsTrueIn : (file : ℕ) → (text : List ℕ) → Type 0) → List Row → ℕ → Type 0
 AllHoldBy IsTrueIn rows number =
     (i : ℕ) (q : Row) → slice_get rows i ≡ Some q → is_if_feature_of number q ≡ true → IsTrueIn q.file (name_in q)

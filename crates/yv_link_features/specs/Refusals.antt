@@ -1,4 +1,5 @@
--- What is refused of features: a name that means none, and a feature that depends on itself (RFC 7950, section 7.20.1).
+-- What is refused of features: a name that means none, and a feature that depends on itself (RFC
+-- 7950, section 7.20.1).
 use Rattle.std.specs.Prelude.{◌≡◌, ◌⊎◌, ℕ, ◌&&◌, Bool, true, not, List, length, map}
 use Rattle.std.specs.List.{list_all}
 use Rattle.yv_statement.specs.Order.{Among, Stands, refusal_at}

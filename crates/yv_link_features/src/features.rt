@@ -27,17 +27,20 @@ pub struct Features<'a> {
 }
 
 impl<'a> Features<'a> {
-    /// The features of files. A feature is on if it is supported and its own conditions hold. Refused are a name
-    /// in a condition that means no feature, and a feature that depends on itself, perhaps by way of others.
+    /// The features of files. A feature is on if it is supported and its own conditions hold.
+    /// Refused are a name in a condition that means no feature, and a feature that depends on
+    /// itself, perhaps by way of others.
     pub fn read(
         alloc: Global,
         rows: &Rows<'a, '_>,
         selection: &Selection,
     ) -> Result<Features<'a>, Stop>
         ensures clear { OnOk result (IsLeast (BadFeatures (lent_in rows.now)) None) }
-        ensures refusal { (r : Refusal) → result ≡ Err (Fault r) → IsLeast (BadFeatures (lent_in rows.now)) (Some r) }
+        ensures refusal { (r : Refusal) → result ≡ Err (Fault r)
+            → IsLeast (BadFeatures (lent_in rows.now)) (Some r) }
         ensures builds { result ≢ Err PatternBuild }
-        ensures features { IfOk result (AreFeatures (lent_in rows.now) (selected_of selection.now)) }
+        ensures features { IfOk result
+            (AreFeatures (lent_in rows.now) (selected_of selection.now)) }
     {
         let places = first_places(alloc, NameKind::Feature, rows)?;
         let names = FeatureNames {
@@ -50,8 +53,8 @@ impl<'a> Features<'a> {
         }
     }
 
-    /// Whether the expression of an `if-feature` holds in a file. A text that is not an expression doesn't, nor does one with
-    /// a name that means no feature.
+    /// Whether the expression of an `if-feature` holds in a file. A text that is not an expression
+    /// doesn't, nor does one with a name that means no feature.
     pub fn holds(&self, rows: &Rows<'a, '_>, file: usize, text: &'a str) -> bool
         ensures truth { result ≡ truth_of self.now (lent_in rows.now) file text.now }
         ensures holds { (choice : Selected) → AreFeatures (lent_in rows.now) choice self.now
@@ -71,9 +74,11 @@ impl FeatureNames<'_, '_, '_> {
     fn marks(&self, alloc: Global, selection: &Selection) -> Result<Vec<bool>, Stop>
         requires { table_of self.now.places.now ≡ first_of Feature (rows_in self.now.rows.now) }
         ensures clear { OnOk result (IsLeast (BadIn self.now) None) }
-        ensures refusal { (r : Refusal) → result ≡ Err (Fault r) → IsLeast (BadIn self.now) (Some r) }
+        ensures refusal { (r : Refusal) → result ≡ Err (Fault r)
+            → IsLeast (BadIn self.now) (Some r) }
         ensures builds { result ≢ Err PatternBuild }
-        ensures on { IfOk result (λ on. AreOnIn self.now (selected_of selection.now) (from_marks on.items)) }
+        ensures on { IfOk result
+            (λ on. AreOnIn self.now (selected_of selection.now) (from_marks on.items)) }
     {
         let lists = if_features(alloc, self.rows)?;
         let graph = self.graph(alloc, &lists)?;

@@ -8,7 +8,8 @@ ghost use Rattle.yv_link_features.specs.Features.{AreFeatures, Tell, truth_of};
 ghost use Rattle.yv_link_features.specs.On.{Holds};
 ghost use Rattle.yv_link_features.specs.declared.features.Features.{Features};
 
-/// What the features that were found answer for an expression in a file is its value by them, and no other.
+/// What the features that were found answer for an expression in a file is its value by them, and
+/// no other.
 pub fn features_tell_the_value()
     ensures tells { (features : Features) (files : Files) (file : ℕ) (text : List ℕ)
         → Tell features files file text (truth_of features files file text) }
@@ -18,15 +19,19 @@ pub fn features_tell_the_value()
     yv_text_if_feature::laws::a_text_spells_one_if_feature();
 }
 
-/// What the features of files answer for an expression is its truth, whatever the file and the text.
+/// What the features of files answer for an expression is its truth, whatever the file and the
+/// text.
 pub fn features_tell_what_holds()
-    ensures { (files : Files) (choice : Selected) (features : Features) → AreFeatures files choice features
-        → (file : ℕ) (text : List ℕ) → Holds files choice file text (truth_of features files file text) }
+    ensures { (files : Files) (choice : Selected) (features : Features)
+        → AreFeatures files choice features
+        → (file : ℕ) (text : List ℕ)
+        → Holds files choice file text (truth_of features files file text) }
 {}
 
 /// Where nothing is refused of the features, an expression in a file has one truth.
 pub fn an_expression_has_one_truth()
-    ensures { (files : Files) (choice : Selected) (file : ℕ) (text : List ℕ) (a b : Bool) → IsLeast (BadFeatures files) None
+    ensures { (files : Files) (choice : Selected) (file : ℕ) (text : List ℕ) (a b : Bool)
+        → IsLeast (BadFeatures files) None
         → Holds files choice file text a → Holds files choice file text b → a ≡ b }
 {
     yv_text_if_feature::laws::a_text_spells_one_if_feature();

@@ -51,7 +51,8 @@ pub(crate) fn both(first: bool, second: bool) -> bool
 impl<'r, 'a, 'b> FeatureNames<'r, 'a, 'b> {
     /// The statement of a number.
     pub fn entry(&self, number: usize) -> Option<&'r Entry<'a, 'b>>
-        ensures { option_map (λ e. row e.now) result ≡ slice_get (rows_in self.now.rows.now) number }
+        ensures { option_map (λ e. row e.now) result
+            ≡ slice_get (rows_in self.now.rows.now) number }
     {
         self.rows.entries().get(number)
     }
@@ -76,7 +77,8 @@ impl<'r, 'a, 'b> FeatureNames<'r, 'a, 'b> {
 
     /// Whether each name of a text means a feature.
     pub fn are_known(&self, file: usize, text: &'a str) -> bool
-        ensures { result ≡ list_all (is_known (means_in self.now) file) (names_among (tokens text.now)) }
+        ensures { result
+            ≡ list_all (is_known (means_in self.now) file) (names_among (tokens text.now)) }
     {
         let mut known = true;
         for word in Words::new(text) {
@@ -94,7 +96,9 @@ impl<'r, 'a, 'b> FeatureNames<'r, 'a, 'b> {
         file: usize,
         text: &'a str,
     ) -> Result<(), AllocError>
-        ensures { OnOk result (features.new.items ≡ features.old.items ++ meant_among (means_in self.now) file (tokens text.now)) }
+        ensures { OnOk result
+            (features.new.items ≡ features.old.items
+            ++ meant_among (means_in self.now) file (tokens text.now)) }
     {
         for word in Words::new(text) {
             if let Some(feature) = self.feature_of_word(file, word) {

@@ -23,8 +23,11 @@ impl<'a, 'b> FeatureNames<'_, 'a, 'b> {
 
     // The refusal of a statement, which leads to itself or doesn't.
     fn refusal(&self, entry: &Entry<'a, 'b>, is_cyclic: bool) -> Option<Refusal>
-        ensures { (number : ℕ) → (IsTrue is_cyclic ↔ LeadsTo (means_in self.now) (rows_in self.now.rows.now) number number)
-            → IsLeast (BadRow (means_in self.now) (rows_in self.now.rows.now) number (row entry.now)) result }
+        ensures { (number : ℕ)
+            → (IsTrue is_cyclic
+            ↔ LeadsTo (means_in self.now) (rows_in self.now.rows.now) number number)
+            → IsLeast
+            (BadRow (means_in self.now) (rows_in self.now.rows.now) number (row entry.now)) result }
     {
         let has_unknown = self.has_unknown(entry);
         let unknown = refusal_if(
@@ -40,8 +43,11 @@ impl<'a, 'b> FeatureNames<'_, 'a, 'b> {
     /// The first refusal, where those statements are marked that lead to themselves.
     pub fn first_refusal(&self, cyclic: &[bool]) -> Option<Refusal>
         requires each { length cyclic.now ≡ length (rows_in self.now.rows.now) }
-        requires cycles { (k : ℕ) → IsMarked cyclic.now k ↔ LeadsTo (means_in self.now) (rows_in self.now.rows.now) k k }
-        ensures { IsLeast (Among (rows_in self.now.rows.now) (BadRow (means_in self.now) (rows_in self.now.rows.now))
+        requires cycles { (k : ℕ) → IsMarked cyclic.now k
+            ↔ LeadsTo (means_in self.now) (rows_in self.now.rows.now) k k }
+        ensures { IsLeast
+            (Among (rows_in self.now.rows.now)
+            (BadRow (means_in self.now) (rows_in self.now.rows.now))
             (length (rows_in self.now.rows.now))) result }
     {
         let mut first = None;

@@ -24,7 +24,8 @@ fn is_feature(entry: &Entry<'_, '_>) -> bool
 impl<'a, 'b> FeatureNames<'_, 'a, 'b> {
     // Whether the feature of a statement is supported.
     fn has_support(&self, selection: &Selection, entry: &Entry<'a, 'b>) -> bool
-        ensures { result ≡ has_support (files_in self.now.rows.now) (selected_of selection.now) (row entry.now) }
+        ensures { result
+            ≡ has_support (files_in self.now.rows.now) (selected_of selection.now) (row entry.now) }
     {
         let module_file = self.module_name_in(entry);
         selection.is_supported(module_file, name_of(entry.statement))
@@ -32,7 +33,8 @@ impl<'a, 'b> FeatureNames<'_, 'a, 'b> {
 
     // The name of the module to which a statement's file belongs.
     fn module_name_in(&self, entry: &Entry<'a, 'b>) -> &'a str
-        ensures { result.now ≡ module_name_in (slice_get (files_in self.now.rows.now) (row entry.now).file) }
+        ensures { result.now
+            ≡ module_name_in (slice_get (files_in self.now.rows.now) (row entry.now).file) }
     {
         match self.rows.files().get(entry.file as usize) {
             Some(file) => file.module_file,
@@ -42,7 +44,8 @@ impl<'a, 'b> FeatureNames<'_, 'a, 'b> {
 
     // Whether the numbered condition holds, where these features are on.
     fn holds(&self, on: &[bool], number: usize) -> bool
-        ensures { IsTrue result ↔ IsTrueAt (means_in self.now) (rows_in self.now.rows.now) (from_marks on.now) number }
+        ensures { IsTrue result
+            ↔ IsTrueAt (means_in self.now) (rows_in self.now.rows.now) (from_marks on.now) number }
     {
         yv_text_if_feature::laws::a_text_spells_one_if_feature();
         match self.entry(number) {
@@ -53,7 +56,9 @@ impl<'a, 'b> FeatureNames<'_, 'a, 'b> {
 
     // Whether these conditions hold, where these features are on.
     fn all_hold(&self, on: &[bool], conditions: &[usize]) -> bool
-        ensures { IsTrue result ↔ AllTrue (means_in self.now) (rows_in self.now.rows.now) (from_marks on.now) conditions.now }
+        ensures { IsTrue result
+            ↔ AllTrue (means_in self.now) (rows_in self.now.rows.now) (from_marks on.now)
+            conditions.now }
     {
         for number in conditions {
             let holds = self.holds(on, *number);
@@ -68,8 +73,10 @@ impl<'a, 'b> FeatureNames<'_, 'a, 'b> {
     fn is_on(&self, selection: &Selection, lists: &[Vec<usize>], on: &[bool], number: usize) -> bool
         requires lists { AreLists (rows_in self.now.rows.now) lists.now }
         requires within { number < length (rows_in self.now.rows.now) }
-        ensures { (r : Row) → slice_get (rows_in self.now.rows.now) number ≡ Some r → is_feature r ≡ true
-            → IsTrue result ↔ ((has_support (files_in self.now.rows.now) (selected_of selection.now) r ≡ true)
+        ensures { (r : Row) → slice_get (rows_in self.now.rows.now) number ≡ Some r → is_feature r
+            ≡ true
+            → IsTrue result
+            ↔ ((has_support (files_in self.now.rows.now) (selected_of selection.now) r ≡ true)
             × AllHold (means_in self.now) (rows_in self.now.rows.now) (from_marks on.now) number) }
     {
         let entry = &self.rows.entries()[number];
@@ -91,8 +98,11 @@ impl<'a, 'b> FeatureNames<'_, 'a, 'b> {
     ) -> Result<Vec<bool>, AllocError>
         requires lists { AreLists (rows_in self.now.rows.now) lists.now }
         requires order { IsOrderOf (means_in self.now) (rows_in self.now.rows.now) order.now }
-        ensures { IfOk result (λ on. (k : ℕ) (r : Row) → slice_get (rows_in self.now.rows.now) k ≡ Some r → is_feature r ≡ true
-            → IsOn (means_in self.now) (files_in self.now.rows.now) (rows_in self.now.rows.now) (selected_of selection.now) (from_marks on.items) k r) }
+        ensures { IfOk result
+            (λ on. (k : ℕ) (r : Row) → slice_get (rows_in self.now.rows.now) k ≡ Some r
+            → is_feature r ≡ true
+            → IsOn (means_in self.now) (files_in self.now.rows.now) (rows_in self.now.rows.now)
+            (selected_of selection.now) (from_marks on.items) k r) }
     {
         yv_text_if_feature::laws::names_stand_in_order();
         let mut on = vec![in alloc; false; self.rows.entries().len()]?;

@@ -1,4 +1,5 @@
--- Inner definitions, which only private clauses and the tables cite: the identities by their places among the identities.
+-- Inner definitions, which only private clauses and the tables cite: the identities by their places
+-- among the identities.
 use Rattle.std.specs.Prelude.{ℕ, zero, suc, Bool, false, List, [], ◌∷◌, ◌++◌, length, Option, Some, None, if◌then◌else◌, slice_get, slice_index}
 use Rattle.std.specs.Option.{option_map, unwrap_or}
 use Rattle.yv_link_scopes.specs.Rows.{Row}

@@ -1,4 +1,5 @@
--- Inner definitions, which only private clauses and the tables cite: the graph of identities and bases.
+-- Inner definitions, which only private clauses and the tables cite: the graph of identities and
+-- bases.
 use Rattle.std.specs.Prelude.{◌≡◌, ◌↔◌, ℕ, ◌<◌, Bool, List, length, Option, None, if◌then◌else◌}
 use Rattle.std.specs.Option.{option_map, option_and_then}
 use Rattle.yv_link_scopes.specs.Files.{Briefs}

@@ -1,4 +1,5 @@
--- Identities, the names that mean them, and the bases that they name (RFC 7950, sections 7.18 and 6.2.1).
+-- Identities, the names that mean them, and the bases that they name (RFC 7950, sections 7.18 and
+-- 6.2.1).
 use Rattle.std.specs.Prelude.{◌≡◌, ℕ, Bool, true, List, Option, Some, codes, slice_get}
 use Rattle.std.specs.Option.{option_and_then}
 use Rattle.yv_link_scopes.specs.Names.{local_of}
@@ -14,8 +15,8 @@ is_identity r = has_word (word_of Identity) r.head
 abbrev pub is_base : Row → Bool
 is_base r = has_word (codes "base") r.head
 
--- the number of the identity that a name means in a file: the first of that name in the file's module, or in the module
--- that the prefix stands for
+-- the number of the identity that a name means in a file: the first of that name in the file's
+-- module, or in the module that the prefix stands for
 abbrev pub meaning_of : Briefs → List Row → ℕ → List ℕ → Option ℕ
 meaning_of files rows file name = option_and_then (λ block. first_of Identity rows block (local_of name)) (block_of files rows file name)
 

@@ -40,7 +40,8 @@ pub record IsDerived (files : Briefs) (rows : List Row) (identity base : Identit
 abbrev pub IsAscending : List ℕ → Type 0
 IsAscending numbers = (i j : ℕ) → i < j → j < length numbers → slice_index numbers i < slice_index numbers j
 
--- these are all identities that are derived from that of the reference, in the order of the statements
+-- these are all identities that are derived from that of the reference, in the order of the
+-- statements
 pub record AreDescendants (files : Briefs) (rows : List Row) (base : IdentityRef) (refs : List IdentityRef) : Type 0 where
   pub numbers : List ℕ
   pub ascending : IsAscending numbers

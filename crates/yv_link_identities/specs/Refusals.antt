@@ -12,7 +12,8 @@ use Rattle.yv_link_identities.specs.Derivation.{IsDerivedFrom}
 abbrev pub is_unknown : Briefs → List Row → Row → Bool
 is_unknown files rows r = is_base r && is_none (identity_meant files rows r)
 
--- what is wrong with the statement of number k: an identity may not be derived from itself (RFC 7950, section 7.18.2)
+-- what is wrong with the statement of number k: an identity may not be derived from itself (RFC
+-- 7950, section 7.18.2)
 abbrev pub BadRow : Briefs → List Row → ℕ → Row → Refusal → Type 0
 BadRow files rows k r f =
     Stands (is_unknown files rows r ≡ true) (refusal_at code.UnknownIdentity r.file r.head) f

@@ -20,12 +20,16 @@ use yv_base_graph::{Ranking, nodes_on_cycles, rank};
 use yv_link_scopes::Rows;
 use yv_statement::Stop;
 
-// The bases of all identities, and an order in which each stands behind its bases; or the least refusal.
+// The bases of all identities, and an order in which each stands behind its bases; or the least
+// refusal.
 fn read_hierarchy(alloc: Global, draft: &Draft<'_, '_, '_>) -> Result<Hierarchy, Stop>
-    ensures makes { IfOk result (λ h. AreBases (files_in draft.now.rows.now) (rows_in draft.now.rows.now) h.bases.items) }
-    ensures clear { OnOk result (IsLeast (BadIdentities (files_in draft.now.rows.now) (rows_in draft.now.rows.now)) None) }
+    ensures makes { IfOk result
+        (λ h. AreBases (files_in draft.now.rows.now) (rows_in draft.now.rows.now) h.bases.items) }
+    ensures clear { OnOk result
+        (IsLeast (BadIdentities (files_in draft.now.rows.now) (rows_in draft.now.rows.now)) None) }
     ensures refusal { (r : Refusal) → result ≡ Err (Fault r)
-        → IsLeast (BadIdentities (files_in draft.now.rows.now) (rows_in draft.now.rows.now)) (Some r) }
+        → IsLeast (BadIdentities (files_in draft.now.rows.now) (rows_in draft.now.rows.now))
+        (Some r) }
     ensures builds { result ≢ Err PatternBuild }
 {
     let bases = read_bases(alloc, draft)?;
@@ -45,12 +49,14 @@ fn read_hierarchy(alloc: Global, draft: &Draft<'_, '_, '_>) -> Result<Hierarchy,
     })
 }
 
-/// The identities of these statements, or the least refusal of a base whose name means nothing and of an identity
-/// that is derived from itself.
+/// The identities of these statements, or the least refusal of a base whose name means nothing and
+/// of an identity that is derived from itself.
 pub fn identities<'a, 'b>(alloc: Global, rows: &Rows<'a, 'b>) -> Result<Identities<'a>, Stop>
     ensures makes { IfOk result (AreIdentities (lent_in rows.now)) }
-    ensures clear { OnOk result (IsLeast (BadIdentities (files_in rows.now) (rows_in rows.now)) None) }
-    ensures refusal { (r : Refusal) → result ≡ Err (Fault r) → IsLeast (BadIdentities (files_in rows.now) (rows_in rows.now)) (Some r) }
+    ensures clear { OnOk result
+        (IsLeast (BadIdentities (files_in rows.now) (rows_in rows.now)) None) }
+    ensures refusal { (r : Refusal) → result ≡ Err (Fault r)
+        → IsLeast (BadIdentities (files_in rows.now) (rows_in rows.now)) (Some r) }
     ensures builds { result ≢ Err PatternBuild }
 {
     let draft = Draft::read(alloc, rows)?;

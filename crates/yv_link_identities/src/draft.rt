@@ -40,7 +40,9 @@ impl<'r, 'a, 'b> Draft<'r, 'a, 'b> {
 
     /// The number of the statement of the identity that a statement's name means.
     pub(crate) fn meaning(&self, entry: &Entry<'a, 'b>) -> Option<usize>
-        ensures { result ≡ identity_meant (files_in self.now.rows.now) (rows_in self.now.rows.now) (row entry.now) }
+        ensures { result
+            ≡ identity_meant (files_in self.now.rows.now) (rows_in self.now.rows.now)
+            (row entry.now) }
     {
         let name = name_of(entry.statement);
         let block = self.rows.block_of(entry.file as usize, name)?;

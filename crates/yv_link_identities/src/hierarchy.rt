@@ -39,8 +39,8 @@ fn add_ranks(
 }
 
 impl Hierarchy {
-    /// The identities that are derived from one. What is derived from an identity has a higher rank, so that
-    /// none comes back once the least rank is removed.
+    /// The identities that are derived from one. What is derived from an identity has a higher
+    /// rank, so that none comes back once the least rank is removed.
     pub(crate) fn below(&self, alloc: Global, base: usize) -> Result<BTreeSet<usize>, AllocError>
         requires { base < length self.now.bases.items }
         ensures { IfOk result (AreBelow self.now.bases.items base) }
@@ -56,12 +56,15 @@ impl Hierarchy {
         Ok(found)
     }
 
-    // The last of the identities that are reached while there is one base alone, which isn't the one sought.
+    // The last of the identities that are reached while there is one base alone, which isn't the
+    // one sought.
     fn stem(&self, from: usize, to: usize) -> usize
         requires { from < length self.now.bases.items }
         ensures within { result < length self.now.bases.items }
-        ensures ranks { slice_index self.now.ranks.items result ≤ slice_index self.now.ranks.items from }
-        ensures leads { LeadsTo self.now.bases.items from to ↔ LeadsTo self.now.bases.items result to }
+        ensures ranks { slice_index self.now.ranks.items result
+            ≤ slice_index self.now.ranks.items from }
+        ensures leads { LeadsTo self.now.bases.items from to
+            ↔ LeadsTo self.now.bases.items result to }
     {
         let mut node = from;
         while self.bases[node].len() == 1 {
@@ -74,8 +77,9 @@ impl Hierarchy {
         node
     }
 
-    /// Whether one identity leads to another by its bases. The calls nest to a depth of some thousand at most: so
-    /// many steps go from identities with several bases to these, and after them all ways are halved.
+    /// Whether one identity leads to another by its bases. The calls nest to a depth of some
+    /// thousand at most: so many steps go from identities with several bases to these, and after
+    /// them all ways are halved.
     #[cycle(ways)]
     pub(crate) fn leads(&self, from: usize, to: usize, steps: usize) -> bool
         requires from { from < length self.now.bases.items }
@@ -98,7 +102,8 @@ impl Hierarchy {
     fn leads_near(&self, from: usize, to: usize, steps: usize) -> bool
         requires from { from < length self.now.bases.items }
         requires to { to < length self.now.bases.items }
-        requires falls { slice_index self.now.ranks.items to < slice_index self.now.ranks.items from }
+        requires falls { slice_index self.now.ranks.items to
+            < slice_index self.now.ranks.items from }
         ensures { IsTrue result ↔ LeadsTo self.now.bases.items from to }
     {
         for base in &self.bases[from] {
@@ -115,7 +120,8 @@ impl Hierarchy {
     fn leads_far(&self, from: usize, to: usize) -> bool
         requires from { from < length self.now.bases.items }
         requires to { to < length self.now.bases.items }
-        requires falls { slice_index self.now.ranks.items to < slice_index self.now.ranks.items from }
+        requires falls { slice_index self.now.ranks.items to
+            < slice_index self.now.ranks.items from }
         ensures { IsTrue result ↔ LeadsTo self.now.bases.items from to }
     {
         let high = self.ranks[from];
@@ -136,7 +142,8 @@ impl Hierarchy {
         requires node { node < length self.now.bases.items }
         requires to { to < length self.now.bases.items }
         requires above { slice_index self.now.ranks.items to ≤ middle }
-        ensures { IsTrue result ↔ EntersBelow self.now.bases.items self.now.ranks.items middle node to }
+        ensures { IsTrue result
+            ↔ EntersBelow self.now.bases.items self.now.ranks.items middle node to }
     {
         for base in &self.bases[node] {
             let base = *base;

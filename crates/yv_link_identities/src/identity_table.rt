@@ -26,7 +26,8 @@ impl<'a> Identities<'a> {
 
     /// The identity that a name means in a file of the statements from which these identities are.
     pub fn identity(&self, rows: &Rows<'a, '_>, file: usize, name: &'a str) -> Option<IdentityRef>
-        ensures { AreIdentities (lent_in rows.now) self.now → result ≡ reference_of (files_in rows.now) (rows_in rows.now) file name.now }
+        ensures { AreIdentities (lent_in rows.now) self.now → result
+            ≡ reference_of (files_in rows.now) (rows_in rows.now) file name.now }
     {
         let block = rows.block_of(file, name)?;
         let number = self.names.get(block, local(name))?;
@@ -37,7 +38,8 @@ impl<'a> Identities<'a> {
     // The place among the identities of the one that a reference means.
     fn node(&self, identity: IdentityRef) -> Option<usize>
         ensures within { IfSome result (λ node. node < length self.now.hierarchy.bases.items) }
-        ensures means { (files : Files) → AreIdentities files self.now → option_map (number_at (rows_of files)) result ≡ number_of (rows_of files) identity }
+        ensures means { (files : Files) → AreIdentities files self.now
+            → option_map (number_at (rows_of files)) result ≡ number_of (rows_of files) identity }
     {
         let node = self.places.get(identity)?;
         if node < self.hierarchy.bases.len() {
@@ -49,11 +51,13 @@ impl<'a> Identities<'a> {
 
     /// Whether an identity is derived from another, in one step or more.
     ///
-    /// It allocates no memory and uses little stack. Where identities have one base each it takes one step for each base on
-    /// the way. Otherwise it may take one for each way to a base, and files can be made to have more ways than can be
-    /// counted: use `descendants` for files from strangers.
+    /// It allocates no memory and uses little stack. Where identities have one base each it takes
+    /// one step for each base on the way. Otherwise it may take one for each way to a base, and
+    /// files can be made to have more ways than can be counted: use `descendants` for files from
+    /// strangers.
     pub fn is_derived(&self, identity: IdentityRef, base: IdentityRef) -> bool
-        ensures { (files : Files) → AreIdentities files self.now → IsTrue result ↔ IsDerived (map brief_of files) (rows_of files) identity base }
+        ensures { (files : Files) → AreIdentities files self.now → IsTrue result
+            ↔ IsDerived (map brief_of files) (rows_of files) identity base }
     {
         let Some(from) = self.node(identity) else {
             return false;
@@ -64,14 +68,17 @@ impl<'a> Identities<'a> {
         self.hierarchy.leads(from, to, STEPS)
     }
 
-    /// All identities that are derived from one, in the order of the statements. Takes time n log n in these and in the
-    /// bases that they name among these and that one, and no more of all others than it takes to look that one up.
+    /// All identities that are derived from one, in the order of the statements. Takes time n log n
+    /// in these and in the bases that they name among these and that one, and no more of all others
+    /// than it takes to look that one up.
     pub fn descendants(
         &self,
         alloc: Global,
         base: IdentityRef,
     ) -> Result<Vec<IdentityRef>, AllocError>
-        ensures { IfOk result (λ found. (files : Files) → AreIdentities files self.now → AreDescendants (map brief_of files) (rows_of files) base found.items) }
+        ensures { IfOk result
+            (λ found. (files : Files) → AreIdentities files self.now
+            → AreDescendants (map brief_of files) (rows_of files) base found.items) }
     {
         let mut found = Vec::new(alloc);
         let Some(to) = self.node(base) else {

@@ -1,6 +1,6 @@
-//! Identities: what is wrong with them, which identity a name means, and which are derived from which. All
-//! takes time linear in statements, identities and bases except for ordered tables, and `derived`, which says
-//! what it costs.
+//! Identities: what is wrong with them, which identity a name means, and which are derived from
+//! which. All takes time linear in statements, identities and bases except for ordered tables, and
+//! `derived`, which says what it costs.
 #![tactic(auto)]
 
 mod build;

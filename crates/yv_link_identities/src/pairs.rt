@@ -10,7 +10,8 @@ use yv_link_scopes::Entry;
 
 // An identity and a base that a statement gives it.
 fn pair<'a, 'b>(draft: &Draft<'_, 'a, 'b>, entry: &Entry<'a, 'b>) -> Option<(usize, usize)>
-    ensures { result ≡ pair_of (files_in draft.now.rows.now) (rows_in draft.now.rows.now) (row entry.now) }
+    ensures { result
+        ≡ pair_of (files_in draft.now.rows.now) (rows_in draft.now.rows.now) (row entry.now) }
 {
     if !is_base(entry) {
         return None;
@@ -37,7 +38,8 @@ pub(crate) fn read_bases(
     alloc: Global,
     draft: &Draft<'_, '_, '_>,
 ) -> Result<Vec<Vec<usize>>, AllocError>
-    ensures { IfOk result (λ bases. AreBases (files_in draft.now.rows.now) (rows_in draft.now.rows.now) bases.items) }
+    ensures { IfOk result
+        (λ bases. AreBases (files_in draft.now.rows.now) (rows_in draft.now.rows.now) bases.items) }
 {
     let mut bases = no_bases(alloc, draft.numbers.identities.len())?;
     for entry in draft.rows.entries() {

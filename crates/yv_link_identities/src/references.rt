@@ -35,7 +35,9 @@ pub(crate) struct References {
 impl References {
     /// The places of these identities.
     pub(crate) fn read(alloc: Global, identities: &[IdentityRef]) -> Result<References, AllocError>
-        ensures { IfOk result (λ places. (f o : ℕ) → placed_in places f o ≡ first_where (is_at (record { file = f; offset = o })) identities.now) }
+        ensures { IfOk result
+            (λ places. (f o : ℕ) → placed_in places f o
+            ≡ first_where (is_at (record { file = f; offset = o })) identities.now) }
     {
         let mut places = References {
             map: BTreeMap::new(alloc),
@@ -55,7 +57,9 @@ impl References {
 
     // Puts a number at a place, where there is none yet.
     fn keep(&mut self, identity: IdentityRef, node: usize) -> Result<(), AllocError>
-        ensures { OnOk result ((f o : ℕ) → placed_in self.new f o ≡ keep_first (placed_in self.old) identity node f o) }
+        ensures { OnOk result
+            ((f o : ℕ) → placed_in self.new f o
+            ≡ keep_first (placed_in self.old) identity node f o) }
     {
         if self.get(identity).is_none() {
             self.map.insert((identity.file, identity.offset), node)?;

@@ -13,7 +13,8 @@ use yv_statement::{Code, Refusal, lesser, refusal_if};
 
 // Whether a base's name means nothing.
 fn is_unknown<'a, 'b>(draft: &Draft<'_, 'a, 'b>, entry: &Entry<'a, 'b>) -> bool
-    ensures { result ≡ is_unknown (files_in draft.now.rows.now) (rows_in draft.now.rows.now) (row entry.now) }
+    ensures { result
+        ≡ is_unknown (files_in draft.now.rows.now) (rows_in draft.now.rows.now) (row entry.now) }
 {
     is_base(entry) && draft.meaning(entry).is_none()
 }
@@ -27,8 +28,10 @@ fn is_marked(marks: &[bool], number: usize) -> bool
 
 // Whether a statement is an identity that is marked.
 fn is_on_cycle(draft: &Draft<'_, '_, '_>, cycles: &[bool], number: usize) -> bool
-    requires { AreIdentityCycles (files_in draft.now.rows.now) (rows_in draft.now.rows.now) cycles.now }
-    ensures { IsTrue result ↔ IsDerivedFrom (files_in draft.now.rows.now) (rows_in draft.now.rows.now) number number }
+    requires { AreIdentityCycles (files_in draft.now.rows.now) (rows_in draft.now.rows.now)
+        cycles.now }
+    ensures { IsTrue result
+        ↔ IsDerivedFrom (files_in draft.now.rows.now) (rows_in draft.now.rows.now) number number }
 {
     match draft.numbers.node(number) {
         Some(node) => is_marked(cycles, node),
@@ -43,8 +46,11 @@ fn row_refusal<'a, 'b>(
     number: usize,
     entry: &Entry<'a, 'b>,
 ) -> Option<Refusal>
-    requires { AreIdentityCycles (files_in draft.now.rows.now) (rows_in draft.now.rows.now) cycles.now }
-    ensures { IsLeast (BadRow (files_in draft.now.rows.now) (rows_in draft.now.rows.now) number (row entry.now)) result }
+    requires { AreIdentityCycles (files_in draft.now.rows.now) (rows_in draft.now.rows.now)
+        cycles.now }
+    ensures { IsLeast
+        (BadRow (files_in draft.now.rows.now) (rows_in draft.now.rows.now) number (row entry.now))
+        result }
 {
     let unknown = is_unknown(draft, entry);
     let cyclic = is_on_cycle(draft, cycles, number);
@@ -55,8 +61,10 @@ fn row_refusal<'a, 'b>(
 
 /// The least that is wrong, those identities being marked that are derived from themselves.
 pub(crate) fn first_refusal(draft: &Draft<'_, '_, '_>, cycles: &[bool]) -> Option<Refusal>
-    requires { AreIdentityCycles (files_in draft.now.rows.now) (rows_in draft.now.rows.now) cycles.now }
-    ensures { IsLeast (BadIdentities (files_in draft.now.rows.now) (rows_in draft.now.rows.now)) result }
+    requires { AreIdentityCycles (files_in draft.now.rows.now) (rows_in draft.now.rows.now)
+        cycles.now }
+    ensures { IsLeast (BadIdentities (files_in draft.now.rows.now) (rows_in draft.now.rows.now))
+        result }
 {
     let mut least = None;
     for (number, entry) in draft.rows.entries().iter().enumerate() {

@@ -32,7 +32,8 @@ abbrev pub dated_file : Briefs → List Row → ℕ → Option ℕ
 dated_file files rows number =
     option_and_then (λ (p : Row). if takes_date p.head then file_named files (name_in p) else None) (slice_get rows number)
 
--- a revision-date that isn't the greatest date of the file which the import or include round it names
+-- a revision-date that isn't the greatest date of the file which the import or include round it
+-- names
 abbrev pub IsOtherDate : Briefs → List Row → Row → Type 0
 IsOtherDate files rows r =
     (has_word (codes "revision-date") r.head ≡ true)

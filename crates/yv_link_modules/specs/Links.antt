@@ -1,4 +1,5 @@
--- Imports, includes and belongs-tos, and the files that they name (RFC 7950, sections 5.1, 7.1.5, 7.1.6 and 7.2.2).
+-- Imports, includes and belongs-tos, and the files that they name (RFC 7950, sections 5.1, 7.1.5,
+-- 7.1.6 and 7.2.2).
 use Rattle.std.specs.Prelude.{ℕ, ◌==◌, ◌&&◌, ◌||◌, not, Bool, false, is_none, List, Option, Some, None, if◌then◌else◌, codes, slice_get}
 use Rattle.std.specs.Option.{option_and_then}
 use Rattle.std.specs.Str.{bytes_eq}
@@ -15,7 +16,8 @@ is_link h = has_word (codes "import") h || (has_word (codes "include") h || has_
 abbrev pub is_missing : Briefs → Row → Bool
 is_missing files r = is_link r.head && is_none (file_named files (name_in r))
 
--- an include has to name a submodule of the including file's module, an import and a belongs-to a module
+-- an include has to name a submodule of the including file's module, an import and a belongs-to a
+-- module
 abbrev pub is_wrong : Head → List ℕ → Brief → Bool
 is_wrong h own f =
     if has_word (codes "include") h then (f.is_module || not (bytes_eq f.module_file own)) else (is_link h && not f.is_module)

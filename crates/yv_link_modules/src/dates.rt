@@ -28,7 +28,8 @@ fn later<'a>(first: Option<&'a str>, second: &'a str) -> &'a str
 fn keep_date<'a>(dates: &mut Vec<Option<&'a str>>, file: usize, date: &'a str)
     requires { file < length dates.old.items }
     ensures each { length dates.new.items ≡ length dates.old.items }
-    ensures keeps { date_at dates.new.items file ≡ Some (later (date_at dates.old.items file) date.now) }
+    ensures keeps { date_at dates.new.items file
+        ≡ Some (later (date_at dates.old.items file) date.now) }
     ensures others { (n : ℕ) → n ≢ file → date_at dates.new.items n ≡ date_at dates.old.items n }
 {
     let best = later(dates[file], date);
@@ -47,7 +48,8 @@ pub(crate) fn greatest_dates<'a>(
     alloc: Global,
     rows: &Rows<'a, '_>,
 ) -> Result<Vec<Option<&'a str>>, AllocError>
-    ensures { IfOk result (λ dates. AreGreatest (length (files_in rows.now)) (rows_in rows.now) dates.items) }
+    ensures { IfOk result
+        (λ dates. AreGreatest (length (files_in rows.now)) (rows_in rows.now) dates.items) }
 {
     roots_come_first();
     let mut dates = Vec::new(alloc);
@@ -93,14 +95,15 @@ fn is_date(dates: &[Option<&str>], file: usize, date: &str) -> bool
     }
 }
 
-/// Whether a statement is a revision-date that isn't the revision of the file which the import or include
-/// round it names, by the dates of the files.
+/// Whether a statement is a revision-date that isn't the revision of the file which the import or
+/// include round it names, by the dates of the files.
 pub(crate) fn is_other_date(
     rows: &Rows<'_, '_>,
     dates: &[Option<&str>],
     entry: &Entry<'_, '_>,
 ) -> bool
-    ensures { result ≡ is_other_date (files_in rows.now) (rows_in rows.now) dates.now (row entry.now) }
+    ensures { result
+        ≡ is_other_date (files_in rows.now) (rows_in rows.now) dates.now (row entry.now) }
 {
     if entry.statement.keyword() != "revision-date" {
         return false;

@@ -36,8 +36,11 @@ struct Tables<'r, 'a, 'b> {
 impl<'r, 'a, 'b> Tables<'r, 'a, 'b> {
     fn read(alloc: Global, rows: &'r Rows<'a, 'b>) -> Result<Tables<'r, 'a, 'b>, AllocError>
         ensures rows { IfOk result (λ tables. tables.rows.now ≡ rows.now) }
-        ensures dates { IfOk result (λ tables. AreGreatest (length (files_in rows.now)) (rows_in rows.now) tables.dates.items) }
-        ensures leads { IfOk result (λ tables. AreLeads (files_in rows.now) (rows_in rows.now) tables.leads.items) }
+        ensures dates { IfOk result
+            (λ tables. AreGreatest (length (files_in rows.now)) (rows_in rows.now)
+            tables.dates.items) }
+        ensures leads { IfOk result
+            (λ tables. AreLeads (files_in rows.now) (rows_in rows.now) tables.leads.items) }
     {
         let prefixes = first_places(alloc, NameKind::Prefix, rows)?;
         let includes = first_places(alloc, NameKind::Include, rows)?;
@@ -54,7 +57,9 @@ impl<'r, 'a, 'b> Tables<'r, 'a, 'b> {
 
     // What is wrong with a file.
     fn file_refusal(&self, number: u32, file: &File<'a, 'b>) -> Option<Refusal>
-        ensures { IsLeast (BadFile (files_in self.now.rows.now) (rows_in self.now.rows.now) number (brief file.now)) result }
+        ensures { IsLeast
+            (BadFile (files_in self.now.rows.now) (rows_in self.now.rows.now) number
+            (brief file.now)) result }
     {
         let place = self.rows.file_named(file.name);
         let first = is_at(number as usize, place);
@@ -66,9 +71,13 @@ impl<'r, 'a, 'b> Tables<'r, 'a, 'b> {
 
     // What is wrong with a statement.
     fn row_refusal(&self, number: usize, entry: &Entry<'a, 'b>) -> Option<Refusal>
-        requires dates { AreGreatest (length (files_in self.now.rows.now)) (rows_in self.now.rows.now) self.now.dates.items }
-        requires leads { AreLeads (files_in self.now.rows.now) (rows_in self.now.rows.now) self.now.leads.items }
-        ensures { IsLeast (BadRow (files_in self.now.rows.now) (rows_in self.now.rows.now) number (row entry.now)) result }
+        requires dates { AreGreatest (length (files_in self.now.rows.now))
+            (rows_in self.now.rows.now) self.now.dates.items }
+        requires leads { AreLeads (files_in self.now.rows.now) (rows_in self.now.rows.now)
+            self.now.leads.items }
+        ensures { IsLeast
+            (BadRow (files_in self.now.rows.now) (rows_in self.now.rows.now) number (row entry.now))
+            result }
     {
         modules_are_files();
         let missing = is_missing(self.rows, entry);
@@ -89,7 +98,8 @@ impl<'r, 'a, 'b> Tables<'r, 'a, 'b> {
 
     // The least that is wrong with a file.
     fn first_file(&self) -> Option<Refusal>
-        ensures { IsLeast (BadFiles (files_in self.now.rows.now) (rows_in self.now.rows.now)) result }
+        ensures { IsLeast (BadFiles (files_in self.now.rows.now) (rows_in self.now.rows.now))
+            result }
     {
         let mut least = None;
         for (number, file) in self.rows.files().iter().enumerate() {
@@ -101,9 +111,12 @@ impl<'r, 'a, 'b> Tables<'r, 'a, 'b> {
 
     // The least that is wrong with a statement.
     fn first_row(&self) -> Option<Refusal>
-        requires dates { AreGreatest (length (files_in self.now.rows.now)) (rows_in self.now.rows.now) self.now.dates.items }
-        requires leads { AreLeads (files_in self.now.rows.now) (rows_in self.now.rows.now) self.now.leads.items }
-        ensures { IsLeast (BadRows (files_in self.now.rows.now) (rows_in self.now.rows.now)) result }
+        requires dates { AreGreatest (length (files_in self.now.rows.now))
+            (rows_in self.now.rows.now) self.now.dates.items }
+        requires leads { AreLeads (files_in self.now.rows.now) (rows_in self.now.rows.now)
+            self.now.leads.items }
+        ensures { IsLeast (BadRows (files_in self.now.rows.now) (rows_in self.now.rows.now))
+            result }
     {
         let mut least = None;
         for (number, entry) in self.rows.entries().iter().enumerate() {
@@ -114,9 +127,9 @@ impl<'r, 'a, 'b> Tables<'r, 'a, 'b> {
     }
 }
 
-/// The least refusal of a module given twice, a file that isn't given, a revision that isn't there, cyclic
-/// imports, a prefix that isn't declared or is declared twice, or a submodule that isn't included or is
-/// named where it may not be.
+/// The least refusal of a module given twice, a file that isn't given, a revision that isn't there,
+/// cyclic imports, a prefix that isn't declared or is declared twice, or a submodule that isn't
+/// included or is named where it may not be.
 pub fn first_bad(alloc: Global, rows: &Rows<'_, '_>) -> Result<Option<Refusal>, AllocError>
     ensures { IfOk result (IsLeast (BadModules (files_in rows.now) (rows_in rows.now))) }
 {

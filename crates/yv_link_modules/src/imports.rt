@@ -38,7 +38,9 @@ fn add_edge(graph: &mut Vec<Vec<usize>>, from: usize, to: usize) -> Result<(), A
 
 // For each file, if it is a module, the modules which it or a submodule of it imports.
 fn import_graph(alloc: Global, rows: &Rows<'_, '_>) -> Result<Vec<Vec<usize>>, AllocError>
-    ensures { IfOk result (λ graph. AreImports (files_in rows.now) (rows_in rows.now) (length (rows_in rows.now)) graph.items) }
+    ensures { IfOk result
+        (λ graph. AreImports (files_in rows.now) (rows_in rows.now) (length (rows_in rows.now))
+        graph.items) }
 {
     roots_come_first();
     modules_are_files();

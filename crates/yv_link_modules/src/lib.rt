@@ -1,5 +1,5 @@
-//! What is wrong with modules as a whole: names given twice, files that aren't there, revisions, cyclic
-//! imports, prefixes, and submodules.
+//! What is wrong with modules as a whole: names given twice, files that aren't there, revisions,
+//! cyclic imports, prefixes, and submodules.
 #![tactic(auto)]
 
 mod dates;

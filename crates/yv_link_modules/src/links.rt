@@ -67,7 +67,8 @@ pub(crate) fn is_not_included<'a>(
     includes: &NamePlaces<'a>,
     file: &File<'a, '_>,
 ) -> bool
-    ensures { result ≡ is_not_included (files_in rows.now) (table_of includes.now) (brief file.now) }
+    ensures { result
+        ≡ is_not_included (files_in rows.now) (table_of includes.now) (brief file.now) }
 {
     if file.is_module {
         return false;

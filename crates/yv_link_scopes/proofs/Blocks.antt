@@ -68,7 +68,8 @@ module _ (files : Files) where
   abbrev Stands : Row → Tree → Type 0
   Stands r t = StandsAtTop files r t ⊎ StandsBelow files r t
 
-  -- what stands in a block, where the number of the block is right, and all sits where it is numbered
+  -- what stands in a block, where the number of the block is right, and all sits where it is
+  -- numbered
   abbrev AreRight : ℕ → ℕ → ℕ → Forest → Type 0
   AreRight file scope number f =
       ((i : ℕ) (t : Tree) (h : Head) → slice_get (trees f) i ≡ Some t → Stands (record { file = file; scope = scope; head = h }) t)

@@ -14,7 +14,8 @@ abbrev pub StandsAtTop : Files → Row → Tree → Type 0
 StandsAtTop files r t =
     (root : Tree) × (slice_get files r.file ≡ Some root) × IsIn root t × (r.scope ≡ module_file_at (map brief_of files) r.file)
 
--- it stands in the block of a statement of its file that is no root, and that has the number of its names' block
+-- it stands in the block of a statement of its file that is no root, and that has the number of its
+-- names' block
 abbrev pub StandsBelow : Files → Row → Tree → Type 0
 StandsBelow files r t =
     (q : Row) × (s : Tree) × (slice_get (rows_of files) r.scope ≡ Some q) × (slice_get (statements_of files) r.scope ≡ Some s)

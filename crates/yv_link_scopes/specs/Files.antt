@@ -11,7 +11,8 @@ use Rattle.yv_link_scopes.specs.declared.files.File.{File}
 abbrev pub Files : Type 0
 Files = List Tree
 
--- a file: its name, the name of the module to which it belongs, whether it is a module, and its root
+-- a file: its name, the name of the module to which it belongs, whether it is a module, and its
+-- root
 pub record Brief : Type 0 where
   pub name : List ℕ
   pub module_file : List ℕ

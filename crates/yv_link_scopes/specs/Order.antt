@@ -3,7 +3,8 @@ use Rattle.std.specs.Prelude.{◌≡◌, ℕ, ◌+◌, ◌≤◌, ◌<◌, ◌++
 use Rattle.yv_statement.specs.Tree.{Forest, End, Then, Tree}
 use Rattle.yv_link_scopes.specs.Rows.{Row}
 
--- the offsets of statements, each before those of its block, and these before the statements behind it
+-- the offsets of statements, each before those of its block, and these before the statements behind
+-- it
 abbrev pub offsets : Forest → List ℕ
 offsets End = []
 offsets (Then h c o) = h.offset ∷ (offsets c ++ offsets o)

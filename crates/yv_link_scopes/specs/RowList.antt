@@ -9,8 +9,8 @@ abbrev pub roots_from : ℕ → Files → List Row
 roots_from n [] = []
 roots_from n (t ∷ ts) = record { file = n; scope = n; head = t.head } ∷ roots_from (n + 1) ts
 
--- what stands in a file's root: the names at its top stand in the block of its module's root, so that a module and its
--- submodules see one another's definitions (RFC 7950, section 5.1)
+-- what stands in a file's root: the names at its top stand in the block of its module's root, so
+-- that a module and its submodules see one another's definitions (RFC 7950, section 5.1)
 abbrev pub body_of : Briefs → ℕ → ℕ → Tree → List Row
 body_of files number n t = row_list n (module_file_in files n (Some (brief_of t))) number t.children
 
@@ -18,7 +18,8 @@ abbrev pub bodies : Briefs → ℕ → ℕ → Files → List Row
 bodies files number n [] = []
 bodies files number n (t ∷ ts) = body_of files number n t ++ bodies files (number + length (body_of files number n t)) (n + 1) ts
 
--- the roots by file, so that a root has its file's number, and then the other statements by file and offset
+-- the roots by file, so that a root has its file's number, and then the other statements by file
+-- and offset
 abbrev pub rows_of : Files → List Row
 rows_of files = roots_from 0 files ++ bodies (map brief_of files) (length files) 0 files
 

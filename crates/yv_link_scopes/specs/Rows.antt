@@ -24,8 +24,9 @@ name_in r = name_of r.head
 abbrev pub is_extended : List ℕ → Bool
 is_extended keyword = list_any (λ byte. byte == 58) keyword
 
--- The statements of a block in order, each followed by those of its own block, the first having this number.
--- A block has the number of its statement. Nothing inside an extension's statement is listed.
+-- The statements of a block in order, each followed by those of its own block, the first having
+-- this number. A block has the number of its statement. Nothing inside an extension's statement is
+-- listed.
 abbrev pub row_list : (file scope number : ℕ) → Forest → List Row
 row_list file scope number End = []
 row_list file scope number (Then h c o) =

@@ -35,8 +35,8 @@ Means kind rows block name d = IsFirst (IsVisible kind rows block name) d
 abbrev pub AreNested : List Row → Type 0
 AreNested rows = (i : ℕ) (r : Row) → slice_get rows i ≡ Some r → r.scope ≤ i
 
--- the file of the module that a prefix stands for in a file: the module is named by the statement in whose block the prefix
--- is declared, the module's root, an import or a belongs-to
+-- the file of the module that a prefix stands for in a file: the module is named by the statement
+-- in whose block the prefix is declared, the module's root, an import or a belongs-to
 abbrev pub module_of : Briefs → List Row → ℕ → List ℕ → Option ℕ
 module_of files rows file prefix =
     option_and_then
@@ -47,8 +47,8 @@ abbrev pub block_of_prefix : Briefs → List Row → ℕ → Option (List ℕ) �
 block_of_prefix files rows file None = Some (module_file_at files file)
 block_of_prefix files rows file (Some prefix) = module_of files rows file prefix
 
--- the root in whose block a feature or an identity is looked up by its name: that of the file's module, or of the module
--- that the prefix stands for
+-- the root in whose block a feature or an identity is looked up by its name: that of the file's
+-- module, or of the module that the prefix stands for
 abbrev pub block_of : Briefs → List Row → ℕ → List ℕ → Option ℕ
 block_of files rows file name = block_of_prefix files rows file (prefix_of name)
 
@@ -60,8 +60,8 @@ abbrev pub start_of_prefix : Briefs → List Row → Row → Option (List ℕ) �
 start_of_prefix files rows r None = Some r.scope
 start_of_prefix files rows r (Some prefix) = start_at (module_file_at files r.file) r.scope (module_of files rows r.file prefix)
 
--- the block in which the name of a typedef or of a grouping is looked up: the statement's own without a prefix, or with
--- that of the file's module, else the other module's root
+-- the block in which the name of a typedef or of a grouping is looked up: the statement's own
+-- without a prefix, or with that of the file's module, else the other module's root
 abbrev pub start_of : Briefs → List Row → ℕ → List ℕ → Option ℕ
 start_of files rows number name = option_and_then (λ r. start_of_prefix files rows r (prefix_of name)) (slice_get rows number)
 

@@ -34,7 +34,8 @@ fn add<'a, 'b>(
     statement: &'a Statement<'b>,
 ) -> Result<(), AllocError>
     ensures rows { OnOk result (map row entries.new.items ≡ map row entries.old.items
-        ++ row_list file scope (length entries.old.items) (Then statement.now.head statement.now.children End)) }
+        ++ row_list file scope (length entries.old.items)
+        (Then statement.now.head statement.now.children End)) }
     ensures trees { OnOk result (map tree entries.new.items ≡ map tree entries.old.items
         ++ statements_in (Then statement.now.head statement.now.children End)) }
 {
@@ -80,7 +81,8 @@ pub(crate) fn read_entries<'a, 'b>(
 ) -> Result<Vec<Entry<'a, 'b>>, AllocError>
     requires few { length roots.now ≤ 4294967296 }
     requires files { map brief files.now ≡ map brief_of roots.now }
-    requires names { (name : List ℕ) → table_of names.now 0 name ≡ file_named (map brief files.now) name }
+    requires names { (name : List ℕ) → table_of names.now 0 name
+        ≡ file_named (map brief files.now) name }
     ensures rows { IfOk result (λ entries. map row entries.items ≡ rows_of roots.now) }
     ensures trees { IfOk result (λ entries. map tree entries.items ≡ statements_of roots.now) }
 {

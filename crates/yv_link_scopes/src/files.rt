@@ -64,7 +64,9 @@ pub(crate) fn file_places<'a>(
     alloc: Global,
     files: &[File<'a, '_>],
 ) -> Result<NamePlaces<'a>, AllocError>
-    ensures { IfOk result (λ places. (name : List ℕ) → table_of places 0 name ≡ file_named (map brief files.now) name) }
+    ensures { IfOk result
+        (λ places. (name : List ℕ) → table_of places 0 name
+        ≡ file_named (map brief files.now) name) }
 {
     let mut places = NamePlaces::new(alloc);
     for (number, file) in files.iter().enumerate() {
@@ -73,7 +75,8 @@ pub(crate) fn file_places<'a>(
     Ok(places)
 }
 
-/// The number of the file of the module to which a file belongs, its own where that module isn't there.
+/// The number of the file of the module to which a file belongs, its own where that module isn't
+/// there.
 pub(crate) fn module_file<'a>(
     files: &[File<'a, '_>],
     names: &NamePlaces<'a>,

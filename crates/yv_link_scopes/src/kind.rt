@@ -63,7 +63,9 @@ pub(crate) fn first_entries<'a>(
     kind: NameKind,
     entries: &[Entry<'a, '_>],
 ) -> Result<NamePlaces<'a>, AllocError>
-    ensures { IfOk result (λ places. (s : ℕ) (n : List ℕ) → table_of places s n ≡ first_of kind (map row entries.now) s n) }
+    ensures { IfOk result
+        (λ places. (s : ℕ) (n : List ℕ) → table_of places s n
+        ≡ first_of kind (map row entries.now) s n) }
 {
     let mut places = NamePlaces::new(alloc);
     for (number, entry) in entries.iter().enumerate() {
@@ -76,7 +78,8 @@ pub(crate) fn first_entries<'a>(
     Ok(places)
 }
 
-/// The first statement of a kind with each name, in its block, or for prefixes and includes in its file.
+/// The first statement of a kind with each name, in its block, or for prefixes and includes in its
+/// file.
 pub fn first_places<'a>(
     alloc: Global,
     kind: NameKind,

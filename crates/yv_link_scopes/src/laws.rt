@@ -11,7 +11,8 @@ ghost use Rattle.yv_link_scopes.specs.Scopes.{AreNested, MeansIn, module_of};
 
 /// The name of a typedef or of a grouping means one thing in a statement.
 pub fn a_name_means_one_thing()
-    ensures { (files : Briefs) (rows : List Row) (kind : NameKind) (number : ℕ) (name : List ℕ) (d e : Option ℕ)
+    ensures { (files : Briefs) (rows : List Row) (kind : NameKind) (number : ℕ) (name : List ℕ)
+        (d e : Option ℕ)
         → MeansIn files rows kind number name d → MeansIn files rows kind number name e → d ≡ e }
 {}
 
@@ -31,23 +32,28 @@ pub fn roots_come_first()
     ensures count { (files : Files) → length files ≤ length (rows_of files) }
     ensures roots { (files : Files) (n : ℕ) (t : Tree) → slice_get files n ≡ Some t
         → slice_get (rows_of files) n ≡ Some (record { file = n; scope = n; head = t.head }) }
-    ensures files { (files : Files) (number : ℕ) (r : Row) → slice_get (rows_of files) number ≡ Some r → r.file < length files }
+    ensures files { (files : Files) (number : ℕ) (r : Row) → slice_get (rows_of files) number
+        ≡ Some r → r.file < length files }
 {}
 
 /// What is found by a name or a prefix is one of the files.
 pub fn modules_are_files()
-    ensures names { (files : Briefs) (name : List ℕ) (m : ℕ) → file_named files name ≡ Some m → m < length files }
+    ensures names { (files : Briefs) (name : List ℕ) (m : ℕ) → file_named files name ≡ Some m → m
+        < length files }
     ensures prefixes { (files : Briefs) (rows : List Row) (file : ℕ) (prefix : List ℕ) (m : ℕ)
         → module_of files rows file prefix ≡ Some m → m < length files }
-    ensures module_files { (files : Briefs) (n : ℕ) → n < length files → module_file_at files n < length files }
+    ensures module_files { (files : Briefs) (n : ℕ) → n < length files → module_file_at files n
+        < length files }
 {}
 
 /// The statement of a number has the head of the row of that number.
 pub fn statements_have_their_rows()
-    ensures { (files : Files) → map (λ t. t.head) (statements_of files) ≡ map (λ r. r.head) (rows_of files) }
+    ensures { (files : Files) → map (λ t. t.head) (statements_of files)
+        ≡ map (λ r. r.head) (rows_of files) }
 {}
 
-/// The statement at the number of a statement's block is the one round it; at the top of a file it is the module_file's root.
+/// The statement at the number of a statement's block is the one round it; at the top of a file it
+/// is the module_file's root.
 pub fn statements_stand_in_their_blocks()
     ensures { (files : Files) (number : ℕ) → length files ≤ number → StandsIn files number }
 {}

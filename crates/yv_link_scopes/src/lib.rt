@@ -1,7 +1,9 @@
-//! The statements of many YANG files as one numbered list, and what the names and prefixes in them mean.
+//! The statements of many YANG files as one numbered list, and what the names and prefixes in them
+//! mean.
 //!
-//! A block has the number of its statement, a file's root has the file's number, and a name at the top of
-//! a submodule is in the block of its module. What is inside an extension's statement isn't listed.
+//! A block has the number of its statement, a file's root has the file's number, and a name at the
+//! top of a submodule is in the block of its module. What is inside an extension's statement isn't
+//! listed.
 #![tactic(auto)]
 
 mod entries;

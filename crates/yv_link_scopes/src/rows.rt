@@ -17,7 +17,8 @@ use crate::scopes::meaning_at;
 use std::alloc::{AllocError, Global};
 use yv_statement::Statement;
 
-// Each statement has a number of 32 bits, and three such numbers are left over, since other crates need some that no statement has.
+// Each statement has a number of 32 bits, and three such numbers are left over, since other crates
+// need some that no statement has.
 const MOST_STATEMENTS: usize = 4_294_967_293;
 
 /// The statements of files as one numbered list.
@@ -41,7 +42,8 @@ impl<'a, 'b> Rows<'a, 'b> {
     ghost use Rattle.yv_link_scopes.specs.Views.{lent_in, files_in, rows_in, trees_in};
     ghost use Rattle.yv_link_scopes.specs.Scopes.{Means, MeansIn, block_of, module_of, start_of};
 
-    /// The statements of files that have these roots. Err if memory runs out, and where there are more than 2^32 - 3 statements.
+    /// The statements of files that have these roots. Err if memory runs out, and where there are
+    /// more than 2^32 - 3 statements.
     pub fn read(alloc: Global, roots: &'a [Statement<'b>]) -> Result<Rows<'a, 'b>, AllocError>
         ensures lends { IfOk result (λ rows. lent_in rows ≡ roots.now) }
         ensures files { IfOk result (λ rows. files_in rows ≡ map brief_of roots.now) }
@@ -67,7 +69,8 @@ impl<'a, 'b> Rows<'a, 'b> {
         })
     }
 
-    /// How many statements there are, without those inside extensions' statements: never more than 2^32 - 3.
+    /// How many statements there are, without those inside extensions' statements: never more than
+    /// 2^32 - 3.
     pub fn len(&self) -> usize
         ensures count { result ≡ length (rows_in self.now) }
         ensures few { length (rows_in self.now) ≤ 4294967293 }
@@ -111,7 +114,8 @@ impl<'a, 'b> Rows<'a, 'b> {
         self.names.get(0, name)
     }
 
-    /// The number of the file of the module to which a file belongs, its own where that module isn't there.
+    /// The number of the file of the module to which a file belongs, its own where that module
+    /// isn't there.
     pub fn module_file(&self, file: usize) -> usize
         ensures { result ≡ module_file_at (files_in self.now) file }
     {
@@ -152,8 +156,8 @@ impl<'a, 'b> Rows<'a, 'b> {
         Some(if module == own { entry.scope } else { module })
     }
 
-    /// The number of the first statement that has a name in a block or in one that encloses it, the places being those
-    /// of the statements of a kind (RFC 7950, section 5.5).
+    /// The number of the first statement that has a name in a block or in one that encloses it, the
+    /// places being those of the statements of a kind (RFC 7950, section 5.5).
     pub fn meaning_in(&self, places: &NamePlaces<'a>, block: usize, name: &'a str) -> Option<usize>
         ensures { (kind : NameKind) → table_of places.now ≡ first_of kind (rows_in self.now)
             → Means kind (rows_in self.now) block name.now result }
@@ -161,8 +165,8 @@ impl<'a, 'b> Rows<'a, 'b> {
         meaning_at(places, &self.entries, block, name)
     }
 
-    /// The number of the definition that the name of a typedef or of a grouping means in a numbered statement,
-    /// the places being those of that kind.
+    /// The number of the definition that the name of a typedef or of a grouping means in a numbered
+    /// statement, the places being those of that kind.
     pub fn meaning(&self, places: &NamePlaces<'a>, number: usize, name: &'a str) -> Option<usize>
         ensures { (kind : NameKind) → table_of places.now ≡ first_of kind (rows_in self.now)
             → MeansIn (files_in self.now) (rows_in self.now) kind number name.now result }

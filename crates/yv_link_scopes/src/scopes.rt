@@ -22,7 +22,8 @@ fn lesser(first: Option<usize>, second: Option<usize>) -> Option<usize>
     Some(if b < a { b } else { a })
 }
 
-/// The number of the first statement with a name in a block or in those around it, the places being those of a kind.
+/// The number of the first statement with a name in a block or in those around it, the places being
+/// those of a kind.
 pub(crate) fn meaning_at<'a>(
     places: &NamePlaces<'a>,
     entries: &[Entry<'a, '_>],

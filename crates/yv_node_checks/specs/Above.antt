@@ -25,7 +25,8 @@ is_nested _ = false
 abbrev pub is_keyless : Label → Bool
 is_keyless l = is_list l.defined.kind && is_empty l.defined.keys
 
--- an `if-feature` statement stands at a node: the texts of these statements are kept (RFC 7950, section 7.20.2)
+-- an `if-feature` statement stands at a node: the texts of these statements are kept (RFC 7950,
+-- section 7.20.2)
 abbrev pub has_if_feature : Label → Bool
 has_if_feature l = not (length l.defined.features == 0)
 
@@ -66,8 +67,8 @@ says_true (Some stated) = stated
 abbrev pub is_misconfigured : Place → Bool
 is_misconfigured p = not (in_operation_or_notification (line p)) && (says_true p.label.defined.stated_config && not (in_config p.above))
 
--- an action or notification in an operation or notification, in a list without key, in a case, or an action at the top
--- (RFC 7950, sections 7.15 and 7.16)
+-- an action or notification in an operation or notification, in a list without key, in a case, or
+-- an action at the top (RFC 7950, sections 7.15 and 7.16)
 abbrev pub is_misplaced : Place → Bool
 is_misplaced p =
     is_nested p.label.defined.kind

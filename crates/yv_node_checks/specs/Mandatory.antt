@@ -1,4 +1,5 @@
--- Mandatory nodes, and what is wrong with defaults (RFC 7950, sections 3, 7.6.5, 7.7.4, 7.9.3 and 7.9.4).
+-- Mandatory nodes, and what is wrong with defaults (RFC 7950, sections 3, 7.6.5, 7.7.4, 7.9.3 and
+-- 7.9.4).
 use Rattle.std.specs.Prelude.{◌≡◌, ◌⊎◌, ◌==◌, ℕ, nat_lt, Bool, true, false, not, ◌&&◌, ◌||◌, List, length, Option, Some, None, is_some, if◌then◌else◌}
 use Rattle.std.specs.Str.{bytes_eq}
 use Rattle.yv_statement.specs.declared.refusal.Refusal.{Refusal}
@@ -14,7 +15,8 @@ use Rattle.yv_nodes.specs.Defaults.{defaults_of}
 use Rattle.yv_nodes.specs.Places.{Place, places}
 use Rattle.yv_nodes.specs.Refusals.{refusal_of}
 
--- a node of a kind is mandatory, where `below` says that a node directly under it is (RFC 7950, section 3, "mandatory node")
+-- a node of a kind is mandatory, where `below` says that a node directly under it is (RFC 7950,
+-- section 3, "mandatory node")
 abbrev pub is_needed_as : NodeKind → Definition → (below : Bool) → Bool
 is_needed_as kind.Leaf d below = d.is_mandatory
 is_needed_as kind.Choice d below = d.is_mandatory
@@ -46,8 +48,8 @@ abbrev pub child_of_text : (module_file : ℕ) → Option TextInFile → Forest 
 child_of_text module_file None ts = None
 child_of_text module_file (Some written) ts = child_named module_file written.text ts
 
--- the default case of a choice: a case, or a node that is a case of its own, of the choice's own module
--- (RFC 7950, section 7.9.3)
+-- the default case of a choice: a case, or a node that is a case of its own, of the choice's own
+-- module (RFC 7950, section 7.9.3)
 abbrev pub default_case : Place → Option Tree
 default_case p = child_of_text p.label.module_file (own_default p.label.defined) p.kids
 
@@ -56,8 +58,8 @@ abbrev pub is_needed_in : Option Tree → Bool
 is_needed_in None = false
 is_needed_in (Some (node l kids)) = if is_case l.defined.kind then has_mandatory kids else is_needed l (has_mandatory kids)
 
--- a node of a kind may have no default of its own: a leaf or choice with `mandatory true`, and a leaf-list with an entry at least (RFC
--- 7950, sections 7.6.4, 7.7.4 and 7.9.3)
+-- a node of a kind may have no default of its own: a leaf or choice with `mandatory true`, and a
+-- leaf-list with an entry at least (RFC 7950, sections 7.6.4, 7.7.4 and 7.9.3)
 abbrev pub forbids_default_as : NodeKind → Definition → Bool
 forbids_default_as kind.Leaf d = d.is_mandatory
 forbids_default_as kind.Choice d = d.is_mandatory
@@ -78,8 +80,9 @@ has_values kind.Leaf = true
 has_values kind.LeafList = true
 has_values _ = false
 
--- a leaf or leaf-list that has fewer values by its defaults than it has defaults: no type of it reads one. Of a key and of a mandatory
--- leaf no default is asked (RFC 7950, sections 7.6.1 and 7.8.2)
+-- a leaf or leaf-list that has fewer values by its defaults than it has defaults: no type of it
+-- reads one. Of a key and of a mandatory leaf no default is asked (RFC 7950, sections 7.6.1 and
+-- 7.8.2)
 abbrev pub is_illegible : Label → Bool
 is_illegible l =
     has_values l.defined.kind
@@ -89,7 +92,8 @@ is_illegible l =
 abbrev pub is_crowded : Label → Bool
 is_crowded l = nat_lt 1024 (length l.defined.own_defaults)
 
--- a configuration node that has one value twice by its defaults, as a leaf-list that is written may not (RFC 7950, section 7.7)
+-- a configuration node that has one value twice by its defaults, as a leaf-list that is written may
+-- not (RFC 7950, section 7.7)
 abbrev pub has_duplicate_default : Label → Bool
 has_duplicate_default l = l.is_config && has_same l.defined.defaults
 

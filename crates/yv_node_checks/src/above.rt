@@ -18,7 +18,8 @@ use yv_statement::{Code, Refusal, lesser};
 /// The least refusal of a `config` statement, a key or an operation by the nodes above it.
 pub(crate) fn least_by_above(alloc: Global, nodes: &[Node]) -> Result<Option<Refusal>, AllocError>
     requires { length nodes.now < 2 ^ 32 }
-    ensures { (ts : Forest) → AreRows nodes.now ts → IfOk result (λ least. IsLeast (BadByAbove ts) least) }
+    ensures { (ts : Forest) → AreRows nodes.now ts
+        → IfOk result (λ least. IsLeast (BadByAbove ts) least) }
 {
     let mut lineage = Vec::new(alloc);
     let mut least = None;
@@ -44,7 +45,8 @@ fn ancestry_at(lineage: &[Ancestry], parent: NodeId) -> Ancestry
 // What the nodes above a node say against it.
 fn wrong_below(node: &Node, above: Ancestry, nearest: Option<&Node>) -> Option<Refusal>
     ensures { (p : Place) → node.now.label ≡ p.label → above ≡ ancestry_of p.above
-        → option_map label_in (option_map (λ n. n.now) nearest.entry) ≡ nearest_of p.above → IsLeast (BadBelow p) result }
+        → option_map label_in (option_map (λ n. n.now) nearest.entry) ≡ nearest_of p.above
+        → IsLeast (BadBelow p) result }
 {
     let own = above.below(node);
     let config = node.refusal_if(is_misconfigured(node, above, own), Code::BadConfig);
@@ -56,7 +58,8 @@ fn wrong_below(node: &Node, above: Ancestry, nearest: Option<&Node>) -> Option<R
 
 // `config true` below what is no configuration.
 fn is_misconfigured(node: &Node, above: Ancestry, own: Ancestry) -> bool
-    ensures { (p : Place) → node.now.label ≡ p.label → above ≡ ancestry_of p.above → own ≡ ancestry_of (line p)
+    ensures { (p : Place) → node.now.label ≡ p.label → above ≡ ancestry_of p.above → own
+        ≡ ancestry_of (line p)
         → result ≡ is_misconfigured p }
 {
     !own.in_operation && (node.stated_config() == Some(true) && !above.in_config)
@@ -64,7 +67,8 @@ fn is_misconfigured(node: &Node, above: Ancestry, own: Ancestry) -> bool
 
 // An action or notification where none may be.
 fn is_misplaced(node: &Node, above: Ancestry) -> bool
-    ensures { (p : Place) → node.now.label ≡ p.label → above ≡ ancestry_of p.above → result ≡ is_misplaced p }
+    ensures { (p : Place) → node.now.label ≡ p.label → above ≡ ancestry_of p.above → result
+        ≡ is_misplaced p }
 {
     match node.kind() {
         NodeKind::Action => {
@@ -91,7 +95,8 @@ fn has_if_feature(node: &Node) -> bool
 
 // A key that has a condition, or isn't as its list.
 fn is_misfit(node: &Node, above: Ancestry, own: Ancestry) -> bool
-    ensures { (p : Place) → node.now.label ≡ p.label → above ≡ ancestry_of p.above → own ≡ ancestry_of (line p)
+    ensures { (p : Place) → node.now.label ≡ p.label → above ≡ ancestry_of p.above → own
+        ≡ ancestry_of (line p)
         → result ≡ is_misfit p }
 {
     node.is_key()
@@ -100,7 +105,8 @@ fn is_misfit(node: &Node, above: Ancestry, own: Ancestry) -> bool
 
 // The refusal at the nearest node above, where there is cause.
 fn at_nearest(nearest: Option<&Node>, is_wrong: bool) -> Option<Refusal>
-    ensures { (ls : List Label) → option_map label_in (option_map (λ n. n.now) nearest.entry) ≡ nearest_of ls
+    ensures { (ls : List Label) → option_map label_in (option_map (λ n. n.now) nearest.entry)
+        ≡ nearest_of ls
         → IsLeast (AtNearest ls is_wrong) result }
 {
     match nearest {

@@ -1,4 +1,5 @@
-//! What is wrong with the nodes of a schema tree, except for duplicate names, for what keys and `unique` statements name, and for paths.
+//! What is wrong with the nodes of a schema tree, except for duplicate names, for what keys and
+//! `unique` statements name, and for paths.
 #![tactic(auto)]
 
 mod above;

@@ -34,7 +34,8 @@ impl Ancestry {
 
     /// That of a node below those that this one describes.
     pub(crate) fn below(self, node: &Node) -> Ancestry
-        ensures { (ls : List Label) → self ≡ ancestry_of ls → result ≡ ancestry_of (node.now.label ∷ ls) }
+        ensures { (ls : List Label) → self ≡ ancestry_of ls → result
+            ≡ ancestry_of (node.now.label ∷ ls) }
     {
         Ancestry {
             is_top: false,

@@ -15,9 +15,11 @@ use yv_nodes::{Node, NodeId};
 use yv_statement::{Code, Refusal, lesser};
 use yv_values::Defaults;
 
-/// The least refusal of the defaults of a choice, a leaf or a leaf-list, or of `mandatory true` or `min-elements` beside a default.
+/// The least refusal of the defaults of a choice, a leaf or a leaf-list, or of `mandatory true` or
+/// `min-elements` beside a default.
 pub(crate) fn least_by_default(alloc: Global, nodes: &[Node]) -> Result<Option<Refusal>, AllocError>
-    ensures { (ts : Forest) → AreRows nodes.now ts → IfOk result (λ least. IsLeast (BadByDefault ts) least) }
+    ensures { (ts : Forest) → AreRows nodes.now ts
+        → IfOk result (λ least. IsLeast (BadByDefault ts) least) }
 {
     let below = mandatory_below(alloc, nodes)?;
     let mut least = None;
@@ -28,10 +30,11 @@ pub(crate) fn least_by_default(alloc: Global, nodes: &[Node]) -> Result<Option<R
     Ok(least)
 }
 
-// Of each node whether a mandatory node stands directly under it. Children stand behind their parents, so that they are
-// known first.
+// Of each node whether a mandatory node stands directly under it. Children stand behind their
+// parents, so that they are known first.
 fn mandatory_below(alloc: Global, nodes: &[Node]) -> Result<Vec<bool>, AllocError>
-    ensures { (ts : Forest) → AreRows nodes.now ts → IfOk result (λ below. AreBelow ts below.items 0) }
+    ensures { (ts : Forest) → AreRows nodes.now ts
+        → IfOk result (λ below. AreBelow ts below.items 0) }
 {
     let mut below = vec![in alloc; false; nodes.len()]?;
     for number in (0..nodes.len()).rev() {
@@ -106,7 +109,9 @@ fn first_named(nodes: &[Node], module_file: u32, name: &str, children: &[NodeId]
 
 // The default case of a choice.
 fn default_case(nodes: &[Node], node: &Node) -> Option<NodeId>
-    ensures { result ≡ case_among nodes.now node.now.label.module_file (own_default node.now.label.defined) node.now.children }
+    ensures { result
+        ≡ case_among nodes.now node.now.label.module_file (own_default node.now.label.defined)
+        node.now.children }
 {
     match node.own_default() {
         Some(written) => {
@@ -200,7 +205,8 @@ fn has_unfit_default(node: &Node) -> bool
 // What is wrong with a node's defaults.
 fn wrong_default(nodes: &[Node], below: &[bool], node: &Node) -> Option<Refusal>
     ensures { (ts : Forest) (i : ℕ) (p : Place) → AreRows nodes.now ts → AreBelow ts below.now 0
-        → slice_get nodes.now i ≡ Some node.now → slice_get (places ts) i ≡ Some p → IsLeast (BadOfDefault p) result }
+        → slice_get nodes.now i ≡ Some node.now → slice_get (places ts) i ≡ Some p
+        → IsLeast (BadOfDefault p) result }
 {
     let case = default_case(nodes, node);
     let overruled = node.refusal_if(is_overruled(node), Code::BadMandatory);

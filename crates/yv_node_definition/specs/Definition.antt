@@ -20,10 +20,11 @@ pub record TextInFile : Type 0 where
 abbrev pub written_of : WrittenText → TextInFile
 written_of w = record { text = rc_str_bytes w.text; file = w.file }
 
--- what a statement says of the schema node that it defines: `file`, `offset` and `line` say where its keyword stands. `keys` has the
--- names of its `key` statement, each the one step of a path, and `uniques` the paths of each `unique` statement. A step is None where
--- its prefix stands for no module. `path` has the pieces of the path of its leafref, as it is written: nothing where its type isn't
--- written as a leafref
+-- what a statement says of the schema node that it defines: `file`, `offset` and `line` say where
+-- its keyword stands. `keys` has the names of its `key` statement, each the one step of a path, and
+-- `uniques` the paths of each `unique` statement. A step is None where its prefix stands for no
+-- module. `path` has the pieces of the path of its leafref, as it is written: nothing where its
+-- type isn't written as a leafref
 pub record Definition : Type 0 where
   pub file : ℕ
   pub offset : ℕ
@@ -55,8 +56,8 @@ abbrev pub or_list : {A : Type 0} → List A → List A → List A
 or_list [] ys = ys
 or_list (x ∷ xs) ys = x ∷ xs
 
--- the defaults that are said of a node: its own, or else that of its type, but not where entries are asked for (sections 7.3.4, 7.6.1
--- and 7.7.2)
+-- the defaults that are said of a node: its own, or else that of its type, but not where entries
+-- are asked for (sections 7.3.4, 7.6.1 and 7.7.2)
 abbrev pub defaults_said : Definition → List TextInFile
 defaults_said d = or_list d.own_defaults (if d.min == 0 then option_to_list d.type_default else [])
 

@@ -1,15 +1,18 @@
--- The steps of the paths that `key` and `unique` statements have (RFC 7950, sections 6.5, 7.8.2 and 7.8.3).
+-- The steps of the paths that `key` and `unique` statements have (RFC 7950, sections 6.5, 7.8.2 and
+-- 7.8.3).
 use Rattle.std.specs.Prelude.{ℕ, ◌==◌, ◌&&◌, Bool, true, false, List, Option, Some, None}
 use Rattle.std.specs.List.{list_any}
 use Rattle.std.specs.Str.{bytes_eq}
 
--- a step of a path: the number of the file of the module for which its prefix stands, where it has one, and the name of the node
+-- a step of a path: the number of the file of the module for which its prefix stands, where it has
+-- one, and the name of the node
 pub record Step : Type 0 where
   pub module_file : Option ℕ
   pub name : List ℕ
 
--- a piece of the path of a leafref as it is written, between two `/`: its prefix, where it has one, the number of the file of the module
--- for which that stands, if it stands for one, and the name behind it (section 9.9.2)
+-- a piece of the path of a leafref as it is written, between two `/`: its prefix, where it has one,
+-- the number of the file of the module for which that stands, if it stands for one, and the name
+-- behind it (section 9.9.2)
 pub record Piece : Type 0 where
   pub prefix : Option (List ℕ)
   pub module_file : Option ℕ
@@ -20,7 +23,8 @@ is_module_file None None = true
 is_module_file (Some a) (Some b) = a == b
 is_module_file _ _ = false
 
--- a step is written with this module, or without one, and this name; a step whose prefix stands for no module is none
+-- a step is written with this module, or without one, and this name; a step whose prefix stands for
+-- no module is none
 abbrev pub is_step : (module_file : Option ℕ) → (name : List ℕ) → Option Step → Bool
 is_step module_file name None = false
 is_step module_file name (Some s) = bytes_eq name s.name && is_module_file module_file s.module_file

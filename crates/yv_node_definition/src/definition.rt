@@ -25,8 +25,8 @@ pub struct WrittenText {
     pub file: u32,
 }
 
-/// What a statement says of the schema node that it defines, while it is put together: each part may still be changed. Contracts see it
-/// as a `Defined`.
+/// What a statement says of the schema node that it defines, while it is put together: each part
+/// may still be changed. Contracts see it as a `Defined`.
 #[derive(Drop)]
 pub struct DefinitionDraft {
     /// The offset in bytes of the statement's keyword.
@@ -41,7 +41,8 @@ pub struct DefinitionDraft {
     pub features: RcStr,
     /// The name of its type as it is written.
     pub type_text: RcStr,
-    /// The pieces of the path of its leafref, as it is written: nothing where its type isn't written as a leafref.
+    /// The pieces of the path of its leafref, as it is written: nothing where its type isn't
+    /// written as a leafref.
     pub path: Rc<Vec<PathPiece>>,
     /// What its `key` statement names, in order: nothing without one.
     pub keys: Rc<Keys>,
@@ -116,7 +117,8 @@ impl DefinitionDraft {
         })
     }
 
-    /// How many defaults are said of it: its own, or else that of its type, but not where entries are asked for (RFC 7950, sections
+    /// How many defaults are said of it: its own, or else that of its type, but not where entries
+    /// are asked for (RFC 7950, sections
     /// 7.3.4, 7.6.1 and 7.7.2).
     pub fn count_defaults_said(&self) -> usize
         ensures { result ≡ length (defaults_said self.now) }
@@ -156,8 +158,9 @@ impl DefinitionDraft {
     }
 }
 
-/// What a statement says of the schema node that it defines, whatever the place of the node in the schema tree. All nodes that it
-/// defines share it; only its types may be others, as those of a leafref are. Contracts see it as a `Defined`.
+/// What a statement says of the schema node that it defines, whatever the place of the node in the
+/// schema tree. All nodes that it defines share it; only its types may be others, as those of a
+/// leafref are. Contracts see it as a `Defined`.
 #[derive(Drop)]
 pub struct Definition {
     said: Rc<DefinitionDraft>,
@@ -218,7 +221,8 @@ impl Definition {
         self.types.as_slice()
     }
 
-    /// Whether the node being there says something by itself, as that of a presence container does (RFC 7950, section 7.5.5).
+    /// Whether the node being there says something by itself, as that of a presence container does
+    /// (RFC 7950, section 7.5.5).
     pub fn has_presence(&self) -> bool
         ensures { result ≡ self.now.has_presence }
     {
@@ -232,7 +236,8 @@ impl Definition {
         self.said.status
     }
 
-    /// The expressions of its `if-feature` statements, separated by commas, to be shown to a reader (RFC 7950, section
+    /// The expressions of its `if-feature` statements, separated by commas, to be shown to a reader
+    /// (RFC 7950, section
     /// 7.20.2). The text is empty without any.
     pub fn features(&self) -> &str
         ensures { result.now ≡ self.now.features }
@@ -240,15 +245,16 @@ impl Definition {
         self.said.features.as_str()
     }
 
-    /// The name of its type as it is written, with a prefix where that has one. The text is empty without a type.
+    /// The name of its type as it is written, with a prefix where that has one. The text is empty
+    /// without a type.
     pub fn type_text(&self) -> &str
         ensures { result.now ≡ self.now.type_text }
     {
         self.said.type_text.as_str()
     }
 
-    /// The pieces of the path of its leafref, as it is written, between `/` (RFC 7950, section 9.9.2): nothing where its type isn't
-    /// written as a leafref.
+    /// The pieces of the path of its leafref, as it is written, between `/` (RFC 7950, section
+    /// 9.9.2): nothing where its type isn't written as a leafref.
     pub fn path(&self) -> &[PathPiece]
         ensures { result.now ≡ self.now.path }
     {
@@ -269,21 +275,24 @@ impl Definition {
         self.said.is_mandatory
     }
 
-    /// The fewest entries that a list or leaf-list has to have (RFC 7950, section 7.7.5): 0 where nothing is said.
+    /// The fewest entries that a list or leaf-list has to have (RFC 7950, section 7.7.5): 0 where
+    /// nothing is said.
     pub fn min(&self) -> u32
         ensures { result ≡ self.now.min }
     {
         self.said.min
     }
 
-    /// The most entries that a list or leaf-list may have, where that is bounded (RFC 7950, section 7.7.6).
+    /// The most entries that a list or leaf-list may have, where that is bounded (RFC 7950, section
+    /// 7.7.6).
     pub fn max(&self) -> Option<u32>
         ensures { result ≡ self.now.max }
     {
         self.said.max
     }
 
-    /// What its `key` statement names, each name being the one step of a path, in order: nothing without one (RFC 7950, section
+    /// What its `key` statement names, each name being the one step of a path, in order: nothing
+    /// without one (RFC 7950, section
     /// 7.8.2). A step is None where its prefix identifies no module.
     pub fn keys(&self) -> &[Option<PathStep>]
         ensures { result.now ≡ self.now.keys }
@@ -298,43 +307,48 @@ impl Definition {
         !self.said.keys.steps().is_empty()
     }
 
-    /// Whether its `key` statement has a name that is written with this module, or without one. Takes time log n in its names.
+    /// Whether its `key` statement has a name that is written with this module, or without one.
+    /// Takes time log n in its names.
     pub fn has_key_step(&self, module_file: Option<u32>, name: RcStr) -> bool
         ensures { result ≡ has_step module_file (rc_str_bytes name) self.now.keys }
     {
         self.said.keys.contains(module_file, name)
     }
 
-    /// The paths of each of its `unique` statements, in order (RFC 7950, section 7.8.3). A step is None where its prefix
-    /// identifies no module.
+    /// The paths of each of its `unique` statements, in order (RFC 7950, section 7.8.3). A step is
+    /// None where its prefix identifies no module.
     pub fn uniques(&self) -> &[Vec<Vec<Option<PathStep>>>]
         ensures { map paths_in result.now ≡ self.now.uniques }
     {
         self.said.uniques.as_slice()
     }
 
-    /// The arguments of its `default` statements, and the files that contain them, in order: one at most where it is no leaf-list.
+    /// The arguments of its `default` statements, and the files that contain them, in order: one at
+    /// most where it is no leaf-list.
     pub fn own_defaults(&self) -> &[WrittenText]
         ensures { map written_of result.now ≡ self.now.own_defaults }
     {
         self.said.own_defaults.as_slice()
     }
 
-    /// The argument of its `default` statement, and the file that contains it: the first, where it has more.
+    /// The argument of its `default` statement, and the file that contains it: the first, where it
+    /// has more.
     pub fn own_default(&self) -> Option<&WrittenText>
         ensures { option_map (λ written. written_of written.now) result ≡ own_default self.now }
     {
         self.own_defaults().first()
     }
 
-    /// The default that its type has by its typedefs, and the file that contains it (RFC 7950, section 7.3.4).
+    /// The default that its type has by its typedefs, and the file that contains it (RFC 7950,
+    /// section 7.3.4).
     pub fn type_default(&self) -> Option<&WrittenText>
         ensures { option_map (λ written. written_of written.now) result ≡ self.now.type_default }
     {
         self.said.type_default.as_ref()
     }
 
-    /// How many defaults are said of it: its own, or else that of its type, but not where entries are asked for (RFC 7950, sections
+    /// How many defaults are said of it: its own, or else that of its type, but not where entries
+    /// are asked for (RFC 7950, sections
     /// 7.3.4, 7.6.1 and 7.7.2).
     pub fn count_defaults_said(&self) -> usize
         ensures { result ≡ length (defaults_said self.now) }
@@ -342,7 +356,8 @@ impl Definition {
         self.said.count_defaults_said()
     }
 
-    /// The values that its defaults give it: one at most where it is no leaf-list (RFC 7950, sections 7.6.1 and 7.7.2).
+    /// The values that its defaults give it: one at most where it is no leaf-list (RFC 7950,
+    /// sections 7.6.1 and 7.7.2).
     pub fn defaults(&self) -> &[Value]
         ensures value { result.now ≡ self.now.defaults }
         ensures few { length result.now ≤ 1024 }
@@ -374,7 +389,8 @@ impl Definition {
         })
     }
 
-    /// A draft of the same, over the same texts and lists, so that the time and the memory that it takes don't grow with these.
+    /// A draft of the same, over the same texts and lists, so that the time and the memory that it
+    /// takes don't grow with these.
     pub fn draft(&self) -> Result<DefinitionDraft, AllocError>
         ensures { IfOk result (λ draft. draft ≡ self.now) }
     {
@@ -397,7 +413,8 @@ impl Definition {
         self.types = types;
     }
 
-    /// Its name, over the same text: the time and the memory that it takes don't grow with the name.
+    /// Its name, over the same text: the time and the memory that it takes don't grow with the
+    /// name.
     pub fn shared_name(&self) -> Result<RcStr, AllocError>
         ensures { IfOk result (λ text. rc_str_bytes text ≡ self.now.name) }
     {
@@ -414,7 +431,8 @@ impl Definition {
 
 // The same text once more, where there is one.
 fn shared_default(text: &Option<WrittenText>) -> Result<Option<WrittenText>, AllocError>
-    ensures { IfOk result (λ shared. option_map written_of shared ≡ option_map written_of text.now) }
+    ensures { IfOk result
+        (λ shared. option_map written_of shared ≡ option_map written_of text.now) }
 {
     match text {
         Some(written) => Ok(Some(WrittenText {

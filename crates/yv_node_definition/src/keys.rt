@@ -10,8 +10,8 @@ use std::collections::BTreeSet;
 use std::marker::Model;
 use std::rc::RcStr;
 
-/// What the `key` statement of a list names, each name being the one step of a path, in order (RFC 7950, section 7.8.2): None
-/// where a prefix identifies no module. Contracts see the list of steps.
+/// What the `key` statement of a list names, each name being the one step of a path, in order (RFC
+/// 7950, section 7.8.2): None where a prefix identifies no module. Contracts see the list of steps.
 #[derive(Drop)]
 pub struct Keys {
     steps: Vec<Option<PathStep>>,
@@ -46,7 +46,8 @@ impl Keys {
         self.steps.as_slice()
     }
 
-    /// Whether one of the steps is written with this module, or without one, and this name. Takes time log n in the steps.
+    /// Whether one of the steps is written with this module, or without one, and this name. Takes
+    /// time log n in the steps.
     pub fn contains(&self, module_file: Option<u32>, name: RcStr) -> bool
         ensures { result ≡ has_step module_file (rc_str_bytes name) self.now }
     {
@@ -60,7 +61,9 @@ fn set_of(
     alloc: Global,
     steps: &[Option<PathStep>],
 ) -> Result<BTreeSet<(RcStr, Option<u32>)>, AllocError>
-    ensures { IfOk result (λ set. (module_file : Option ℕ) (name : List ℕ) → has set module_file name ≡ has_step module_file name steps.now) }
+    ensures { IfOk result
+        (λ set. (module_file : Option ℕ) (name : List ℕ) → has set module_file name
+        ≡ has_step module_file name steps.now) }
 {
     let mut set = BTreeSet::new(alloc);
     for step in steps {
@@ -72,7 +75,8 @@ fn set_of(
 // Adds a step.
 fn add(set: &mut BTreeSet<(RcStr, Option<u32>)>, step: &Option<PathStep>) -> Result<(), AllocError>
     ensures { OnOk result ((module_file : Option ℕ) (name : List ℕ)
-        → has set.new module_file name ≡ (is_step module_file name step.now || has set.old module_file name)) }
+        → has set.new module_file name
+        ≡ (is_step module_file name step.now || has set.old module_file name)) }
 {
     match step {
         Some(step) => insert(set, step.module_file, step.name.clone()?),
@@ -87,7 +91,9 @@ fn insert(
     name: RcStr,
 ) -> Result<(), AllocError>
     ensures { OnOk result ((h : Option ℕ) (n : List ℕ)
-        → has set.new h n ≡ (is_step h n (Some (record { module_file = module_file; name = rc_str_bytes name })) || has set.old h n)) }
+        → has set.new h n
+        ≡ (is_step h n (Some (record { module_file = module_file; name = rc_str_bytes name }))
+        || has set.old h n)) }
 {
     set.insert((name, module_file))?;
     Ok(())

@@ -11,7 +11,8 @@ pub enum NodeKind {
     LeafList,
     /// Interior nodes without a value, an array of objects in JSON (RFC 7950, section 7.8).
     List,
-    /// Alternatives, at most one of which may be there; not a node of the data tree (RFC 7950, section 7.9).
+    /// Alternatives, at most one of which may be there; not a node of the data tree (RFC 7950,
+    /// section 7.9).
     Choice,
     /// One alternative of a choice; no node of the data tree (RFC 7950, section 7.9.2).
     Case,

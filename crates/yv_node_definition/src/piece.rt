@@ -5,12 +5,14 @@ ghost use Rattle.std.specs.Option.{option_map};
 use std::marker::Model;
 use std::rc::RcStr;
 
-/// A piece of the path of a leafref, as it is written between two `/` (RFC 7950, section 9.9.2). Contracts see it as a `Piece`.
+/// A piece of the path of a leafref, as it is written between two `/` (RFC 7950, section 9.9.2).
+/// Contracts see it as a `Piece`.
 #[derive(Drop)]
 pub struct PathPiece {
     /// Its prefix, as it is written. None where it has none.
     pub prefix: Option<RcStr>,
-    /// The number of the file of the module that the prefix identifies. None where it identifies none.
+    /// The number of the file of the module that the prefix identifies. None where it identifies
+    /// none.
     pub module_file: Option<u32>,
     /// The name after the prefix, or `..`.
     pub name: RcStr,
@@ -37,7 +39,8 @@ impl PathPiece {
         }
     }
 
-    /// The number of the file of the module that the prefix identifies. None where it identifies none.
+    /// The number of the file of the module that the prefix identifies. None where it identifies
+    /// none.
     pub fn module_file(&self) -> Option<u32>
         ensures { result ≡ self.now.module_file }
     {

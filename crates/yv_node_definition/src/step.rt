@@ -4,7 +4,8 @@ ghost use Rattle.std.specs.Prelude.{◌≡◌};
 use std::marker::Model;
 use std::rc::RcStr;
 
-/// A step of a path from a list down to a leaf (RFC 7950, section 6.5). Contracts see it as a `Step`.
+/// A step of a path from a list down to a leaf (RFC 7950, section 6.5). Contracts see it as a
+/// `Step`.
 #[derive(Drop)]
 pub struct PathStep {
     /// The number of the file of the module that its prefix identifies. None without a prefix.

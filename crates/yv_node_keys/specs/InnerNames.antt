@@ -21,18 +21,19 @@ lookup_in m module_file name = get_by (λ k. ordering_then (slice_cmp nat_cmp na
 abbrev pub told_of : ChildNames → NameNumbers
 told_of names = lookup_in names.map
 
-abbrev pub first_some : Option NodeId → Option NodeId → Option NodeId
-first_some None b = b
-first_some (Some a) b = Some a
-
--- what is told of a module and a name once such a node was added
+-- what is told of a module and a name once such a node was put before the others
 abbrev pub told_with : NameNumbers → (module_file : ℕ) → (name : List ℕ) → NodeId → NameNumbers
-told_with told h n number module_file name = first_some (told module_file name) (if h == module_file && bytes_eq n name then Some number else None)
+told_with told h n number module_file name = if h == module_file && bytes_eq n name then Some number else told module_file name
 
--- what is told once the node of a row was met
-abbrev pub told_after : NameNumbers → Option Row → NodeId → NameNumbers
-told_after told row number module_file name = first_some (told module_file name) (if is_some_called module_file name row then Some number else None)
+-- what is told once the node of a row, which is before the others, was met
+abbrev pub told_before : NameNumbers → Option Row → NodeId → NameNumbers
+told_before told row number module_file name = if is_some_called module_file name row then Some number else told module_file name
 
 -- these tell of each module and name the first of these nodes
 abbrev pub AreNames : List Row → List NodeId → NameNumbers → Type 0
 AreNames rows children told = (module_file : ℕ) (name : List ℕ) → told module_file name ≡ find (is_called_at rows module_file name) children
+
+-- the same of names that may be kept
+abbrev pub AreNamesIfKept : List Row → List NodeId → Option ChildNames → Type 0
+AreNamesIfKept rows children None = Unit {0}
+AreNamesIfKept rows children (Some names) = AreNames rows children (told_of names)

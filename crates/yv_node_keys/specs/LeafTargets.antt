@@ -1,4 +1,5 @@
--- What is known of the numbers of leafs and cases, where they were found; how, only the finder asks.
+-- What is known of the numbers of leafs and cases, where they were found; how, only the finder
+-- asks.
 use Rattle.std.specs.Prelude.{List, length}
 use Rattle.yv_nodes.specs.Rows.{Row}
 use Rattle.yv_node_keys.specs.InnerTargets.{AreUpTo}

@@ -104,7 +104,8 @@ abbrev pub case_of : List Row → (choice : NodeId) → Option TextInFile → Op
 case_of rows choice None = None
 case_of rows choice (Some written) = child_at rows (module_file_at rows choice) written.text choice
 
--- the number of the default case of a choice: of the nodes directly below it the first of the choice's own module with the name that
--- its own default says; none where there is no default, or the node is no choice
+-- the number of the default case of a choice: of the nodes directly below it the first of the
+-- choice's own module with the name that its own default says; none where there is no default, or
+-- the node is no choice
 abbrev pub default_case_at : List Row → (choice : NodeId) → Option NodeId
 default_case_at rows choice = case_of rows choice (default_of (slice_get rows choice.0))

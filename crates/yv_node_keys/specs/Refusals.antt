@@ -1,4 +1,5 @@
--- Lists whose `key` or `unique` statements name what they may not (RFC 7950, sections 7.8.2 and 7.8.3).
+-- Lists whose `key` or `unique` statements name what they may not (RFC 7950, sections 7.8.2 and
+-- 7.8.3).
 use Rattle.std.specs.Prelude.{nat_lt, Bool, false, not, ◌&&◌, ◌||◌, List, length, Option, Some, None, is_some}
 use Rattle.std.specs.List.{list_any}
 use Rattle.yv_nodes.specs.Tree.{Tree, node}

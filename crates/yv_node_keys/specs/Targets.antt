@@ -38,11 +38,13 @@ pub data Waypoint : Type 0 where
   at_node : Tree → Waypoint
   at_shorthand_case : Tree → Waypoint
 
--- a node directly in a choice that is no case stands in a case of its name that is left out (section 7.9.2)
+-- a node directly in a choice that is no case stands in a case of its name that is left out
+-- (section 7.9.2)
 abbrev pub is_shorthand_case : (above below : Label) → Bool
 is_shorthand_case above below = is_choice above.defined.kind && not (is_case below.defined.kind)
 
--- where a path is that came down from one node to another: it leads to no list, since it goes through none and ends at none
+-- where a path is that came down from one node to another: it leads to no list, since it goes
+-- through none and ends at none
 abbrev pub arrive : (above : Label) → (below : Tree) → Option Waypoint
 arrive above (node l kids) =
     if is_list l.defined.kind then None else Some (if is_shorthand_case above l then at_shorthand_case (node l kids) else at_node (node l kids))
@@ -76,6 +78,7 @@ abbrev pub child_of_text : (module_file : ℕ) → Option TextInFile → Forest 
 child_of_text module_file None ts = None
 child_of_text module_file (Some written) ts = child_named module_file written.text ts
 
--- the default case of a choice: a case, or a node that is a case of its own, of the choice's own module (section 7.9.3)
+-- the default case of a choice: a case, or a node that is a case of its own, of the choice's own
+-- module (section 7.9.3)
 abbrev pub default_case : (choice : Tree) → Option Tree
 default_case (node l kids) = if is_choice l.defined.kind then child_of_text l.module_file (own_default l.defined) kids else None

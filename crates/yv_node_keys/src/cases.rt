@@ -11,7 +11,8 @@ use yv_nodes::{Node, NodeId};
 
 // What the default of a choice says, where there is one.
 fn default_of(node: Option<&Node>) -> Option<&WrittenText>
-    ensures { option_map (λ written. written_of written.now) result ≡ default_of (option_map (λ n. n.now) node.entry) }
+    ensures { option_map (λ written. written_of written.now) result
+        ≡ default_of (option_map (λ n. n.now) node.entry) }
 {
     match node {
         Some(node) if node.kind() == NodeKind::Choice => node.own_default(),
@@ -19,8 +20,13 @@ fn default_of(node: Option<&Node>) -> Option<&WrittenText>
     }
 }
 
-// Of these nodes the first that has this module and this name.
-fn first_called(nodes: &[Node], module_file: u32, name: &str, children: &[NodeId]) -> Option<NodeId>
+/// Of these nodes the first that has this module and this name.
+pub(crate) fn first_called(
+    nodes: &[Node],
+    module_file: u32,
+    name: &str,
+    children: &[NodeId],
+) -> Option<NodeId>
     ensures { result ≡ find (is_called_at nodes.now module_file name.now) children.now }
 {
     children

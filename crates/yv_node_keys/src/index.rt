@@ -9,8 +9,8 @@ use std::collections::BTreeMap;
 use std::marker::Model;
 use yv_nodes::{Node, NodeId};
 
-/// Numbered nodes, and the names of those directly below each that was asked for, which are looked at once. Contracts see the
-/// rows of the nodes.
+/// Numbered nodes, and the names of those directly below each that was asked for, which are looked
+/// at once. Contracts see the rows of the nodes.
 #[derive(Drop)]
 pub(crate) struct Index<'n> {
     nodes: &'n [Node],
@@ -75,7 +75,8 @@ impl<'n> Index<'n> {
         name: &'n str,
     ) -> Result<Option<NodeId>, AllocError>
         ensures rows { self.new ≡ self.old }
-        ensures child { IfOk result (λ child. child ≡ child_at self.old module_file name.now parent) }
+        ensures child { IfOk result
+            (λ child. child ≡ child_at self.old module_file name.now parent) }
     {
         if let Some(child) = self.find(parent, module_file, name) {
             return Ok(child);

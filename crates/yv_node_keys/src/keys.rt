@@ -4,33 +4,96 @@ ghost use Rattle.std.specs.List.{list_any};
 ghost use Rattle.yv_nodes.specs.Tree.{Forest};
 ghost use Rattle.yv_nodes.specs.Places.{Place, places};
 ghost use Rattle.yv_nodes.specs.Numbers.{rows_from};
-ghost use Rattle.yv_node_keys.specs.Numbers.{children_at, key_leaf_at, tree_in};
+ghost use Rattle.yv_node_keys.specs.Numbers.{child_at, children_at, key_leaf_at, tree_in};
 ghost use Rattle.yv_node_keys.specs.Refusals.{is_bad_key};
-ghost use Rattle.yv_node_keys.specs.InnerNames.{AreNames, told_of};
+ghost use Rattle.yv_node_keys.specs.InnerNames.{AreNamesIfKept};
 
+use crate::cases::first_called;
 use crate::names::ChildNames;
-use crate::node_numbers::{leaf_of, module_file_at};
+use crate::node_numbers::{children_at, leaf_of, module_file_at};
 use std::alloc::{AllocError, Global};
 use yv_node_definition::PathStep;
 use yv_nodes::{Node, NodeId, Nodes};
 
+// Up to how many names of a key are sought among the nodes one by one.
+const FEW: usize = 4;
+
+// The names of the nodes directly below a list. None are kept for a key of few names: to put them
+// in order would take longer.
+fn names_for<'n>(
+    alloc: Global,
+    nodes: &'n [Node],
+    list: NodeId,
+    keys: &[Option<PathStep>],
+) -> Result<Option<ChildNames<'n>>, AllocError>
+    ensures { IfOk result (AreNamesIfKept nodes.now (children_at nodes.now list)) }
+{
+    if keys.len() <= FEW {
+        return Ok(None);
+    }
+    let names = ChildNames::below(alloc, nodes, list)?;
+    Ok(Some(names))
+}
+
+// The first node directly below a list that has this module and this name, whatever its kind.
+fn child_called<'n>(
+    nodes: &[Node],
+    names: &Option<ChildNames<'n>>,
+    list: NodeId,
+    module_file: u32,
+    name: &'n str,
+) -> Option<NodeId>
+    ensures { AreNamesIfKept nodes.now (children_at nodes.now list) names.now
+        → result ≡ child_at nodes.now module_file name.now list }
+{
+    match names {
+        Some(names) => names.get(module_file, name),
+        None => first_called(nodes, module_file, name, children_at(nodes, list)),
+    }
+}
+
 // The leaf directly below a list that a name in its key names, of those below it by these names.
 fn key_leaf<'n>(
-    nodes: &'n [Node],
-    names: &ChildNames<'n>,
+    nodes: &[Node],
+    names: &Option<ChildNames<'n>>,
     list: NodeId,
     key: &'n Option<PathStep>,
 ) -> Option<NodeId>
-    ensures { AreNames nodes.now (children_at nodes.now list) (told_of names.now) → result ≡ key_leaf_at nodes.now list key.now }
+    ensures { AreNamesIfKept nodes.now (children_at nodes.now list) names.now
+        → result ≡ key_leaf_at nodes.now list key.now }
 {
     match key {
         Some(step) => {
             let module_file = step.module_file().unwrap_or(module_file_at(nodes, list));
-            let child = names.get(module_file, step.name())?;
+            let child = child_called(nodes, names, list, module_file, step.name())?;
             leaf_of(nodes, child)
         }
         None => None,
     }
+}
+
+// Those that all names name, of the nodes by these names.
+fn leafs_by<'n>(
+    alloc: Global,
+    nodes: &[Node],
+    names: &Option<ChildNames<'n>>,
+    list: NodeId,
+    keys: &'n [Option<PathStep>],
+) -> Result<Option<Vec<NodeId>>, AllocError>
+    requires { AreNamesIfKept nodes.now (children_at nodes.now list) names.now }
+    ensures lacks { IfOk result (λ leafs. is_some leafs
+        ≡ not (list_any (λ key. not (is_some (key_leaf_at nodes.now list key))) keys.now)) }
+    ensures numbers { IfOk result (λ leafs. IfSome leafs (λ numbers.
+        map (λ n. Some n) numbers.items ≡ map (key_leaf_at nodes.now list) keys.now)) }
+{
+    let mut leafs = Vec::new(alloc);
+    for key in keys {
+        match key_leaf(nodes, names, list, key) {
+            Some(leaf) => leafs.push(leaf)?,
+            None => return Ok(None),
+        }
+    }
+    Ok(Some(leafs))
 }
 
 // Those that all names name.
@@ -40,32 +103,28 @@ fn key_leafs_in<'n>(
     list: NodeId,
     keys: &'n [Option<PathStep>],
 ) -> Result<Option<Vec<NodeId>>, AllocError>
-    ensures lacks { IfOk result (λ leafs. is_some leafs ≡ not (list_any (λ key. not (is_some (key_leaf_at nodes.now list key))) keys.now)) }
+    ensures lacks { IfOk result (λ leafs. is_some leafs
+        ≡ not (list_any (λ key. not (is_some (key_leaf_at nodes.now list key))) keys.now)) }
     ensures numbers { IfOk result (λ leafs. IfSome leafs (λ numbers.
         map (λ n. Some n) numbers.items ≡ map (key_leaf_at nodes.now list) keys.now)) }
 {
-    let names = ChildNames::below(alloc, nodes, list)?;
-    let mut leafs = Vec::new(alloc);
-    for key in keys {
-        match key_leaf(nodes, &names, list, key) {
-            Some(leaf) => leafs.push(leaf)?,
-            None => return Ok(None),
-        }
-    }
-    Ok(Some(leafs))
+    let names = names_for(alloc, nodes, list, keys)?;
+    leafs_by(alloc, nodes, &names, list, keys)
 }
 
-/// The numbers of the leafs that the names of a list's key name, in order (RFC 7950, section 7.8.2): none where one of them is that
-/// of no leaf directly below. Of nodes of one module and name the first is meant, whatever its kind. Takes time n log n in the
-/// names of the nodes directly below and those of the key; names of modules are compared where the nodes' are the same. Err only
-/// if memory runs out.
+/// The numbers of the leafs that the names of a list's key name, in order (RFC 7950, section
+/// 7.8.2): none where one of them is that of no leaf directly below. Of nodes of one module and
+/// name the first is meant, whatever its kind. Takes time n log n in the names of the nodes
+/// directly below and those of the key; names of modules are compared where the nodes' are the
+/// same. Err only if memory runs out.
 pub fn key_leafs<'n>(
     alloc: Global,
     nodes: &'n Nodes,
     list: NodeId,
     keys: &'n [Option<PathStep>],
 ) -> Result<Option<Vec<NodeId>>, AllocError>
-    ensures refuses { (ts : Forest) → nodes.now.rows ≡ rows_from 0 ts → (p : Place) → slice_get (places ts) list.0 ≡ Some p
+    ensures refuses { (ts : Forest) → nodes.now.rows ≡ rows_from 0 ts → (p : Place)
+        → slice_get (places ts) list.0 ≡ Some p
         → IfOk result (λ leafs. is_some leafs ≡ not (is_bad_key (tree_in p) keys.now)) }
     ensures numbers { IfOk result (λ leafs. IfSome leafs (λ numbers.
         map (λ n. Some n) numbers.items ≡ map (key_leaf_at nodes.now.rows list) keys.now)) }

@@ -1,5 +1,5 @@
-//! Which leafs the `key` and `unique` statements of a list name (RFC 7950, sections 7.8.2 and 7.8.3), and which case the default of a
-//! choice (section 7.9.3).
+//! Which leafs the `key` and `unique` statements of a list name (RFC 7950, sections 7.8.2 and
+//! 7.8.3), and which case the default of a choice (section 7.9.3).
 #![tactic(auto)]
 
 mod cases;

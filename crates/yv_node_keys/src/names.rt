@@ -2,7 +2,7 @@
 ghost use Rattle.std.specs.Prelude.{◌≡◌, ℕ, List, None, OnOk, IfOk};
 ghost use Rattle.std.specs.Option.{option_map};
 ghost use Rattle.yv_node_keys.specs.Numbers.{children_at};
-ghost use Rattle.yv_node_keys.specs.InnerNames.{AreNames, told_after, told_of, told_with};
+ghost use Rattle.yv_node_keys.specs.InnerNames.{AreNames, told_before, told_of, told_with};
 
 use crate::node_numbers::{children_at, node_at};
 use std::alloc::{AllocError, Global};
@@ -34,8 +34,11 @@ impl<'n> ChildNames<'n> {
         ensures { IfOk result (λ names. AreNames nodes.now children.now (told_of names)) }
     {
         let mut names = ChildNames::new(alloc);
-        for child in children {
-            names.meet(node_at(nodes, *child), *child)?;
+        let mut left = children.len();
+        while left > 0 {
+            left -= 1;
+            let child = children[left];
+            names.meet(node_at(nodes, child), child)?;
         }
         Ok(names)
     }
@@ -46,16 +49,18 @@ impl<'n> ChildNames<'n> {
         nodes: &'n [Node],
         parent: NodeId,
     ) -> Result<ChildNames<'n>, AllocError>
-        ensures { IfOk result (λ names. AreNames nodes.now (children_at nodes.now parent) (told_of names)) }
+        ensures { IfOk result
+            (λ names. AreNames nodes.now (children_at nodes.now parent) (told_of names)) }
     {
         let names = ChildNames::of(alloc, nodes, children_at(nodes, parent))?;
         Ok(names)
     }
 
-    // Meets a node.
+    // Meets a node that is before those that were met.
     fn meet(&mut self, node: Option<&'n Node>, number: NodeId) -> Result<(), AllocError>
         ensures { OnOk result ((module_file : ℕ) (name : List ℕ) → told_of self.new module_file name
-            ≡ told_after (told_of self.old) (option_map (λ r. r.now) node.entry) number module_file name) }
+            ≡ told_before (told_of self.old) (option_map (λ r. r.now) node.entry) number module_file
+            name) }
     {
         match node {
             Some(node) => self.keep(node.module_file(), node.name().as_bytes(), number),
@@ -63,13 +68,12 @@ impl<'n> ChildNames<'n> {
         }
     }
 
-    // Keeps the number of a node, where none had its module and name before.
+    // Keeps the number of a node in the place of that of another with its module and name.
     fn keep(&mut self, module_file: u32, name: &'n [u8], number: NodeId) -> Result<(), AllocError>
-        ensures { OnOk result ((h : ℕ) (n : List ℕ) → told_of self.new h n ≡ told_with (told_of self.old) module_file name.now number h n) }
+        ensures { OnOk result
+            ((h : ℕ) (n : List ℕ) → told_of self.new h n
+            ≡ told_with (told_of self.old) module_file name.now number h n) }
     {
-        if self.map.contains_key(&(name, module_file)) {
-            return Ok(());
-        }
         self.map.insert((name, module_file), number)?;
         Ok(())
     }

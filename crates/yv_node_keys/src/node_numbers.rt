@@ -15,7 +15,8 @@ pub(crate) fn node_at<'n>(nodes: &'n [Node], number: NodeId) -> Option<&'n Node>
     nodes.get(number.number() as usize)
 }
 
-/// The number of the file of the module whose namespace the node of a number is in, or 0 where there is none.
+/// The number of the file of the module whose namespace the node of a number is in, or 0 where
+/// there is none.
 pub(crate) fn module_file_at(nodes: &[Node], number: NodeId) -> u32
     ensures { result ≡ module_file_at nodes.now number }
 {

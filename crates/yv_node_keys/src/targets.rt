@@ -27,8 +27,8 @@ pub(crate) struct ListLeafs {
     pub(crate) uniques: Vec<Vec<NodeId>>,
 }
 
-/// For each list the numbers of the leafs that its `key` and `unique` statements name, and for each choice that of its default
-/// case. Nothing is kept of other nodes.
+/// For each list the numbers of the leafs that its `key` and `unique` statements name, and for each
+/// choice that of its default case. Nothing is kept of other nodes.
 #[derive(Drop)]
 pub struct LeafTargets {
     lists: BTreeMap<u32, ListLeafs>,
@@ -55,9 +55,11 @@ impl LeafTargets {
         }
     }
 
-    /// The numbers of the leafs that the names of a list's key name, in order (RFC 7950, section 7.8.2).
+    /// The numbers of the leafs that the names of a list's key name, in order (RFC 7950, section
+    /// 7.8.2).
     pub fn keys(&self, list: NodeId) -> &[NodeId]
-        ensures { (rows : List Row) → AreLeafTargets rows self.now → (r : Row) → slice_get rows list.0 ≡ Some r
+        ensures { (rows : List Row) → AreLeafTargets rows self.now → (r : Row)
+            → slice_get rows list.0 ≡ Some r
             → map (λ n. Some n) result.now ≡ map (key_leaf_at rows list) r.label.defined.keys }
     {
         match self.lists.get(&list.number()) {
@@ -66,10 +68,13 @@ impl LeafTargets {
         }
     }
 
-    /// For each of a list's `unique` statements the numbers of the leafs that its paths name, in order (RFC 7950, section 7.8.3).
+    /// For each of a list's `unique` statements the numbers of the leafs that its paths name, in
+    /// order (RFC 7950, section 7.8.3).
     pub fn uniques(&self, list: NodeId) -> &[Vec<NodeId>]
-        ensures { (rows : List Row) → AreLeafTargets rows self.now → (r : Row) → slice_get rows list.0 ≡ Some r
-            → map (λ leafs. map (λ n. Some n) leafs.items) result.now ≡ map (map (unique_leaf_at rows list)) r.label.defined.uniques }
+        ensures { (rows : List Row) → AreLeafTargets rows self.now → (r : Row)
+            → slice_get rows list.0 ≡ Some r
+            → map (λ leafs. map (λ n. Some n) leafs.items) result.now
+            ≡ map (map (unique_leaf_at rows list)) r.label.defined.uniques }
     {
         match self.lists.get(&list.number()) {
             Some(leafs) => leafs.uniques.as_slice(),
@@ -79,7 +84,8 @@ impl LeafTargets {
 
     /// The number of the default case of a choice (RFC 7950, section 7.9.3): none of another node.
     pub fn default_case(&self, choice: NodeId) -> Option<NodeId>
-        ensures { (rows : List Row) → AreLeafTargets rows self.now → choice.0 < length rows → result ≡ default_case_at rows choice }
+        ensures { (rows : List Row) → AreLeafTargets rows self.now → choice.0 < length rows → result
+            ≡ default_case_at rows choice }
     {
         self.cases.get(&choice.number()).copied()
     }
@@ -92,8 +98,11 @@ impl LeafTargets {
         number: NodeId,
     ) -> Result<Option<Refusal>, AllocError>
         requires { number.0 < length nodes.now.rows }
-        ensures keeps { IfOk result (λ here. here ≡ None → AreUpTo nodes.now.rows self.old number.0 → AreUpTo nodes.now.rows self.new (number.0 + 1)) }
-        ensures fault { (ts : Forest) → nodes.now.rows ≡ rows_from 0 ts → (p : Place) → slice_get (places ts) number.0 ≡ Some p
+        ensures keeps { IfOk result
+            (λ here. here ≡ None → AreUpTo nodes.now.rows self.old number.0
+            → AreUpTo nodes.now.rows self.new (number.0 + 1)) }
+        ensures fault { (ts : Forest) → nodes.now.rows ≡ rows_from 0 ts → (p : Place)
+            → slice_get (places ts) number.0 ≡ Some p
             → IfOk result (λ here. IsLeast (BadOfLeafs p) here) }
     {
         let node = nodes.get(number);
@@ -114,8 +123,10 @@ fn keep_both(
     keys: Option<Vec<NodeId>>,
     uniques: Option<Vec<Vec<NodeId>>>,
 ) -> Result<(), AllocError>
-    ensures { (rows : List Row) (ks : Vec NodeId Global) (us : Vec (Vec NodeId Global) Global) → keys ≡ Some ks → uniques ≡ Some us
-        → HasLeafs rows list.0 (Some (record { keys = ks; uniques = us })) → IsKeptUpTo (lists_at lists.old) (HasLeafs rows) list.0
+    ensures { (rows : List Row) (ks : Vec NodeId Global) (us : Vec (Vec NodeId Global) Global)
+        → keys ≡ Some ks → uniques ≡ Some us
+        → HasLeafs rows list.0 (Some (record { keys = ks; uniques = us }))
+        → IsKeptUpTo (lists_at lists.old) (HasLeafs rows) list.0
         → OnOk result (IsKeptUpTo (lists_at lists.new) (HasLeafs rows) (list.0 + 1)) }
 {
     match (keys, uniques) {
@@ -130,7 +141,8 @@ fn keep_leafs(
     list: NodeId,
     leafs: ListLeafs,
 ) -> Result<(), AllocError>
-    ensures { (rows : List Row) → HasLeafs rows list.0 (Some leafs) → IsKeptUpTo (lists_at lists.old) (HasLeafs rows) list.0
+    ensures { (rows : List Row) → HasLeafs rows list.0 (Some leafs)
+        → IsKeptUpTo (lists_at lists.old) (HasLeafs rows) list.0
         → OnOk result (IsKeptUpTo (lists_at lists.new) (HasLeafs rows) (list.0 + 1)) }
 {
     if leafs.keys.is_empty() && leafs.uniques.is_empty() {
@@ -146,7 +158,8 @@ fn keep_case(
     choice: NodeId,
     case: Option<NodeId>,
 ) -> Result<(), AllocError>
-    ensures { (rows : List Row) → HasCase rows choice.0 case → IsKeptUpTo (cases_at cases.old) (HasCase rows) choice.0
+    ensures { (rows : List Row) → HasCase rows choice.0 case
+        → IsKeptUpTo (cases_at cases.old) (HasCase rows) choice.0
         → OnOk result (IsKeptUpTo (cases_at cases.new) (HasCase rows) (choice.0 + 1)) }
 {
     if let Some(case) = case {
@@ -155,13 +168,16 @@ fn keep_case(
     Ok(())
 }
 
-/// What all lists and choices of these nodes name, and the least refusal: BadKey at a list whose key has a name of no leaf directly
-/// below, and BadUnique at a list with more than 64 `unique` statements, or with a path that names no leaf, or with a statement
-/// whose leafs are and aren't configuration (RFC 7950, sections 7.8.2, 7.8.3 and 7.9.3). It takes time n log n in the names of the
-/// nodes and the steps of all lists. Err only if memory runs out.
+/// What all lists and choices of these nodes name, and the least refusal: BadKey at a list whose
+/// key has a name of no leaf directly below, and BadUnique at a list with more than 64 `unique`
+/// statements, or with a path that names no leaf, or with a statement whose leafs are and aren't
+/// configuration (RFC 7950, sections 7.8.2, 7.8.3 and 7.9.3). It takes time n log n in the names of
+/// the nodes and the steps of all lists. Err only if memory runs out.
 pub fn leaf_targets(alloc: Global, nodes: &Nodes) -> Result<FoundTargets, AllocError>
-    ensures targets { IfOk result (λ found. found.fault ≡ None → AreLeafTargets nodes.now.rows found.targets) }
-    ensures fault { (ts : Forest) → nodes.now.rows ≡ rows_from 0 ts → IfOk result (λ found. IsLeast (BadLeafs ts) found.fault) }
+    ensures targets { IfOk result
+        (λ found. found.fault ≡ None → AreLeafTargets nodes.now.rows found.targets) }
+    ensures fault { (ts : Forest) → nodes.now.rows ≡ rows_from 0 ts
+        → IfOk result (λ found. IsLeast (BadLeafs ts) found.fault) }
 {
     let mut targets = LeafTargets::new(alloc);
     let mut fault = None;

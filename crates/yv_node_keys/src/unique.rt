@@ -25,9 +25,12 @@ fn named_leafs<'n>(
 ) -> Result<Option<Vec<NodeId>>, AllocError>
     ensures rows { index.new ≡ index.old }
     ensures lacks { IfOk result (λ leafs. is_some leafs
-        ≡ not (list_any (λ path. not (is_some (unique_leaf_at index.old list path))) (map (λ path. path.items) paths.now))) }
+        ≡ not
+        (list_any (λ path. not (is_some (unique_leaf_at index.old list path)))
+        (map (λ path. path.items) paths.now))) }
     ensures numbers { IfOk result (λ leafs. IfSome leafs (λ numbers.
-        map (λ n. Some n) numbers.items ≡ map (unique_leaf_at index.old list) (map (λ path. path.items) paths.now))) }
+        map (λ n. Some n) numbers.items
+        ≡ map (unique_leaf_at index.old list) (map (λ path. path.items) paths.now))) }
 {
     let mut leafs = Vec::new(alloc);
     for path in paths {
@@ -76,9 +79,12 @@ fn statement_leafs<'n>(
     paths: &'n [Vec<Option<PathStep>>],
 ) -> Result<Option<Vec<NodeId>>, AllocError>
     ensures rows { index.new ≡ index.old }
-    ensures bad { IfOk result (λ leafs. is_some leafs ≡ not (is_bad_statement_at index.old list (map (λ path. path.items) paths.now))) }
+    ensures bad { IfOk result
+        (λ leafs. is_some leafs
+        ≡ not (is_bad_statement_at index.old list (map (λ path. path.items) paths.now))) }
     ensures numbers { IfOk result (λ leafs. IfSome leafs (λ numbers.
-        map (λ n. Some n) numbers.items ≡ map (unique_leaf_at index.old list) (map (λ path. path.items) paths.now))) }
+        map (λ n. Some n) numbers.items
+        ≡ map (unique_leaf_at index.old list) (map (λ path. path.items) paths.now))) }
 {
     let Some(leafs) = named_leafs(alloc, index, list, paths)? else {
         return Ok(None);
@@ -96,9 +102,12 @@ fn all_leafs<'n>(
     list: NodeId,
     statements: &'n [Vec<Vec<Option<PathStep>>>],
 ) -> Result<Option<Vec<Vec<NodeId>>>, AllocError>
-    ensures bad { IfOk result (λ leafs. is_some leafs ≡ not (list_any (is_bad_statement_at nodes.now list) (map paths_in statements.now))) }
+    ensures bad { IfOk result
+        (λ leafs. is_some leafs
+        ≡ not (list_any (is_bad_statement_at nodes.now list) (map paths_in statements.now))) }
     ensures numbers { IfOk result (λ leafs. IfSome leafs (λ found.
-        map (λ numbers. map (λ n. Some n) numbers.items) found.items ≡ map (map (unique_leaf_at nodes.now list)) (map paths_in statements.now))) }
+        map (λ numbers. map (λ n. Some n) numbers.items) found.items
+        ≡ map (map (unique_leaf_at nodes.now list)) (map paths_in statements.now))) }
 {
     let mut index = Index::new(alloc, nodes);
     let mut found = Vec::new(alloc);
@@ -111,21 +120,26 @@ fn all_leafs<'n>(
     Ok(Some(found))
 }
 
-/// For each of a list's `unique` statements the numbers of the leafs that its paths name, in order (RFC 7950, section 7.8.3): none
-/// where there are more than 64 statements, or a path of one names no leaf, or leafs of one are and aren't configuration. Of nodes
-/// of one module and name below the same node the first is meant, whatever its kind; a path goes through no list, and names the
-/// cases that are left out. The nodes directly below each one that paths pass are looked at once, so that it takes time n log n in
-/// their names and those of the paths; names of modules are compared where the nodes' are the same. Err only if memory runs out.
+/// For each of a list's `unique` statements the numbers of the leafs that its paths name, in order
+/// (RFC 7950, section 7.8.3): none where there are more than 64 statements, or a path of one names
+/// no leaf, or leafs of one are and aren't configuration. Of nodes of one module and name below the
+/// same node the first is meant, whatever its kind; a path goes through no list, and names the
+/// cases that are left out. The nodes directly below each one that paths pass are looked at once,
+/// so that it takes time n log n in their names and those of the paths; names of modules are
+/// compared where the nodes' are the same. Err only if memory runs out.
 pub fn unique_leafs<'n>(
     alloc: Global,
     nodes: &'n Nodes,
     list: NodeId,
     statements: &'n [Vec<Vec<Option<PathStep>>>],
 ) -> Result<Option<Vec<Vec<NodeId>>>, AllocError>
-    ensures refuses { (ts : Forest) → nodes.now.rows ≡ rows_from 0 ts → (p : Place) → slice_get (places ts) list.0 ≡ Some p
-        → IfOk result (λ leafs. is_some leafs ≡ not (is_bad_unique (tree_in p) (map paths_in statements.now))) }
+    ensures refuses { (ts : Forest) → nodes.now.rows ≡ rows_from 0 ts → (p : Place)
+        → slice_get (places ts) list.0 ≡ Some p
+        → IfOk result
+        (λ leafs. is_some leafs ≡ not (is_bad_unique (tree_in p) (map paths_in statements.now))) }
     ensures numbers { IfOk result (λ leafs. IfSome leafs (λ found.
-        map (λ numbers. map (λ n. Some n) numbers.items) found.items ≡ map (map (unique_leaf_at nodes.now.rows list)) (map paths_in statements.now))) }
+        map (λ numbers. map (λ n. Some n) numbers.items) found.items
+        ≡ map (map (unique_leaf_at nodes.now.rows list)) (map paths_in statements.now))) }
 {
     if statements.len() > 64 {
         return Ok(None);

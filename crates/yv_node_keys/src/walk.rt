@@ -19,9 +19,11 @@ fn arrived_from(nodes: &[Node], above: NodeId, below: Option<NodeId>) -> Option<
     arrived_at(nodes, above, below)
 }
 
-// Where a path is that came from the case left out around a node, if it is of this module and this name.
+// Where a path is that came from the case left out around a node, if it is of this module and this
+// name.
 fn enter_case(nodes: &[Node], node: NodeId, module_file: u32, name: &str) -> Option<Way>
-    ensures { result ≡ (if is_called_at nodes.now module_file name.now node then Some (AtNode node) else None) }
+    ensures { result
+        ≡ (if is_called_at nodes.now module_file name.now node then Some (AtNode node) else None) }
 {
     if is_called_at(nodes, node, module_file, name) {
         Some(Way::AtNode(node))

@@ -26,7 +26,8 @@ drop_past (y ∷ ys) (suc i) l = drop_past ys i (omega (arith, l))
 
 module _ (rows : List Row) (told : NameNumbers) (table : Table) (finds : Finds rows told table) (own : ℕ) (strides : List (Option Stride)) (steps : List (Option Step)) (same : strides ≡ map (stride_of told) steps)
     (i : ℕ) (t : Option Stride) (at : slice_get strides i ≡ Some t) (a b : Option ℕ) where
-  -- where a step means a node, the path leads on from there; where it means none, the path leads nowhere
+  -- where a step means a node, the path leads on from there; where it means none, the path leads
+  -- nowhere
   pub leads_next : (n : ℕ) → target_of_stride table own a t ≡ Some n → Leads rows own (drop i steps) a b ↔ Leads rows own (drop (i + 1) steps) (Some n) b
   leads_next n is =
       let here = step_at told strides steps i t same at in

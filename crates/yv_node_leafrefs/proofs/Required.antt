@@ -28,7 +28,8 @@ module _ (rows : List Row) (own : ℕ) (hold : OnlyInnerHold rows) where
   inner_more c cs first others zero k lt at = let same : c ≡ k = same_Some c k at in let here : 1 < length (c ∷ cs) = omega (arith, lt) in subst (IsInner rows) same (first here)
   inner_more c cs first others (suc i) k lt at = others i k (omega (arith, lt)) at
 
-  -- a path that leads somewhere leads there over nodes, which are containers and lists but for the last
+  -- a path that leads somewhere leads there over nodes, which are containers and lists but for the
+  -- last
   abbrev pub Way : List (Option Step) → Option ℕ → Option ℕ → Type 0
   Way steps a b = (cs : List ℕ) × LeadsOver rows own steps cs a b × AreInner rows cs
 

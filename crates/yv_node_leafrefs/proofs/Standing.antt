@@ -20,7 +20,8 @@ kids_of ts n = slice_index_or (kids_in ts) n no_trees
 abbrev pub row_of : NodeId → ℕ → Label → Forest → Row
 row_of parent n l kids = record { label = l; parent = parent; children = numbers_from (n + 1) kids }
 
--- each node of these trees, the first of which has the number `first`, has its row among these, and the trees below it
+-- each node of these trees, the first of which has the number `first`, has its row among these, and
+-- the trees below it
 abbrev pub Stand : List Row → (ℕ → Forest) → (parent : NodeId) → (first : ℕ) → Forest → Type 0
 Stand rows below parent first no_trees = Unit {0}
 Stand rows below parent first (tree (node l kids) ts) =

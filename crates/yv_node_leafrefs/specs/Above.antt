@@ -27,7 +27,8 @@ pub data Closest (rows : List Row) : Option ℕ → Option ℕ → Type 0 where
 abbrev pub IsAbove : List Row → Option ℕ → ℕ → Type 0
 IsAbove rows a c = (r : Row) × (slice_get rows c ≡ Some r) × Closest rows (parent_of r) a
 
--- c is a data node of the module of this number and of this name, and the place a is the one above it
+-- c is a data node of the module of this number and of this name, and the place a is the one above
+-- it
 pub record IsDataChild (rows : List Row) (a : Option ℕ) (module_file : ℕ) (name : List ℕ) (c : ℕ) : Type 0 where
   pub row : Row
   pub at : slice_get rows c ≡ Some row

@@ -14,7 +14,8 @@ pub record IsLost (s : Schema) (n : ℕ) (row : Row) : Type 0 where
   pub is_leafref : IsLeafref s n row ref
   pub lost : (target : ℕ) → RefersTo s n target → ⊥
 
--- what is wrong with a node: it is a leafref that refers to nothing, or it leads to itself. What leads into a cycle is not wrong
+-- what is wrong with a node: it is a leafref that refers to nothing, or it leads to itself. What
+-- leads into a cycle is not wrong
 abbrev pub BadLeafref : Schema → ℕ → Row → Refusal → Type 0
 BadLeafref s n r f =
     Stands (IsLost s n r) (refusal_of code.BadPath r.label) f

@@ -9,8 +9,8 @@ use Rattle.yv_node_leafrefs.specs.Schema.{Referral}
 use Rattle.yv_node_leafrefs.specs.Above.{IsAbove}
 use Rattle.yv_node_leafrefs.specs.Links.{IsInner}
 
--- for each of the first n nodes the container or list that stands above it, choices and cases being passed over: none where the document
--- or another node does
+-- for each of the first n nodes the container or list that stands above it, choices and cases being
+-- passed over: none where the document or another node does
 abbrev pub AreAbove : List Row → ℕ → List (Option ℕ) → Type 0
 AreAbove rows n above = (c p : ℕ) → c < n → (slice_index_or above c None ≡ Some p) ↔ (IsAbove rows (Some p) c × IsInner rows p)
 

@@ -25,7 +25,8 @@ IsInner rows c = (r : Row) × (slice_get rows c ≡ Some r) × (is_inner r.label
 abbrev pub AreInner : List Row → List ℕ → Type 0
 AreInner rows cs = (i c : ℕ) → i + 1 < length cs → slice_get cs i ≡ Some c → IsInner rows c
 
--- the steps of a path lead down from a place to another over these data nodes: each step means one of them, in order
+-- the steps of a path lead down from a place to another over these data nodes: each step means one
+-- of them, in order
 abbrev pub LeadsOver : List Row → (own : ℕ) → List (Option Step) → List ℕ → Option ℕ → Option ℕ → Type 0
 LeadsOver rows own [] [] a b = a ≡ b
 LeadsOver rows own [] (c ∷ cs) a b = ⊥
@@ -37,8 +38,9 @@ abbrev pub OnlyInnerHold : List Row → Type 0
 OnlyInnerHold rows = (p c module_file : ℕ) (name : List ℕ) (r : Row) → slice_get rows p ≡ Some r → is_data r.label.defined.kind ≡ true
     → IsDataChild rows (Some p) module_file name c → is_inner r.label.defined.kind ≡ true
 
--- this is the link of the leafref n: it refers to the target, and its path is absolute or begins with `../`, and leads over these nodes,
--- through containers and lists; whether it requires an instance is what the leafref says
+-- this is the link of the leafref n: it refers to the target, and its path is absolute or begins
+-- with `../`, and leads over these nodes, through containers and lists; whether it requires an
+-- instance is what the leafref says
 pub record IsLinkOf (s : Schema) (n : ℕ) (link : Link) : Type 0 where
   pub refers : RefersTo s n link.target
   pub climbs : link.climbs ≡ refers.ref.climbs
@@ -47,7 +49,8 @@ pub record IsLinkOf (s : Schema) (n : ℕ) (link : Link) : Type 0 where
   pub inner : AreInner s.rows link.steps
   pub is_required : link.is_required ≡ refers.ref.is_required
 
--- these are the links of a schema's leafrefs, each at the number of its leafref, and None at other nodes; 32 bits tell the nodes apart
+-- these are the links of a schema's leafrefs, each at the number of its leafref, and None at other
+-- nodes; 32 bits tell the nodes apart
 pub record AreLinks (s : Schema) (links : List (Option Link)) : Type 0 where
   pub few : length s.rows < 2 ^ 32
   pub long : length links ≡ length s.rows

@@ -1,4 +1,5 @@
--- A schema tree whose leafrefs are resolved: the values of each have the types of its target (RFC 7950, section 9.9).
+-- A schema tree whose leafrefs are resolved: the values of each have the types of its target (RFC
+-- 7950, section 9.9).
 use Rattle.std.specs.Prelude.{◌≡◌, ℕ, ◌<◌, length, None}
 use Rattle.yv_statement.specs.Order.{IsLeast}
 use Rattle.yv_statement.specs.declared.refusal.Refusal.{Refusal}
@@ -16,8 +17,8 @@ pub record IsResolved (s : Schema) (stated resolved : Forest) : Type 0 where
   pub each : (n : ℕ) → n < length s.rows → HasTypesOf s n (origin n)
   pub is : resolved ≡ typed_from (λ n. types_at s.rows (origin n)) 0 stated
 
--- the tree that a schema comes to: with its leafrefs resolved where nothing is wrong with them, and else as it is stated, since it is
--- refused
+-- the tree that a schema comes to: with its leafrefs resolved where nothing is wrong with them, and
+-- else as it is stated, since it is refused
 pub data IsTyped (s : Schema) (stated : Forest) : Forest → Type 0 where
   with_targets : {tree : Forest} → IsLeast (BadLeafrefs s) None → IsResolved s stated tree → IsTyped s stated tree
   with_refusal : {f : Refusal} → BadLeafrefs s f → IsTyped s stated stated

@@ -5,8 +5,9 @@ use Rattle.std.specs.Option.{option_and_then}
 use Rattle.yv_node_definition.specs.Steps.{Step}
 use Rattle.yv_nodes.specs.Rows.{Row}
 
--- what the type of a leafref says: the number of `../` at the front of its path, none where that is absolute, the names behind, of
--- which one is None where its prefix stands for no module, and what `require-instance` says
+-- what the type of a leafref says: the number of `../` at the front of its path, none where that is
+-- absolute, the names behind, of which one is None where its prefix stands for no module, and what
+-- `require-instance` says
 pub record Referral : Type 0 where
   pub climbs : Option ℕ
   pub steps : List (Option Step)
@@ -17,7 +18,8 @@ pub record Schema : Type 0 where
   pub rows : List Row
   pub says : ℕ → Option Referral
 
--- what is said where copies of a node share it: for each row its number among these, if the row is a leafref
+-- what is said where copies of a node share it: for each row its number among these, if the row is
+-- a leafref
 abbrev pub leafref_of_row : (of : List (Option ℕ)) → (leafrefs : List Referral) → ℕ → Option Referral
 leafref_of_row of leafrefs n = option_and_then (slice_get leafrefs) (slice_index_or of n None)
 

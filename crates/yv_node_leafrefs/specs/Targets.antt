@@ -19,7 +19,8 @@ pub record IsLeafref (s : Schema) (n : ℕ) (row : Row) (ref : Referral) : Type 
   pub says : s.says n ≡ Some ref
   pub outside : IsInside s.rows (Some n) → ⊥
 
--- a node may be the target of a leafref: it has values, and where an instance is required that of configuration is configuration
+-- a node may be the target of a leafref: it has values, and where an instance is required that of
+-- configuration is configuration
 abbrev pub is_fit : (row : Row) → Referral → (target : Row) → Bool
 is_fit row ref target = has_values target.label.defined.kind && (not (ref.is_required && row.label.is_config) || target.label.is_config)
 
@@ -40,7 +41,8 @@ pub data LeadsTo (s : Schema) : ℕ → ℕ → Type 0 where
   by_step : {a b : ℕ} → RefersTo s a b → LeadsTo s a b
   by_way : {a b c : ℕ} → RefersTo s a b → LeadsTo s b c → LeadsTo s a c
 
--- the node whose types the values of a node have: the node itself, where it refers to none, else that of its target
+-- the node whose types the values of a node have: the node itself, where it refers to none, else
+-- that of its target
 pub data HasTypesOf (s : Schema) : ℕ → ℕ → Type 0 where
   own : {n : ℕ} → ((target : ℕ) → RefersTo s n target → ⊥) → HasTypesOf s n n
   along : {n target e : ℕ} → RefersTo s n target → HasTypesOf s target e → HasTypesOf s n e

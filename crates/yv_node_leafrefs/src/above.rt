@@ -59,10 +59,12 @@ pub(crate) fn places_above(alloc: Global, nodes: &[Node]) -> Result<Vec<Option<u
     Ok(above)
 }
 
-// Whether a node or one above it is an operation or a notification, where this is known of the nodes before it.
+// Whether a node or one above it is an operation or a notification, where this is known of the
+// nodes before it.
 fn is_inside(inside: &[bool], node: &Node) -> bool
     requires behind { (p : ℕ) → parent_of node.now ≡ Some p → p < length inside.now }
-    ensures { (rows : List Row) (n : ℕ) → slice_get rows n ≡ Some node.now → AreInside rows (length inside.now) inside.now
+    ensures { (rows : List Row) (n : ℕ) → slice_get rows n ≡ Some node.now
+        → AreInside rows (length inside.now) inside.now
         → IsTrue result ↔ IsInside rows (Some n) }
 {
     if node.kind().is_operation_or_notification() {

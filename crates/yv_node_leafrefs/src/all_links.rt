@@ -21,7 +21,8 @@ fn leafref_of<'a>(
     leafrefs: &'a [Leafref],
     node: NodeId,
 ) -> Option<&'a Leafref>
-    ensures { option_map (λ leafref. leafref.now) result ≡ leafref_of_row of.now leafrefs.now node.0 }
+    ensures { option_map (λ leafref. leafref.now) result
+        ≡ leafref_of_row of.now leafrefs.now node.0 }
 {
     let says = of.get(node.number() as usize).copied().unwrap_or(None)?;
     leafrefs.get(says)
@@ -36,7 +37,8 @@ fn link_of(
     resolved: &Leafrefs,
     node: NodeId,
 ) -> Result<Option<Link>, AllocError>
-    ensures { (s : Schema) → AreLeafrefs s resolved.now → s.says node.0 ≡ leafref_of_row of.now leafrefs.now node.0
+    ensures { (s : Schema) → AreLeafrefs s resolved.now → s.says node.0
+        ≡ leafref_of_row of.now leafrefs.now node.0
         → AreAbove s.rows (length s.rows) above.now
         → IfOk result (λ found. (link : spec.Link) → (found ≡ Some link) ↔ IsLinkOf s node.0 link) }
 {
@@ -52,10 +54,11 @@ fn link_of(
     }
 }
 
-/// The links of the leafrefs among these nodes, whether they require an instance or not. `of` gives for each node which of the leafrefs it is, if it is
-/// one, and `resolved` what they refer to (RFC 7950, sections 9.9.2 and 9.9.3). It takes time and memory linear in the nodes and in the
-/// steps of the links, none of which has more steps than nodes are nested, and time n log n in the links. Err only if memory runs
-/// out.
+/// The links of the leafrefs among these nodes, whether they require an instance or not. `of` gives
+/// for each node which of the leafrefs it is, if it is one, and `resolved` what they refer to (RFC
+/// 7950, sections 9.9.2 and 9.9.3). It takes time and memory linear in the nodes and in the steps
+/// of the links, none of which has more steps than nodes are nested, and time n log n in the links.
+/// Err only if memory runs out.
 pub fn links(
     alloc: Global,
     nodes: &Nodes,
@@ -64,8 +67,10 @@ pub fn links(
     resolved: &Leafrefs,
 ) -> Result<Links, AllocError>
     requires behind { AreBehind nodes.now.rows }
-    requires resolves { AreLeafrefs (record { rows = nodes.now.rows; says = leafref_of_row of.now leafrefs.now }) resolved.now }
-    ensures { IfOk result (AreLinks (record { rows = nodes.now.rows; says = leafref_of_row of.now leafrefs.now })) }
+    requires resolves { AreLeafrefs
+        (record { rows = nodes.now.rows; says = leafref_of_row of.now leafrefs.now }) resolved.now }
+    ensures { IfOk result
+        (AreLinks (record { rows = nodes.now.rows; says = leafref_of_row of.now leafrefs.now })) }
 {
     let above = inner_above(alloc, nodes.all())?;
     let mut links = Vec::new(alloc);

@@ -13,8 +13,8 @@ use crate::strides::{Stride, all_strides};
 use std::alloc::{AllocError, Global};
 use yv_nodes::Node;
 
-/// For each node the closest place above it that is not a choice or case, and whether it is inside an operation or a
-/// notification; the steps of each leafref; and the data nodes by their names.
+/// For each node the closest place above it that is not a choice or case, and whether it is inside
+/// an operation or a notification; the steps of each leafref; and the data nodes by their names.
 #[derive(Drop)]
 pub(crate) struct Draft<'n> {
     pub(crate) above: Vec<Option<u32>>,
@@ -44,7 +44,8 @@ fn data_keys(
 ) -> Result<Vec<Option<Key>>, AllocError>
     requires each { length above.now ≡ length nodes.now }
     requires each_name { length names.now ≡ length nodes.now }
-    ensures { IfOk result (λ keys. AreKeys nodes.now above.now names.now (length nodes.now) keys.items) }
+    ensures { IfOk result
+        (λ keys. AreKeys nodes.now above.now names.now (length nodes.now) keys.items) }
 {
     let mut keys = Vec::new(alloc);
     for (number, node) in nodes.iter().enumerate() {

@@ -1,4 +1,5 @@
-//! The graph of leafrefs: the nodes that lead to themselves, and the nodes whose types leafrefs have.
+//! The graph of leafrefs: the nodes that lead to themselves, and the nodes whose types leafrefs
+//! have.
 ghost use Rattle.std.specs.Prelude.{◌≡◌, ◌<◌, ◌^◌, ℕ, length, map, option_to_list, Some, IfOk, slice_index};
 ghost use Rattle.std.specs.List.{All};
 ghost use Rattle.yv_node_leafrefs.specs.Schema.{Schema};
@@ -45,9 +46,11 @@ pub(crate) fn cycles(alloc: Global, targets: &[Option<u32>]) -> Result<Vec<bool>
 
 // The order in which types are found: each node behind its target.
 fn order(alloc: Global, targets: &[Option<u32>]) -> Result<Vec<usize>, AllocError>
-    requires { (s : Schema) × (length targets.now ≡ length s.rows) × AreTargets s targets.now × ((n : ℕ) → LeadsTo s n n → ⊥) }
+    requires { (s : Schema) × (length targets.now ≡ length s.rows) × AreTargets s targets.now
+        × ((n : ℕ) → LeadsTo s n n → ⊥) }
     ensures within { IfOk result (λ order. All (λ n. n < length targets.now) order.items) }
-    ensures all { IfOk result (λ order. (n : ℕ) → n < length targets.now → IsVisited order.items (length order.items) n) }
+    ensures all { IfOk result
+        (λ order. (n : ℕ) → n < length targets.now → IsVisited order.items (length order.items) n) }
     ensures behind { IfOk result (λ order. IsBehind targets.now order.items) }
 {
     let graph = graph(alloc, targets)?;
@@ -70,10 +73,12 @@ fn origin(origins: &[usize], node: usize, target: Option<u32>) -> usize
 
 /// For each node the node whose types its values have.
 pub(crate) fn origins(alloc: Global, targets: &[Option<u32>]) -> Result<Vec<usize>, AllocError>
-    requires { (s : Schema) × (length targets.now ≡ length s.rows) × AreTargets s targets.now × ((n : ℕ) → LeadsTo s n n → ⊥) }
+    requires { (s : Schema) × (length targets.now ≡ length s.rows) × AreTargets s targets.now
+        × ((n : ℕ) → LeadsTo s n n → ⊥) }
     ensures each { IfOk result (λ origins. length origins.items ≡ length targets.now) }
     ensures types { (s : Schema) → length targets.now ≡ length s.rows → AreTargets s targets.now
-        → IfOk result (λ origins. (n : ℕ) → n < length s.rows → HasTypesOf s n (slice_index origins.items n)) }
+        → IfOk result
+        (λ origins. (n : ℕ) → n < length s.rows → HasTypesOf s n (slice_index origins.items n)) }
 {
     let order = order(alloc, targets)?;
     let mut origins = Vec::new(alloc);

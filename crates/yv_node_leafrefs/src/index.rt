@@ -27,7 +27,8 @@ pub(crate) fn rank(place: Option<u32>) -> u64
 impl Index {
     // Puts a node at its key, where none is there.
     fn put_first(&mut self, key: Key, number: u32) -> Result<(), AllocError>
-        ensures { OnOk result ((k : Key) → table_of self.new k ≡ kept_first key number (table_of self.old k) k) }
+        ensures { OnOk result
+            ((k : Key) → table_of self.new k ≡ kept_first key number (table_of self.old k) k) }
     {
         if !self.map.contains_key(&key) {
             self.map.insert(key, number)?;
@@ -38,7 +39,8 @@ impl Index {
     /// The index of nodes that have these keys.
     pub(crate) fn of(alloc: Global, keys: &[Option<Key>]) -> Result<Index, AllocError>
         requires { length keys.now < 2 ^ 32 }
-        ensures { IfOk result (λ index. (k : Key) → IsFirstOf keys.now (length keys.now) k (table_of index k)) }
+        ensures { IfOk result
+            (λ index. (k : Key) → IsFirstOf keys.now (length keys.now) k (table_of index k)) }
     {
         let mut index = Index {
             map: BTreeMap::new(alloc),

@@ -27,12 +27,14 @@ pub(crate) fn above_at(above: &[Option<u32>], number: u32) -> Option<u32>
     above.get(number as usize).copied().unwrap_or(None)
 }
 
-// The container or list that is the closest place from one upwards, where those above the nodes before it are known.
+// The container or list that is the closest place from one upwards, where those above the nodes
+// before it are known.
 fn closest(nodes: &[Node], above: &[Option<u32>], place: Option<u32>) -> Option<u32>
     requires behind { (p : ℕ) → place ≡ Some p → p < length above.now }
     requires within { length above.now ≤ length nodes.now }
     requires above { AreAbove nodes.now (length above.now) above.now }
-    ensures { (p : ℕ) → (result ≡ Some p) ↔ (Closest nodes.now place (Some p) × IsInner nodes.now p) }
+    ensures { (p : ℕ) → (result ≡ Some p)
+        ↔ (Closest nodes.now place (Some p) × IsInner nodes.now p) }
 {
     let number = place?;
     match nodes[number as usize].kind() {
@@ -42,8 +44,8 @@ fn closest(nodes: &[Node], above: &[Option<u32>], place: Option<u32>) -> Option<
     }
 }
 
-/// For each node the container or list above it, choices and cases being passed over: none where the document or another node is
-/// there. It takes linear time.
+/// For each node the container or list above it, choices and cases being passed over: none where
+/// the document or another node is there. It takes linear time.
 pub(crate) fn inner_above(alloc: Global, nodes: &[Node]) -> Result<Vec<Option<u32>>, AllocError>
     requires { AreBehind nodes.now }
     ensures { IfOk result (λ above. AreAbove nodes.now (length nodes.now) above.items) }

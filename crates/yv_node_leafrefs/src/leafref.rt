@@ -2,7 +2,8 @@
 use std::marker::Model;
 use yv_node_definition::PathStep;
 
-/// What the type of a leafref says (RFC 7950, section 9.9), which the copies of a node share. Contracts see it as a `Referral`.
+/// What the type of a leafref says (RFC 7950, section 9.9), which the copies of a node share.
+/// Contracts see it as a `Referral`.
 #[derive(Drop)]
 pub struct Leafref {
     /// How many `../` its path begins with. None where that is absolute.

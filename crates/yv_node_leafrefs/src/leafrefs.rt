@@ -63,10 +63,12 @@ impl Leafrefs {
     ghost use Rattle.yv_node_leafrefs.specs.Leafrefs.{AreLeafrefs};
     ghost use Rattle.yv_node_leafrefs.specs.Resolution.{IsTyped};
 
-    /// The leafrefs among these nodes. For each node `statements` has the number of the statement that defines it, so that a long name
-    /// is compared once for all copies of a node, and `of` gives which of the leafrefs it is, if it is one. A name without prefix is of
-    /// the module of the node that has the path. It takes time n log n in the nodes and in the steps of the leafrefs; at each node so
-    /// many steps of its path are followed as nodes are nested, at most. Err only if memory runs out.
+    /// The leafrefs among these nodes. For each node `statements` has the number of the statement
+    /// that defines it, so that a long name is compared once for all copies of a node, and `of`
+    /// gives which of the leafrefs it is, if it is one. A name without prefix is of the module of
+    /// the node that has the path. It takes time n log n in the nodes and in the steps of the
+    /// leafrefs; at each node so many steps of its path are followed as nodes are nested, at most.
+    /// Err only if memory runs out.
     pub fn read(
         alloc: Global,
         nodes: &Nodes,
@@ -76,7 +78,9 @@ impl Leafrefs {
     ) -> Result<Leafrefs, AllocError>
         requires behind { AreBehind nodes.now.rows }
         requires names { AreNamed nodes.now.rows statements.now }
-        ensures { IfOk result (AreLeafrefs (record { rows = nodes.now.rows; says = leafref_of_row of.now leafrefs.now })) }
+        ensures { IfOk result
+            (AreLeafrefs
+            (record { rows = nodes.now.rows; says = leafref_of_row of.now leafrefs.now })) }
     {
         // There are never more of them than numbers of 32 bits tell apart.
         let _count = nodes.len();
@@ -93,40 +97,49 @@ impl Leafrefs {
         Ok(Leafrefs { targets, fault })
     }
 
-    /// The least that is wrong: BadPath at a leafref whose path leads to no leaf or leaf-list, or from configuration to none where an
-    /// instance is required, and PathCycle at one that leads to itself along targets (RFC 7950, section 9.9).
+    /// The least that is wrong: BadPath at a leafref whose path leads to no leaf or leaf-list, or
+    /// from configuration to none where an instance is required, and PathCycle at one that leads to
+    /// itself along targets (RFC 7950, section 9.9).
     pub fn refusal(&self) -> Option<Refusal>
         ensures { (s : Schema) → AreLeafrefs s self.now → IsLeast (BadLeafrefs s) result }
     {
         self.fault
     }
 
-    /// The node that a leafref refers to. None for other nodes, and inside operations and notifications.
+    /// The node that a leafref refers to. None for other nodes, and inside operations and
+    /// notifications.
     pub fn target(&self, node: NodeId) -> Option<NodeId>
-        ensures { (s : Schema) → AreLeafrefs s self.now → (x : NodeId) → (result ≡ Some x) ↔ RefersTo s node.0 x.0 }
+        ensures { (s : Schema) → AreLeafrefs s self.now → (x : NodeId) → (result ≡ Some x)
+            ↔ RefersTo s node.0 x.0 }
     {
         node_id(target_at(&self.targets, node.number()))
     }
 
-    /// For each node the one whose types its values have: itself, or the node at the end of a chain of leafrefs. It takes time linear in
-    /// the nodes, and nothing recurses along a chain.
+    /// For each node the one whose types its values have: itself, or the node at the end of a chain
+    /// of leafrefs. It takes time linear in the nodes, and nothing recurses along a chain.
     pub fn origins(&self, alloc: Global) -> Result<Vec<NodeId>, AllocError>
         requires { (s : Schema) × AreLeafrefs s self.now × IsLeast (BadLeafrefs s) None }
-        ensures each { (s : Schema) → AreLeafrefs s self.now → IfOk result (λ origins. length origins.items ≡ length s.rows) }
+        ensures each { (s : Schema) → AreLeafrefs s self.now
+            → IfOk result (λ origins. length origins.items ≡ length s.rows) }
         ensures types { (s : Schema) → AreLeafrefs s self.now
-            → IfOk result (λ origins. (n : ℕ) (e : NodeId) → slice_get origins.items n ≡ Some e → HasTypesOf s n e.0) }
+            → IfOk result
+            (λ origins. (n : ℕ) (e : NodeId) → slice_get origins.items n ≡ Some e
+            → HasTypesOf s n e.0) }
     {
         let origins = origins(alloc, &self.targets)?;
         let nodes = all_numbered(alloc, &origins)?;
         Ok(nodes)
     }
 
-    /// Gives each leafref among the nodes that were read the types of its target, where nothing is wrong with leafrefs (RFC 7950,
-    /// section 9.9): else the nodes stay as they are. It takes time linear in the nodes. Err only if memory runs out.
+    /// Gives each leafref among the nodes that were read the types of its target, where nothing is
+    /// wrong with leafrefs (RFC 7950, section 9.9): else the nodes stay as they are. It takes time
+    /// linear in the nodes. Err only if memory runs out.
     pub fn resolve(&self, alloc: Global, nodes: &mut Nodes) -> Result<(), AllocError>
         requires { (s : Schema) × AreLeafrefs s self.now × (s.rows ≡ nodes.old.rows) }
-        ensures types { (s : Schema) (stated : Forest) → AreLeafrefs s self.now → s.rows ≡ nodes.old.rows → s.rows ≡ rows_from 0 stated
-            → OnOk result ((tree : Forest) × IsTyped s stated tree × (nodes.new.rows ≡ rows_from 0 tree)) }
+        ensures types { (s : Schema) (stated : Forest) → AreLeafrefs s self.now → s.rows
+            ≡ nodes.old.rows → s.rows ≡ rows_from 0 stated
+            → OnOk result
+            ((tree : Forest) × IsTyped s stated tree × (nodes.new.rows ≡ rows_from 0 tree)) }
         ensures limit { nodes.new.limit ≡ nodes.old.limit }
         ensures keeps { IfErr result (λ error. nodes.new.rows ≡ nodes.old.rows) }
     {

@@ -1,5 +1,6 @@
-//! Where the leafrefs of a schema tree lead (RFC 7950, section 9.9): the target of each, the paths that lead to none, the leafrefs
-//! that refer to one another in a cycle, and the node whose types the values of a leafref have.
+//! Where the leafrefs of a schema tree lead (RFC 7950, section 9.9): the target of each, the paths
+//! that lead to none, the leafrefs that refer to one another in a cycle, and the node whose types
+//! the values of a leafref have.
 #![tactic(auto)]
 
 mod above;

@@ -41,7 +41,8 @@ fn is_path(climbs: Option<usize>) -> bool
     }
 }
 
-/// The link of a leafref that says this and refers to the target, by the containers and lists above nodes.
+/// The link of a leafref that says this and refers to the target, by the containers and lists above
+/// nodes.
 pub(crate) fn link_to(
     alloc: Global,
     above: &[Option<u32>],

@@ -7,7 +7,8 @@ use crate::names::NameTable;
 use std::alloc::{AllocError, Global};
 use yv_node_definition::PathStep;
 
-/// A step of a path: the number of the file of the module that its prefix identifies, none without one, and the number of its name.
+/// A step of a path: the number of the file of the module that its prefix identifies, none without
+/// one, and the number of its name.
 #[derive(Clone, Copy)]
 pub(crate) struct Stride {
     pub(crate) module_file: Option<u32>,
@@ -36,7 +37,8 @@ fn strides_of<'n>(
     names: &NameTable<'n>,
     steps: &'n [Option<PathStep>],
 ) -> Result<Vec<Option<Stride>>, AllocError>
-    ensures { IfOk result (λ strides. strides.items ≡ map (stride_of (told_of names.now)) steps.now) }
+    ensures { IfOk result
+        (λ strides. strides.items ≡ map (stride_of (told_of names.now)) steps.now) }
 {
     let mut strides = Vec::new(alloc);
     for step in steps {

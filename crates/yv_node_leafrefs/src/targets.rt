@@ -48,7 +48,8 @@ fn follow(
     requires draft { IsDraft outline.now draft.now }
     requires leafref { IsLeafref (schema_in outline.now) number node.now leafref.now }
     requires strides { strides.now ≡ map (stride_of (told_of draft.now.names)) leafref.now.steps }
-    ensures { (target : ℕ) → (result ≡ Some target) ↔ RefersTo (schema_in outline.now) number target }
+    ensures { (target : ℕ) → (result ≡ Some target)
+        ↔ RefersTo (schema_in outline.now) number target }
 {
     let place = start(draft, number, leafref.climbs())?;
     let found = walk(draft, node.module_file(), strides, place)?;
@@ -63,7 +64,8 @@ fn follow(
 fn target(outline: &Outline<'_>, draft: &Draft<'_>, number: u32) -> Option<u32>
     requires draft { IsDraft outline.now draft.now }
     requires within { number < length (rows_in outline.now) }
-    ensures { (target : ℕ) → (result ≡ Some target) ↔ RefersTo (schema_in outline.now) number target }
+    ensures { (target : ℕ) → (result ≡ Some target)
+        ↔ RefersTo (schema_in outline.now) number target }
 {
     if draft.inside[number as usize] {
         return None;

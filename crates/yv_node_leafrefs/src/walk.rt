@@ -32,7 +32,8 @@ fn climb(draft: &Draft<'_>, number: u32, climbs: usize) -> Option<Option<u32>>
 pub(crate) fn start(draft: &Draft<'_>, number: u32, climbs: Option<usize>) -> Option<Option<u32>>
     requires within { number < length draft.now.above.items }
     requires inner { (o : Outline) × IsDraft o draft.now }
-    ensures { (o : Outline) → IsDraft o draft.now → (a : Option ℕ) → (result ≡ Some a) ↔ Begins (rows_in o) number climbs a }
+    ensures { (o : Outline) → IsDraft o draft.now → (a : Option ℕ) → (result ≡ Some a)
+        ↔ Begins (rows_in o) number climbs a }
 {
     match climbs {
         None => Some(None),
@@ -40,7 +41,8 @@ pub(crate) fn start(draft: &Draft<'_>, number: u32, climbs: Option<usize>) -> Op
     }
 }
 
-// The node that a step means below a place, the node that has the path being of the module of this number.
+// The node that a step means below a place, the node that has the path being of the module of this
+// number.
 fn target_of_stride(
     draft: &Draft<'_>,
     own: u32,

@@ -28,7 +28,8 @@ names_behind text = drop (ups_of text) (texts_of text)
 abbrev pub climbs_of : List ℕ → Option ℕ
 climbs_of text = if is_absolute text then None else Some (ups_of text)
 
--- the steps by its names: those behind the '/' at its front where it is absolute, else those behind the `..`
+-- the steps by its names: those behind the '/' at its front where it is absolute, else those behind
+-- the `..`
 abbrev pub steps_in : Files → (file : ℕ) → List ℕ → List (Option Step)
 steps_in files file text = if is_absolute text then path_of files file (drop 1 text) else map (step_of files file) (names_behind text)
 

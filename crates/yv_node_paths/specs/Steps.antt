@@ -1,4 +1,5 @@
--- The paths that the arguments of `key` and `unique` statements have (RFC 7950, sections 6.5, 7.8.2 and 7.8.3).
+-- The paths that the arguments of `key` and `unique` statements have (RFC 7950, sections 6.5, 7.8.2
+-- and 7.8.3).
 use Rattle.std.specs.Prelude.{ℕ, ◌==◌, List, map, Option, Some, None}
 use Rattle.std.specs.List.{slice_split}
 use Rattle.std.specs.Option.{option_map}

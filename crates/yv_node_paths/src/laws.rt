@@ -10,20 +10,26 @@ ghost use Rattle.yv_link_scopes.specs.Files.{Files};
 ghost use Rattle.yv_link_scopes.specs.RowList.{statements_of};
 ghost use Rattle.yv_node_paths.specs.Referral.{climbs_of};
 
-/// A text that a leafref may have as its path is absolute, or climbs once or more (RFC 7950, section 9.9.2).
+/// A text that a leafref may have as its path is absolute, or climbs once or more (RFC 7950,
+/// section 9.9.2).
 pub fn paths_of_leafrefs_begin()
     ensures { (text : List ℕ) → is_leafref_path text ≡ true → climbs_of text ≢ Some 0 }
 {}
 
-/// The text of a `path` statement in the block of one that fits, other than an extension's, is absolute, or climbs once or more.
+/// The text of a `path` statement in the block of one that fits, other than an extension's, is
+/// absolute, or climbs once or more.
 pub fn paths_in_what_fits_begin()
-    ensures { (parent : Keyword) (t c : Tree) (k : ℕ) (text : List ℕ) → FitsIn parent t → keyword_at t ≢ Extended
-        → slice_get (trees t.children) k ≡ Some c → keyword_at c ≡ Path → c.head.argument ≡ Some text → climbs_of text ≢ Some 0 }
+    ensures { (parent : Keyword) (t c : Tree) (k : ℕ) (text : List ℕ) → FitsIn parent t
+        → keyword_at t ≢ Extended
+        → slice_get (trees t.children) k ≡ Some c → keyword_at c ≡ Path → c.head.argument
+        ≡ Some text → climbs_of text ≢ Some 0 }
 {}
 
 /// The same of the numbered statements of files that conform.
 pub fn paths_of_files_begin()
-    ensures { (files : Files) (k j : ℕ) (t c : Tree) (text : List ℕ) → ((n : ℕ) (root : Tree) → slice_get files n ≡ Some root → Fits root)
-        → slice_get (statements_of files) k ≡ Some t → keyword_at t ≢ Extended → slice_get (trees t.children) j ≡ Some c
+    ensures { (files : Files) (k j : ℕ) (t c : Tree) (text : List ℕ)
+        → ((n : ℕ) (root : Tree) → slice_get files n ≡ Some root → Fits root)
+        → slice_get (statements_of files) k ≡ Some t → keyword_at t ≢ Extended
+        → slice_get (trees t.children) j ≡ Some c
         → keyword_at c ≡ Path → c.head.argument ≡ Some text → climbs_of text ≢ Some 0 }
 {}

@@ -22,7 +22,8 @@ fn push_path<'a>(
     paths: &mut Vec<Vec<Option<PathStep>>>,
     piece: &'a str,
 ) -> Result<(), AllocError>
-    ensures { (files : Files) → IsPrefixTable files module_files.now → OnOk result (map (λ path. path.items) paths.new.items
+    ensures { (files : Files) → IsPrefixTable files module_files.now
+        → OnOk result (map (λ path. path.items) paths.new.items
         ≡ map (λ path. path.items) paths.old.items ++ path_in files file piece.now) }
 {
     if !piece.is_empty() {
@@ -39,7 +40,8 @@ fn push_name<'a>(
     names: &mut Vec<Option<PathStep>>,
     piece: &'a str,
 ) -> Result<(), AllocError>
-    ensures { (files : Files) → IsPrefixTable files module_files.now → OnOk result (names.new.items ≡ names.old.items ++ name_in files file piece.now) }
+    ensures { (files : Files) → IsPrefixTable files module_files.now
+        → OnOk result (names.new.items ≡ names.old.items ++ name_in files file piece.now) }
 {
     if !piece.is_empty() {
         names.push(read_step(alloc, module_files, file, piece)?)?;
@@ -47,7 +49,8 @@ fn push_name<'a>(
     Ok(())
 }
 
-/// Reads the paths of arguments: which modules the prefixes in files identify is found once for all of them.
+/// Reads the paths of arguments: which modules the prefixes in files identify is found once for all
+/// of them.
 #[derive(Drop)]
 pub struct LeafPaths<'a> {
     module_files: PrefixTable<'a>,
@@ -58,7 +61,8 @@ impl<'a> LeafPaths<'a> {
     ghost use Rattle.yv_node_paths.specs.Referral.{climbs_of, pieces_of, steps_in};
     ghost use Rattle.yv_node_paths.specs.Steps.{names_of, paths_of};
 
-    /// The prefixes that files declare, in time n log n and memory linear in the text. Err only if memory runs out.
+    /// The prefixes that files declare, in time n log n and memory linear in the text. Err only if
+    /// memory runs out.
     pub fn read(alloc: Global, rows: &Rows<'a, '_>) -> Result<LeafPaths<'a>, AllocError>
         ensures { IfOk result (AreLeafPaths (lent_in rows.now)) }
     {
@@ -66,8 +70,9 @@ impl<'a> LeafPaths<'a> {
         Ok(LeafPaths { module_files })
     }
 
-    /// The paths that the argument of a `unique` statement in a file has, with blanks between (RFC 7950, section 7.8.3). A step
-    /// is None where its prefix identifies no module. Err only if memory runs out.
+    /// The paths that the argument of a `unique` statement in a file has, with blanks between (RFC
+    /// 7950, section 7.8.3). A step is None where its prefix identifies no module. Err only if
+    /// memory runs out.
     pub fn paths(
         &self,
         alloc: Global,
@@ -75,7 +80,8 @@ impl<'a> LeafPaths<'a> {
         text: &'a str,
     ) -> Result<Vec<Vec<Option<PathStep>>>, AllocError>
         ensures { (files : Files) → AreLeafPaths files self.now
-            → IfOk result (λ paths. map (λ path. path.items) paths.items ≡ paths_of files file text.now) }
+            → IfOk result
+            (λ paths. map (λ path. path.items) paths.items ≡ paths_of files file text.now) }
     {
         let mut paths = Vec::new(alloc);
         let mut rest = text;
@@ -87,15 +93,17 @@ impl<'a> LeafPaths<'a> {
         Ok(paths)
     }
 
-    /// The names that the argument of a `key` statement in a file has, with blanks between, each as the one step of a path
-    /// (RFC 7950, section 7.8.2). One is None where its prefix identifies no module. Err only if memory runs out.
+    /// The names that the argument of a `key` statement in a file has, with blanks between, each as
+    /// the one step of a path (RFC 7950, section 7.8.2). One is None where its prefix identifies no
+    /// module. Err only if memory runs out.
     pub fn names(
         &self,
         alloc: Global,
         file: usize,
         text: &'a str,
     ) -> Result<Vec<Option<PathStep>>, AllocError>
-        ensures { (files : Files) → AreLeafPaths files self.now → IfOk result (λ names. names.items ≡ names_of files file text.now) }
+        ensures { (files : Files) → AreLeafPaths files self.now
+            → IfOk result (λ names. names.items ≡ names_of files file text.now) }
     {
         let mut names = Vec::new(alloc);
         let mut rest = text;
@@ -107,8 +115,9 @@ impl<'a> LeafPaths<'a> {
         Ok(names)
     }
 
-    /// The path that the argument of a `path` statement in a file is, in time and memory linear in the text (RFC 7950, section 9.9.2).
-    /// A step is None where its prefix identifies no module. Err only if memory runs out.
+    /// The path that the argument of a `path` statement in a file is, in time and memory linear in
+    /// the text (RFC 7950, section 9.9.2). A step is None where its prefix identifies no module.
+    /// Err only if memory runs out.
     pub fn referral(
         &self,
         alloc: Global,
@@ -122,15 +131,17 @@ impl<'a> LeafPaths<'a> {
         read_referral(alloc, &self.module_files, file, text)
     }
 
-    /// The pieces of the path that the argument of a `path` statement in a file is, as it is written, for callers that print it (RFC 7950,
-    /// section 9.9.2). It takes time and memory linear in the text. Err only if memory runs out.
+    /// The pieces of the path that the argument of a `path` statement in a file is, as it is
+    /// written, for callers that print it (RFC 7950, section 9.9.2). It takes time and memory
+    /// linear in the text. Err only if memory runs out.
     pub fn pieces(
         &self,
         alloc: Global,
         file: usize,
         text: &'a str,
     ) -> Result<Vec<PathPiece>, AllocError>
-        ensures { (files : Files) → AreLeafPaths files self.now → IfOk result (λ pieces. pieces.items ≡ pieces_of files file text.now) }
+        ensures { (files : Files) → AreLeafPaths files self.now
+            → IfOk result (λ pieces. pieces.items ≡ pieces_of files file text.now) }
     {
         read_pieces(alloc, &self.module_files, file, text)
     }

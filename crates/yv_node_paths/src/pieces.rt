@@ -18,7 +18,8 @@ fn read_piece<'a>(
     file: usize,
     text: &'a str,
 ) -> Result<PathPiece, AllocError>
-    ensures { (files : Files) → IsPrefixTable files module_files.now → IfOk result (λ piece. piece ≡ piece_of files file text.now) }
+    ensures { (files : Files) → IsPrefixTable files module_files.now
+        → IfOk result (λ piece. piece ≡ piece_of files file text.now) }
 {
     let name = RcStr::from_str(alloc, local(text))?;
     match prefix_of(text) {
@@ -43,7 +44,8 @@ fn read_each<'a>(
     texts: &[&'a str],
 ) -> Result<Vec<PathPiece>, AllocError>
     ensures { (files : Files) → IsPrefixTable files module_files.now
-        → IfOk result (λ pieces. pieces.items ≡ map (piece_of files file) (map (λ t. t.now) texts.now)) }
+        → IfOk result
+        (λ pieces. pieces.items ≡ map (piece_of files file) (map (λ t. t.now) texts.now)) }
 {
     let mut pieces = Vec::new(alloc);
     for text in texts {
@@ -59,7 +61,8 @@ pub(crate) fn read_pieces<'a>(
     file: usize,
     text: &'a str,
 ) -> Result<Vec<PathPiece>, AllocError>
-    ensures { (files : Files) → IsPrefixTable files module_files.now → IfOk result (λ pieces. pieces.items ≡ pieces_of files file text.now) }
+    ensures { (files : Files) → IsPrefixTable files module_files.now
+        → IfOk result (λ pieces. pieces.items ≡ pieces_of files file text.now) }
 {
     let texts = texts_of(alloc, text)?;
     read_each(alloc, module_files, file, &texts)

@@ -24,7 +24,8 @@ fn declared_module_file(rows: &Rows<'_, '_>, entry: &Entry<'_, '_>) -> Option<u3
 
 // The same, if the statement declares a prefix.
 fn module_file_of_prefix(rows: &Rows<'_, '_>, entry: &Entry<'_, '_>) -> Option<u32>
-    ensures { result ≡ module_file_of_prefix (files_in rows.now) (rows_in rows.now) (row entry.now) }
+    ensures { result
+        ≡ module_file_of_prefix (files_in rows.now) (rows_in rows.now) (row entry.now) }
 {
     if entry.statement.keyword() == "prefix" {
         declared_module_file(rows, entry)
@@ -38,7 +39,9 @@ fn module_files_of_prefixes(
     alloc: Global,
     rows: &Rows<'_, '_>,
 ) -> Result<Vec<Option<u32>>, AllocError>
-    ensures { IfOk result (λ module_files. map (module_file_of_prefix (files_in rows.now) (rows_in rows.now)) (rows_in rows.now) ≡ module_files.items) }
+    ensures { IfOk result
+        (λ module_files. map (module_file_of_prefix (files_in rows.now) (rows_in rows.now))
+        (rows_in rows.now) ≡ module_files.items) }
 {
     let mut module_files = Vec::new(alloc);
     for entry in rows.entries() {
@@ -49,13 +52,14 @@ fn module_files_of_prefixes(
 
 // What there is at a place of a list.
 fn module_file_in(module_files: &[Option<u32>], place: usize) -> Option<u32>
-    ensures { result ≡ option_and_then (λ module_file. module_file) (slice_get module_files.now place) }
+    ensures { result
+        ≡ option_and_then (λ module_file. module_file) (slice_get module_files.now place) }
 {
     module_files.get(place).copied()?
 }
 
-/// For each prefix of a file the module that it identifies. A module's name, which may be long, is looked up once for a
-/// declaration of a prefix.
+/// For each prefix of a file the module that it identifies. A module's name, which may be long, is
+/// looked up once for a declaration of a prefix.
 #[derive(Drop)]
 pub(crate) struct PrefixTable<'a> {
     prefixes: NamePlaces<'a>,
@@ -79,7 +83,8 @@ impl<'a> PrefixTable<'a> {
 
     /// The number of the file of the module that a prefix identifies in a file.
     pub(crate) fn get(&self, file: usize, prefix: &'a str) -> Option<u32>
-        ensures { (files : Files) → IsPrefixTable files self.now → result ≡ module_file_of files file prefix.now }
+        ensures { (files : Files) → IsPrefixTable files self.now → result
+            ≡ module_file_of files file prefix.now }
     {
         let number = self.prefixes.get(file, prefix)?;
         module_file_in(&self.module_files, number)

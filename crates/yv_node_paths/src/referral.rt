@@ -22,7 +22,8 @@ pub struct LeafrefPath {
 
 // What stands behind the '/' with which an absolute path begins.
 fn behind_root(text: &str) -> Option<&str>
-    ensures { MatchOption result (is_absolute text.now ≡ false) (λ names. (is_absolute text.now ≡ true) × (names.now ≡ drop 1 text.now)) }
+    ensures { MatchOption result (is_absolute text.now ≡ false)
+        (λ names. (is_absolute text.now ≡ true) × (names.now ≡ drop 1 text.now)) }
 {
     text.strip_prefix('/')
 }
@@ -43,7 +44,8 @@ fn absolute<'a>(
     names: &'a str,
 ) -> Result<LeafrefPath, AllocError>
     ensures climbs { IfOk result (λ path. path.climbs ≡ None) }
-    ensures steps { (files : Files) → IsPrefixTable files module_files.now → IfOk result (λ path. path.steps.items ≡ path_of files file names.now) }
+    ensures steps { (files : Files) → IsPrefixTable files module_files.now
+        → IfOk result (λ path. path.steps.items ≡ path_of files file names.now) }
 {
     Ok(LeafrefPath {
         climbs: None,
@@ -60,7 +62,8 @@ fn relative<'a>(
 ) -> Result<LeafrefPath, AllocError>
     ensures climbs { IfOk result (λ path. path.climbs ≡ Some (ups_of text.now)) }
     ensures steps { (files : Files) → IsPrefixTable files module_files.now
-        → IfOk result (λ path. path.steps.items ≡ map (step_of files file) (names_behind text.now)) }
+        → IfOk result
+        (λ path. path.steps.items ≡ map (step_of files file) (names_behind text.now)) }
 {
     let texts = texts_of(alloc, text)?;
     let ups = ups(&texts);
@@ -79,7 +82,8 @@ pub(crate) fn read_referral<'a>(
     text: &'a str,
 ) -> Result<LeafrefPath, AllocError>
     ensures climbs { IfOk result (λ path. path.climbs ≡ climbs_of text.now) }
-    ensures steps { (files : Files) → IsPrefixTable files module_files.now → IfOk result (λ path. path.steps.items ≡ steps_in files file text.now) }
+    ensures steps { (files : Files) → IsPrefixTable files module_files.now
+        → IfOk result (λ path. path.steps.items ≡ steps_in files file text.now) }
 {
     match behind_root(text) {
         Some(names) => absolute(alloc, module_files, file, names),

@@ -27,7 +27,10 @@ fn step_in(
     module_file: Option<u32>,
     name: &str,
 ) -> Result<Option<PathStep>, AllocError>
-    ensures { IfOk result (λ step. step ≡ option_map (λ number. record { module_file = Some number; name = name.now }) module_file) }
+    ensures { IfOk result
+        (λ step. step
+        ≡ option_map (λ number. record { module_file = Some number; name = name.now })
+        module_file) }
 {
     match module_file {
         Some(module_file) => Ok(Some(PathStep {
@@ -45,7 +48,8 @@ pub(crate) fn read_step<'a>(
     file: usize,
     text: &'a str,
 ) -> Result<Option<PathStep>, AllocError>
-    ensures { (files : Files) → IsPrefixTable files module_files.now → IfOk result (λ step. step ≡ step_of files file text.now) }
+    ensures { (files : Files) → IsPrefixTable files module_files.now
+        → IfOk result (λ step. step ≡ step_of files file text.now) }
 {
     let name = local(text);
     match prefix_of(text) {
@@ -69,7 +73,8 @@ pub(crate) fn read_steps<'a>(
     texts: &[&'a str],
 ) -> Result<Vec<Option<PathStep>>, AllocError>
     ensures { (files : Files) → IsPrefixTable files module_files.now
-        → IfOk result (λ steps. steps.items ≡ map (step_of files file) (map (λ t. t.now) texts.now)) }
+        → IfOk result
+        (λ steps. steps.items ≡ map (step_of files file) (map (λ t. t.now) texts.now)) }
 {
     let mut steps = Vec::new(alloc);
     for text in texts {
@@ -85,7 +90,8 @@ pub(crate) fn read_path<'a>(
     file: usize,
     text: &'a str,
 ) -> Result<Vec<Option<PathStep>>, AllocError>
-    ensures { (files : Files) → IsPrefixTable files module_files.now → IfOk result (λ path. path.items ≡ path_of files file text.now) }
+    ensures { (files : Files) → IsPrefixTable files module_files.now
+        → IfOk result (λ path. path.items ≡ path_of files file text.now) }
 {
     let texts = texts_of(alloc, text)?;
     read_steps(alloc, module_files, file, &texts)

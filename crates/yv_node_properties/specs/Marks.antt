@@ -1,5 +1,6 @@
--- What is said of a node that doesn't wait for its types: whether it is configuration, mandatory or has a presence, and how many
--- entries it has at least (RFC 7950, sections 3, 7.5.5, 7.6.5, 7.7.5 and 7.21.1).
+-- What is said of a node that doesn't wait for its types: whether it is configuration, mandatory or
+-- has a presence, and how many entries it has at least (RFC 7950, sections 3, 7.5.5, 7.6.5, 7.7.5
+-- and 7.21.1).
 use Rattle.std.specs.Prelude.{ℕ, nat_lt, Bool, false, ◌||◌, Option, None, is_some}
 use Rattle.std.specs.Option.{option_map, option_or, unwrap_or}
 use Rattle.yv_statement.specs.declared.keyword.Keyword.TheVariants as word

@@ -1,4 +1,5 @@
--- The properties of a node that refines may change (RFC 7950, section 7.13.2), by the statements that say them.
+-- The properties of a node that refines may change (RFC 7950, section 7.13.2), by the statements
+-- that say them.
 use Rattle.std.specs.Prelude.{ℕ, ◌^◌, nat_lt, Bool, false, ℤ, pos, List, [], ◌∷◌, Option, Some, None, is_some, codes, filter, map, if◌then◌else◌}
 use Rattle.std.specs.Option.{option_map, option_or, unwrap_or}
 use Rattle.std.specs.Str.{bytes_eq}
@@ -6,8 +7,8 @@ use Rattle.yv_statement.specs.Tree.{Tree, name_of, trees}
 use Rattle.yv_statement.specs.declared.keyword.Keyword.{Keyword}
 use Rattle.yv_statement.specs.declared.keyword.Keyword.TheVariants as word
 use Rattle.yv_link_scopes.specs.Files.{Files}
-use Rattle.yv_expand.specs.declared.item.Origin.{Origin}
-use Rattle.yv_expand.specs.declared.item.Origin.TheVariants as origin
+use Rattle.yv_expand.specs.declared.origin.Origin.{Origin}
+use Rattle.yv_expand.specs.declared.origin.Origin.TheVariants as origin
 use Rattle.yv_base_numbers.specs.Numbers.{integer_of}
 use Rattle.yv_node_definition.specs.Definition.{TextInFile, or_list}
 use Rattle.yv_node_properties.specs.Statements.{file_at, first_of, is_of, statement_at}
@@ -41,7 +42,8 @@ defaults_of file t = map (written_in file) (filter (is_of word.Default) (trees t
 abbrev pub defaults_at : Files → ℕ → List TextInFile
 defaults_at files number = defaults_of (file_at files number) (statement_at files number)
 
--- the defaults that the last of these numbered statements gives that gives some: they stand in place of all earlier ones
+-- the defaults that the last of these numbered statements gives that gives some: they stand in
+-- place of all earlier ones
 abbrev pub last_defaults : Files → List ℕ → List TextInFile
 last_defaults files [] = []
 last_defaults files (n ∷ ns) = or_list (last_defaults files ns) (defaults_at files n)

@@ -8,5 +8,6 @@ ghost use Rattle.yv_node_properties.specs.Properties.{last_said, said_at};
 pub fn the_last_statement_stands()
     ensures none { (files : Files) → stated_of (last_said files []) ≡ stated_of silent }
     ensures more { (files : Files) (n : ℕ) (ns : List ℕ)
-        → stated_of (last_said files (n ∷ ns)) ≡ over (stated_of (last_said files ns)) (stated_of (said_at files n)) }
+        → stated_of (last_said files (n ∷ ns))
+        ≡ over (stated_of (last_said files ns)) (stated_of (said_at files n)) }
 {}

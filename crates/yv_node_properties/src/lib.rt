@@ -1,5 +1,5 @@
-//! What substatements say of the node that a statement defines: those of a block by their keyword, and the properties that refines may
-//! change (RFC 7950, section 7.13.2).
+//! What substatements say of the node that a statement defines: those of a block by their keyword,
+//! and the properties that refines may change (RFC 7950, section 7.13.2).
 #![tactic(auto)]
 
 pub mod laws;

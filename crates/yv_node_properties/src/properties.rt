@@ -60,7 +60,8 @@ impl StatedProperties {
         }
     }
 
-    /// Whether a node whose statements say this is mandatory by itself: by its `mandatory` statement, or by a `min-elements` above 0.
+    /// Whether a node whose statements say this is mandatory by itself: by its `mandatory`
+    /// statement, or by a `min-elements` above 0.
     pub fn is_mandatory(self) -> bool
         ensures { result ≡ is_mandatory self }
     {
@@ -70,7 +71,8 @@ impl StatedProperties {
 
 // What the first substatement of this keyword says, if there is one: true, or anything else.
 fn truth_in(keyword: Keyword, statement: &Statement<'_>) -> Option<bool>
-    ensures { (file : ℕ) → result ≡ option_map is_true (substatements_of file statement.now keyword) }
+    ensures { (file : ℕ) → result
+        ≡ option_map is_true (substatements_of file statement.now keyword) }
 {
     match first_of(keyword, statement) {
         Some(found) => Some(name_of(found) == "true"),
@@ -80,7 +82,8 @@ fn truth_in(keyword: Keyword, statement: &Statement<'_>) -> Option<bool>
 
 // The least number of entries, where that is said.
 fn least_in(statement: &Statement<'_>) -> Option<u32>
-    ensures { (file : ℕ) → result ≡ option_map least_of (substatements_of file statement.now word.MinElements) }
+    ensures { (file : ℕ) → result
+        ≡ option_map least_of (substatements_of file statement.now word.MinElements) }
 {
     match first_of(Keyword::MinElements, statement) {
         Some(found) => Some(elements(name_of(found)).unwrap_or(0)),
@@ -91,7 +94,8 @@ fn least_in(statement: &Statement<'_>) -> Option<u32>
 ghost use Rattle.yv_base_numbers.specs.Numbers.{integer_of};
 ghost use Rattle.yv_node_properties.specs.Properties.{elements};
 
-/// A number of entries. In a file that conforms it always fits in 32 bits; `unbounded` is not a number.
+/// A number of entries. In a file that conforms it always fits in 32 bits; `unbounded` is not a
+/// number.
 pub fn elements(text: &str) -> Option<u32>
     ensures { result ≡ elements (integer_of text.now) }
 {

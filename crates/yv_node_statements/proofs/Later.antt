@@ -8,8 +8,8 @@ use Rattle.yv_statement.specs.Tree.{Tree, trees}
 use Rattle.yv_statement.specs.declared.keyword.Keyword.{Keyword}
 use Rattle.yv_statement.specs.declared.keyword.Keyword.TheVariants as word
 use Rattle.yv_link_scopes.specs.Files.{Files}
-use Rattle.yv_expand.specs.declared.item.Origin.{Origin}
-use Rattle.yv_expand.specs.declared.item.Origin.TheVariants.{Statement, Input, Output}
+use Rattle.yv_expand.specs.declared.origin.Origin.{Origin}
+use Rattle.yv_expand.specs.declared.origin.Origin.TheVariants.{Statement, Input, Output}
 use Rattle.yv_values.specs.Values.{Val}
 use Rattle.yv_node_definition.specs.Definition.{Definition, TextInFile, or_list}
 use Rattle.yv_node_definition.specs.declared.kind.NodeKind.TheVariants as kind
@@ -121,11 +121,13 @@ no_default files (n ∷ ns) h =
     ap (λ (l : List TextInFile). or_list l (defaults_at files n)) (no_default files ns parts.1)
     ∙ none_found (written_in (file_at files n)) (is_of word.Default) (trees (statement_at files n).children) parts.0
 
--- the defaults that are said of a node with these of its own, of a type with this one, and with so many entries at least
+-- the defaults that are said of a node with these of its own, of a type with this one, and with so
+-- many entries at least
 abbrev said_by : List TextInFile → Option TextInFile → ℕ → List TextInFile
 said_by own type min = or_list own (cond (min == 0) (option_to_list type) [])
 
--- the same defaults are said of a node, where it has the same of its own, and if none, may have no entry as before
+-- the same defaults are said of a node, where it has the same of its own, and if none, may have no
+-- entry as before
 said_stays : (own : List TextInFile) (type : Option TextInFile) (m n : ℕ) → (are_none own && either_alone (m == 0) (n == 0)) ≡ false
     → said_by own type m ≡ said_by own type n
 said_stays (w ∷ ws) type m n h = refl
@@ -243,7 +245,8 @@ module _ (typing : TypeMeanings) (files : Files) where
         ap (λ (l : List TextInFile). said_by l d.type_default first.min) same ∙ said_stays own d.type_default first.min left.min still
         )
 
-    -- and so it is as it stands, where the refines give no default and don't decide over that of the type
+    -- and so it is as it stands, where the refines give no default and don't decide over that of
+    -- the type
     pub kept_is : (said draft f : Definition) (features : List ℕ) → said ≡ first → draft ≡ record said { features = features }
         → features ≡ with_expressions said.features (all_expressions files refines) → f ≡ apply_statements files refines draft
         → is_moved files refines said f ≡ false → f ≡ refined_definition typing files from (before ++ refines)

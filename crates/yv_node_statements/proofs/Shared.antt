@@ -36,7 +36,8 @@ if_some (Some x) P h = h x refl
 abbrev Values : Type 0
 Values = Rc (List Val) Global
 
--- the values by the default of the type of a definition are those of another one with the same types and the same default of its type
+-- the values by the default of the type of a definition are those of another one with the same
+-- types and the same default of its type
 pub by_type_stays : (files : Files) (d e : Definition) (o : Option Values) → d.types ≡ e.types → d.type_default ≡ e.type_default
     → IfSome o (λ v. IsByType files d v.value) → IfSome o (λ v. IsByType files e v.value)
 by_type_stays files d e None types default is = is
@@ -68,7 +69,8 @@ module _ (types : Types) (files : Files) where
   shared_more old new numbers values updates are before = λ asked found at.
       new_or_there (is_at (numbers_cmp numbers) asked) numbers asked values found (get_by (numbers_cmp asked) old) (same_numbers numbers asked) are (before asked found) (sym (updates.0 asked) ∙ at)
 
-  -- what is kept for the numbers of the first `type` statement of a block is the values of its default
+  -- what is kept for the numbers of the first `type` statement of a block is the values of its
+  -- default
   pub at_type : (file : ℕ) (block : Forest) (t : Tree) (numbers : Numbers) (values : List Val) → first_of word.Type block ≡ Some t
       → sharing_at types file t.head.offset ≡ Some numbers → AreValues types files numbers values
       → values ≡ type_values files (types_in (kinds_of types) file block) (default_of_type (default_at types) file (first_of word.Type block))

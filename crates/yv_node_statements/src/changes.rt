@@ -88,7 +88,8 @@ impl Changes {
 
 // What the first substatement of this keyword says, if there is one: true, or anything else.
 fn truth_in(keyword: Keyword, statement: &Statement<'_>) -> Option<bool>
-    ensures { (file : ℕ) → result ≡ option_map is_true (substatements_of file statement.now keyword) }
+    ensures { (file : ℕ) → result
+        ≡ option_map is_true (substatements_of file statement.now keyword) }
 {
     match first_of(keyword, statement) {
         Some(found) => Some(name_of(found) == "true"),
@@ -98,7 +99,8 @@ fn truth_in(keyword: Keyword, statement: &Statement<'_>) -> Option<bool>
 
 // The least number of entries, where that is said.
 fn least_in(statement: &Statement<'_>) -> Option<u32>
-    ensures { (file : ℕ) → result ≡ option_map least_of (substatements_of file statement.now word.MinElements) }
+    ensures { (file : ℕ) → result
+        ≡ option_map least_of (substatements_of file statement.now word.MinElements) }
 {
     match first_of(Keyword::MinElements, statement) {
         Some(found) => Some(elements(name_of(found)).unwrap_or(0)),
@@ -108,7 +110,8 @@ fn least_in(statement: &Statement<'_>) -> Option<u32>
 
 // The greatest number of entries, where something is said of it: a number, or `unbounded`.
 fn most_in(statement: &Statement<'_>) -> Option<Option<u32>>
-    ensures { (file : ℕ) → result ≡ option_map elements_of (substatements_of file statement.now word.MaxElements) }
+    ensures { (file : ℕ) → result
+        ≡ option_map elements_of (substatements_of file statement.now word.MaxElements) }
 {
     match first_of(Keyword::MaxElements, statement) {
         Some(found) => Some(elements(name_of(found))),
@@ -152,7 +155,9 @@ fn push_default(
     texts: &mut Vec<WrittenText>,
     statement: &Statement<'_>,
 ) -> Result<(), AllocError>
-    ensures { OnOk result (map written_of texts.new.items ≡ map written_of texts.old.items ++ defaults_among file (statement.now ∷ [])) }
+    ensures { OnOk result
+        (map written_of texts.new.items ≡ map written_of texts.old.items
+        ++ defaults_among file (statement.now ∷ [])) }
 {
     if is_of(Keyword::Default, statement) {
         texts.push(written_in(alloc, file, statement)?)?;
@@ -167,7 +172,8 @@ fn defaults_in(
     file: u32,
     statement: &Statement<'_>,
 ) -> Result<RcSlice<WrittenText>, AllocError>
-    ensures { IfOk result (λ list. map written_of (rc_slice_items list) ≡ defaults_of file statement.now) }
+    ensures { IfOk result
+        (λ list. map written_of (rc_slice_items list) ≡ defaults_of file statement.now) }
 {
     let texts = default_texts(alloc, file, statement)?;
     if texts.is_empty() {

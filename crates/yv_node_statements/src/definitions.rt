@@ -4,7 +4,7 @@ ghost use Rattle.std.specs.Option.{option_copied, option_map};
 ghost use Rattle.std.specs.Rc.{rc_str_bytes};
 ghost use Rattle.yv_statement.specs.Tree.{trees};
 ghost use Rattle.yv_link_scopes.specs.Views.{lent_in};
-ghost use Rattle.yv_expand.specs.declared.item.Origin.{Origin};
+ghost use Rattle.yv_expand.specs.declared.origin.Origin.{Origin};
 ghost use Rattle.yv_values.specs.Types.{plain_of};
 ghost use Rattle.yv_node_paths.specs.LeafPaths.{AreLeafPaths};
 ghost use Rattle.yv_node_statements.specs.Kinds.{typing_of};
@@ -98,7 +98,8 @@ impl<'r, 'a, 'b> Definitions<'r, 'a, 'b> {
     /// What is said of a node of this origin, where no refine changes it. It is that of all other
     /// nodes of this origin, except for an input or output that isn't written.
     pub fn of(&self, origin: Origin) -> Result<Definition, AllocError>
-        ensures { IfOk result (λ d. d ≡ refined_definition (typing_in self.now) (files_in self.now) origin []) }
+        ensures { IfOk result
+            (λ d. d ≡ refined_definition (typing_in self.now) (files_in self.now) origin []) }
     {
         match origin {
             Origin::Statement(number) => self.own_definition(number),
@@ -119,8 +120,12 @@ impl<'r, 'a, 'b> Definitions<'r, 'a, 'b> {
         said: &Definition,
         refines: &[usize],
     ) -> Result<Definition, AllocError>
-        ensures { (before : List ℕ) → said.now ≡ refined_definition (typing_in self.now) (files_in self.now) origin before
-            → IfOk result (λ d. d ≡ refined_definition (typing_in self.now) (files_in self.now) origin (before ++ refines.now)) }
+        ensures { (before : List ℕ) → said.now
+            ≡ refined_definition (typing_in self.now) (files_in self.now) origin before
+            → IfOk result
+            (λ d. d
+            ≡ refined_definition (typing_in self.now) (files_in self.now) origin
+            (before ++ refines.now)) }
     {
         let mut draft = said.draft()?;
         draft.features = self.features(said, refines)?;
@@ -154,7 +159,8 @@ impl<'r, 'a, 'b> Definitions<'r, 'a, 'b> {
 
     // What the type of the numbered statement says so.
     fn referring_at(&self, number: usize) -> Option<TypeLeafref>
-        ensures { result ≡ leafref_of_tree (typing_in self.now).referrals (file_at (files_in self.now) number)
+        ensures { result
+            ≡ leafref_of_tree (typing_in self.now).referrals (file_at (files_in self.now) number)
             (first_of word.Type (statement_at (files_in self.now) number).children) }
     {
         let found = first_of(Keyword::Type, statement_at(self.rows, number)?)?;
@@ -164,7 +170,8 @@ impl<'r, 'a, 'b> Definitions<'r, 'a, 'b> {
 
     // The types of a node of this origin, as a list that lasts as long as the types of the files.
     fn types_of(&self, origin: Origin) -> &'r [PlainType]
-        ensures { map plain_of result.now ≡ (definition_of (typing_in self.now) (files_in self.now) origin).types }
+        ensures { map plain_of result.now
+            ≡ (definition_of (typing_in self.now) (files_in self.now) origin).types }
     {
         match origin {
             Origin::Statement(number) => types_at(self.rows, self.types, number),
@@ -209,7 +216,10 @@ impl<'r, 'a, 'b> Definitions<'r, 'a, 'b> {
 
     // What the numbered statement says by itself.
     fn own_definition(&self, number: usize) -> Result<Definition, AllocError>
-        ensures { IfOk result (λ d. d ≡ with_defaults (files_in self.now) (defined_at (typing_in self.now) (files_in self.now) number)) }
+        ensures { IfOk result
+            (λ d. d
+            ≡ with_defaults (files_in self.now)
+            (defined_at (typing_in self.now) (files_in self.now) number)) }
     {
         match self.kept_of(number) {
             Some(Store::Node(definition)) => definition.share(),
@@ -257,7 +267,8 @@ impl<'r, 'a, 'b> Definitions<'r, 'a, 'b> {
 
     // Changes a definition as the numbered statement says.
     fn change(&self, definition: &mut DefinitionDraft, number: usize) -> Result<(), AllocError>
-        ensures { OnOk result (definition.new ≡ apply_change (change_at (files_in self.now) number) definition.old) }
+        ensures { OnOk result
+            (definition.new ≡ apply_change (change_at (files_in self.now) number) definition.old) }
     {
         match self.kept_of(number) {
             Some(Store::Refine(changes)) => changes.change(definition),
@@ -284,7 +295,9 @@ impl<'r, 'a, 'b> Definitions<'r, 'a, 'b> {
 
     // The features of a definition, and behind them those of these refines.
     fn features(&self, own: &Definition, refines: &[usize]) -> Result<RcStr, AllocError>
-        ensures { IfOk result (λ text. rc_str_bytes text ≡ with_expressions own.now.features (all_expressions (files_in self.now) refines.now)) }
+        ensures { IfOk result
+            (λ text. rc_str_bytes text
+            ≡ with_expressions own.now.features (all_expressions (files_in self.now) refines.now)) }
     {
         if !self.gives_features(refines) {
             return own.shared_features();
@@ -299,7 +312,8 @@ impl<'r, 'a, 'b> Definitions<'r, 'a, 'b> {
     // Adds the expressions of the `if-feature` statements of the numbered statement.
     fn push_features(&self, text: &mut String, number: usize) -> Result<(), AllocError>
         ensures { OnOk result (string_bytes text.new
-            ≡ with_expressions (string_bytes text.old) (expressions (trees (statement_at (files_in self.now) number).children))) }
+            ≡ with_expressions (string_bytes text.old)
+            (expressions (trees (statement_at (files_in self.now) number).children))) }
     {
         match statement_at(self.rows, number) {
             Some(statement) => push_expressions(text, statement),

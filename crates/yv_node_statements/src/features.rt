@@ -18,7 +18,8 @@ fn is_blank(character: char) -> bool
 
 // Adds a text with each run of blanks as one space.
 fn push_spaced(text: &mut String, more: &str) -> Result<(), AllocError>
-    ensures { OnOk result (string_bytes text.new ≡ string_bytes text.old ++ with_single_spaces more.now) }
+    ensures { OnOk result
+        (string_bytes text.new ≡ string_bytes text.old ++ with_single_spaces more.now) }
 {
     let mut is_behind = false;
     for character in more.chars() {
@@ -45,7 +46,8 @@ fn push_comma(text: &mut String) -> Result<(), AllocError>
 
 // Adds an expression, unless it is empty.
 fn push_expression(text: &mut String, expression: &str) -> Result<(), AllocError>
-    ensures { OnOk result (string_bytes text.new ≡ with_expressions (string_bytes text.old) (expression.now ∷ [])) }
+    ensures { OnOk result
+        (string_bytes text.new ≡ with_expressions (string_bytes text.old) (expression.now ∷ [])) }
 {
     if expression.is_empty() {
         return Ok(());
@@ -59,7 +61,9 @@ pub(crate) fn push_expressions(
     text: &mut String,
     statement: &Statement<'_>,
 ) -> Result<(), AllocError>
-    ensures { OnOk result (string_bytes text.new ≡ with_expressions (string_bytes text.old) (expressions (trees statement.now.children))) }
+    ensures { OnOk result
+        (string_bytes text.new
+        ≡ with_expressions (string_bytes text.old) (expressions (trees statement.now.children))) }
 {
     for child in statement.children() {
         if is_of(Keyword::IfFeature, child) {

@@ -34,7 +34,8 @@ impl BlockPaths {
         file: u32,
         statement: &'a Statement<'_>,
     ) -> Result<BlockPaths, AllocError>
-        ensures { (files : Files) → AreLeafPaths files paths.now → IfOk result (AreNamed files file statement.now.children) }
+        ensures { (files : Files) → AreLeafPaths files paths.now
+            → IfOk result (AreNamed files file statement.now.children) }
     {
         let keys = keys_in(alloc, nothing, paths, file, statement)?;
         let uniques = uniques_in(alloc, nothing, paths, file, statement)?;
@@ -91,7 +92,9 @@ fn uniques_in<'a>(
     statement: &'a Statement<'_>,
 ) -> Result<Rc<Vec<Vec<Vec<Option<PathStep>>>>>, AllocError>
     ensures { (files : Files) → AreLeafPaths files paths.now
-        → IfOk result (λ uniques. map paths_in uniques.value.items ≡ uniques_in files file (trees statement.now.children)) }
+        → IfOk result
+        (λ uniques. map paths_in uniques.value.items
+        ≡ uniques_in files file (trees statement.now.children)) }
 {
     let mut uniques = Vec::new(alloc);
     for child in statement.children() {
@@ -112,7 +115,9 @@ fn push_unique<'a>(
     statement: &'a Statement<'_>,
 ) -> Result<(), AllocError>
     ensures { (files : Files) → AreLeafPaths files paths.now
-        → OnOk result (map paths_in uniques.new.items ≡ map paths_in uniques.old.items ++ uniques_in files file (statement.now ∷ [])) }
+        → OnOk result
+        (map paths_in uniques.new.items ≡ map paths_in uniques.old.items
+        ++ uniques_in files file (statement.now ∷ [])) }
 {
     if is_of(Keyword::Unique, statement) {
         uniques.push(paths.paths(alloc, file as usize, name_of(statement))?)?;
@@ -146,7 +151,8 @@ fn path_of_type<'a>(
     file: u32,
     found: &'a Statement<'_>,
 ) -> Result<Rc<Vec<PathPiece>>, AllocError>
-    ensures { (files : Files) → AreLeafPaths files paths.now → IfOk result (λ path. path.value.items ≡ path_of_type files file found.now) }
+    ensures { (files : Files) → AreLeafPaths files paths.now
+        → IfOk result (λ path. path.value.items ≡ path_of_type files file found.now) }
 {
     if name_of(found) != "leafref" {
         return nothing.path();

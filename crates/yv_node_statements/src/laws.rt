@@ -10,7 +10,8 @@ ghost use Rattle.yv_node_statements.specs.Kinds.{AreTyped, TypeMeanings, typing_
 /// What the types of files answer for each `type` statement is its plain types, its default and
 /// what it says as a leafref, and nothing if it has none.
 pub fn types_tell_typing()
-    ensures { (files : Files) (choice : Selected) (truth : Truth) (types : Types) → AreTypes files choice truth types
+    ensures { (files : Files) (choice : Selected) (truth : Truth) (types : Types)
+        → AreTypes files choice truth types
         → AreTyped files choice truth (typing_of types) }
 {
     yv_types::laws::types_tell_spaces();
@@ -21,7 +22,8 @@ pub fn types_tell_typing()
 /// The `type` statements of files have their plain types and their defaults, and say what they say
 /// as leafrefs, in one way.
 pub fn files_have_one_typing()
-    ensures { (files : Files) (choice : Selected) (truth : Truth) (a b : TypeMeanings) → AreTyped files choice truth a
+    ensures { (files : Files) (choice : Selected) (truth : Truth) (a b : TypeMeanings)
+        → AreTyped files choice truth a
         → AreTyped files choice truth b → a ≡ b }
 {
     yv_types::laws::a_type_has_one_space();

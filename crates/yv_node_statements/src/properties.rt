@@ -91,7 +91,8 @@ fn types_at(
     file: u32,
     offset: u64,
 ) -> Result<RcSlice<PlainType>, AllocError>
-    ensures { IfOk result (λ list. map plain_of (rc_slice_items list) ≡ kinds_of types.now file offset) }
+    ensures { IfOk result
+        (λ list. map plain_of (rc_slice_items list) ≡ kinds_of types.now file offset) }
 {
     match types.at(file, offset)? {
         Some(types) => Ok(types),
@@ -157,7 +158,8 @@ fn type_default(
 
 // A text that may be there, over the same memory.
 fn share_text(text: Option<&WrittenText>) -> Result<Option<WrittenText>, AllocError>
-    ensures { IfOk result (λ copy. option_map written_of copy ≡ option_map written_of (option_copied text.entry)) }
+    ensures { IfOk result
+        (λ copy. option_map written_of copy ≡ option_map written_of (option_copied text.entry)) }
 {
     match text {
         Some(written) => Ok(Some(WrittenText {
@@ -174,7 +176,8 @@ fn features_in(
     nothing: &Nothing,
     statement: &Statement<'_>,
 ) -> Result<RcStr, AllocError>
-    ensures { IfOk result (λ text. rc_str_bytes text ≡ if_features (expressions (trees statement.now.children))) }
+    ensures { IfOk result
+        (λ text. rc_str_bytes text ≡ if_features (expressions (trees statement.now.children))) }
 {
     let mut text = String::new(alloc);
     push_expressions(&mut text, statement)?;

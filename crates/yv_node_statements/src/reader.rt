@@ -60,7 +60,8 @@ impl DefaultReader {
         types: &Types,
         number: usize,
     ) -> Option<&Rc<Defaults>>
-        ensures { IsReader types.now (lent_in rows.now) self.now → IfSome (option_copied result) (λ values. IsByType (lent_in rows.now)
+        ensures { IsReader types.now (lent_in rows.now) self.now
+            → IfSome (option_copied result) (λ values. IsByType (lent_in rows.now)
             (defined_at (typing_of types.now) (lent_in rows.now) number) values.value) }
     {
         let found = type_at(rows, number)?;
@@ -78,7 +79,8 @@ impl DefaultReader {
         matchers: &mut Matchers<'t>,
         number: usize,
     ) -> Result<(), AllocError>
-        ensures { (files : Files) → IsReader types.now files self.old → OnOk result (IsReader types.now files self.new) }
+        ensures { (files : Files) → IsReader types.now files self.old
+            → OnOk result (IsReader types.now files self.new) }
     {
         if !lacks_defaults(rows, number) {
             return Ok(());
@@ -102,7 +104,8 @@ impl DefaultReader {
         file: u32,
         offset: u64,
     ) -> Result<(), AllocError>
-        ensures { (files : Files) → IsReader types.now files self.old → OnOk result (IsReader types.now files self.new) }
+        ensures { (files : Files) → IsReader types.now files self.old
+            → OnOk result (IsReader types.now files self.new) }
     {
         let Some(numbers) = types.sharing_at(file, offset) else {
             return Ok(());
@@ -137,7 +140,8 @@ fn type_values<'t>(
     file: u32,
     offset: u64,
 ) -> Result<Vec<Value>, AllocError>
-    ensures values { (files : Files) → AreScopes files scopes.now → IfOk result (λ values. values.items
+    ensures values { (files : Files) → AreScopes files scopes.now
+        → IfOk result (λ values. values.items
         ≡ type_values files (kinds_of types.now file offset) (default_at types.now file offset)) }
     ensures few { IfOk result (λ values. length values.items ≤ 1) }
 {

@@ -47,7 +47,8 @@ fn key_of(origin: Origin, sequence: usize) -> (usize, usize, usize) {
 
 // The refines of these runs, of which the last stands first.
 fn join_runs<'d>(alloc: Global, runs: Vec<&'d [usize]>) -> Result<Vec<usize>, AllocError>
-    ensures { IfOk result (λ refines. refines.items ≡ with_runs [] (map (λ run. run.now) runs.entry.items)) }
+    ensures { IfOk result
+        (λ refines. refines.items ≡ with_runs [] (map (λ run. run.now) runs.entry.items)) }
 {
     let mut runs = runs;
     let mut refines = Vec::new(alloc);
@@ -105,7 +106,10 @@ impl<'d, 'r, 'a, 'b> RefinedDefinitions<'d, 'r, 'a, 'b> {
     /// What is said of a node of this origin, as the refines of a sequence change it, if one does
     /// (RFC 7950, section 7.13.2).
     pub fn of(&self, origin: Origin, sequence: Option<usize>) -> Result<Definition, AllocError>
-        ensures { IfOk result (λ d. d ≡ refined_definition (typing_of self.now) (files_of self.now) origin (sequence_at (sequences_of self.now) sequence)) }
+        ensures { IfOk result
+            (λ d. d
+            ≡ refined_definition (typing_of self.now) (files_of self.now) origin
+            (sequence_at (sequences_of self.now) sequence)) }
     {
         match sequence {
             Some(sequence) => self.apply_sequence(
@@ -124,7 +128,9 @@ impl<'d, 'r, 'a, 'b> RefinedDefinitions<'d, 'r, 'a, 'b> {
         origin: Origin,
         sequence: usize,
     ) -> Result<Definition, AllocError>
-        ensures { IfOk result (IsRefined (typing_of self.now) (files_of self.now) (sequences_of self.now) origin sequence) }
+        ensures { IfOk result
+            (IsRefined (typing_of self.now) (files_of self.now) (sequences_of self.now) origin
+            sequence) }
     {
         if let Some(said) = self.find(origin, sequence) {
             return said.share();
@@ -135,7 +141,9 @@ impl<'d, 'r, 'a, 'b> RefinedDefinitions<'d, 'r, 'a, 'b> {
 
     // What is kept of it.
     fn find(&self, origin: Origin, sequence: usize) -> Option<&Definition>
-        ensures { IfSome result (λ d. IsRefined (typing_of self.now) (files_of self.now) (sequences_of self.now) origin sequence d.now) }
+        ensures { IfSome result
+            (λ d. IsRefined (typing_of self.now) (files_of self.now) (sequences_of self.now) origin
+            sequence d.now) }
     {
         let kept = self.kept.get(&key_of(origin, sequence))?;
         if kept.origin == origin && kept.sequence == sequence {
@@ -170,7 +178,9 @@ impl<'d, 'r, 'a, 'b> RefinedDefinitions<'d, 'r, 'a, 'b> {
     // What is said of a node that the first refines of a sequence change, as far as that is kept,
     // and the runs of the others.
     fn chain(&self, origin: Origin, sequence: usize) -> Result<Chain<'d>, AllocError>
-        ensures { IfOk result (IsChain (typing_of self.now) (files_of self.now) origin (sequence_at (sequences_of self.now) (Some sequence))) }
+        ensures { IfOk result
+            (IsChain (typing_of self.now) (files_of self.now) origin
+            (sequence_at (sequences_of self.now) (Some sequence))) }
     {
         let mut runs = Vec::new(self.alloc);
         let mut next = sequence;
@@ -197,8 +207,10 @@ impl<'d, 'r, 'a, 'b> RefinedDefinitions<'d, 'r, 'a, 'b> {
         origin: Origin,
         chain: Chain<'d>,
     ) -> Result<Definition, AllocError>
-        ensures { (refines : List ℕ) → IsChain (typing_of self.now) (files_of self.now) origin refines chain.entry
-            → IfOk result (λ d. d ≡ refined_definition (typing_of self.now) (files_of self.now) origin refines) }
+        ensures { (refines : List ℕ)
+            → IsChain (typing_of self.now) (files_of self.now) origin refines chain.entry
+            → IfOk result
+            (λ d. d ≡ refined_definition (typing_of self.now) (files_of self.now) origin refines) }
     {
         let Chain { said, runs } = chain;
         let refines = join_runs(self.alloc, runs)?;

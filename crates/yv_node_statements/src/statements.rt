@@ -12,7 +12,8 @@ use yv_text_grammar::Keyword;
 
 /// The numbered statement.
 pub(crate) fn statement_at<'a, 'b>(rows: &Rows<'a, 'b>, number: usize) -> Option<&'a Statement<'b>>
-    ensures { unwrap_or (option_map (λ found. found.now) result) no_statement ≡ statement_at (lent_in rows.now) number }
+    ensures { unwrap_or (option_map (λ found. found.now) result) no_statement
+        ≡ statement_at (lent_in rows.now) number }
 {
     rows.statement(number)
 }
@@ -29,7 +30,8 @@ pub(crate) fn file_at(rows: &Rows<'_, '_>, number: usize) -> u32
 
 /// The `type` statement in the block of the numbered statement: the first, if there are several.
 pub(crate) fn type_at<'a, 'b>(rows: &Rows<'a, 'b>, number: usize) -> Option<&'a Statement<'b>>
-    ensures { option_map (λ found. found.now) result ≡ first_of word.Type (statement_at (lent_in rows.now) number).children }
+    ensures { option_map (λ found. found.now) result
+        ≡ first_of word.Type (statement_at (lent_in rows.now) number).children }
 {
     first_of(Keyword::Type, statement_at(rows, number)?)
 }

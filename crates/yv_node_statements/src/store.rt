@@ -49,7 +49,8 @@ fn define_at<'a>(
     paths: &LeafPaths<'a>,
     number: usize,
 ) -> Result<DefinitionDraft, AllocError>
-    ensures { AreLeafPaths (lent_in rows.now) paths.now → IfOk result (λ d. d ≡ defined_at (typing_of types.now) (lent_in rows.now) number) }
+    ensures { AreLeafPaths (lent_in rows.now) paths.now
+        → IfOk result (λ d. d ≡ defined_at (typing_of types.now) (lent_in rows.now) number) }
 {
     let file = file_at(rows, number);
     match statement_at(rows, number) {
@@ -68,7 +69,8 @@ fn define_at<'a>(
 /// The types of the node that the numbered statement defines, as a list that lasts as long as the
 /// types of the files.
 pub(crate) fn types_at<'t>(rows: &Rows<'_, '_>, types: &'t Types, number: usize) -> &'t [PlainType]
-    ensures { map plain_of result.now ≡ (defined_at (typing_of types.now) (lent_in rows.now) number).types }
+    ensures { map plain_of result.now
+        ≡ (defined_at (typing_of types.now) (lent_in rows.now) number).types }
 {
     match statement_at(rows, number) {
         Some(statement) => lasting_types(types, file_at(rows, number), statement),
@@ -88,8 +90,10 @@ pub(crate) fn stated_at<'a, 't>(
     matchers: &mut Matchers<'t>,
     number: usize,
 ) -> Result<Definition, AllocError>
-    ensures { AreLeafPaths (lent_in rows.now) paths.now → IsReader types.now (lent_in rows.now) reader.now → IfOk result (λ d. d
-        ≡ with_defaults (lent_in rows.now) (defined_at (typing_of types.now) (lent_in rows.now) number)) }
+    ensures { AreLeafPaths (lent_in rows.now) paths.now
+        → IsReader types.now (lent_in rows.now) reader.now → IfOk result (λ d. d
+        ≡ with_defaults (lent_in rows.now)
+        (defined_at (typing_of types.now) (lent_in rows.now) number)) }
 {
     let mut draft = define_at(alloc, nothing, rows, types, paths, number)?;
     let lasting = types_at(rows, types, number);
@@ -162,7 +166,9 @@ pub(crate) fn kept_at<'a, 't>(
     matchers: &mut Matchers<'t>,
     number: usize,
 ) -> Result<Store, AllocError>
-    ensures { AreLeafPaths (lent_in rows.now) paths.now → IsReader types.now (lent_in rows.now) reader.now → IfOk result (λ kept. IsKept (typing_of types.now) (lent_in rows.now) number kept) }
+    ensures { AreLeafPaths (lent_in rows.now) paths.now
+        → IsReader types.now (lent_in rows.now) reader.now
+        → IfOk result (λ kept. IsKept (typing_of types.now) (lent_in rows.now) number kept) }
 {
     let keyword = keyword_at(rows, number);
     if node_kind(keyword).is_some() {

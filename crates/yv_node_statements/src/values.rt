@@ -27,7 +27,8 @@ pub(crate) fn defaults_of<'t>(
     kept: Option<&Rc<Defaults>>,
     definition: &DefinitionDraft,
 ) -> Result<Rc<Defaults>, AllocError>
-    ensures { (files : Files) → AreScopes files scopes.now → map plain_of types.now ≡ definition.now.types
+    ensures { (files : Files) → AreScopes files scopes.now → map plain_of types.now
+        ≡ definition.now.types
         → IfSome (option_copied kept.entry) (λ values. IsByType files definition.now values.value)
         → IfOk result (λ defaults. defaults.value ≡ defaults_of files definition.now) }
 {
@@ -55,7 +56,8 @@ fn read_defaults<'t>(
     types: &'t [PlainType],
     definition: &DefinitionDraft,
 ) -> Result<Rc<Defaults>, AllocError>
-    ensures { (files : Files) → AreScopes files scopes.now → map plain_of types.now ≡ definition.now.types
+    ensures { (files : Files) → AreScopes files scopes.now → map plain_of types.now
+        ≡ definition.now.types
         → IfOk result (λ defaults. defaults.value ≡ defaults_of files definition.now) }
 {
     if !has_defaults(definition.kind) || definition.own_defaults.len() > Defaults::MOST {
@@ -83,9 +85,11 @@ fn said_values<'t>(
     types: &'t [PlainType],
     definition: &DefinitionDraft,
 ) -> Result<Vec<Value>, AllocError>
-    ensures values { (files : Files) → AreScopes files scopes.now → IfOk result (λ values. values.items
+    ensures values { (files : Files) → AreScopes files scopes.now
+        → IfOk result (λ values. values.items
         ≡ values_of files (map plain_of types.now) (defaults_said definition.now)) }
-    ensures few { IfOk result (λ values. length values.items ≤ length (defaults_said definition.now)) }
+    ensures few { IfOk result
+        (λ values. length values.items ≤ length (defaults_said definition.now)) }
 {
     let own = definition.own_defaults.as_slice();
     if !own.is_empty() {
@@ -108,7 +112,8 @@ fn values_of<'t>(
     types: &'t [PlainType],
     texts: &[WrittenText],
 ) -> Result<Vec<Value>, AllocError>
-    ensures values { (files : Files) → AreScopes files scopes.now → IfOk result (λ values. values.items
+    ensures values { (files : Files) → AreScopes files scopes.now
+        → IfOk result (λ values. values.items
         ≡ values_of files (map plain_of types.now) (map written_of texts.now)) }
     ensures few { IfOk result (λ values. length values.items ≤ length texts.now) }
 {
@@ -129,7 +134,8 @@ pub(crate) fn push_value<'t>(
     values: &mut Vec<Value>,
 ) -> Result<(), AllocError>
     ensures values { (files : Files) → AreScopes files scopes.now → OnOk result (values.new.items
-        ≡ values.old.items ++ alone (value_of files (map plain_of types.now) (written_of written.now))) }
+        ≡ values.old.items
+        ++ alone (value_of files (map plain_of types.now) (written_of written.now))) }
     ensures few { OnOk result (length values.new.items ≤ length values.old.items + 1) }
 {
     if let Some(value) = value_of(alloc, scopes, matchers, types, written)? {
@@ -148,7 +154,8 @@ fn value_of<'t>(
     written: &WrittenText,
 ) -> Result<Option<Value>, AllocError>
     ensures { (files : Files) → AreScopes files scopes.now
-        → IfOk result (λ found. found ≡ value_of files (map plain_of types.now) (written_of written.now)) }
+        → IfOk result
+        (λ found. found ≡ value_of files (map plain_of types.now) (written_of written.now)) }
 {
     match scopes.get(written.file as usize) {
         Some(scope) => default_value(alloc, matchers, types, written.text.as_str(), scope),

@@ -19,7 +19,8 @@ within true b false = refl
 within false b true = refl
 within false b false = refl
 
--- a name of the list's module has no prefix, or one of this module; that of another module has its prefix
+-- a name of the list's module has no prefix, or one of this module; that of another module has its
+-- prefix
 one : (list_module_file module_file : ℕ) (name : List ℕ) (o : Option Step) → is_key_name list_module_file module_file name o ≡ ((module_file == list_module_file && is_step None name o) || is_step (Some module_file) name o)
 one list_module_file module_file name None = by (module_file == list_module_file)
   where

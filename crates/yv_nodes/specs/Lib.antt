@@ -10,3 +10,4 @@ pub mod NodeTypes
 pub mod InnerTypes
 pub mod Labels
 pub mod Above
+pub mod InnerLinks

@@ -5,15 +5,17 @@ use Rattle.yv_node_definition.specs.declared.kind.NodeKind.{NodeKind}
 use Rattle.yv_node_definition.specs.declared.kind.NodeKind.TheVariants as kind
 use Rattle.yv_nodes.specs.Tree.{count, node, Forest, no_trees, tree}
 
--- the path of a leafref: how many `../` it begins with, or None where it is absolute; the numbers of the data nodes on its way down, and
--- of the last of them, its target; and whether the leafref requires an instance (section 9.9.3)
+-- the path of a leafref: how many `../` it begins with, or None where it is absolute; the numbers
+-- of the data nodes on its way down, and of the last of them, its target; and whether the leafref
+-- requires an instance (section 9.9.3)
 pub record Link : Type 0 where
   pub climbs : Option ℕ
   pub steps : List ℕ
   pub target : ℕ
   pub is_required : Bool
 
--- what as many `../` climb to, of what is around a node from the closest on, or the top: each `../` leaves one data node
+-- what as many `../` climb to, of what is around a node from the closest on, or the top: each `../`
+-- leaves one data node
 abbrev pub climb : {A : Type 0} → A → Option ℕ → List A → A
 climb top None up = top
 climb top (Some k) up = slice_index_or up (k - 1) top
@@ -23,8 +25,8 @@ pub record Ground : Type 0 where
   pub first : ℕ
   pub trees : Forest
 
--- a node that stands here with this number is the next of the path: what is left leads on below it, or it is the target, a leaf or
--- leaf-list. Choices and cases aren't steps
+-- a node that stands here with this number is the next of the path: what is left leads on below it,
+-- or it is the target, a leaf or leaf-list. Choices and cases aren't steps
 abbrev pub KindLeads : NodeKind → ℕ → List ℕ → (target : ℕ) → (List ℕ → Type 0) → Type 0
 KindLeads kind.Choice n path target Below = Below path
 KindLeads kind.Case n path target Below = Below path
@@ -34,7 +36,8 @@ KindLeads kind.Container n (s ∷ rest) target Below = (s ≡ n) × Below rest
 KindLeads kind.List n (s ∷ rest) target Below = (s ≡ n) × Below rest
 KindLeads _ n path target Below = ⊥
 
--- the path goes down these trees, whose first node has the number `first`, from data node to data node, and ends at the target
+-- the path goes down these trees, whose first node has the number `first`, from data node to data
+-- node, and ends at the target
 abbrev pub Leads : (first : ℕ) → Forest → List ℕ → (target : ℕ) → Type 0
 Leads first no_trees path target = ⊥
 Leads first (tree (node l kids) ts) path target =
@@ -56,7 +59,8 @@ KindLinked kind.Choice link top up own Below = Below up
 KindLinked kind.Case link top up own Below = Below up
 KindLinked _ link top up own Below = Unit {0}
 
--- those of the leafrefs in these trees; nothing in operations and notifications stands in a document
+-- those of the leafrefs in these trees; nothing in operations and notifications stands in a
+-- document
 abbrev pub AreLinkedBelow : (ℕ → Option Link) → Ground → List Ground → (first : ℕ) → Forest → Type 0
 AreLinkedBelow links top up first no_trees = Unit {0}
 AreLinkedBelow links top up first (tree (node l kids) ts) =

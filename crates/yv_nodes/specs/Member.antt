@@ -14,7 +14,8 @@ member_of false module_file name = name
 
 -- In what follows modules go by the numbers of their files.
 
--- the module of the nearest of these nodes that is no choice or case, the nearest first; none where there is none
+-- the module of the nearest of these nodes that is no choice or case, the nearest first; none where
+-- there is none
 abbrev pub data_module_file : (above : List Label) → Option ℕ
 data_module_file [] = None
 data_module_file (l ∷ ls) = if is_passed l.defined.kind then data_module_file ls else Some l.module_file
@@ -24,8 +25,9 @@ abbrev pub is_module_file : (module_file : ℕ) → Option ℕ → Bool
 is_module_file module_file None = false
 is_module_file module_file (Some other) = other == module_file
 
--- what a JSON member is called that writes a node of the module `module_file`, which has this name: the node's name, behind that of its module
--- where there is no node of this module around it (RFC 7951, section 4)
+-- what a JSON member is called that writes a node of the module `module_file`, which has this name:
+-- the node's name, behind that of its module where there is no node of this module around it (RFC
+-- 7951, section 4)
 abbrev pub member_name : (around : Option ℕ) → (module_file : ℕ) → (module_name name : List ℕ) → List ℕ
 member_name around module_file module_name name = member_of (if is_module_file module_file around then false else true) module_name name
 
@@ -34,8 +36,8 @@ abbrev pub behind : Option (List ℕ) → List ℕ → List ℕ
 behind None name = name
 behind (Some module_file) name = module_file ++ 58 ∷ name
 
--- a node of the module of this name, the number of whose file is `module_file`, that stands so, with these numbers of the node above it and
--- of those below it
+-- a node of the module of this name, the number of whose file is `module_file`, that stands so,
+-- with these numbers of the node above it and of those below it
 abbrev pub row_with : Definition → (module_file : ℕ) → (module_name : List ℕ) → NodePlace → (parent : NodeId) → (children : List NodeId) → Row
 row_with d module_file module_name standing parent children = record {
   label = record {

@@ -1,4 +1,5 @@
--- Nodes whose values have other types than their statements say (RFC 7950, section 9.9: a leafref has its target's).
+-- Nodes whose values have other types than their statements say (RFC 7950, section 9.9: a leafref
+-- has its target's).
 use Rattle.std.specs.Prelude.{ℕ, ◌+◌, List, [], ◌∷◌}
 use Rattle.std.specs.List.{slice_index_or}
 use Rattle.yv_values.specs.Types.{Plain}

@@ -24,16 +24,17 @@ pub record Module : Type 0 where
   pub prefix : List ℕ
   pub module_file : ℕ
 
--- an `augment` statement at the top of a module, the number of whose file is `module_file`: its argument, the node to which that leads, and
--- the nodes that it adds below it
+-- an `augment` statement at the top of a module, the number of whose file is `module_file`: its
+-- argument, the node to which that leads, and the nodes that it adds below it
 pub record Note : Type 0 where
   pub module_file : ℕ
   pub argument : List ℕ
   pub target : NodeId
   pub nodes : List NodeId
 
--- the rows by number, from 0, the numbers of the nodes at the top, in order, the most nodes that there may be, the implemented modules
--- by file, the augments in order, and for each leafref that requires an instance where its path leads
+-- the rows by number, from 0, the numbers of the nodes at the top, in order, the most nodes that
+-- there may be, the implemented modules by file, the augments in order, and for each leafref that
+-- requires an instance where its path leads
 pub record Rows : Type 0 where
   pub nodes : List Row
   pub top : List NodeId
@@ -107,8 +108,8 @@ below s p = forest s (children_of s p)
 abbrev pub tree_of : Rows → NodeId → Tree
 tree_of s c = node (row_at s c).label (below s c)
 
--- the trees of these numbers are those of their nodes: from each place on, the tree of the node there, and then
--- the trees of those behind it
+-- the trees of these numbers are those of their nodes: from each place on, the tree of the node
+-- there, and then the trees of those behind it
 abbrev pub AreTrees : Rows → List NodeId → Type 0
 AreTrees s cs =
     (i : ℕ) (d : NodeId) → i < length cs → forest s (drop i cs) ≡ tree (tree_of s (slice_index_or cs i d)) (forest s (drop (i + 1) cs))

@@ -60,8 +60,8 @@ impl Above {
         }
     }
 
-    /// The place in the tree of the node that a statement defines, below these nodes. `module_file` is the number of the file of its module.
-    /// Err only if memory runs out.
+    /// The place in the tree of the node that a statement defines, below these nodes. `module_file`
+    /// is the number of the file of its module. Err only if memory runs out.
     pub fn place_of(
         &self,
         definition: &Definition,
@@ -69,7 +69,8 @@ impl Above {
     ) -> Result<NodePlace, AllocError>
         ensures { (ls : List Label) → self.now ≡ seen_of ls → IfOk result (λ standing.
             (module_name : List ℕ) (parent : NodeId) (children : List NodeId)
-            → (row_with definition.now module_file module_name standing parent children).label ≡ label_of definition.now module_file module_name ls) }
+            → (row_with definition.now module_file module_name standing parent children).label
+            ≡ label_of definition.now module_file module_name ls) }
     {
         let is_key = self.is_key(definition, module_file)?;
         Ok(NodePlace {
@@ -93,14 +94,16 @@ impl Above {
 
     // Whether the node that a statement defines is an operation's input, or stands in it.
     fn is_input(&self, definition: &Definition) -> bool
-        ensures { (ls : List Label) → self.now ≡ seen_of ls → result ≡ (is_input definition.now.kind || in_input ls) }
+        ensures { (ls : List Label) → self.now ≡ seen_of ls → result
+            ≡ (is_input definition.now.kind || in_input ls) }
     {
         definition.kind() == NodeKind::Input || self.in_input
     }
 
     // Whether the node that a statement defines is configuration.
     fn is_configuration(&self, definition: &Definition) -> bool
-        ensures { (ls : List Label) → self.now ≡ seen_of ls → result ≡ is_configuration definition.now ls }
+        ensures { (ls : List Label) → self.now ≡ seen_of ls → result
+            ≡ is_configuration definition.now ls }
     {
         if self.in_operation || definition.kind().is_operation_or_notification() {
             return false;
@@ -111,7 +114,9 @@ impl Above {
     // Whether it is a key of the list just above.
     fn is_key(&self, definition: &Definition, module_file: u32) -> Result<bool, AllocError>
         ensures { (ls : List Label) → self.now ≡ seen_of ls
-            → IfOk result (λ is_key. is_key ≡ (is_leaf definition.now.kind && has_key_called ls module_file definition.now.name)) }
+            → IfOk result
+            (λ is_key. is_key
+            ≡ (is_leaf definition.now.kind && has_key_called ls module_file definition.now.name)) }
     {
         if !is_leaf(definition) {
             return Ok(false);
@@ -123,12 +128,15 @@ impl Above {
 
     // Whether the list just above has a key of this name without a prefix, and is of this module.
     fn has_bare_key(&self, module_file: u32, name: RcStr) -> bool
-        ensures { result ≡ (module_file == self.now.module_file && has_step None (rc_str_bytes name) self.now.keys) }
+        ensures { result
+            ≡ (module_file == self.now.module_file
+            && has_step None (rc_str_bytes name) self.now.keys) }
     {
         module_file == self.module_file && self.has_key_step(None, name)
     }
 
-    // Whether the list just above has a key that is written with this module, or without one, and this name.
+    // Whether the list just above has a key that is written with this module, or without one, and
+    // this name.
     fn has_key_step(&self, module_file: Option<u32>, name: RcStr) -> bool
         ensures { result ≡ has_step module_file (rc_str_bytes name) self.now.keys }
     {
@@ -138,15 +146,18 @@ impl Above {
         }
     }
 
-    /// These nodes and, just below them, the one that a statement defines, with the number of its module's file and its place.
+    /// These nodes and, just below them, the one that a statement defines, with the number of its
+    /// module's file and its place.
     pub fn below(
         &self,
         definition: &Definition,
         module_file: u32,
         standing: NodePlace,
     ) -> Result<Above, AllocError>
-        ensures { (ls : List Label) (l : Label) → self.now ≡ seen_of ls → l.defined ≡ definition.now → l.module_file ≡ module_file
-            → l.is_config ≡ standing.is_config → l.is_input ≡ standing.is_input → IfOk result (λ above. above ≡ seen_of (l ∷ ls)) }
+        ensures { (ls : List Label) (l : Label) → self.now ≡ seen_of ls → l.defined ≡ definition.now
+            → l.module_file ≡ module_file
+            → l.is_config ≡ standing.is_config → l.is_input ≡ standing.is_input
+            → IfOk result (λ above. above ≡ seen_of (l ∷ ls)) }
     {
         let kind = definition.kind();
         Ok(Above {

@@ -10,7 +10,8 @@ use yv_node_definition::{Definition, NodeKind, NodeStatus, PathPiece, PathStep, 
 use yv_statement::{Code, Refusal};
 use yv_values::{Defaults, PlainType, Value};
 
-/// The number of a schema node; the root, above the nodes at the top, has the last number of 32 bits.
+/// The number of a schema node; the root, above the nodes at the top, has the last number of 32
+/// bits.
 #[derive(Clone, Copy, Debug, PartialEq, Eq, PartialOrd, Ord)]
 pub struct NodeId(pub u32);
 
@@ -66,8 +67,9 @@ impl Node {
     ghost use Rattle.yv_nodes.specs.Member.{behind, row_with};
     ghost use Rattle.yv_nodes.specs.NodeTypes.{typed_row};
 
-    /// The node that a statement defines, in the namespace of the module of this name, the number of whose file is `module_file`, which
-    /// has this place in the tree, with these numbers of the node above it and of those below it.
+    /// The node that a statement defines, in the namespace of the module of this name, the number
+    /// of whose file is `module_file`, which has this place in the tree, with these numbers of the
+    /// node above it and of those below it.
     pub fn new(
         definition: Definition,
         module_file: u32,
@@ -76,7 +78,9 @@ impl Node {
         parent: NodeId,
         children: Vec<NodeId>,
     ) -> Node
-        ensures { result ≡ row_with definition module_file (rc_str_bytes module_name) standing parent children.items }
+        ensures { result
+            ≡ row_with definition module_file (rc_str_bytes module_name) standing parent
+            children.items }
     {
         Node {
             definition,
@@ -132,7 +136,8 @@ impl Node {
         self.definition.kind()
     }
 
-    /// The number of the file of the module whose namespace the node is in. Nodes of one module have one number.
+    /// The number of the file of the module whose namespace the node is in. Nodes of one module
+    /// have one number.
     pub fn module_file(&self) -> u32
         ensures { result ≡ self.now.label.module_file }
     {
@@ -160,9 +165,9 @@ impl Node {
         self.definition.shared_name()
     }
 
-    /// The name of a JSON member that writes the node: its name, after the module's and a colon where
-    /// that isn't the module of the parent (RFC 7951, section 4).
-    /// The text is made anew, since a module's name may be as long as its file.
+    /// The name of a JSON member that writes the node: its name, after the module's and a colon
+    /// where that isn't the module of the parent (RFC 7951, section 4). The text is made anew,
+    /// since a module's name may be as long as its file.
     pub fn member(&self, alloc: Global) -> Result<String, AllocError>
         ensures { IfOk result (λ text. string_bytes text ≡ self.now.label.member) }
     {
@@ -175,9 +180,12 @@ impl Node {
         Ok(text)
     }
 
-    /// The name of the module before the name of such a member, over the text that its nodes share, where there is one.
+    /// The name of the module before the name of such a member, over the text that its nodes share,
+    /// where there is one.
     pub fn shared_qualifier(&self) -> Result<Option<RcStr>, AllocError>
-        ensures { IfOk result (λ module_file. self.now.label.member ≡ behind (option_map rc_str_bytes module_file) self.now.label.defined.name) }
+        ensures { IfOk result
+            (λ module_file. self.now.label.member
+            ≡ behind (option_map rc_str_bytes module_file) self.now.label.defined.name) }
     {
         if self.standing.is_qualified {
             Ok(Some(self.module.clone()?))
@@ -193,23 +201,24 @@ impl Node {
         self.definition.types()
     }
 
-    /// Whether the node being there says something by itself, as that of a presence container does, by its own statement
-    /// or by a refine (RFC 7950, sections 7.5.5 and 7.13.2).
+    /// Whether the node being there says something by itself, as that of a presence container does,
+    /// by its own statement or by a refine (RFC 7950, sections 7.5.5 and 7.13.2).
     pub fn presence(&self) -> bool
         ensures { result ≡ self.now.label.defined.has_presence }
     {
         self.definition.has_presence()
     }
 
-    /// Whether the node is still to be used, by its own `status` statement (RFC 7950, section 7.21.2).
+    /// Whether the node is still to be used, by its own `status` statement (RFC 7950, section
+    /// 7.21.2).
     pub fn status(&self) -> NodeStatus
         ensures { result ≡ self.now.label.defined.status }
     {
         self.definition.status()
     }
 
-    /// The expressions of its `if-feature` statements and then those of its refines, separated by commas, to be shown to a
-    /// reader. The text is empty without any.
+    /// The expressions of its `if-feature` statements and then those of its refines, separated by
+    /// commas, to be shown to a reader. The text is empty without any.
     pub fn features(&self) -> &str
         ensures { result.now ≡ self.now.label.defined.features }
     {
@@ -223,8 +232,8 @@ impl Node {
         self.definition.type_text()
     }
 
-    /// The pieces of the path of its leafref, as it is written, between `/` (RFC 7950, section 9.9.2): nothing where its type isn't
-    /// written as a leafref.
+    /// The pieces of the path of its leafref, as it is written, between `/` (RFC 7950, section
+    /// 9.9.2): nothing where its type isn't written as a leafref.
     pub fn path(&self) -> &[PathPiece]
         ensures { result.now ≡ self.now.label.defined.path }
     {
@@ -238,7 +247,8 @@ impl Node {
         self.definition.stated_config()
     }
 
-    /// Whether the node is configuration (RFC 7950, section 7.21.1): nothing in an operation or a notification is.
+    /// Whether the node is configuration (RFC 7950, section 7.21.1): nothing in an operation or a
+    /// notification is.
     pub fn config(&self) -> bool
         ensures { result ≡ self.now.label.is_config }
     {
@@ -280,8 +290,8 @@ impl Node {
         self.definition.max()
     }
 
-    /// What the `key` statement of a list names, each name being the one step of a path, in order (RFC 7950, section 7.8.2). A step
-    /// is None where its prefix identifies no module.
+    /// What the `key` statement of a list names, each name being the one step of a path, in order
+    /// (RFC 7950, section 7.8.2). A step is None where its prefix identifies no module.
     pub fn keys(&self) -> &[Option<PathStep>]
         ensures { result.now ≡ self.now.label.defined.keys }
     {
@@ -302,8 +312,8 @@ impl Node {
         self.definition.uniques()
     }
 
-    /// The arguments of its `default` statements, or those of the last of its refines with one, and the files that contain them, in
-    /// order: one at most where it is no leaf-list.
+    /// The arguments of its `default` statements, or those of the last of its refines with one, and
+    /// the files that contain them, in order: one at most where it is no leaf-list.
     pub fn own_defaults(&self) -> &[WrittenText]
         ensures { map written_of result.now ≡ self.now.label.defined.own_defaults }
     {
@@ -312,12 +322,14 @@ impl Node {
 
     /// The first of them.
     pub fn own_default(&self) -> Option<&WrittenText>
-        ensures { option_map (λ written. written_of written.now) result ≡ own_default self.now.label.defined }
+        ensures { option_map (λ written. written_of written.now) result
+            ≡ own_default self.now.label.defined }
     {
         self.definition.own_default()
     }
 
-    /// How many defaults are said of it: its own, or else that of its type, but not where entries are asked for (RFC 7950, sections
+    /// How many defaults are said of it: its own, or else that of its type, but not where entries
+    /// are asked for (RFC 7950, sections
     /// 7.3.4, 7.6.1 and 7.7.2).
     pub fn count_defaults_said(&self) -> usize
         ensures { result ≡ length (defaults_said self.now.label.defined) }
@@ -332,8 +344,8 @@ impl Node {
         self.definition.repeats_default()
     }
 
-    /// The values that its defaults give it, one at most where it is no leaf-list (RFC 7950, sections 7.6.1 and 7.7.2): none of a key
-    /// and of a mandatory leaf.
+    /// The values that its defaults give it, one at most where it is no leaf-list (RFC 7950,
+    /// sections 7.6.1 and 7.7.2): none of a key and of a mandatory leaf.
     pub fn defaults(&self) -> &[Value]
         ensures value { result.now ≡ defaults_of self.now.label }
         ensures few { length result.now ≤ 1024 }
@@ -346,7 +358,8 @@ impl Node {
 
     /// The same values, one of which is found in time log n. None of a key and of a mandatory leaf.
     pub fn default_values(&self) -> Option<&Defaults>
-        ensures { unwrap_or (option_map (λ values. values.now) result) [] ≡ defaults_of self.now.label }
+        ensures { unwrap_or (option_map (λ values. values.now) result) []
+            ≡ defaults_of self.now.label }
     {
         if self.has_no_defaults() {
             return None;
@@ -370,7 +383,8 @@ impl Node {
 
     /// The list of its types, over the memory in which it is kept: to be shared by other nodes.
     pub(crate) fn shared_types(&self) -> Result<RcSlice<PlainType>, AllocError>
-        ensures { IfOk result (λ types. map plain_of (rc_slice_items types) ≡ self.now.label.defined.types) }
+        ensures { IfOk result
+            (λ types. map plain_of (rc_slice_items types) ≡ self.now.label.defined.types) }
     {
         self.definition.shared_types()
     }

@@ -17,7 +17,9 @@ fn types_of(
     origins: &[NodeId],
 ) -> Result<Vec<RcSlice<PlainType>>, AllocError>
     requires { All (λ origin. origin.0 < length nodes.now) origins.now }
-    ensures { IfOk result (λ lists. map types_in lists.items ≡ map (λ origin. types_at nodes.now origin.0) origins.now) }
+    ensures { IfOk result
+        (λ lists. map types_in lists.items
+        ≡ map (λ origin. types_at nodes.now origin.0) origins.now) }
 {
     let mut lists = Vec::new(alloc);
     for origin in origins {
@@ -31,7 +33,8 @@ fn types_of(
 fn set_types(nodes: &mut Vec<Node>, mut lists: Vec<RcSlice<PlainType>>)
     requires { length lists.items ≡ length nodes.now.items }
     ensures each { length nodes.new.items ≡ length nodes.old.items }
-    ensures rows { (n : ℕ) → slice_get nodes.new.items n ≡ option_map (with_own_types (map types_in lists.items) n) (slice_get nodes.old.items n) }
+    ensures rows { (n : ℕ) → slice_get nodes.new.items n
+        ≡ option_map (with_own_types (map types_in lists.items) n) (slice_get nodes.old.items n) }
 {
     while let Some(types) = lists.pop() {
         retype(nodes, lists.len(), types);
@@ -41,15 +44,18 @@ fn set_types(nodes: &mut Vec<Node>, mut lists: Vec<RcSlice<PlainType>>)
 // Gives the node of a number, where there is one, these types.
 fn retype(nodes: &mut Vec<Node>, number: usize, types: RcSlice<PlainType>)
     ensures each { length nodes.new.items ≡ length nodes.old.items }
-    ensures here { slice_get nodes.new.items number ≡ option_map (typed_row (types_in types)) (slice_get nodes.old.items number) }
-    ensures elsewhere { (n : ℕ) → n ≢ number → slice_get nodes.new.items n ≡ slice_get nodes.old.items n }
+    ensures here { slice_get nodes.new.items number
+        ≡ option_map (typed_row (types_in types)) (slice_get nodes.old.items number) }
+    ensures elsewhere { (n : ℕ) → n ≢ number → slice_get nodes.new.items n
+        ≡ slice_get nodes.old.items n }
 {
     if number < nodes.len() {
         nodes[number].set_types(types);
     }
 }
 
-/// Nodes with numbers from 0, each after the one above it, and never more than a limit, so that none has the root's number.
+/// Nodes with numbers from 0, each after the one above it, and never more than a limit, so that
+/// none has the root's number.
 #[derive(Drop)]
 pub struct Nodes {
     limit: u32,
@@ -100,8 +106,9 @@ impl Nodes {
         self.nodes.len() as u32
     }
 
-    /// Adds a node after the others, of which there must be fewer than the limit, the one above it among them. An error, which
-    /// changes nothing, occurs only where more memory had to be allocated.
+    /// Adds a node after the others, of which there must be fewer than the limit, the one above it
+    /// among them. An error, which changes nothing, occurs only where more memory had to be
+    /// allocated.
     pub fn push(&mut self, node: Node) -> Result<(), AllocError>
         requires room { length self.old.rows < self.old.limit }
         requires parent { rank node.parent ≤ length self.old.rows }
@@ -114,12 +121,14 @@ impl Nodes {
         Ok(())
     }
 
-    /// Gives each node the types of the node to which these numbers, one for each in order, lead: a list of types is shared and not
-    /// copied, so that it takes time and memory linear in the nodes. Err only if memory runs out, and then all is as before.
+    /// Gives each node the types of the node to which these numbers, one for each in order, lead: a
+    /// list of types is shared and not copied, so that it takes time and memory linear in the
+    /// nodes. Err only if memory runs out, and then all is as before.
     pub fn resolve(&mut self, alloc: Global, origins: &[NodeId]) -> Result<(), AllocError>
         requires each { length origins.now ≡ length self.now.rows }
         requires within { All (λ origin. origin.0 < length self.now.rows) origins.now }
-        ensures rows { OnOk result (self.new.rows ≡ typed_rows (types_from self.old.rows origins.now) 0 self.old.rows) }
+        ensures rows { OnOk result
+            (self.new.rows ≡ typed_rows (types_from self.old.rows origins.now) 0 self.old.rows) }
         ensures limit { self.new.limit ≡ self.old.limit }
         ensures keeps { IfErr result (λ error. self.new.rows ≡ self.old.rows) }
     {

@@ -165,7 +165,8 @@ item_by first xs (Some low) f q e =
 pub item_sound : (first : Bool) (xs : List ℕ) (f : FoundPart) → item_at first xs ≡ Some f → ItemFound first xs f
 item_sound first xs f e = item_by first xs _ f refl e
 
--- one token of a pattern: an atom that holds no pattern, how often it stands, a parenthesis or a bar
+-- one token of a pattern: an atom that holds no pattern, how often it stands, a parenthesis or a
+-- bar
 pub data IsToken : List ℕ → Mark → List ℕ → Type 0 where
   single : (cs bs : List ℕ) → IsSingle cs bs → IsToken cs mark.Atom bs
   times : (cs : List ℕ) → IsTimes cs → IsToken cs mark.Times (encode_utf8_all cs)

@@ -1,4 +1,5 @@
--- The atoms of a pattern that hold no pattern: which characters spell them, and what is written for them.
+-- The atoms of a pattern that hold no pattern: which characters spell them, and what is written for
+-- them.
 use Rattle.std.specs.Prelude.{◌≡◌, ℕ, ◌==◌, Bool, true, false, List, [], ◌∷◌, ◌++◌, codes, encode_utf8_all}
 use Rattle.std.specs.List.{list_any}
 use Rattle.yv_pattern.specs.Categories.{is_category}

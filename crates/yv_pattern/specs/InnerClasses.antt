@@ -1,4 +1,5 @@
--- Inner definitions, which only clauses of private functions cite: the items of a class, as they are read one by one.
+-- Inner definitions, which only clauses of private functions cite: the items of a class, as they
+-- are read one by one.
 use Rattle.std.specs.Prelude.{ℕ, ◌+◌, nat_le, drop, position, take, ◌==◌, ◌||◌, ◌&&◌, not, Bool, false, List, [], ◌∷◌, Option, Some, None, option_map, if◌then◌else◌}
 use Rattle.yv_pattern.specs.declared.part.Part.{Part}
 use Rattle.yv_pattern.specs.declared.part.Part.TheVariants.{Literal, Range, Digit, Space, Word, Category, ClassEnd}
@@ -7,7 +8,8 @@ use Rattle.yv_pattern.specs.declared.class.Sign.{Sign}
 use Rattle.yv_pattern.specs.Characters.{is_punctuation}
 use Rattle.yv_pattern.specs.Categories.{is_category}
 
--- the one character that a backslash and this letter mean: `\n`, `\r`, `\t`, or punctuation that is escaped
+-- the one character that a backslash and this letter mean: `\n`, `\r`, `\t`, or punctuation that is
+-- escaped
 abbrev pub escaped_character : ℕ → Option ℕ
 escaped_character c =
     if c == 110 then Some 10
@@ -43,7 +45,8 @@ abbrev pub escaped_sign : List ℕ → Option Sign
 escaped_sign [] = None
 escaped_sign (c ∷ cs) = option_map (sign 2) (escaped_character c)
 
--- A character of a class, plain or escaped: brackets are escaped, and a hyphen is plain first in the class, or last.
+-- A character of a class, plain or escaped: brackets are escaped, and a hyphen is plain first in
+-- the class, or last.
 abbrev pub sign_at : Bool → List ℕ → Option Sign
 sign_at first [] = None
 sign_at first (c ∷ cs) =

@@ -1,4 +1,5 @@
--- Inner definitions, which only clauses of private functions cite: how a pattern is read part by part.
+-- Inner definitions, which only clauses of private functions cite: how a pattern is read part by
+-- part.
 use Rattle.std.specs.Prelude.{◌≡◌, ℕ, List, [], ◌∷◌, take, drop, Option, Some, option_to_list}
 use Rattle.std.specs.List.{flat_map}
 use Rattle.yv_pattern.specs.declared.mark.Mark.{Mark}
@@ -26,7 +27,8 @@ pub data ReadsAs : Place → List ℕ → List Item → Type 0 where
 abbrev pub marks : List Item → List Mark
 marks is = flat_map (λ i. option_to_list i.mark) is
 
--- the characters are a pattern, with groups at most 64 deep, and the bytes are what is written for it
+-- the characters are a pattern, with groups at most 64 deep, and the bytes are what is written for
+-- it
 pub record IsReadAs (cs bytes : List ℕ) : Type 0 where
   pub parts : List Item
   pub cut : ReadsAs Outside cs parts

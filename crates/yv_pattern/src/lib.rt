@@ -1,4 +1,5 @@
-//! Patterns of YANG types (RFC 7950, section 9.4.5): the dialect that is read, and its translation for the crate
+//! Patterns of YANG types (RFC 7950, section 9.4.5): the dialect that is read, and its translation
+//! for the crate
 //! `regex`, which decides what matches.
 #![tactic(auto)]
 

@@ -9,12 +9,14 @@ use std::alloc::{AllocError, Global};
 // How many matchers are kept at once: a pattern's is in the slot of its number by this.
 const SLOTS: usize = 4_096;
 
-// Of the patterns whose matchers are kept: the most bytes of the source, which is compared with that in its slot, and of the tables.
+// Of the patterns whose matchers are kept: the most bytes of the source, which is compared with
+// that in its slot, and of the tables.
 const MOST_SOURCE: usize = 256;
 
 const MOST_TABLES: usize = 65_536;
 
-// How many bytes of texts a matcher reads before it is made anew, since behind some thousands it takes to far larger tables.
+// How many bytes of texts a matcher reads before it is made anew, since behind some thousands it
+// takes to far larger tables.
 const MOST_READ: usize = 1_024;
 
 // How many bytes the matchers may come to hold together, by what they are charged.
@@ -29,10 +31,11 @@ const TIMES_TABLES: usize = 8;
 // What a row of an automaton takes beside the states that it is for: a cell for each byte at most.
 const WIDEST_ROW: usize = 1_100;
 
-/// The matchers of a compilation's patterns, so that a text is held against a pattern that was met before without making its
-/// matcher anew. Only those of small patterns are kept, 4,096 at most. Strangers choose patterns and texts, and a matcher
-/// learns from each byte that it reads, except for those with which the text before began too; so each is charged the most that it
-/// may ever hold, and before all of them together were charged more than 256 MiB, all are dropped.
+/// The matchers of a compilation's patterns, so that a text is held against a pattern that was met
+/// before without making its matcher anew. Only those of small patterns are kept, 4,096 at most.
+/// Strangers choose patterns and texts, and a matcher learns from each byte that it reads, except
+/// for those with which the text before began too; so each is charged the most that it may ever
+/// hold, and before all of them together were charged more than 256 MiB, all are dropped.
 #[derive(Drop)]
 pub struct Matchers<'p> {
     slots: Vec<Option<Box<Ready<'p>>>>,
@@ -70,7 +73,8 @@ impl<'p> Matchers<'p> {
         }
     }
 
-    /// Whether the whole text matches (RFC 7950, section 9.4.5). No answer depends on which matchers are kept, nor on an error before.
+    /// Whether the whole text matches (RFC 7950, section 9.4.5). No answer depends on which
+    /// matchers are kept, nor on an error before.
     pub fn is_match(
         &mut self,
         alloc: Global,
@@ -145,8 +149,8 @@ impl<'p> Matchers<'p> {
         self.make(alloc, pattern, text)
     }
 
-    // How many rows a matcher may learn from a text, which read another one in this turn: one for each byte, and one for the end. What it
-    // read then leads to rows that it has.
+    // How many rows a matcher may learn from a text, which read another one in this turn: one for
+    // each byte, and one for the end. What it read then leads to rows that it has.
     fn rows_of(&self, turn: u64, text: &str) -> usize {
         if turn == self.turn {
             return 0;
@@ -159,7 +163,8 @@ impl<'p> Matchers<'p> {
         text.len().saturating_sub(known).saturating_add(1)
     }
 
-    // Takes the matcher in a slot, where it is of this pattern and may read this text; another is dropped.
+    // Takes the matcher in a slot, where it is of this pattern and may read this text; another is
+    // dropped.
     fn take_from(&mut self, slot: usize, pattern: &Pattern, text: &str) -> Option<Box<Ready<'p>>>
         ensures { IfSome result (λ ready. ready.value ≡ pattern.now) }
     {
@@ -223,8 +228,9 @@ fn common(first: &[u8], second: &[u8]) -> usize {
         .count()
 }
 
-// The most that a row of a pattern's automaton takes. It has a cell for each class of bytes, of which each range in the tables makes two
-// at most, and names states. So it takes no more than the tables, and no more than the widest row and a word for each state.
+// The most that a row of a pattern's automaton takes. It has a cell for each class of bytes, of
+// which each range in the tables makes two at most, and names states. So it takes no more than the
+// tables, and no more than the widest row and a word for each state.
 fn row(pattern: &Pattern) -> usize {
     let tables = pattern.tables();
     tables.min(WIDEST_ROW.saturating_add(tables / 4))

@@ -11,12 +11,13 @@ use std::alloc::{AllocError, Global};
 use std::marker::Model;
 use yv_statement::{Code, Refusal, Stop};
 
-/// A pattern that texts are held against. Contracts see it as the bytes of its translation, which is what `regex`
-/// was given.
+/// A pattern that texts are held against. Contracts see it as the bytes of its translation, which
+/// is what `regex` was given.
 #[derive(Drop)]
 pub struct Pattern {
     pub(crate) regex: Regex,
-    // Its number among the patterns of its compilation, from 0 in the order of their building. One that was read by itself has none.
+    // Its number among the patterns of its compilation, from 0 in the order of their building. One
+    // that was read by itself has none.
     number: Option<usize>,
     // The limit on the bytes of its tables under which it was built.
     tables: usize,
@@ -38,10 +39,11 @@ impl Model for Pattern {
 const MOST_TABLES: usize = 10_485_760;
 
 impl Pattern {
-    /// Reads the argument of a `pattern` statement by itself, as a caller of this library may; a compilation reads all of its
-    /// patterns by `Patterns`. A text outside the dialect is `BadPattern`, with file and offset 0 and line 1, since the text's
-    /// place isn't known here. `PatternBuild` says that `regex` doesn't build the translation of a text of the dialect, as where
-    /// it would take too much room.
+    /// Reads the argument of a `pattern` statement by itself, as a caller of this library may; a
+    /// compilation reads all of its patterns by `Patterns`. A text outside the dialect is
+    /// `BadPattern`, with file and offset 0 and line 1, since the text's place isn't known here.
+    /// `PatternBuild` says that `regex` doesn't build the translation of a text of the dialect, as
+    /// where it would take too much room.
     pub fn read(alloc: Global, text: &str) -> Result<Pattern, Stop>
         ensures reads { IfOk result (Translates text.now) }
         ensures refuses { IfErr result (IsRefusedAs text.now) }
@@ -118,7 +120,9 @@ pub(crate) fn characters_of(alloc: Global, text: &str) -> Result<Vec<char>, Allo
 
 // What `regex` is to match for a text, where it is a pattern.
 pub(crate) fn source_of(alloc: Global, text: &str) -> Result<Option<String>, AllocError>
-    ensures { IfOk result (λ found. MatchOption found ((source : List ℕ) → Translates text.now source → ⊥) (λ s. Translates text.now (string_bytes s))) }
+    ensures { IfOk result
+        (λ found. MatchOption found ((source : List ℕ) → Translates text.now source → ⊥)
+        (λ s. Translates text.now (string_bytes s))) }
 {
     let characters = characters_of(alloc, text)?;
     match translate(alloc, characters.as_slice())? {

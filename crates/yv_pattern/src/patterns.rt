@@ -1,4 +1,5 @@
-//! The patterns of one compilation: equal ones are built once, and all of them have one allowance of room.
+//! The patterns of one compilation: equal ones are built once, and all of them have one allowance
+//! of room.
 ghost use Rattle.std.specs.Prelude.{◌≡◌, ◌≢◌, ◌≤◌, IfOk, IfErr, IfSome, OnErr, string_bytes};
 ghost use Rattle.yv_pattern.specs.Spells.{Translates, IsRefusedAs};
 
@@ -13,8 +14,9 @@ use yv_statement::{Refusal, Stop};
 // How many bytes of tables `regex` may build for the patterns of one compilation, all together.
 const ROOM: usize = 268_435_456;
 
-// The limits on these bytes that are tried for a pattern, from the first that may be enough on. The last is `regex`'s own. The first tell
-// small patterns apart, since a matcher that is kept grows with its pattern's tables.
+// The limits on these bytes that are tried for a pattern, from the first that may be enough on. The
+// last is `regex`'s own. The first tell small patterns apart, since a matcher that is kept grows
+// with its pattern's tables.
 const LIMITS: [usize; 18] = [
     128, 256, 512, 1_024, 2_048, 4_096, 8_192, 16_384, 32_768, 65_536, 131_072, 262_144, 524_288,
     1_048_576, 2_097_152, 4_194_304, 8_388_608, 10_485_760,
@@ -23,8 +25,9 @@ const LIMITS: [usize; 18] = [
 // How many of these bytes a pattern is charged at least, since it takes so much besides its tables.
 const LEAST_CHARGE: usize = 8_192;
 
-/// The patterns that a compilation has built, each once, and how much room is left to build others. Each is charged the
-/// limit under which `regex` built it, and 8 KiB at least, so that what strangers' patterns take together is bounded.
+/// The patterns that a compilation has built, each once, and how much room is left to build others.
+/// Each is charged the limit under which `regex` built it, and 8 KiB at least, so that what
+/// strangers' patterns take together is bounded.
 #[derive(Drop)]
 pub struct Patterns {
     built: BTreeMap<String, Rc<Pattern>>,
@@ -49,11 +52,12 @@ impl Patterns {
         }
     }
 
-    /// Reads the argument of a `pattern` statement; where one with the same translation was read before, it is that. A text
-    /// outside the dialect is `BadPattern`, with file and offset 0 and line 1, since the text's place isn't known here.
+    /// Reads the argument of a `pattern` statement; where one with the same translation was read
+    /// before, it is that. A text outside the dialect is `BadPattern`, with file and offset 0 and
+    /// line 1, since the text's place isn't known here.
     /// `PatternBuild` says that `regex` doesn't build the translation of a text of the dialect in the room that is left,
-    /// which is 256 MiB for all patterns together, each taking 8 KiB at least. What was read before can be read again. After an
-    /// error all is as before.
+    /// which is 256 MiB for all patterns together, each taking 8 KiB at least. What was read before
+    /// can be read again. After an error all is as before.
     pub fn read(&mut self, alloc: Global, text: &str) -> Result<Rc<Pattern>, Stop>
         ensures reads { IfOk result (λ p. Translates text.now p.value) }
         ensures refuses { IfErr result (IsRefusedAs text.now) }
@@ -65,7 +69,8 @@ impl Patterns {
         }
     }
 
-    // The pattern of the source that is written for a text. The room is charged last, so that all is as before where memory runs out.
+    // The pattern of the source that is written for a text. The room is charged last, so that all
+    // is as before where memory runs out.
     fn of_source(&mut self, alloc: Global, text: &str, source: String) -> Result<Rc<Pattern>, Stop>
         ensures source { IfOk result (λ p. p.value ≡ string_bytes source) }
         ensures kind { IfErr result (λ stop. (refusal : Refusal) → stop ≢ Stop.Fault refusal) }
@@ -84,7 +89,8 @@ impl Patterns {
         Ok(pattern)
     }
 
-    // The pattern that was built of a source. That it is the one of this source is looked at, and not kept as a fact.
+    // The pattern that was built of a source. That it is the one of this source is looked at, and
+    // not kept as a fact.
     fn find(&self, source: &str) -> Result<Option<Rc<Pattern>>, AllocError>
         ensures { IfOk result (λ found. IfSome found (λ p. p.value ≡ source.now)) }
     {
@@ -101,7 +107,8 @@ impl Patterns {
     }
 }
 
-// The pattern of a source, with this number, and the room that it is charged: the first of these limits with which `regex` builds it.
+// The pattern of a source, with this number, and the room that it is charged: the first of these
+// limits with which `regex` builds it.
 fn build_within(
     alloc: Global,
     source: &str,
@@ -127,7 +134,8 @@ fn build_within(
     Err(Stop::PatternBuild)
 }
 
-// The limits that are worth trying for a text and its source, since each try reads it anew: tables aren't much smaller than what they are of.
+// The limits that are worth trying for a text and its source, since each try reads it anew: tables
+// aren't much smaller than what they are of.
 fn limits_of(alloc: Global, text: &str, source: &str) -> Result<&'static [usize], AllocError> {
     let characters = characters_of(alloc, text)?;
     let least = expected_tables(alloc, characters.as_slice())?.max(source.len());

@@ -7,7 +7,8 @@ use regex::{Matcher, Regex};
 use std::alloc::{AllocError, Global};
 use std::marker::Model;
 
-/// A pattern with a matcher of its own, which keeps what it learns from each text. Contracts see it as the pattern.
+/// A pattern with a matcher of its own, which keeps what it learns from each text. Contracts see it
+/// as the pattern.
 #[derive(Drop)]
 pub struct Ready<'p> {
     regex: &'p Regex,

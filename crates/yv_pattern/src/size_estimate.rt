@@ -1,5 +1,6 @@
-//! About how much `regex` builds for a pattern, so that it isn't tried with limits far below. Nothing that is answered of texts rests on
-//! it: where it is too little, the next limits are tried, and where it is too much, the pattern is charged more.
+//! About how much `regex` builds for a pattern, so that it isn't tried with limits far below.
+//! Nothing that is answered of texts rests on it: where it is too little, the next limits are
+//! tried, and where it is too much, the pattern is charged more.
 use crate::part::{Part, part_at};
 use crate::place::Place;
 use std::alloc::{AllocError, Global};
@@ -13,7 +14,8 @@ const STATE: usize = 12;
 // For all characters but some, most of which have several bytes.
 const ALL_BUT_SOME: usize = 220;
 
-// For the categories of characters: decimal digits, another one (256 to 14,000), and those that aren't of words.
+// For the categories of characters: decimal digits, another one (256 to 14,000), and those that
+// aren't of words.
 const DIGITS: usize = 980;
 
 const CATEGORY: usize = 5_000;
@@ -85,7 +87,8 @@ impl Tables {
         self.group = self.group.saturating_add(bytes);
     }
 
-    // Repeats the last atom as often as a count says at most. Where it says at least how often, too, each may be passed over.
+    // Repeats the last atom as often as a count says at most. Where it says at least how often,
+    // too, each may be passed over.
     fn repeat(&mut self, count: &[char]) {
         let choice = if count.contains(&',') { STATE } else { 0 };
         let once = self.atom.saturating_add(choice);
@@ -96,7 +99,8 @@ impl Tables {
     }
 }
 
-// An atom that is no group, or an item of a class, for which the class has nothing besides unless it is turned round.
+// An atom that is no group, or an item of a class, for which the class has nothing besides unless
+// it is turned round.
 fn size_of_atom(part: Part) -> usize {
     match part {
         Part::Class | Part::ClassEnd => 0,

@@ -1,3 +1,1 @@
-pub mod NoPattern
-pub mod Quoting
 pub mod Speaking

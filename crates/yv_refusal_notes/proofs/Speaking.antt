@@ -7,9 +7,9 @@ use Rattle.yv_link_scopes.specs.Rows.{Row}
 use Rattle.yv_link_scopes.specs.RowList.{rows_of}
 use Rattle.yv_streams.specs.Files.{File}
 use Rattle.yv_refusal_notes.specs.Explanations.{Speaks, names_row, names_syntax}
-use Rattle.yv_refusal_notes.specs.Quotes.{Extends}
+use Rattle.yv_note_text.specs.Quotes.{Extends}
 use Rattle.yv_refusal_notes.specs.Subject.{is_at, subject}
-use Rattle.yv_refusal_notes.proofs.Quoting.{named_longer}
+use Rattle.yv_note_text.proofs.Quoting.{named_longer}
 
 pub speaks_longer : (files : List File) (r : Refusal) (old new : List ℕ) → Extends old new → Speaks files r old → Speaks files r new
 speaks_longer files r old new longer (names_row ts read names) =

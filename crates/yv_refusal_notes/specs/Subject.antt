@@ -8,7 +8,7 @@ use Rattle.yv_statement.specs.declared.refusal.Code.{Code}
 use Rattle.yv_statement.specs.declared.refusal.Code.TheVariants as code
 use Rattle.yv_statement.specs.declared.refusal.Refusal.{Refusal}
 use Rattle.yv_link_scopes.specs.Rows.{Row}
-use Rattle.yv_refusal_notes.specs.Quotes.{Quotes}
+use Rattle.yv_note_text.specs.Quotes.{Quotes}
 
 -- a type or a path that isn't supported is so for its argument
 abbrev pub is_told_by_argument : List ℕ → Bool
@@ -21,7 +21,8 @@ is_extended keyword = list_any (λ byte. byte == 58) keyword
 abbrev pub argument_or_keyword : Head → List ℕ
 argument_or_keyword h = unwrap_or h.argument h.keyword
 
--- the word of a statement that a refusal at it speaks of: its keyword, where that is what is wrong, and else its argument
+-- the word of a statement that a refusal at it speaks of: its keyword, where that is what is wrong,
+-- and else its argument
 abbrev pub subject : Code → Head → Option (List ℕ)
 subject code.TooManyNodes h = None
 subject code.UnknownStatement h = Some h.keyword
@@ -34,6 +35,7 @@ subject _ h = Some (argument_or_keyword h)
 abbrev pub is_at : Refusal → Row → Bool
 is_at r row = (row.file == r.file) && (row.head.offset == r.offset)
 
--- the text names what the refusal speaks of, where a statement stands at its place: the first, if there were more
+-- the text names what the refusal speaks of, where a statement stands at its place: the first, if
+-- there were more
 abbrev pub Names : List Row → Refusal → List ℕ → Type 0
 Names rows r text = IfSome (option_and_then (λ (row : Row). subject r.code row.head) (find (is_at r) rows)) (λ word. Quotes word text)

@@ -1,27 +1,22 @@
 //! The cause of a refusal at a statement.
-use crate::arguments::{tell_argument, tell_unsupported};
-use crate::augments::{tell_augment, tell_augment_target, tell_refine, tell_refine_target};
-use crate::cycle::{tell_cycle, tell_imports};
-use crate::defaults::{tell_default, tell_mandatory};
-use crate::definitions::{
-    tell_feature_name, tell_grouping_name, tell_identity_name, tell_second_module,
-    tell_second_name, tell_type_name,
-};
-use crate::entry_numbers::tell_item;
-use crate::lists::{tell_key, tell_unique};
-use crate::modules::{tell_missing, tell_prefix, tell_revision, tell_submodule};
-use crate::paths::{tell_path, tell_path_cycle};
-use crate::pattern_text::tell_pattern;
-use crate::pieces::Message;
-use crate::placement::{tell_config, tell_operation, tell_second_node};
 use crate::refusal_text::Bounds;
-use crate::restrictions::tell_restriction;
-use crate::site::Site;
-use crate::substatements::{tell_cardinality, tell_keyword};
-use crate::types::tell_type;
 use crate::units::tell_units;
 use std::alloc::{AllocError, Global};
 use yv_link_scopes::Rows;
+use yv_note_names::{
+    tell_cycle, tell_feature_name, tell_grouping_name, tell_identity_name, tell_imports,
+    tell_missing, tell_prefix, tell_revision, tell_second_module, tell_second_name, tell_submodule,
+    tell_type_name,
+};
+use yv_note_nodes::{
+    tell_augment, tell_augment_target, tell_config, tell_default_case, tell_key, tell_mandatory,
+    tell_operation, tell_path, tell_path_cycle, tell_refine, tell_refine_target, tell_second_node,
+    tell_unique,
+};
+use yv_note_patterns::tell_pattern;
+use yv_note_statements::{Message, Site};
+use yv_note_syntax::{tell_argument, tell_cardinality, tell_keyword, tell_unsupported};
+use yv_note_types::{tell_default, tell_item, tell_restriction, tell_type};
 use yv_statement::Code;
 
 /// Adds the cause of a refusal at a statement; nothing, if the sentence on its code says all.
@@ -105,24 +100,14 @@ fn tell_definition_cycle<'a>(
     site: &Site<'_, 'a>,
     code: Code,
 ) -> Result<(), AllocError> {
-    match code {
-        Code::FeatureCycle => {
-            telling.subject("The feature ", " depends on itself.");
-            tell_cycle(alloc, telling, rows, site, "if-feature")
-        }
-        Code::IdentityCycle => {
-            telling.subject("The identity ", " is derived from itself.");
-            tell_cycle(alloc, telling, rows, site, "base")
-        }
-        Code::TypeCycle => {
-            telling.subject("The typedef ", " is derived from itself.");
-            tell_cycle(alloc, telling, rows, site, "type")
-        }
-        _ => {
-            telling.subject("The grouping ", " uses itself.");
-            tell_cycle(alloc, telling, rows, site, "uses")
-        }
-    }
+    let keyword = match code {
+        Code::FeatureCycle => "if-feature",
+        Code::IdentityCycle => "base",
+        Code::TypeCycle => "type",
+        _ => "uses",
+    };
+    telling.sentence(code);
+    tell_cycle(alloc, telling, rows, site, keyword)
 }
 
 // The same, of refines and augments.
@@ -168,6 +153,7 @@ fn tell_node<'a>(
         Code::DuplicateNode => tell_second_node(alloc, telling, site),
         Code::BadKey => tell_key(alloc, telling, site),
         Code::BadUnique => tell_unique(alloc, telling, site),
+        Code::BadDefault if site.is("choice") => tell_default_case(alloc, telling, site),
         Code::BadDefault => tell_default(alloc, telling, site),
         Code::BadMandatory => tell_mandatory(alloc, telling, site),
         Code::BadPath => tell_path(alloc, telling, site),

@@ -1,15 +1,14 @@
 //! What helps a person to fix a file that is refused.
 ghost use Rattle.std.specs.Prelude.{map, string_bytes, OnOk, IfOk, slice_get, ◌≡◌};
 ghost use Rattle.yv_streams.specs.Files.{file_of};
-ghost use Rattle.yv_refusal_notes.specs.Excerpt.{Explains};
-ghost use Rattle.yv_refusal_notes.specs.Explanations.{Speaks, bytes_at};
-ghost use Rattle.yv_refusal_notes.specs.Quotes.{Extends};
+ghost use Rattle.yv_refusal_notes.specs.Explanations.{Explains, Speaks, bytes_at};
+ghost use Rattle.yv_note_text.specs.Quotes.{Extends};
 
-use crate::place::excerpt;
 use crate::refusal_text::{Bounds, push_sentence};
-use crate::syntax_note::push_unread;
 use std::alloc::{AllocError, Global};
 use yv_link_scopes::Rows;
+use yv_note_syntax::push_unread;
+use yv_note_text::excerpt;
 use yv_source::Texts;
 use yv_statement::{Refusal, Stop};
 use yv_streams::Input;
@@ -33,7 +32,8 @@ fn push_told(
     refusal: &Refusal,
 ) -> Result<(), AllocError>
     ensures grows { OnOk result (Extends (string_bytes text.old) (string_bytes text.new)) }
-    ensures speaks { OnOk result (Speaks (map file_of inputs.now) refusal.now (string_bytes text.new)) }
+    ensures speaks { OnOk result
+        (Speaks (map file_of inputs.now) refusal.now (string_bytes text.new)) }
 {
     let texts = Texts::read(alloc, inputs)?;
     match texts.statements(alloc) {
@@ -51,17 +51,20 @@ fn push_told(
     }
 }
 
-/// The line of the file with a caret under the place of a refusal, and below it the refusal's name with a sentence. The sentence
-/// names the argument or keyword that the refusal is about, where the files can be read; where not, it is the one
-/// that fits every refusal of that name.
+/// The line of the file with a caret under the place of a refusal, and below it the refusal's name
+/// with a sentence. The sentence names the argument or keyword that the refusal is about, where the
+/// files can be read; where not, it is the one that fits every refusal of that name.
 pub fn explanation(
     alloc: Global,
     inputs: &[Input],
     bounds: &Bounds<'_>,
     refusal: &Refusal,
 ) -> Result<String, AllocError>
-    ensures place { IfOk result (λ s. Explains (bytes_at (slice_get (map file_of inputs.now) refusal.now.file)) refusal.now (string_bytes s)) }
-    ensures speaks { IfOk result (λ s. Speaks (map file_of inputs.now) refusal.now (string_bytes s)) }
+    ensures place { IfOk result
+        (λ s. Explains (bytes_at (slice_get (map file_of inputs.now) refusal.now.file)) refusal.now
+        (string_bytes s)) }
+    ensures speaks { IfOk result
+        (λ s. Speaks (map file_of inputs.now) refusal.now (string_bytes s)) }
 {
     let bytes = bytes_at(inputs, refusal.file);
     let place = usize::try_from(refusal.offset).unwrap_or(0);

@@ -3,17 +3,14 @@ ghost use Rattle.std.specs.Prelude.{◌≡◌, IfOk, IfSome, OnOk, OnErr, option
 ghost use Rattle.std.specs.List.{find};
 ghost use Rattle.yv_link_scopes.specs.Rows.{row};
 ghost use Rattle.yv_link_scopes.specs.Views.{rows_in};
-ghost use Rattle.yv_refusal_notes.specs.Quotes.{Extends, Quotes};
+ghost use Rattle.yv_note_text.specs.Quotes.{Extends, Quotes};
 ghost use Rattle.yv_refusal_notes.specs.Subject.{Names, is_at, subject};
 
 use crate::cause::tell_cause;
-use crate::entry::entries;
-use crate::pieces::{Message, push_around, push_plain};
-use crate::sentences::sentence_of;
-use crate::site::Site;
 use crate::words::subject;
 use std::alloc::{AllocError, Global};
 use yv_link_scopes::{Entry, Rows};
+use yv_note_statements::{Message, Site, entries, push_around, push_plain, sentence_of};
 use yv_statement::{Code, Refusal, Selection, Statement};
 use yv_streams::Input;
 
@@ -49,6 +46,7 @@ fn number_at(rows: &Rows<'_, '_>, refusal: &Refusal) -> usize {
 /// What a run was given: its selection of modules and features, and its limit.
 #[derive(Clone, Copy)]
 pub struct Bounds<'b> {
+    /// Which modules are implemented, and which features are supported.
     pub selection: &'b Selection,
     /// The highest number of units: nodes, and uses that are expanded.
     pub limit: u32,
@@ -67,8 +65,7 @@ fn telling_of<'a>(
         tell_cause(alloc, &mut telling, rows, &site, bounds, refusal.code)?;
     }
     if telling.is_empty() {
-        let sentence = sentence_of(refusal.code);
-        telling.subject(sentence.before, sentence.after);
+        telling.sentence(refusal.code);
     }
     telling.outcome()?;
     Ok(telling)
@@ -93,7 +90,8 @@ fn push_about(
     statement: &Statement<'_>,
 ) -> Result<(), AllocError>
     ensures grows { OnOk result (Extends (string_bytes text.old) (string_bytes text.new)) }
-    ensures names { OnOk result (IfSome (subject code statement.now.head) (λ word. Quotes word (string_bytes text.new))) }
+    ensures names { OnOk result
+        (IfSome (subject code statement.now.head) (λ word. Quotes word (string_bytes text.new))) }
 {
     match subject(code, statement) {
         Some(word) => push_around(alloc, text, inputs, telling, word),
@@ -128,9 +126,9 @@ fn sentence(
     Ok(text)
 }
 
-/// Adds what is said of a refusal: a sentence that names the word at fault, if there is a statement at its place, and
-/// else one that fits every refusal of its code. The sentence tells the cause as far as it is found. If memory runs out, the text is as
-/// it was.
+/// Adds what is said of a refusal: a sentence that names the word at fault, if there is a statement
+/// at its place, and else one that fits every refusal of its code. The sentence tells the cause as
+/// far as it is found. If memory runs out, the text is as it was.
 pub fn push_sentence(
     alloc: Global,
     text: &mut String,

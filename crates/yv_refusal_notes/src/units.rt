@@ -1,13 +1,11 @@
 //! How many nodes and uses modules expand to.
-use crate::entry::Entry;
-use crate::pieces::Message;
 use crate::refusal_text::Bounds;
-use crate::site::Site;
 use std::alloc::{AllocError, Global};
 use yv_expand::Units;
 use yv_link_definitions::names;
-use yv_link_scopes::{Entry as Row, Rows};
-use yv_statement::{Selection, Stop};
+use yv_link_scopes::{Entry, Rows};
+use yv_note_statements::{Message, Site, StatementEntry};
+use yv_statement::{Code, Selection, Stop};
 
 /// The highest limit that may be asked for.
 const HIGHEST_LIMIT: u64 = 1_000_000;
@@ -25,13 +23,15 @@ fn marks(
     Ok(marks)
 }
 
-// Whether a numbered statement stands at the top of a file that is marked: behind the roots, in the block of one.
-fn is_counted(marks: &[bool], number: usize, entry: &Row<'_, '_>) -> bool {
+// Whether a numbered statement stands at the top of a file that is marked: behind the roots, in the
+// block of one.
+fn is_counted(marks: &[bool], number: usize, entry: &Entry<'_, '_>) -> bool {
     let is_top = number >= marks.len() && entry.scope < marks.len();
     is_top && marks.get(entry.file as usize).copied().unwrap_or(false)
 }
 
-// How many units modules expand to, and the number of the statement at the top of one that expands to most of them.
+// How many units modules expand to, and the number of the statement at the top of one that expands
+// to most of them.
 #[derive(Clone, Copy)]
 struct Count {
     total: u64,
@@ -41,7 +41,8 @@ struct Count {
     uses: Option<(usize, u64)>,
 }
 
-// How many units the implemented modules expand to, or 2 to the 64 less one if these are more. None if names mean nothing.
+// How many units the implemented modules expand to, or 2 to the 64 less one if these are more. None
+// if names mean nothing.
 fn count_of(
     alloc: Global,
     rows: &Rows<'_, '_>,
@@ -100,15 +101,16 @@ fn add(count: &mut Count, number: usize, weight: u64) {
     }
 }
 
-/// Adds how many nodes and uses the implemented modules expand to, where most of them are, and what the limit is.
+/// Adds how many nodes and uses the implemented modules expand to, where most of them are, and what
+/// the limit is.
 pub(crate) fn tell_units<'a>(
     alloc: Global,
     telling: &mut Message<'a>,
     rows: &Rows<'a, '_>,
     bounds: &Bounds<'_>,
-    entries: &[Entry<'a>],
+    entries: &[StatementEntry<'a>],
 ) -> Result<(), AllocError> {
-    telling.say("The modules expand to more nodes and uses than the limit.");
+    telling.sentence(Code::TooManyNodes);
     if let Some(count) = count_of(alloc, rows, bounds.selection)? {
         say_count(telling, &count, bounds.limit);
         if let Some(largest) = Site::at(entries, count.largest) {
@@ -123,7 +125,11 @@ pub(crate) fn tell_units<'a>(
 }
 
 // Adds to how many a `uses` expands, and where its grouping is.
-fn say_uses<'a>(telling: &mut Message<'a>, entries: &[Entry<'a>], uses: Option<(usize, u64)>) {
+fn say_uses<'a>(
+    telling: &mut Message<'a>,
+    entries: &[StatementEntry<'a>],
+    uses: Option<(usize, u64)>,
+) {
     let Some((number, weight)) = uses else {
         return;
     };

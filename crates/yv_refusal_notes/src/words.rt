@@ -28,8 +28,8 @@ fn argument_or_keyword<'s>(statement: &'s Statement<'_>) -> &'s str
     }
 }
 
-/// The word of a statement that a refusal at it speaks of: its keyword, where that is what is wrong, and else its argument.
-/// None for a refusal that speaks of no word.
+/// The word of a statement that a refusal at it speaks of: its keyword, where that is what is
+/// wrong, and else its argument. None for a refusal that speaks of no word.
 pub fn subject<'s>(code: Code, statement: &'s Statement<'_>) -> Option<&'s str>
     ensures { option_map (λ word. word.now) result ≡ subject code statement.now.head }
 {

@@ -9,7 +9,7 @@ use Rattle.std.specs.declared.result.Result.TheVariants.{Ok, Err}
 use Rattle.serde_json.specs.Data.{Data}
 use Rattle.serde_json.specs.Read.{read}
 use Rattle.yv_validate.specs.Size.{size}
-use Rattle.yv_refusal_notes.specs.Document.{IsJson, SaysWhy}
+use Rattle.yv_note_json.specs.Document.{IsJson, SaysWhy}
 use Rattle.yv_run.specs.Document.{DocumentText, TooLarge, NotJson, Reads, document_limit, json_of, reading_of, document_text}
 
 json_some : (bs : List ℕ) (d : Data) → is_utf8 bs ≡ true → read bs ≡ Some d → json_of bs ≡ Some d

@@ -9,8 +9,9 @@ use Rattle.yv_source.specs.Answer.{IsBadFile, IsSpelled, IsRefused}
 use Rattle.yv_source.specs.Legal.{IsLegalFile}
 use Rattle.yv_statement.specs.Selection.{Selected}
 use Rattle.yv_schema.specs.Refuses.{Refuses}
-use Rattle.yv_schema.specs.Module.{modules_of}
-use Rattle.yv_schema.specs.Schema.{AreNotes, AreReferences, IsSchema}
+use Rattle.yv_schema_build.specs.Module.{modules_of}
+use Rattle.yv_schema.specs.Notes.{AreNotes}
+use Rattle.yv_schema.specs.Schema.{AreReferences, IsSchema}
 use Rattle.yv_nodes.specs.Link.{Link}
 use Rattle.yv_nodes.specs.Tree.{Forest}
 use Rattle.yv_nodes.specs.Rows.{Note, Rows, whole}

@@ -1,4 +1,5 @@
--- A pattern of a type of the files is among their numbered statements, so there is one of which a note can speak.
+-- A pattern of a type of the files is among their numbered statements, so there is one of which a
+-- note can speak.
 use Rattle.std.proofs.Common.{◌≡◌, ◌∙◌, ℕ, zero, suc, ◌⊎◌, inl, inr, Bool, true, false, cond, List, [], ◌∷◌, ◌++◌, map, Option, Some, None, Result, refl, sym, ap, subst, codes}
 use Rattle.std.specs.Prelude.{IfOk, IfSome, IfNone, Ok, Err}
 use Rattle.std.specs.List.{AllZip, slice_get}
@@ -19,7 +20,7 @@ use Rattle.yv_pattern.specs.Spells.{Translates}
 use Rattle.yv_type_restrictions.specs.Types.{HasTypePattern}
 use Rattle.yv_streams.specs.Files.{File}
 use Rattle.yv_statement.specs.Selection.{Selected}
-use Rattle.yv_refusal_notes.specs.PatternFailure.{AreNoPatterns, HasNoPattern, IsPatternAmong, TellsPattern, read, unread}
+use Rattle.yv_note_patterns.specs.PatternFailure.{AreNoPatterns, HasNoPattern, IsPatternAmong, TellsPattern, read, unread}
 use Rattle.yv_run.specs.Compiles.{HavePattern}
 use Rattle.yv_run.specs.Notes.{NotesPattern}
 

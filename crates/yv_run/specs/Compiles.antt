@@ -8,8 +8,9 @@ use Rattle.yv_statement.specs.Selection.{Selected}
 use Rattle.yv_type_restrictions.specs.Types.{HasTypePattern}
 use Rattle.yv_nodes.specs.Rows.{Rows, whole}
 use Rattle.yv_nodes.specs.Numbers.{rows_of}
-use Rattle.yv_schema.specs.Module.{modules_of}
-use Rattle.yv_schema.specs.Schema.{AreNotes, AreReferences, IsSchema}
+use Rattle.yv_schema_build.specs.Module.{modules_of}
+use Rattle.yv_schema.specs.Notes.{AreNotes}
+use Rattle.yv_schema.specs.Schema.{AreReferences, IsSchema}
 use Rattle.yv_schema.specs.Refuses.{Refuses, RefusesBeforeTypes}
 use Rattle.yv_streams.specs.Files.{File}
 use Rattle.yv_source.specs.FileStatements.{IsRead, IsUnread, in_file}

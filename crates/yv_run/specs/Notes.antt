@@ -8,9 +8,8 @@ use Rattle.yv_nodes.specs.Rows.{Rows}
 use Rattle.yv_job.specs.Jobs.{CommandAsked, Compiles, Draws, Checks, Task}
 use Rattle.yv_statement.specs.declared.document_kind.Kind.{Kind}
 use Rattle.yv_streams.specs.Files.{File}
-use Rattle.yv_refusal_notes.specs.Excerpt.{Explains}
-use Rattle.yv_refusal_notes.specs.Explanations.{Speaks, bytes_at}
-use Rattle.yv_refusal_notes.specs.PatternFailure.{TellsPattern}
+use Rattle.yv_refusal_notes.specs.Explanations.{Explains, Speaks, bytes_at}
+use Rattle.yv_note_patterns.specs.PatternFailure.{TellsPattern}
 use Rattle.yv_run.specs.Compiles.{Compilation, HasSchema, RefusedAt}
 use Rattle.yv_run.specs.PersonNotes.{NotesData, NotesDiagram}
 use Rattle.yv_run.specs.Runs.{Runs}

@@ -7,7 +7,7 @@ use Rattle.yv_statement.specs.declared.document_kind.Kind.{Kind}
 use Rattle.yv_validate.specs.Flaw.{Flaw}
 use Rattle.yv_validate.specs.Faults.{faults}
 use Rattle.yv_fault_notes.specs.Sentences.{Tells}
-use Rattle.yv_refusal_notes.specs.Document.{SaysWhy, TellsLarge}
+use Rattle.yv_note_json.specs.Document.{SaysWhy, TellsLarge}
 use Rattle.yv_tree.specs.Diagram.{diagram_of}
 use Rattle.yv_run.specs.Document.{DocumentText, TooLarge, NotJson, Reads, document_text}
 use Rattle.yv_run.specs.declared.print.Body.{Body}

@@ -36,11 +36,14 @@ pub(crate) fn write_refusal<W: Write>(
     writer: &mut Counted<W>,
 ) -> Result<RunEnd, Halt>
     requires { IsFresh writer.old }
-    ensures writes { IfOk result (λ e. Writes (refusal_printed (map file_of inputs.now) refusal.now) e.status
+    ensures writes { IfOk result
+        (λ e. Writes (refusal_printed (map file_of inputs.now) refusal.now) e.status
         (W.contents (stream_inner writer.old)) (W.contents (stream_inner writer.new))) }
-    ensures notes { IfOk result (HasNote (λ note. IsSomeAnd note (TellsRefusal (map file_of inputs.now) refusal.now))) }
+    ensures notes { IfOk result
+        (HasNote (λ note. IsSomeAnd note (TellsRefusal (map file_of inputs.now) refusal.now))) }
     ensures ends { IfOk result (λ e. IsStopped e.status → ⊥) }
-    ensures write_fault { IfOk result (λ e. e.status ≡ Status.WriteFault ↔ (has_failed writer.new ≡ true)) }
+    ensures write_fault { IfOk result
+        (λ e. e.status ≡ Status.WriteFault ↔ (has_failed writer.new ≡ true)) }
     ensures writer_once { FailsOnceAtMost writer.new }
     ensures rest { OnErr result (writer.new ≡ writer.old) }
     ensures no_memory { IfErr result (λ h. h ≡ Halt.NoMemory) }
@@ -58,7 +61,9 @@ fn refusal_note(
     inputs: &[Input],
     refusal: &Refusal,
 ) -> Result<Option<String>, AllocError>
-    ensures { IfOk result (λ note. IsSomeAnd (option_map string_bytes note) (TellsRefusal (map file_of inputs.now) refusal.now)) }
+    ensures { IfOk result
+        (λ note. IsSomeAnd (option_map string_bytes note)
+        (TellsRefusal (map file_of inputs.now) refusal.now)) }
 {
     let bounds = Bounds {
         selection: &job.selection,
@@ -78,15 +83,20 @@ pub(crate) fn write_answer<R: Read, W: Write>(
 ) -> Result<RunEnd, Halt>
     requires reader { IsFresh reader.old }
     requires writer { IsFresh writer.old }
-    ensures runs { IfOk result (λ e. RunsSchema (asked_of job.now.command) job.now.kind schema.now e (R.remaining (stream_inner reader.old))
-        (R.remaining (stream_inner reader.new)) (W.contents (stream_inner writer.old)) (W.contents (stream_inner writer.new))) }
+    ensures runs { IfOk result
+        (λ e. RunsSchema (asked_of job.now.command) job.now.kind schema.now e
+        (R.remaining (stream_inner reader.old))
+        (R.remaining (stream_inner reader.new)) (W.contents (stream_inner writer.old))
+        (W.contents (stream_inner writer.new))) }
     ensures ends { IfOk result (λ e. IsStopped e.status → ⊥) }
-    ensures write_fault { IfOk result (λ e. e.status ≡ Status.WriteFault ↔ (has_failed writer.new ≡ true)) }
+    ensures write_fault { IfOk result
+        (λ e. e.status ≡ Status.WriteFault ↔ (has_failed writer.new ≡ true)) }
     ensures writer_once { FailsOnceAtMost writer.new }
     ensures rest { OnErr result (writer.new ≡ writer.old) }
     ensures reads_on { ReadsData (asked_of job.now.command) ⊎ (reader.new ≡ reader.old) }
     ensures read_fault { IsErrOf result Halt.Read ↔ (has_failed reader.new ≡ true) }
-    ensures takes { TakesAtMost most_read (R.remaining (stream_inner reader.old)) (R.remaining (stream_inner reader.new)) }
+    ensures takes { TakesAtMost most_read (R.remaining (stream_inner reader.old))
+        (R.remaining (stream_inner reader.new)) }
     ensures reader_once { FailsOnceAtMost reader.new }
     ensures never_built { IsErrOf result Halt.PatternBuild → ⊥ }
 {
@@ -104,10 +114,13 @@ fn write_count<W: Write>(
     writer: &mut Counted<W>,
 ) -> Result<RunEnd, Halt>
     requires { IsFresh writer.old }
-    ensures writes { IfOk result (λ e. Writes (count_printed (whole schema.now)) e.status (W.contents (stream_inner writer.old)) (W.contents (stream_inner writer.new))) }
+    ensures writes { IfOk result
+        (λ e. Writes (count_printed (whole schema.now)) e.status
+        (W.contents (stream_inner writer.old)) (W.contents (stream_inner writer.new))) }
     ensures notes { IfOk result (HasNote (λ note. note ≡ None)) }
     ensures ends { IfOk result (λ e. IsStopped e.status → ⊥) }
-    ensures write_fault { IfOk result (λ e. e.status ≡ Status.WriteFault ↔ (has_failed writer.new ≡ true)) }
+    ensures write_fault { IfOk result
+        (λ e. e.status ≡ Status.WriteFault ↔ (has_failed writer.new ≡ true)) }
     ensures writer_once { FailsOnceAtMost writer.new }
     ensures rest { OnErr result (writer.new ≡ writer.old) }
     ensures no_memory { IfErr result (λ h. h ≡ Halt.NoMemory) }
@@ -128,10 +141,13 @@ fn write_diagram<W: Write>(
     writer: &mut Counted<W>,
 ) -> Result<RunEnd, Halt>
     requires { IsFresh writer.old }
-    ensures writes { IfOk result (λ e. Writes (diagram_printed schema.now name.now) e.status (W.contents (stream_inner writer.old)) (W.contents (stream_inner writer.new))) }
+    ensures writes { IfOk result
+        (λ e. Writes (diagram_printed schema.now name.now) e.status
+        (W.contents (stream_inner writer.old)) (W.contents (stream_inner writer.new))) }
     ensures notes { IfOk result (HasNote (NotesDiagram schema.now name.now)) }
     ensures ends { IfOk result (λ e. IsStopped e.status → ⊥) }
-    ensures write_fault { IfOk result (λ e. e.status ≡ Status.WriteFault ↔ (has_failed writer.new ≡ true)) }
+    ensures write_fault { IfOk result
+        (λ e. e.status ≡ Status.WriteFault ↔ (has_failed writer.new ≡ true)) }
     ensures writer_once { FailsOnceAtMost writer.new }
     ensures rest { OnErr result (writer.new ≡ writer.old) }
     ensures no_memory { IfErr result (λ h. h ≡ Halt.NoMemory) }
@@ -152,14 +168,18 @@ fn validate_document<R: Read, W: Write>(
 ) -> Result<RunEnd, Halt>
     requires reader { IsFresh reader.old }
     requires writer { IsFresh writer.old }
-    ensures runs { IfOk result (λ e. RunsData kind schema.now e (R.remaining (stream_inner reader.old)) (R.remaining (stream_inner reader.new))
+    ensures runs { IfOk result
+        (λ e. RunsData kind schema.now e (R.remaining (stream_inner reader.old))
+        (R.remaining (stream_inner reader.new))
         (W.contents (stream_inner writer.old)) (W.contents (stream_inner writer.new))) }
     ensures ends { IfOk result (λ e. IsStopped e.status → ⊥) }
-    ensures write_fault { IfOk result (λ e. e.status ≡ Status.WriteFault ↔ (has_failed writer.new ≡ true)) }
+    ensures write_fault { IfOk result
+        (λ e. e.status ≡ Status.WriteFault ↔ (has_failed writer.new ≡ true)) }
     ensures writer_once { FailsOnceAtMost writer.new }
     ensures rest { OnErr result (writer.new ≡ writer.old) }
     ensures read_fault { IsErrOf result Halt.Read ↔ (has_failed reader.new ≡ true) }
-    ensures takes { TakesAtMost most_read (R.remaining (stream_inner reader.old)) (R.remaining (stream_inner reader.new)) }
+    ensures takes { TakesAtMost most_read (R.remaining (stream_inner reader.old))
+        (R.remaining (stream_inner reader.new)) }
     ensures reader_once { FailsOnceAtMost reader.new }
     ensures never_built { IsErrOf result Halt.PatternBuild → ⊥ }
 {
@@ -179,10 +199,13 @@ fn write_findings<W: Write>(
     writer: &mut Counted<W>,
 ) -> Result<RunEnd, Halt>
     requires { IsFresh writer.old }
-    ensures writes { IfOk result (λ e. Writes (data_printed kind schema.now bytes.now) e.status (W.contents (stream_inner writer.old)) (W.contents (stream_inner writer.new))) }
+    ensures writes { IfOk result
+        (λ e. Writes (data_printed kind schema.now bytes.now) e.status
+        (W.contents (stream_inner writer.old)) (W.contents (stream_inner writer.new))) }
     ensures notes { IfOk result (HasNote (NotesData kind schema.now bytes.now)) }
     ensures ends { IfOk result (λ e. IsStopped e.status → ⊥) }
-    ensures write_fault { IfOk result (λ e. e.status ≡ Status.WriteFault ↔ (has_failed writer.new ≡ true)) }
+    ensures write_fault { IfOk result
+        (λ e. e.status ≡ Status.WriteFault ↔ (has_failed writer.new ≡ true)) }
     ensures writer_once { FailsOnceAtMost writer.new }
     ensures rest { OnErr result (writer.new ≡ writer.old) }
     ensures no_memory { IfErr result (λ h. h ≡ Halt.NoMemory) }

@@ -21,10 +21,13 @@ pub fn compile_files(
     selection: &Selection,
     limit: u32,
 ) -> Result<Schema, Stop>
-    ensures schema { IfOk result (λ s. FilesCompile (selected_of selection.now) limit (map file_of inputs.now) (HasSchema s)) }
+    ensures schema { IfOk result
+        (λ s. FilesCompile (selected_of selection.now) limit (map file_of inputs.now)
+        (HasSchema s)) }
     ensures refuses { (r : TheRefusal) → result ≡ Err (Fault r)
         → FilesCompile (selected_of selection.now) limit (map file_of inputs.now) (RefusedAt r) }
-    ensures builds { result ≡ Err PatternBuild → HavePattern (selected_of selection.now) limit (map file_of inputs.now) }
+    ensures builds { result ≡ Err PatternBuild
+        → HavePattern (selected_of selection.now) limit (map file_of inputs.now) }
 {
     let texts = Texts::read(alloc, inputs)?;
     match texts.statements(alloc) {

@@ -20,8 +20,12 @@ use yv_validate::{Fault, MemberName, Part, PathSteps};
 /// memory, however much text that is.
 pub fn write_faults<W: Write>(writer: &mut Counted<W>, faults: &[Fault]) -> bool
     requires { has_failed writer.old ≡ false }
-    ensures ends { result ≡ true → Appends (W.contents (stream_inner writer.old)) (W.contents (stream_inner writer.new)) (faults_text faults.now) }
-    ensures part { (n : ℕ) × Appends (W.contents (stream_inner writer.old)) (W.contents (stream_inner writer.new)) (take n (faults_text faults.now)) }
+    ensures ends { result ≡ true
+        → Appends (W.contents (stream_inner writer.old)) (W.contents (stream_inner writer.new))
+        (faults_text faults.now) }
+    ensures part { (n : ℕ)
+        × Appends (W.contents (stream_inner writer.old)) (W.contents (stream_inner writer.new))
+        (take n (faults_text faults.now)) }
     ensures fault { result ≡ false ↔ (has_failed writer.new ≡ true) }
     ensures once { FailsOnceAtMost writer.new }
 {
@@ -34,8 +38,11 @@ pub fn write_faults<W: Write>(writer: &mut Counted<W>, faults: &[Fault]) -> bool
 
 // The line of how many faults there are.
 fn put_count<W: Write>(page: &mut Page, writer: &mut Counted<W>, count: usize)
-    ensures { Adds (ended_line (codes "faults: " ++ decimal count)) (output_of (W.contents (stream_inner writer.old)) (has_failed writer.old) (stream_failures writer.old) page.old)
-        (output_of (W.contents (stream_inner writer.new)) (has_failed writer.new) (stream_failures writer.new) page.new) }
+    ensures { Adds (ended_line (codes "faults: " ++ decimal count))
+        (output_of (W.contents (stream_inner writer.old)) (has_failed writer.old)
+        (stream_failures writer.old) page.old)
+        (output_of (W.contents (stream_inner writer.new)) (has_failed writer.new)
+        (stream_failures writer.new) page.new) }
 {
     page.put(writer, b"faults: ");
     page.put(writer, Buffer::new().format(count).as_bytes());
@@ -45,8 +52,11 @@ fn put_count<W: Write>(page: &mut Page, writer: &mut Counted<W>, count: usize)
 // Puts the lines of faults behind what a page holds, each with a line feed, and writes each full
 // page.
 fn put_lines<W: Write>(page: &mut Page, writer: &mut Counted<W>, faults: &[Fault])
-    ensures { Adds (fault_lines faults.now) (output_of (W.contents (stream_inner writer.old)) (has_failed writer.old) (stream_failures writer.old) page.old)
-        (output_of (W.contents (stream_inner writer.new)) (has_failed writer.new) (stream_failures writer.new) page.new) }
+    ensures { Adds (fault_lines faults.now)
+        (output_of (W.contents (stream_inner writer.old)) (has_failed writer.old)
+        (stream_failures writer.old) page.old)
+        (output_of (W.contents (stream_inner writer.new)) (has_failed writer.new)
+        (stream_failures writer.new) page.new) }
 {
     for fault in faults {
         put_line(page, writer, fault);
@@ -55,8 +65,11 @@ fn put_lines<W: Write>(page: &mut Page, writer: &mut Counted<W>, faults: &[Fault
 
 // The line of a fault. Nothing is done for a writer that has failed, since it gets no more.
 fn put_line<W: Write>(page: &mut Page, writer: &mut Counted<W>, fault: &Fault)
-    ensures { Adds ((line_text fault.now ++ 10 ∷ [])) (output_of (W.contents (stream_inner writer.old)) (has_failed writer.old) (stream_failures writer.old) page.old)
-        (output_of (W.contents (stream_inner writer.new)) (has_failed writer.new) (stream_failures writer.new) page.new) }
+    ensures { Adds ((line_text fault.now ++ 10 ∷ []))
+        (output_of (W.contents (stream_inner writer.old)) (has_failed writer.old)
+        (stream_failures writer.old) page.old)
+        (output_of (W.contents (stream_inner writer.new)) (has_failed writer.new)
+        (stream_failures writer.new) page.new) }
 {
     if !writer.has_failed() {
         put_whole_line(page, writer, fault);
@@ -64,8 +77,11 @@ fn put_line<W: Write>(page: &mut Page, writer: &mut Counted<W>, fault: &Fault)
 }
 
 fn put_whole_line<W: Write>(page: &mut Page, writer: &mut Counted<W>, fault: &Fault)
-    ensures { Adds (ended_line (line_text fault.now)) (output_of (W.contents (stream_inner writer.old)) (has_failed writer.old) (stream_failures writer.old) page.old)
-        (output_of (W.contents (stream_inner writer.new)) (has_failed writer.new) (stream_failures writer.new) page.new) }
+    ensures { Adds (ended_line (line_text fault.now))
+        (output_of (W.contents (stream_inner writer.old)) (has_failed writer.old)
+        (stream_failures writer.old) page.old)
+        (output_of (W.contents (stream_inner writer.new)) (has_failed writer.new)
+        (stream_failures writer.new) page.new) }
 {
     page.put(writer, fault.kind.name().as_bytes());
     page.put(writer, b" ");
@@ -76,8 +92,11 @@ fn put_whole_line<W: Write>(page: &mut Page, writer: &mut Counted<W>, fault: &Fa
 
 // The number of a statement, where there is one.
 fn put_number<W: Write>(page: &mut Page, writer: &mut Counted<W>, number: u32)
-    ensures { Adds (number_text number) (output_of (W.contents (stream_inner writer.old)) (has_failed writer.old) (stream_failures writer.old) page.old)
-        (output_of (W.contents (stream_inner writer.new)) (has_failed writer.new) (stream_failures writer.new) page.new) }
+    ensures { Adds (number_text number)
+        (output_of (W.contents (stream_inner writer.old)) (has_failed writer.old)
+        (stream_failures writer.old) page.old)
+        (output_of (W.contents (stream_inner writer.new)) (has_failed writer.new)
+        (stream_failures writer.new) page.new) }
 {
     if number != 0 {
         page.put(writer, b" ");
@@ -86,8 +105,11 @@ fn put_number<W: Write>(page: &mut Page, writer: &mut Counted<W>, number: u32)
 }
 
 fn put_path<W: Write>(page: &mut Page, writer: &mut Counted<W>, path: &PathSteps<'_>)
-    ensures { Adds (path_text path.now) (output_of (W.contents (stream_inner writer.old)) (has_failed writer.old) (stream_failures writer.old) page.old)
-        (output_of (W.contents (stream_inner writer.new)) (has_failed writer.new) (stream_failures writer.new) page.new) }
+    ensures { Adds (path_text path.now)
+        (output_of (W.contents (stream_inner writer.old)) (has_failed writer.old)
+        (stream_failures writer.old) page.old)
+        (output_of (W.contents (stream_inner writer.new)) (has_failed writer.new)
+        (stream_failures writer.new) page.new) }
 {
     if path.is_empty() {
         page.put(writer, b"/");
@@ -98,8 +120,11 @@ fn put_path<W: Write>(page: &mut Page, writer: &mut Counted<W>, path: &PathSteps
 
 // The calls nest as deep as the path is long.
 fn put_steps<W: Write>(page: &mut Page, writer: &mut Counted<W>, path: &PathSteps<'_>)
-    ensures { Adds (places_text path.now) (output_of (W.contents (stream_inner writer.old)) (has_failed writer.old) (stream_failures writer.old) page.old)
-        (output_of (W.contents (stream_inner writer.new)) (has_failed writer.new) (stream_failures writer.new) page.new) }
+    ensures { Adds (places_text path.now)
+        (output_of (W.contents (stream_inner writer.old)) (has_failed writer.old)
+        (stream_failures writer.old) page.old)
+        (output_of (W.contents (stream_inner writer.new)) (has_failed writer.new)
+        (stream_failures writer.new) page.new) }
 {
     if let Some((last, before)) = path.split_last() {
         put_steps(page, writer, &before);
@@ -108,8 +133,11 @@ fn put_steps<W: Write>(page: &mut Page, writer: &mut Counted<W>, path: &PathStep
 }
 
 fn put_step<W: Write>(page: &mut Page, writer: &mut Counted<W>, step: &Part<'_>)
-    ensures { Adds (place_text (part_of step.now)) (output_of (W.contents (stream_inner writer.old)) (has_failed writer.old) (stream_failures writer.old) page.old)
-        (output_of (W.contents (stream_inner writer.new)) (has_failed writer.new) (stream_failures writer.new) page.new) }
+    ensures { Adds (place_text (part_of step.now))
+        (output_of (W.contents (stream_inner writer.old)) (has_failed writer.old)
+        (stream_failures writer.old) page.old)
+        (output_of (W.contents (stream_inner writer.new)) (has_failed writer.new)
+        (stream_failures writer.new) page.new) }
 {
     page.put(writer, b"/");
     put_name(page, writer, &step.name);
@@ -117,8 +145,14 @@ fn put_step<W: Write>(page: &mut Page, writer: &mut Counted<W>, step: &Part<'_>)
 }
 
 fn put_name<W: Write>(page: &mut Page, writer: &mut Counted<W>, name: &MemberName<'_>)
-    ensures { Adds (escape (member_text name.now.is_choice (option_map (λ m. m.now) name.now.module) name.now.name.now)) (output_of (W.contents (stream_inner writer.old)) (has_failed writer.old) (stream_failures writer.old) page.old)
-        (output_of (W.contents (stream_inner writer.new)) (has_failed writer.new) (stream_failures writer.new) page.new) }
+    ensures { Adds
+        (escape
+        (member_text name.now.is_choice (option_map (λ m. m.now) name.now.module)
+        name.now.name.now))
+        (output_of (W.contents (stream_inner writer.old)) (has_failed writer.old)
+        (stream_failures writer.old) page.old)
+        (output_of (W.contents (stream_inner writer.new)) (has_failed writer.new)
+        (stream_failures writer.new) page.new) }
 {
     if name.is_choice {
         page.put(writer, b"(");
@@ -130,8 +164,11 @@ fn put_name<W: Write>(page: &mut Page, writer: &mut Counted<W>, name: &MemberNam
 }
 
 fn put_qualified<W: Write>(page: &mut Page, writer: &mut Counted<W>, name: &MemberName<'_>)
-    ensures { Adds (escape (behind (option_map (λ m. m.now) name.now.module) name.now.name.now)) (output_of (W.contents (stream_inner writer.old)) (has_failed writer.old) (stream_failures writer.old) page.old)
-        (output_of (W.contents (stream_inner writer.new)) (has_failed writer.new) (stream_failures writer.new) page.new) }
+    ensures { Adds (escape (behind (option_map (λ m. m.now) name.now.module) name.now.name.now))
+        (output_of (W.contents (stream_inner writer.old)) (has_failed writer.old)
+        (stream_failures writer.old) page.old)
+        (output_of (W.contents (stream_inner writer.new)) (has_failed writer.new)
+        (stream_failures writer.new) page.new) }
 {
     if let Some(module) = name.module {
         put_escaped(page, writer, module.as_bytes());
@@ -141,8 +178,11 @@ fn put_qualified<W: Write>(page: &mut Page, writer: &mut Counted<W>, name: &Memb
 }
 
 fn put_item<W: Write>(page: &mut Page, writer: &mut Counted<W>, item: Option<u64>)
-    ensures { Adds (item_text item) (output_of (W.contents (stream_inner writer.old)) (has_failed writer.old) (stream_failures writer.old) page.old)
-        (output_of (W.contents (stream_inner writer.new)) (has_failed writer.new) (stream_failures writer.new) page.new) }
+    ensures { Adds (item_text item)
+        (output_of (W.contents (stream_inner writer.old)) (has_failed writer.old)
+        (stream_failures writer.old) page.old)
+        (output_of (W.contents (stream_inner writer.new)) (has_failed writer.new)
+        (stream_failures writer.new) page.new) }
 {
     if let Some(place) = item {
         page.put(writer, b"[");
@@ -152,8 +192,11 @@ fn put_item<W: Write>(page: &mut Page, writer: &mut Counted<W>, item: Option<u64
 }
 
 fn put_escaped<W: Write>(page: &mut Page, writer: &mut Counted<W>, name: &[u8])
-    ensures { Adds (escape name.now) (output_of (W.contents (stream_inner writer.old)) (has_failed writer.old) (stream_failures writer.old) page.old)
-        (output_of (W.contents (stream_inner writer.new)) (has_failed writer.new) (stream_failures writer.new) page.new) }
+    ensures { Adds (escape name.now)
+        (output_of (W.contents (stream_inner writer.old)) (has_failed writer.old)
+        (stream_failures writer.old) page.old)
+        (output_of (W.contents (stream_inner writer.new)) (has_failed writer.new)
+        (stream_failures writer.new) page.new) }
 {
     for byte in name {
         put_escaped_byte(page, writer, *byte);
@@ -161,8 +204,11 @@ fn put_escaped<W: Write>(page: &mut Page, writer: &mut Counted<W>, name: &[u8])
 }
 
 fn put_escaped_byte<W: Write>(page: &mut Page, writer: &mut Counted<W>, byte: u8)
-    ensures { Adds (escaped_byte byte) (output_of (W.contents (stream_inner writer.old)) (has_failed writer.old) (stream_failures writer.old) page.old)
-        (output_of (W.contents (stream_inner writer.new)) (has_failed writer.new) (stream_failures writer.new) page.new) }
+    ensures { Adds (escaped_byte byte)
+        (output_of (W.contents (stream_inner writer.old)) (has_failed writer.old)
+        (stream_failures writer.old) page.old)
+        (output_of (W.contents (stream_inner writer.new)) (has_failed writer.new)
+        (stream_failures writer.new) page.new) }
 {
     if b'!' <= byte && byte <= b'~' && byte != b'%' {
         page.put_byte(writer, byte);

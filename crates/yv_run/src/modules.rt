@@ -1,11 +1,8 @@
 //! The modules that have a tree diagram.
 use std::alloc::{AllocError, Global};
-use yv_refusal_notes::{Likeness, compare, push_quoted};
+use yv_note_text::{Joint, Likeness, compare, push_between, push_quoted};
 use yv_schema_tables::Module;
 use yv_statement::Selection;
-
-/// How many modules are listed.
-const MOST_NAMES: usize = 8;
 
 /// Why there is no diagram of the module of this name, and of which modules there is one.
 pub(crate) fn modules_note(
@@ -35,27 +32,18 @@ pub(crate) fn modules_note(
 
 // Adds the names of modules, of many the first 8.
 fn push_list(text: &mut String, modules: &[Module]) -> Result<(), AllocError> {
+    match modules {
+        [] => return Ok(()),
+        [_] => text.push_str("; the only implemented module is ")?,
+        _ => text.push_str("; the implemented modules are ")?,
+    }
     for (place, known) in modules.iter().enumerate() {
-        if place >= MOST_NAMES {
-            return text.push_str(" and others");
+        if !push_between(text, place, modules.len(), Joint::And)? {
+            break;
         }
-        text.push_str(before_name(place, modules.len()))?;
         push_quoted(text, known.name.as_str())?;
     }
     Ok(())
-}
-
-// What is before the name of this place in a list of so many.
-fn before_name(place: usize, count: usize) -> &'static str {
-    if count == 1 {
-        "; the only implemented module is "
-    } else if place == 0 {
-        "; the implemented modules are "
-    } else if place.saturating_add(1) == count {
-        " and "
-    } else {
-        ", "
-    }
 }
 
 // The module whose name is most like one that was written: the first, if several are.

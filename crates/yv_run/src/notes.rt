@@ -26,7 +26,8 @@ impl CheckResult {
         schema: &Schema,
         bytes: &[u8],
     ) -> Result<Option<String>, AllocError>
-        ensures { document_view self.now.document ≡ document_text bytes.now → IfOk result (λ note. NotesReading (document_view self.now.document)
+        ensures { document_view self.now.document ≡ document_text bytes.now
+            → IfOk result (λ note. NotesReading (document_view self.now.document)
             (faults_of self.now.output.body) bytes.now (option_map string_bytes note)) }
     {
         match &self.document {

@@ -14,7 +14,8 @@ use yv_streams::{Counted, write_whole};
 /// Writes what was found, has the writer pass it on, and answers how the run ends.
 pub(crate) fn write_output<W: Write>(output: &Output<'_>, writer: &mut Counted<W>) -> Status
     requires { IsFresh writer.old }
-    ensures writes { Writes (printed_of output.now) result (W.contents (stream_inner writer.old)) (W.contents (stream_inner writer.new)) }
+    ensures writes { Writes (printed_of output.now) result (W.contents (stream_inner writer.old))
+        (W.contents (stream_inner writer.new)) }
     ensures fault { result ≡ Status.WriteFault ↔ (has_failed writer.new ≡ true) }
     ensures not_stopped { IsStopped result → ⊥ }
     ensures once { FailsOnceAtMost writer.new }
@@ -29,8 +30,12 @@ pub(crate) fn write_output<W: Write>(output: &Output<'_>, writer: &mut Counted<W
 // Writes a text, a diagram or the lines of faults, and answers whether all was taken and passed on.
 fn write_body<W: Write>(writer: &mut Counted<W>, body: &Body<'_>) -> bool
     requires { has_failed writer.old ≡ false }
-    ensures ends { result ≡ true → Appends (W.contents (stream_inner writer.old)) (W.contents (stream_inner writer.new)) (body_text body.now) }
-    ensures part { (n : ℕ) × Appends (W.contents (stream_inner writer.old)) (W.contents (stream_inner writer.new)) (take n (body_text body.now)) }
+    ensures ends { result ≡ true
+        → Appends (W.contents (stream_inner writer.old)) (W.contents (stream_inner writer.new))
+        (body_text body.now) }
+    ensures part { (n : ℕ)
+        × Appends (W.contents (stream_inner writer.old)) (W.contents (stream_inner writer.new))
+        (take n (body_text body.now)) }
     ensures fault { result ≡ false ↔ (has_failed writer.new ≡ true) }
     ensures once { FailsOnceAtMost writer.new }
 {
@@ -44,8 +49,12 @@ fn write_body<W: Write>(writer: &mut Counted<W>, body: &Body<'_>) -> bool
 // Writes a text, a diagram or the lines of faults, and answers whether all was taken.
 fn put_body<W: Write>(writer: &mut Counted<W>, body: &Body<'_>) -> bool
     requires { has_failed writer.old ≡ false }
-    ensures ends { result ≡ true → Appends (W.contents (stream_inner writer.old)) (W.contents (stream_inner writer.new)) (body_text body.now) }
-    ensures part { (n : ℕ) × Appends (W.contents (stream_inner writer.old)) (W.contents (stream_inner writer.new)) (take n (body_text body.now)) }
+    ensures ends { result ≡ true
+        → Appends (W.contents (stream_inner writer.old)) (W.contents (stream_inner writer.new))
+        (body_text body.now) }
+    ensures part { (n : ℕ)
+        × Appends (W.contents (stream_inner writer.old)) (W.contents (stream_inner writer.new))
+        (take n (body_text body.now)) }
     ensures fault { result ≡ false ↔ (has_failed writer.new ≡ true) }
     ensures once { FailsOnceAtMost writer.new }
 {
@@ -60,7 +69,8 @@ fn put_body<W: Write>(writer: &mut Counted<W>, body: &Body<'_>) -> bool
 // of its writes.
 fn flush_all<W: Write>(writer: &mut Counted<W>) -> bool
     requires { has_failed writer.old ≡ false }
-    ensures keeps { Keeps (W.contents (stream_inner writer.old)) (W.contents (stream_inner writer.new)) }
+    ensures keeps { Keeps (W.contents (stream_inner writer.old))
+        (W.contents (stream_inner writer.new)) }
     ensures fault { result ≡ false ↔ (has_failed writer.new ≡ true) }
     ensures once { FailsOnceAtMost writer.new }
 {
@@ -75,9 +85,11 @@ fn flush_all<W: Write>(writer: &mut Counted<W>) -> bool
 // One flush, and whether it was done.
 fn flush_once<W: Write>(writer: &mut Counted<W>) -> bool
     requires { has_failed writer.old ≡ false }
-    ensures keeps { Keeps (W.contents (stream_inner writer.old)) (W.contents (stream_inner writer.new)) }
+    ensures keeps { Keeps (W.contents (stream_inner writer.old))
+        (W.contents (stream_inner writer.new)) }
     ensures ends { result ≡ true → has_failed writer.new ≡ false }
-    ensures moves { result ≡ false → has_failed writer.new ≡ false → stream_interrupts writer.old < stream_interrupts writer.new }
+    ensures moves { result ≡ false → has_failed writer.new ≡ false → stream_interrupts writer.old
+        < stream_interrupts writer.new }
     ensures once { FailsOnceAtMost writer.new }
 {
     writer.flush().is_ok()

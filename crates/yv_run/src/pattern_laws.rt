@@ -3,13 +3,14 @@ ghost use Rattle.yv_link_scopes.specs.Files.{Files};
 ghost use Rattle.yv_link_scopes.specs.RowList.{rows_of};
 ghost use Rattle.yv_link_scopes.specs.Rows.{Row};
 ghost use Rattle.yv_type_restrictions.specs.Types.{HasTypePattern};
-ghost use Rattle.yv_refusal_notes.specs.PatternFailure.{IsPatternAmong};
+ghost use Rattle.yv_note_patterns.specs.PatternFailure.{IsPatternAmong};
 
 use yv_link_scopes::laws::statements_have_their_rows;
 
 /// A pattern of a type is among the numbered statements of the files.
 pub(crate) fn a_pattern_of_a_type_is_listed()
-    ensures { (files : Files) → HasTypePattern files → (r : Row) × IsPatternAmong (rows_of files) r }
+    ensures { (files : Files) → HasTypePattern files → (r : Row)
+        × IsPatternAmong (rows_of files) r }
 {
     statements_have_their_rows();
 }

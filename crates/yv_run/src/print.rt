@@ -40,7 +40,8 @@ pub fn of_refusal(
     inputs: &[Input],
     refusal: &Refusal,
 ) -> Result<Output<'static>, AllocError>
-    ensures { IfOk result (λ o. printed_of o ≡ refusal_printed (map file_of inputs.now) refusal.now) }
+    ensures { IfOk result
+        (λ o. printed_of o ≡ refusal_printed (map file_of inputs.now) refusal.now) }
 {
     let name = name_at(inputs, refusal.file);
     let line = refusal.line;
@@ -115,9 +116,11 @@ pub fn of_data(
     bytes: &[u8],
     kind: Kind,
 ) -> Result<CheckResult, AllocError>
-    ensures prints { IfOk result (λ c. printed_of c.output ≡ data_printed kind schema.now bytes.now) }
+    ensures prints { IfOk result
+        (λ c. printed_of c.output ≡ data_printed kind schema.now bytes.now) }
     ensures document { IfOk result (λ c. document_view c.document ≡ document_text bytes.now) }
-    ensures faults { IfOk result (λ c. faults_of c.output.body ≡ faults_in kind schema.now (document_text bytes.now)) }
+    ensures faults { IfOk result
+        (λ c. faults_of c.output.body ≡ faults_in kind schema.now (document_text bytes.now)) }
 {
     let document = read_document(alloc, bytes)?;
     let output = of_document(alloc, schema, &document, kind)?;
@@ -132,8 +135,10 @@ fn of_document(
     kind: Kind,
 ) -> Result<Output<'static>, AllocError>
     requires { MeetsLimits document.now }
-    ensures prints { IfOk result (λ o. printed_of o ≡ reading_printed kind schema.now (document_view document.now)) }
-    ensures faults { IfOk result (λ o. faults_of o.body ≡ faults_in kind schema.now (document_view document.now)) }
+    ensures prints { IfOk result
+        (λ o. printed_of o ≡ reading_printed kind schema.now (document_view document.now)) }
+    ensures faults { IfOk result
+        (λ o. faults_of o.body ≡ faults_in kind schema.now (document_view document.now)) }
 {
     match document {
         Document::TooLarge => bad_input(alloc, "data: too large\n"),
@@ -144,7 +149,8 @@ fn of_document(
 
 // What is said of a document that can't be read.
 fn bad_input(alloc: Global, text: &str) -> Result<Output<'static>, AllocError>
-    ensures prints { IfOk result (λ o. printed_of o ≡ record { text = text.now; verdict = Verdict.BadInput }) }
+    ensures prints { IfOk result
+        (λ o. printed_of o ≡ record { text = text.now; verdict = Verdict.BadInput }) }
     ensures faults { IfOk result (λ o. faults_of o.body ≡ []) }
 {
     let text = String::from_str(alloc, text)?;

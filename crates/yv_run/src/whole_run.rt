@@ -86,16 +86,21 @@ pub fn run<R: Read, W: Write>(
     requires each { length inputs.now ≡ length job.now.files.items }
     requires reader { IsFresh reader.old }
     requires writer { IsFresh writer.old }
-    ensures writes { IsStopped result ⊎ Runs (task_of job.now) (map file_of inputs.now) result (R.remaining (stream_inner reader.old)) (R.remaining (stream_inner reader.new))
+    ensures writes { IsStopped result
+        ⊎ Runs (task_of job.now) (map file_of inputs.now) result
+        (R.remaining (stream_inner reader.old)) (R.remaining (stream_inner reader.new))
         (W.contents (stream_inner writer.old)) (W.contents (stream_inner writer.new)) }
     ensures rest { IsStopped result → writer.new ≡ writer.old }
-    ensures reads_on { WantsData (task_of job.now) (map file_of inputs.now) ⊎ (reader.new ≡ reader.old) }
+    ensures reads_on { WantsData (task_of job.now) (map file_of inputs.now)
+        ⊎ (reader.new ≡ reader.old) }
     ensures read_fault { result ≡ Status.ReadFault ↔ (has_failed reader.new ≡ true) }
     ensures write_fault { result ≡ Status.WriteFault ↔ (has_failed writer.new ≡ true) }
-    ensures takes { TakesAtMost most_read (R.remaining (stream_inner reader.old)) (R.remaining (stream_inner reader.new)) }
+    ensures takes { TakesAtMost most_read (R.remaining (stream_inner reader.old))
+        (R.remaining (stream_inner reader.new)) }
     ensures reader_once { FailsOnceAtMost reader.new }
     ensures writer_once { FailsOnceAtMost writer.new }
-    ensures builds { result ≡ Status.PatternBuild → HavePattern (selected_of job.now.selection) job.now.limit (map file_of inputs.now) }
+    ensures builds { result ≡ Status.PatternBuild
+        → HavePattern (selected_of job.now.selection) job.now.limit (map file_of inputs.now) }
 {
     run_with_note(alloc, job, inputs, reader, writer).status
 }
@@ -116,18 +121,27 @@ pub fn run_with_note<R: Read, W: Write>(
     requires each { length inputs.now ≡ length job.now.files.items }
     requires reader { IsFresh reader.old }
     requires writer { IsFresh writer.old }
-    ensures writes { IsStopped result.status ⊎ RunsWithNote (task_of job.now) (map file_of inputs.now) result (R.remaining (stream_inner reader.old))
-        (R.remaining (stream_inner reader.new)) (W.contents (stream_inner writer.old)) (W.contents (stream_inner writer.new)) }
+    ensures writes { IsStopped result.status
+        ⊎ RunsWithNote (task_of job.now) (map file_of inputs.now) result
+        (R.remaining (stream_inner reader.old))
+        (R.remaining (stream_inner reader.new)) (W.contents (stream_inner writer.old))
+        (W.contents (stream_inner writer.new)) }
     ensures rest { IsStopped result.status → writer.new ≡ writer.old }
-    ensures reads_on { WantsData (task_of job.now) (map file_of inputs.now) ⊎ (reader.new ≡ reader.old) }
+    ensures reads_on { WantsData (task_of job.now) (map file_of inputs.now)
+        ⊎ (reader.new ≡ reader.old) }
     ensures read_fault { result.status ≡ Status.ReadFault ↔ (has_failed reader.new ≡ true) }
     ensures write_fault { result.status ≡ Status.WriteFault ↔ (has_failed writer.new ≡ true) }
-    ensures takes { TakesAtMost most_read (R.remaining (stream_inner reader.old)) (R.remaining (stream_inner reader.new)) }
+    ensures takes { TakesAtMost most_read (R.remaining (stream_inner reader.old))
+        (R.remaining (stream_inner reader.new)) }
     ensures reader_once { FailsOnceAtMost reader.new }
     ensures writer_once { FailsOnceAtMost writer.new }
-    ensures builds { result.status ≡ Status.PatternBuild → HavePattern (selected_of job.now.selection) job.now.limit (map file_of inputs.now) }
-    ensures note_on_pattern { result.status ≡ Status.PatternBuild → IfOk result.note (λ note. NotesPattern (map file_of inputs.now) (option_map string_bytes note)) }
-    ensures no_note { (result.status ≡ Status.NoMemory) ⊎ (result.status ≡ Status.ReadFault) → result.note ≡ Ok None }
+    ensures builds { result.status ≡ Status.PatternBuild
+        → HavePattern (selected_of job.now.selection) job.now.limit (map file_of inputs.now) }
+    ensures note_on_pattern { result.status ≡ Status.PatternBuild
+        → IfOk result.note
+        (λ note. NotesPattern (map file_of inputs.now) (option_map string_bytes note)) }
+    ensures no_note { (result.status ≡ Status.NoMemory) ⊎ (result.status ≡ Status.ReadFault)
+        → result.note ≡ Ok None }
 {
     match run_job(alloc, job, inputs, reader, writer) {
         Ok(ended) => ended,
@@ -143,7 +157,8 @@ pub fn run_with_note<R: Read, W: Write>(
 // What helps a person to fix a pattern that isn't built.
 fn pattern_note(alloc: Global, inputs: &[Input]) -> Result<Option<String>, AllocError>
     ensures { (choice : Selected) (limit : ℕ) → HavePattern choice limit (map file_of inputs.now)
-        → IfOk result (λ note. NotesPattern (map file_of inputs.now) (option_map string_bytes note)) }
+        → IfOk result
+        (λ note. NotesPattern (map file_of inputs.now) (option_map string_bytes note)) }
 {
     a_bad_file_is_refused_once();
     a_text_is_spelled_or_refused_once();
@@ -162,17 +177,24 @@ fn run_job<R: Read, W: Write>(
 ) -> Result<RunEnd, Halt>
     requires reader { IsFresh reader.old }
     requires writer { IsFresh writer.old }
-    ensures runs { IfOk result (λ e. RunsWithNote (task_of job.now) (map file_of inputs.now) e (R.remaining (stream_inner reader.old))
-        (R.remaining (stream_inner reader.new)) (W.contents (stream_inner writer.old)) (W.contents (stream_inner writer.new))) }
+    ensures runs { IfOk result
+        (λ e. RunsWithNote (task_of job.now) (map file_of inputs.now) e
+        (R.remaining (stream_inner reader.old))
+        (R.remaining (stream_inner reader.new)) (W.contents (stream_inner writer.old))
+        (W.contents (stream_inner writer.new))) }
     ensures ends { IfOk result (λ e. IsStopped e.status → ⊥) }
-    ensures write_fault { IfOk result (λ e. e.status ≡ Status.WriteFault ↔ (has_failed writer.new ≡ true)) }
+    ensures write_fault { IfOk result
+        (λ e. e.status ≡ Status.WriteFault ↔ (has_failed writer.new ≡ true)) }
     ensures writer_once { FailsOnceAtMost writer.new }
     ensures rest { OnErr result (writer.new ≡ writer.old) }
-    ensures reads_on { WantsData (task_of job.now) (map file_of inputs.now) ⊎ (reader.new ≡ reader.old) }
+    ensures reads_on { WantsData (task_of job.now) (map file_of inputs.now)
+        ⊎ (reader.new ≡ reader.old) }
     ensures read_fault { IsErrOf result Halt.Read ↔ (has_failed reader.new ≡ true) }
-    ensures takes { TakesAtMost most_read (R.remaining (stream_inner reader.old)) (R.remaining (stream_inner reader.new)) }
+    ensures takes { TakesAtMost most_read (R.remaining (stream_inner reader.old))
+        (R.remaining (stream_inner reader.new)) }
     ensures reader_once { FailsOnceAtMost reader.new }
-    ensures builds { IsErrOf result Halt.PatternBuild → HavePattern (selected_of job.now.selection) job.now.limit (map file_of inputs.now) }
+    ensures builds { IsErrOf result Halt.PatternBuild
+        → HavePattern (selected_of job.now.selection) job.now.limit (map file_of inputs.now) }
 {
     match compile_files(alloc, inputs, &job.selection, job.limit) {
         Ok(schema) => write_answer(alloc, job, &schema, reader, writer),

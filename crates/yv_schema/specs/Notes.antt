@@ -1,45 +1,67 @@
--- The augments of modules that add nodes (RFC 7950, section 7.17).
-use Rattle.std.specs.Prelude.{ℕ, ◌+◌, ◌==◌, List, [], ◌∷◌, ◌++◌, map, Option, Some, None, slice_get, slice_index_or}
-use Rattle.std.specs.Option.{option_and_then}
+-- The augments of modules that add nodes, as nodes of the tree to which files expand (RFC 7950,
+-- section 7.17).
+use Rattle.std.specs.Prelude.{◌≡◌, ℕ, ◌+◌, List, [], ◌∷◌, ◌++◌, map, Option, Some, None, slice_get, slice_index_or}
+use Rattle.yv_statement.specs.Selection.{Selected}
 use Rattle.yv_base_tables.specs.Families.{numbers_at}
-use Rattle.yv_link_scopes.specs.Files.{brief_of, module_file_at}
+use Rattle.yv_link_scopes.specs.Files.{Files, brief_of, module_file_at}
 use Rattle.yv_link_scopes.specs.RowList.{rows_of}
-use Rattle.yv_link_scopes.specs.Names.{first_where}
 use Rattle.yv_link_scopes.specs.Rows.{Row, name_in}
-use Rattle.yv_expand.specs.Tree.{Node}
-use Rattle.yv_nodes.specs.declared.node.NodeId.{NodeId}
+use Rattle.yv_expand.specs.StatementBlocks.{augments_of}
+use Rattle.yv_expand_tree.specs.FileOrder.{marks_of}
+use Rattle.yv_expand_definition.specs.Nodes.{Forest, Node, node, none}
 use Rattle.yv_nodes.specs.Rows.{Note}
-use Rattle.yv_expand_tree.specs.Final.{spots_of}
-use Rattle.yv_expand_tree.specs.FinalTree.{source_at, targets_of}
-use Rattle.yv_schema.specs.Module.{Basis, nodes_in}
+use Rattle.yv_schema.specs.Schema.{IsBasis, Basis, node_list}
 
--- the nodes that the augment at this place among those of modules adds, and that are left
-abbrev pub nodes_added : Basis → (place : ℕ) → List NodeId
-nodes_added b place =
-    map (λ number. record { 0 = number }) (numbers_at (map (λ x. source_at (spots_of b.files b.final) b.final.augments x.origin) (nodes_in b)) place)
+-- the numbers of the nodes that the augment of a module gives
+abbrev pub nodes_added : Basis → (augment : ℕ) → List ℕ
+nodes_added b augment = numbers_at (map (λ (g : Node). g.giver) (node_list b.nodes)) augment
 
--- the node of a numbered item, if it is left
-abbrev pub node_of : Basis → (item : ℕ) → Option ℕ
-node_of b item = first_where (λ (x : Node). x.origin == item) (nodes_in b)
+-- how many nodes there are, at any depth
+abbrev pub count : Forest → ℕ
+count none = 0
+count (node g below behind) = 1 + count below + count behind
 
--- the node to which the augment at this place adds
-abbrev pub target_of : Basis → (place : ℕ) → Option ℕ
-target_of b place = option_and_then (node_of b) (slice_index_or (targets_of b.files b.final) place None)
+-- of each node in order the number of the one above it, where the first has the number `first`
+abbrev pub parents_from : (parent : Option ℕ) → (first : ℕ) → Forest → List (Option ℕ)
+parents_from parent first none = []
+parents_from parent first (node g below behind) =
+    parent
+    ∷ parents_from (Some first) (first + 1) below
+    ++ parents_from parent (first + 1 + count below) behind
 
--- an augment statement that adds these nodes below a target is noted by its module and argument;
+-- the node above those that an augment gives: the one above the first of them
+abbrev pub target_of : Basis → (added : List ℕ) → Option ℕ
+target_of b [] = None
+target_of b (n ∷ others) = slice_index_or (parents_from None 0 b.nodes) n None
+
+-- an augment statement that gives these nodes below a target is noted by its module and argument;
 -- one of which nothing is left isn't
-abbrev pub note_of_augment : Basis → Option Row → (target : Option ℕ) → List NodeId → List Note
-note_of_augment b None target nodes = []
-note_of_augment b (Some r) None nodes = []
-note_of_augment b (Some r) (Some target) [] = []
-note_of_augment b (Some r) (Some target) (n ∷ ns) =
-    record { module_file = module_file_at (map brief_of b.files) r.file; argument = name_in r; target = record { 0 = target }; nodes = n ∷ ns } ∷ []
+abbrev pub note_of_augment : Files → Option Row → (target : Option ℕ) → (added : List ℕ) → List Note
+note_of_augment files None target added = []
+note_of_augment files (Some r) None added = []
+note_of_augment files (Some r) (Some target) added = record {
+  module_file = module_file_at (map brief_of files) r.file;
+  argument = name_in r;
+  target = record { 0 = target };
+  nodes = map (λ n. record { 0 = n }) added;
+} ∷ []
 
-abbrev pub notes_from : Basis → (place : ℕ) → (augments : List ℕ) → List Note
-notes_from b place [] = []
-notes_from b place (a ∷ others) =
-    note_of_augment b (slice_get (rows_of b.files) a) (target_of b place) (nodes_added b place) ++ notes_from b (place + 1) others
+abbrev pub notes_from : Basis → (augments : List ℕ) → List Note
+notes_from b [] = []
+notes_from b (a ∷ others) =
+    let added : List ℕ = nodes_added b a in
+    note_of_augment b.files (slice_get (rows_of b.files) a) (target_of b added) added
+    ++ notes_from b others
 
--- the augments at the tops of modules and submodules of which a node is left, by file and statement
-abbrev pub notes_of : Basis → List Note
-notes_of b = notes_from b 0 b.final.augments
+-- the augments at the tops of the implemented modules and their submodules of which a node is left,
+-- by file and statement
+abbrev pub notes_of : Selected → Basis → List Note
+notes_of choice b =
+    notes_from b (augments_of (map brief_of b.files) (rows_of b.files) (marks_of choice b.files))
+
+-- these are the augments of the files' modules that add nodes to the tree to which files expand
+pub record AreNotes (choice : Selected) (files : Files) (notes : List Note) : Type 0 where
+  pub basis : Basis
+  pub of_files : basis.files ≡ files
+  pub is_basis : IsBasis choice basis
+  pub are : notes ≡ notes_of choice basis

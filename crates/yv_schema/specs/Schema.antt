@@ -1,55 +1,87 @@
--- The schema of files under a choice (RFC 7950, section 5.6.5).
-use Rattle.std.specs.Prelude.{◌≡◌, ℕ, List, length, map, Option}
+-- The schema of files as that of the tree to which they expand (RFC 7950, sections 5.6.5, 7.5 to
+-- 7.17, and 9.9).
+use Rattle.std.specs.Prelude.{◌≡◌, List, [], ◌∷◌, ◌++◌, Option, slice_get}
+use Rattle.std.specs.Option.{option_and_then}
 use Rattle.yv_statement.specs.Selection.{Selected}
-use Rattle.yv_link_scopes.specs.Files.{Files, brief_of}
-use Rattle.yv_link_scopes.specs.RowList.{rows_of}
-use Rattle.yv_expand.specs.Limit.{given_before}
-use Rattle.yv_expand.specs.Weigh.{Weigh}
-use Rattle.yv_node_statements.specs.Kinds.{AreTyped}
+use Rattle.yv_link_scopes.specs.Files.{Files}
+use Rattle.yv_node_statements.specs.Kinds.{AreTyped, TypeMeanings}
+use Rattle.yv_node_statements.specs.Definitions.{refined_definition}
+use Rattle.yv_expand_changes.specs.Truth.{Truth, IsTruth}
+use Rattle.yv_expand_definition.specs.Nodes.{Node}
+use Rattle.yv_expand_definition.specs.Nodes as expanded
+use Rattle.yv_expand_definition.specs.Remains.{AreNodes}
+use Rattle.yv_nodes.specs.Labels.{label_of}
 use Rattle.yv_nodes.specs.Link.{Link}
-use Rattle.yv_nodes.specs.Rows.{Note}
-use Rattle.yv_nodes.specs.Tree.{Forest}
-use Rattle.yv_expand_tree.specs.Final.{IsFinal}
-use Rattle.yv_expand_tree.specs.FileOrder.{marks_of}
-use Rattle.yv_expand_tree.specs.Remains.{AreLeft}
-use Rattle.yv_node_leafrefs.specs.Resolution.{IsTyped}
+use Rattle.yv_nodes.specs.Numbers.{rows_from}
+use Rattle.yv_nodes.specs.Tree.{Forest, Label, node, no_trees, tree}
 use Rattle.yv_node_leafrefs.specs.Links.{AreLinks}
-use Rattle.yv_schema.specs.Module.{Basis, leafrefs_of, stated_of}
-use Rattle.yv_schema.specs.Notes.{notes_of}
-use Rattle.yv_schema.specs.Truth.{IsTruth}
+use Rattle.yv_node_leafrefs.specs.Resolution.{IsTyped}
+use Rattle.yv_node_leafrefs.specs.Schema.{Referral, Schema}
+use Rattle.yv_schema_build.specs.Module.{module_name}
+use Rattle.yv_schema_build.specs.Referrals.{referral_at}
+
+-- what a schema is made of: the statements of files, which of their conditions hold, what their
+-- types stand for, and the nodes that conditions leave of the tree to which the files expand
+pub record Basis : Type 0 where
+  pub files : Files
+  pub truth : Truth
+  pub typing : TypeMeanings
+  pub nodes : expanded.Forest
+
+-- what a node is, below these nodes, the nearest first: by what its statement and its refines say,
+-- and by the module to which it belongs
+abbrev pub label_at : Basis → (above : List Label) → Node → Label
+label_at b above g =
+    label_of (refined_definition b.typing b.files g.origin g.refines) g.module_file
+    (module_name b.files g.module_file) above
+
+-- these nodes as schema nodes, below these
+abbrev pub with_labels : Basis → (above : List Label) → expanded.Forest → Forest
+with_labels b above expanded.none = no_trees
+with_labels b above (expanded.node g below behind) =
+    let own : Label = label_at b above g in
+    tree (node own (with_labels b (own ∷ above) below)) (with_labels b above behind)
+
+-- the schema tree as its statements say it, in which the values of leafrefs have no types yet
+abbrev pub stated_of : Basis → Forest
+stated_of b = with_labels b [] b.nodes
+
+-- nodes in order, each before those below it: a node's number is its place among these
+abbrev pub node_list : expanded.Forest → List Node
+node_list expanded.none = []
+node_list (expanded.node g below behind) = g ∷ node_list below ++ node_list behind
+
+-- what a node says as a leafref (section 9.9)
+abbrev pub referral_of_node : Basis → Node → Option Referral
+referral_of_node b g = referral_at b.typing b.files g.origin
+
+-- the rows of that tree, and what they say as leafrefs
+abbrev pub leafrefs_of : Basis → Schema
+leafrefs_of b = record {
+  rows = rows_from 0 (stated_of b);
+  says = λ n. option_and_then (referral_of_node b) (slice_get (node_list b.nodes) n);
+}
 
 -- a basis is that of files under a choice: their conditions hold so, their `type` statements stand
--- for this, this is what the modules that are implemented come to, and these nodes are left of it
+-- for this, and these nodes are left of the tree to which the files of the implemented modules
+-- expand
 pub record IsBasis (choice : Selected) (b : Basis) : Type 0 where
   pub truth : IsTruth b.files choice b.truth
   pub typing : AreTyped b.files choice b.truth b.typing
-  pub final : IsFinal choice b.files b.final
-  pub nodes : AreLeft b.truth b.files b.final b.nodes
+  pub nodes : AreNodes choice b.files b.nodes
 
--- this is the schema tree of the files: the one that their statements say, with its leafrefs
--- resolved (section 9.9)
+-- this is the schema tree of the files: the nodes to which they expand, as their statements say
+-- them, with the leafrefs resolved (section 9.9)
 pub record IsSchema (choice : Selected) (files : Files) (tree : Forest) : Type 0 where
   pub basis : Basis
   pub of_files : basis.files ≡ files
   pub is_basis : IsBasis choice basis
   pub is : IsTyped (leafrefs_of basis) (stated_of basis) tree
 
--- these are the augments of the files' modules that add nodes to the schema tree
-pub record AreNotes (choice : Selected) (files : Files) (notes : List Note) : Type 0 where
-  pub basis : Basis
-  pub of_files : basis.files ≡ files
-  pub is_basis : IsBasis choice basis
-  pub are : notes ≡ notes_of basis
-
--- this is where the paths of the leafrefs lead that require an instance, each at the number of its
+-- this is where the paths of its leafrefs lead that require an instance, each at the number of its
 -- node (sections 9.9.2 and 9.9.3)
 pub record AreReferences (choice : Selected) (files : Files) (links : List (Option Link)) : Type 0 where
   pub basis : Basis
   pub of_files : basis.files ≡ files
   pub is_basis : IsBasis choice basis
   pub are : AreLinks (leafrefs_of basis) links
-
--- the files of the implemented modules take so many units
-abbrev pub TakeUnits : Selected → Files → ℕ → Type 0
-TakeUnits choice files units =
-    Weigh (map brief_of files) (rows_of files) (given_before (map brief_of files) (rows_of files) (marks_of choice files) (length files)) units

@@ -1,23 +1,31 @@
 //! The compilation of files.
-ghost use Rattle.std.specs.Prelude.{◌≡◌, ◌<◌, ◌≤◌, length, IfOk, OnOk, Some, None, Err};
+ghost use Rattle.std.specs.Prelude.{◌≡◌, ◌<◌, ◌≤◌, ℕ, length, IfOk, OnOk, Some, None, Err};
 ghost use Rattle.yv_statement.specs.declared.refusal.Refusal.{Refusal};
 ghost use Rattle.yv_statement.specs.declared.refusal.Stop.TheVariants.{Fault, NoMemory, PatternBuild};
 ghost use Rattle.yv_statement.specs.Order.{IsLeast};
 ghost use Rattle.yv_statement.specs.Selection.{selected_of};
 ghost use Rattle.yv_link_scopes.specs.RowList.{rows_of};
 ghost use Rattle.yv_type_restrictions.specs.Types.{HasTypePattern};
-ghost use Rattle.yv_schema.specs.Refuses.{Refuses, RefusesBeforeTypes};
 ghost use Rattle.yv_nodes.specs.Rows.{whole};
+ghost use Rattle.yv_nodes.specs.Tree.{count};
 ghost use Rattle.yv_schema_tables.specs.Sound.{IsSound};
-ghost use Rattle.yv_schema.specs.Module.{modules_of};
-ghost use Rattle.yv_schema.specs.Schema.{AreNotes, AreReferences, IsSchema};
+ghost use Rattle.yv_schema_build.specs.Module.{modules_of};
+ghost use Rattle.yv_schema_build.specs.Units.{TakeUnits};
+ghost use Rattle.yv_schema.specs.LinkedLeafrefs.{AreLinked};
+ghost use Rattle.yv_schema.specs.Notes.{AreNotes};
+ghost use Rattle.yv_schema.specs.Refuses.{Refuses, RefusesBeforeTypes};
+ghost use Rattle.yv_schema.specs.Schema.{AreReferences, IsSchema};
 
-use crate::conformance::first_bad_file;
-use crate::phases::of_linked;
+use crate::laws::{
+    a_schema_is_that_of_the_tree, least_refusals_are_those_of_the_tree,
+    notes_are_those_of_the_tree, references_are_those_of_the_tree,
+};
 use std::alloc::Global;
-use yv_expand_tree::laws::refusals_of_expansions_have_phases;
-use yv_link::laws::links_have_phases;
-use yv_link::link;
+use yv_expand_laws::laws::{
+    files_that_conform_are_sound, files_that_conform_have_roots,
+    refusals_of_conforming_files_are_one,
+};
+use yv_schema_build::laws::{each_leafref_has_its_link, nodes_are_within_units};
 use yv_schema_tables::Schema;
 use yv_statement::{Selection, Statement, Stop};
 
@@ -36,11 +44,20 @@ pub fn compile(
 ) -> Result<Schema, Stop>
     ensures schema { IfOk result (λ s. IsSchema (selected_of selection.now) files.now (whole s)) }
     ensures limit { IfOk result (λ s. s.limit ≡ limit) }
-    ensures modules { IfOk result (λ s. s.modules ≡ modules_of (selected_of selection.now) files.now) }
-    ensures augments { IfOk result (λ s. AreNotes (selected_of selection.now) files.now s.augments) }
-    ensures references { IfOk result (λ s. AreReferences (selected_of selection.now) files.now s.links) }
+    ensures modules { IfOk result
+        (λ s. s.modules ≡ modules_of (selected_of selection.now) files.now) }
+    ensures augments { IfOk result
+        (λ s. AreNotes (selected_of selection.now) files.now s.augments) }
+    ensures references { IfOk result
+        (λ s. AreReferences (selected_of selection.now) files.now s.links) }
+    ensures links { IfOk result
+        (λ s. AreLinked (selected_of selection.now) files.now (whole s) s.links) }
+    ensures units { IfOk result
+        (λ s. (units : ℕ) → TakeUnits (selected_of selection.now) files.now units
+        → count (whole s) ≤ units) }
     ensures sound { IfOk result IsSound }
-    ensures clear { OnOk result (IsLeast (Refuses (selected_of selection.now) files.now limit) None) }
+    ensures clear { OnOk result
+        (IsLeast (Refuses (selected_of selection.now) files.now limit) None) }
     ensures refusal { (r : Refusal) → result ≡ Err (Fault r)
         → IsLeast (Refuses (selected_of selection.now) files.now limit) (Some r) }
     ensures builds { result ≡ Err PatternBuild → HasTypePattern files.now }
@@ -49,17 +66,17 @@ pub fn compile(
     ensures many { 4294967296 < length files.now → result ≡ Err NoMemory }
     ensures few { OnOk result (length (rows_of files.now) ≤ 4294967293) }
 {
-    links_have_phases();
-    refusals_of_expansions_have_phases();
-    if files.len() > 4_294_967_296 {
-        return Err(Stop::NoMemory);
-    }
-    if let Some(refusal) = first_bad_file(files) {
-        return Err(Stop::Fault(refusal));
-    }
-    let linked = match link(alloc, files, selection) {
-        Ok(linked) => linked,
-        Err(stop) => return Err(stop),
-    };
-    of_linked(alloc, &linked, selection, limit)
+    a_schema_is_that_of_the_tree();
+    references_are_those_of_the_tree();
+    notes_are_those_of_the_tree();
+    least_refusals_are_those_of_the_tree();
+    files_that_conform_are_sound();
+    files_that_conform_have_roots();
+    refusals_of_conforming_files_are_one();
+    each_leafref_has_its_link();
+    nodes_are_within_units();
+    yv_expand_definition::laws::files_have_one_schema();
+    yv_expand_laws::laws::what_is_left_shows_the_schema();
+    yv_expand_tree::laws::what_is_left_are_nodes();
+    yv_schema_build::compile(alloc, files, selection, limit)
 }

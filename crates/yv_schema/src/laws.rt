@@ -1,92 +1,139 @@
 //! Laws about the definitions only. These functions do nothing: the contract of each is the law.
-ghost use Rattle.std.specs.Prelude.{◌≡◌, ◌≤◌, ◌⊎◌, ℕ, List, Option, None, Some, true};
-ghost use Rattle.yv_statement.specs.Codes.{phase_of};
+ghost use Rattle.std.specs.Prelude.{◌≡◌, ◌≤◌, ◌↔◌, ℕ, List, None, Option, Some, length};
 ghost use Rattle.yv_statement.specs.Order.{IsLeast};
 ghost use Rattle.yv_statement.specs.declared.refusal.Refusal.{Refusal};
 ghost use Rattle.yv_statement.specs.Selection.{Selected};
 ghost use Rattle.yv_link_scopes.specs.Files.{Files};
-ghost use Rattle.yv_schema.specs.Refuses.{Refuses, RefusesBeforeTypes};
-ghost use Rattle.yv_schema.specs.Schema.{AreNotes, AreReferences, IsSchema, TakeUnits};
-ghost use Rattle.yv_schema.specs.Module.{leafrefs_of};
-ghost use Rattle.yv_node_leafrefs.specs.Schema.{Referral};
-ghost use Rattle.yv_node_leafrefs.specs.Targets.{IsLeafref, RefersTo};
-ghost use Rattle.yv_nodes.specs.Link.{Link, link_in, reference_in};
-ghost use Rattle.yv_nodes.specs.Rows.{Note, Row};
-ghost use Rattle.yv_nodes.specs.Tree.{Forest, count};
+ghost use Rattle.yv_link_scopes.specs.RowList.{rows_of};
+ghost use Rattle.yv_link_features.specs.Refusals.{BadFeatures};
+ghost use Rattle.yv_expand.specs.Limit.{TooMany};
+ghost use Rattle.yv_expand_tree.specs.FileOrder.{marks_of};
+ghost use Rattle.yv_expand_tree.specs.Final.{Final, IsFinal};
+ghost use Rattle.yv_expand_laws.specs.Conformance.{AreAccepted};
+ghost use Rattle.yv_expand_laws.specs.Files.{HaveRoots};
+ghost use Rattle.yv_expand_laws.specs.StatementItems.{AreSound};
+ghost use Rattle.yv_nodes.specs.Link.{Link};
+ghost use Rattle.yv_nodes.specs.Rows.{Note};
+ghost use Rattle.yv_nodes.specs.Tree.{Forest};
+ghost use Rattle.yv_schema_build.specs.InnerRefuses.{RefusesByNumber};
+ghost use Rattle.yv_schema_build.specs.InnerSchema.{AreNumberedNotes, AreNumberedReferences, IsNumberedSchema};
+ghost use Rattle.yv_schema.specs.Schema.{AreReferences, IsSchema};
+ghost use Rattle.yv_schema.specs.Notes.{AreNotes};
+ghost use Rattle.yv_schema.specs.Refuses.{Refuses};
+ghost use Rattle.yv_schema_build.specs.Refusals.{RefusesBeforeExpansion};
 
 /// Where nothing is refused, files have one schema tree under a choice, their augments add to it in
 /// one way, and its leafrefs lead one way.
 pub fn files_have_one_schema()
-    ensures tree { (choice : Selected) (files : Files) (limit : ℕ) (a b : Forest) → IsLeast (Refuses choice files limit) None
-        → IsSchema choice files a → IsSchema choice files b → a ≡ b }
-    ensures augments { (choice : Selected) (files : Files) (limit : ℕ) (a b : List Note) → IsLeast (Refuses choice files limit) None
-        → AreNotes choice files a → AreNotes choice files b → a ≡ b }
-    ensures references { (choice : Selected) (files : Files) (limit : ℕ) (a b : List (Option Link)) → IsLeast (Refuses choice files limit) None
-        → AreReferences choice files a → AreReferences choice files b → a ≡ b }
+    ensures tree { (choice : Selected) (files : Files) (limit : ℕ) (a b : Forest)
+        → IsLeast (Refuses choice files limit) None → IsSchema choice files a
+        → IsSchema choice files b → a ≡ b }
+    ensures augments { (choice : Selected) (files : Files) (limit : ℕ) (a b : List Note)
+        → IsLeast (Refuses choice files limit) None → AreNotes choice files a
+        → AreNotes choice files b → a ≡ b }
+    ensures references { (choice : Selected) (files : Files) (limit : ℕ) (a b : List (Option Link))
+        → IsLeast (Refuses choice files limit) None → AreReferences choice files a
+        → AreReferences choice files b → a ≡ b }
 {
     yv_link_features::laws::an_expression_has_one_truth();
     yv_node_statements::laws::files_have_one_typing();
-    yv_expand_tree::laws::files_have_one_final_tree();
-    yv_expand_tree::laws::what_is_left_is_one();
+    yv_expand_definition::laws::files_have_one_schema();
     yv_node_leafrefs::laws::a_tree_is_typed_once();
     yv_node_leafrefs::link_laws::a_schema_has_one_list_of_links();
 }
 
-/// A schema tree has no more nodes than the files of the implemented modules take units.
-pub fn nodes_are_within_units()
-    ensures { (choice : Selected) (files : Files) (tree : Forest) (units : ℕ) → IsSchema choice files tree
-        → TakeUnits choice files units → count tree ≤ units }
+/// The schema tree of files is that of the tree to which they expand: it has the nodes that the
+/// conditions leave of that tree, in its order, each as its statement and its refines say it. A
+/// schema tree by that definition is one by numbered items too, where the files have a final tree
+/// by number (RFC 7950, sections 5.6.5, 7.12 to 7.17, and 7.20.2).
+pub fn a_schema_is_that_of_the_tree()
+    ensures gives { (choice : Selected) (files : Files) (tree : Forest) → AreSound files
+        → HaveRoots files → IsLeast (BadFeatures files) None → IsNumberedSchema choice files tree
+        → IsSchema choice files tree }
+    ensures takes { (choice : Selected) (files : Files) (tree : Forest) (f : Final)
+        → AreSound files → HaveRoots files → IsLeast (BadFeatures files) None
+        → IsFinal choice files f → IsSchema choice files tree → IsNumberedSchema choice files tree }
 {
-    yv_expand_tree::laws::nodes_are_within_units();
+    yv_expand_tree::laws::what_is_left_are_nodes();
+    yv_expand_definition::laws::files_have_one_schema();
+    yv_expand_laws::laws::what_is_left_shows_the_schema();
 }
 
-/// What is refused only with types, or with the schema tree, comes in phase 9 or later.
-pub fn types_and_trees_come_late()
-    ensures { (choice : Selected) (files : Files) (limit : ℕ) (f : Refusal) → Refuses choice files limit f
-        → RefusesBeforeTypes choice files limit f ⊎ (9 ≤ phase_of f.code) }
-{}
-
-/// Where nothing is refused, a leafref has its link to what it refers to, and the link says whether
-/// an instance is required (RFC 7950, sections 9.9.2 and 9.9.3).
-pub fn leafrefs_have_links()
-    ensures { (choice : Selected) (files : Files) (limit : ℕ) (links : List (Option Link)) → IsLeast (Refuses choice files limit) None
-        → (are : AreReferences choice files links) → (n target : ℕ) → (refers : RefersTo (leafrefs_of are.basis) n target)
-        → (link : Link) × (reference_in links n ≡ Some link) × (link.target ≡ target) × (link.is_required ≡ refers.ref.is_required) }
+/// The leafrefs of files lead where those of the tree lead to which the files expand (RFC 7950,
+/// sections 9.9.2 and 9.9.3).
+pub fn references_are_those_of_the_tree()
+    ensures gives { (choice : Selected) (files : Files) (links : List (Option Link))
+        → AreSound files → HaveRoots files → IsLeast (BadFeatures files) None
+        → AreNumberedReferences choice files links → AreReferences choice files links }
+    ensures takes { (choice : Selected) (files : Files) (links : List (Option Link)) (f : Final)
+        → AreSound files → HaveRoots files → IsLeast (BadFeatures files) None
+        → IsFinal choice files f → AreReferences choice files links
+        → AreNumberedReferences choice files links }
 {
-    yv_expand::conformance_laws::what_is_not_refused_fits();
-    yv_link_scopes::laws::statements_have_their_rows();
-    yv_expand_tree::laws::nothing_stands_below_a_leaf();
-    yv_types::leafref_laws::an_origin_is_a_leafref();
+    yv_expand_tree::laws::what_is_left_are_nodes();
+    yv_expand_definition::laws::files_have_one_schema();
+    yv_expand_laws::laws::what_is_left_shows_the_schema();
 }
 
-/// Where nothing is refused, a leafref that requires an instance has its link to what it refers to
-/// (RFC 7950, sections 9.9.2 and 9.9.3).
-pub fn required_leafrefs_have_links()
-    ensures { (choice : Selected) (files : Files) (limit : ℕ) (links : List (Option Link)) → IsLeast (Refuses choice files limit) None
-        → (are : AreReferences choice files links) → (n target : ℕ) → (refers : RefersTo (leafrefs_of are.basis) n target)
-        → refers.ref.is_required ≡ true → (link : Link) × (link_in links n ≡ Some link) × (link.target ≡ target) }
+/// The augments of modules that add nodes to the schema tree are those that give nodes of the tree
+/// to which the files expand: each is noted with the nodes that it gives, and with the node above
+/// these as its target (RFC 7950, section 7.17).
+pub fn notes_are_those_of_the_tree()
+    ensures gives { (choice : Selected) (files : Files) (notes : List Note) → AreSound files
+        → HaveRoots files → IsLeast (BadFeatures files) None → AreNumberedNotes choice files notes
+        → AreNotes choice files notes }
+    ensures takes { (choice : Selected) (files : Files) (notes : List Note) (f : Final)
+        → AreSound files → HaveRoots files → IsLeast (BadFeatures files) None
+        → IsFinal choice files f → AreNotes choice files notes
+        → AreNumberedNotes choice files notes }
 {
-    yv_expand::conformance_laws::what_is_not_refused_fits();
-    yv_link_scopes::laws::statements_have_their_rows();
-    yv_expand_tree::laws::nothing_stands_below_a_leaf();
-    yv_types::leafref_laws::an_origin_is_a_leafref();
+    yv_expand_tree::laws::what_is_left_are_nodes();
+    yv_expand_tree::laws::given_nodes_stand_below_their_target();
+    yv_expand_tree::laws::no_item_is_left_twice();
+    yv_expand_definition::laws::files_have_one_schema();
+    yv_expand_laws::laws::what_is_left_shows_the_schema();
 }
 
-/// Where nothing is refused, each leafref outside operations and notifications refers to a node,
-/// and its link leads there and says whether an instance is required.
-pub fn each_leafref_has_its_link()
-    ensures { (choice : Selected) (files : Files) (limit : ℕ) (tree : Forest) (links : List (Option Link))
-        → IsLeast (Refuses choice files limit) None → (schema : IsSchema choice files tree) → AreReferences choice files links
-        → (n : ℕ) (row : Row) (ref : Referral) → IsLeafref (leafrefs_of schema.basis) n row ref
-        → (link : Link) × (reference_in links n ≡ Some link) × RefersTo (leafrefs_of schema.basis) n link.target
-        × (link.is_required ≡ ref.is_required) }
+/// Where nothing is refused of files by themselves, nor of the names of their definitions, nor of
+/// their features, and they have a final tree by number, their compilation is refused for exactly
+/// what is refused by the tree to which they expand (RFC 7950, sections 3, 7.5 to 7.17, and 9.9).
+pub fn refusals_are_those_of_the_tree()
+    ensures { (choice : Selected) (files : Files) (limit : ℕ) (f : Final) (r : Refusal)
+        → AreAccepted files → IsLeast (BadFeatures files) None → IsFinal choice files f
+        → RefusesByNumber choice files limit r ↔ Refuses choice files limit r }
 {
-    yv_expand::conformance_laws::what_is_not_refused_fits();
-    yv_link_scopes::laws::statements_have_their_rows();
-    yv_link_features::laws::an_expression_has_one_truth();
-    yv_node_statements::laws::files_have_one_typing();
-    yv_expand_tree::laws::files_have_one_final_tree();
-    yv_expand_tree::laws::nothing_stands_below_a_leaf();
-    yv_expand_tree::laws::what_is_left_is_one();
-    yv_types::leafref_laws::an_origin_is_a_leafref();
+    yv_expand_tree::laws::what_is_left_are_nodes();
+    yv_expand_definition::laws::files_have_one_schema();
+    yv_expand_laws::laws::what_is_left_shows_the_schema();
+    yv_expand_laws::laws::files_that_conform_have_roots();
+    yv_expand_laws::laws::files_that_conform_are_sound();
+    yv_expand_laws::laws::refusals_of_conforming_files_are_one();
+}
+
+/// The refusal that the compilation of files answers, the least of all, or that it answers none, is
+/// the same by the tree to which they expand: where they have a final tree by number, where
+/// something is refused before they are expanded, and where they pass the limit (RFC 7950, sections
+/// 3, 7.5 to 7.17, and 9.9).
+pub fn least_refusals_are_those_of_the_tree()
+    ensures with_final_tree { (choice : Selected) (files : Files) (limit : ℕ)
+        (f : Final) (o : Option Refusal)
+        → length (rows_of files) ≤ 4294967293 → IsFinal choice files f
+        → IsLeast (RefusesByNumber choice files limit) o ↔ IsLeast (Refuses choice files limit) o }
+    ensures with_early_refusal { (choice : Selected) (files : Files) (limit : ℕ)
+        (r : Refusal) (o : Option Refusal)
+        → RefusesBeforeExpansion files r
+        → IsLeast (RefusesByNumber choice files limit) o ↔ IsLeast (Refuses choice files limit) o }
+    ensures past_the_limit { (choice : Selected) (files : Files) (limit : ℕ)
+        (r : Refusal) (o : Option Refusal)
+        → IsLeast (TooMany files (marks_of choice files) limit) (Some r)
+        → IsLeast (RefusesByNumber choice files limit) o ↔ IsLeast (Refuses choice files limit) o }
+{
+    yv_link::laws::links_have_phases();
+    yv_expand_tree::laws::refusals_of_expansions_have_phases();
+    yv_expand_tree::laws::what_is_left_are_nodes();
+    yv_expand_definition::laws::files_have_one_schema();
+    yv_expand_laws::laws::what_is_left_shows_the_schema();
+    yv_expand_laws::laws::files_that_conform_have_roots();
+    yv_expand_laws::laws::files_that_conform_are_sound();
+    yv_expand_laws::laws::refusals_of_conforming_files_are_one();
 }

@@ -118,7 +118,8 @@ pub pair_repeated : (ls : List Label) (f : Refusal) → Pair SameBoth ls f → H
 pair_repeated ls f p =
     (p.k, slice_get_within ls p.k p.b p.at_k, p.b, p.at_k, (record { place = p.i; first = p.a; before = p.before; at = p.at_i; same_module = p.alike.0; same_name = p.alike.1 }, p.is))
 
--- nodes of these modules that are alike by the numbers of their files are alike by their names, and the other way round
+-- nodes of these modules that are alike by the numbers of their files are alike by their names, and
+-- the other way round
 pub by_names : (modules : List Module) (ls : List Label) (f : Refusal) → AreModules modules → AllByRecursion (IsOf modules) ls → Pair SameModuleFile ls f → Pair SameBoth ls f
 by_names modules ls f apart are p =
     let a_of : IsOf modules p.a = each_in (IsOf modules) ls p.i p.a are p.at_i in

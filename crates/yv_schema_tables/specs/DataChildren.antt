@@ -1,6 +1,7 @@
--- Choices and cases opened, and of the other nodes the data nodes. No data tree has choices and cases, and what is in them takes their
--- place (RFC 7950, section 7.9); rpcs, actions and notifications are no data nodes (sections 7.14 to 7.16), so that no member of a
--- document names one, or what is in it.
+-- Choices and cases opened, and of the other nodes the data nodes. No data tree has choices and
+-- cases, and what is in them takes their place (RFC 7950, section 7.9); rpcs, actions and
+-- notifications are no data nodes (sections 7.14 to 7.16), so that no member of a document names
+-- one, or what is in it.
 use Rattle.std.specs.Prelude.{ℕ, ◌+◌, List, [], ◌∷◌, ◌++◌, if◌then◌else◌}
 use Rattle.yv_node_definition.specs.Kinds.{is_data, is_passed}
 use Rattle.yv_nodes.specs.declared.node.NodeId.{NodeId}

@@ -39,7 +39,8 @@ inside_of rows cs = opened_from (start_of cs) (pick_trees rows cs)
 abbrev pub members_of : List Row → Row → List NodeId
 members_of rows row = if is_passed row.label.defined.kind then [] else inside_of rows row.children
 
--- the numbers of the nodes whose names have to differ below one parent, where the first node has the number `first`
+-- the numbers of the nodes whose names have to differ below one parent, where the first node has
+-- the number `first`
 abbrev pub told_from : ℕ → Forest → List NodeId
 told_from first no_trees = []
 told_from first (tree (node l kids) ts) =

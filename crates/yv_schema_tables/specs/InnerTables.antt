@@ -24,8 +24,8 @@ use Rattle.yv_schema_tables.specs.InnerSits.{members_of}
 use Rattle.yv_schema_tables.specs.NodeNumbers.{HasNoColon}
 use Rattle.yv_schema_tables.specs.Sound.{IsSound, inside, member_named}
 
--- A front is the number of the file of the module whose name stands in front of a node's name in its member, or none where the
--- member is the name alone.
+-- A front is the number of the file of the module whose name stands in front of a node's name in
+-- its member, or none where the member is the name alone.
 
 abbrev pub is_front : Option ℕ → Option ℕ → Bool
 is_front None None = true
@@ -77,7 +77,8 @@ pub record AreDirectories (rows : List Row) (directories : List Directory) : Typ
   pub each : length directories ≡ length rows
   pub gives : (i : ℕ) (directory : Directory) → slice_get directories i ≡ Some directory → IsOfRow rows (slice_index_or rows i blank_row) directory
 
--- what stands at a place where this stood, once a child was added there, or elsewhere: of several the first stays
+-- what stands at a place where this stood, once a child was added there, or elsewhere: of several
+-- the first stays
 abbrev pub kept_first : (is_there : Bool) → NodeId → Option NodeId → Option NodeId
 kept_first is_there child (Some first) = Some first
 kept_first is_there child None = if is_there then Some child else None
@@ -107,14 +108,15 @@ module_file_named (m ∷ ms) name = if bytes_eq m.name name then Some m.module_f
 abbrev pub ModuleTable : Type 0
 ModuleTable = BTreeMap (RcStr Global) ℕ
 
--- the directory has what the members of an object name: without a colon, and with a module before the first colon
+-- the directory has what the members of an object name: without a colon, and with a module before
+-- the first colon
 pub record IsAnswering (s : Rows) (p : NodeId) (directory : Directory) : Type 0 where
   pub bare : (member : List ℕ) → HasNoColon member → directory_entry s.nodes directory None member ≡ member_named s (inside s p) member
   pub fronted : (owner name : List ℕ) (module_file : ℕ) → module_file_named s.modules owner ≡ Some module_file
       → directory_entry s.nodes directory (Some module_file) name ≡ member_named s (inside s p) (owner ++ 58 ∷ name)
 
--- the directories of the root and of the nodes have what members name, modules and the numbers of nodes' names are known by name, and
--- a member with the name of no module names nothing
+-- the directories of the root and of the nodes have what members name, modules and the numbers of
+-- nodes' names are known by name, and a member with the name of no module names nothing
 pub record IsKept (module_files : ModuleTable) (names : NameTable) (at_top : Directory) (directories : List Directory) (s : Rows) : Type 0 where
   pub sound : IsSound s
   pub counted : length s.nodes ≡ count (whole s)

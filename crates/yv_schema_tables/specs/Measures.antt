@@ -15,13 +15,15 @@ is_container _ = false
 abbrev pub is_open : Label → Bool
 is_open l = is_passed l.defined.kind || is_container l.defined.kind && not l.defined.has_presence
 
--- how many nodes are met at one object, choices and cases too, where a node with several defaults counts as so many: a list and a
--- presence container count, and what is below them doesn't, and operations, notifications and what is in them count nothing
+-- how many nodes are met at one object, choices and cases too, where a node with several defaults
+-- counts as so many: a list and a presence container count, and what is below them doesn't, and
+-- operations, notifications and what is in them count nothing
 abbrev pub count_met : Forest → ℕ
 count_met no_trees = 0
 count_met (tree (node l kids) ts) = (if is_operation_or_notification l.defined.kind then 0 else width l + (if is_open l then count_met kids else 0)) + count_met ts
 
--- the greatest of numbers of the nodes at any depth, but for operations, notifications and what is in them
+-- the greatest of numbers of the nodes at any depth, but for operations, notifications and what is
+-- in them
 abbrev pub greatest : (Label → Forest → ℕ) → Forest → ℕ
 greatest of no_trees = 0
 greatest of (tree (node l kids) ts) = max (if is_operation_or_notification l.defined.kind then 0 else max (of l kids) (greatest of kids)) (greatest of ts)
@@ -36,8 +38,8 @@ uniques_of l kids = length l.defined.uniques
 abbrev pub types_of : Label → Forest → ℕ
 types_of l kids = length l.defined.types
 
--- the most nodes that are met at the root, a container or a list, the most `unique` statements of a list, and the most types of a
--- node, or 1 where there are fewer
+-- the most nodes that are met at the root, a container or a list, the most `unique` statements of a
+-- list, and the most types of a node, or 1 where there are fewer
 abbrev pub measures_of : Forest → Measures
 measures_of ts = record {
   m = max (count_met ts) (greatest met_below ts);

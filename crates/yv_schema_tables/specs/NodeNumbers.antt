@@ -20,7 +20,8 @@ pub record IsNamed (modules : List Module) (module_file : ℕ) (name : List ℕ)
   pub module_file_is : found.module_file ≡ module_file
   pub name_is : found.name ≡ name
 
--- a node below these, the nearest first, is of one of the modules, and its member is called so (RFC 7951, section 4)
+-- a node below these, the nearest first, is of one of the modules, and its member is called so (RFC
+-- 7951, section 4)
 pub record IsFormed (modules : List Module) (above : List Label) (l : Label) : Type 0 where
   pub of_module : IsNamed modules l.module_file l.module_name
   pub plain : HasNoColon l.defined.name
@@ -38,7 +39,8 @@ pub record AreModules (modules : List Module) : Type 0 where
   pub names : (i k : ℕ) (a b : Module) → i < k → slice_get modules i ≡ Some a → slice_get modules k ≡ Some b → a.name ≢ b.name
   pub module_files : (i k : ℕ) (a b : Module) → i < k → slice_get modules i ≡ Some a → slice_get modules k ≡ Some b → a.module_file ≢ b.module_file
 
--- these are the rows of nodes of the modules, the numbers of those at the top, and where the paths of leafrefs among them lead
+-- these are the rows of nodes of the modules, the numbers of those at the top, and where the paths
+-- of leafrefs among them lead
 pub record AreNumbered (modules : List Module) (nodes : List Row) (top : List NodeId) (links : List (Option Link)) : Type 0 where
   pub trees : Forest
   pub formed : AreFormed modules [] trees

@@ -25,7 +25,8 @@ member_named s (c ∷ cs) member = if bytes_eq (row_at s c).label.member member 
 abbrev pub is_object : Rows → NodeId → Bool
 is_object s p = is_root p || not (is_passed (row_at s p).label.defined.kind)
 
--- the data nodes below a node that its object's members name, with choices and cases opened; a choice or case has no object
+-- the data nodes below a node that its object's members name, with choices and cases opened; a
+-- choice or case has no object
 abbrev pub object_trees : Rows → NodeId → Forest
 object_trees s p = if is_object s p then opened_trees (below s p) else no_trees
 
@@ -45,7 +46,8 @@ pub record IsInside (s : Rows) (p c : NodeId) : Type 0 where
   pub within : c.0 < length s.nodes
   pub is_met : is_data (row_at s c).label.defined.kind ≡ true
 
--- a node is found by its member: no other one in the same object has that member (RFC 7950, section 6.2.1)
+-- a node is found by its member: no other one in the same object has that member (RFC 7950, section
+-- 6.2.1)
 abbrev pub IsFound : Rows → NodeId → NodeId → Type 0
 IsFound s p c = member_named s (inside s p) (row_at s c).label.member ≡ Some c
 
@@ -57,7 +59,8 @@ IsFoundBelow s p c = is_data (row_at s c).label.defined.kind ≡ true → IsFoun
 abbrev pub DifferInMember : List Label → Type 0
 DifferInMember ls = (i k : ℕ) (a b : Label) → i < k → slice_get ls i ≡ Some a → slice_get ls k ≡ Some b → a.member ≢ b.member
 
--- the members of each object differ: those at the root, and those below each node that is no choice or case (RFC 7950, section 6.2.1)
+-- the members of each object differ: those at the root, and those below each node that is no choice
+-- or case (RFC 7950, section 6.2.1)
 pub record MembersDiffer (ts : Forest) : Type 0 where
   pub top : DifferInMember (labels (opened_trees ts))
   pub below : (k : ℕ) (p : Place) → slice_get (places ts) k ≡ Some p → is_passed p.label.defined.kind ≡ false
@@ -68,9 +71,10 @@ pub record IsNote (s : Rows) (n : Note) : Type 0 where
   pub target : n.target.0 < length s.nodes
   pub given : All (IsChild s n.target) n.nodes
 
--- there are at most as many nodes as the limit and as numbers, they are numbered as their tree is, children stand behind
--- their parents, no two of one object have one member, each name of a key and each path of a `unique` statement is that of a leaf,
--- augments add children to nodes, and the paths of leafrefs lead from where they climb to, to leafs and leaf-lists
+-- there are at most as many nodes as the limit and as numbers, they are numbered as their tree is,
+-- children stand behind their parents, no two of one object have one member, each name of a key and
+-- each path of a `unique` statement is that of a leaf, augments add children to nodes, and the
+-- paths of leafrefs lead from where they climb to, to leafs and leaf-lists
 pub record IsSound (s : Rows) : Type 0 where
   pub small : length s.nodes ≤ 4294967295
   pub limited : length s.nodes ≤ s.limit

@@ -24,8 +24,10 @@ impl DataChildren {
         numbers: &[NodeId],
     ) -> Result<DataChildren, AllocError>
         requires { HaveTrees nodes.now.rows numbers.now }
-        ensures inside { IfOk result (λ opened. opened.inside.items ≡ inside_of nodes.now.rows numbers.now) }
-        ensures tells { IfOk result (λ opened. opened.told.items ≡ told_of nodes.now.rows numbers.now) }
+        ensures inside { IfOk result
+            (λ opened. opened.inside.items ≡ inside_of nodes.now.rows numbers.now) }
+        ensures tells { IfOk result
+            (λ opened. opened.told.items ≡ told_of nodes.now.rows numbers.now) }
     {
         let mut opened = DataChildren {
             inside: Vec::new(alloc),
@@ -38,8 +40,11 @@ impl DataChildren {
     // Adds the nodes of these numbers, and those in choices and cases among them.
     fn add(&mut self, nodes: &Nodes, numbers: &[NodeId]) -> Result<(), AllocError>
         requires { HaveTrees nodes.now.rows numbers.now }
-        ensures inside { OnOk result (self.new.inside.items ≡ self.old.inside.items ++ inside_of nodes.now.rows numbers.now) }
-        ensures tells { OnOk result (self.new.told.items ≡ self.old.told.items ++ told_of nodes.now.rows numbers.now) }
+        ensures inside { OnOk result
+            (self.new.inside.items ≡ self.old.inside.items
+            ++ inside_of nodes.now.rows numbers.now) }
+        ensures tells { OnOk result
+            (self.new.told.items ≡ self.old.told.items ++ told_of nodes.now.rows numbers.now) }
     {
         for number in numbers {
             let node = nodes.get(*number);
@@ -76,7 +81,8 @@ fn push_unless(
     is_left_out: bool,
     number: NodeId,
 ) -> Result<(), AllocError>
-    ensures { OnOk result (numbers.new.items ≡ numbers.old.items ++ (if is_left_out then [] else number ∷ [])) }
+    ensures { OnOk result
+        (numbers.new.items ≡ numbers.old.items ++ (if is_left_out then [] else number ∷ [])) }
 {
     if is_left_out {
         return Ok(());

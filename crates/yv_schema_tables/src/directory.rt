@@ -12,8 +12,9 @@ use yv_nodes::NodeId;
 /// Nodes by their members, in schema order: of several with one member the first.
 pub(crate) type Table = IndexMap<Member, NodeId>;
 
-/// Nodes by what a JSON member calls them (RFC 7951, section 4): by the file of the module whose name comes first, where one
-/// does, and by the numbers of their names. Most nodes are leafs, so that no table is made for no nodes.
+/// Nodes by what a JSON member calls them (RFC 7951, section 4): by the file of the module whose
+/// name comes first, where one does, and by the numbers of their names. Most nodes are leafs, so
+/// that no table is made for no nodes.
 #[derive(Drop)]
 pub(crate) struct Directory {
     table: Option<Box<Table>>,
@@ -29,7 +30,9 @@ impl Directory {
 
     /// The directory of the nodes of a table.
     pub(crate) fn of(alloc: Global, mut table: Table) -> Result<Directory, AllocError>
-        ensures { IfOk result (λ directory. (member : Member) → held_at directory member ≡ get same_member table member) }
+        ensures { IfOk result
+            (λ directory. (member : Member) → held_at directory member
+            ≡ get same_member table member) }
     {
         if table.is_empty() {
             return Ok(Directory::new());
@@ -58,7 +61,8 @@ pub(crate) fn keep_first(
     member: Member,
     child: NodeId,
 ) -> Result<bool, AllocError>
-    ensures repeats { IfOk result (λ repeated. repeated ≡ is_some (get same_member table.old member)) }
+    ensures repeats { IfOk result
+        (λ repeated. repeated ≡ is_some (get same_member table.old member)) }
     ensures keeps { OnOk result ((other : Member) → get same_member table.new other
         ≡ kept_first (same_member member other) child (get same_member table.old other)) }
 {

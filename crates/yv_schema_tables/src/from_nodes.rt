@@ -23,10 +23,11 @@ use yv_nodes::{Links, NodeId, Nodes};
 use yv_statement::{Stop, lesser};
 
 impl Schema {
-    /// The schema of numbered nodes of these modules, with the numbers of those at the top, or the least refusal: of a node below a
-    /// parent that has an earlier one of its module and name, also in choices and cases (RFC 7950, section 6.2.1), or of a list
-    /// whose key or `unique` statements name what they may not (sections 7.8.2 and 7.8.3). The notes are of the augments that added
-    /// some of the nodes, and the links of the leafrefs among them.
+    /// The schema of numbered nodes of these modules, with the numbers of those at the top, or the
+    /// least refusal: of a node below a parent that has an earlier one of its module and name, also
+    /// in choices and cases (RFC 7950, section 6.2.1), or of a list whose key or `unique`
+    /// statements name what they may not (sections 7.8.2 and 7.8.3). The notes are of the augments
+    /// that added some of the nodes, and the links of the leafrefs among them.
     pub fn number_nodes(
         alloc: Global,
         nodes: Nodes,
@@ -37,14 +38,19 @@ impl Schema {
     ) -> Result<Schema, Stop>
         requires modules { AreModules modules.items }
         requires numbers { AreNumbered modules.items nodes.rows top.items links }
-        requires notes { All (IsNote (made_of nodes.rows top.items nodes.limit modules.items notes.items links)) notes.items }
-        ensures schema { (ts : Forest) → nodes.rows ≡ rows_from 0 ts → top.items ≡ numbers_from 0 ts → IfOk result (λ s. whole s ≡ ts) }
+        requires notes { All
+            (IsNote (made_of nodes.rows top.items nodes.limit modules.items notes.items links))
+            notes.items }
+        ensures schema { (ts : Forest) → nodes.rows ≡ rows_from 0 ts → top.items ≡ numbers_from 0 ts
+            → IfOk result (λ s. whole s ≡ ts) }
         ensures limit { IfOk result (λ s. s.limit ≡ nodes.limit) }
         ensures modules { IfOk result (λ s. s.modules ≡ modules.items) }
         ensures augments { IfOk result (λ s. s.augments ≡ notes.items) }
         ensures links { IfOk result (λ s. s.links ≡ links) }
-        ensures clear { (ts : Forest) → nodes.rows ≡ rows_from 0 ts → top.items ≡ numbers_from 0 ts → OnOk result (IsLeast (BadRows ts) None) }
-        ensures refusal { (ts : Forest) → nodes.rows ≡ rows_from 0 ts → top.items ≡ numbers_from 0 ts
+        ensures clear { (ts : Forest) → nodes.rows ≡ rows_from 0 ts → top.items ≡ numbers_from 0 ts
+            → OnOk result (IsLeast (BadRows ts) None) }
+        ensures refusal { (ts : Forest) → nodes.rows ≡ rows_from 0 ts → top.items
+            ≡ numbers_from 0 ts
             → (r : Refusal) → result ≡ Err (Fault r) → IsLeast (BadRows ts) (Some r) }
         ensures builds { result ≢ Err PatternBuild }
     {

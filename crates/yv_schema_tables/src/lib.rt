@@ -1,4 +1,5 @@
-//! The schema of modules: numbered nodes with the tables by which they are found, and what they measure.
+//! The schema of modules: numbered nodes with the tables by which they are found, and what they
+//! measure.
 #![tactic(auto)]
 
 mod data_children;

@@ -10,17 +10,18 @@ use crate::schema::Schema;
 use yv_node_definition::NodeKind;
 use yv_nodes::{Node, NodeId};
 
-/// What a schema measures. A validation takes no more steps than these and the size of a document say. Operations,
-/// notifications and what is in them count nothing.
+/// What a schema measures. A validation takes no more steps than these and the size of a document
+/// say. Operations, notifications and what is in them count nothing.
 #[derive(Clone, Copy, Debug, PartialEq, Eq)]
 pub struct Measures {
-    /// The most nodes that are met at the object of the root, a container or a list: those below it at any depth, choices
-    /// and cases too, but of those below a list or a presence container only the node itself. A leaf-list with several defaults counts
-    /// as so many.
+    /// The most nodes that are met at the object of the root, a container or a list: those below it
+    /// at any depth, choices and cases too, but of those below a list or a presence container only
+    /// the node itself. A leaf-list with several defaults counts as so many.
     pub m: u64,
     /// The most `unique` statements of a list (RFC 7950, section 7.8.3).
     pub u: u64,
-    /// The most types of a node, and 1 where there are fewer: so many are tried at one value at most.
+    /// The most types of a node, and 1 where there are fewer: so many are tried at one value at
+    /// most.
     pub w: u64,
 }
 
@@ -38,7 +39,8 @@ pub(crate) struct Passage {
 }
 
 impl Schema {
-    /// What the schema measures, in time linear in its nodes. It takes no memory, and calls itself as deep as the nodes are.
+    /// What the schema measures, in time linear in its nodes. It takes no memory, and calls itself
+    /// as deep as the nodes are.
     pub fn measures(&self) -> Measures
         ensures { result ≡ measures_of (whole self.now) }
     {

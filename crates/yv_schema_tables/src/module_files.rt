@@ -13,7 +13,9 @@ pub(crate) fn module_files_of(
     alloc: Global,
     modules: &[Module],
 ) -> Result<BTreeMap<RcStr, u32>, AllocError>
-    ensures { IfOk result (λ module_files. (name : List ℕ) → get_by_name module_files name ≡ module_file_named modules.now name) }
+    ensures { IfOk result
+        (λ module_files. (name : List ℕ) → get_by_name module_files name
+        ≡ module_file_named modules.now name) }
 {
     let mut module_files = BTreeMap::new(alloc);
     let mut left = modules.len();

@@ -7,8 +7,8 @@ use std::collections::BTreeMap;
 use std::rc::RcStr;
 use yv_nodes::{Node, Nodes};
 
-/// Names of nodes, each with its number: how many others were used first before it. The map is an ordered one and hashes nothing, since
-/// strangers choose the names.
+/// Names of nodes, each with its number: how many others were used first before it. The map is an
+/// ordered one and hashes nothing, since strangers choose the names.
 #[derive(Drop)]
 pub(crate) struct NameTable {
     /// The numbers by name. The texts are those that the nodes share.
@@ -48,7 +48,9 @@ impl NameTable {
         ensures names { (names : List (List ℕ)) → HaveNumbers names self.old
             → OnOk result (HaveNumbers (with_name names node.now.label.defined.name) self.new) }
         ensures number { (names : List (List ℕ)) → HaveNumbers names self.old
-            → IfOk result (λ number. number_in (with_name names node.now.label.defined.name) node.now.label.defined.name ≡ Some number) }
+            → IfOk result
+            (λ number. number_in (with_name names node.now.label.defined.name)
+            node.now.label.defined.name ≡ Some number) }
     {
         if let Some(number) = self.number(node.name()) {
             return Ok(number);

@@ -13,8 +13,8 @@ use yv_node_keys::LeafTargets;
 use yv_nodes::{Link, Links, Node, NodeId, Nodes};
 use yv_values::Meter;
 
-/// The schema of modules: nodes with numbers from 0, each after its parent. Contracts see its rows, and
-/// by them the tree that they represent.
+/// The schema of modules: nodes with numbers from 0, each after its parent. Contracts see its rows,
+/// and by them the tree that they represent.
 #[derive(Drop)]
 pub struct Schema {
     pub(crate) nodes: Nodes,
@@ -131,26 +131,30 @@ impl Schema {
         }
     }
 
-    /// The numbers of the leafs that a list's key names, in order (RFC 7950, section 7.8.2): none without a key. Takes time log n.
+    /// The numbers of the leafs that a list's key names, in order (RFC 7950, section 7.8.2): none
+    /// without a key. Takes time log n.
     pub fn keys(&self, list: NodeId) -> &[NodeId]
         requires { list.0 < length self.now.nodes }
-        ensures { map (λ n. Some n) result.now ≡ map (key_leaf_at self.now.nodes list) (row_at self.now list).label.defined.keys }
+        ensures { map (λ n. Some n) result.now
+            ≡ map (key_leaf_at self.now.nodes list) (row_at self.now list).label.defined.keys }
     {
         self.leafs.keys(list)
     }
 
-    /// For each of a list's `unique` statements the numbers of the leafs that its paths name, in order (RFC 7950, section 7.8.3): at
-    /// most 64 statements. Takes time log n.
+    /// For each of a list's `unique` statements the numbers of the leafs that its paths name, in
+    /// order (RFC 7950, section 7.8.3): at most 64 statements. Takes time log n.
     pub fn uniques(&self, list: NodeId) -> &[Vec<NodeId>]
         requires { list.0 < length self.now.nodes }
         ensures { map (λ leafs. map (λ n. Some n) leafs.items) result.now
-            ≡ map (map (unique_leaf_at self.now.nodes list)) (row_at self.now list).label.defined.uniques }
+            ≡ map (map (unique_leaf_at self.now.nodes list))
+            (row_at self.now list).label.defined.uniques }
     {
         self.leafs.uniques(list)
     }
 
-    /// The number of a choice's default case: a case, or a node that is a case of its own (RFC 7950, section 7.9.3). None where
-    /// there is no default, and of a node that is not a choice. Takes time log n.
+    /// The number of a choice's default case: a case, or a node that is a case of its own (RFC
+    /// 7950, section 7.9.3). None where there is no default, and of a node that is not a choice.
+    /// Takes time log n.
     pub fn default_case(&self, choice: NodeId) -> Option<NodeId>
         requires { choice.0 < length self.now.nodes }
         ensures { result ≡ default_case_at self.now.nodes choice }
@@ -183,17 +187,19 @@ impl Schema {
         &self.links
     }
 
-    /// Where the path of a leafref leads, and whether it requires an instance (RFC 7950, sections 9.9.2 and 9.9.3): None of other nodes,
-    /// and inside operations and notifications. Takes constant time.
+    /// Where the path of a leafref leads, and whether it requires an instance (RFC 7950, sections
+    /// 9.9.2 and 9.9.3): None of other nodes, and inside operations and notifications. Takes
+    /// constant time.
     pub fn reference(&self, leafref: NodeId) -> Option<&Link>
         ensures { option_map (λ link. link.now) result ≡ reference_in self.now.links leafref.0 }
     {
         self.links.reference(leafref)
     }
 
-    /// The data node that a JSON member of this name writes in an object of this node, or in that of the root: a child, or what
-    /// is in its choices and cases (RFC 7950, section 7.9; RFC 7951, section 4). A choice or case has no object: below
-    /// it nothing is found. The meter counts the look-up.
+    /// The data node that a JSON member of this name writes in an object of this node, or in that
+    /// of the root: a child, or what is in its choices and cases (RFC 7950, section 7.9; RFC 7951,
+    /// section 4). A choice or case has no object: below it nothing is found. The meter counts the
+    /// look-up.
     pub fn find(&self, meter: &mut Meter, parent: NodeId, member: &str) -> Option<NodeId>
         requires within { rank parent ≤ length self.now.nodes }
         ensures value { result ≡ member_named self.now (inside self.now parent) member.now }
@@ -242,7 +248,8 @@ impl Schema {
     // The number of the file of the module of this name.
     fn module_file(&self, name: &str) -> Option<u32>
         ensures value { result ≡ module_file_named self.now.modules name.now }
-        ensures unknown { IfNone result ((p : NodeId) (rest : List ℕ) → rank p ≤ length self.now.nodes → HasNoColon name.now
+        ensures unknown { IfNone result
+            ((p : NodeId) (rest : List ℕ) → rank p ≤ length self.now.nodes → HasNoColon name.now
             → member_named self.now (inside self.now p) (name.now ++ 58 ∷ rest) ≡ None) }
     {
         self.module_files.get(name).copied()

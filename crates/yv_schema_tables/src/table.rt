@@ -16,7 +16,8 @@ use yv_node_definition::NodeKind;
 use yv_nodes::{Node, NodeId, Nodes};
 use yv_statement::{Code, Refusal, lesser};
 
-/// What members name below one parent, and the least refusal of a node whose module and name an earlier one has.
+/// What members name below one parent, and the least refusal of a node whose module and name an
+/// earlier one has.
 #[derive(Drop)]
 pub(crate) struct Family {
     pub(crate) directory: Directory,
@@ -24,7 +25,8 @@ pub(crate) struct Family {
 }
 
 impl Family {
-    /// The family below a node, where the nodes' names have these numbers: nothing is found below a choice or case.
+    /// The family below a node, where the nodes' names have these numbers: nothing is found below a
+    /// choice or case.
     pub(crate) fn below(
         alloc: Global,
         nodes: &Nodes,
@@ -33,8 +35,10 @@ impl Family {
     ) -> Result<Family, AllocError>
         requires names { AreOfNodes nodes.now.rows names.now }
         requires trees { HaveTrees nodes.now.rows node.now.children }
-        ensures directory { IfOk result (λ family. IsOfRow nodes.now.rows node.now family.directory) }
-        ensures duplicates { IfOk result (λ family. IsLeast (Namesakes (family_in nodes.now.rows node.now)) family.duplicate) }
+        ensures directory { IfOk result
+            (λ family. IsOfRow nodes.now.rows node.now family.directory) }
+        ensures duplicates { IfOk result
+            (λ family. IsLeast (Namesakes (family_in nodes.now.rows node.now)) family.duplicate) }
     {
         let around = Some(node.module_file());
         if is_choice(node.kind()) {
@@ -50,7 +54,8 @@ impl Family {
         Family::of(alloc, nodes, names, around, node.children())
     }
 
-    /// The family of the nodes of these numbers and names, with choices and cases opened, where this module is around.
+    /// The family of the nodes of these numbers and names, with choices and cases opened, where
+    /// this module is around.
     pub(crate) fn of(
         alloc: Global,
         nodes: &Nodes,
@@ -60,14 +65,20 @@ impl Family {
     ) -> Result<Family, AllocError>
         requires names { AreOfNodes nodes.now.rows names.now }
         requires trees { HaveTrees nodes.now.rows numbers.now }
-        ensures directory { IfOk result (λ family. IsDirectory nodes.now.rows around (inside_of nodes.now.rows numbers.now) family.directory) }
-        ensures duplicates { IfOk result (λ family. IsLeast (Namesakes (names_that_differ (pick_trees nodes.now.rows numbers.now))) family.duplicate) }
+        ensures directory { IfOk result
+            (λ family. IsDirectory nodes.now.rows around (inside_of nodes.now.rows numbers.now)
+            family.directory) }
+        ensures duplicates { IfOk result
+            (λ family. IsLeast
+            (Namesakes (names_that_differ (pick_trees nodes.now.rows numbers.now)))
+            family.duplicate) }
     {
         let opened = DataChildren::of(alloc, nodes, numbers)?;
         if opened.told == opened.inside {
             return Family::from_nodes(alloc, nodes, names, around, &opened.inside);
         }
-        // The table of those whose names have to differ is let go before the one that stays is made.
+        // The table of those whose names have to differ is let go before the one that stays is
+        // made.
         let duplicate = Family::from_nodes(alloc, nodes, names, around, &opened.told)?.duplicate;
         let inside = Family::from_nodes(alloc, nodes, names, around, &opened.inside)?;
         Ok(Family {
@@ -86,8 +97,11 @@ impl Family {
     ) -> Result<Family, AllocError>
         requires names { AreOfNodes nodes.now.rows names.now }
         requires numbers { All (λ c. c.0 < length nodes.now.rows) numbers.now }
-        ensures directory { IfOk result (λ family. IsDirectory nodes.now.rows around numbers.now family.directory) }
-        ensures duplicates { IfOk result (λ family. IsLeast (Namesakes (labels_at nodes.now.rows numbers.now)) family.duplicate) }
+        ensures directory { IfOk result
+            (λ family. IsDirectory nodes.now.rows around numbers.now family.directory) }
+        ensures duplicates { IfOk result
+            (λ family. IsLeast (Namesakes (labels_at nodes.now.rows numbers.now))
+            family.duplicate) }
     {
         let mut table = IndexMap::with_capacity(alloc, numbers.len())?;
         let mut duplicate = None;

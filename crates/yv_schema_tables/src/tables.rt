@@ -11,8 +11,8 @@ use std::alloc::{AllocError, Global};
 use yv_nodes::Nodes;
 use yv_statement::{Refusal, lesser};
 
-/// A directory for each node, empty for choices and cases, and the least refusal of a node that has the module and the name of an
-/// earlier one below one parent.
+/// A directory for each node, empty for choices and cases, and the least refusal of a node that has
+/// the module and the name of an earlier one below one parent.
 #[derive(Drop)]
 pub(crate) struct NodeTables {
     pub(crate) directories: Vec<Directory>,
@@ -27,9 +27,11 @@ pub(crate) fn node_tables(
 ) -> Result<NodeTables, AllocError>
     requires names { AreOfNodes nodes.now.rows names.now }
     requires trees { All (λ row. HaveTrees nodes.now.rows row.children) nodes.now.rows }
-    ensures directories { IfOk result (λ found. AreDirectories nodes.now.rows found.directories.items) }
+    ensures directories { IfOk result
+        (λ found. AreDirectories nodes.now.rows found.directories.items) }
     ensures duplicates { IfOk result (λ found. IsLeast
-        (Among nodes.now.rows (λ k row. Namesakes (family_in nodes.now.rows row)) (length nodes.now.rows)) found.duplicate) }
+        (Among nodes.now.rows (λ k row. Namesakes (family_in nodes.now.rows row))
+        (length nodes.now.rows)) found.duplicate) }
 {
     let mut directories = Vec::with_capacity(alloc, nodes.len() as usize)?;
     let mut duplicate = None;

@@ -18,14 +18,13 @@ use Rattle.yv_source.specs.Pieces.{Piece, Blank, LineComment, BlockComment, Word
 use Rattle.yv_source.specs.Place.{mark_len, line_of, columns, column_past, column_of}
 use Rattle.yv_source.specs.Outcome.{Outcome, ComesTo, BadToken, BadSyntax, TooDeep, BadEscape, Statement}
 use Rattle.yv_source.specs.Answer.{refusal_in, IsRefusalOf}
-use Rattle.yv_source.specs.Inner.Place.{place_of, place_after, IsPastGap}
+use Rattle.yv_source.specs.Inner.Place.{Place, place_of, place_at, IsPastGap}
 use Rattle.yv_source.specs.Inner.Machine.{Step, Next, Wrong, Deep}
 use Rattle.yv_source.specs.Inner.Scan.{before_of, ahead_in}
 use Rattle.yv_source.specs.Inner.Turn.{opener, inner, length_of, past_found, turn}
 use Rattle.yv_source.specs.Inner.Pairs.{bad_on, bad_found}
 use Rattle.yv_source.specs.Inner.Steps.{Gives}
 use Rattle.yv_source.specs.Inner.End.{Comes, ended_in, refusal_of_halt, IsChecked, IsEnd}
-use Rattle.yv_source.specs.declared.place.Place.{Place}
 use Rattle.yv_source.specs.declared.machine.Phase.{Phase}
 use Rattle.yv_source.specs.declared.machine.Phase.TheVariants.{Between}
 use Rattle.yv_source.specs.declared.machine.Halt.{Halt}
@@ -38,7 +37,7 @@ use Rattle.yv_source.specs.declared.scan.FoundPiece.{FoundPiece}
 use Rattle.yv_source.specs.declared.scan.FoundPiece.TheVariants as found
 use Rattle.yv_source.proofs.Keyword.{and_first, and_second}
 use Rattle.yv_source.proofs.Meaning.{MeansAhead, means}
-use Rattle.yv_source.proofs.Reading.{ReadsTo, spelling, spelled_by, HasMark, columns_most, count-cons}
+use Rattle.yv_source.proofs.Reading.{place_after, ReadsTo, spelling, spelled_by, HasMark, columns_most, count-cons}
 use Rattle.yv_source.proofs.Turns.{Looks, looks}
 use Rattle.yv_source.proofs.Outcomes as outcomes
 
@@ -93,16 +92,18 @@ module _ {text bytes : List ℕ} {place : Place} {bad : Option ℕ} {left : Left
       let column_is : place.column ≡ column_of done = r.column_is ∙ sym (r.marked (spelling r.pieces) r.rest spelled) in
       λ i. record { at = r.at_is i; line = r.line_is i; column = column_is i }
 
+  -- the place is that of its offset
+  pub settled : (n : ℕ) → place.at ≡ n → Reads text (place_at text n) bad left stack phase
+  settled n e =
+      let front_at : done ≡ take n text = sym front_is ∙ ap (λ k. take k text) e in
+      let line_at : place.line ≡ line_of (take n text) = ap (λ (p : Place). p.line) place_is ∙ ap line_of front_at in
+      let column_at : place.column ≡ column_of (take n text) = ap (λ (p : Place). p.column) place_is ∙ ap column_of front_at in
+      let is : place ≡ place_at text n = λ i. record { at = e i; line = line_at i; column = column_at i } in
+      let P : Place → Type 0 = λ p. Reads text p bad left stack phase in
+      subst P is so_far
+
   pub within : place.at ≤ length bytes
   within = let w = ap length whole in let e = ap length same in omega (arith, r.at_is, w, e, length-append done r.rest)
-
-  pub line_bound : place.line ≤ place.at + 1
-  line_bound =
-      let line_is : place.line ≡ line_of (take place.at text) = r.line_is ∙ ap line_of (sym front_is) in
-      omega (arith, line_is, count_by-le-length (λ b. b == 10) (take place.at text), length-take place.at text)
-
-  pub column_bound : place.column ≤ 8 * place.at
-  column_bound = omega (arith, r.column_is, columns_most 0 (spelling r.pieces), r.at_is, length-append front (spelling r.pieces))
 
   pub bad_bound : IfSome bad (λ n. n ≤ length bytes)
   bad_bound = let P : List ℕ → Type 0 = λ l. IfSome bad (λ n. n ≤ length l) in subst P (sym same) so_far.bound
@@ -197,6 +198,13 @@ module _ {text bytes : List ℕ} {place : Place} {bad : Option ℕ} {left : Left
             bound = subst B same bound;
           }
 
+-- the token is taken, by offsets
+pub read_to : {text bytes : List ℕ} {at : ℕ} {bad : Option ℕ} {left : Left} {stack : List Tree} {phase : Phase} → bytes ≡ text → Reads text (place_at text at) bad left stack phase → {a : Ahead} → a ≡ ahead_in (before_of left) (drop at bytes) → {f : FoundPiece} → a ≡ ahead.Piece f → (end : ℕ) (bad' : Option ℕ) (left' : Left) (stack' : List Tree) (phase' : Phase) → end ≡ at + length_of f → bad' ≡ bad_found bad at f bytes → IfSome bad' (λ n. n ≤ length bytes) → before_of left' ≡ past_found (before_of left) f → turn text f stack phase (place_at text at) ≡ Next stack' phase' → Reads text (place_at text end) bad' left' stack' phase'
+read_to {text} {bytes} {at} {bad} {left} {stack} {phase} same so_far {a} scanned {f} is end bad' left' stack' phase' end_is be bound le e =
+    let past : Place = place_after (place_at text at) (take (length_of f) (drop at bytes)) in
+    let all = read_on same so_far scanned is past bad' left' stack' phase' refl be bound le e in
+    settled same all end (passed_at same so_far scanned is past refl ∙ sym end_is)
+
 -- the start
 abbrev pub first_place : ℕ → Place
 first_place at = record { at = at; line = 1; column = 0 }
@@ -242,10 +250,11 @@ begins_text (a ∷ []) u = record { pieces = []; rest = a ∷ []; cut = refl; at
 begins_text (a ∷ b ∷ []) u = record { pieces = []; rest = a ∷ b ∷ []; cut = refl; at_is = refl; line_is = refl; column_is = refl; marked = few (a ∷ b ∷ []) (omega arith); bad_is = tt; before = refl; stands = record { runs = refl }; utf8 = u }
 begins_text (a ∷ b ∷ c ∷ rest) u = marked a b c rest (a == 239 && (b == 187 && c == 191)) refl u
 
-pub starts : (text : List ℕ) (start : ℕ) (stack : List Tree) → IsUtf8 text → start ≡ mark_len text → stack ≡ [] → Reads text (first_place start) None left.Apart (reverse stack) Between
+pub starts : (text : List ℕ) (start : ℕ) (stack : List Tree) → IsUtf8 text → start ≡ mark_len text → stack ≡ [] → Reads text (place_at text start) None left.Apart (reverse stack) Between
 starts text start stack u start_is stack_is =
     let P : ℕ × List Tree → Type 0 = λ x. Reads text (first_place x.0) None left.Apart (reverse x.1) Between in
-    subst P (λ i. (sym start_is i, sym stack_is i)) (record { reads = begins_text text u; bound = tt })
+    let first = subst P (λ i. (sym start_is i, sym stack_is i)) (record { reads = begins_text text u; bound = tt }) in
+    settled refl first start refl
 
 -- ---- blanks in a row
 passed_none : (p : Place) → place_after p [] ≡ p
@@ -295,13 +304,19 @@ quoted_not : QuotedText ≡ UnquotedWord → ⊥
 quoted_not h = cc
 
 -- behind the blanks, where there may be more than one
-pub gap_read : (left : Left) {text bytes : List ℕ} {place : Place} {bad : Option ℕ} {stack : List Tree} {phase : Phase} → bytes ≡ text → Reads text place bad left stack phase → (q : Place) → IsPastGap (before_of left) place (drop place.at bytes) q → Reads text q bad left stack phase × (place.at ≤ q.at)
-gap_read left.Unquoted {text} {bytes} {place} {bad} {stack} {phase} same so_far q e =
-    let P : Place → Type 0 = λ p. Reads text p bad left.Unquoted stack phase × (place.at ≤ p.at) in
-    subst P (sym e) (so_far, omega arith)
-gap_read left.Apart {text} {bytes} {place} {bad} {stack} {phase} same so_far q (n, le, h, e) =
-    let P : Place → Type 0 = λ p. Reads text p bad left.Apart stack phase × (place.at ≤ p.at) in
-    subst P (sym e) (blanks_read n same so_far apart_not le h, omega arith)
-gap_read left.Quoted {text} {bytes} {place} {bad} {stack} {phase} same so_far q (n, le, h, e) =
-    let P : Place → Type 0 = λ p. Reads text p bad left.Quoted stack phase × (place.at ≤ p.at) in
-    subst P (sym e) (blanks_read n same so_far quoted_not le h, omega arith)
+gap_to : (left : Left) {text bytes : List ℕ} {at : ℕ} {bad : Option ℕ} {stack : List Tree} {phase : Phase} → bytes ≡ text → Reads text (place_at text at) bad left stack phase → (before_of left ≡ UnquotedWord → ⊥) → (n : ℕ) → n ≤ length (drop at bytes) → list_all is_blank (take n (drop at bytes)) ≡ true → Reads text (place_at text (at + n)) bad left stack phase
+gap_to left {text} {bytes} {at} {bad} {stack} {phase} same so_far apart n le h =
+    let e : at + length (take n (drop at bytes)) ≡ at + n = omega (arith, le, length-take n (drop at bytes)) in
+    settled same (blanks_read n same so_far apart le h) (at + n) e
+
+gap_by : (left : Left) {text bytes : List ℕ} {at : ℕ} {bad : Option ℕ} {stack : List Tree} {phase : Phase} → bytes ≡ text → Reads text (place_at text at) bad left stack phase → (before_of left ≡ UnquotedWord → ⊥) → (end n : ℕ) → n ≤ length (drop at bytes) → list_all is_blank (take n (drop at bytes)) ≡ true → end ≡ at + n → Reads text (place_at text end) bad left stack phase × (at ≤ end)
+gap_by left {text} {bytes} {at} {bad} {stack} {phase} same so_far apart end n le h e =
+    let P : ℕ → Type 0 = λ k. Reads text (place_at text k) bad left stack phase in
+    (subst P (sym e) (gap_to left same so_far apart n le h), omega (arith, e))
+
+pub gap_read : (left : Left) {text bytes : List ℕ} {at : ℕ} {bad : Option ℕ} {stack : List Tree} {phase : Phase} → bytes ≡ text → Reads text (place_at text at) bad left stack phase → (end : ℕ) → IsPastGap (before_of left) at (drop at bytes) end → Reads text (place_at text end) bad left stack phase × (at ≤ end)
+gap_read left.Unquoted {text} {bytes} {at} {bad} {stack} {phase} same so_far end e =
+    let P : ℕ → Type 0 = λ k. Reads text (place_at text k) bad left.Unquoted stack phase in
+    (subst P (sym e) so_far, omega (arith, e))
+gap_read left.Apart same so_far end (n, le, h, e) = gap_by left.Apart same so_far apart_not end n le h e
+gap_read left.Quoted same so_far end (n, le, h, e) = gap_by left.Quoted same so_far quoted_not end n le h e

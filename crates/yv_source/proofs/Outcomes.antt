@@ -5,8 +5,7 @@ use Rattle.yv_source.specs.Pieces.{slice, Before, Apart, MayStand, behind, IsUnc
 use Rattle.yv_source.specs.Grammar.{depth, SpellsOne, Goes, GoesWithin}
 use Rattle.yv_source.specs.Escapes.{IsNewer}
 use Rattle.yv_source.specs.Outcome.{Outcome, Statement, BadToken, BadSyntax, TooDeep, BadEscape, ComesTo, Why, StandsAt}
-use Rattle.yv_source.specs.Inner.Place.{place_after}
-use Rattle.yv_source.specs.declared.place.Place.{Place}
+use Rattle.yv_source.specs.Inner.Place.{Place}
 use Rattle.yv_source.specs.Inner.Machine.{Step, Next, Wrong, Deep, step, run_tokens}
 use Rattle.yv_source.specs.Inner.Scan.{before_of}
 use Rattle.yv_source.specs.Inner.Turn.{past_found, turn}
@@ -17,7 +16,7 @@ use Rattle.yv_source.specs.declared.machine.Phase.{Phase}
 use Rattle.yv_source.specs.declared.machine.Phase.TheVariants.{Between, Named, Argued, Said, Joined, Done}
 use Rattle.yv_source.specs.declared.scan.Before.{Before as Left}
 use Rattle.yv_source.specs.declared.scan.FoundPiece.{FoundPiece}
-use Rattle.yv_source.proofs.Reading.{ReadsTo, spelling, spelled_by, tokens-append, tokens_one, advances}
+use Rattle.yv_source.proofs.Reading.{place_after, ReadsTo, spelling, spelled_by, tokens-append, tokens_one, advances}
 use Rattle.yv_source.proofs.Turns.{Looks}
 use Rattle.yv_source.proofs.Verdict.{Stands, goes_so_far, goes_no_further, goes_too_deep, deep_goes, spelled_end, done_end, behind_all}
 

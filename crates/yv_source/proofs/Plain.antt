@@ -5,8 +5,8 @@ use Rattle.std.specs.Str.{chars}
 use Rattle.std.specs.List.{list_all}
 use Rattle.std.proofs.lemmas.Str.{encodes-chars}
 use Rattle.yv_source.specs.Pieces.{begins}
-use Rattle.yv_source.specs.Quotes.{is_gap, onto_first, lines_of, without_indent, breaks, without_trailing, unescape, strip, quoted_value}
-use Rattle.yv_source.specs.Inner.Plain.{is_plain}
+use Rattle.yv_source.specs.Quotes.{but_the_first, is_gap, onto_first, lines_of, without_indent, breaks, without_trailing, unescape, strip, quoted_value}
+use Rattle.yv_source.specs.Inner.Plain.{is_plain, is_no_feed}
 use Rattle.yv_source.proofs.Accepts.{append_nil}
 
 -- what a character that is plain is not, and that those behind it are plain
@@ -66,6 +66,23 @@ none_escaped [] h = refl
 none_escaped (c ∷ rest) h =
     let f = first_is c rest h in
     rw f.no_slash (ap (λ l. c ∷ l) (none_escaped rest f.others))
+
+not_yet : (a r : Bool) → (not a && r) ≡ true → (a ≡ false) × (r ≡ true)
+not_yet false true h = (refl, refl)
+not_yet false false h = cc
+not_yet true r h = cc
+
+only_line : (cs : List ℕ) → list_all is_no_feed cs ≡ true → lines_of cs ≡ cs ∷ []
+only_line [] h = refl
+only_line (c ∷ rest) h =
+    let f = not_yet (c == 10) (list_all is_no_feed rest) h in
+    rw f.0 (ap (onto_first c) (only_line rest f.1))
+
+-- of a text without line feeds as much is stripped wherever it is
+pub one_line_strips : (m n : ℕ) (text : List ℕ) → list_all is_no_feed (chars text) ≡ true → strip m text ≡ strip n text
+one_line_strips m n text h =
+    let e = only_line (chars text) h in
+    ap (λ l. without_trailing (but_the_first (m + 1) l)) e ∙ sym (ap (λ l. without_trailing (but_the_first (n + 1) l)) e)
 
 -- stripping and escapes leave such a text as it is
 pub plain_says : (column : ℕ) (text : List ℕ) → IsUtf8 text → list_all is_plain (chars text) ≡ true → text ≡ quoted_value column text

@@ -10,8 +10,7 @@ use Rattle.yv_source.specs.Pieces.{Piece, slice, Token, Before, Apart, past, May
 use Rattle.yv_source.specs.Inner.Pairs.{bad_on}
 use Rattle.yv_source.proofs.Pairs.{IsFirstBad, bad_goes_on}
 use Rattle.yv_source.specs.Place.{columns, column_of, column_past}
-use Rattle.yv_source.specs.Inner.Place.{place_after}
-use Rattle.yv_source.specs.declared.place.Place.{Place}
+use Rattle.yv_source.specs.Inner.Place.{Place}
 use Rattle.yv_source.specs.Inner.Machine.{Next, run_tokens}
 use Rattle.yv_source.specs.Place.{line_of}
 use Rattle.yv_source.specs.Inner.Scan.{before_of}
@@ -50,6 +49,10 @@ cuts_on b text (q ∷ ps) rest p more (left, is, may, others) e m = (left, is, m
 pub spelled_by : (b : Before) (text : List ℕ) (ps : List Piece) (rest : List ℕ) → Cuts b text ps rest → text ≡ spelling ps ++ rest
 spelled_by b text [] rest c = c
 spelled_by b text (p ∷ ps) rest (more, is, may, others) = is ∙ ap (λ l. slice p ++ l) (spelled_by (past b p) more ps rest others) ∙ sym (append_assoc (slice p) (spelling ps) rest)
+
+-- the place behind these bytes, which stand at another
+abbrev pub place_after : Place → List ℕ → Place
+place_after p bytes = record { at = p.at + length bytes; line = p.line + count_by (λ b. b == 10) bytes; column = columns p.column bytes }
 
 -- a byte order mark in front isn't counted, and there is none but there
 abbrev pub HasMark : List ℕ → List ℕ → Type 0

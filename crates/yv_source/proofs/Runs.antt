@@ -6,15 +6,17 @@ use Rattle.std.specs.Str.{chars}
 use Rattle.std.specs.Char.{encode_utf8, len_utf8}
 use Rattle.std.proofs.lemmas.Bool.{cases_Bool, eqb-true}
 use Rattle.std.proofs.lemmas.Bool.Decides.{nat_tests}
-use Rattle.std.proofs.lemmas.List.{take-append-drop, take-take, take_all, take_more, drop_at, length-take-le}
+use Rattle.std.proofs.lemmas.List.{take-append-drop, take-take, take_all, take_more, drop_at, drop-drop, length-take-le}
+use Rattle.std.proofs.Math.Seq.{take-add}
 use Rattle.std.proofs.lemmas.List.Folds.{list_all-append, list_all_more}
 use Rattle.std.specs.Option.{unwrap_or, is_some}
-use Rattle.memchr.specs.Find.{IsFirstByte, is_byte2, is_byte3}
-use Rattle.yv_source.specs.Inner.Plain.{is_plain}
+use Rattle.memchr.specs.Find.{IsFirstByte, is_byte2, is_byte3, is_byte}
+use Rattle.yv_source.specs.Inner.Plain.{is_plain, is_no_feed}
 use Rattle.std.proofs.lemmas.Str.{encodes-chars, encode_ascii, length-encode, len_utf8_bounds, chars-nil, chars-append, chars_past_char, IsUtf8-take, IsUtf8-drop, IsUtf8-past_char, IsCharBoundary-at_seam}
 use Rattle.yv_source.specs.Pieces.{begins}
 use Rattle.yv_source.specs.Quotes.{is_gap, breaks, without_trailing, unescape, quoted_value, lines_of}
-use Rattle.yv_source.specs.Inner.Writer.{WriterState, take_in, trail, all_of, fresh, is_in_run, ends_well, is_at_rest, with_run, Runs}
+use Rattle.yv_source.specs.Escapes.{is_escape}
+use Rattle.yv_source.specs.Inner.Writer.{TakesEach, BeginsEscape, escape_bytes, is_ascii, take_each, WriterState, take_in, trail, all_of, fresh, is_in_run, ends_well, is_at_rest, with_run, Runs}
 use Rattle.yv_source.proofs.Accepts.{append_nil}
 use Rattle.yv_source.proofs.Keyword.{false_true, and_first, and_second}
 use Rattle.yv_source.proofs.Writing.{AllGap, is_gap_means, gap_ascii, read, crs, value, other_breaks, other_stays, lead, takes, ends, lead_lines, first_stays}
@@ -122,6 +124,9 @@ read_run (c ∷ cs) t h =
     ∙ sym (append_assoc (encode_utf8 c) (encode_utf8_all cs) (read false t))
 
 -- a writer at rest
+abbrev rested : List ℕ → WriterState
+rested out = record { out = out; gap = []; cr = false; escaped = false; left = 0 }
+
 no_gap : (gap : List ℕ) → (length gap == 0) ≡ true → gap ≡ []
 no_gap [] h = refl
 no_gap (b ∷ gap) h = absurd (let n = eqb-true (length (b ∷ gap)) 0 h in omega (arith, n))
@@ -135,6 +140,71 @@ rest_is left gap cr escaped h =
       not_gap cr (and_second ((left == 0) && (length gap == 0)) (not cr) three),
       not_gap escaped (and_second (((left == 0) && (length gap == 0)) && not cr) (not escaped) h),
     )
+
+-- an escape at rest: the backslash waits, and then what both say is written
+three_nils : (out : List ℕ) → ((out ++ []) ++ []) ++ [] ≡ out
+three_nils out = append_nil ((out ++ []) ++ []) ∙ append_nil (out ++ []) ∙ append_nil out
+
+one_of_four : {P : Type 0} (a b d f : Bool) → (a || b || d || f) ≡ true → (a ≡ true → P) → (b ≡ true → P) → (d ≡ true → P) → (f ≡ true → P) → P
+one_of_four true b d f h k l m n = k refl
+one_of_four false true d f h k l m n = l refl
+one_of_four false false true f h k l m n = m refl
+one_of_four false false false true h k l m n = n refl
+one_of_four false false false false h k l m n = absurd (false_true h)
+
+abbrev PairSays : ℕ → List ℕ → ℕ → Type 0
+PairSays indent out e = take_in indent e (take_in indent 92 (rested out)) ≡ rested (out ++ escape_bytes e)
+
+pair_plain : (indent e : ℕ) (out : List ℕ) → is_escape e ≡ true → PairSays indent out e
+pair_plain indent e out h =
+    let P : ℕ → Type 0 = λ k. PairSays indent out k in
+    let nils = three_nils out in
+    one_of_four (e == 110) (e == 116) (e == 34) (e == 92) h
+    (λ t. subst P (sym (eqb-true e 110 t)) (ap (λ l. rested (l ++ escape_bytes 110)) nils))
+    (λ t. subst P (sym (eqb-true e 116 t)) (ap (λ l. rested (l ++ escape_bytes 116)) nils))
+    (λ t. subst P (sym (eqb-true e 34 t)) (ap (λ l. rested (l ++ escape_bytes 34)) nils))
+    (λ t. subst P (sym (eqb-true e 92 t)) (ap (λ l. rested (l ++ escape_bytes 92)) nils))
+
+pair_at_rest : (indent e : ℕ) (w : WriterState) → is_at_rest w ≡ true → is_escape e ≡ true → take_in indent e (take_in indent 92 w) ≡ with_run (escape_bytes e) w
+pair_at_rest indent e w rest h =
+    let r = rest_is w.left w.gap w.cr w.escaped rest in
+    let is : w ≡ rested w.out = λ i. record { out = w.out; gap = r.1 i; cr = r.2 i; escaped = r.3 i; left = r.0 i } in
+    ap (λ x. take_in indent e (take_in indent 92 x)) is ∙ pair_plain indent e w.out h ∙ ap (with_run (escape_bytes e)) (sym is)
+
+each-append : (indent : ℕ) (xs ys : List ℕ) (w : WriterState) → take_each indent (xs ++ ys) w ≡ take_each indent ys (take_each indent xs w)
+each-append indent [] ys w = refl
+each-append indent (x ∷ xs) ys w = each-append indent xs ys (take_in indent x w)
+
+escape_low : (c : ℕ) → is_escape c ≡ true → nat_lt c 128 ≡ true
+escape_low c h = grind (arith, nat_tests)
+
+two_first : (xs : List ℕ) → 2 ≤ length xs → take 2 xs ≡ get_or xs 0 0 ∷ get_or xs 1 0 ∷ []
+two_first [] h = absurd (omega (arith, h))
+two_first (x ∷ []) h = absurd (omega (arith, h))
+two_first (x ∷ y ∷ xs) h = refl
+
+pub takes_none : (w : WriterState) (xs : List ℕ) → TakesEach w (take 0 xs) w
+takes_none w xs = record { ascii = refl; each = λ indent. refl }
+
+pub takes_escape : (v w x : WriterState) (xs : List ℕ) (n c : ℕ) → TakesEach v (take n xs) w → is_at_rest w ≡ true → BeginsEscape (drop n xs) c → x ≡ with_run (encode_utf8 c) w → TakesEach v (take (n + 2) xs) x
+takes_escape v w x xs n c t rest b e =
+    let front : List ℕ = take n xs in
+    let letter : ℕ = get_or (drop n xs) 1 0 in
+    let pair : List ℕ = 92 ∷ letter ∷ [] in
+    let two : take 2 (drop n xs) ≡ pair = two_first (drop n xs) b.room ∙ ap (λ k. k ∷ letter ∷ []) b.slash in
+    let all : take (n + 2) xs ≡ front ++ pair = take-add n 2 xs ∙ ap (λ l. front ++ l) two in
+    let low : list_all is_ascii (front ++ pair) ≡ true =
+    list_all-append is_ascii front pair ∙ ap (λ q. q && list_all is_ascii pair) t.ascii ∙ ap (λ q. q && true) (escape_low letter b.letter)
+    in
+    let is : (indent : ℕ) → x ≡ take_each indent (front ++ pair) v =
+    λ indent. e ∙ ap (λ l. with_run l w) b.says ∙ sym (pair_at_rest indent letter w rest b.letter) ∙ ap (take_each indent pair) (t.each indent) ∙ sym (each-append indent front pair v)
+    in
+    let P : List ℕ → Type 0 = λ l. TakesEach v l x in
+    subst P (sym all) (record { ascii = low; each = is })
+
+-- what is written at rest leaves it at rest
+pub rests_on : (w x : WriterState) (run : List ℕ) → is_at_rest w ≡ true → x ≡ with_run run w → is_at_rest x ≡ true
+rests_on w x run h e = ap is_at_rest e ∙ h
 
 runs_value : (n : ℕ) (w : WriterState) (cs t : List ℕ) → is_at_rest w ≡ true → list_all is_in_run cs ≡ true → ends_well cs ≡ true → value (with_run (encode_utf8_all cs) w) (lead n w.left t) ≡ value w (lead n w.left (cs ++ t))
 runs_value n w cs t rest h e =
@@ -206,6 +276,21 @@ plain_text text None v u h n t =
     let bytes = all_before is_plain text (length text) (omega arith) (λ j l. plain_byte (get_or text j 0 == 10) (get_or text j 0 == 92) (h j (omega arith) l)) in
     chars_pass is_plain plain_high (chars text)
     (ap (list_all is_plain) (encodes-chars text u ∙ sym (take_all (length text) text (omega arith))) ∙ bytes)
+
+-- a text without line feeds
+no_feed_high : (c : ℕ) → 128 ≤ c → is_no_feed c ≡ true
+no_feed_high c h = grind (arith, nat_tests)
+
+no_feed_byte : (a : Bool) → (a ≡ true → ⊥) → not a ≡ true
+no_feed_byte true h = absurd (h refl)
+no_feed_byte false h = refl
+
+pub no_feed_text : (text : List ℕ) (r : Option ℕ) (v : Bool) → IsUtf8 text → IsFirstByte (is_byte 10) text r → is_some r ≡ not v → v ≡ true → list_all is_no_feed (chars text) ≡ true
+no_feed_text text (Some k) v u h n t = absurd (false_true (sym (ap not t) ∙ sym n))
+no_feed_text text None v u h n t =
+    let bytes = all_before is_no_feed text (length text) (omega arith) (λ j l. no_feed_byte (get_or text j 0 == 10) (h j (omega arith) l)) in
+    chars_pass is_no_feed no_feed_high (chars text)
+    (ap (list_all is_no_feed) (encodes-chars text u ∙ sym (take_all (length text) text (omega arith))) ∙ bytes)
 
 -- how far a text was written
 pub record WritesTo (indent : ℕ) (text : List ℕ) (at : ℕ) (w : WriterState) : Type 0 where
@@ -291,6 +376,34 @@ module _ {indent : ℕ} {text : List ℕ} {at : ℕ} {w : WriterState} (so_far :
   writes_room c more e =
       let is : so_far.rest ≡ encode_utf8 c ++ more = sym writes_rest ∙ e in
       omega (arith, so_far.at_is, ap length so_far.is, length-append so_far.front so_far.rest, ap length is, length-append (encode_utf8 c) more, length-encode c)
+
+-- characters of ASCII
+each_low : (indent : ℕ) (cs more : List ℕ) {text : List ℕ} {at : ℕ} {w : WriterState} → WritesTo indent text at w → drop at text ≡ cs ++ more → list_all is_ascii cs ≡ true → WritesTo indent text (at + length cs) (take_each indent cs w)
+each_low indent [] more {text} {at} {w} so_far e low =
+    let P : ℕ → Type 0 = λ k. WritesTo indent text k w in
+    let z : at ≡ at + 0 = omega arith in
+    subst P z so_far
+each_low indent (c ∷ cs) more {text} {at} {w} so_far e low =
+    let here : nat_lt c 128 ≡ true = and_first (nat_lt c 128) (list_all is_ascii cs) low in
+    let below : c < 128 = grind (arith, nat_tests) in
+    let one_byte : encode_utf8 c ≡ c ∷ [] = encode_ascii c below in
+    let cut : drop at text ≡ encode_utf8 c ++ (cs ++ more) = e ∙ ap (λ l. l ++ (cs ++ more)) (sym one_byte) in
+    let len : len_utf8 c ≡ 1 = sym (length-encode c) ∙ ap length one_byte in
+    let P : ℕ → Type 0 = λ k. WritesTo indent text (at + k) (take_in indent c w) in
+    let one = subst P len (writes_char so_far c (cs ++ more) cut) in
+    let rest : drop (at + 1) text ≡ cs ++ more = sym (drop-drop 1 at text) ∙ ap (drop 1) e in
+    let all = each_low indent cs more one rest (and_second (nat_lt c 128) (list_all is_ascii cs) low) in
+    let Q : ℕ → Type 0 = λ k. WritesTo indent text k (take_each indent (c ∷ cs) w) in
+    let sum : at + 1 + length cs ≡ at + length (c ∷ cs) = omega arith in
+    subst Q sum all
+
+pub writes_each : {indent : ℕ} {text : List ℕ} {at : ℕ} {w : WriterState} → WritesTo indent text at w → (ys : List ℕ) (n : ℕ) (x : WriterState) → ys ≡ drop at text → n ≤ length ys → TakesEach w (take n ys) x → WritesTo indent text (at + n) x
+writes_each {indent} {text} {at} {w} so_far ys n x same le t =
+    let cut : drop at text ≡ take n ys ++ drop n ys = sym same ∙ sym (take-append-drop n ys) in
+    let all = each_low indent (take n ys) (drop n ys) so_far cut t.ascii in
+    let P : ℕ × WriterState → Type 0 = λ y. WritesTo indent text (at + y.0) y.1 in
+    let len = length-take-le n ys le in
+    subst P (λ i. (len i, sym (t.each indent) i)) all
 
 -- at the end
 pub writes_all : (column : ℕ) {text : List ℕ} {at : ℕ} {w : WriterState} → WritesTo (column + 1) text at w → drop at text ≡ [] → all_of (trail w) ≡ quoted_value column text

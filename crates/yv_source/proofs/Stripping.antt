@@ -119,7 +119,8 @@ stripping_keeps n t =
     ∙ ap (all_pairs_good false) (sym (lead_lines n t 0 ∙ first_stays n (lines_of t)))
     ∙ lead_pairs n t false 0 (λ i. refl)
 
--- The bytes of a text have the same pairs as its characters: those of a character that isn't ASCII are no backslash.
+-- The bytes of a text have the same pairs as its characters: those of a character that isn't ASCII
+-- are no backslash.
 abbrev AllLarge : List ℕ → Type 0
 AllLarge [] = Unit {0}
 AllLarge (b ∷ g) = (128 ≤ b) × AllLarge g

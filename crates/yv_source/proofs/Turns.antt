@@ -6,8 +6,7 @@ use Rattle.std.proofs.lemmas.Str.{IsCharBoundary-at_seam}
 use Rattle.yv_statement.specs.Tree.{Tree}
 use Rattle.yv_source.specs.Pieces.{Piece, Blank, LineComment, BlockComment, Word, Single, Double, Semicolon, Open, Close, Plus, slice, until, begins, ends_word, Before, past, MayStand, token}
 use Rattle.yv_source.specs.Inner.Machine.{Next, step_at, run_tokens}
-use Rattle.yv_source.specs.Inner.Place.{place_of}
-use Rattle.yv_source.specs.declared.place.Place.{Place}
+use Rattle.yv_source.specs.Inner.Place.{Place, place_of}
 use Rattle.yv_source.specs.Inner.Turn.{opener, inner, length_of, past_found, token_at, maybe_step, turn}
 use Rattle.yv_source.specs.Inner.Pairs.{bad_found, bad_on}
 use Rattle.yv_source.specs.declared.machine.Phase.{Phase}

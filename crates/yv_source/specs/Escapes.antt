@@ -1,5 +1,5 @@
--- The backslash pairs of double-quoted texts that YANG 1.1 refuses (RFC 7950, section 6.1.3). They are judged where they
--- stand, since what is stripped of a text makes no pair good or bad.
+-- The backslash pairs of double-quoted texts that YANG 1.1 refuses (RFC 7950, section 6.1.3). They
+-- are judged where they stand, since what is stripped of a text makes no pair good or bad.
 use Rattle.std.specs.Prelude.{◌≡◌, ℕ, ◌+◌, Bool, true, false, ◌==◌, ◌&&◌, ◌||◌, IsTrue, IsFalse, List, [], ◌∷◌, ◌++◌, length, Some, ◌⊎◌, codes}
 use Rattle.yv_statement.specs.Tree.{Forest, End, Then}
 use Rattle.yv_source.specs.Characters.{double_quote, backslash, letter_n, letter_t}
@@ -36,8 +36,8 @@ abbrev pub HasNoBadPair : List Token → Type 0
 HasNoBadPair [] = Unit {0}
 HasNoBadPair (t ∷ ts) = IsTrue (all_pairs_good false (inside_double t.piece)) × HasNoBadPair ts
 
--- the first bad backslash pair of these tokens stands at this offset, which is behind the text in front of its token, the
--- quote and the pair's place
+-- the first bad backslash pair of these tokens stands at this offset, which is behind the text in
+-- front of its token, the quote and the pair's place
 pub record HasBadPair (ts : List Token) (offset : ℕ) : Type 0 where
   pub before : List Token
   pub token : Token

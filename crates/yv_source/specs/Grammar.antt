@@ -10,7 +10,8 @@ use Rattle.yv_source.specs.Pieces.{Piece, Word, Single, Double, Semicolon, Open,
 abbrev pub IsHead : Token → Head → Type 0
 IsHead t h = (t.piece ≡ Word h.keyword) × IsKeyword h.keyword × (h.line ≡ line_of t.front) × (h.offset ≡ length t.front)
 
--- what a quoted text says that has this text in front; a single-quoted one has no escapes (section 6.1.3)
+-- what a quoted text says that has this text in front; a single-quoted one has no escapes (section
+-- 6.1.3)
 abbrev pub Says : List ℕ → Piece → List ℕ → Type 0
 Says front (Single t) text = text ≡ t
 Says front (Double t) text = text ≡ quoted_value (column_of front) t

@@ -1,4 +1,5 @@
--- The meaning of files and texts, which public clauses cite: read first Legal, Pieces, Quoted, Grammar and Outcome.
+-- The meaning of files and texts, which public clauses cite: read first Legal, Pieces, Quoted,
+-- Grammar and Outcome.
 pub mod Answer
 pub mod Characters
 pub mod Escapes

@@ -2,7 +2,8 @@
 use Rattle.std.specs.Prelude.{ℕ, ◌+◌, ◌≤◌, ◌++◌, List, [], ◌∷◌}
 use Rattle.yv_statement.specs.Tree.{Forest, End, Then, Tree}
 
--- the offsets of statements, each before those of its block, and these before the statements behind it
+-- the offsets of statements, each before those of its block, and these before the statements behind
+-- it
 abbrev pub offsets : Forest → List ℕ
 offsets End = []
 offsets (Then h c o) = h.offset ∷ (offsets c ++ offsets o)

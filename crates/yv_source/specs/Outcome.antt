@@ -18,12 +18,12 @@ pub data Outcome : Type 0 where
 abbrev pub most_deep : ℕ
 most_deep = 64
 
--- Why a text comes to an outcome, once it was cut into these pieces and this rest.
--- Spelled: its tokens are those of the statement, and in a YANG 1.1 file no backslash pair of theirs is bad.
--- BadToken: no piece may stand at the rest.
--- BadSyntax: the text ends where no statement does, or a piece may stand at the rest with which its tokens begin none.
--- TooDeep: a piece may stand there with which its tokens begin only statements that are too deep.
--- BadEscape: its tokens are those of a statement of a YANG 1.1 file, and their first bad pair stands at the offset.
+-- Why a text comes to an outcome, once it was cut into these pieces and this rest. Spelled: its
+-- tokens are those of the statement, and in a YANG 1.1 file no backslash pair of theirs is bad.
+-- BadToken: no piece may stand at the rest. BadSyntax: the text ends where no statement does, or a
+-- piece may stand at the rest with which its tokens begin none. TooDeep: a piece may stand there
+-- with which its tokens begin only statements that are too deep. BadEscape: its tokens are those of
+-- a statement of a YANG 1.1 file, and their first bad pair stands at the offset.
 abbrev pub Why : List ℕ → List Piece → Before → List ℕ → Outcome → Type 0
 Why front ps before rest (Statement t) =
     (rest ≡ []) × SpellsOne t (tokens front ps) × (depth t.children + 1 ≤ most_deep)
@@ -47,8 +47,9 @@ StandsAt at (BadSyntax offset) = offset ≡ at
 StandsAt at (TooDeep offset) = offset ≡ at
 StandsAt at (BadEscape offset) = Unit {0}
 
--- What a text comes to that stands behind a front which is skipped. It was cut as far as its tokens begin those of a
--- statement that isn't too deep; so nothing is refused in front of the outcome's place.
+-- What a text comes to that stands behind a front which is skipped. It was cut as far as its tokens
+-- begin those of a statement that isn't too deep; so nothing is refused in front of the outcome's
+-- place.
 pub record ComesTo (front text : List ℕ) (outcome : Outcome) : Type 0 where
   pub pieces : List Piece
   pub rest : List ℕ

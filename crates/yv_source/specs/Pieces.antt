@@ -1,4 +1,5 @@
--- How a text is cut into blanks, comments, unquoted and quoted texts, and marks (RFC 7950, section 6.1).
+-- How a text is cut into blanks, comments, unquoted and quoted texts, and marks (RFC 7950, section
+-- 6.1).
 use Rattle.std.specs.Prelude.{◌≡◌, ◌≢◌, ℕ, Bool, true, false, ◌==◌, ◌&&◌, ◌||◌, cond, List, [], ◌∷◌, ◌++◌, IsTrue}
 use Rattle.yv_source.specs.Characters.{tab, line_feed, carriage_return, space, double_quote, single_quote, asterisk, plus_sign, slash, semicolon, backslash, opening_brace, closing_brace}
 
@@ -47,8 +48,8 @@ abbrev pub until : (List ℕ → Bool) → List ℕ → List ℕ
 until stop [] = []
 until stop (b ∷ rest) = cond (stop (b ∷ rest)) [] (b ∷ until stop rest)
 
--- an unquoted text ends at the text's end and where a blank, a quote, a mark, a comment or a comment's end begins
--- (section 6.1.3)
+-- an unquoted text ends at the text's end and where a blank, a quote, a mark, a comment or a
+-- comment's end begins (section 6.1.3)
 abbrev pub ends_word : List ℕ → Bool
 ends_word [] = true
 ends_word (b ∷ rest) =
@@ -62,8 +63,8 @@ up_to_quote behind_backslash [] = []
 up_to_quote true (b ∷ rest) = b ∷ up_to_quote false rest
 up_to_quote false (b ∷ rest) = cond (b == double_quote) [] (b ∷ up_to_quote (b == backslash) rest)
 
--- what stands in front of a place: an unquoted text right before it, a quoted text as the last piece but for blanks
--- and comments, or neither
+-- what stands in front of a place: an unquoted text right before it, a quoted text as the last
+-- piece but for blanks and comments, or neither
 pub data Before : Type 0 where
   Apart : Before
   UnquotedWord : Before
@@ -88,9 +89,10 @@ past before Open = Apart
 past before Close = Apart
 past before Plus = Apart
 
--- A piece may stand at a place, before what is left of the text. A line comment goes to the line's end, a block
--- comment to the first */ (section 6.1.2), an unquoted text as far as it can, a quoted one to the first quote. No
--- quoted text stands right behind an unquoted one, and behind a quoted text a + joins (section 6.1.3).
+-- A piece may stand at a place, before what is left of the text. A line comment goes to the line's
+-- end, a block comment to the first */ (section 6.1.2), an unquoted text as far as it can, a quoted
+-- one to the first quote. No quoted text stands right behind an unquoted one, and behind a quoted
+-- text a + joins (section 6.1.3).
 abbrev pub MayStand : Before → Piece → List ℕ → Type 0
 MayStand before (Blank b) rest = IsTrue (is_blank b)
 MayStand before (LineComment t) rest = until (begins line_feed) (t ++ rest) ≡ t

@@ -1,4 +1,5 @@
--- Where a place of a text stands. It is told by the bytes in front of it: its offset is their number.
+-- Where a place of a text stands. It is told by the bytes in front of it: its offset is their
+-- number.
 use Rattle.std.specs.Prelude.{ℕ, ◌+◌, ◌==◌, ◌&&◌, nat_le, nat_lt, cond, count_by, List, [], ◌∷◌, drop}
 use Rattle.yv_source.specs.Characters.{tab, line_feed}
 
@@ -6,8 +7,8 @@ use Rattle.yv_source.specs.Characters.{tab, line_feed}
 abbrev pub line_of : List ℕ → ℕ
 line_of front = 1 + count_by (λ b. b == line_feed) front
 
--- the columns behind one more byte: a line feed begins a line, a tab counts 8 columns (RFC 7950, section 6.1.3), and
--- a byte that goes on with a character (RFC 3629, section 3) none
+-- the columns behind one more byte: a line feed begins a line, a tab counts 8 columns (RFC 7950,
+-- section 6.1.3), and a byte that goes on with a character (RFC 3629, section 3) none
 abbrev pub column_past : ℕ → ℕ → ℕ
 column_past n b = cond (b == line_feed) 0 (cond (b == tab) (n + 8) (cond (nat_le 0x80 b && nat_lt b 0xC0) n (n + 1)))
 

@@ -1,5 +1,5 @@
--- What a double-quoted text says (RFC 7950, section 6.1.3): first the blanks round its line breaks are stripped, then
--- its escapes are read. A text is here the list of its characters.
+-- What a double-quoted text says (RFC 7950, section 6.1.3): first the blanks round its line breaks
+-- are stripped, then its escapes are read. A text is here the list of its characters.
 use Rattle.std.specs.Prelude.{ℕ, ◌+◌, ◌-◌, zero, suc, Bool, true, false, ◌==◌, ◌&&◌, ◌||◌, cond, List, [], ◌∷◌, ◌++◌, encode_utf8_all}
 use Rattle.std.specs.Str.{chars}
 use Rattle.yv_source.specs.Characters.{tab, line_feed, carriage_return, space, double_quote, backslash, letter_n, letter_t}
@@ -13,7 +13,8 @@ abbrev pub spaces : ℕ → List ℕ
 spaces zero = []
 spaces (suc n) = space ∷ spaces n
 
--- a line without the spaces and tabs in its first n columns; a tab counts as 8 spaces, and what n leaves of it stays
+-- a line without the spaces and tabs in its first n columns; a tab counts as 8 spaces, and what n
+-- leaves of it stays
 abbrev pub unindent : ℕ → List ℕ → List ℕ
 unindent n [] = []
 unindent n (c ∷ rest) =
@@ -55,7 +56,8 @@ abbrev pub without_trailing : List ℕ → List ℕ
 without_trailing [] = []
 without_trailing (c ∷ rest) = cond (is_gap c && breaks rest) (without_trailing rest) (c ∷ without_trailing rest)
 
--- what a backslash and a character say: a line feed, a tab, a quote or a backslash, or else both as they stand
+-- what a backslash and a character say: a line feed, a tab, a quote or a backslash, or else both as
+-- they stand
 abbrev pub escape : ℕ → List ℕ
 escape c =
     cond (c == letter_n) (line_feed ∷ [])
@@ -69,7 +71,8 @@ unescape true [] = backslash ∷ []
 unescape false (c ∷ rest) = cond (c == backslash) (unescape true rest) (c ∷ unescape false rest)
 unescape true (c ∷ rest) = escape c ++ unescape false rest
 
--- the characters of a text whose first quote stands behind this many columns, stripped up to and including the quote's
+-- the characters of a text whose first quote stands behind this many columns, stripped up to and
+-- including the quote's
 abbrev pub strip : ℕ → List ℕ → List ℕ
 strip column text = without_trailing (without_indent (column + 1) (chars text))
 

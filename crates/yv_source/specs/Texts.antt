@@ -22,8 +22,8 @@ pub record IsNoText (files : List File) (n : ℕ) (r : Refusal) : Type 0 where
   pub bad : IsBadFile file.bytes own
   pub placed : r ≡ in_file n own
 
--- the texts are those of the first files; the next one is none where there is a refusal, and else there is no next one. A refusal is told
--- of a file whose number 32 bits hold
+-- the texts are those of the first files; the next one is none where there is a refusal, and else
+-- there is no next one. A refusal is told of a file whose number 32 bits hold
 pub record AreTexts (files : List File) (t : Texts) : Type 0 where
   pub each : AllZip IsText (take (length t.sources.items) files) t.sources.items
   pub rest : MatchOption t.bad (length t.sources.items ≡ length files) (IsNoText files (length t.sources.items))

@@ -1,17 +1,22 @@
-// What a double-quoted text says, written in one pass: blanks that may stand before a line break wait until it is known
-// whether they do. Runs in which nothing is stripped or escaped are written at once.
+// What a double-quoted text says, written in one pass: blanks that may stand before a line break
+// wait until it is known whether they do. Runs in which nothing is stripped or escaped are written
+// at once.
 
-ghost use Rattle.std.specs.Prelude.{◌≡◌, ◌≤◌, ◌<◌, ◌^◌, ◌+◌, ◌-◌, OnOk, IfOk, IsTrue, IsCharBoundary, take, length, slice_index, string_bytes, true, false, []};
+ghost use Rattle.std.specs.Prelude.{◌≡◌, ◌≤◌, ◌<◌, ◌^◌, ◌+◌, ◌-◌, OnOk, IfOk, IfSome, IsTrue, IsCharBoundary, take, length, slice_index, string_bytes, true, false, []};
 ghost use Rattle.std.specs.Cow.{cow_str_bytes};
+ghost use Rattle.std.specs.Char.{encode_utf8};
 ghost use Rattle.std.specs.List.{list_all};
 ghost use Rattle.std.specs.Str.{chars};
 ghost use Rattle.yv_source.specs.Escapes.{all_pairs_good};
 ghost use Rattle.yv_source.specs.Quotes.{is_gap, quoted_value, strip};
-ghost use Rattle.yv_source.specs.Inner.Plain.{is_plain};
-ghost use Rattle.yv_source.specs.Inner.Writer.{put_character, flush, keep, keep_plain, keep_spaces, settle, take_in, trail, all_of, fresh, with_left, is_in_run, ends_well, is_at_rest, Runs};
+ghost use Rattle.yv_source.specs.Legal.{most_bytes};
+ghost use Rattle.yv_source.specs.Place.{column_of};
+ghost use Rattle.yv_source.specs.Inner.Plain.{is_plain, is_no_feed};
+ghost use Rattle.yv_source.specs.Inner.Writer.{put_character, flush, keep, keep_plain, keep_spaces, settle, take_in, trail, all_of, fresh, with_left, is_in_run, ends_well, is_at_rest, with_run, Runs, TakesEach, BeginsEscape};
 
+use crate::place::column_after;
 use crate::source::front_of;
-use memchr::{memchr2, memchr3};
+use memchr::{memchr, memchr2, memchr3};
 use std::alloc::{AllocError, Global};
 use std::borrow::CowStr;
 use std::marker::Model;
@@ -39,26 +44,48 @@ impl Model for Writer {
     ghost view = { λ w. record { out = string_bytes w.out; gap = string_bytes w.gap; cr = w.cr; escaped = w.escaped; left = w.left } };
 }
 
-/// What a double-quoted text says whose quote comes after this many columns: the text itself, where stripping and escapes
-/// leave it as it is.
+/// What a double-quoted text says whose quote comes after this text: the text itself, where
+/// stripping and escapes leave it as it is.
 pub(crate) fn read_quoted<'a>(
     alloc: Global,
     text: &'a str,
-    column: usize,
+    front: &[u8],
 ) -> Result<CowStr<'a>, AllocError>
-    requires { column < 2 ^ 40 }
-    ensures { IfOk result (λ said. cow_str_bytes said ≡ quoted_value column text.now) }
+    requires { length front.now ≤ most_bytes }
+    ensures { IfOk result (λ said. cow_str_bytes said
+        ≡ quoted_value (column_of front.now) text.now) }
 {
     if is_plain_text(text) {
         return Ok(CowStr::Borrowed(text));
     }
-    let mut said = write_quoted(alloc, text, column)?;
+    let mut said = write_quoted(alloc, text, column_for(text, front))?;
     if said.as_str() == text {
         Ok(CowStr::Borrowed(text))
     } else {
         said.shrink_to_fit();
         Ok(CowStr::Owned(said))
     }
+}
+
+// How many columns are stripped of the lines of a text that comes after this front, but for the
+// first; if it has one line only, any number will do. So the columns of a line are counted once at
+// most, however many texts it has.
+fn column_for(text: &str, front: &[u8]) -> usize
+    requires { length front.now ≤ most_bytes }
+    ensures strips { strip result text.now ≡ strip (column_of front.now) text.now }
+    ensures bound { result < 2 ^ 40 }
+{
+    if is_one_line(text) {
+        return 0;
+    }
+    column_after(front)
+}
+
+// Whether no character ends a line.
+fn is_one_line(text: &str) -> bool
+    ensures { IsTrue result → IsTrue (list_all is_no_feed (chars text.now)) }
+{
+    memchr(b'\n', text.as_bytes()).is_none()
 }
 
 // Whether no character ends a line or begins an escape.
@@ -79,6 +106,7 @@ fn write_quoted(alloc: Global, text: &str, column: usize) -> Result<String, Allo
     let indent = column + 1;
     let mut at = 0;
     loop {
+        at += writer.take_escapes(&text[at..])?;
         at += writer.take_run(&text[at..])?;
         let Some(c) = front_of(&text[at..]) else {
             writer.trail()?;
@@ -89,8 +117,8 @@ fn write_quoted(alloc: Global, text: &str, column: usize) -> Result<String, Allo
     }
 }
 
-// How many bytes at the front of a text neither end a line nor begin an escape, the last of them being no blank that a
-// line break may follow.
+// How many bytes at the front of a text neither end a line nor begin an escape, the last of them
+// being no blank that a line break may follow.
 fn run_len(bytes: &[u8]) -> usize
     ensures inside { IsTrue (list_all is_in_run (take result bytes.now)) }
     ensures well { IsTrue (ends_well (take result bytes.now)) }
@@ -125,6 +153,19 @@ fn len_before_gap(bytes: &[u8], end: usize) -> usize
     0
 }
 
+// The character that an escape says with which a text begins.
+fn front_escape(bytes: &[u8]) -> Option<char>
+    ensures { IfSome result (BeginsEscape bytes.now) }
+{
+    match bytes {
+        [b'\\', b'n', ..] => Some('\n'),
+        [b'\\', b't', ..] => Some('\t'),
+        [b'\\', b'"', ..] => Some('"'),
+        [b'\\', b'\\', ..] => Some('\\'),
+        _ => None,
+    }
+}
+
 fn is_gap(byte: u8) -> bool
     ensures { result ≡ is_gap byte }
 {
@@ -144,8 +185,8 @@ impl Writer {
         }
     }
 
-    // Takes the front of a text that is kept as it is, and gives the number of its bytes. It's none where an earlier
-    // character waits, or where the start of a line is stripped.
+    // Takes the front of a text that is kept as it is, and gives the number of its bytes. It's none
+    // where an earlier character waits, or where the start of a line is stripped.
     fn take_run(&mut self, text: &str) -> Result<usize, AllocError>
         ensures run { IfOk result (λ len. Runs self.old (take len text.now) self.new) }
         ensures boundary { IfOk result (IsCharBoundary text.now) }
@@ -156,6 +197,31 @@ impl Writer {
         let len = run_len(text.as_bytes());
         self.out.push_str(&text[..len])?;
         Ok(len)
+    }
+
+    // Takes the escapes that a text begins with, and gives the number of their bytes. It takes none
+    // where an earlier character waits, or where the start of a line is stripped.
+    fn take_escapes(&mut self, text: &str) -> Result<usize, AllocError>
+        ensures takes { IfOk result (λ len. TakesEach self.old (take len text.now) self.new) }
+        ensures within { IfOk result (λ len. len ≤ length text.now) }
+    {
+        if !self.is_at_rest() {
+            return Ok(0);
+        }
+        let bytes = text.as_bytes();
+        let mut len = 0;
+        while let Some(c) = front_escape(&bytes[len..]) {
+            self.write(c)?;
+            len += 2;
+        }
+        Ok(len)
+    }
+
+    // Writes a character as it is.
+    fn write(&mut self, c: char) -> Result<(), AllocError>
+        ensures { OnOk result (self.new ≡ with_run (encode_utf8 c) self.old) }
+    {
+        self.out.push(c)
     }
 
     fn is_at_rest(&self) -> bool
@@ -189,7 +255,8 @@ impl Writer {
 
     // Strips a tab, or a part of it.
     fn take_tab(&mut self) -> Result<(), AllocError>
-        ensures { OnOk result (self.new ≡ keep_spaces (8 - self.old.left) (with_left (self.old.left - 8) self.old)) }
+        ensures { OnOk result
+            (self.new ≡ keep_spaces (8 - self.old.left) (with_left (self.old.left - 8) self.old)) }
     {
         if self.left >= 8 {
             self.left -= 8;

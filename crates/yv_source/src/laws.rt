@@ -7,13 +7,16 @@ ghost use Rattle.yv_source.specs.Legal.{IsLegalFile};
 
 /// A bad file is refused in one way, and isn't legal.
 pub fn a_bad_file_is_refused_once()
-    ensures once { (bytes : List ℕ) (r s : Refusal) → IsBadFile bytes r → IsBadFile bytes s → r ≡ s }
+    ensures once { (bytes : List ℕ) (r s : Refusal) → IsBadFile bytes r → IsBadFile bytes s → r
+        ≡ s }
     ensures not_legal { (bytes : List ℕ) (r : Refusal) → IsBadFile bytes r → IsLegalFile bytes → ⊥ }
 {}
 
 /// A text spells one statement at most, or is refused in one way, and not both.
 pub fn a_text_is_spelled_or_refused_once()
     ensures spells { (text : List ℕ) (t u : Tree) → IsSpelled text t → IsSpelled text u → t ≡ u }
-    ensures refuses { (text : List ℕ) (r s : Refusal) → IsRefused text r → IsRefused text s → r ≡ s }
-    ensures not_both { (text : List ℕ) (t : Tree) (r : Refusal) → IsSpelled text t → IsRefused text r → ⊥ }
+    ensures refuses { (text : List ℕ) (r s : Refusal) → IsRefused text r → IsRefused text s → r
+        ≡ s }
+    ensures not_both { (text : List ℕ) (t : Tree) (r : Refusal) → IsSpelled text t
+        → IsRefused text r → ⊥ }
 {}

@@ -1,5 +1,5 @@
-//! A parser of YANG files (RFC 7950, section 6): the bytes of a file make a source, and a source its one statement, or
-//! else what is refused first, with its offset and line.
+//! A parser of YANG files (RFC 7950, section 6): the bytes of a file make a source, and a source
+//! its one statement, or else what is refused first, with its offset and line.
 #![tactic(auto)]
 
 mod double_quotes;

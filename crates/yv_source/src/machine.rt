@@ -1,14 +1,16 @@
 // Statements from tokens, one at a time.
 
-ghost use Rattle.std.specs.Prelude.{◌≡◌, ◌<◌, ◌^◌, IfOk, reverse, MatchResult};
+ghost use Rattle.std.specs.Prelude.{◌≡◌, ◌≤◌, length, IfOk, reverse, MatchResult};
 ghost use Rattle.std.specs.Cow.{cow_str_bytes};
 ghost use Rattle.yv_source.specs.Inner.Machine.{Next, step_at, between_at, start_at, after_keyword, after_argument, after_quoted, after_plus, give_word, give_quoted, close, finish};
 ghost use Rattle.yv_source.specs.Inner.Steps.{Gives, piece_of};
+ghost use Rattle.yv_source.specs.Inner.Place.{AreCounted, place_of};
+ghost use Rattle.yv_source.specs.Legal.{most_bytes};
 ghost use Rattle.yv_source.specs.Outcome.{most_deep};
 
 use crate::double_quotes::read_quoted;
 use crate::identifier::is_keyword;
-use crate::place::Place;
+use crate::place::Lines;
 use std::alloc::{AllocError, AllocFailed, Global};
 use std::borrow::CowStr;
 use yv_statement::Statement;
@@ -77,26 +79,32 @@ impl<T: Drop> From<AllocFailed<T>> for Halt {
     }
 }
 
-/// Takes a token: the open statements, the innermost last, become those after it.
+/// Takes a token after the text before it: the open statements, the innermost last, become those
+/// after it.
 pub(crate) fn step<'a>(
     alloc: Global,
     stack: &mut Vec<Statement<'a>>,
+    lines: &mut Lines,
     phase: Phase,
     token: Token<'a>,
-    place: Place,
+    front: &[u8],
 ) -> Result<Phase, Halt>
-    requires { place.column < 2 ^ 40 }
-    ensures { Gives result (reverse stack.new.items) (step_at most_deep (reverse stack.old.items) phase place (piece_of token.entry)) }
+    requires size { length front.now ≤ most_bytes }
+    requires counted { AreCounted lines.old front.now }
+    ensures gives { Gives result (reverse stack.new.items)
+        (step_at most_deep (reverse stack.old.items) phase (place_of front.now)
+        (piece_of token.entry)) }
+    ensures counts { AreCounted lines.new front.now }
 {
     match (phase, token) {
-        (Phase::Between, Token::Word(keyword)) => start(alloc, stack, keyword, place),
+        (Phase::Between, Token::Word(keyword)) => start(alloc, stack, lines, keyword, front),
         (Phase::Between, Token::Close) => close(stack),
         (Phase::Named, Token::Word(text)) => give_word(stack, text),
         (Phase::Named | Phase::Joined, Token::Single(text)) => {
             give_quoted(alloc, stack, CowStr::Borrowed(text))
         }
         (Phase::Named | Phase::Joined, Token::Double(text)) => {
-            give_quoted(alloc, stack, read_quoted(alloc, text, place.column)?)
+            give_quoted(alloc, stack, read_quoted(alloc, text, front)?)
         }
         (Phase::Named | Phase::Argued | Phase::Said, Token::Semicolon) => close(stack),
         (Phase::Named | Phase::Argued | Phase::Said, Token::Open) => Ok(Phase::Between),
@@ -105,14 +113,19 @@ pub(crate) fn step<'a>(
     }
 }
 
-// Opens a statement.
+// Opens a statement after the text before it.
 fn start<'a>(
     alloc: Global,
     stack: &mut Vec<Statement<'a>>,
+    lines: &mut Lines,
     keyword: &'a str,
-    place: Place,
+    front: &[u8],
 ) -> Result<Phase, Halt>
-    ensures { Gives result (reverse stack.new.items) (start_at most_deep (reverse stack.old.items) place keyword.now) }
+    requires size { length front.now ≤ most_bytes }
+    requires counted { AreCounted lines.old front.now }
+    ensures gives { Gives result (reverse stack.new.items)
+        (start_at most_deep (reverse stack.old.items) (place_of front.now) keyword.now) }
+    ensures counts { AreCounted lines.new front.now }
 {
     if !is_keyword(keyword.as_bytes()) {
         return Err(Halt::Wrong);
@@ -120,13 +133,15 @@ fn start<'a>(
     if stack.len() >= MOST_DEEP {
         return Err(Halt::Deep);
     }
-    stack.push(Statement::new(alloc, keyword, place.line as u64, place.at as u64))?;
+    let line = lines.line_after(front);
+    stack.push(Statement::new(alloc, keyword, line as u64, front.len() as u64))?;
     Ok(Phase::Named)
 }
 
 // Gives the innermost statement its argument.
 fn give_word<'a>(stack: &mut Vec<Statement<'a>>, text: &'a str) -> Result<Phase, Halt>
-    ensures { Gives result (reverse stack.new.items) (give_word text.now (reverse stack.old.items)) }
+    ensures { Gives result (reverse stack.new.items)
+        (give_word text.now (reverse stack.old.items)) }
 {
     let Some(mut statement) = stack.pop() else {
         return Err(Halt::Wrong);
@@ -142,7 +157,8 @@ fn give_quoted<'a>(
     stack: &mut Vec<Statement<'a>>,
     text: CowStr<'a>,
 ) -> Result<Phase, Halt>
-    ensures { Gives result (reverse stack.new.items) (give_quoted (cow_str_bytes text.entry) (reverse stack.old.items)) }
+    ensures { Gives result (reverse stack.new.items)
+        (give_quoted (cow_str_bytes text.entry) (reverse stack.old.items)) }
 {
     let Some(mut statement) = stack.pop() else {
         return Err(Halt::Wrong);
@@ -164,7 +180,9 @@ fn close<'a>(stack: &mut Vec<Statement<'a>>) -> Result<Phase, Halt>
 
 // Hands a statement to the one around it.
 fn finish<'a>(stack: &mut Vec<Statement<'a>>, done: Statement<'a>) -> Result<Phase, AllocError>
-    ensures { IfOk result (λ phase. finish done.entry (reverse stack.old.items) ≡ Next (reverse stack.new.items) phase) }
+    ensures { IfOk result
+        (λ phase. finish done.entry (reverse stack.old.items)
+        ≡ Next (reverse stack.new.items) phase) }
 {
     let Some(mut parent) = stack.pop() else {
         stack.push(done)?;

@@ -1,90 +1,62 @@
-// Places in a text.
+// Lines, columns and blanks of a text.
 
-ghost use Rattle.std.specs.Prelude.{◌≡◌, ◌≤◌, ◌<◌, ◌*◌, ◌^◌, ◌+◌, ◌==◌, count_by, drop, length, take, ◌∷◌, []};
+ghost use Rattle.std.specs.Prelude.{◌≡◌, ◌≤◌, ◌<◌, ◌*◌, ◌^◌, ◌+◌, ◌==◌, count_by, length, take, IsTrue};
+ghost use Rattle.std.specs.List.{list_all};
 ghost use Rattle.yv_source.specs.Characters.{line_feed};
 ghost use Rattle.yv_source.specs.Legal.{most_bytes};
-ghost use Rattle.yv_source.specs.Place.{mark_len, columns, column_past};
+ghost use Rattle.yv_source.specs.Place.{mark_len, columns, column_of, column_past, line_of};
 ghost use Rattle.yv_source.specs.Pieces.{is_blank};
-ghost use Rattle.yv_source.specs.Inner.Place.{place_after, IsPastBlanks};
-ghost use Rattle.yv_source.specs.Inner.Turn.{length_of};
+ghost use Rattle.yv_source.specs.Inner.Place.{AreCounted};
 
-use crate::scan::FoundPiece;
 use memchr::memrchr;
 
-/// A place in a text.
+/// How far the lines of a text were counted. Lines are asked for from the front to the end, and
+/// each is counted from the one before it.
 #[derive(Clone, Copy)]
-pub(crate) struct Place {
-    /// How many bytes are before it.
-    pub(crate) at: usize,
+pub(crate) struct Lines {
+    /// An offset.
+    at: usize,
     /// Its line, from 1.
-    pub(crate) line: usize,
-    /// How many columns are before it on its line.
-    pub(crate) column: usize,
+    line: usize,
 }
 
-impl Place {
-    /// The place after a piece that is at this one.
-    pub(crate) fn past(self, bytes: &[u8], found: FoundPiece) -> Place
-        requires size { length bytes.now ≤ most_bytes }
-        requires within { self.at + length_of found ≤ length bytes.now }
-        requires line { self.line ≤ self.at + 1 }
-        requires column { self.column ≤ 8 * self.at }
-        ensures { result ≡ place_after self (take (length_of found) (drop self.at bytes.now)) }
+impl Lines {
+    pub(crate) fn new() -> Lines
+        ensures { result ≡ record { at = 0; line = 1 } }
     {
-        let piece = piece_at(bytes, self.at, found.length());
-        Place {
-            at: self.at + piece.len(),
-            line: self.line + line_feeds(piece),
-            column: columns(piece, self.column),
-        }
+        Lines { at: 0, line: 1 }
     }
 
-    /// The place after the blanks at a text's front, which is at this place.
-    pub(crate) fn past_blanks(self, rest: &[u8]) -> Place
-        requires size { self.at + length rest.now ≤ most_bytes }
-        requires line { self.line ≤ self.at + 1 }
-        requires column { self.column ≤ 8 * self.at }
-        ensures { IsPastBlanks self rest.now result }
+    /// The line of the place after a text.
+    pub(crate) fn line_after(&mut self, front: &[u8]) -> usize
+        requires size { length front.now ≤ most_bytes }
+        requires counted { AreCounted self.old front.now }
+        ensures line { result ≡ line_of front.now }
+        ensures counts { AreCounted self.new front.now }
     {
-        let mut place = self;
-        for byte in rest {
-            if !is_blank(*byte) {
-                return place;
-            }
-            place = place.past_byte(*byte);
-        }
-        place
+        self.line += line_feeds(&front[self.at..]);
+        self.at = front.len();
+        self.line
     }
+}
 
-    fn past_byte(self, byte: u8) -> Place
-        requires at { self.at < 2 ^ 40 }
-        requires line { self.line < 2 ^ 40 }
-        requires column { self.column < 2 ^ 40 }
-        ensures { result ≡ place_after self (byte ∷ []) }
-    {
-        Place {
-            at: self.at + 1,
-            line: if byte == b'\n' {
-                self.line + 1
-            } else {
-                self.line
-            },
-            column: column_past(self.column, byte),
+/// How many blanks a text begins with.
+pub(crate) fn blank_len(bytes: &[u8]) -> usize
+    ensures within { result ≤ length bytes.now }
+    ensures blank { IsTrue (list_all is_blank (take result bytes.now)) }
+{
+    for i in 0..bytes.len() {
+        if !is_blank(bytes[i]) {
+            return i;
         }
     }
+    bytes.len()
 }
 
 fn is_blank(byte: u8) -> bool
     ensures { result ≡ is_blank byte }
 {
     byte == b' ' || byte == b'\t' || byte == b'\r' || byte == b'\n'
-}
-
-fn piece_at(bytes: &[u8], at: usize, len: usize) -> &[u8]
-    requires { at + len ≤ length bytes.now }
-    ensures { result.now ≡ take len (drop at bytes.now) }
-{
-    &bytes[at..at + len]
 }
 
 /// How many bytes at the front of a text are a byte order mark.
@@ -102,25 +74,40 @@ pub(crate) fn line_feeds(bytes: &[u8]) -> usize
     ensures count { result ≡ count_by (λ b. b == line_feed) bytes.now }
     ensures bound { result ≤ length bytes.now }
 {
-    bytes.iter().filter(|b| **b == b'\n').count()
+    let mut count = 0;
+    for byte in bytes {
+        if *byte == b'\n' {
+            count += 1;
+        }
+    }
+    count
+}
+
+/// How many columns there are before the place after a text.
+pub(crate) fn column_after(front: &[u8]) -> usize
+    requires { length front.now ≤ most_bytes }
+    ensures column { result ≡ column_of front.now }
+    ensures bound { result < 2 ^ 40 }
+{
+    columns(&front[mark_len_of(front)..])
 }
 
 // The columns after these bytes. Only those of the last line are counted.
-fn columns(bytes: &[u8], start: usize) -> usize
-    requires { start + 8 * length bytes.now < 2 ^ 40 }
-    ensures { result ≡ columns start bytes.now }
+fn columns(bytes: &[u8]) -> usize
+    requires { 8 * length bytes.now < 2 ^ 40 }
+    ensures { result ≡ columns 0 bytes.now }
 {
     match memrchr(b'\n', bytes) {
-        Some(at) => columns_on(&bytes[at + 1..], 0),
-        None => columns_on(bytes, start),
+        Some(at) => columns_on(&bytes[at + 1..]),
+        None => columns_on(bytes),
     }
 }
 
-fn columns_on(bytes: &[u8], start: usize) -> usize
-    requires { start + 8 * length bytes.now < 2 ^ 40 }
-    ensures { result ≡ columns start bytes.now }
+fn columns_on(bytes: &[u8]) -> usize
+    requires { 8 * length bytes.now < 2 ^ 40 }
+    ensures { result ≡ columns 0 bytes.now }
 {
-    let mut column = start;
+    let mut column = 0;
     for b in bytes {
         column = column_past(column, *b);
     }

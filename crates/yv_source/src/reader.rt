@@ -14,24 +14,27 @@ ghost use Rattle.yv_source.specs.Inner.End.{Comes, ended_in, refusal_of_halt, Is
 use crate::escapes::{bad_found, is_newer};
 use crate::fault::refuse;
 use crate::machine::{Halt, Phase};
-use crate::place::{Place, mark_len_of};
+use crate::place::{Lines, blank_len, mark_len_of};
 use crate::scan::{Ahead, Before, look_ahead};
 use crate::source::Source;
 use crate::turn::turn;
 use std::alloc::Global;
 use yv_statement::{Code, Statement, Stop};
 
-/// The one statement of a source (RFC 7950, section 6), or what is refused first: BadToken where no token is allowed,
-/// BadSyntax at the first token that cannot continue a statement, or at the text's end where none is whole, TooDeep at a
-/// keyword of depth 65; and where none of these applies, BadEscape at the first backslash pair that YANG 1.1 doesn't know, in a
-/// file of that version. An offset counts bytes, a line is counted from 1.
+/// The one statement of a source (RFC 7950, section 6), or what is refused first: BadToken where no
+/// token is allowed, BadSyntax at the first token that cannot continue a statement, or at the
+/// text's end where none is whole, TooDeep at a keyword of depth 65; and where none of these
+/// applies, BadEscape at the first backslash pair that YANG 1.1 doesn't know, in a file of that
+/// version. An offset counts bytes, a line is counted from 1.
 pub fn parse<'a>(alloc: Global, source: &'a Source) -> Result<Statement<'a>, Stop>
     ensures spells { IfOk result (IsSpelled source.now.text) }
     ensures refuses { (r : Refusal) → result ≡ Err (Stop.Fault r) → IsRefused source.now.text r }
     ensures never_built { result ≡ Err Stop.PatternBuild → ⊥ }
 
-    // The text spells one statement at most, or is refused in one way: that is answered, unless memory runs out.
-    ensures only_spelled { (t : Tree) → IsSpelled source.now.text t → (result ≡ Ok t) ⊎ (result ≡ Err Stop.NoMemory) }
+    // The text spells one statement at most, or is refused in one way: that is answered, unless
+    // memory runs out.
+    ensures only_spelled { (t : Tree) → IsSpelled source.now.text t → (result ≡ Ok t)
+        ⊎ (result ≡ Err Stop.NoMemory) }
     ensures only_refused { (r : Refusal) → IsRefused source.now.text r
         → (result ≡ Err (Stop.Fault r)) ⊎ (result ≡ Err Stop.NoMemory) }
 
@@ -50,42 +53,36 @@ fn read<'a>(alloc: Global, text: &'a str, start: usize) -> Result<Statement<'a>,
 {
     let bytes = text.as_bytes();
     let mut stack = Vec::new(alloc);
+    let mut lines = Lines::new();
     let mut phase = Phase::Between;
     let mut before = Before::Apart;
     let mut bad = None;
-    let mut place = Place {
-        at: start,
-        line: 1,
-        column: 0,
-    };
+    let mut at = start;
     loop {
-        let found = match look_ahead(before, bytes, place.at) {
-            Ahead::End => return at_end(stack, phase, place.at, bad, bytes),
-            Ahead::Nothing => return Err(refuse(Code::BadToken, bytes, place.at)),
+        let found = match look_ahead(before, bytes, at) {
+            Ahead::End => return at_end(stack, phase, at, bad, bytes),
+            Ahead::Nothing => return Err(refuse(Code::BadToken, bytes, at)),
             Ahead::Piece(found) => found,
         };
-        phase = match turn(alloc, &mut stack, phase, text, found, place) {
+        phase = match turn(alloc, &mut stack, &mut lines, phase, text, found, at) {
             Ok(next) => next,
-            Err(halt) => return Err(refusal_of_halt(halt, bytes, place.at)),
+            Err(halt) => return Err(refusal_of_halt(halt, bytes, at)),
         };
-        bad = bad_found(bad, bytes, found, place.at);
+        bad = bad_found(bad, bytes, found, at);
         before = before.past(found);
-        let end = place.past(bytes, found);
-        place = past_gap(before, bytes, end);
+        let end = at + found.length();
+        at = past_gap(before, bytes, end);
     }
 }
 
-// The place after the blanks at one, unless an unquoted text is right before it.
-fn past_gap(before: Before, bytes: &[u8], place: Place) -> Place
-    requires size { length bytes.now ≤ most_bytes }
-    requires within { place.at ≤ length bytes.now }
-    requires line { place.line ≤ place.at + 1 }
-    requires column { place.column ≤ 8 * place.at }
-    ensures { IsPastGap (before_of before) place (drop place.at bytes.now) result }
+// The offset after the blanks at one, unless an unquoted text is right before it.
+fn past_gap(before: Before, bytes: &[u8], at: usize) -> usize
+    requires { at ≤ length bytes.now }
+    ensures { IsPastGap (before_of before) at (drop at bytes.now) result }
 {
     match before {
-        Before::Unquoted => place,
-        Before::Apart | Before::Quoted => place.past_blanks(&bytes[place.at..]),
+        Before::Unquoted => at,
+        Before::Apart | Before::Quoted => at + blank_len(&bytes[at..]),
     }
 }
 

@@ -122,8 +122,19 @@ fn first_piece(before: Before, bytes: &[u8]) -> Ahead
     }
 }
 
-// How many bytes there are before the first that equals this one.
+// How many bytes there are before the first that equals this one. Often it's the very first, as in
+// a row of backslash pairs.
 pub(crate) fn first_byte(byte: u8, bytes: &[u8]) -> usize
+    ensures value { result ≡ length (until (begins byte) bytes.now) }
+    ensures within { result ≤ length bytes.now }
+{
+    match bytes {
+        [first, ..] if *first == byte => 0,
+        _ => byte_offset(byte, bytes),
+    }
+}
+
+fn byte_offset(byte: u8, bytes: &[u8]) -> usize
     ensures value { result ≡ length (until (begins byte) bytes.now) }
     ensures within { result ≤ length bytes.now }
 {
@@ -167,6 +178,10 @@ fn ends_word(bytes: &[u8]) -> bool
     ensures { result ≡ ends_word bytes.now }
 {
     match bytes {
+        [
+            b'a'..=b'z' | b'A'..=b'Z' | b'0'..=b'9' | b'-' | b'.' | b':' | b'_',
+            ..
+        ] => false,
         [] => true,
         [
             b' ' | b'\t' | b'\r' | b'\n' | b'"' | b'\'' | b';' | b'{' | b'}',
@@ -209,13 +224,25 @@ fn first_mark(bytes: &[u8]) -> usize
     ensures value { result ≡ length (until begins_mark bytes.now) }
     ensures within { result ≤ length bytes.now }
 {
+    match bytes {
+        [b'"' | b'\\', ..] => 0,
+        _ => mark_offset(bytes),
+    }
+}
+
+fn mark_offset(bytes: &[u8]) -> usize
+    ensures value { result ≡ length (until begins_mark bytes.now) }
+    ensures within { result ≤ length bytes.now }
+{
     memchr2(b'"', b'\\', bytes).unwrap_or(bytes.len())
 }
 
 // A double-quoted text, from behind its first quote.
 fn double(before: Before, rest: &[u8]) -> Ahead
     ensures { let piece = Piece.Double (up_to_quote false rest.now) in
-        result ≡ ahead_of (unless_unquoted (before_of before) (closed_piece piece (from_quote false rest.now))) }
+        result
+        ≡ ahead_of
+        (unless_unquoted (before_of before) (closed_piece piece (from_quote false rest.now))) }
 {
     if before.is_unquoted() {
         return Ahead::Nothing;
@@ -231,7 +258,10 @@ fn double(before: Before, rest: &[u8]) -> Ahead
 // A single-quoted text, from behind its first quote.
 fn single(before: Before, rest: &[u8]) -> Ahead
     ensures { let piece = Piece.Single (until (begins single_quote) rest.now) in
-        result ≡ ahead_of (unless_unquoted (before_of before) (closed_piece piece (from (begins single_quote) rest.now))) }
+        result
+        ≡ ahead_of
+        (unless_unquoted (before_of before)
+        (closed_piece piece (from (begins single_quote) rest.now))) }
 {
     if before.is_unquoted() {
         return Ahead::Nothing;

@@ -16,7 +16,11 @@ use yv_statement::{Code, Stop, is_legal};
 /// How many bytes a file may have.
 pub const MOST_BYTES: usize = 4_194_304;
 
-/// A file's name and text. The text is UTF-8, has only legal characters and at most `MOST_BYTES` bytes.
+// How many bytes are compared at once.
+const BLOCK: usize = 64;
+
+/// A file's name and text. The text is UTF-8, has only legal characters and at most `MOST_BYTES`
+/// bytes.
 #[derive(Drop)]
 pub struct Source {
     name: String,
@@ -42,18 +46,20 @@ impl Source {
     ghost use Rattle.yv_source.specs.Answer.{IsBadFile};
     ghost use Rattle.yv_source.specs.Legal.{IsLegalFile};
 
-    /// The text of a file, or what is refused: TooLarge at offset 0, else NotUtf8 at the first byte that isn't UTF-8,
-    /// else BadCharacter at the first character that isn't legal (RFC 7950, section 14, yang-char). The name is what
-    /// messages call the file by, and isn't looked at.
+    /// The text of a file, or what is refused: TooLarge at offset 0, else NotUtf8 at the first byte
+    /// that isn't UTF-8, else BadCharacter at the first character that isn't legal (RFC 7950,
+    /// section 14, yang-char). The name is what messages call the file by, and isn't looked at.
     pub fn new(alloc: Global, name: &str, bytes: &[u8]) -> Result<Source, Stop>
-        ensures source { IfOk result (λ source. source ≡ record { name = name.now; text = bytes.now }) }
+        ensures source { IfOk result
+            (λ source. source ≡ record { name = name.now; text = bytes.now }) }
         ensures legal { OnOk result (IsLegalFile bytes.now) }
         ensures refuses { (r : Refusal) → (result ≡ Err (Stop.Fault r)) ↔ IsBadFile bytes.now r }
         ensures never_built { result ≡ Err Stop.PatternBuild → ⊥ }
 
         // A legal file's text is given, unless memory runs out.
         ensures only_legal { IsLegalFile bytes.now
-            → (result ≡ Ok (record { name = name.now; text = bytes.now })) ⊎ (result ≡ Err Stop.NoMemory) }
+            → (result ≡ Ok (record { name = name.now; text = bytes.now }))
+            ⊎ (result ≡ Err Stop.NoMemory) }
     {
         if bytes.len() > MOST_BYTES {
             return Err(refuse(Code::TooLarge, bytes, 0));
@@ -86,7 +92,8 @@ impl Source {
     }
 }
 
-// The offset of the first character that isn't legal. Only characters that aren't common are decoded.
+// The offset of the first character that isn't legal. Only characters that aren't common are
+// decoded.
 fn first_illegal(text: &str) -> Option<usize>
     requires { length text.now ≤ most_bytes }
     ensures finds { IfSome result (IsIllegalAt text.now) }
@@ -107,21 +114,50 @@ fn first_illegal(text: &str) -> Option<usize>
     }
 }
 
-// How many common characters a text begins with.
+// How many common characters a text begins with: first whole blocks of them, then bytes.
 fn common_len(bytes: &[u8]) -> usize
     ensures within { result ≤ length bytes.now }
     ensures common { IsTrue (list_all is_common (take result bytes.now)) }
 {
-    for (i, b) in bytes.iter().enumerate() {
-        if !is_common(*b) {
+    for i in blocks_len(bytes)..bytes.len() {
+        if !is_common(bytes[i]) {
             return i;
         }
     }
     bytes.len()
 }
 
-// Whether a byte is a character that almost all texts consist of: one of ASCII that isn't a control, or a tab or a part
-// of a line break.
+// How many bytes the blocks have that a text begins with and that have only common characters. No
+// block is looked at where the first character isn't common, so that texts with few of them don't
+// take longer.
+fn blocks_len(bytes: &[u8]) -> usize
+    ensures within { result ≤ length bytes.now }
+    ensures common { IsTrue (list_all is_common (take result bytes.now)) }
+{
+    let mut len = 0;
+    while bytes.len() - len >= BLOCK && is_common(bytes[len]) {
+        if !are_common(&bytes[len..len + BLOCK]) {
+            return len;
+        }
+        len += BLOCK;
+    }
+    len
+}
+
+// Whether all bytes are common characters. It looks at every byte in any case, so that many are
+// compared at once.
+fn are_common(bytes: &[u8]) -> bool
+    ensures { result ≡ list_all is_common bytes.now }
+{
+    let mut all = true;
+    for byte in bytes {
+        all &= is_common(*byte);
+    }
+    all
+}
+
+// Whether a byte is a character that almost all texts consist of: one of ASCII that isn't a
+// control, or a tab or a part of a line break.
 fn is_common(byte: u8) -> bool
     ensures { result ≡ is_common byte }
 {

@@ -11,7 +11,8 @@ use crate::source::Source;
 use std::alloc::{AllocError, Global};
 use yv_statement::{Refusal, Statement, Stop};
 
-/// A refusal of one file, reported for the file of this number. Want of memory where 32 bits don't hold the number, and nowhere else.
+/// A refusal of one file, reported for the file of this number. Want of memory where 32 bits don't
+/// hold the number, and nowhere else.
 pub(crate) fn in_file(number: usize, refusal: Refusal) -> Result<Refusal, AllocError>
     ensures value { IfOk result (λ r. r ≡ in_file number refusal) }
     ensures few { IfOk result (λ r. number ≤ 4294967295) }
@@ -47,7 +48,8 @@ pub(crate) fn parse_all<'a>(
 
 // A stop of one file, told of the file of this number.
 fn stop_in_file(number: usize, stop: Stop) -> Stop
-    ensures fault { (r : TheRefusal) → result ≡ Fault r → (q : TheRefusal) × (stop ≡ Fault q) × (r ≡ in_file number q) }
+    ensures fault { (r : TheRefusal) → result ≡ Fault r → (q : TheRefusal) × (stop ≡ Fault q)
+        × (r ≡ in_file number q) }
     ensures builds { result ≡ PatternBuild → stop ≡ PatternBuild }
     ensures many { result ≡ NoMemory → (stop ≡ NoMemory) ⊎ (4294967295 < number) }
 {

@@ -22,8 +22,8 @@ pub struct Texts {
 }
 
 impl Texts {
-    /// The texts of files that were read, up to the first whose bytes are not text. Want of memory where that isn't among the first
-    /// 2 to the 32.
+    /// The texts of files that were read, up to the first whose bytes are not text. Want of memory
+    /// where that isn't among the first 2 to the 32.
     pub fn read(alloc: Global, inputs: &[Input]) -> Result<Texts, AllocError>
         ensures { IfOk result (AreTexts (map file_of inputs.now)) }
     {
@@ -44,8 +44,10 @@ impl Texts {
 
     /// The statement that each file spells, or the refusal of the first file that spells none.
     pub fn statements(&self, alloc: Global) -> Result<Vec<Statement<'_>>, Stop>
-        ensures reads { (files : List File) → AreTexts files self.now → IfOk result (λ statements. AllZip IsRead files statements.items) }
-        ensures refuses { (files : List File) → AreTexts files self.now → (r : TheRefusal) → result ≡ Err (Fault r) → IsUnreadAt files r }
+        ensures reads { (files : List File) → AreTexts files self.now
+            → IfOk result (λ statements. AllZip IsRead files statements.items) }
+        ensures refuses { (files : List File) → AreTexts files self.now → (r : TheRefusal) → result
+            ≡ Err (Fault r) → IsUnreadAt files r }
         ensures never_built { result ≢ Err PatternBuild }
     {
         match parse_all(alloc, &self.sources) {

@@ -3,8 +3,9 @@ use Rattle.std.specs.Prelude.{ℕ, List, codes}
 use Rattle.yv_statement.specs.declared.refusal.Code.{Code}
 use Rattle.yv_statement.specs.declared.refusal.Code.TheVariants as code
 
--- The order among the refusals of one place, which the statement, its arguments, types and nodes may give together: the text first,
--- then a statement that is left out before one that is unknown, and so on, in the order in which docs/REFUSALS.md tells the codes.
+-- The order among the refusals of one place, which the statement, its arguments, types and nodes
+-- may give together: the text first, then a statement that is left out before one that is unknown,
+-- and so on, in the order in which docs/REFUSALS.md tells the codes.
 unfoldable pub number_of : Code → ℕ
 number_of code.NotUtf8 = 0
 number_of code.BadCharacter = 1
@@ -102,8 +103,8 @@ name_of code.BadPath = codes "BadPath"
 name_of code.PathCycle = codes "PathCycle"
 name_of code.BadOperation = codes "BadOperation"
 
--- the phase of compilation in which the code is asked: 1 the text, 2 each statement, 3 modules, 4 features,
--- 5 identities, 6 scopes, 7 the limit, 8 the expansion, 9 types, 10 the tree
+-- the phase of compilation in which the code is asked: 1 the text, 2 each statement, 3 modules, 4
+-- features, 5 identities, 6 scopes, 7 the limit, 8 the expansion, 9 types, 10 the tree
 abbrev pub phase_of : Code → ℕ
 phase_of code.NotUtf8 = 1
 phase_of code.BadCharacter = 1

@@ -85,7 +85,8 @@ abbrev pub keyword_in : List (List ℕ × Keyword) → List ℕ → Keyword
 keyword_in [] text = word.Unknown
 keyword_in (n ∷ ns) text = if bytes_eq n.0 text then n.1 else keyword_in ns text
 
--- a keyword with a colon (58) is an extension's (section 6.3.1); one that isn't among the names is unknown
+-- a keyword with a colon (58) is an extension's (section 6.3.1); one that isn't among the names is
+-- unknown
 unfoldable pub keyword_of : List ℕ → Keyword
 keyword_of text = if list_any (λ b. b == 58) text then word.Extended else keyword_in names text
 

@@ -14,8 +14,8 @@ IsUpToBy (x ∷ xs) (y ∷ ys) = (x < y) ⊎ ((x ≡ y) × IsUpToBy xs ys)
 abbrev pub keys_of : Refusal → List ℕ
 keys_of r = phase_of r.code ∷ r.file ∷ r.offset ∷ number_of r.code ∷ r.line ∷ []
 
--- by phase, file, offset and code; the line, which an offset of a file determines, comes last, so that no two refusals are
--- up to each other
+-- by phase, file, offset and code; the line, which an offset of a file determines, comes last, so
+-- that no two refusals are up to each other
 abbrev pub IsUpTo : Refusal → Refusal → Type 0
 IsUpTo r s = IsUpToBy (keys_of r) (keys_of s)
 

@@ -12,8 +12,8 @@ pub record Entry : Type 0 where
   pub «module» : List ℕ
   pub features : List (List ℕ)
 
--- a selection, as clauses see it: modules with the features of them that are supported, and modules that are there for
--- their definitions alone
+-- a selection, as clauses see it: modules with the features of them that are supported, and modules
+-- that are there for their definitions alone
 pub record Selected : Type 0 where
   pub support : List Entry
   pub imports : List (List ℕ)
@@ -43,7 +43,8 @@ is_of «module» e = bytes_eq e.module «module»
 unfoldable pub is_listed : List ℕ → List ℕ → Entry → Bool
 is_listed «module» feature e = is_of «module» e && is_among e.features feature
 
--- every feature is supported, but of a module that has an entry those alone that one of its entries lists
+-- every feature is supported, but of a module that has an entry those alone that one of its entries
+-- lists
 abbrev pub is_supported : Selected → List ℕ → List ℕ → Bool
 is_supported c «module» feature =
     not (list_any (is_of «module») c.support) || list_any (is_listed «module» feature) c.support

@@ -5,6 +5,7 @@
 pub enum Kind {
     /// Configuration and state.
     All,
-    /// Configuration alone (RFC 7950, section 7.21.1): no rule holds for state, and no state may be there.
+    /// Configuration alone (RFC 7950, section 7.21.1): no rule holds for state, and no state may be
+    /// there.
     ConfigOnly,
 }

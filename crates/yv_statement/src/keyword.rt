@@ -156,7 +156,8 @@ static NAMES: [Name; 68] = [
 ];
 
 impl Keyword {
-    /// The keyword that a text writes. One with a colon is an extension's (RFC 7950, section 6.3.1).
+    /// The keyword that a text writes. One with a colon is an extension's (RFC 7950, section
+    /// 6.3.1).
     #[tactic(auto, unfolding(crate::specs::Keywords::keyword_of))]
     pub fn read(text: &str) -> Keyword
         ensures { result ≡ keyword_of text.now }

@@ -1,5 +1,5 @@
-//! Statements of YANG files as trees, the characters that they may have, what is refused, and which of
-//! several refusals comes first.
+//! Statements of YANG files as trees, the characters that they may have, what is refused, and which
+//! of several refusals comes first.
 #![tactic(auto)]
 
 mod document_kind;

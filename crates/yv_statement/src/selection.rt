@@ -6,7 +6,8 @@ ghost use Rattle.yv_statement.specs.Selection.{selected_of, entry_of, is_impleme
 
 use std::alloc::Global;
 
-/// What is chosen of the modules that are given. An entry that names nothing that is given has no effect.
+/// What is chosen of the modules that are given. An entry that names nothing that is given has no
+/// effect.
 #[derive(Debug, Drop)]
 pub struct Selection {
     /// Modules, each with the features of it that are supported. Of a module that isn't named, all
@@ -37,7 +38,8 @@ impl Selection {
         !is_among(&self.import_only, module)
     }
 
-    /// Whether the feature of this name of a module is supported, its own conditions apart (RFC 7950, section 5.6.1).
+    /// Whether the feature of this name of a module is supported, its own conditions apart (RFC
+    /// 7950, section 5.6.1).
     #[tactic(auto, using(crate::proofs::Mapped::any_mapped))]
     pub fn is_supported(&self, module: &str, feature: &str) -> bool
         ensures { result ≡ is_supported (selected_of self.now) «module».now feature.now }
@@ -58,7 +60,10 @@ impl Selection {
 
     // Whether an entry lists this feature.
     fn lists(&self, feature: &Feature<'_>) -> bool
-        ensures { result ≡ list_any (λ e. is_listed feature.now.module_file.now feature.now.name.now (entry_of e)) self.now.support.items }
+        ensures { result
+            ≡ list_any
+            (λ e. is_listed feature.now.module_file.now feature.now.name.now (entry_of e))
+            self.now.support.items }
     {
         self.support.iter().any(|entry| feature.is_listed(entry))
     }
@@ -75,7 +80,8 @@ impl Feature<'_> {
     // Whether an entry is of the feature's module and lists it.
     #[tactic(auto, using(crate::proofs::Mapped::any_mapped), unfolding(crate::specs::Selection::is_listed))]
     fn is_listed(&self, entry: &(String, Vec<String>)) -> bool
-        ensures { result ≡ is_listed self.now.module_file.now self.now.name.now (entry_of entry.now) }
+        ensures { result
+            ≡ is_listed self.now.module_file.now self.now.name.now (entry_of entry.now) }
     {
         is_of(entry, self.module_file) && is_among(&entry.1, self.name)
     }

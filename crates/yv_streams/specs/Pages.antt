@@ -3,7 +3,8 @@ use Rattle.std.specs.Prelude.{◌≡◌, ◌≤◌, ℕ, List, [], ◌++◌, Boo
 use Rattle.std.specs.declared.option.Option.{Option}
 use Rattle.std.specs.Io.KnownBytes.{Appends}
 
--- what a writer holds, as far as that is known, whether it has failed and by how many calls, and the bytes of the page in front of it
+-- what a writer holds, as far as that is known, whether it has failed and by how many calls, and
+-- the bytes of the page in front of it
 pub record Output : Type 0 where
   pub contents : Option (List ℕ)
   pub has_failed : Bool
@@ -14,8 +15,8 @@ abbrev pub output_of : Option (List ℕ) → Bool → ℕ → List ℕ → Outpu
 output_of contents has_failed failures page =
     record { contents = contents; has_failed = has_failed; failures = failures; page = page }
 
--- Of this text the first bytes were appended to what the writer held at the start, and the page holds those behind. A writer that has failed
--- gets no more.
+-- Of this text the first bytes were appended to what the writer held at the start, and the page
+-- holds those behind. A writer that has failed gets no more.
 pub record IsPaged (start : Option (List ℕ)) (text : List ℕ) (h : Output) : Type 0 where
   pub written : List ℕ
   pub others : List ℕ

@@ -47,16 +47,19 @@ CountsInterrupt old new =
 abbrev pub GivesUp : {T : Type 0} → Counted T → Counted T → Type 0
 GivesUp old new = has_failed old ≡ true → (stream_inner new ≡ stream_inner old) × CountsFault old new
 
--- the calls that went wrong and weren't borne: the faults, and the interruptions past the first 1,000
+-- the calls that went wrong and weren't borne: the faults, and the interruptions past the first
+-- 1,000
 abbrev pub stream_failures : {T : Type 0} → Counted T → ℕ
 stream_failures c = stream_faults c + (stream_interrupts c - 1000)
 
--- At most one call wasn't borne. No call came behind it, since each call of a stream that has failed is one more fault.
+-- At most one call wasn't borne. No call came behind it, since each call of a stream that has
+-- failed is one more fault.
 abbrev pub FailsOnceAtMost : {T : Type 0} → Counted T → Type 0
 FailsOnceAtMost c = stream_failures c ≤ 1
 
--- Of the bytes that a reader has left the first are gone, where they are known, and those are at most `limit`. A read that answers an
--- error takes none, so this can hold of a reader that failed too.
+-- Of the bytes that a reader has left the first are gone, where they are known, and those are at
+-- most `limit`. A read that answers an error takes none, so this can hold of a reader that failed
+-- too.
 pub record TakesAtMost (limit : ℕ) (old new : Option (List ℕ)) : Type 0 where
   pub taken : List ℕ
   pub consumed : Consumes old new taken

@@ -35,7 +35,8 @@ impl<T> Counted<T> {
     }
 
     /// The errors other than `Interrupted`, and the writes that took none of the bytes that they
-    /// were given, that were answered so far: what a caller may report of a stream that was given up.
+    /// were given, that were answered so far: what a caller may report of a stream that was given
+    /// up.
     pub fn faults(&self) -> u64
         ensures { result ≡ stream_faults self.now }
     {

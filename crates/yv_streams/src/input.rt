@@ -35,7 +35,8 @@ pub fn read_input<R: Read>(
     ensures bound { IfOk result (λ i. length (file_of i).bytes ≤ file_limit + 1) }
     ensures fault { IsErrOf result InputFault.Read ↔ (has_failed reader.new ≡ true) }
     ensures once { FailsOnceAtMost reader.new }
-    ensures takes { TakesAtMost (file_limit + 1) (R.remaining (stream_inner reader.old)) (R.remaining (stream_inner reader.new)) }
+    ensures takes { TakesAtMost (file_limit + 1) (R.remaining (stream_inner reader.old))
+        (R.remaining (stream_inner reader.new)) }
 {
     let name = String::from_str(alloc, name)?;
     let bytes = read_up_to(alloc, FILE_BYTES, reader)?;

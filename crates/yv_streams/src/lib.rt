@@ -1,5 +1,5 @@
-//! Readers and writers that count what goes wrong in their calls: reading one to its end, a file with
-//! its name, and writing a text whole. It uses no crate of the compiler.
+//! Readers and writers that count what goes wrong in their calls: reading one to its end, a file
+//! with its name, and writing a text whole. It uses no crate of the compiler.
 #![tactic(auto)]
 
 mod counted_stream;

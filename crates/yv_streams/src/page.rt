@@ -11,8 +11,8 @@ use std::marker::Model;
 /// How many bytes a page holds.
 const ROOM: usize = 8192;
 
-/// Bytes that are still to be written to a stream, once the room is used up or the page is turned. It allocates no
-/// memory. Contracts see it as these bytes.
+/// Bytes that are still to be written to a stream, once the room is used up or the page is turned.
+/// It allocates no memory. Contracts see it as these bytes.
 #[derive(Drop)]
 pub struct Page {
     bytes: [u8; 8192],
@@ -132,8 +132,8 @@ impl Page {
         }
     }
 
-    // Puts the first of some bytes behind the others, and answers how many: all of them if the writer
-    // has failed, since then they are lost.
+    // Puts the first of some bytes behind the others, and answers how many: all of them if the
+    // writer has failed, since then they are lost.
     fn put_first<W: Write>(&mut self, writer: &mut Counted<W>, bytes: &[u8]) -> usize
         requires { 0 < length bytes.now }
         ensures bound { result ≤ length bytes.now }
@@ -152,8 +152,8 @@ impl Page {
         }
     }
 
-    /// Puts bytes after the others, and writes each full page. Nothing is put after bytes that were lost: a writer that has failed
-    /// gets no more.
+    /// Puts bytes after the others, and writes each full page. Nothing is put after bytes that were
+    /// lost: a writer that has failed gets no more.
     pub fn put<W: Write>(&mut self, writer: &mut Counted<W>, bytes: &[u8])
         ensures { Adds bytes.now
             (output_of (W.contents (stream_inner writer.old)) (has_failed writer.old)

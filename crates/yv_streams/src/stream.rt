@@ -48,7 +48,8 @@ pub fn read_up_to<R: Read>(
         → IsAtEnd (R.remaining (stream_inner reader.new))) }
     ensures fault { IsErrOf result InputFault.Read ↔ (has_failed reader.new ≡ true) }
     ensures once { FailsOnceAtMost reader.new }
-    ensures takes { TakesAtMost limit (R.remaining (stream_inner reader.old)) (R.remaining (stream_inner reader.new)) }
+    ensures takes { TakesAtMost limit (R.remaining (stream_inner reader.old))
+        (R.remaining (stream_inner reader.new)) }
 {
     let mut bytes = Vec::new(alloc);
     while bytes.len() < limit {
@@ -78,7 +79,8 @@ fn read_some<R: Read>(
     ensures grows { stream_interrupts reader.old ≤ stream_interrupts reader.new }
     ensures fault { IsErrOf result InputFault.Read ↔ (has_failed reader.new ≡ true) }
     ensures once { FailsOnceAtMost reader.new }
-    ensures takes { TakesAtMost room (R.remaining (stream_inner reader.old)) (R.remaining (stream_inner reader.new)) }
+    ensures takes { TakesAtMost room (R.remaining (stream_inner reader.old))
+        (R.remaining (stream_inner reader.new)) }
 {
     let mut chunk = [0u8; CHUNK];
     let most = room.min(CHUNK);

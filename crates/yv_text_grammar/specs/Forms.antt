@@ -1,4 +1,5 @@
--- Which form the argument of each statement has (RFC 7950, sections 7 and 9, and the grammar of section 14).
+-- Which form the argument of each statement has (RFC 7950, sections 7 and 9, and the grammar of
+-- section 14).
 use Rattle.std.specs.Prelude.{if◌then◌else◌}
 use Rattle.yv_statement.specs.Keywords.{same}
 use Rattle.yv_statement.specs.declared.keyword.Keyword.{Keyword}
@@ -6,7 +7,8 @@ use Rattle.yv_statement.specs.declared.keyword.Keyword.TheVariants as word
 use Rattle.yv_text_grammar.specs.declared.form.Form.{Form}
 use Rattle.yv_text_grammar.specs.declared.form.Form.TheVariants as form
 
--- the form of the argument of a statement with this keyword, in the block of a parent; what isn't named has any text
+-- the form of the argument of a statement with this keyword, in the block of a parent; what isn't
+-- named has any text
 unfoldable pub form_of : Keyword → Keyword → Form
 form_of parent word.Module = form.Identifier
 form_of parent word.Submodule = form.Identifier

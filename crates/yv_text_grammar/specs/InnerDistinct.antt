@@ -1,4 +1,5 @@
--- Inner definitions, which only clauses of private functions cite: words in a table, and their order.
+-- Inner definitions, which only clauses of private functions cite: words in a table, and their
+-- order.
 use Rattle.std.specs.Prelude.{ℕ, Bool, List}
 use Rattle.std.specs.List.{list_any}
 use Rattle.std.specs.Str.{bytes_eq}

@@ -22,8 +22,8 @@ keyword_at s = keyword_of s.head.keyword
 abbrev pub has_call_or_filter : List ℕ → Bool
 has_call_or_filter text = list_any (λ b. b == opening_bracket || b == opening_parenthesis) text
 
--- what isn't supported, by the keyword and the argument: `must`, `when` and deviations, a path with a predicate or a
--- function, and the type `instance-identifier`
+-- what isn't supported, by the keyword and the argument: `must`, `when` and deviations, a path with
+-- a predicate or a function, and the type `instance-identifier`
 abbrev pub is_unsupported : Keyword → Option (List ℕ) → Bool
 is_unsupported word.Must argument = true
 is_unsupported word.When argument = true
@@ -44,7 +44,8 @@ OwnRefusal parent s f =
 abbrev pub has : Keyword → List Tree → Bool
 has k cs = list_any (λ c. same (keyword_at c) k) cs
 
--- one more child is too many, where one with its keyword stands before it or not; where no row allows it, any is
+-- one more child is too many, where one with its keyword stands before it or not; where no row
+-- allows it, any is
 abbrev pub is_excess : Option Occurs → Bool → Bool
 is_excess None before = true
 is_excess (Some One) before = before

@@ -1,4 +1,5 @@
--- Which statements may stand in the block of which, and how often (RFC 7950, section 7). What is left out: `must`,
+-- Which statements may stand in the block of which, and how often (RFC 7950, section 7). What is
+-- left out: `must`,
 -- `when` and deviations, which aren't supported. `yang-version` may be missing, and `input`, `output` and `augment` may be
 -- without data definitions.
 use Rattle.std.specs.Prelude.{Bool, true, false, List, [], ◌∷◌, ◌++◌, Option, None, Some, if◌then◌else◌}
@@ -8,7 +9,8 @@ use Rattle.yv_statement.specs.declared.keyword.Keyword.TheVariants as word
 use Rattle.yv_text_grammar.specs.declared.table.Occurs.{Occurs}
 use Rattle.yv_text_grammar.specs.declared.table.Occurs.TheVariants.{One, Optional, Any}
 
--- children, each a keyword and how often it may stand: exactly once, at most once, or any number of times
+-- children, each a keyword and how often it may stand: exactly once, at most once, or any number of
+-- times
 abbrev pub Rows : Type 0
 Rows = List (Keyword × Occurs)
 

@@ -45,7 +45,8 @@ is_key text = are_words is_name text && none_twice (words text)
 abbrev pub is_unique : List ℕ → Bool
 is_unique text = are_words is_descendant_path text
 
--- an enum's name isn't empty, and has no white space, in Unicode's sense, at either end (section 9.6.4)
+-- an enum's name isn't empty, and has no white space, in Unicode's sense, at either end (section
+-- 9.6.4)
 abbrev pub is_enum_name : List ℕ → Bool
 is_enum_name text = not (is_empty text) && bytes_eq (trim text) text
 
@@ -59,7 +60,8 @@ unfoldable pub is_number : ℕ → ℕ → List ℕ → Bool
 is_number low high text =
     not (is_empty text) && (list_all is_digit text && (nat_le low (decimal_after 0 text) && nat_le (decimal_after 0 text) high))
 
--- an enum's value is a number of 32 bits with a sign: digits, perhaps behind a `-` (section 9.6.4.2)
+-- an enum's value is a number of 32 bits with a sign: digits, perhaps behind a `-` (section
+-- 9.6.4.2)
 unfoldable pub is_enum_value : List ℕ → Bool
 is_enum_value text =
     if not (is_empty text) && nat_eq (slice_index text 0) dash then is_number 0 2147483648 (drop 1 text) else is_number 0 2147483647 text

@@ -8,7 +8,8 @@ use crate::{lists, text};
 use yv_statement::Keyword;
 use yv_text_if_feature::{is_identifier, is_if_feature, is_name};
 
-/// Whether the argument of a statement, in the block of a parent, is as its keyword wants it (RFC 7950, section 14).
+/// Whether the argument of a statement, in the block of a parent, is as its keyword wants it (RFC
+/// 7950, section 14).
 pub fn fits(parent: Keyword, keyword: Keyword, argument: Option<&str>) -> bool
     ensures { MatchBool result (ArgumentFits parent keyword (option_copied argument.entry))
         (ArgumentFits parent keyword (option_copied argument.entry) → ⊥) }

@@ -1,7 +1,8 @@
 //! Whether a word occurs twice in a text, found without allocating memory.
 //!
-//! Words that fill a table on the stack are sorted there, the words after them are looked up among them, and so on. So n
-//! words cost about n * n / (2 * N) searches by a table of N words: three seconds for 4 MiB of different short words.
+//! Words that fill a table on the stack are sorted there, the words after them are looked up among
+//! them, and so on. So n words cost about n * n / (2 * N) searches by a table of N words: three
+//! seconds for 4 MiB of different short words.
 ghost use Rattle.std.specs.Prelude.{◌≡◌, ◌≤◌, ◌<◌, ℕ, [], ◌++◌, length, map, take};
 ghost use Rattle.std.specs.List.{list_any};
 ghost use Rattle.std.specs.List.Sorted.{IsSorted};
@@ -44,7 +45,8 @@ fn none_twice_long(text: &[u8]) -> bool
     none_twice_in(&mut table, text)
 }
 
-// The same, by a table: words that fill it are sorted, those behind them are sought among them, and so on.
+// The same, by a table: words that fill it are sorted, those behind them are sought among them, and
+// so on.
 fn none_twice_in<'a>(table: &mut [&'a [u8]], text: &'a [u8]) -> bool
     requires { 0 < length table.old }
     ensures { result ≡ none_twice (words text.now) }
@@ -69,7 +71,8 @@ fn none_twice_in<'a>(table: &mut [&'a [u8]], text: &'a [u8]) -> bool
 // Puts the next words into a table, and tells how many.
 fn fill<'a>(table: &mut [&'a [u8]], words: &mut Words<'a>) -> usize
     ensures bound { result ≤ length table.new }
-    ensures takes { words_left words.old ≡ map text_of (take result table.new) ++ words_left words.new }
+    ensures takes { words_left words.old ≡ map text_of (take result table.new)
+        ++ words_left words.new }
     ensures full { result < length table.new → words_left words.new ≡ [] }
 {
     let mut count = 0;
@@ -91,8 +94,8 @@ fn is_rising(sorted: &[&[u8]]) -> bool
     sorted.is_sorted_by(|word, next| word.cmp(next).is_lt())
 }
 
-// Whether one of the words that are left is among these, which are sorted. It takes a copy of the iterator, so that the
-// words are still to come where it was taken.
+// Whether one of the words that are left is among these, which are sorted. It takes a copy of the
+// iterator, so that the words are still to come where it was taken.
 fn has_one_of(sorted: &[&[u8]], words: Words) -> bool
     requires { IsSorted by_text sorted.now }
     ensures { result ≡ share (map text_of sorted.now) (words_left words.entry) }

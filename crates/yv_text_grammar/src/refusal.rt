@@ -15,22 +15,25 @@ use crate::keyword_set::KeywordSet;
 use crate::table::{self, Occurs, Row};
 use yv_statement::{Code, Keyword, Refusal, Statement, lesser, refusal_if};
 
-/// Whether the statements of a file are as the tables of RFC 7950, sections 7 and 9, say: each has the substatements
-/// that it may have, no more and no fewer, and an argument in its grammar. The refusal is the least by offset and code
-/// among
+/// Whether the statements of a file are as the tables of RFC 7950, sections 7 and 9, say: each has
+/// the substatements that it may have, no more and no fewer, and an argument in its grammar. The
+/// refusal is the least by offset and code among
 ///
-/// - `Unsupported`: `must`, `when`, `deviation` or `deviate`, a leafref's path with a predicate or a function, or the type
+/// - `Unsupported`: `must`, `when`, `deviation` or `deviate`, a leafref's path with a predicate or
+/// a function, or the type
 ///   `instance-identifier`;
 /// - `UnknownStatement`: a keyword without prefix that the language doesn't have;
-/// - `Cardinality`: a root that is not a module or submodule, a child that is not allowed where it is or is one too many,
+/// - `Cardinality`: a root that is not a module or submodule, a child that is not allowed where it
+/// is or is one too many,
 ///   or the parent of one that is missing;
 /// - `BadArgument`: an argument against its grammar, one that is missing, or one too many.
 ///
-/// It names the file as 0. A statement whose keyword has a prefix is an extension's: it is allowed everywhere except at the
-/// root, and nothing in it is looked at.
+/// It names the file as 0. A statement whose keyword has a prefix is an extension's: it is allowed
+/// everywhere except at the root, and nothing in it is looked at.
 ///
-/// No memory is allocated. The time is in proportion to the statements and their arguments, except for a `key`: one of n
-/// different names costs about n * n / 32,768 searches in a table, which is a second for 500,000 names.
+/// No memory is allocated. The time is in proportion to the statements and their arguments, except
+/// for a `key`: one of n different names costs about n * n / 32,768 searches in a table, which is a
+/// second for 500,000 names.
 pub fn conform(root: &Statement) -> Result<(), Refusal>
     ensures fits { IsOk result ↔ Fits root.now }
     ensures least { IsLeast (Bad root.now) (result_err result) }
@@ -51,7 +54,8 @@ fn is_module(keyword: Keyword) -> bool
     matches!(keyword, Keyword::Module | Keyword::Submodule)
 }
 
-// The least refusal in a statement that stands in the block of a parent; the root's parent is unknown.
+// The least refusal in a statement that stands in the block of a parent; the root's parent is
+// unknown.
 fn first_refusal(parent: Keyword, statement: &Statement) -> Option<Refusal>
     ensures fits { IfNone result (FitsIn parent statement.now) }
     ensures least { IsLeast (Faulty parent statement.now) result }
@@ -157,7 +161,8 @@ fn is_excess(occurs: Option<Occurs>, before: bool) -> bool
 
 // Whether a child that has to stand was not seen.
 fn lacks_child(rows: &[Row], seen: &KeywordSet) -> bool
-    ensures { result ≡ list_any (λ r. is_one r.1 && not (is_marked seen.now r.0)) (map row rows.now) }
+    ensures { result
+        ≡ list_any (λ r. is_one r.1 && not (is_marked seen.now r.0)) (map row rows.now) }
 {
     for row in rows {
         if row.occurs.is_one() && !seen.contains(row.child) {

@@ -6,7 +6,8 @@ use Rattle.yv_text_if_feature.specs.Tokens.{Open, Close, Not, And, Or, Name, Wro
 use Rattle.yv_text_if_feature.specs.IfFeature.{IfFeature, IsIfFeature, IsExpression, IsTerm, IsFactor, term, either, factor, both, name, after_not, inner}
 use Rattle.yv_text_if_feature.specs.IfFeature as made
 
--- whether what follows completes an expression, where an operand is wanted or not, and d parentheses are open
+-- whether what follows completes an expression, where an operand is wanted or not, and d
+-- parentheses are open
 abbrev pub accepts : Bool → ℕ → List Token → Bool
 accepts true d (Name n ∷ ts) = accepts false d ts
 accepts true d (Not ∷ ts) = accepts true d ts

@@ -11,7 +11,8 @@ pub data IfFeature : Type 0 where
   And : IfFeature → IfFeature → IfFeature
   Or : IfFeature → IfFeature → IfFeature
 
--- an expression, a term and a factor in which parentheses nest at most n deep, and the condition that each is
+-- an expression, a term and a factor in which parentheses nest at most n deep, and the condition
+-- that each is
 mutual
   -- an expression is terms with `or` between
   pub data IsExpression : ℕ → List Token → IfFeature → Type 0 where

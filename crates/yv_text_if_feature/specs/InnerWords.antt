@@ -1,4 +1,5 @@
--- Inner definitions, which only clauses of private functions cite: how the words of a text are read one by one.
+-- Inner definitions, which only clauses of private functions cite: how the words of a text are read
+-- one by one.
 use Rattle.std.proofs.Common.{suc}
 use Rattle.std.specs.Prelude.{ℕ, ◌||◌, List, [], ◌∷◌, if◌then◌else◌}
 use Rattle.yv_text_if_feature.specs.Bytes.{is_blank, is_parenthesis}

@@ -1,13 +1,14 @@
--- What is known of an expression of which the front was read, and the truth to which the words that follow complete it
--- (RFC 7950, section 7.20.2).
+-- What is known of an expression of which the front was read, and the truth to which the words that
+-- follow complete it (RFC 7950, section 7.20.2).
 use Rattle.std.specs.Prelude.{ℕ, Bool, true, false, not, ◌&&◌, ◌||◌, nat_lt, if◌then◌else◌}
 use Rattle.std.specs.Prelude.{List, [], ◌∷◌, length, Option, Some, None}
 use Rattle.yv_text_if_feature.specs.Tokens.{Token}
 use Rattle.yv_text_if_feature.specs.Tokens as token
 use Rattle.yv_text_if_feature.specs.declared.frame.Frame.{Frame}
 
--- what is known: whether a word stood where it may not, whether an operand comes next, and of the terms and factors that were
--- read inside the innermost parenthesis and outside of each what they come to so far
+-- what is known: whether a word stood where it may not, whether an operand comes next, and of the
+-- terms and factors that were read inside the innermost parenthesis and outside of each what they
+-- come to so far
 pub record State : Type 0 where
   pub is_lost : Bool
   pub wants_operand : Bool
@@ -35,8 +36,8 @@ with_not f = record { earlier = f.earlier; term = f.term; negated = not f.negate
 abbrev pub with_or : Frame → Frame
 with_or f = record { earlier = f.earlier || f.term; term = true; negated = false }
 
--- the truth to which what follows completes an expression, where an operand is wanted or not, inside the innermost
--- parenthesis and outside of each
+-- the truth to which what follows completes an expression, where an operand is wanted or not,
+-- inside the innermost parenthesis and outside of each
 abbrev pub ends : (List ℕ → Bool) → Bool → Frame → List Frame → List Token → Option Bool
 ends names true f fs (token.Name n ∷ ts) = ends names false (with_factor (names n) f) fs ts
 ends names true f fs (token.Not ∷ ts) = ends names true (with_not f) fs ts

@@ -25,7 +25,8 @@ token_of word =
 abbrev pub is_empty : List ℕ → Bool
 is_empty text = nat_eq (length text) 0
 
--- a text cut at each blank, and round each parenthesis, which is a piece itself; some pieces are empty
+-- a text cut at each blank, and round each parenthesis, which is a piece itself; some pieces are
+-- empty
 abbrev pub pieces : List ℕ → List (List ℕ)
 pieces [] = [] ∷ []
 pieces (b ∷ bs) =

@@ -12,8 +12,8 @@ use crate::stack::{MOST_OPEN, Stack};
 use crate::word::Word;
 use std::marker::Model;
 
-/// Finds the truth of an expression in one pass over its words, in constant memory: it keeps only what
-/// is known inside and outside of the open parentheses, at most 64 of them.
+/// Finds the truth of an expression in one pass over its words, in constant memory: it keeps only
+/// what is known inside and outside of the open parentheses, at most 64 of them.
 ///
 /// A caller looks each name up by itself:
 ///
@@ -21,8 +21,7 @@ use std::marker::Model;
 /// for word in Words::new(text) {
 ///     let holds = match word { Word::Name(name) => .., _ => false };
 ///     evaluator.take(word, holds);
-/// }
-/// evaluator.truth()
+/// } evaluator.truth()
 /// ```
 ///
 /// Contracts see it as what is known of the expression.
@@ -61,14 +60,16 @@ impl Evaluator {
     /// Reads one more word. Whether it holds counts only for a name.
     pub fn take(&mut self, word: Word<'_>, holds: bool)
         ensures { (names : List ℕ → Bool) (before : List Token) → HasRead names self.old before
-            → Agrees names (token_shown word.entry) holds → HasRead names self.new (before ++ token_shown word.entry ∷ []) }
+            → Agrees names (token_shown word.entry) holds
+            → HasRead names self.new (before ++ token_shown word.entry ∷ []) }
     {
         self.step(word, holds);
     }
 
     fn step(&mut self, word: Word<'_>, holds: bool)
         ensures { (names : List ℕ → Bool) → Agrees names (token_shown word.entry) holds
-            → (rest : List Token) → completion names self.new rest ≡ completion names self.old (token_shown word.entry ∷ rest) }
+            → (rest : List Token) → completion names self.new rest
+            ≡ completion names self.old (token_shown word.entry ∷ rest) }
     {
         match (self.wants_operand, word) {
             (true, Word::Name(_)) => {

@@ -10,10 +10,12 @@ pub fn a_text_spells_one_if_feature()
 
 /// A text spells a condition, or none.
 pub fn a_text_spells_an_if_feature_or_none()
-    ensures { (text : List ℕ) → ((c : IfFeature) × Spells text c) ⊎ ((c : IfFeature) → Spells text c → ⊥) }
+    ensures { (text : List ℕ) → ((c : IfFeature) × Spells text c)
+        ⊎ ((c : IfFeature) → Spells text c → ⊥) }
 {}
 
 /// The names of a condition, in order, are those among the words of its text.
 pub fn names_stand_in_order()
-    ensures { (text : List ℕ) (c : IfFeature) → Spells text c → names_among (tokens text) ≡ names_in c }
+    ensures { (text : List ℕ) (c : IfFeature) → Spells text c → names_among (tokens text)
+        ≡ names_in c }
 {}

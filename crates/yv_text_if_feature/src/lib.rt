@@ -1,4 +1,5 @@
-//! The truth of an `if-feature` expression, by the truth of the features that it names (RFC 7950, section 7.20.2).
+//! The truth of an `if-feature` expression, by the truth of the features that it names (RFC 7950,
+//! section 7.20.2).
 #![tactic(auto)]
 
 mod evaluator;

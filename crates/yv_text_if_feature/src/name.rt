@@ -22,7 +22,8 @@ fn is_part(byte: u8) -> bool
     is_start(byte) || is_digit(byte) || byte == b'-' || byte == b'.'
 }
 
-/// Whether a text is an identifier: a letter or `_`, then letters, digits, `_`, `-` and `.` (RFC 7950, section 6.2).
+/// Whether a text is an identifier: a letter or `_`, then letters, digits, `_`, `-` and `.` (RFC
+/// 7950, section 6.2).
 pub fn is_identifier(text: &[u8]) -> bool
     ensures { result ≡ is_identifier text.now }
 {

@@ -51,7 +51,8 @@ impl Stack {
     }
 
     pub fn pop(&mut self) -> Option<Frame>
-        ensures { MatchOption result ((self.old ≡ []) × (self.new ≡ [])) (λ f. self.old ≡ f ∷ self.new) }
+        ensures { MatchOption result ((self.old ≡ []) × (self.new ≡ []))
+            (λ f. self.old ≡ f ∷ self.new) }
     {
         if self.len == 0 {
             return None;

@@ -4,7 +4,8 @@ use Rattle.yv_nodes.specs.Rows.{Module}
 use Rattle.yv_tree.specs.Lines.{prefix_in}
 use Rattle.yv_tree.specs.InnerModules.{place_from}
 
--- where a look-up leads: behind the modules before, within them, and to a module whose prefix is the one sought
+-- where a look-up leads: behind the modules before, within them, and to a module whose prefix is
+-- the one sought
 abbrev LeadsTo : ℕ → List Module → ℕ → Option ℕ → Type 0
 LeadsTo first ms module_file None = prefix_in ms module_file ≡ []
 LeadsTo first ms module_file (Some i) = (first ≤ i) × (i < first + length ms) × ((d : Module) → (get_or ms (i - first) d).prefix ≡ prefix_in ms module_file)

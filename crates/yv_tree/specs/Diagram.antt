@@ -20,7 +20,8 @@ belongs Notification _ = false
 belongs _ Data = true
 belongs _ _ = false
 
--- a node at the top is one of this module, and belongs to this part. Modules go by the numbers of their files
+-- a node at the top is one of this module, and belongs to this part. Modules go by the numbers of
+-- their files
 abbrev pub is_top : Rows → (own : ℕ) → Part → NodeId → Bool
 is_top s own part c = (row_at s c).label.module_file == own && belongs (row_at s c).label.defined.kind part
 
@@ -28,16 +29,19 @@ is_top s own part c = (row_at s c).label.module_file == own && belongs (row_at s
 abbrev pub tops : Rows → (own : ℕ) → Part → List NodeId
 tops s own part = filter (is_top s own part) s.top
 
--- the module of each node at the top, and below it the one of the node above: parents stand before their children
+-- the module of each node at the top, and below it the one of the node above: parents stand before
+-- their children
 abbrev pub module_files_from : (done : List ℕ) → List Row → List ℕ
 module_files_from done [] = done
 module_files_from done (r ∷ rs) = module_files_from (done ++ (if is_root r.parent then r.label.module_file else slice_index_or done r.parent.0 0) ∷ []) rs
 
--- the module of the node at the top of the way to a node: the module of the first name of a path to it
+-- the module of the node at the top of the way to a node: the module of the first name of a path to
+-- it
 abbrev pub first_module_file : Rows → NodeId → ℕ
 first_module_file s c = slice_index_or (module_files_from [] s.nodes) c.0 0
 
--- an augment of this module adds to another one: the first name of its path and its target are of other modules
+-- an augment of this module adds to another one: the first name of its path and its target are of
+-- other modules
 abbrev pub is_shown : Rows → (own : ℕ) → Note → Bool
 is_shown s own a = a.module_file == own && not (first_module_file s a.target == own) && not ((row_at s a.target).label.module_file == own)
 

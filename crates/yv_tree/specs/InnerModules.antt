@@ -4,7 +4,8 @@ use Rattle.std.specs.BTreeMap.{BTreeMap, get}
 use Rattle.std.specs.Ordering.{nat_cmp}
 use Rattle.yv_nodes.specs.Rows.{Module}
 
--- the place of the first of these modules that has this number, where they begin with the place `first`
+-- the place of the first of these modules that has this number, where they begin with the place
+-- `first`
 abbrev pub place_from : (first : ℕ) → List Module → (module_file : ℕ) → Option ℕ
 place_from first [] module_file = None
 place_from first (m ∷ ms) module_file = if m.module_file == module_file then Some first else place_from (first + 1) ms module_file

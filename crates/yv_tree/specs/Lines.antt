@@ -90,7 +90,8 @@ abbrev pub written_prefix : Option (List ℕ) → List ℕ
 written_prefix None = []
 written_prefix (Some prefix) = prefix ++ codes ":"
 
--- a piece of the path of a leafref as it is written, but without a prefix that stands for the module of the leaf itself
+-- a piece of the path of a leafref as it is written, but without a prefix that stands for the
+-- module of the leaf itself
 abbrev pub shown_piece : (module_file : ℕ) → Piece → List ℕ
 shown_piece module_file p = (if is_module_file (Some module_file) p.module_file then [] else written_prefix p.prefix) ++ p.name
 
@@ -129,7 +130,8 @@ abbrev pub any_line : Forest → Bool
 any_line no_trees = false
 any_line (tree t ts) = has_line t || any_line ts
 
--- what one more level puts in front of a line, where siblings with lines follow the node above or don't
+-- what one more level puts in front of a line, where siblings with lines follow the node above or
+-- don't
 abbrev pub bars : Bool → List ℕ
 bars true = codes "|  "
 bars false = codes "   "

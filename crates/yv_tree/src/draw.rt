@@ -118,7 +118,8 @@ impl Drawing<'_> {
     fn line<P: Paper>(&self, id: NodeId, margin: &Margin<'_>, paper: &mut P, page: &mut P::Page)
         requires { id.0 < length self.now.schema.now.nodes }
         ensures { Adds (margin_text margin.now
-            ++ line self.now.modules.now self.now.own (row_at self.now.schema.now id).label ++ codes "\n")
+            ++ line self.now.modules.now self.now.own (row_at self.now.schema.now id).label
+            ++ codes "\n")
             (P.output page.old paper.old) (P.output page.new paper.new) }
     {
         put_margin(margin, paper, page);

@@ -8,8 +8,8 @@ use std::collections::BTreeMap;
 use std::marker::Model;
 use yv_schema_tables::Module;
 
-/// Modules, found by the numbers of their files: a line compares no names, since these may be as long as a file. Contracts see
-/// the list of modules.
+/// Modules, found by the numbers of their files: a line compares no names, since these may be as
+/// long as a file. Contracts see the list of modules.
 #[derive(Drop)]
 pub(crate) struct Modules<'a> {
     modules: &'a [Module],
@@ -37,7 +37,8 @@ impl<'a> Modules<'a> {
         Ok(Modules { modules, places })
     }
 
-    /// The prefix of the module of this number, in its own file. It is empty where there is no such module.
+    /// The prefix of the module of this number, in its own file. It is empty where there is no such
+    /// module.
     pub(crate) fn prefix(&self, module_file: u32) -> &str
         ensures { result.now ≡ prefix_in self.now module_file }
     {

@@ -126,7 +126,8 @@ impl Drawing<'_> {
     fn first(&self, id: NodeId) -> NodeId
         requires { id.0 < length self.now.schema.now.nodes }
         ensures within { result.0 < length self.now.schema.now.nodes }
-        ensures value { first_module_file self.now.schema.now id ≡ (row_at self.now.schema.now result).label.module_file }
+        ensures value { first_module_file self.now.schema.now id
+            ≡ (row_at self.now.schema.now result).label.module_file }
     {
         let parent = self.schema.node(id).parent();
         if parent == Schema::ROOT {
@@ -139,7 +140,8 @@ impl Drawing<'_> {
     /// The nodes of the module at the top that belong to a part.
     pub(crate) fn tops(&self, alloc: Global, part: Part) -> Result<Vec<NodeId>, AllocError>
         ensures value { IfOk result (λ v. v.items ≡ tops self.now.schema.now self.now.own part) }
-        ensures children { IfOk result (λ v. All (IsChild self.now.schema.now Schema.ROOT) v.items) }
+        ensures children { IfOk result
+            (λ v. All (IsChild self.now.schema.now Schema.ROOT) v.items) }
         ensures trees { IfOk result (λ v. AreTrees self.now.schema.now v.items) }
     {
         children_are_trees();

@@ -27,7 +27,8 @@ impl Text {
     /// The text, unless memory was refused.
     pub(crate) fn whole(self) -> Result<String, AllocError>
         ensures { (text : List ℕ)
-            → IsPaged (Some []) text (output_of (Some (string_bytes self.text)) (is_err self.room) 0 [])
+            → IsPaged (Some []) text
+            (output_of (Some (string_bytes self.text)) (is_err self.room) 0 [])
             → IfOk result (λ whole. string_bytes whole ≡ text) }
     {
         let Text { text, room } = self;

@@ -114,7 +114,8 @@ module _ (files : Briefs) (rows : List Row) (follows : List (Option ℕ)) (g : G
       let each = steps.each in
       listed_edge g k j (omega (arith, w, each)) (subst (λ xs. Contains xs j) (sym ((steps.edges k i.outer i.at).members i.is)) (in_types k rows j i.member i.member_at i.member_is))
 
-  -- along edges either only members come, each behind its union, or a typedef is left for one to which it leads
+  -- along edges either only members come, each behind its union, or a typedef is left for one to
+  -- which it leads
   Way : ℕ → ℕ → Type 0
   Way k m = ((k < m) × ((a : ℕ) → CountsFor rows Typedef k a → CountsFor rows Typedef m a))
       ⊎ ((d : ℕ) × CountsFor rows Typedef m d × ((a : ℕ) → CountsFor rows Typedef k a → LeadsTo files rows a d))

@@ -7,8 +7,8 @@ use Rattle.yv_link_definitions.specs.Refers.{is_type}
 use Rattle.yv_type_chains.specs.Types.{Follows, is_leafref, is_union, types_in}
 
 mutual
-  -- a leafref has none, since its values are its target's; a union has those of its members, a derived type those of the
-  -- type that it follows, and any other type is one
+  -- a leafref has none, since its values are its target's; a union has those of its members, a
+  -- derived type those of the type that it follows, and any other type is one
   pub data Counts (files : Briefs) (rows : List Row) : ℕ → ℕ → Type 0 where
     leafref : {k : ℕ} {r : Row} → slice_get rows k ≡ Some r → is_leafref r ≡ true → Counts files rows k 0
     union : {k n : ℕ} {r : Row} → slice_get rows k ≡ Some r → is_union r ≡ true → CountAll files rows (types_in rows k) n → Counts files rows k n

@@ -1,4 +1,5 @@
--- Inner definitions, which only private clauses cite: what is found on the types before they are judged.
+-- Inner definitions, which only private clauses cite: what is found on the types before they are
+-- judged.
 use Rattle.std.specs.Prelude.{List}
 use Rattle.yv_link_scopes.specs.Files.{Briefs}
 use Rattle.yv_link_scopes.specs.Rows.{Row}

@@ -1,4 +1,5 @@
--- Numbers and lists by number, as tables keep them; beside private clauses that of `types_inside` cites these.
+-- Numbers and lists by number, as tables keep them; beside private clauses that of `types_inside`
+-- cites these.
 use Rattle.std.specs.Prelude.{◌≡◌, ◌↔◌, ℕ, List, [], Option, Some, slice_get}
 use Rattle.std.specs.Option.{option_and_then, option_map, unwrap_or}
 use Rattle.std.specs.declared.vec.Vec.{Vec}

@@ -1,4 +1,5 @@
--- The substatements of a type of which each built-in type takes some (RFC 7950, sections 9.2 to 9.13).
+-- The substatements of a type of which each built-in type takes some (RFC 7950, sections 9.2 to
+-- 9.13).
 use Rattle.std.specs.Prelude.{ℕ, ◌&&◌, not, Bool, List, [], ◌∷◌, codes}
 use Rattle.std.specs.List.{list_any}
 use Rattle.std.specs.Str.{bytes_eq}

@@ -43,7 +43,8 @@ pub record Follows (files : Briefs) (rows : List Row) (k j : ℕ) : Type 0 where
   pub refers : Refers files rows Typedef k definition
   pub stands : type_of rows definition ≡ Some j
 
--- b is the type statement that names the built-in type to which type k leads along typedefs: k itself where it names one
+-- b is the type statement that names the built-in type to which type k leads along typedefs: k
+-- itself where it names one
 pub data HasBase (files : Briefs) (rows : List Row) : ℕ → ℕ → Type 0 where
   built_in : {k : ℕ} {r : Row} → slice_get rows k ≡ Some r → is_type r ≡ true → is_built_in (name_in r) ≡ true → HasBase files rows k k
   through_typedef : {k j b : ℕ} → Follows files rows k j → HasBase files rows j b → HasBase files rows k b

@@ -26,10 +26,13 @@ impl Draft<'_, '_, '_> {
 
     // The base of a type, that which it follows having its base.
     fn base(&self, bases: &[Option<usize>], number: usize) -> Option<usize>
-        ensures { AreFollowed (files_in self.now.rows.now) (rows_in self.now.rows.now) self.now.follows.items
+        ensures { AreFollowed (files_in self.now.rows.now) (rows_in self.now.rows.now)
+            self.now.follows.items
             → ((j : ℕ) → Follows (files_in self.now.rows.now) (rows_in self.now.rows.now) number j
-            → (b : ℕ) → (at bases.now j ≡ Some b) ↔ HasBase (files_in self.now.rows.now) (rows_in self.now.rows.now) j b)
-            → (b : ℕ) → (result ≡ Some b) ↔ HasBase (files_in self.now.rows.now) (rows_in self.now.rows.now) number b }
+            → (b : ℕ) → (at bases.now j ≡ Some b)
+            ↔ HasBase (files_in self.now.rows.now) (rows_in self.now.rows.now) j b)
+            → (b : ℕ) → (result ≡ Some b)
+            ↔ HasBase (files_in self.now.rows.now) (rows_in self.now.rows.now) number b }
     {
         if self.names_built_in(number) {
             return Some(number);
@@ -46,7 +49,9 @@ impl Draft<'_, '_, '_> {
         alloc: Global,
         order: &[usize],
     ) -> Result<Vec<Option<usize>>, AllocError>
-        ensures { IfOk result (λ bases. AreFollowed (files_in self.now.rows.now) (rows_in self.now.rows.now) self.now.follows.items
+        ensures { IfOk result
+            (λ bases. AreFollowed (files_in self.now.rows.now) (rows_in self.now.rows.now)
+            self.now.follows.items
             → IsOrderOfAll (files_in self.now.rows.now) (rows_in self.now.rows.now) order.now
             → AreBased (files_in self.now.rows.now) (rows_in self.now.rows.now) bases.items) }
     {

@@ -28,9 +28,12 @@ impl Bases {
     ghost use Rattle.yv_type_chains.specs.Refusals.{BadKinds};
     ghost use Rattle.yv_type_chains.specs.Bases.{AreBases};
 
-    /// Reads the types of these statements, the names being theirs. Want of memory is the only error.
+    /// Reads the types of these statements, the names being theirs. Want of memory is the only
+    /// error.
     pub fn read(alloc: Global, rows: &Rows<'_, '_>, names: &Names) -> Result<Bases, AllocError>
-        ensures { IfOk result (λ bases. (files : Files) → lent_in rows.now ≡ files → AreNames files names.now → AreBases files bases) }
+        ensures { IfOk result
+            (λ bases. (files : Files) → lent_in rows.now ≡ files → AreNames files names.now
+            → AreBases files bases) }
     {
         let draft = Draft::read(alloc, rows, names)?;
         let steps = draft.steps(alloc)?;
@@ -48,8 +51,9 @@ impl Bases {
         })
     }
 
-    /// The number of the type statement that names the built-in type to which the type of this number leads along
-    /// typedefs (RFC 7950, section 7.3): its own where it names one. None for other statements.
+    /// The number of the type statement that names the built-in type to which the type of this
+    /// number leads along typedefs (RFC 7950, section 7.3): its own where it names one. None for
+    /// other statements.
     pub fn base(&self, number: usize) -> Option<usize>
         ensures { (files : Files) → AreBases files self.now
             → (b : ℕ) → (result ≡ Some b) ↔ HasBase (map brief_of files) (rows_of files) number b }
@@ -57,8 +61,8 @@ impl Bases {
         get(&self.bases, number)
     }
 
-    /// The number of the type of the typedef that the type of this number names. None for other statements, and for
-    /// types that name built-in types.
+    /// The number of the type of the typedef that the type of this number names. None for other
+    /// statements, and for types that name built-in types.
     pub fn follows(&self, number: usize) -> Option<usize>
         ensures { (files : Files) → AreBases files self.now
             → (j : ℕ) → (result ≡ Some j) ↔ Follows (map brief_of files) (rows_of files) number j }
@@ -66,15 +70,18 @@ impl Bases {
         get(&self.follows, number)
     }
 
-    /// The numbers of all type statements, each once, after the type that it follows and after its members.
+    /// The numbers of all type statements, each once, after the type that it follows and after its
+    /// members.
     pub fn order(&self) -> &[usize]
-        ensures { (files : Files) → AreBases files self.now → IsOrderOfTypes (map brief_of files) (rows_of files) result.now }
+        ensures { (files : Files) → AreBases files self.now
+            → IsOrderOfTypes (map brief_of files) (rows_of files) result.now }
     {
         &self.order
     }
 
-    /// The least that is wrong with the types (RFC 7950, section 9): a substatement that a type doesn't take or lacks,
-    /// a leafref in a union, or a type with more than 64 members. None where nothing is wrong.
+    /// The least that is wrong with the types (RFC 7950, section 9): a substatement that a type
+    /// doesn't take or lacks, a leafref in a union, or a type with more than 64 members. None where
+    /// nothing is wrong.
     pub fn refusal(&self) -> Option<Refusal>
         ensures { (files : Files) → AreBases files self.now → IsLeast (BadKinds files) result }
     {

@@ -39,7 +39,8 @@ fn total(counts: &[Option<usize>], members: &[usize]) -> Option<usize>
 impl Draft<'_, '_, '_> {
     // The count of a type, those from which it takes its values having theirs.
     fn count(&self, counts: &[Option<usize>], number: usize) -> Option<usize>
-        ensures { AreFollowed (files_in self.now.rows.now) (rows_in self.now.rows.now) self.now.follows.items
+        ensures { AreFollowed (files_in self.now.rows.now) (rows_in self.now.rows.now)
+            self.now.follows.items
             → ((j : ℕ) → RestsOn (files_in self.now.rows.now) (rows_in self.now.rows.now) number j
             → IsCount (files_in self.now.rows.now) (rows_in self.now.rows.now) j (at counts.now j))
             → IsCount (files_in self.now.rows.now) (rows_in self.now.rows.now) number result }
@@ -68,7 +69,9 @@ impl Draft<'_, '_, '_> {
         alloc: Global,
         order: &[usize],
     ) -> Result<Vec<Option<usize>>, AllocError>
-        ensures { IfOk result (λ counts. AreFollowed (files_in self.now.rows.now) (rows_in self.now.rows.now) self.now.follows.items
+        ensures { IfOk result
+            (λ counts. AreFollowed (files_in self.now.rows.now) (rows_in self.now.rows.now)
+            self.now.follows.items
             → IsOrderOfAll (files_in self.now.rows.now) (rows_in self.now.rows.now) order.now
             → AreCounts (files_in self.now.rows.now) (rows_in self.now.rows.now) counts.items) }
     {

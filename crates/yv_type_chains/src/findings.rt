@@ -8,7 +8,8 @@ ghost use Rattle.yv_type_chains.specs.InnerFindings.{AreFound};
 use crate::draft::Draft;
 use std::alloc::{AllocError, Global};
 
-/// The base and the count of each type, and marks on those with a substatement that they don't take, or that they need.
+/// The base and the count of each type, and marks on those with a substatement that they don't
+/// take, or that they need.
 #[derive(Drop)]
 pub(crate) struct Findings {
     pub bases: Vec<Option<usize>>,
@@ -24,7 +25,9 @@ impl Findings {
         draft: &Draft<'_, '_, '_>,
         order: &[usize],
     ) -> Result<Findings, AllocError>
-        ensures { IfOk result (λ found. AreFollowed (files_in draft.now.rows.now) (rows_in draft.now.rows.now) draft.now.follows.items
+        ensures { IfOk result
+            (λ found. AreFollowed (files_in draft.now.rows.now) (rows_in draft.now.rows.now)
+            draft.now.follows.items
             → IsOrderOfAll (files_in draft.now.rows.now) (rows_in draft.now.rows.now) order.now
             → AreFound (files_in draft.now.rows.now) (rows_in draft.now.rows.now) found) }
     {

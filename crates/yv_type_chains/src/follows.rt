@@ -52,7 +52,8 @@ pub(crate) fn all_followed(
     requires { (block : ℕ) → items_at inside.now block ≡ types_in (rows_in rows.now) block }
     ensures exact { IfOk result (λ follows. AreNames (lent_in rows.now) names.now
         → AreFollowed (files_in rows.now) (rows_in rows.now) follows.items) }
-    ensures within { IfOk result (λ follows. (k j : ℕ) → at follows.items k ≡ Some j → j < length (rows_in rows.now)) }
+    ensures within { IfOk result
+        (λ follows. (k j : ℕ) → at follows.items k ≡ Some j → j < length (rows_in rows.now)) }
 {
     let mut follows = Vec::new(alloc);
     for (number, entry) in rows.entries().iter().enumerate() {

@@ -25,7 +25,8 @@ fn is_inner(number: usize, entry: &Entry<'_, '_>) -> bool
 
 // So many lists, all empty.
 fn no_lists(alloc: Global, count: usize) -> Result<Vec<Vec<usize>>, AllocError>
-    ensures { IfOk result (λ lists. (length lists.items ≡ count) × ((k : ℕ) → items_at lists.items k ≡ [])) }
+    ensures { IfOk result
+        (λ lists. (length lists.items ≡ count) × ((k : ℕ) → items_at lists.items k ≡ [])) }
 {
     let mut lists = Vec::new(alloc);
     for _ in 0..count {

@@ -1,6 +1,7 @@
-//! The types of YANG files: the built-in type to which each leads along typedefs, the type that it follows, an order
-//! in which each comes after those from which it takes its values, and what is wrong with them. All takes time linear
-//! in statements except for the restrictions' names, which are compared with a few words each, and without recursion.
+//! The types of YANG files: the built-in type to which each leads along typedefs, the type that it
+//! follows, an order in which each comes after those from which it takes its values, and what is
+//! wrong with them. All takes time linear in statements except for the restrictions' names, which
+//! are compared with a few words each, and without recursion.
 #![tactic(auto)]
 
 mod base;

@@ -19,7 +19,8 @@ pub(crate) fn is_marked(marks: &[bool], number: usize) -> bool
 fn mark(marks: &mut Vec<bool>, number: usize)
     ensures each { length marks.new.items ≡ length marks.old.items }
     ensures here { number < length marks.old.items → is_marked marks.new.items number ≡ true }
-    ensures elsewhere { (k : ℕ) → k ≢ number → is_marked marks.new.items k ≡ is_marked marks.old.items k }
+    ensures elsewhere { (k : ℕ) → k ≢ number → is_marked marks.new.items k
+        ≡ is_marked marks.old.items k }
 {
     if number < marks.len() {
         marks[number] = true;
@@ -33,8 +34,10 @@ impl Draft<'_, '_, '_> {
         alloc: Global,
         bases: &[Option<usize>],
     ) -> Result<Vec<bool>, AllocError>
-        ensures { IfOk result (λ marks. AreBased (files_in self.now.rows.now) (rows_in self.now.rows.now) bases.now
-            → AreMarked (IsMisfit (files_in self.now.rows.now) (rows_in self.now.rows.now)) (rows_in self.now.rows.now) marks.items) }
+        ensures { IfOk result
+            (λ marks. AreBased (files_in self.now.rows.now) (rows_in self.now.rows.now) bases.now
+            → AreMarked (IsMisfit (files_in self.now.rows.now) (rows_in self.now.rows.now))
+            (rows_in self.now.rows.now) marks.items) }
     {
         yv_link_scopes::laws::blocks_are_nested();
         let entries = self.rows.entries();
@@ -49,7 +52,9 @@ impl Draft<'_, '_, '_> {
 
     /// Marks the types with a substatement that they need.
     pub(crate) fn mark_satisfied(&self, alloc: Global) -> Result<Vec<bool>, AllocError>
-        ensures { IfOk result (λ marks. AreMarked (Meets (rows_in self.now.rows.now)) (rows_in self.now.rows.now) marks.items) }
+        ensures { IfOk result
+            (λ marks. AreMarked (Meets (rows_in self.now.rows.now)) (rows_in self.now.rows.now)
+            marks.items) }
     {
         yv_link_scopes::laws::blocks_are_nested();
         let entries = self.rows.entries();

@@ -38,7 +38,8 @@ impl<'a, 'b> Draft<'_, 'a, 'b> {
     // Whether a restriction is none of the built-in type to which a type leads.
     fn is_foreign(&self, bases: &[Option<usize>], number: usize, word: &str) -> bool
         ensures { AreBased (files_in self.now.rows.now) (rows_in self.now.rows.now) bases.now
-            → IsTrue result ↔ IsForeign (files_in self.now.rows.now) (rows_in self.now.rows.now) number word.now }
+            → IsTrue result
+            ↔ IsForeign (files_in self.now.rows.now) (rows_in self.now.rows.now) number word.now }
     {
         match self.kind(bases, number) {
             Some(kind) => is_foreign(kind, word),
@@ -81,7 +82,9 @@ impl<'a, 'b> Draft<'_, 'a, 'b> {
         entry: &Entry<'a, 'b>,
     ) -> bool
         ensures { AreBased (files_in self.now.rows.now) (rows_in self.now.rows.now) bases.now
-            → IsTrue result ↔ IsMisfit (files_in self.now.rows.now) (rows_in self.now.rows.now) number (row entry.now) }
+            → IsTrue result
+            ↔ IsMisfit (files_in self.now.rows.now) (rows_in self.now.rows.now) number
+            (row entry.now) }
     {
         let word = entry.statement.keyword();
         let inherited = self.is_inherited(number, word);
@@ -102,7 +105,9 @@ impl<'a, 'b> Draft<'_, 'a, 'b> {
     // Whether a type leads to leafref.
     fn is_leafref(&self, bases: &[Option<usize>], number: usize) -> bool
         ensures { AreBased (files_in self.now.rows.now) (rows_in self.now.rows.now) bases.now
-            → IsTrue result ↔ HasKind (files_in self.now.rows.now) (rows_in self.now.rows.now) number (codes "leafref") }
+            → IsTrue result
+            ↔ HasKind (files_in self.now.rows.now) (rows_in self.now.rows.now) number
+            (codes "leafref") }
     {
         match self.kind(bases, number) {
             Some(kind) => kind == "leafref",
@@ -118,7 +123,9 @@ impl<'a, 'b> Draft<'_, 'a, 'b> {
         entry: &Entry<'a, 'b>,
     ) -> bool
         ensures { AreBased (files_in self.now.rows.now) (rows_in self.now.rows.now) bases.now
-            → IsTrue result ↔ IsJoined (files_in self.now.rows.now) (rows_in self.now.rows.now) number (row entry.now) }
+            → IsTrue result
+            ↔ IsJoined (files_in self.now.rows.now) (rows_in self.now.rows.now) number
+            (row entry.now) }
     {
         let leafref = self.is_leafref(bases, number);
         let union = self.is_union_at(entry.scope);

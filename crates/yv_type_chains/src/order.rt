@@ -14,7 +14,8 @@ use std::alloc::{AllocError, Global};
 use yv_base_graph::{Ranking, rank};
 
 impl Draft<'_, '_, '_> {
-    /// An order of all statements in which each type comes after those from which it takes its values, these being the steps.
+    /// An order of all statements in which each type comes after those from which it takes its
+    /// values, these being the steps.
     pub(crate) fn order(
         &self,
         alloc: Global,
@@ -22,7 +23,8 @@ impl Draft<'_, '_, '_> {
     ) -> Result<Vec<usize>, AllocError>
         requires { AreSteps (rows_in self.now.rows.now) self.now.follows.items steps.now }
         ensures { IfOk result (λ order. (names : Names) → AreNames (lent_in self.now.rows.now) names
-            → AreFollowed (files_in self.now.rows.now) (rows_in self.now.rows.now) self.now.follows.items
+            → AreFollowed (files_in self.now.rows.now) (rows_in self.now.rows.now)
+            self.now.follows.items
             → IsOrderOfAll (files_in self.now.rows.now) (rows_in self.now.rows.now) order.items) }
     {
         match rank(alloc, steps)? {
@@ -38,7 +40,9 @@ impl Draft<'_, '_, '_> {
         alloc: Global,
         order: &[usize],
     ) -> Result<Vec<usize>, AllocError>
-        ensures { IfOk result (λ types. IsOrderOfAll (files_in self.now.rows.now) (rows_in self.now.rows.now) order.now
+        ensures { IfOk result
+            (λ types. IsOrderOfAll (files_in self.now.rows.now) (rows_in self.now.rows.now)
+            order.now
             → IsOrderOfTypes (files_in self.now.rows.now) (rows_in self.now.rows.now) types.items) }
     {
         let mut types = Vec::new(alloc);

@@ -21,7 +21,9 @@ use yv_statement::{Code, Refusal, lesser, refusal_if};
 
 // Whether a type needs a substatement and has none of these.
 fn is_missing(met: &[bool], number: usize, entry: &Entry<'_, '_>) -> bool
-    ensures { result ≡ ((is_type (row entry.now) && needs_any (name_in (row entry.now))) && not (is_marked met.now number)) }
+    ensures { result
+        ≡ ((is_type (row entry.now) && needs_any (name_in (row entry.now)))
+        && not (is_marked met.now number)) }
 {
     is_type(entry) && needs_any(name_of(entry.statement)) && !is_marked(met, number)
 }
@@ -38,7 +40,9 @@ impl<'a, 'b> Draft<'_, 'a, 'b> {
     fn is_bad(&self, found: &Findings, number: usize, entry: &Entry<'a, 'b>) -> bool
         requires { slice_get (rows_in self.now.rows.now) number ≡ Some (row entry.now) }
         ensures { AreFound (files_in self.now.rows.now) (rows_in self.now.rows.now) found.now
-            → IsTrue result ↔ IsBadType (files_in self.now.rows.now) (rows_in self.now.rows.now) number (row entry.now) }
+            → IsTrue result
+            ↔ IsBadType (files_in self.now.rows.now) (rows_in self.now.rows.now) number
+            (row entry.now) }
     {
         let misfit = is_marked(&found.misfits, number);
         let missing = is_missing(&found.met, number, entry);
@@ -49,7 +53,8 @@ impl<'a, 'b> Draft<'_, 'a, 'b> {
     // Whether the values of a type may have too many types.
     fn has_too_many(&self, found: &Findings, number: usize) -> bool
         ensures { AreFound (files_in self.now.rows.now) (rows_in self.now.rows.now) found.now
-            → IsTrue result ↔ HasTooMany (files_in self.now.rows.now) (rows_in self.now.rows.now) number }
+            → IsTrue result
+            ↔ HasTooMany (files_in self.now.rows.now) (rows_in self.now.rows.now) number }
     {
         match get(&found.counts, number) {
             Some(count) => count > 64,
@@ -61,7 +66,9 @@ impl<'a, 'b> Draft<'_, 'a, 'b> {
     fn row_refusal(&self, found: &Findings, number: usize, entry: &Entry<'a, 'b>) -> Option<Refusal>
         requires { slice_get (rows_in self.now.rows.now) number ≡ Some (row entry.now) }
         ensures { AreFound (files_in self.now.rows.now) (rows_in self.now.rows.now) found.now
-            → IsLeast (BadRow (files_in self.now.rows.now) (rows_in self.now.rows.now) number (row entry.now)) result }
+            → IsLeast
+            (BadRow (files_in self.now.rows.now) (rows_in self.now.rows.now) number (row entry.now))
+            result }
     {
         let is_bad = self.is_bad(found, number, entry);
         let has_too_many = self.has_too_many(found, number);

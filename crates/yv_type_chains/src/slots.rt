@@ -6,7 +6,8 @@ use std::alloc::{AllocError, Global};
 
 /// So many places, none with a number.
 pub(crate) fn no_numbers(alloc: Global, count: usize) -> Result<Vec<Option<usize>>, AllocError>
-    ensures { IfOk result (λ slots. (length slots.items ≡ count) × ((k : ℕ) → at slots.items k ≡ None)) }
+    ensures { IfOk result
+        (λ slots. (length slots.items ≡ count) × ((k : ℕ) → at slots.items k ≡ None)) }
 {
     vec![in alloc; None; count]
 }

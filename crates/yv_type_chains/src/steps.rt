@@ -39,7 +39,9 @@ impl<'a, 'b> Draft<'_, 'a, 'b> {
         entry: &Entry<'a, 'b>,
     ) -> Result<Vec<usize>, AllocError>
         requires { slice_get (rows_in self.now.rows.now) number ≡ Some (row entry.now) }
-        ensures { IfOk result (λ list. AreEdges (rows_in self.now.rows.now) self.now.follows.items number (row entry.now) list.items) }
+        ensures { IfOk result
+            (λ list. AreEdges (rows_in self.now.rows.now) self.now.follows.items number
+            (row entry.now) list.items) }
     {
         if is_kind("union", entry) {
             self.inside[number].clone()
@@ -52,7 +54,8 @@ impl<'a, 'b> Draft<'_, 'a, 'b> {
 
     /// For each statement the types from which it takes its values.
     pub(crate) fn steps(&self, alloc: Global) -> Result<Vec<Vec<usize>>, AllocError>
-        ensures { IfOk result (λ steps. AreSteps (rows_in self.now.rows.now) self.now.follows.items steps.items) }
+        ensures { IfOk result
+            (λ steps. AreSteps (rows_in self.now.rows.now) self.now.follows.items steps.items) }
     {
         let mut steps = Vec::new(alloc);
         for (number, entry) in self.rows.entries().iter().enumerate() {

@@ -1,4 +1,5 @@
--- What a `type` statement lists: its `enum` and `bit` statements (RFC 7950, sections 9.6.4 and 9.7.4).
+-- What a `type` statement lists: its `enum` and `bit` statements (RFC 7950, sections 9.6.4 and
+-- 9.7.4).
 use Rattle.std.specs.Prelude.{ℕ, Bool, ◌&&◌, List, Option, map, codes}
 use Rattle.std.specs.List.{filter, find, list_any}
 use Rattle.std.specs.Option.{option_map}
@@ -24,7 +25,8 @@ number_word Bits = codes "position"
 abbrev pub listing : NumberKind → Tree → List Tree
 listing kind t = filter (λ c. has_word (entry_word kind) c.head) (trees t.children)
 
--- the text that says the number of an entry: that of its first `value` or `position`, where it has one
+-- the text that says the number of an entry: that of its first `value` or `position`, where it has
+-- one
 abbrev pub number_text : NumberKind → Tree → Option (List ℕ)
 number_text kind c = option_map (λ s. name_of s.head) (find (λ s. has_word (number_word kind) s.head) (trees c.children))
 

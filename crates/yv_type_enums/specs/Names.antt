@@ -1,4 +1,5 @@
--- The names of a type, with their numbers, and which of them are values (RFC 7950, sections 9.6.3, 9.6.4, 9.7.3 and
+-- The names of a type, with their numbers, and which of them are values (RFC 7950, sections 9.6.3,
+-- 9.6.4, 9.7.3 and
 -- 9.7.4).
 use Rattle.std.specs.Prelude.{◌≡◌, ℕ, ℤ, Bool, ◌&&◌, List, [], ◌∷◌, Option, Some, None, is_some, slice_get}
 use Rattle.yv_statement.specs.Order.{refusal_at}
@@ -24,13 +25,14 @@ is_value names = has names.shared.value.values
 abbrev pub is_value_among : (List ℕ → Option ℤ) → (List ℕ → Bool) → List ℕ → Bool
 is_value_among number listed name = is_some (number name) && listed name
 
--- A derived type has the numbers of its base where it lists nothing, or else of the names that it lists.
+-- A derived type has the numbers of its base where it lists nothing, or else of the names that it
+-- lists.
 abbrev pub number_from : (List ℕ → Option ℤ) → List Entry → List ℕ → Option ℤ
 number_from base [] name = base name
 number_from base (e ∷ es) name = number_in (keep_numbers base (e ∷ es)) name
 
--- A derived type has the values of its base where it lists nothing. Else a name with a number is a value where it is
--- one in the base and is given by an entry that is on.
+-- A derived type has the values of its base where it lists nothing. Else a name with a number is a
+-- value where it is one in the base and is given by an entry that is on.
 abbrev pub is_value_from : (List ℕ → Bool) → (List ℕ → Option ℤ) → (List Tree → List ℕ → Bool) → List Tree → List ℕ → Bool
 is_value_from base number listed [] name = base name
 is_value_from base number listed (c ∷ cs) name = is_some (number name) && (base name && listed (c ∷ cs) name)

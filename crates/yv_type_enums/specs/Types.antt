@@ -1,5 +1,6 @@
--- What is told of the names of `type` statements that lead along typedefs to `enumeration` or to `bits`: a derived type
--- lists some of the names of the type that it follows, or none and has them all (RFC 7950, sections 7.3.4, 9.6.3, 9.6.4,
+-- What is told of the names of `type` statements that lead along typedefs to `enumeration` or to
+-- `bits`: a derived type lists some of the names of the type that it follows, or none and has them
+-- all (RFC 7950, sections 7.3.4, 9.6.3, 9.6.4,
 -- 9.7.3 and 9.7.4).
 use Rattle.std.specs.Prelude.{◌≡◌, ℕ, ℤ, Bool, List, map, Option, Some, None, codes, if◌then◌else◌, slice_get}
 use Rattle.yv_statement.specs.Tree.{Tree}
@@ -18,14 +19,15 @@ use Rattle.yv_type_enums.specs.Names.{IsRefusal, is_value_among, is_value_from, 
 abbrev pub Truth : Type 0
 Truth = ℕ → List ℕ → Bool
 
--- what is told of a type's names: whether they are values or bits, the number of each, and which are values
+-- what is told of a type's names: whether they are values or bits, the number of each, and which
+-- are values
 pub record NamesView : Type 0 where
   pub kind : NumberKind
   pub number : List ℕ → Option ℤ
   pub value : List ℕ → Bool
 
--- what a type statement's names are taken from: a new type has them by itself, a derived one from what is told of the
--- type that it follows
+-- what a type statement's names are taken from: a new type has them by itself, a derived one from
+-- what is told of the type that it follows
 pub data Start : Type 0 where
   new : NumberKind → Start
   from : NamesView → Start

@@ -9,8 +9,8 @@ use crate::values::Values;
 use yv_base_numbers::Numbering;
 use yv_values::PlainType;
 
-/// The numbers and the values of a type. The values are kept in two ways: to be asked for one, and as the list of a
-/// plain type, whose copies share it.
+/// The numbers and the values of a type. The values are kept in two ways: to be asked for one, and
+/// as the list of a plain type, whose copies share it.
 #[derive(Drop)]
 pub(crate) struct Common<'a> {
     pub numbering: Numbering<'a>,

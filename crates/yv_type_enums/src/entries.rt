@@ -19,7 +19,8 @@ pub(crate) fn listing<'a, 'b>(
     kind: NumberKind,
     statement: &'a Statement<'b>,
 ) -> Result<Vec<&'a Statement<'b>>, AllocError>
-    ensures { IfOk result (λ lines. map (λ line. line.now) lines.items ≡ listing kind statement.now) }
+    ensures { IfOk result
+        (λ lines. map (λ line. line.now) lines.items ≡ listing kind statement.now) }
 {
     let word = entry_word(kind);
     let mut lines = Vec::new(alloc);
@@ -37,7 +38,8 @@ pub(crate) fn entries<'a>(
     kind: NumberKind,
     lines: &[&'a Statement<'_>],
 ) -> Result<Vec<ListedEntry<'a>>, AllocError>
-    ensures { IfOk result (λ entries. entries.items ≡ map (entry_of kind) (map (λ line. line.now) lines.now)) }
+    ensures { IfOk result
+        (λ entries. entries.items ≡ map (entry_of kind) (map (λ line. line.now) lines.now)) }
 {
     let mut entries = Vec::new(alloc);
     for line in lines {
@@ -59,7 +61,8 @@ fn number_text<'a>(kind: NumberKind, line: &'a Statement<'_>) -> Option<&'a str>
 
 // The first substatement of a keyword.
 fn first<'a, 'b>(statement: &'a Statement<'b>, word: &str) -> Option<&'a Statement<'b>>
-    ensures { option_map (λ found. found.now) result ≡ find (λ c. has_word word.now c.head) (trees statement.now.children) }
+    ensures { option_map (λ found. found.now) result
+        ≡ find (λ c. has_word word.now c.head) (trees statement.now.children) }
 {
     for child in statement.children() {
         if child.keyword() == word {

@@ -22,7 +22,8 @@ pub(crate) struct IfFeatures<'r, 'a, 'b> {
 }
 
 impl<'r, 'a, 'b> IfFeatures<'r, 'a, 'b> {
-    /// The names of entries that are on, among those with a number that are values of the base, where there is one.
+    /// The names of entries that are on, among those with a number that are values of the base,
+    /// where there is one.
     pub fn values(
         &self,
         alloc: Global,
@@ -31,7 +32,8 @@ impl<'r, 'a, 'b> IfFeatures<'r, 'a, 'b> {
         lines: &[&'a Statement<'_>],
     ) -> Result<Values<'a>, AllocError>
         ensures { IfOk result (λ values. (name : List ℕ) → has values name
-            ≡ (counts numbering.now base.entry name && is_on_among (truth_in self.now.linked.now) self.now.file (borrow lines.now) name)) }
+            ≡ (counts numbering.now base.entry name
+            && is_on_among (truth_in self.now.linked.now) self.now.file (borrow lines.now) name)) }
     {
         let mut values = Values::new(alloc);
         for line in lines {

@@ -1,6 +1,6 @@
-//! The names of `type` statements that lead along typedefs to `enumeration` or to `bits`, with their numbers, and which of
-//! them are values (RFC 7950, sections 7.3.4, 9.6.3, 9.6.4, 9.7.3 and 9.7.4), and what is wrong with them. Nothing recurses
-//! along typedefs.
+//! The names of `type` statements that lead along typedefs to `enumeration` or to `bits`, with
+//! their numbers, and which of them are values (RFC 7950, sections 7.3.4, 9.6.3, 9.6.4, 9.7.3 and
+//! 9.7.4), and what is wrong with them. Nothing recurses along typedefs.
 #![tactic(auto)]
 
 mod common;

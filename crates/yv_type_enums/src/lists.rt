@@ -14,7 +14,8 @@ use yv_link::Linked;
 use yv_statement::{Refusal, lesser};
 use yv_type_chains::Bases;
 
-/// The names of the types of files that lead to `enumeration` or to `bits`, and what is wrong with these.
+/// The names of the types of files that lead to `enumeration` or to `bits`, and what is wrong with
+/// these.
 #[derive(Drop)]
 pub struct Lists<'a> {
     pub(crate) types: Vec<Option<TypeNames<'a>>>,
@@ -27,14 +28,17 @@ impl<'a> Lists<'a> {
     ghost use Rattle.yv_type_enums.specs.Lists.{AreLists};
     ghost use Rattle.yv_type_enums.specs.TypeNames.{told_of};
 
-    /// Reads the types of these files, the bases being theirs. Want of memory is the only error. It takes time n log n in
-    /// statements; types that list nothing share the names of those that they follow.
+    /// Reads the types of these files, the bases being theirs. Want of memory is the only error. It
+    /// takes time n log n in statements; types that list nothing share the names of those that they
+    /// follow.
     pub fn read(
         alloc: Global,
         linked: &Linked<'a, '_>,
         bases: &Bases,
     ) -> Result<Lists<'a>, AllocError>
-        ensures { IfOk result (λ lists. (files : Files) (choice : Selected) → AreLinked files choice linked.now → AreBases files bases.now
+        ensures { IfOk result
+            (λ lists. (files : Files) (choice : Selected) → AreLinked files choice linked.now
+            → AreBases files bases.now
             → AreLists files (truth_in linked.now) lists) }
     {
         let rows = linked.rows();
@@ -48,19 +52,22 @@ impl<'a> Lists<'a> {
         Ok(Lists { types, fault })
     }
 
-    /// The names of the type of this number, in constant time. None for other statements, and for types that lead
-    /// elsewhere.
+    /// The names of the type of this number, in constant time. None for other statements, and for
+    /// types that lead elsewhere.
     pub fn names(&self, number: usize) -> Option<&TypeNames<'a>>
         ensures { (files : Files) (truth : Truth) → AreLists files truth self.now
-            → (told : NamesView) → (option_map told_of (option_copied result) ≡ Some told) ↔ HasNames files truth number told }
+            → (told : NamesView) → (option_map told_of (option_copied result) ≡ Some told)
+            ↔ HasNames files truth number told }
     {
         get(&self.types, number)
     }
 
-    /// The least that is wrong with the names and numbers of the types: the first wrong entry of a type. A wrong entry
-    /// gives no name, so that the types derived from it are judged without it. None where nothing is wrong.
+    /// The least that is wrong with the names and numbers of the types: the first wrong entry of a
+    /// type. A wrong entry gives no name, so that the types derived from it are judged without it.
+    /// None where nothing is wrong.
     pub fn refusal(&self) -> Option<Refusal>
-        ensures { (files : Files) (truth : Truth) → AreLists files truth self.now → IsLeast (BadLists files truth) result }
+        ensures { (files : Files) (truth : Truth) → AreLists files truth self.now
+            → IsLeast (BadLists files truth) result }
     {
         self.fault
     }

@@ -15,9 +15,11 @@ pub(crate) fn new_numbers<'a>(
     lines: &[&'a Statement<'_>],
 ) -> Result<NumberedEntries<'a>, AllocError>
     ensures numbers { IfOk result (λ r. (name : List ℕ)
-        → table_of r.numbering name ≡ number_in (number_entries kind (entries_in kind lines.now)) name) }
+        → table_of r.numbering name
+        ≡ number_in (number_entries kind (entries_in kind lines.now)) name) }
     ensures wrong { IfOk result (λ r.
-        IsFirstWrong (number_entries kind) (is_wrong kind) (entries_in kind lines.now) r.first_wrong) }
+        IsFirstWrong (number_entries kind) (is_wrong kind) (entries_in kind lines.now)
+        r.first_wrong) }
 {
     let entries = entries(alloc, kind, lines)?;
     let found = number_entries(alloc, kind, &entries)?;
@@ -32,8 +34,10 @@ pub(crate) fn derived_numbers<'a>(
     lines: &[&'a Statement<'_>],
 ) -> Result<NumberedEntries<'a>, AllocError>
     ensures numbers { IfOk result (λ r. (name : List ℕ)
-        → table_of r.numbering name ≡ number_in (keep_numbers (table_of base.now) (entries_in kind lines.now)) name) }
-    ensures wrong { IfOk result (λ r. IsFirstWrong (keep_numbers (table_of base.now)) (is_wrong_in (table_of base.now))
+        → table_of r.numbering name
+        ≡ number_in (keep_numbers (table_of base.now) (entries_in kind lines.now)) name) }
+    ensures wrong { IfOk result
+        (λ r. IsFirstWrong (keep_numbers (table_of base.now)) (is_wrong_in (table_of base.now))
         (entries_in kind lines.now) r.first_wrong) }
 {
     let entries = entries(alloc, kind, lines)?;

@@ -66,7 +66,9 @@ fn new<'a>(
     kind: NumberKind,
     statement: &'a Statement<'_>,
 ) -> Result<Step<'a>, AllocError>
-    ensures { IfOk result (λ s. IsRead (truth_in linked.now) file statement.now (new kind) (option_map told_of s.names) s.fault) }
+    ensures { IfOk result
+        (λ s. IsRead (truth_in linked.now) file statement.now (new kind)
+        (option_map told_of s.names) s.fault) }
 {
     let listing = NamedEntries::new(alloc, linked, file, kind, statement)?;
     let names = Some(TypeNames {
@@ -87,7 +89,9 @@ fn derive<'a>(
     base: &TypeNames<'a>,
     statement: &'a Statement<'_>,
 ) -> Result<Step<'a>, AllocError>
-    ensures { IfOk result (λ s. IsRead (truth_in linked.now) file statement.now (from (told_of base.now)) (option_map told_of s.names) s.fault) }
+    ensures { IfOk result
+        (λ s. IsRead (truth_in linked.now) file statement.now (from (told_of base.now))
+        (option_map told_of s.names) s.fault) }
 {
     let kind = base.kind;
     let listing = base.names.derive(alloc, linked, file, kind, statement)?;
@@ -111,8 +115,10 @@ pub(crate) fn type_at<'a>(
     number: usize,
 ) -> Result<Step<'a>, AllocError>
     ensures { IfOk result (λ s. AreBases (lent_in rows.now) bases.now
-        → AreKnown (lent_in rows.now) (truth_in linked.now) (IsFollowed (lent_in rows.now) number) types.now
-        → IsStep (lent_in rows.now) (truth_in linked.now) number (option_map told_of s.names) s.fault) }
+        → AreKnown (lent_in rows.now) (truth_in linked.now) (IsFollowed (lent_in rows.now) number)
+        types.now
+        → IsStep (lent_in rows.now) (truth_in linked.now) number (option_map told_of s.names)
+        s.fault) }
 {
     let Some(entry) = rows.entries().get(number) else {
         return Ok(nothing());

@@ -19,7 +19,8 @@ pub(crate) fn no_types<'a>(
     alloc: Global,
     count: usize,
 ) -> Result<Vec<Option<TypeNames<'a>>>, AllocError>
-    ensures { IfOk result (λ types. (length types.items ≡ count) × ((k : ℕ) → told_at types.items k ≡ None)) }
+    ensures { IfOk result
+        (λ types. (length types.items ≡ count) × ((k : ℕ) → told_at types.items k ≡ None)) }
 {
     let mut types = Vec::new(alloc);
     for _ in 0..count {
@@ -45,8 +46,10 @@ pub(crate) fn put<'a>(
     names: Option<TypeNames<'a>>,
 )
     ensures each { length types.new.items ≡ length types.old.items }
-    ensures here { place < length types.old.items → told_at types.new.items place ≡ option_map told_of names.entry }
-    ensures elsewhere { (k : ℕ) → k ≢ place → told_at types.new.items k ≡ told_at types.old.items k }
+    ensures here { place < length types.old.items → told_at types.new.items place
+        ≡ option_map told_of names.entry }
+    ensures elsewhere { (k : ℕ) → k ≢ place → told_at types.new.items k
+        ≡ told_at types.old.items k }
 {
     if place < types.len() {
         types[place] = names;

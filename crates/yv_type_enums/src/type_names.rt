@@ -19,16 +19,16 @@ use yv_link::Linked;
 use yv_statement::{Refusal, Statement};
 use yv_values::{NameSet, PlainType};
 
-/// The names of an enumeration or of bits, with their numbers, and which of them are values: a name whose `if-feature`
-/// is false keeps its number and is not a value. What a type shares with those derived from it that list nothing is kept
-/// once.
+/// The names of an enumeration or of bits, with their numbers, and which of them are values: a name
+/// whose `if-feature` is false keeps its number and is not a value. What a type shares with those
+/// derived from it that list nothing is kept once.
 #[derive(Drop)]
 pub struct NamedEntries<'a> {
     shared: Rc<Common<'a>>,
 }
 
-/// What a `type` statement lists: the names, and the refusal of the first entry that is wrong. A wrong entry gives no
-/// name.
+/// What a `type` statement lists: the names, and the refusal of the first entry that is wrong. A
+/// wrong entry gives no name.
 #[derive(Drop)]
 pub struct Listing<'a> {
     pub names: NamedEntries<'a>,
@@ -36,8 +36,9 @@ pub struct Listing<'a> {
 }
 
 impl<'a> NamedEntries<'a> {
-    /// The names of a `type` statement of this file that isn't derived from another enumeration or other bits (RFC 7950,
-    /// sections 9.6.4 and 9.7.4). It takes time n log n in the statements, besides that of their conditions.
+    /// The names of a `type` statement of this file that isn't derived from another enumeration or
+    /// other bits (RFC 7950, sections 9.6.4 and 9.7.4). It takes time n log n in the statements,
+    /// besides that of their conditions.
     pub fn new(
         alloc: Global,
         linked: &Linked<'a, '_>,
@@ -46,10 +47,13 @@ impl<'a> NamedEntries<'a> {
         statement: &'a Statement<'_>,
     ) -> Result<Listing<'a>, AllocError>
         ensures numbers { IfOk result (λ l. (name : List ℕ)
-            → number_of l.names name ≡ number_in (number_entries kind (entries kind statement.now)) name) }
+            → number_of l.names name
+            ≡ number_in (number_entries kind (entries kind statement.now)) name) }
         ensures values { IfOk result (λ l. (name : List ℕ) → is_value l.names name
-            ≡ is_value_among (number_of l.names) (is_on_among (truth_in linked.now) file (listing kind statement.now)) name) }
-        ensures fault { IfOk result (λ l. IsRefusal (number_entries kind) (is_wrong kind) kind file statement.now l.fault) }
+            ≡ is_value_among (number_of l.names)
+            (is_on_among (truth_in linked.now) file (listing kind statement.now)) name) }
+        ensures fault { IfOk result
+            (λ l. IsRefusal (number_entries kind) (is_wrong kind) kind file statement.now l.fault) }
     {
         let lines = listing(alloc, kind, statement)?;
         let found = new_numbers(alloc, kind, &lines)?;
@@ -57,7 +61,8 @@ impl<'a> NamedEntries<'a> {
         NamedEntries::make(alloc, conditions, found, None, &lines)
     }
 
-    /// The names of a `type` statement of this file that is derived from this type, of the same kind (RFC 7950, sections
+    /// The names of a `type` statement of this file that is derived from this type, of the same
+    /// kind (RFC 7950, sections
     /// 9.6.3 and 9.7.3). Where it lists nothing, it takes constant time besides that for the statement's substatements,
     /// else time n log n in the statements, besides that of their conditions.
     pub fn derive(
@@ -69,11 +74,15 @@ impl<'a> NamedEntries<'a> {
         statement: &'a Statement<'_>,
     ) -> Result<Listing<'a>, AllocError>
         ensures numbers { IfOk result (λ l. (name : List ℕ)
-            → number_of l.names name ≡ number_from (number_of self.now) (entries kind statement.now) name) }
+            → number_of l.names name
+            ≡ number_from (number_of self.now) (entries kind statement.now) name) }
         ensures values { IfOk result (λ l. (name : List ℕ) → is_value l.names name
-            ≡ is_value_from (is_value self.now) (number_of l.names) (is_on_among (truth_in linked.now) file)
+            ≡ is_value_from (is_value self.now) (number_of l.names)
+            (is_on_among (truth_in linked.now) file)
             (listing kind statement.now) name) }
-        ensures fault { IfOk result (λ l. IsRefusal (keep_numbers (number_of self.now)) (is_wrong_in (number_of self.now)) kind
+        ensures fault { IfOk result
+            (λ l. IsRefusal (keep_numbers (number_of self.now)) (is_wrong_in (number_of self.now))
+            kind
             file statement.now l.fault) }
     {
         let lines = listing(alloc, kind, statement)?;
@@ -97,11 +106,14 @@ impl<'a> NamedEntries<'a> {
     ) -> Result<Listing<'a>, AllocError>
         requires { borrow lines.now ≢ [] }
         ensures numbers { IfOk result (λ l. (name : List ℕ)
-            → number_of l.names name ≡ number_from (number_of self.now) (entries_in kind lines.now) name) }
+            → number_of l.names name
+            ≡ number_from (number_of self.now) (entries_in kind lines.now) name) }
         ensures values { IfOk result (λ l. (name : List ℕ) → is_value l.names name
-            ≡ is_value_from (is_value self.now) (number_of l.names) (is_on_among (truth_in linked.now) file) (borrow lines.now) name) }
+            ≡ is_value_from (is_value self.now) (number_of l.names)
+            (is_on_among (truth_in linked.now) file) (borrow lines.now) name) }
         ensures fault { IfOk result (λ l. (first : Option ℕ)
-            × IsFirstWrong (keep_numbers (number_of self.now)) (is_wrong_in (number_of self.now)) (entries_in kind lines.now) first
+            × IsFirstWrong (keep_numbers (number_of self.now)) (is_wrong_in (number_of self.now))
+            (entries_in kind lines.now) first
             × (l.fault ≡ refusal_of_entry file (borrow lines.now) first)) }
     {
         let found = derived_numbers(alloc, &self.shared.numbering, kind, lines)?;
@@ -111,8 +123,10 @@ impl<'a> NamedEntries<'a> {
 
     /// The same names once more, over the same tables. It takes constant time.
     pub fn copy(&self) -> Result<NamedEntries<'a>, AllocError>
-        ensures numbers { IfOk result (λ copy. (name : List ℕ) → number_of copy name ≡ number_of self.now name) }
-        ensures values { IfOk result (λ copy. (name : List ℕ) → is_value copy name ≡ is_value self.now name) }
+        ensures numbers { IfOk result
+            (λ copy. (name : List ℕ) → number_of copy name ≡ number_of self.now name) }
+        ensures values { IfOk result
+            (λ copy. (name : List ℕ) → is_value copy name ≡ is_value self.now name) }
     {
         Ok(NamedEntries {
             shared: self.shared.clone()?,
@@ -133,9 +147,11 @@ impl<'a> NamedEntries<'a> {
         self.shared.values.has(name)
     }
 
-    /// The names that are values, as plain types take them. The list is shared: it takes constant time.
+    /// The names that are values, as plain types take them. The list is shared: it takes constant
+    /// time.
     pub fn values(&self) -> Result<NameSet, AllocError>
-        ensures same { IfOk result (λ names. (name : List ℕ) → is_named names name ≡ is_value self.now name) }
+        ensures same { IfOk result
+            (λ names. (name : List ℕ) → is_named names name ≡ is_value self.now name) }
         ensures rises { IfOk result (λ names. Rises names) }
     {
         match self.shared.list.copy()? {
@@ -155,11 +171,15 @@ impl<'a> NamedEntries<'a> {
         base: Option<&Values<'a>>,
         lines: &[&'a Statement<'_>],
     ) -> Result<Listing<'a>, AllocError>
-        ensures numbers { IfOk result (λ l. (name : List ℕ) → number_of l.names name ≡ table_of found.entry.numbering name) }
+        ensures numbers { IfOk result
+            (λ l. (name : List ℕ) → number_of l.names name ≡ table_of found.entry.numbering name) }
         ensures values { IfOk result (λ l. (name : List ℕ) → is_value l.names name
             ≡ (counts found.entry.numbering base.entry name
-            && is_on_among (truth_in conditions.entry.linked.now) conditions.entry.file (borrow lines.now) name)) }
-        ensures fault { IfOk result (λ l. l.fault ≡ refusal_of_entry conditions.entry.file (borrow lines.now) found.entry.first_wrong) }
+            && is_on_among (truth_in conditions.entry.linked.now) conditions.entry.file
+            (borrow lines.now) name)) }
+        ensures fault { IfOk result
+            (λ l. l.fault
+            ≡ refusal_of_entry conditions.entry.file (borrow lines.now) found.entry.first_wrong) }
     {
         let NumberedEntries {
             numbering,

@@ -35,7 +35,8 @@ impl<'a> Values<'a> {
 
     /// Adds a name, where it isn't there yet.
     pub fn add(&mut self, name: &'a str) -> Result<(), AllocError>
-        ensures { IfOk result (λ _. (s : List ℕ) → has self.new s ≡ (has self.old s || bytes_eq name.now s)) }
+        ensures { IfOk result
+            (λ _. (s : List ℕ) → has self.new s ≡ (has self.old s || bytes_eq name.now s)) }
     {
         self.names.insert(name)?;
         Ok(())

@@ -7,7 +7,8 @@ use Rattle.yv_link_identities.specs.Derivation.{IsDerivedFrom}
 use Rattle.yv_link_identities.specs.References.{number_of, ref_of, reference_of}
 use Rattle.yv_link_identities.specs.declared.references.IdentityRef.{IdentityRef}
 
--- a type names a base: one of the base statements in the block of the type statement has a name that means it
+-- a type names a base: one of the base statements in the block of the type statement has a name
+-- that means it
 pub record NamesBase (files : Briefs) (rows : List Row) (kind : ℕ) (base : IdentityRef) : Type 0 where
   pub number : ℕ
   pub statement : Row

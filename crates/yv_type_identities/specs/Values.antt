@@ -29,8 +29,8 @@ names_implemented choice files name = unwrap_or (option_map (λ (m : ModuleRef).
 abbrev pub id_at : Briefs → Row → Id
 id_at files r = record { module_file = module_name_in (slice_get files r.file); name = name_in r }
 
--- the numbered statement r is an identity that is derived from every base of the type, of an implemented module, and none
--- of its conditions is false (section 9.10.2)
+-- the numbered statement r is an identity that is derived from every base of the type, of an
+-- implemented module, and none of its conditions is false (section 9.10.2)
 pub record IsValue (truth : Truth) (choice : Selected) (files : Files) (kind number : ℕ) (r : Row) : Type 0 where
   pub identity : is_identity r ≡ true
   pub derived : IsBelowAll (map brief_of files) (rows_of files) kind (ref_of r)

@@ -12,14 +12,18 @@ use crate::sets::{References, intersect};
 use std::alloc::{AllocError, Global};
 use yv_link::{IdentityRef, Linked};
 
-/// The identities that are derived from all of the bases at some files and offsets; none where there is no base.
+/// The identities that are derived from all of the bases at some files and offsets; none where
+/// there is no base.
 pub(crate) fn below(
     alloc: Global,
     linked: &Linked<'_, '_>,
     key: &[(u32, u64)],
 ) -> Result<Option<References>, AllocError>
-    ensures { IfOk result (λ left. (files : Files) (choice : Selected) → AreLinked files choice linked.now → (place : IdentityRef)
-        → IsTrue (is_left left place) ↔ IsBelowKey (map brief_of files) (rows_of files) key.now place) }
+    ensures { IfOk result
+        (λ left. (files : Files) (choice : Selected) → AreLinked files choice linked.now
+        → (place : IdentityRef)
+        → IsTrue (is_left left place)
+        ↔ IsBelowKey (map brief_of files) (rows_of files) key.now place) }
 {
     let mut left = None;
     for base in key {

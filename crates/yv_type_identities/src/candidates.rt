@@ -27,7 +27,8 @@ pub(crate) struct Candidate {
     pub member: Member,
 }
 
-// What is asked of each statement: the files, the names of their modules, and the statements that aren't on.
+// What is asked of each statement: the files, the names of their modules, and the statements that
+// aren't on.
 #[derive(Drop)]
 struct Draft<'r, 'a, 'b> {
     linked: &'r Linked<'a, 'b>,
@@ -76,7 +77,8 @@ fn names_implemented<'a>(linked: &Linked<'a, '_>, name: &'a str) -> bool
 
 // The names of the modules to which the files belong, once for each file.
 fn module_names(alloc: Global, linked: &Linked<'_, '_>) -> Result<Vec<RcStr>, AllocError>
-    ensures { IfOk result (λ module_files. (files : Files) (choice : Selected) → AreLinked files choice linked.now
+    ensures { IfOk result
+        (λ module_files. (files : Files) (choice : Selected) → AreLinked files choice linked.now
         → AreModuleNames (map brief_of files) module_files.items) }
 {
     let mut module_files = Vec::new(alloc);
@@ -104,8 +106,11 @@ impl<'a, 'b> Draft<'_, 'a, 'b> {
 
     // The name of the module to which a file belongs, shared by all that ask.
     fn module_name(&self, alloc: Global, file: u32) -> Result<RcStr, AllocError>
-        ensures { IfOk result (λ module_file. (files : Files) (choice : Selected) → AreLinked files choice self.now.linked.now
-            → AreModuleNames (map brief_of files) self.now.module_files.items → rc_str_bytes module_file ≡ module_name_in (slice_get (map brief_of files) file)) }
+        ensures { IfOk result
+            (λ module_file. (files : Files) (choice : Selected)
+            → AreLinked files choice self.now.linked.now
+            → AreModuleNames (map brief_of files) self.now.module_files.items
+            → rc_str_bytes module_file ≡ module_name_in (slice_get (map brief_of files) file)) }
     {
         match self.module_files.get(file as usize) {
             Some(module_file) => module_file.clone(),
@@ -115,8 +120,10 @@ impl<'a, 'b> Draft<'_, 'a, 'b> {
 
     // The identity of a statement, with its module.
     fn candidate(&self, alloc: Global, entry: &Entry<'a, 'b>) -> Result<Candidate, AllocError>
-        ensures { IfOk result (λ c. (files : Files) (choice : Selected) → AreLinked files choice self.now.linked.now
-            → AreModuleNames (map brief_of files) self.now.module_files.items → IsOf (map brief_of files) (row entry.now) c) }
+        ensures { IfOk result
+            (λ c. (files : Files) (choice : Selected) → AreLinked files choice self.now.linked.now
+            → AreModuleNames (map brief_of files) self.now.module_files.items
+            → IsOf (map brief_of files) (row entry.now) c) }
     {
         let module = self.module_name(alloc, entry.file)?;
         let name = RcStr::from_str(alloc, name_of(entry.statement))?;
@@ -132,7 +139,8 @@ pub(crate) fn candidates(
     alloc: Global,
     linked: &Linked<'_, '_>,
 ) -> Result<Vec<Candidate>, AllocError>
-    ensures { IfOk result (λ candidates. (files : Files) (choice : Selected) → AreLinked files choice linked.now
+    ensures { IfOk result
+        (λ candidates. (files : Files) (choice : Selected) → AreLinked files choice linked.now
         → AreCandidates (truth_in linked.now) choice files candidates.items) }
 {
     let module_files = module_names(alloc, linked)?;

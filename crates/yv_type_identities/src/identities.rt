@@ -24,8 +24,8 @@ pub(crate) struct KeyMembers {
     pub members: Members,
 }
 
-/// What identityref types ask of linked files, and the lists of identities that were made for some: types with the same
-/// bases share one.
+/// What identityref types ask of linked files, and the lists of identities that were made for some:
+/// types with the same bases share one.
 #[derive(Drop)]
 pub struct IdentityLists {
     pub(crate) bases: Vec<Vec<IdentityRef>>,
@@ -47,8 +47,8 @@ fn bases_of(inside: &[Vec<IdentityRef>], block: usize) -> &[IdentityRef]
 impl IdentityLists {
     ghost use Rattle.yv_type_identities.specs.Identities.{AreIdentities, IsFound};
 
-    /// Reads what types ask, in time n log n in the statements. Each identity's name is copied once, and that of its
-    /// module once for each file.
+    /// Reads what types ask, in time n log n in the statements. Each identity's name is copied
+    /// once, and that of its module once for each file.
     pub fn new(alloc: Global, linked: &Linked<'_, '_>) -> Result<IdentityLists, AllocError>
         ensures { IfOk result (λ identities. AreIdentities linked.now identities) }
     {
@@ -62,23 +62,27 @@ impl IdentityLists {
         })
     }
 
-    /// The values of the identityref type whose statement has a number among the rows of linked files: the identities of
-    /// implemented modules that are derived from every base of the type and whose own conditions hold (RFC 7950,
-    /// section 9.10.2). The linked files decide whether a condition is true. A base isn't derived from itself,
-    /// and so is not a value. An identity is derived through others whether or not these are values. A base whose name means
-    /// nothing, which linking refuses, counts as none, and a type without a base has all identities.
+    /// The values of the identityref type whose statement has a number among the rows of linked
+    /// files: the identities of implemented modules that are derived from every base of the type
+    /// and whose own conditions hold (RFC 7950, section 9.10.2). The linked files decide whether a
+    /// condition is true. A base isn't derived from itself, and so is not a value. An identity is
+    /// derived through others whether or not these are values. A base whose name means nothing,
+    /// which linking refuses, counts as none, and a type without a base has all identities.
     ///
-    /// For the first type with these bases it takes for each of them the time of `Linked::descendants`, and n log n in the
-    /// identities that are derived from it; only a type without a base goes through all identities here. For the others it
-    /// takes the time of sorting the bases.
+    /// For the first type with these bases it takes for each of them the time of
+    /// `Linked::descendants`, and n log n in the identities that are derived from it; only a type
+    /// without a base goes through all identities here. For the others it takes the time of sorting
+    /// the bases.
     pub fn of(
         &mut self,
         alloc: Global,
         linked: &Linked<'_, '_>,
         number: usize,
     ) -> Result<Members, AllocError>
-        ensures same { AreIdentities linked.now self.old → IfOk result (λ members. (files : Files) (choice : Selected)
-            → AreLinked files choice linked.now → (module_file called : List ℕ) → IsTrue (list_any (is_identity module_file called) members)
+        ensures same { AreIdentities linked.now self.old
+            → IfOk result (λ members. (files : Files) (choice : Selected)
+            → AreLinked files choice linked.now → (module_file called : List ℕ)
+            → IsTrue (list_any (is_identity module_file called) members)
             ↔ HasValue (truth_in linked.now) choice files number module_file called) }
         ensures rises { IfOk result (λ members. RiseById members) }
         ensures keeps { AreIdentities linked.now self.old → AreIdentities linked.now self.new }
@@ -94,10 +98,12 @@ impl IdentityLists {
         Ok(members)
     }
 
-    // The list that was made for a key. That it is the one of this key is looked at, and not kept as a fact.
+    // The list that was made for a key. That it is the one of this key is looked at, and not kept
+    // as a fact.
     fn find(&self, key: &[(u32, u64)]) -> Result<Option<Members>, AllocError>
         ensures rises { IfOk result (λ found. IfSome found RiseById) }
-        ensures right { (linked : Linked) → AreIdentities linked self.now → IfOk result (λ found. IfSome found (IsFound linked key.now)) }
+        ensures right { (linked : Linked) → AreIdentities linked self.now
+            → IfOk result (λ found. IfSome found (IsFound linked key.now)) }
     {
         let Some(place) = self.places.get(key) else {
             return Ok(None);
@@ -119,7 +125,8 @@ impl IdentityLists {
         key: Vec<(u32, u64)>,
         members: Members,
     ) -> Result<(), AllocError>
-        ensures { (linked : Linked) → AreIdentities linked self.old → IsFound linked key.items members → AreIdentities linked self.new }
+        ensures { (linked : Linked) → AreIdentities linked self.old
+            → IsFound linked key.items members → AreIdentities linked self.new }
     {
         let place = self.found.len();
         let copy = copy_key(alloc, &key)?;

@@ -18,15 +18,20 @@ use yv_link_scopes::{Entry, name_of};
 
 // Whether a statement is a condition that doesn't hold.
 fn is_false<'a, 'b>(linked: &Linked<'a, 'b>, entry: &Entry<'a, 'b>) -> bool
-    ensures { result ≡ (is_if_feature (row entry.now) && not (truth_in linked.now entry.now.file (name_in (row entry.now)))) }
+    ensures { result
+        ≡ (is_if_feature (row entry.now)
+        && not (truth_in linked.now entry.now.file (name_in (row entry.now)))) }
 {
     entry.statement.keyword() == "if-feature" && !linked.holds(entry.file, name_of(entry.statement))
 }
 
 /// The numbers of the statements that have a false `if-feature` in their block.
 pub(crate) fn off(alloc: Global, linked: &Linked<'_, '_>) -> Result<BTreeSet<usize>, AllocError>
-    ensures { IfOk result (λ numbers. (files : Files) (choice : Selected) → AreLinked files choice linked.now → (number : ℕ)
-        → contains nat_cmp numbers number ≡ list_any (fails (truth_in linked.now) number) (rows_of files)) }
+    ensures { IfOk result
+        (λ numbers. (files : Files) (choice : Selected) → AreLinked files choice linked.now
+        → (number : ℕ)
+        → contains nat_cmp numbers number
+        ≡ list_any (fails (truth_in linked.now) number) (rows_of files)) }
 {
     let mut numbers = BTreeSet::new(alloc);
     for entry in linked.rows().entries() {

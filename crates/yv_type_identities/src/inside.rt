@@ -29,7 +29,8 @@ fn base_of<'a, 'b>(linked: &Linked<'a, 'b>, entry: &Entry<'a, 'b>) -> Option<Ide
 
 // So many lists, all empty.
 fn no_lists(alloc: Global, count: usize) -> Result<Vec<Vec<IdentityRef>>, AllocError>
-    ensures { IfOk result (λ lists. (length lists.items ≡ count) × ((k : ℕ) → bases_at lists.items k ≡ [])) }
+    ensures { IfOk result
+        (λ lists. (length lists.items ≡ count) × ((k : ℕ) → bases_at lists.items k ≡ [])) }
 {
     let mut lists = Vec::new(alloc);
     for _ in 0..count {
@@ -42,8 +43,10 @@ fn no_lists(alloc: Global, count: usize) -> Result<Vec<Vec<IdentityRef>>, AllocE
 fn put(lists: &mut Vec<Vec<IdentityRef>>, block: usize, base: IdentityRef) -> Result<(), AllocError>
     requires { block < length lists.old.items }
     ensures each { OnOk result (length lists.new.items ≡ length lists.old.items) }
-    ensures here { OnOk result (bases_at lists.new.items block ≡ bases_at lists.old.items block ++ base ∷ []) }
-    ensures elsewhere { OnOk result ((k : ℕ) → k ≢ block → bases_at lists.new.items k ≡ bases_at lists.old.items k) }
+    ensures here { OnOk result
+        (bases_at lists.new.items block ≡ bases_at lists.old.items block ++ base ∷ []) }
+    ensures elsewhere { OnOk result
+        ((k : ℕ) → k ≢ block → bases_at lists.new.items k ≡ bases_at lists.old.items k) }
 {
     lists[block].push(base)?;
     Ok(())
@@ -54,8 +57,11 @@ pub(crate) fn bases_inside(
     alloc: Global,
     linked: &Linked<'_, '_>,
 ) -> Result<Vec<Vec<IdentityRef>>, AllocError>
-    ensures { IfOk result (λ inside. (files : Files) (choice : Selected) → AreLinked files choice linked.now → (block : ℕ) (base : IdentityRef)
-        → IsTrue (list_any (is_at base) (bases_at inside.items block)) ↔ NamesBase (map brief_of files) (rows_of files) block base) }
+    ensures { IfOk result
+        (λ inside. (files : Files) (choice : Selected) → AreLinked files choice linked.now
+        → (block : ℕ) (base : IdentityRef)
+        → IsTrue (list_any (is_at base) (bases_at inside.items block))
+        ↔ NamesBase (map brief_of files) (rows_of files) block base) }
 {
     yv_link_scopes::laws::blocks_are_nested();
     let entries = linked.rows().entries();

@@ -11,7 +11,8 @@ use yv_link::IdentityRef;
 
 // The set of some identities.
 fn set_of(alloc: Global, identities: &[IdentityRef]) -> Result<References, AllocError>
-    ensures { IfOk result (λ set. (place : IdentityRef) → has set place ≡ list_any (is_at place) identities.now) }
+    ensures { IfOk result
+        (λ set. (place : IdentityRef) → has set place ≡ list_any (is_at place) identities.now) }
 {
     let mut set = References::new(alloc);
     for identity in identities {
@@ -25,7 +26,9 @@ pub(crate) fn key_of(
     alloc: Global,
     identities: &[IdentityRef],
 ) -> Result<Vec<(u32, u64)>, AllocError>
-    ensures { IfOk result (λ key. (place : IdentityRef) → list_any (is_key place) key.items ≡ list_any (is_at place) identities.now) }
+    ensures { IfOk result
+        (λ key. (place : IdentityRef) → list_any (is_key place) key.items
+        ≡ list_any (is_at place) identities.now) }
 {
     let set = set_of(alloc, identities)?;
     set.key(alloc)

@@ -11,19 +11,24 @@ ghost use Rattle.yv_link_identities.specs.declared.references.IdentityRef.{Ident
 ghost use Rattle.yv_type_identities.specs.Bases.{IsBelow};
 ghost use Rattle.yv_type_identities.specs.Values.{Truth, HasValue};
 
-/// Where nothing is refused of the features, a type has the same values whatever decides the truth of conditions.
+/// Where nothing is refused of the features, a type has the same values whatever decides the truth
+/// of conditions.
 pub fn a_type_has_its_values()
     ensures { (files : Files) (choice : Selected) (t u : Truth) → IsLeast (BadFeatures files) None
         → ((file : ℕ) (text : List ℕ) → Holds files choice file text (t file text))
         → ((file : ℕ) (text : List ℕ) → Holds files choice file text (u file text))
-        → (number : ℕ) (module_file called : List ℕ) → HasValue t choice files number module_file called → HasValue u choice files number module_file called }
+        → (number : ℕ) (module_file called : List ℕ)
+        → HasValue t choice files number module_file called
+        → HasValue u choice files number module_file called }
 {
     yv_link_features::laws::an_expression_has_one_truth();
 }
 
-/// Where at most one statement is at a place, what is there is below a base just where it is derived from it.
+/// Where at most one statement is at a place, what is there is below a base just where it is
+/// derived from it.
 pub fn places_tell_identities_apart()
     ensures { (files : Briefs) (rows : List Row) (place base : IdentityRef)
-        → ((i j : ℕ) (r s : Row) → slice_get rows i ≡ Some r → slice_get rows j ≡ Some s → ref_of r ≡ place → ref_of s ≡ place → i ≡ j)
+        → ((i j : ℕ) (r s : Row) → slice_get rows i ≡ Some r → slice_get rows j ≡ Some s → ref_of r
+        ≡ place → ref_of s ≡ place → i ≡ j)
         → IsBelow files rows place base ↔ IsDerived files rows place base }
 {}

@@ -27,7 +27,8 @@ pub(crate) struct Candidates {
 
 // The numbers below a count.
 fn up_to(alloc: Global, count: usize) -> Result<Vec<usize>, AllocError>
-    ensures { IfOk result (λ numbers. (number : ℕ) → list_any (nat_eq number) numbers.items ≡ nat_lt number count) }
+    ensures { IfOk result
+        (λ numbers. (number : ℕ) → list_any (nat_eq number) numbers.items ≡ nat_lt number count) }
 {
     let mut numbers = Vec::new(alloc);
     for number in 0..count {
@@ -39,7 +40,8 @@ fn up_to(alloc: Global, count: usize) -> Result<Vec<usize>, AllocError>
 impl Candidates {
     /// Reads them, in time n log n in the statements.
     pub(crate) fn read(alloc: Global, linked: &Linked<'_, '_>) -> Result<Candidates, AllocError>
-        ensures { IfOk result (λ all. (files : Files) (choice : Selected) → AreLinked files choice linked.now
+        ensures { IfOk result
+            (λ all. (files : Files) (choice : Selected) → AreLinked files choice linked.now
             → AreCandidates (truth_in linked.now) choice files all.list.items) }
     {
         let list = candidates(alloc, linked)?;
@@ -47,11 +49,13 @@ impl Candidates {
         Ok(Candidates { list, places })
     }
 
-    // The numbers of those that are in the set, where there is one. It asks of each place in the set who stands there,
-    // and not of each candidate whether it is in the set, since there may be as many sets as candidates.
+    // The numbers of those that are in the set, where there is one. It asks of each place in the
+    // set who stands there, and not of each candidate whether it is in the set, since there may be
+    // as many sets as candidates.
     fn choose(&self, alloc: Global, left: &Option<References>) -> Result<Vec<usize>, AllocError>
         ensures { IfOk result (λ numbers. (k : ℕ) → IsTrue (list_any (nat_eq k) numbers.items)
-            ↔ ((c : Candidate) × (slice_get self.now.list.items k ≡ Some c) × (is_left left.now c.identity ≡ true))) }
+            ↔ ((c : Candidate) × (slice_get self.now.list.items k ≡ Some c)
+            × (is_left left.now c.identity ≡ true))) }
     {
         match left {
             Some(set) => {
@@ -63,15 +67,19 @@ impl Candidates {
     }
 }
 
-/// Those of the candidates that are in the set, where there is one, in time n log n in the set and in these, except for the
-/// look-ups, each of which takes the logarithm of all candidates. Without a set it is n log n in all candidates.
+/// Those of the candidates that are in the set, where there is one, in time n log n in the set and
+/// in these, except for the look-ups, each of which takes the logarithm of all candidates. Without
+/// a set it is n log n in all candidates.
 pub(crate) fn members_of(
     alloc: Global,
     candidates: &Candidates,
     left: &Option<References>,
 ) -> Result<Members, AllocError>
-    ensures same { IfOk result (λ members. (module_file called : List ℕ) → IsTrue (list_any (is_identity module_file called) members)
-        ↔ ((k : ℕ) × (c : Candidate) × (slice_get candidates.now.list.items k ≡ Some c) × (is_left left.now c.identity ≡ true)
+    ensures same { IfOk result
+        (λ members. (module_file called : List ℕ)
+        → IsTrue (list_any (is_identity module_file called) members)
+        ↔ ((k : ℕ) × (c : Candidate) × (slice_get candidates.now.list.items k ≡ Some c)
+        × (is_left left.now c.identity ≡ true)
         × (id_of c.member ≡ record { module_file = module_file; name = called }))) }
     ensures rises { IfOk result (λ members. RiseById members) }
 {

@@ -17,8 +17,8 @@ pub(crate) struct CandidatePlaces {
 }
 
 impl CandidatePlaces {
-    /// Reads where candidates are, in time n log n. Each place has a list of its own, so that nothing is lost where
-    /// two candidates are at one.
+    /// Reads where candidates are, in time n log n. Each place has a list of its own, so that
+    /// nothing is lost where two candidates are at one.
     pub(crate) fn read(
         alloc: Global,
         candidates: &[Candidate],
@@ -39,7 +39,8 @@ impl CandidatePlaces {
         keys: &[(u32, u64)],
     ) -> Result<Vec<usize>, AllocError>
         ensures { IfOk result (λ numbers. (number : ℕ)
-            → list_any (nat_eq number) numbers.items ≡ list_any (λ k. is_kept self.now k number) keys.now) }
+            → list_any (nat_eq number) numbers.items
+            ≡ list_any (λ k. is_kept self.now k number) keys.now) }
     {
         let mut numbers = Vec::new(alloc);
         for key in keys {
@@ -58,7 +59,9 @@ impl CandidatePlaces {
 
     // Puts a number behind those at a place.
     fn add(&mut self, alloc: Global, place: IdentityRef, number: usize) -> Result<(), AllocError>
-        ensures { OnOk result ((k : ℕ × ℕ) (n : ℕ) → is_kept self.new k n ≡ (is_kept self.old k n || (is_key place k && (n == number)))) }
+        ensures { OnOk result
+            ((k : ℕ × ℕ) (n : ℕ) → is_kept self.new k n
+            ≡ (is_kept self.old k n || (is_key place k && (n == number)))) }
     {
         self.map
             .entry((place.file, place.offset))?

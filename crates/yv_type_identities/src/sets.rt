@@ -34,7 +34,9 @@ impl References {
 
     /// The files and offsets of the identities, each once and in their order.
     pub(crate) fn key(&self, alloc: Global) -> Result<Vec<(u32, u64)>, AllocError>
-        ensures { IfOk result (λ key. (place : IdentityRef) → list_any (is_key place) key.items ≡ has self.now place) }
+        ensures { IfOk result
+            (λ key. (place : IdentityRef) → list_any (is_key place) key.items
+            ≡ has self.now place) }
     {
         self.pairs(alloc)
     }
@@ -47,7 +49,9 @@ impl References {
 
     /// Adds an identity.
     pub(crate) fn add(&mut self, identity: IdentityRef) -> Result<(), AllocError>
-        ensures { OnOk result ((place : IdentityRef) → has self.new place ≡ (has self.old place || is_at place identity)) }
+        ensures { OnOk result
+            ((place : IdentityRef) → has self.new place
+            ≡ (has self.old place || is_at place identity)) }
     {
         self.set.insert((identity.file, identity.offset))?;
         Ok(())

@@ -1,4 +1,5 @@
--- A text restricts a type to one list of intervals, a pattern has one translation, and so one type is left.
+-- A text restricts a type to one list of intervals, a pattern has one translation, and so one type
+-- is left.
 use Rattle.std.proofs.Common.{◌≡◌, ℕ, inl, inr, List, [], ◌∷◌, ◌++◌, map, codes, Option, Some, None, refl, sym, ◌∙◌, ap}
 use Rattle.std.specs.Prelude.{option_to_list}
 use Rattle.yv_statement.specs.Tree.{Tree, trees}

@@ -1,4 +1,5 @@
--- What lies in intervals within others lies in those; so a value of what is left is a value of the type.
+-- What lies in intervals within others lies in those; so a value of what is left is a value of the
+-- type.
 use Rattle.std.proofs.Common.{◌≡◌, ℕ, ℤ, pos, negsuc, Bool, true, false, ◌&&◌, ◌||◌, inl, inr, List, [], ◌∷◌, ◌++◌, length, codes, Option, Some, None, refl, sym, ◌∙◌, subst, arith}
 use Rattle.std.specs.Prelude.{int_le, option_and_then, if◌then◌else◌, Ok, Err}
 use Rattle.std.specs.List.{list_all, list_any}

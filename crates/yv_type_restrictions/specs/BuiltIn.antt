@@ -1,5 +1,5 @@
--- The built-in types whose values are numbers, texts, octets or a truth value, and empty, before any restriction (RFC
--- 7950, sections 9.2 to 9.5, 9.8 and 9.11).
+-- The built-in types whose values are numbers, texts, octets or a truth value, and empty, before
+-- any restriction (RFC 7950, sections 9.2 to 9.5, 9.8 and 9.11).
 use Rattle.std.specs.Prelude.{ℕ, ◌-◌, ◌^◌, pos, negsuc, true, false, List, [], ◌∷◌, Option, Some, None, codes, if◌then◌else◌}
 use Rattle.std.specs.Str.{bytes_eq}
 use Rattle.yv_base_numbers.specs.Intervals.{Interval}
@@ -13,7 +13,8 @@ signed_range bits = record { low = negsuc (2 ^ (bits - 1) - 1); high = pos (2 ^ 
 abbrev pub unsigned_range : ℕ → List Interval
 unsigned_range bits = record { low = pos 0; high = pos (2 ^ bits - 1) } ∷ []
 
--- the type of whole numbers of this name (section 9.2); JSON writes numbers of 64 bits as texts (RFC 7951, section 6.1)
+-- the type of whole numbers of this name (section 9.2); JSON writes numbers of 64 bits as texts
+-- (RFC 7951, section 6.1)
 abbrev pub whole_type : List ℕ → Option Plain
 whole_type name =
     if bytes_eq name (codes "int8") then Some (wholes false (signed_range 8))

@@ -1,5 +1,5 @@
--- What the substatements of a `type` statement leave of the type that it names (RFC 7950, sections 9.2.4, 9.3.4, 9.4.4
--- to 9.4.6 and 9.8.1). One that is refused takes nothing away and adds nothing.
+-- What the substatements of a `type` statement leave of the type that it names (RFC 7950, sections
+-- 9.2.4, 9.3.4, 9.4.4 to 9.4.6 and 9.8.1). One that is refused takes nothing away and adds nothing.
 use Rattle.std.specs.Prelude.{◌≡◌, ℕ, ◌⊎◌, List, [], ◌∷◌, ◌++◌, Bool, true, codes, Option, Some, None, is_some, option_to_list}
 use Rattle.std.specs.List.{find}
 use Rattle.std.specs.Str.{bytes_eq}
@@ -20,7 +20,8 @@ child word t = find (has_word word) (trees t.children)
 abbrev pub IsNoRestriction : Option ℕ → List Interval → List ℕ → Type 0
 IsNoRestriction digits base text = (is : List Interval) → Restricts digits base text is → ⊥
 
--- the intervals that a `range` or a `length` leaves; all where there is none, or none that restricts them
+-- the intervals that a `range` or a `length` leaves; all where there is none, or none that
+-- restricts them
 abbrev pub Leaves : Option ℕ → List Interval → Option Tree → List Interval → Type 0
 Leaves digits base None is = is ≡ base
 Leaves digits base (Some c) is =
@@ -45,8 +46,8 @@ AreTests (c ∷ cs) tests =
     (first : Option Test) × (others : List Test)
     × IsTest c first × AreTests cs others × (tests ≡ option_to_list first ++ others)
 
--- What is left of a type: fewer numbers, fewer lengths, more tests. The `length` of a string counts characters, that of
--- a binary octets.
+-- What is left of a type: fewer numbers, fewer lengths, more tests. The `length` of a string counts
+-- characters, that of a binary octets.
 abbrev pub Narrows : Tree → Plain → Plain → Type 0
 Narrows t (wholes is_text is) q =
     (js : List Interval) × Leaves None is (child (codes "range") t) js × (q ≡ wholes is_text js)

@@ -24,8 +24,8 @@ StopsWhere P (Fault r) = ⊥
 StopsWhere P PatternBuild = P
 StopsWhere P NoMemory = ⊤
 
--- What is left of the plain type, if there is one, that a type statement narrows, and the least that is wrong with its
--- restrictions.
+-- What is left of the plain type, if there is one, that a type statement narrows, and the least
+-- that is wrong with its restrictions.
 pub record IsLeft (file : ℕ) (t : Tree) (base plain : Option Plain) (fault : Option Refusal) : Type 0 where
   pub left : (q : Plain) → (plain ≡ Some q) ↔ ((p : Plain) × (base ≡ Some p) × Narrows t p q)
   pub least : IsLeast (λ f. (p : Plain) × (base ≡ Some p) × BadFacets file t p f) fault
@@ -34,7 +34,8 @@ pub record IsLeft (file : ℕ) (t : Tree) (base plain : Option Plain) (fault : O
 abbrev pub BadAt : Files → ℕ → Refusal → Type 0
 BadAt files k f = (r : Row) × (slice_get (rows_of files) k ≡ Some r) × BadNarrowing files k r f
 
--- this is the plain type of the numbered statement, and the least that is wrong with its restrictions
+-- this is the plain type of the numbered statement, and the least that is wrong with its
+-- restrictions
 pub record IsStep (files : Files) (k : ℕ) (plain : Option Plain) (fault : Option Refusal) : Type 0 where
   pub exact : (q : Plain) → (plain ≡ Some q) ↔ HasPlainType files k q
   pub least : IsLeast (BadAt files k) fault

@@ -9,9 +9,9 @@ use std::alloc::{AllocError, Global};
 use yv_base_numbers::{Integer, Intervals, Span};
 use yv_values::{DecimalType, PatternTests, PlainType, TextType, WholeType};
 
-/// The built-in type of a name before any restriction, decimal64 with so many fraction digits (RFC 7950,
-/// sections 9.2 to 9.5, 9.8 and 9.11). Of the other built-in types, whose values their own statements give, there is
-/// none. It takes constant time.
+/// The built-in type of a name before any restriction, decimal64 with so many fraction digits (RFC
+/// 7950, sections 9.2 to 9.5, 9.8 and 9.11). Of the other built-in types, whose values their own
+/// statements give, there is none. It takes constant time.
 pub fn built_in(alloc: Global, name: &str, digits: u32) -> Result<Option<PlainType>, AllocError>
     ensures { IfOk result (λ found. option_map plain_of found ≡ built_in name.now digits) }
 {

@@ -47,7 +47,8 @@ fn stated_digits(statement: &Statement<'_>) -> Option<u32>
     }
 }
 
-/// The digits with which the built-in type is meant that a type statement names: none where decimal64 states none.
+/// The digits with which the built-in type is meant that a type statement names: none where
+/// decimal64 states none.
 pub(crate) fn digits_of_type(statement: &Statement<'_>) -> Option<u32>
     ensures { result ≡ digits_of_type statement.now }
 {

@@ -11,8 +11,8 @@ pub fn one_type_is_left()
     ensures { (t : Tree) (p q r : Plain) → Narrows t p q → Narrows t p r → q ≡ r }
 {}
 
-/// What a statement leaves of a type is part of it: each value that it has by a text is the value that the type has by
-/// that text (RFC 7950, sections 9.2.4 and 9.4.4).
+/// What a statement leaves of a type is part of it: each value that it has by a text is the value
+/// that the type has by that text (RFC 7950, sections 9.2.4 and 9.4.4).
 pub fn a_value_of_what_is_left_is_one_of_the_type()
     ensures { (t : Tree) (p q : Plain) (s : List ℕ) (place : Place) (v : Val)
         → Narrows t p q → text_value q s place ≡ Some v → text_value p s place ≡ Some v }

@@ -13,11 +13,13 @@ use yv_pattern::Patterns;
 use yv_statement::{Refusal, Statement, Stop};
 use yv_values::PlainType;
 
-/// What a type statement's `range`, `length` and `pattern` leave of the type that it names, and the least that is wrong
-/// with them (RFC 7950, sections 9.2.4, 9.3.4, 9.4.4 to 9.4.6 and 9.8.1). A type that none of them restricts passes
-/// unchanged. `PatternBuild` says that `regex` doesn't build the translation of a pattern of the dialect; no refusal is
-/// an error here. Patterns that were read before are shared; after an error they are there still, and some of this statement's may be, too. It
-/// takes time linear in the statement but for what `restricted` and `Patterns::read` say and, with a pattern, logarithmic in the types restricted.
+/// What a type statement's `range`, `length` and `pattern` leave of the type that it names, and the
+/// least that is wrong with them (RFC 7950, sections 9.2.4, 9.3.4, 9.4.4 to 9.4.6 and 9.8.1). A
+/// type that none of them restricts passes unchanged. `PatternBuild` says that `regex` doesn't
+/// build the translation of a pattern of the dialect; no refusal is an error here. Patterns that
+/// were read before are shared; after an error they are there still, and some of this statement's
+/// may be, too. It takes time linear in the statement but for what `restricted` and
+/// `Patterns::read` say and, with a pattern, logarithmic in the types restricted.
 pub fn narrow(
     alloc: Global,
     patterns: &mut Patterns,
@@ -25,8 +27,10 @@ pub fn narrow(
     statement: &Statement<'_>,
     base: &PlainType,
 ) -> Result<NarrowedType, Stop>
-    ensures narrows { IfOk result (λ n. Narrows statement.now (plain_of base.now) (plain_of n.plain)) }
-    ensures fault { IfOk result (λ n. IsLeast (BadFacets file statement.now (plain_of base.now)) n.fault) }
+    ensures narrows { IfOk result
+        (λ n. Narrows statement.now (plain_of base.now) (plain_of n.plain)) }
+    ensures fault { IfOk result
+        (λ n. IsLeast (BadFacets file statement.now (plain_of base.now)) n.fault) }
     ensures faultless { (r : Refusal) → result ≢ Err (Fault r) }
     ensures builds { result ≡ Err PatternBuild → HasPattern (trees statement.now.children) }
 {

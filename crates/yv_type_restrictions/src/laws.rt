@@ -6,7 +6,8 @@ ghost use Rattle.yv_type_restrictions.specs.Types.{HasPlainType};
 
 /// A type has one plain type.
 pub fn a_type_has_one_plain_type()
-    ensures { (files : Files) (k : ℕ) (p q : Plain) → HasPlainType files k p → HasPlainType files k q → p ≡ q }
+    ensures { (files : Files) (k : ℕ) (p q : Plain) → HasPlainType files k p
+        → HasPlainType files k q → p ≡ q }
 {
     yv_link_scopes::laws::statements_have_their_rows();
     yv_type_chains::laws::a_type_follows_one_type();

@@ -17,8 +17,8 @@ use yv_statement::{Refusal, Stop, lesser};
 use yv_type_chains::Bases;
 use yv_values::PlainType;
 
-/// The plain types of the types of files that lead to numbers, texts, octets, a truth value or empty, and what is wrong
-/// with their restrictions.
+/// The plain types of the types of files that lead to numbers, texts, octets, a truth value or
+/// empty, and what is wrong with their restrictions.
 #[derive(Drop)]
 pub struct PlainTypes {
     pub(crate) types: Vec<Option<PlainType>>,
@@ -31,11 +31,14 @@ impl PlainTypes {
     ghost use Rattle.yv_type_restrictions.specs.PlainTypes.{AreFaceted};
     ghost use Rattle.yv_type_restrictions.specs.InnerSteps.{StopsWhere};
 
-    /// Reads the types of these statements, the bases being theirs. `PatternBuild` says that `regex` doesn't build the
-    /// translation of a pattern of the dialect; no refusal is an error here. Equal patterns are built once, and the types
-    /// share them. It takes time linear in the statements except for what `narrowed` says of each type.
+    /// Reads the types of these statements, the bases being theirs. `PatternBuild` says that
+    /// `regex` doesn't build the translation of a pattern of the dialect; no refusal is an error
+    /// here. Equal patterns are built once, and the types share them. It takes time linear in the
+    /// statements except for what `narrowed` says of each type.
     pub fn read(alloc: Global, rows: &Rows<'_, '_>, bases: &Bases) -> Result<PlainTypes, Stop>
-        ensures makes { IfOk result (λ faceted. (files : Files) → lent_in rows.now ≡ files → AreBases files bases.now → AreFaceted files faceted) }
+        ensures makes { IfOk result
+            (λ faceted. (files : Files) → lent_in rows.now ≡ files → AreBases files bases.now
+            → AreFaceted files faceted) }
         ensures faultless { (r : Refusal) → result ≢ Err (Fault r) }
         ensures builds { result ≡ Err PatternBuild → HasTypePattern (lent_in rows.now) }
     {
@@ -55,17 +58,19 @@ impl PlainTypes {
         Ok(PlainTypes { types, fault })
     }
 
-    /// The plain type of the type of this number. None for other statements, and for types that lead to an
-    /// enumeration, bits, an identityref, an instance-identifier, a leafref or a union.
+    /// The plain type of the type of this number. None for other statements, and for types that
+    /// lead to an enumeration, bits, an identityref, an instance-identifier, a leafref or a union.
     pub fn plain(&self, number: usize) -> Option<&PlainType>
         ensures { (files : Files) → AreFaceted files self.now
-            → (p : Plain) → (option_map plain_of (option_copied result) ≡ Some p) ↔ HasPlainType files number p }
+            → (p : Plain) → (option_map plain_of (option_copied result) ≡ Some p)
+            ↔ HasPlainType files number p }
     {
         get(&self.types, number)
     }
 
-    /// The least that is wrong with the ranges, lengths and patterns of the types. A type whose restriction is refused
-    /// is as the type that it follows, so that those derived from it are judged by that. None where nothing is wrong.
+    /// The least that is wrong with the ranges, lengths and patterns of the types. A type whose
+    /// restriction is refused is as the type that it follows, so that those derived from it are
+    /// judged by that. None where nothing is wrong.
     pub fn refusal(&self) -> Option<Refusal>
         ensures { (files : Files) → AreFaceted files self.now → IsLeast (BadFaceted files) result }
     {

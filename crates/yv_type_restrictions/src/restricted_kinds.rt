@@ -74,8 +74,10 @@ pub(crate) fn binary(
     statement: &Statement<'_>,
     base: &Intervals,
 ) -> Result<NarrowedType, AllocError>
-    ensures narrows { IfOk result (λ n. Narrows statement.now (octets base.now) (plain_of n.plain)) }
-    ensures fault { IfOk result (λ n. IsLeast (BadFacets file statement.now (octets base.now)) n.fault) }
+    ensures narrows { IfOk result
+        (λ n. Narrows statement.now (octets base.now) (plain_of n.plain)) }
+    ensures fault { IfOk result
+        (λ n. IsLeast (BadFacets file statement.now (octets base.now)) n.fault) }
 {
     let left = restrict_intervals(alloc, file, child("length", statement), base, None)?;
     Ok(NarrowedType {

@@ -44,7 +44,8 @@ pub fn restrict_intervals(
     base: &Intervals,
     digits: Option<u32>,
 ) -> Result<Leftover, AllocError>
-    ensures leaves { IfOk result (λ l. Leaves digits base.now (option_copied restriction.entry) l.spans) }
+    ensures leaves { IfOk result
+        (λ l. Leaves digits base.now (option_copied restriction.entry) l.spans) }
     ensures fault { IfOk result (λ l.
         IsLeast (BadRestriction file digits base.now (option_copied restriction.entry)) l.fault) }
 {

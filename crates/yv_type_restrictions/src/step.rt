@@ -55,7 +55,8 @@ fn left_of(
     base: Option<&PlainType>,
 ) -> Result<Step, Stop>
     ensures leaves { IfOk result (λ s.
-        IsLeft file statement.now (option_map plain_of (option_copied base.entry)) (option_map plain_of s.plain) s.fault) }
+        IsLeft file statement.now (option_map plain_of (option_copied base.entry))
+        (option_map plain_of s.plain) s.fault) }
     ensures stops { IfErr result (StopsWhere (HasPattern (trees statement.now.children))) }
 {
     crate::facet_laws::one_type_is_left();
@@ -89,7 +90,8 @@ fn from_built_in(
     statement: &Statement<'_>,
 ) -> Result<Step, Stop>
     ensures leaves { IfOk result (λ s.
-        IsLeft file statement.now (named_type statement.now) (option_map plain_of s.plain) s.fault) }
+        IsLeft file statement.now (named_type statement.now) (option_map plain_of s.plain)
+        s.fault) }
     ensures stops { IfErr result (StopsWhere (HasPattern (trees statement.now.children))) }
 {
     let base = named_type(alloc, statement)?;

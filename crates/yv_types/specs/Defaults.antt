@@ -22,8 +22,8 @@ written_in file t = record { text = name_of t.head; file = file }
 abbrev pub default_in : ℕ → Tree → Option TextInFile
 default_in file t = option_map (written_in file) (find is_default (trees t.children))
 
--- what it says in the block of the numbered statement, with the file in which it is written: prefixes in it are those of
--- this file
+-- what it says in the block of the numbered statement, with the file in which it is written:
+-- prefixes in it are those of this file
 abbrev pub default_at : Files → ℕ → Option TextInFile
 default_at files k =
     option_and_then (λ (r : Row). option_and_then (default_in r.file) (slice_get (statements_of files) k)) (slice_get (rows_of files) k)
@@ -32,8 +32,9 @@ default_at files k =
 abbrev pub Means : Files → ℕ → ℕ → Type 0
 Means files k d = Refers (map brief_of files) (rows_of files) Typedef k d
 
--- The default that type k has by its typedefs: that of the nearest that says one, from the typedef that k names on, along
--- the typedefs' own types. A typedef without a type, which no file that conforms has, ends the way.
+-- The default that type k has by its typedefs: that of the nearest that says one, from the typedef
+-- that k names on, along the typedefs' own types. A typedef without a type, which no file that
+-- conforms has, ends the way.
 pub data HasDefault (files : Files) : ℕ → Option TextInFile → Type 0 where
   no_typedef : {k : ℕ} → ((d : ℕ) → Means files k d → ⊥) → HasDefault files k None
   nearest : {k d : ℕ} {w : TextInFile} → Means files k d → default_at files d ≡ Some w → HasDefault files k (Some w)

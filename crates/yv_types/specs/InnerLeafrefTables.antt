@@ -1,4 +1,5 @@
--- Inner definitions, which only private clauses and the table cite: what types say as leafrefs, by number.
+-- Inner definitions, which only private clauses and the table cite: what types say as leafrefs, by
+-- number.
 use Rattle.std.specs.Prelude.{ℕ, List, Option, slice_get}
 use Rattle.std.specs.Option.{option_and_then}
 use Rattle.yv_link_scopes.specs.Files.{Files}

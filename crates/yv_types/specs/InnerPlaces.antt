@@ -1,4 +1,5 @@
--- Inner definitions, which only private clauses and the tables cite: where type statements stand first.
+-- Inner definitions, which only private clauses and the tables cite: where type statements stand
+-- first.
 use Rattle.std.specs.Prelude.{ℕ, Option}
 use Rattle.yv_link_definitions.specs.InnerPlaces.{lookup_in}
 use Rattle.yv_types.specs.declared.places.TypePlaces.{TypePlaces}

@@ -1,4 +1,5 @@
--- Which path a type has as a leafref, and whether an instance is required (RFC 7950, sections 9.9.2 and 9.9.3).
+-- Which path a type has as a leafref, and whether an instance is required (RFC 7950, sections 9.9.2
+-- and 9.9.3).
 use Rattle.std.specs.Prelude.{◌≡◌, ℕ, Bool, true, List, map, Option, Some, None, codes, slice_get}
 use Rattle.std.specs.List.{find}
 use Rattle.std.specs.Option.{option_and_then, option_map, unwrap_or}
@@ -35,7 +36,8 @@ written_in file t = record { text = name_of t.head; file = file }
 abbrev pub path_in : ℕ → Tree → Option TextInFile
 path_in file t = option_map (written_in file) (first_in (codes "path") t)
 
--- the same of the numbered statement, with the file in which it is written: prefixes in it are those of this file
+-- the same of the numbered statement, with the file in which it is written: prefixes in it are
+-- those of this file
 abbrev pub path_at : Files → ℕ → Option TextInFile
 path_at files k =
     option_and_then (λ (r : Row). option_and_then (path_in r.file) (slice_get (statements_of files) k)) (slice_get (rows_of files) k)
@@ -52,16 +54,18 @@ IsLeafrefAt files k = (r : Row) × (slice_get (rows_of files) k ≡ Some r) × (
 abbrev pub FollowsIn : Files → ℕ → ℕ → Type 0
 FollowsIn files k j = Follows (map brief_of files) (rows_of files) k j
 
--- type k names leafref itself: the path is its own, and an instance is required unless it says otherwise
+-- type k names leafref itself: the path is its own, and an instance is required unless it says
+-- otherwise
 abbrev pub own_at : Files → ℕ → TypeLeafref
 own_at files k = record { origin = k; is_required = unwrap_or (required_at files k) true }
 
--- type k is derived from one of which this holds: it has its path, and what itself says of instances goes before
+-- type k is derived from one of which this holds: it has its path, and what itself says of
+-- instances goes before
 abbrev pub derived_at : Files → ℕ → TypeLeafref → TypeLeafref
 derived_at files k base = record { origin = base.origin; is_required = unwrap_or (required_at files k) base.is_required }
 
--- What type k says as a leafref: `origin` is the statement `type leafref` whose path it has, and `is_required` whether an
--- instance is required. None where it leads to no leafref.
+-- What type k says as a leafref: `origin` is the statement `type leafref` whose path it has, and
+-- `is_required` whether an instance is required. None where it leads to no leafref.
 pub data HasReferral (files : Files) : ℕ → Option TypeLeafref → Type 0 where
   built_in : {k : ℕ} → IsLeafrefAt files k → HasReferral files k (Some (own_at files k))
   through_typedef : {k j : ℕ} {found : Option TypeLeafref} → FollowsIn files k j → HasReferral files j found

@@ -17,8 +17,8 @@ abbrev pub name_or_none : Option Row → List ℕ
 name_or_none None = []
 name_or_none (Some r) = name_in r
 
--- a prefix stands for the module that the statement names in whose block it is declared: an import, a belongs-to or the
--- module itself
+-- a prefix stands for the module that the statement names in whose block it is declared: an import,
+-- a belongs-to or the module itself
 abbrev pub binding_at : List Row → Row → PrefixBinding
 binding_at rows r = record { prefix = name_in r; module_file = name_or_none (slice_get rows r.scope) }
 

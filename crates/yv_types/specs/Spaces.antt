@@ -1,4 +1,5 @@
--- The plain types of type statements, typedefs followed and unions opened in order (RFC 7950, sections 7.3, 9.6, 9.7, 9.9,
+-- The plain types of type statements, typedefs followed and unions opened in order (RFC 7950,
+-- sections 7.3, 9.6, 9.7, 9.9,
 -- 9.10 and 9.12).
 use Rattle.std.specs.Prelude.{◌≡◌, ◌↔◌, ℕ, true, IsTrue, List, [], ◌∷◌, ◌++◌, Some, map, codes, slice_get}
 use Rattle.std.specs.List.{list_any}
@@ -22,9 +23,9 @@ of_kind Enumeration ns = names ns
 of_kind Bits ns = flags ns
 
 mutual
-  -- The plain types of type k, where a type that has no plain type of its own and no names has those of the type that it
-  -- follows. Names and identities stand in their order, each once, so that a type has one list. An instance-identifier has
-  -- none, nor has a union with one in it.
+  -- The plain types of type k, where a type that has no plain type of its own and no names has
+  -- those of the type that it follows. Names and identities stand in their order, each once, so
+  -- that a type has one list. An instance-identifier has none, nor has a union with one in it.
   pub data Space (files : Files) (truth : Truth) (choice : Selected) : ℕ → List Plain → Type 0 where
     plain_type : {k : ℕ} {p : Plain} → HasPlainType files k p → Space files truth choice k (p ∷ [])
     names_type : {k : ℕ} (told : NamesView) (ns : List (List ℕ)) → HasNames files truth k told → Rises ns

@@ -23,14 +23,15 @@ use Rattle.yv_types.specs.Spaces.{Space}
 use Rattle.yv_types.specs.declared.layers.Layers.{Layers}
 use Rattle.yv_types.specs.declared.type_table.Types.{Types}
 
--- these are the bases of the types of these files, the plain types of those with facets, and the names of the others
+-- these are the bases of the types of these files, the plain types of those with facets, and the
+-- names of the others
 pub record AreLayers (files : Files) (truth : Truth) (layers : Layers) : Type 0 where
   pub based : AreBases files layers.bases
   pub faceted : AreFaceted files layers.faceted
   pub listed : AreLists files truth layers.lists
 
--- these are the plain types and the defaults of the types of these files, what these say as leafrefs, and their places; how, only the
--- readers ask
+-- these are the plain types and the defaults of the types of these files, what these say as
+-- leafrefs, and their places; how, only the readers ask
 pub record AreTypes (files : Files) (choice : Selected) (truth : Truth) (types : Types) : Type 0 where
   pub spaces : AreSpaces files truth choice types.spaces.items
   pub defaults : AreDefaults files types.defaults
@@ -52,7 +53,8 @@ IsTold files choice truth (Some k) (Some ps) = Space files truth choice k ps
 abbrev pub default_at : Types → ℕ → ℕ → Option TextInFile
 default_at types file offset = option_and_then (found_in types.defaults) (placed_in types.places file offset)
 
--- the number of the list of plain types of the numbered type, and that of the typedef that says its default
+-- the number of the list of plain types of the numbered type, and that of the typedef that says its
+-- default
 abbrev pub sharing_of : Types → ℕ → Option (ℕ × ℕ)
 sharing_of types k =
     option_and_then (λ (e : ℕ × List Plain). option_map (λ typedef. (e.0, typedef)) (typedef_in types.defaults k)) (entry_at types.spaces.items k)

@@ -21,20 +21,27 @@ use yv_link::Linked;
 use yv_link_definitions::Names;
 use yv_statement::Stop;
 
-/// The plain types and the defaults of the types of linked files, and what they say as leafrefs, the names being theirs, or the least refusal of these (RFC 7950, section
-/// 9). `PatternBuild` says that `regex` doesn't build the translation of a pattern of the dialect. Types that are derived
-/// from unions and identityrefs share the lists of these, and so do identityrefs with the same bases; each with bases of its own
-/// takes the time that `Identities::of` names.
+/// The plain types and the defaults of the types of linked files, and what they say as leafrefs,
+/// the names being theirs, or the least refusal of these (RFC 7950, section 9). `PatternBuild` says
+/// that `regex` doesn't build the translation of a pattern of the dialect. Types that are derived
+/// from unions and identityrefs share the lists of these, and so do identityrefs with the same
+/// bases; each with bases of its own takes the time that `Identities::of` names.
 pub fn types(alloc: Global, linked: &Linked<'_, '_>, names: &Names) -> Result<Types, Stop>
-    ensures makes { IfOk result (λ types. (files : Files) (choice : Selected) → AreLinked files choice linked.now → AreNames files names.now
+    ensures makes { IfOk result
+        (λ types. (files : Files) (choice : Selected) → AreLinked files choice linked.now
+        → AreNames files names.now
         → AreTypes files choice (truth_in linked.now) types) }
-    ensures clear { OnOk result ((files : Files) (choice : Selected) → AreLinked files choice linked.now → AreNames files names.now
+    ensures clear { OnOk result
+        ((files : Files) (choice : Selected) → AreLinked files choice linked.now
+        → AreNames files names.now
         → IsLeast (BadTypes files (truth_in linked.now)) None) }
     ensures refusal { (r : Refusal) → result ≡ Err (Fault r)
-        → (files : Files) (choice : Selected) → AreLinked files choice linked.now → AreNames files names.now
+        → (files : Files) (choice : Selected) → AreLinked files choice linked.now
+        → AreNames files names.now
         → IsLeast (BadTypes files (truth_in linked.now)) (Some r) }
     ensures builds { result ≡ Err PatternBuild
-        → (files : Files) (choice : Selected) → AreLinked files choice linked.now → HasTypePattern files }
+        → (files : Files) (choice : Selected) → AreLinked files choice linked.now
+        → HasTypePattern files }
 {
     let layers = match Layers::read(alloc, linked, names) {
         Ok(layers) => layers,

@@ -13,7 +13,8 @@ use yv_link_definitions::Names;
 use yv_node_definition::WrittenText;
 use yv_type_chains::Bases;
 
-/// The typedef whose default the numbered type has, the table having that of the type that it follows.
+/// The typedef whose default the numbered type has, the table having that of the type that it
+/// follows.
 pub(crate) fn found_at(
     names: &Names,
     bases: &Bases,
@@ -21,8 +22,10 @@ pub(crate) fn found_at(
     found: &[Option<usize>],
     number: usize,
 ) -> Option<usize>
-    ensures { (files : Files) → AreNames files names.now → AreBases files bases.now → AreSaid files said.now
-        → IsTypeAt (rows_of files) number → AreFound files said.now (IsFollowed files number) found.now
+    ensures { (files : Files) → AreNames files names.now → AreBases files bases.now
+        → AreSaid files said.now
+        → IsTypeAt (rows_of files) number
+        → AreFound files said.now (IsFollowed files number) found.now
         → HasDefault files number (text_from said.now result) }
 {
     let Some(definition) = names.meaning(number) else {

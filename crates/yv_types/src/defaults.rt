@@ -17,7 +17,8 @@ use yv_link_scopes::Rows;
 use yv_node_definition::WrittenText;
 use yv_type_chains::Bases;
 
-/// The defaults that the types of files have by their typedefs. The text of each typedef's default is kept once.
+/// The defaults that the types of files have by their typedefs. The text of each typedef's default
+/// is kept once.
 #[derive(Drop)]
 pub struct TypedefDefaults {
     // of each typedef
@@ -30,15 +31,17 @@ impl TypedefDefaults {
     ghost use Rattle.yv_types.specs.Defaults.{HasDefault};
     ghost use Rattle.yv_types.specs.TypeDefaults.{AreDefaults, found_in, typedef_in};
 
-    /// Reads the defaults of these statements, the names and the bases being theirs, in time linear in statements: no way
-    /// along typedefs is gone twice.
+    /// Reads the defaults of these statements, the names and the bases being theirs, in time linear
+    /// in statements: no way along typedefs is gone twice.
     pub fn read(
         alloc: Global,
         rows: &Rows<'_, '_>,
         names: &Names,
         bases: &Bases,
     ) -> Result<TypedefDefaults, AllocError>
-        ensures { IfOk result (λ defaults. (files : Files) → lent_in rows.now ≡ files → AreNames files names.now → AreBases files bases.now
+        ensures { IfOk result
+            (λ defaults. (files : Files) → lent_in rows.now ≡ files → AreNames files names.now
+            → AreBases files bases.now
             → AreDefaults files defaults) }
     {
         let order = bases.order();
@@ -56,20 +59,24 @@ impl TypedefDefaults {
         })
     }
 
-    /// The default that the type of this number has by its typedefs (RFC 7950, section 7.6.1), with the file in which it is
-    /// written: that of the nearest typedef that says one. None for other statements, and for types that name built-in types.
+    /// The default that the type of this number has by its typedefs (RFC 7950, section 7.6.1), with
+    /// the file in which it is written: that of the nearest typedef that says one. None for other
+    /// statements, and for types that name built-in types.
     pub fn of(&self, number: usize) -> Option<&WrittenText>
-        ensures tells { (files : Files) → AreDefaults files self.now → HasDefault files number (option_map written_of (option_copied result)) }
+        ensures tells { (files : Files) → AreDefaults files self.now
+            → HasDefault files number (option_map written_of (option_copied result)) }
         ensures same { option_map written_of (option_copied result) ≡ found_in self.now number }
     {
         let typedef = *self.found.get(number)?;
         self.said.get(typedef)
     }
 
-    /// The number of the typedef that says this default. Types with the same one have the same default.
+    /// The number of the typedef that says this default. Types with the same one have the same
+    /// default.
     pub fn typedef(&self, number: usize) -> Option<usize>
         ensures number { result ≡ typedef_in self.now number }
-        ensures same { (j : ℕ) → typedef_in self.now j ≡ result → found_in self.now j ≡ found_in self.now number }
+        ensures same { (j : ℕ) → typedef_in self.now j ≡ result → found_in self.now j
+            ≡ found_in self.now number }
     {
         self.found.get(number).copied()
     }

@@ -16,23 +16,28 @@ use yv_link::Linked;
 use yv_link_definitions::Names;
 use yv_statement::{Refusal, Stop};
 
-/// The least that is wrong with the types of linked files, the names being theirs (RFC 7950, section 9): a substatement
-/// that a type doesn't accept or lacks, a leafref in a union, a type with more than 64 members, a range, a length or a
-/// pattern that is malformed or wider than what it narrows, or a name or a number of an enumeration or of bits. None where
-/// nothing is wrong. `PatternBuild` says that `regex` doesn't build the translation of a pattern of the dialect; no
+/// The least that is wrong with the types of linked files, the names being theirs (RFC 7950,
+/// section 9): a substatement that a type doesn't accept or lacks, a leafref in a union, a type
+/// with more than 64 members, a range, a length or a pattern that is malformed or wider than what
+/// it narrows, or a name or a number of an enumeration or of bits. None where nothing is wrong.
+/// `PatternBuild` says that `regex` doesn't build the translation of a pattern of the dialect; no
 /// refusal is an error here.
 ///
-/// It takes time n log n in statements except for what `Patterns::read` says of patterns. Nothing recurses along typedefs.
+/// It takes time n log n in statements except for what `Patterns::read` says of patterns. Nothing
+/// recurses along typedefs.
 pub fn first_bad_type(
     alloc: Global,
     linked: &Linked<'_, '_>,
     names: &Names,
 ) -> Result<Option<Refusal>, Stop>
-    ensures least { IfOk result (λ fault. (files : Files) (choice : Selected) → AreLinked files choice linked.now → AreNames files names.now
+    ensures least { IfOk result
+        (λ fault. (files : Files) (choice : Selected) → AreLinked files choice linked.now
+        → AreNames files names.now
         → IsLeast (BadTypes files (truth_in linked.now)) fault) }
     ensures faultless { (r : Refusal) → result ≢ Err (Fault r) }
     ensures builds { result ≡ Err PatternBuild
-        → (files : Files) (choice : Selected) → AreLinked files choice linked.now → HasTypePattern files }
+        → (files : Files) (choice : Selected) → AreLinked files choice linked.now
+        → HasTypePattern files }
 {
     match Layers::read(alloc, linked, names) {
         Ok(layers) => Ok(layers.refusal()),

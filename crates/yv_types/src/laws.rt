@@ -22,23 +22,31 @@ pub fn a_type_has_one_space()
     yv_values::laws::identities_that_rise_are_one_list();
 }
 
-/// What is answered for the type statement at an offset of a file is its plain types, and none where it has none.
+/// What is answered for the type statement at an offset of a file is its plain types, and none
+/// where it has none.
 pub fn types_tell_spaces()
-    ensures { (files : Files) (choice : Selected) (truth : Truth) (types : Types) → AreTypes files choice truth types
-        → (file offset : ℕ) → IsTold files choice truth (number_at (rows_of files) (codes "type") file offset)
+    ensures { (files : Files) (choice : Selected) (truth : Truth) (types : Types)
+        → AreTypes files choice truth types
+        → (file offset : ℕ)
+        → IsTold files choice truth (number_at (rows_of files) (codes "type") file offset)
         (space_at types file offset) }
 {}
 
-/// What is answered for the default of the type statement at an offset of a file is the one that it has by its typedefs.
+/// What is answered for the default of the type statement at an offset of a file is the one that it
+/// has by its typedefs.
 pub fn types_tell_defaults()
-    ensures { (files : Files) (choice : Selected) (truth : Truth) (types : Types) → AreTypes files choice truth types
+    ensures { (files : Files) (choice : Selected) (truth : Truth) (types : Types)
+        → AreTypes files choice truth types
         → (file offset : ℕ) → IsDefault files (number_at (rows_of files) (codes "type") file offset)
         (default_at types file offset) }
 {}
 
-/// What is answered for the type statement at an offset of a file as a leafref is what it says by itself or along its typedefs.
+/// What is answered for the type statement at an offset of a file as a leafref is what it says by
+/// itself or along its typedefs.
 pub fn types_tell_leafrefs()
-    ensures { (files : Files) (choice : Selected) (truth : Truth) (types : Types) → AreTypes files choice truth types
-        → (file offset : ℕ) → IsReferring files (number_at (rows_of files) (codes "type") file offset)
+    ensures { (files : Files) (choice : Selected) (truth : Truth) (types : Types)
+        → AreTypes files choice truth types
+        → (file offset : ℕ)
+        → IsReferring files (number_at (rows_of files) (codes "type") file offset)
         (referring_at types file offset) }
 {}

@@ -17,8 +17,8 @@ use yv_type_chains::Bases;
 use yv_type_enums::Lists;
 use yv_type_restrictions::PlainTypes;
 
-/// The built-in types to which the types of files lead, the plain types of those with ranges, lengths or patterns, and
-/// the names of enumerations and of bits.
+/// The built-in types to which the types of files lead, the plain types of those with ranges,
+/// lengths or patterns, and the names of enumerations and of bits.
 #[derive(Drop)]
 pub(crate) struct Layers<'a> {
     pub bases: Bases,
@@ -37,11 +37,14 @@ impl<'a> Layers<'a> {
         linked: &Linked<'a, '_>,
         names: &Names,
     ) -> Result<Layers<'a>, Stop>
-        ensures makes { IfOk result (λ layers. (files : Files) (choice : Selected) → AreLinked files choice linked.now → AreNames files names.now
+        ensures makes { IfOk result
+            (λ layers. (files : Files) (choice : Selected) → AreLinked files choice linked.now
+            → AreNames files names.now
             → AreLayers files (truth_in linked.now) layers) }
         ensures faultless { (r : Refusal) → result ≢ Err (Fault r) }
         ensures builds { result ≡ Err PatternBuild
-            → (files : Files) (choice : Selected) → AreLinked files choice linked.now → HasTypePattern files }
+            → (files : Files) (choice : Selected) → AreLinked files choice linked.now
+            → HasTypePattern files }
     {
         let rows = linked.rows();
         let bases = Bases::read(alloc, rows, names)?;
@@ -59,7 +62,8 @@ impl<'a> Layers<'a> {
 
     /// The least that is wrong with the types.
     pub(crate) fn refusal(&self) -> Option<Refusal>
-        ensures { (files : Files) (truth : Truth) → AreLayers files truth self.now → IsLeast (BadTypes files truth) result }
+        ensures { (files : Files) (truth : Truth) → AreLayers files truth self.now
+            → IsLeast (BadTypes files truth) result }
     {
         let restrictions = lesser(self.faceted.refusal(), self.lists.refusal());
         lesser(self.bases.refusal(), restrictions)

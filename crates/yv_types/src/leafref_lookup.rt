@@ -38,7 +38,8 @@ fn is_leafref_at(rows: &Rows<'_, '_>, number: usize) -> bool
     }
 }
 
-// What the numbered type says, naming leafref itself. An instance is required where it says nothing of that.
+// What the numbered type says, naming leafref itself. An instance is required where it says nothing
+// of that.
 fn own_at(rows: &Rows<'_, '_>, number: usize) -> TypeLeafref
     ensures { result ≡ own_at (lent_in rows.now) number }
 {
@@ -65,7 +66,8 @@ pub(crate) fn found_at(
     found: &[Option<TypeLeafref>],
     number: usize,
 ) -> Option<TypeLeafref>
-    ensures { AreBases (lent_in rows.now) bases.now → AreFound (lent_in rows.now) (FollowsIn (lent_in rows.now) number) found.now
+    ensures { AreBases (lent_in rows.now) bases.now
+        → AreFound (lent_in rows.now) (FollowsIn (lent_in rows.now) number) found.now
         → HasReferral (lent_in rows.now) number result }
 {
     if is_leafref_at(rows, number) {

@@ -7,7 +7,8 @@ use std::alloc::{AllocError, Global};
 
 /// So many places, with nothing at any.
 pub(crate) fn nothing(alloc: Global, count: usize) -> Result<Vec<Option<TypeLeafref>>, AllocError>
-    ensures { IfOk result (λ slots. (length slots.items ≡ count) × ((k : ℕ) → at slots.items k ≡ None)) }
+    ensures { IfOk result
+        (λ slots. (length slots.items ≡ count) × ((k : ℕ) → at slots.items k ≡ None)) }
 {
     vec![in alloc; None; count]
 }

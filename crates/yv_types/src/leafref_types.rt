@@ -22,14 +22,16 @@ impl LeafrefTypes {
     ghost use Rattle.yv_types.specs.LeafrefTypes.{AreLeafrefTypes, found_in};
     ghost use Rattle.yv_types.specs.Referrals.{HasReferral};
 
-    /// Reads what the types of these statements say, the bases being theirs, in time and memory linear in statements: no way
-    /// along typedefs is gone twice. Err only if memory runs out.
+    /// Reads what the types of these statements say, the bases being theirs, in time and memory
+    /// linear in statements: no way along typedefs is gone twice. Err only if memory runs out.
     pub fn read(
         alloc: Global,
         rows: &Rows<'_, '_>,
         bases: &Bases,
     ) -> Result<LeafrefTypes, AllocError>
-        ensures { IfOk result (λ types. (files : Files) → lent_in rows.now ≡ files → AreBases files bases.now → AreLeafrefTypes files types) }
+        ensures { IfOk result
+            (λ types. (files : Files) → lent_in rows.now ≡ files → AreBases files bases.now
+            → AreLeafrefTypes files types) }
     {
         let order = bases.order();
         let mut found = nothing(alloc, rows.entries().len())?;
@@ -41,11 +43,13 @@ impl LeafrefTypes {
         Ok(LeafrefTypes { found: kept })
     }
 
-    /// What the type of this number says as a leafref (RFC 7950, sections 9.9.2 and 9.9.3): the statement whose path it has,
-    /// its own or that of the leafref to which it leads along typedefs, and what the nearest `require-instance` on this way says.
-    /// None for types that lead to no leafref, and for other statements.
+    /// What the type of this number says as a leafref (RFC 7950, sections 9.9.2 and 9.9.3): the
+    /// statement whose path it has, its own or that of the leafref to which it leads along
+    /// typedefs, and what the nearest `require-instance` on this way says. None for types that lead
+    /// to no leafref, and for other statements.
     pub fn of(&self, number: usize) -> Option<TypeLeafref>
-        ensures tells { (files : Files) → AreLeafrefTypes files self.now → HasReferral files number result }
+        ensures tells { (files : Files) → AreLeafrefTypes files self.now
+            → HasReferral files number result }
         ensures same { result ≡ found_in self.now number }
     {
         self.found.get(number).copied()

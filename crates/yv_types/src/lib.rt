@@ -1,6 +1,7 @@
-//! The types of YANG files (RFC 7950, section 9): what is wrong with the types to which they lead along typedefs, with
-//! their ranges, lengths and patterns, and with their names and numbers, and the least of it all; and where nothing is wrong
-//! the plain types that the values of each may have, unions opened.
+//! The types of YANG files (RFC 7950, section 9): what is wrong with the types to which they lead
+//! along typedefs, with their ranges, lengths and patterns, and with their names and numbers, and
+//! the least of it all; and where nothing is wrong the plain types that the values of each may
+//! have, unions opened.
 #![tactic(auto)]
 
 mod build;

@@ -31,8 +31,9 @@ fn first_path<'s, 'b>(statement: &'s Statement<'b>) -> Option<&'s Statement<'b>>
     statement.children().iter().find(|child| is_path(child))
 }
 
-/// The text of the first `path` in the block of the numbered statement, as that of a type which names leafref itself
-/// (RFC 7950, section 9.9.2). None where there is none. It allocates no memory.
+/// The text of the first `path` in the block of the numbered statement, as that of a type which
+/// names leafref itself (RFC 7950, section 9.9.2). None where there is none. It allocates no
+/// memory.
 pub fn path_of<'a>(rows: &Rows<'a, '_>, number: usize) -> Option<PathText<'a>>
     ensures { option_map written_of result ≡ path_at (lent_in rows.now) number }
 {

@@ -20,7 +20,9 @@ pub(crate) struct TypePlaces {
 impl TypePlaces {
     /// The places of the type statements.
     pub(crate) fn read(alloc: Global, rows: &Rows<'_, '_>) -> Result<TypePlaces, AllocError>
-        ensures { IfOk result (λ places. (f o : ℕ) → placed_in places f o ≡ number_at (rows_in rows.now) (codes "type") f o) }
+        ensures { IfOk result
+            (λ places. (f o : ℕ) → placed_in places f o
+            ≡ number_at (rows_in rows.now) (codes "type") f o) }
     {
         let mut places = TypePlaces {
             map: BTreeMap::new(alloc),
@@ -42,7 +44,9 @@ impl TypePlaces {
 
     // Puts a number at a place, where there is none yet.
     fn keep(&mut self, file: u32, offset: u64, number: usize) -> Result<(), AllocError>
-        ensures { OnOk result ((f o : ℕ) → placed_in self.new f o ≡ keep_first (placed_in self.old) file offset number f o) }
+        ensures { OnOk result
+            ((f o : ℕ) → placed_in self.new f o
+            ≡ keep_first (placed_in self.old) file offset number f o) }
     {
         if self.get(file, offset).is_none() {
             self.map.insert((file, offset), number)?;

@@ -17,7 +17,8 @@ fn is_require_instance(statement: &Statement<'_>) -> bool
 
 // The first such statement in the block of a statement.
 fn first_require_instance<'s, 'b>(statement: &'s Statement<'b>) -> Option<&'s Statement<'b>>
-    ensures { option_map (λ found. found.now) result ≡ first_in (codes "require-instance") statement.now }
+    ensures { option_map (λ found. found.now) result
+        ≡ first_in (codes "require-instance") statement.now }
 {
     statement
         .children()

@@ -34,7 +34,10 @@ fn name_at<'a>(rows: &Rows<'a, '_>, number: usize) -> &'a str
 
 // Lets a prefix stand for a module.
 fn bind(alloc: Global, scope: &mut Scope, prefix: &str, module_file: &str) -> Result<(), AllocError>
-    ensures { OnOk result (place_of scope.new ≡ bind (record { prefix = prefix.now; module_file = module_file.now }) (place_of scope.old)) }
+    ensures { OnOk result
+        (place_of scope.new
+        ≡ bind (record { prefix = prefix.now; module_file = module_file.now })
+        (place_of scope.old)) }
 {
     let prefix = String::from_str(alloc, prefix)?;
     let module_file = String::from_str(alloc, module_file)?;
@@ -51,7 +54,9 @@ fn add(
     module_file: &str,
 ) -> Result<(), AllocError>
     ensures { OnOk result ((n : ℕ) → place_in scopes.new.items n
-        ≡ option_map (add_prefix n file (record { prefix = prefix.now; module_file = module_file.now })) (place_in scopes.old.items n)) }
+        ≡ option_map
+        (add_prefix n file (record { prefix = prefix.now; module_file = module_file.now }))
+        (place_in scopes.old.items n)) }
 {
     let place = file as usize;
     if place < scopes.len() {
@@ -104,7 +109,8 @@ fn bare_scopes(alloc: Global, rows: &Rows<'_, '_>) -> Result<Vec<Scope>, AllocEr
     Ok(scopes)
 }
 
-/// For each file the module and the prefixes by which its texts are read, in time linear in statements.
+/// For each file the module and the prefixes by which its texts are read, in time linear in
+/// statements.
 pub fn scopes_of(alloc: Global, rows: &Rows<'_, '_>) -> Result<Vec<Scope>, AllocError>
     ensures { IfOk result (λ scopes. AreScopes (lent_in rows.now) scopes.items) }
 {

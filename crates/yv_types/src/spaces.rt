@@ -20,8 +20,10 @@ impl Layers<'_> {
         alloc: Global,
         linked: &Linked<'_, '_>,
     ) -> Result<Vec<Option<SharedTypes>>, AllocError>
-        ensures makes { IfOk result (λ spaces. (files : Files) (choice : Selected) → AreLinked files choice linked.now
-            → AreLayers files (truth_in linked.now) self.now → AreSpaces files (truth_in linked.now) choice spaces.items) }
+        ensures makes { IfOk result
+            (λ spaces. (files : Files) (choice : Selected) → AreLinked files choice linked.now
+            → AreLayers files (truth_in linked.now) self.now
+            → AreSpaces files (truth_in linked.now) choice spaces.items) }
         ensures numbers { IfOk result (λ spaces. AreNumbered spaces.items) }
     {
         let rows = linked.rows();

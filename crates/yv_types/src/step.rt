@@ -63,12 +63,16 @@ fn built_in(
     list: usize,
     entry: &Entry<'_, '_>,
 ) -> Result<Option<SharedTypes>, AllocError>
-    ensures space { AreIdentities linked.now identities.old → IfOk result (λ s. (files : Files) (choice : Selected) → AreLinked files choice linked.now
-        → slice_get (rows_of files) number ≡ Some (row entry.now) → members.now ≡ types_in (rows_of files) number
+    ensures space { AreIdentities linked.now identities.old
+        → IfOk result (λ s. (files : Files) (choice : Selected) → AreLinked files choice linked.now
+        → slice_get (rows_of files) number ≡ Some (row entry.now) → members.now
+        ≡ types_in (rows_of files) number
         → IsBare files (truth_in linked.now) number → FollowsNone files number
-        → AreKnown files (truth_in linked.now) choice (RestsOn (map brief_of files) (rows_of files) number) spaces.now
+        → AreKnown files (truth_in linked.now) choice
+        (RestsOn (map brief_of files) (rows_of files) number) spaces.now
         → IsSpace files (truth_in linked.now) choice number (option_map plains s)) }
-    ensures keeps { AreIdentities linked.now identities.old → AreIdentities linked.now identities.new }
+    ensures keeps { AreIdentities linked.now identities.old
+        → AreIdentities linked.now identities.new }
     ensures number { IfOk result (λ s. IfSome s (λ shared. shared.list ≡ list)) }
 {
     if is_kind("leafref", entry) {
@@ -97,7 +101,8 @@ fn members_of(inside: &[Vec<usize>], number: usize) -> &[usize]
 
 // Whether the numbered statement is a type that says nothing but a name.
 fn is_unrestricted(linked: &Linked<'_, '_>, number: usize) -> bool
-    ensures { (files : Files) (choice : Selected) → AreLinked files choice linked.now → result ≡ true → IsUnrestricted files number }
+    ensures { (files : Files) (choice : Selected) → AreLinked files choice linked.now → result
+        ≡ true → IsUnrestricted files number }
 {
     match linked.rows().statement(number) {
         Some(statement) => statement.keyword() == "type" && statement.children().is_empty(),
@@ -106,18 +111,24 @@ fn is_unrestricted(linked: &Linked<'_, '_>, number: usize) -> bool
 }
 
 impl Layers<'_> {
-    // The list of the type that the numbered type follows, if that has a plain type of which this one takes nothing away.
+    // The list of the type that the numbered type follows, if that has a plain type of which this
+    // one takes nothing away.
     fn shared_types(
         &self,
         linked: &Linked<'_, '_>,
         spaces: &[Option<SharedTypes>],
         number: usize,
     ) -> Result<Option<SharedTypes>, AllocError>
-        ensures space { IfOk result (λ s. (files : Files) (choice : Selected) → AreLinked files choice linked.now
+        ensures space { IfOk result
+            (λ s. (files : Files) (choice : Selected) → AreLinked files choice linked.now
             → AreLayers files (truth_in linked.now) self.now
-            → AreKnown files (truth_in linked.now) choice (RestsOn (map brief_of files) (rows_of files) number) spaces.now
-            → (ps : List Plain) → option_map plains s ≡ Some ps → Space files (truth_in linked.now) choice number ps) }
-        ensures there { IfOk result (λ s. (x : ℕ × List Plain) → option_map entry_of s ≡ Some x → (k : ℕ) × (entry_at spaces.now k ≡ Some x)) }
+            → AreKnown files (truth_in linked.now) choice
+            (RestsOn (map brief_of files) (rows_of files) number) spaces.now
+            → (ps : List Plain) → option_map plains s ≡ Some ps
+            → Space files (truth_in linked.now) choice number ps) }
+        ensures there { IfOk result
+            (λ s. (x : ℕ × List Plain) → option_map entry_of s ≡ Some x → (k : ℕ)
+            × (entry_at spaces.now k ≡ Some x)) }
     {
         crate::laws::a_type_has_one_space();
         if !is_unrestricted(linked, number) {
@@ -129,8 +140,8 @@ impl Layers<'_> {
         }
     }
 
-    /// The plain types of the numbered type, the table having those of the types on which it rests. A list that isn't in the table has
-    /// this number.
+    /// The plain types of the numbered type, the table having those of the types on which it rests.
+    /// A list that isn't in the table has this number.
     pub(crate) fn types_at(
         &self,
         alloc: Global,
@@ -141,12 +152,16 @@ impl Layers<'_> {
         number: usize,
         list: usize,
     ) -> Result<Option<SharedTypes>, AllocError>
-        ensures space { AreIdentities linked.now identities.old → IfOk result (λ s. (files : Files) (choice : Selected) → AreLinked files choice linked.now
+        ensures space { AreIdentities linked.now identities.old
+            → IfOk result
+            (λ s. (files : Files) (choice : Selected) → AreLinked files choice linked.now
             → AreLayers files (truth_in linked.now) self.now
             → ((block : ℕ) → items_at inside.now block ≡ types_in (rows_of files) block)
-            → AreKnown files (truth_in linked.now) choice (RestsOn (map brief_of files) (rows_of files) number) spaces.now
+            → AreKnown files (truth_in linked.now) choice
+            (RestsOn (map brief_of files) (rows_of files) number) spaces.now
             → IsSpace files (truth_in linked.now) choice number (option_map plains s)) }
-        ensures keeps { AreIdentities linked.now identities.old → AreIdentities linked.now identities.new }
+        ensures keeps { AreIdentities linked.now identities.old
+            → AreIdentities linked.now identities.new }
         ensures number { IfOk result (IsNewOrThere spaces.now list) }
     {
         if let Some(plain) = self.faceted.plain(number) {

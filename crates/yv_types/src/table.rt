@@ -30,7 +30,8 @@ impl SharedTypes {
 
 /// So many places, none with types.
 pub(crate) fn no_spaces(alloc: Global, count: usize) -> Result<Vec<Option<SharedTypes>>, AllocError>
-    ensures { IfOk result (λ spaces. (length spaces.items ≡ count) × ((k : ℕ) → plains_at spaces.items k ≡ None)
+    ensures { IfOk result
+        (λ spaces. (length spaces.items ≡ count) × ((k : ℕ) → plains_at spaces.items k ≡ None)
         × ((k : ℕ) → entry_at spaces.items k ≡ None)) }
 {
     let mut spaces = Vec::new(alloc);
@@ -65,8 +66,10 @@ pub(crate) fn list_at(
 /// Puts types, or none, at a place that there is.
 pub(crate) fn put(spaces: &mut Vec<Option<SharedTypes>>, place: usize, space: Option<SharedTypes>)
     ensures each { length spaces.new.items ≡ length spaces.old.items }
-    ensures here { place < length spaces.old.items → plains_at spaces.new.items place ≡ option_map plains space }
-    ensures elsewhere { (k : ℕ) → k ≢ place → plains_at spaces.new.items k ≡ plains_at spaces.old.items k }
+    ensures here { place < length spaces.old.items → plains_at spaces.new.items place
+        ≡ option_map plains space }
+    ensures elsewhere { (k : ℕ) → k ≢ place → plains_at spaces.new.items k
+        ≡ plains_at spaces.old.items k }
     ensures entries { (k : ℕ) → (entry_at spaces.new.items k ≡ entry_at spaces.old.items k)
         ⊎ (entry_at spaces.new.items k ≡ option_map entry_of space) }
 {
@@ -88,7 +91,8 @@ pub(crate) fn one(alloc: Global, plain: PlainType, list: usize) -> Result<Shared
 
 // Puts copies of types behind others.
 fn extend(all: &mut Vec<PlainType>, types: &[PlainType]) -> Result<(), AllocError>
-    ensures { OnOk result (map plain_of all.new.items ≡ map plain_of all.old.items ++ map plain_of types.now) }
+    ensures { OnOk result
+        (map plain_of all.new.items ≡ map plain_of all.old.items ++ map plain_of types.now) }
 {
     for plain in types {
         all.push(plain.copy()?)?;
@@ -103,7 +107,8 @@ pub(crate) fn join_members(
     members: &[usize],
     list: usize,
 ) -> Result<Option<SharedTypes>, AllocError>
-    ensures types { IfOk result (λ shared. option_map plains shared ≡ joined_from spaces.now [] members.now) }
+    ensures types { IfOk result
+        (λ shared. option_map plains shared ≡ joined_from spaces.now [] members.now) }
     ensures number { IfOk result (λ shared. IfSome shared (λ s. s.list ≡ list)) }
 {
     let mut all = Vec::new(alloc);

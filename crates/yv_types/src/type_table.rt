@@ -22,7 +22,8 @@ use std::rc::RcSlice;
 use yv_node_definition::WrittenText;
 use yv_values::PlainType;
 
-/// The plain types and the defaults of the types of files in which nothing is wrong with types, and what they say as leafrefs.
+/// The plain types and the defaults of the types of files in which nothing is wrong with types, and
+/// what they say as leafrefs.
 #[derive(Drop)]
 pub struct Types {
     pub(crate) spaces: Vec<Option<SharedTypes>>,
@@ -35,17 +36,23 @@ pub struct Types {
 impl Types {
     ghost use Rattle.yv_types.specs.Types.{AreTypes, default_at, referring_at, sharing_at, space_at};
 
-    /// The plain types of the first type statement at an offset (bytes) of a file, typedefs followed and unions opened in
-    /// order (RFC 7950, section 9.12): no types for a leafref, whose values are its target's. None where there is no type, and for types
-    /// that lead to instance-identifier and unions with such a member. Takes time log n.
+    /// The plain types of the first type statement at an offset (bytes) of a file, typedefs
+    /// followed and unions opened in order (RFC 7950, section 9.12): no types for a leafref, whose
+    /// values are its target's. None where there is no type, and for types that lead to
+    /// instance-identifier and unions with such a member. Takes time log n.
     pub fn plain(&self, file: u32, offset: u64) -> Option<&[PlainType]>
-        ensures tells { (files : Files) (choice : Selected) (truth : Truth) → AreTypes files choice truth self.now
-            → IfSome result (λ types. (k : ℕ) × (number_at (rows_of files) (codes "type") file offset ≡ Some k)
+        ensures tells { (files : Files) (choice : Selected) (truth : Truth)
+            → AreTypes files choice truth self.now
+            → IfSome result
+            (λ types. (k : ℕ) × (number_at (rows_of files) (codes "type") file offset ≡ Some k)
             × Space files truth choice k (map plain_of types.now)) }
-        ensures none { (files : Files) (choice : Selected) (truth : Truth) → AreTypes files choice truth self.now
-            → result ≡ None → (k : ℕ) → number_at (rows_of files) (codes "type") file offset ≡ Some k
+        ensures none { (files : Files) (choice : Selected) (truth : Truth)
+            → AreTypes files choice truth self.now
+            → result ≡ None → (k : ℕ) → number_at (rows_of files) (codes "type") file offset
+            ≡ Some k
             → (types : List Plain) → Space files truth choice k types → ⊥ }
-        ensures same { option_map (λ types. map plain_of types.now) result ≡ space_at self.now file offset }
+        ensures same { option_map (λ types. map plain_of types.now) result
+            ≡ space_at self.now file offset }
     {
         let number = self.places.get(file, offset)?;
         Some(get(&self.spaces, number)?.types.as_slice())
@@ -53,13 +60,19 @@ impl Types {
 
     /// The same, as the list itself, which its types share.
     pub fn at(&self, file: u32, offset: u64) -> Result<Option<RcSlice<PlainType>>, AllocError>
-        ensures tells { IfOk result (λ found. (files : Files) (choice : Selected) (truth : Truth) → AreTypes files choice truth self.now
-            → IfSome found (λ types. (k : ℕ) × (number_at (rows_of files) (codes "type") file offset ≡ Some k)
+        ensures tells { IfOk result
+            (λ found. (files : Files) (choice : Selected) (truth : Truth)
+            → AreTypes files choice truth self.now
+            → IfSome found
+            (λ types. (k : ℕ) × (number_at (rows_of files) (codes "type") file offset ≡ Some k)
             × Space files truth choice k (map plain_of (rc_slice_items types)))) }
-        ensures none { IfOk result (λ found. (files : Files) (choice : Selected) (truth : Truth) → AreTypes files choice truth self.now
+        ensures none { IfOk result
+            (λ found. (files : Files) (choice : Selected) (truth : Truth)
+            → AreTypes files choice truth self.now
             → found ≡ None → (k : ℕ) → number_at (rows_of files) (codes "type") file offset ≡ Some k
             → (types : List Plain) → Space files truth choice k types → ⊥) }
-        ensures same { IfOk result (λ found. option_map (λ types. map plain_of (rc_slice_items types)) found
+        ensures same { IfOk result
+            (λ found. option_map (λ types. map plain_of (rc_slice_items types)) found
             ≡ space_at self.now file offset) }
     {
         let Some(number) = self.places.get(file, offset) else {
@@ -71,8 +84,9 @@ impl Types {
         }
     }
 
-    /// The default that the first type statement at an offset (bytes) of a file has by its typedefs (RFC 7950,
-    /// section 7.3.4), with the file in which it is written. None where there is no type, and where no typedef says one.
+    /// The default that the first type statement at an offset (bytes) of a file has by its typedefs
+    /// (RFC 7950, section 7.3.4), with the file in which it is written. None where there is no
+    /// type, and where no typedef says one.
     pub fn default_at(&self, file: u32, offset: u64) -> Option<&WrittenText>
         ensures { option_map written_of (option_copied result) ≡ default_at self.now file offset }
     {
@@ -80,13 +94,15 @@ impl Types {
         self.defaults.of(number)
     }
 
-    /// Numbers of the list of plain types of the first type statement at an offset (bytes) of a file, and of the typedef that says its
-    /// default. Type statements with the same numbers have the same plain types and the same default. None where there is no list or no
-    /// default.
+    /// Numbers of the list of plain types of the first type statement at an offset (bytes) of a
+    /// file, and of the typedef that says its default. Type statements with the same numbers have
+    /// the same plain types and the same default. None where there is no list or no default.
     pub fn sharing_at(&self, file: u32, offset: u64) -> Option<(usize, usize)>
         ensures numbers { result ≡ sharing_at self.now file offset }
-        ensures same { (f o : ℕ) (numbers : ℕ × ℕ) → result ≡ Some numbers → sharing_at self.now f o ≡ Some numbers
-            → (space_at self.now f o ≡ space_at self.now file offset) × (default_at self.now f o ≡ default_at self.now file offset) }
+        ensures same { (f o : ℕ) (numbers : ℕ × ℕ) → result ≡ Some numbers → sharing_at self.now f o
+            ≡ Some numbers
+            → (space_at self.now f o ≡ space_at self.now file offset)
+            × (default_at self.now f o ≡ default_at self.now file offset) }
     {
         let number = self.places.get(file, offset)?;
         let list = get(&self.spaces, number)?.list;
@@ -94,8 +110,9 @@ impl Types {
         Some((list, typedef))
     }
 
-    /// What the first type statement at an offset (bytes) of a file says as a leafref, by itself or along its typedefs
-    /// (RFC 7950, sections 9.9.2 and 9.9.3). None where there is no type, and where it leads to no leafref.
+    /// What the first type statement at an offset (bytes) of a file says as a leafref, by itself or
+    /// along its typedefs (RFC 7950, sections 9.9.2 and 9.9.3). None where there is no type, and
+    /// where it leads to no leafref.
     pub fn referring_at(&self, file: u32, offset: u64) -> Option<TypeLeafref>
         ensures { result ≡ referring_at self.now file offset }
     {

@@ -34,7 +34,8 @@ fn is_typedef(entry: &Entry<'_, '_>) -> bool
 
 // The first default in the block of a statement.
 fn first_default<'s, 'b>(statement: &'s Statement<'b>) -> Option<&'s Statement<'b>>
-    ensures { option_map (λ found. found.now) result ≡ find is_default (trees statement.now.children) }
+    ensures { option_map (λ found. found.now) result
+        ≡ find is_default (trees statement.now.children) }
 {
     statement.children().iter().find(|child| is_default(child))
 }
@@ -62,7 +63,8 @@ fn default_of_typedef(
     entry: &Entry<'_, '_>,
     statement: &Statement<'_>,
 ) -> Result<Option<WrittenText>, AllocError>
-    ensures { IfOk result (λ text. option_map written_of text ≡ default_of_typedef (row entry.now) statement.now) }
+    ensures { IfOk result
+        (λ text. option_map written_of text ≡ default_of_typedef (row entry.now) statement.now) }
 {
     if is_typedef(entry) {
         default_in(alloc, entry.file, statement)

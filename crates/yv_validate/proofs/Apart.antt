@@ -8,7 +8,8 @@ use Rattle.yv_schema_tables.specs.Groups.{join}
 use Rattle.yv_schema_tables.specs.DataChildren.{opened_trees}
 use Rattle.yv_schema_tables.specs.Sound.{DifferInMember, MembersDiffer}
 
--- what the members of an object may be called that has these trees below it, through choices and cases
+-- what the members of an object may be called that has these trees below it, through choices and
+-- cases
 abbrev pub members : Forest → List (List ℕ)
 members no_trees = []
 members (tree (node l kids) ts) =

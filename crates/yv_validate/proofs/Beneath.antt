@@ -22,40 +22,7 @@ use Rattle.yv_validate.specs.Faults.{choice_faults, faults_at, flaw_if, kind_fau
 use Rattle.yv_validate.specs.Flaw.{Flaw}
 use Rattle.yv_validate.specs.declared.fault.FaultKind.TheVariants.{State}
 use Rattle.yv_validate.specs.InnerWalk.{one_from, ones_met, scope_at}
-
-pub not_same : (n m : ℕ) → n < m → (n == m) ≡ false
-not_same n m lt = grind (arith, nat_tests)
-
--- the first number below a node
-pub rank_is : (s : Rows) (n : NodeId) → IsSound s → n.0 < length s.nodes → rank n ≡ n.0 + 1
-rank_is s n sound lt = ap (λ b. cond b 0 (n.0 + 1)) (not_same n.0 4294967295 (omega (arith, sound.small, lt)))
-
-pub trees_behind : (s : Rows) (c : NodeId) (cs : List NodeId) → AreTrees s (c ∷ cs) → AreTrees s cs
-trees_behind s c cs trees = λ i d lt.
-    let one : suc i + 1 ≡ suc (i + 1) = omega arith in
-    let less : suc i < length (c ∷ cs) = omega (arith, lt) in
-    subst (λ (n : ℕ). forest s (drop i cs) ≡ tree (tree_of s (get_or cs i d)) (forest s (drop n (c ∷ cs)))) one (trees (suc i) d less)
-
--- the first of nodes, and those behind it
-pub record Splits (s : Rows) (at : ℕ) (c : NodeId) (cs : List NodeId) : Type 0 where
-  pub first : at ≡ c.0
-  pub here : forest s (c ∷ cs) ≡ tree (tree_of s c) (forest s cs)
-  pub later : cs ≡ numbers_from (c.0 + 1 + count (below s c)) (forest s cs)
-
-pub split_of : (s : Rows) (at : ℕ) (c : NodeId) (cs : List NodeId) → AreTrees s (c ∷ cs) → c ∷ cs ≡ numbers_from at (forest s (c ∷ cs)) → Splits s at c cs
-split_of s at c cs trees are =
-    let F : Forest = forest s cs in
-    let n : NodeId = record { 0 = at } in
-    let here : forest s (c ∷ cs) ≡ tree (tree_of s c) F = trees 0 c (omega arith) in
-    let numbers : c ∷ cs ≡ n ∷ numbers_from (at + 1 + count (below s c)) F = are ∙ ap (numbers_from at) here in
-    let same : c ≡ n = cc in
-    let first : at ≡ c.0 = ap (λ (m : NodeId). m.0) (sym same) in
-    let behind : cs ≡ numbers_from (at + 1 + count (below s c)) F = cc in
-    record {
-      first = first;
-      here = here;
-      later = behind ∙ ap (λ m. numbers_from (m + 1 + count (below s c)) F) first;
-    }
+use Rattle.yv_quiet_nodes.proofs.Children.{rank_is, split_at, split_of, Splits, trees_behind}
 
 -- nodes by their numbers are met as their trees
 ones_from : (k : Kind) (s : Rows) (scope_of : ℕ → Tree → RuleScope) (spot : Spot) (next : ℕ) (ms : Members) (at : ℕ) (cs : List NodeId) → IsSound s → AllByRecursion (λ (c : NodeId). c.0 < length s.nodes) cs
@@ -70,7 +37,7 @@ ones_from k s scope_of spot next ms at (c ∷ cs) sound within trees are =
     ∙ ap (λ n. meetings k s scope_of spot next n (tree (tree_of s c) (forest s cs)) ms) (sym h.first)
     ∙ ap (λ ts. meetings k s scope_of spot next at ts ms) (sym h.here)
 
-children_within : (s : Rows) (p : NodeId) (cs : List NodeId) → AllByRecursion (IsChild s p) cs → AllByRecursion (λ (c : NodeId). c.0 < length s.nodes) cs
+pub children_within : (s : Rows) (p : NodeId) (cs : List NodeId) → AllByRecursion (IsChild s p) cs → AllByRecursion (λ (c : NodeId). c.0 < length s.nodes) cs
 children_within s p [] h = h
 children_within s p (c ∷ cs) h = (h.0.within, children_within s p cs h.1)
 
@@ -89,10 +56,6 @@ ones_start k s p cs scope_of spot next ms h =
     ones_from k s scope_of spot next ms (rank p) cs h.sound (children_within s p cs (recursion_from_All (IsChild s p) cs h.each)) h.trees
     (h.same ∙ h.numbers ∙ ap (λ xs. numbers_from (rank p) (forest s xs)) (sym h.same))
     ∙ ap (λ xs. meetings k s scope_of spot next (rank p) (forest s xs) ms) h.same
-
--- the first of the nodes that are left
-pub split_at : (cs : List NodeId) (i : ℕ) (d : NodeId) → i < length cs → drop i cs ≡ get_or cs i d ∷ drop (i + 1) cs
-split_at cs i d lt = rw (add-one) (drop-cons cs i d lt)
 
 pub ones_drop : (k : Kind) (s : Rows) (scope_of : ℕ → Tree → RuleScope) (spot : Spot) (next : ℕ) (cs : List NodeId) (i : ℕ) (d : NodeId) (ms : Members) → i < length cs
     → ones_met k s scope_of (drop i cs) ms spot next ≡ ones_met k s scope_of (get_or cs i d ∷ drop (i + 1) cs) ms spot next

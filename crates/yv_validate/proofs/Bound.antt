@@ -1,4 +1,5 @@
--- The steps of a validation are bounded by the sizes of the document and of the schema, whatever kind of document is asked for.
+-- The steps of a validation are bounded by the sizes of the document and of the schema, whatever
+-- kind of document is asked for.
 use Rattle.std.proofs.Common.{◌≡◌, ◌≢◌, ◌⊎◌, inl, inr, ℕ, zero, suc, ◌+◌, ◌*◌, ◌≤◌, List, [], ◌∷◌, ◌++◌, length, map, max, Bool, true, false, cond, not, ◌&&◌, ◌||◌, Option, Some, None, is_some, Ordering, Less, Equal, Greater, refl, sym, ap, subst, is_eq, ◌∙◌, arith}
 use Rattle.std.specs.List.{AllByRecursion, sum_by}
 use Rattle.std.specs.Ordering.{nat_cmp, match_ordering}
@@ -28,7 +29,7 @@ use Rattle.yv_schema_tables.specs.Sound.{IsSound}
 use Rattle.yv_walk.specs.Context.{members_len}
 use Rattle.yv_validate.proofs.Apart.{AreApart, AreApartBelow, AreDistinct, apart, members}
 use Rattle.yv_validate.specs.Size.{size, items_size, members_size}
-use Rattle.yv_validate.specs.Values.{key_leafs, unique_leafs}
+use Rattle.yv_quiet_nodes.specs.NamedLeafs.{key_leafs, unique_leafs}
 use Rattle.yv_statement.specs.declared.document_kind.Kind.{Kind}
 use Rattle.yv_leafref_values.specs.declared.scope.RuleScope.{RuleScope}
 use Rattle.yv_leafref_values.specs.declared.scope.RuleScope.TheVariants.{Always}
@@ -274,7 +275,8 @@ one_tree : (f : Meeting → ℕ) (op : Bool) (xs : List Meeting) (m : Meeting) (
 one_tree f true xs m visit inner own e h = omega arith
 one_tree f false xs m visit inner own e h = omega (arith, e, sum_by-append f xs (m ∷ []), sum_by-cons f m [], h refl)
 
--- what is greatest of all is no less than what is here, at nodes that aren't operations, and than what is behind
+-- what is greatest of all is no less than what is here, at nodes that aren't operations, and than
+-- what is behind
 here_at_most : (b : Bool) (x y z k : ℕ) → max (cond b 0 (max x y)) z ≤ k → b ≡ false → x ≤ k
 here_at_most true x y z k h e = absurd (true≢false e)
 here_at_most false x y z k h e = omega (arith, h)

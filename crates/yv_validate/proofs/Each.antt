@@ -11,6 +11,7 @@ use Rattle.yv_leafref_values.specs.Place.{Place}
 use Rattle.yv_validate.specs.Repeats.{repeat_of}
 use Rattle.yv_validate.specs.Work.{tuple_work, uniques_work}
 use Rattle.yv_validate.proofs.Remembered.{nothing_yet}
+use Rattle.yv_quiet_nodes.proofs.Leafs.{first_left}
 
 pub record RemembersSome (is : List (List Pair)) (f : List (Option NodeId) → Data → Option (List Val)) (us : List (List (Option NodeId))) (before : List Data) (d : Data) (n : ℕ) : Type 0 where
   pub same : length is ≡ length us
@@ -73,9 +74,6 @@ some_step is f us before d n new u lt stated h now = record {
 
 -- ---- what is told of them
 
-pub first_left : (us : List (List (Option NodeId))) (i : ℕ) (u : List (Option NodeId)) → i < length us → drop i us ≡ get_or us i u ∷ drop (i + 1) us
-first_left us i u lt = rw (add-one) (drop-cons us i u lt)
-
 pub unique_drop : (f : List (Option NodeId) → Data → Option (List Val)) (here : List Place) (k : ℕ) (us : List (List (Option NodeId))) (i : ℕ) (u : List (Option NodeId)) (before : List Data) (d : Data) → i < length us → u ≡ get_or us i u
     → unique_faults f here k (drop i us) before d ≡ unique_if (repeat_of (f u) before d) here k ++ unique_faults f here (k + 1) (drop (i + 1) us) before d
 unique_drop f here k us i u before d lt is =
@@ -86,9 +84,3 @@ pub work_drop : (f : List (Option NodeId) → Data → Option (List Val)) (us : 
     → uniques_work f (drop i us) d ≡ tuple_work (f u d) + uniques_work f (drop (i + 1) us) d
 work_drop f us i u d lt is =
     ap (λ vs. uniques_work f vs d) (first_left us i u lt) ∙ ap (λ w. tuple_work (f w d) + uniques_work f (drop (i + 1) us) d) (sym is)
-
--- a statement of a mapped list
-pub get_map : {X Y : Type 0} (f : X → Y) (xs : List X) (i : ℕ) (x : X) → i < length xs → x ≡ get_or xs i x → f x ≡ get_or (map f xs) i (f x)
-get_map f [] i x lt is = absurd (omega arith)
-get_map f (y ∷ ys) zero x lt is = ap f is
-get_map f (y ∷ ys) (suc i) x lt is = get_map f ys i x (omega arith) is

@@ -5,7 +5,6 @@ pub mod Grown
 pub mod Beneath
 pub mod Entered
 pub mod Items
-pub mod Asked
 pub mod Noted
 pub mod Own
 pub mod Meeting
@@ -15,4 +14,4 @@ pub mod Closed
 pub mod Bound
 pub mod Spelled
 pub mod Silent
-pub mod Known
+pub mod Passing

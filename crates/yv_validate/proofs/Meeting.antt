@@ -17,7 +17,7 @@ use Rattle.yv_leafref_values.specs.InUse.{is_number}
 use Rattle.yv_validate.specs.InnerWalk.{Meets, MeetsBelow}
 use Rattle.yv_leafref_values.specs.declared.scope.RuleScope.{RuleScope}
 use Rattle.yv_leafref_values.specs.declared.scope.RuleScope.TheVariants.{InCase, InDefault}
-use Rattle.yv_validate.proofs.Beneath.{not_same, rank_is}
+use Rattle.yv_quiet_nodes.proofs.Children.{not_same, rank_is}
 
 -- a child
 pub meets_child : (s : Rows) (x : Context) (p : NodeId) (cs : List NodeId) (i : ℕ) (d : NodeId) → MeetsBelow s x p → cs ≡ children_of s p → i < length cs → Meets s x (get_or cs i d)

@@ -9,11 +9,12 @@ use Rattle.yv_values.specs.Values.{Val}
 use Rattle.yv_nodes.specs.declared.node.NodeId.{NodeId}
 use Rattle.yv_nodes.specs.Rows.{Rows}
 use Rattle.yv_leafref_values.specs.InUse.{is_number}
-use Rattle.yv_validate.specs.InnerNames.{are_named, is_named}
+use Rattle.yv_quiet_nodes.specs.NamedLeafs.{are_named, is_named}
 use Rattle.yv_validate.specs.InnerNotes.{Gains, last_of, note_value, noted_at}
 use Rattle.yv_validate.specs.Values.{all_values, join, leaf_at, tuple_of}
 use Rattle.yv_validate.specs.declared.notes.Notes.{Notes}
-use Rattle.yv_validate.proofs.Asked.{is_eq_nat, or_left, or_right}
+use Rattle.yv_quiet_nodes.proofs.Asked.{is_eq_nat, or_left, or_right}
+use Rattle.yv_quiet_nodes.proofs.Leafs.{leafs_drop, named_leafs}
 
 pub or_else_assoc : (a b c : Option Val) → or_else (or_else a b) c ≡ or_else a (or_else b c)
 or_else_assoc (Some v) b c = refl
@@ -81,12 +82,6 @@ behind vs (Some ws) = Some (vs ++ ws)
 behind_joined : (vs : List Val) (v : Val) (o : Option (List Val)) → behind (vs ++ v ∷ []) o ≡ behind vs (join (Some v) o)
 behind_joined vs v None = refl
 behind_joined vs v (Some ws) = ap Some (append_assoc vs (v ∷ []) ws)
-
-abbrev pub named_leafs : List NodeId → List (Option NodeId)
-named_leafs ids = map (λ (n : NodeId). Some n) ids
-
-pub leafs_drop : (ids : List NodeId) (i : ℕ) (d : NodeId) → i < length ids → named_leafs (drop i ids) ≡ Some (get_or ids i d) ∷ named_leafs (drop (i + 1) ids)
-leafs_drop ids i d lt = let split : drop i ids ≡ get_or ids i d ∷ drop (i + 1) ids = rw (add-one) (drop-cons ids i d lt) in ap named_leafs split
 
 pub parts_step : (f : ℕ → Option Val) (vs new : List Val) (v : Val) (ids : List NodeId) (i : ℕ) (d : NodeId) (all : Option (List Val)) → i < length ids
     → new ≡ vs ++ v ∷ [] → f (get_or ids i d).0 ≡ Some v → behind vs (all_values f (named_leafs (drop i ids))) ≡ all

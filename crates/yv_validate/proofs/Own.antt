@@ -19,7 +19,7 @@ use Rattle.yv_leafref_values.specs.declared.scope.RuleScope.TheVariants.{Always}
 use Rattle.yv_leafref_values.specs.InUse.{case_scope, in_use, scope_in, some_value, uses_defaults, value_of}
 use Rattle.yv_leafref_values.specs.Meetings.{Below, count_entered, entries_met, entry_met, found_of, in_container, in_entry, in_no_object, is_left, items_met, kind_met, leaf_met, Meeting, meetings, at_node, Node, node_met, object_met, Spot, at_value}
 use Rattle.yv_leafref_values.specs.Values.{ValueAt, values_of_node, values_at, values_in}
-use Rattle.yv_validate.specs.InnerNames.{is_named}
+use Rattle.yv_quiet_nodes.specs.NamedLeafs.{is_named}
 use Rattle.yv_validate.specs.InnerNotes.{default_value, Gains, GainsBy, last_of, noted_at, own_value}
 use Rattle.yv_validate.specs.InnerWalk.{data_met, inside_at, node_at, one_met, ones_met, scope_at, with_node}
 use Rattle.yv_validate.specs.Values.{is_own, value_if, value_in}
@@ -337,7 +337,8 @@ gains_none s x f none = λ spot next lt. gains_nothing s x _ (λ n. ap (λ (ms :
 
 -- ---- nodes, one after the other
 
--- of these nodes there are values to be noted still: with them, what is noted is what was noted at the start and all values
+-- of these nodes there are values to be noted still: with them, what is noted is what was noted at
+-- the start and all values
 pub record NotesLeft (k : Kind) (s : Rows) (of : ℕ → Tree → RuleScope) (left : List NodeId) (ms : Members) (spot : Spot) (now start : Notes) (all : List Meeting) : Type 0 where
   pub later : ℕ
   pub within : spot.entry < later

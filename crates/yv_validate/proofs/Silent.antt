@@ -36,15 +36,16 @@ use Rattle.yv_validate.specs.declared.fault.FaultKind.TheVariants.{Mandatory, Ma
 use Rattle.yv_validate.specs.Faults.{choice_faults, count_faults, faults_at, flaw, flaw_if, kind_faults, leaf_faults, missing_fault, node_faults, state_faults}
 use Rattle.yv_validate.specs.Flaw.{Flaw}
 use Rattle.yv_validate.specs.InnerNotes.{Gains, GainsBy}
-use Rattle.yv_validate.specs.InnerNames.{is_named, is_read}
-use Rattle.yv_validate.specs.InnerQuiet.{are_quiet, is_mute, is_quiet, is_unread, IsEmptied, IsPassed, tree_met}
+use Rattle.yv_quiet_nodes.specs.NamedLeafs.{is_named, is_read}
+use Rattle.yv_quiet_nodes.specs.Quiet.{are_quiet, is_mute, is_quiet, is_unread, IsEmptied, IsPassed, tree_met}
 use Rattle.yv_validate.specs.InnerWalk.{below_from, children_met, Grows, one_from, one_met, ProgressView}
 use Rattle.yv_validate.specs.Values.{value_in}
 use Rattle.yv_validate.specs.Work.{work_at}
 use Rattle.yv_validate.specs.declared.notes.Notes.{Notes}
-use Rattle.yv_validate.proofs.Beneath.{quiet_state, rank_is}
+use Rattle.yv_validate.proofs.Beneath.{quiet_state}
+use Rattle.yv_quiet_nodes.proofs.Children.{rank_is}
 use Rattle.yv_validate.proofs.Grown.{Quiet}
-use Rattle.yv_validate.proofs.Asked.{named_apart, or_neither}
+use Rattle.yv_quiet_nodes.proofs.Asked.{named_apart, or_neither}
 use Rattle.yv_validate.proofs.Noted.{gains_unnamed}
 use Rattle.yv_validate.proofs.Own.{met_append, own_node, own_of, valued_apart}
 

@@ -1,5 +1,5 @@
--- The faults of a document, each read from one thing that a validation meets (RFC 7950, sections 7.5 to 7.11, 7.21.1 and 9; RFC 7951,
--- sections 4 to 6).
+-- The faults of a document, each read from one thing that a validation meets (RFC 7950, sections
+-- 7.5 to 7.11, 7.21.1 and 9; RFC 7951, sections 4 to 6).
 use Rattle.std.specs.Prelude.{ℕ, zero, suc, ◌+◌, min, nat_lt, ◌&&◌, List, [], ◌∷◌, ◌++◌, length, map, Bool, false, Option, Some, None, is_some, option_map, unwrap_or, if◌then◌else◌}
 use Rattle.std.specs.List.{flat_map}
 use Rattle.serde_json.specs.Data.{Data, array, object}
@@ -22,7 +22,8 @@ use Rattle.yv_validate.specs.declared.fault.FaultKind.{FaultKind}
 use Rattle.yv_validate.specs.declared.fault.FaultKind.TheVariants.{Unknown, Shape, Value, MissingKey, Duplicate, Unique, Mandatory, Min, Max, Choice, Reference, State}
 use Rattle.yv_validate.specs.Flaw.{Flaw}
 use Rattle.yv_validate.specs.Repeats.{repeat_of}
-use Rattle.yv_validate.specs.Values.{entry_tuple, key_leafs, unique_leafs}
+use Rattle.yv_validate.specs.Values.{entry_tuple}
+use Rattle.yv_quiet_nodes.specs.NamedLeafs.{key_leafs, unique_leafs}
 
 abbrev pub flaw : FaultKind → List Place → Flaw
 flaw kind path = record { kind = kind; path = path; number = 0; earlier = None }
@@ -30,7 +31,8 @@ flaw kind path = record { kind = kind; path = path; number = 0; earlier = None }
 abbrev pub flaw_if : Bool → FaultKind → List Place → List Flaw
 flaw_if b kind path = if b then flaw kind path ∷ [] else []
 
--- an entry or item that repeats an earlier one of this number, where there is one: a fault tells numbers of 32 bits
+-- an entry or item that repeats an earlier one of this number, where there is one: a fault tells
+-- numbers of 32 bits
 abbrev pub repeat_faults : Option ℕ → FaultKind → List Place → (number : ℕ) → List Flaw
 repeat_faults None kind here number = []
 repeat_faults (Some first) kind here number =
@@ -38,7 +40,8 @@ repeat_faults (Some first) kind here number =
 
 -- ---- an object
 
--- one fault for each member that names no node, in the order of the object, which is that of the names' bytes; or one for what is not an object
+-- one fault for each member that names no node, in the order of the object, which is that of the
+-- names' bytes; or one for what is not an object
 abbrev pub object_faults : Stand → Data → List Flaw
 object_faults m (object ms) = map (λ key. flaw Unknown (under m.spot.path key)) (unknown_names (opened_trees m.trees) ms)
 object_faults m _ = flaw Shape m.spot.path ∷ []
@@ -65,7 +68,8 @@ value_faults m =
 abbrev pub unique_if : Option ℕ → List Place → ℕ → List Flaw
 unique_if first here n = repeat_faults first Unique here (min n 4294967295)
 
--- the `unique` statements, the first of which has this number, whose values an entry repeats (section 7.8.3)
+-- the `unique` statements, the first of which has this number, whose values an entry repeats
+-- (section 7.8.3)
 abbrev pub unique_faults : (List (Option NodeId) → Data → Option (List Val)) → List Place → ℕ → List (List (Option NodeId)) → List Data → Data → List Flaw
 unique_faults tuple here from [] before d = []
 unique_faults tuple here from (leafs ∷ rest) before d =
@@ -79,7 +83,8 @@ pub record Leafs : Type 0 where
 abbrev pub leafs_of : Rows → NodeId → Label → Leafs
 leafs_of s n l = record { keys = key_leafs s n l; uniques = unique_leafs s n l }
 
--- after an entry: whether its keys are those of one before (section 7.8.2), and then the `unique` statements
+-- after an entry: whether its keys are those of one before (section 7.8.2), and then the `unique`
+-- statements
 abbrev pub end_faults : Leafs → (List (Option NodeId) → Data → Option (List Val)) → List Place → List Data → Data → List Flaw
 end_faults leafs tuple here before d =
     repeat_faults (repeat_of (tuple leafs.keys) before d) Duplicate here 0 ++ unique_faults tuple here 1 leafs.uniques before d
@@ -140,7 +145,8 @@ kind_faults kind.Anydata m found = anydata_faults m found
 kind_faults kind.Anyxml m found = anyxml_faults m found
 kind_faults _ m found = []
 
--- state that exists where configuration alone is asked for (section 7.21.1): choices and cases aren't written
+-- state that exists where configuration alone is asked for (section 7.21.1): choices and cases
+-- aren't written
 abbrev pub state_faults : NodeKind → Node → Option Data → List Flaw
 state_faults k m None = []
 state_faults k m (Some d) = flaw_if (is_there k d) State (at m.spot m.label None)
@@ -160,7 +166,7 @@ faults_at k s (at_node m) = node_faults m.label.defined.kind m (found_of m)
 abbrev pub reference_faults : List (List Place) → List Flaw
 reference_faults paths = map (λ path. flaw Reference path) paths
 
--- the faults of a whole document: what is wrong with its data, and after it the values of leafrefs that are the same as none that their
--- paths reach
+-- the faults of a whole document: what is wrong with its data, and after it the values of leafrefs
+-- that are the same as none that their paths reach
 abbrev pub faults : Kind → Rows → Data → List Flaw
 faults k s d = flat_map (faults_at k s) (all_met k s d) ++ reference_faults (all_references k s d)

@@ -11,7 +11,8 @@ use Rattle.yv_validate.specs.Repeats.{first_same, repeat_of}
 pub record Remembers (is : List Pair) (f : Data → Option (List Val)) (before : List Data) : Type 0 where
   pub each : (vs : List Val) (q : ℕ) → Keeps is vs q ↔ (first_same f vs 1 before ≡ Some q)
 
--- where an item's tuple stood first, and what the index knows then, whatever it is that it knew; the item has this number
+-- where an item's tuple stood first, and what the index knows then, whatever it is that it knew;
+-- the item has this number
 pub record Tells (old new : List Pair) (tuple : Option (List Val)) (place : ℕ) (first : Option ℕ) : Type 0 where
   pub same : (f : Data → Option (List Val)) (before : List Data) (d : Data) → Remembers old f before → f d ≡ tuple → first ≡ repeat_of f before d
   pub next : (f : Data → Option (List Val)) (before : List Data) (d : Data) → length before + 1 ≡ place → Remembers old f before → f d ≡ tuple

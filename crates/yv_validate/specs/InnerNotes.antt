@@ -13,7 +13,7 @@ use Rattle.yv_nodes.specs.Tree.{Label}
 use Rattle.yv_leafref_values.specs.Meetings.{Meeting, Spot}
 use Rattle.yv_leafref_values.specs.Values.{values_in}
 use Rattle.yv_statement.specs.declared.document_kind.Kind.{Kind}
-use Rattle.yv_validate.specs.InnerNames.{is_named, keys_at, uniques_at}
+use Rattle.yv_quiet_nodes.specs.NamedLeafs.{is_named, keys_at, uniques_at}
 use Rattle.yv_validate.specs.Values.{entry_tuple, tuple_of, value_in}
 use Rattle.yv_validate.specs.declared.notes.Notes.{Notes}
 
@@ -35,7 +35,8 @@ note_value s n (Some (Some v)) = Some v
 abbrev pub noted_at : Rows → Notes → ℕ → Option Val
 noted_at s notes n = note_value s n (get_by (nat_cmp n) notes.values)
 
--- more notes, with these values of leafs that make entries differ: nothing asks for the notes of others
+-- more notes, with these values of leafs that make entries differ: nothing asks for the notes of
+-- others
 pub record Gains (s : Rows) (old new : Notes) (values : ℕ → Option Val) : Type 0 where
   pub each : (n : ℕ) → is_named s n ≡ true → noted_at s new n ≡ or_else (values n) (noted_at s old n)
 

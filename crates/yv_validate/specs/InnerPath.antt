@@ -1,5 +1,5 @@
--- Only private clauses cite this: a path as faults keep it, by what its steps are called and by the numbers of the entries on it, the
--- innermost first.
+-- Only private clauses cite this: a path as faults keep it, by what its steps are called and by the
+-- numbers of the entries on it, the innermost first.
 use Rattle.std.specs.Prelude.{ℕ, List, [], ◌∷◌, ◌++◌, map, Bool, true, false, Option, Some, None, is_some}
 use Rattle.yv_nodes.specs.Rows.{Rows, row_at}
 use Rattle.yv_leafref_values.specs.InnerSteps.{left_steps as value_steps}

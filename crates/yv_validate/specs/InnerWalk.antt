@@ -1,5 +1,5 @@
--- Only private clauses cite this: what is met at one node of the schema, and at nodes one after the other, by their numbers; and what a
--- walk gains by what it meets.
+-- Only private clauses cite this: what is met at one node of the schema, and at nodes one after the
+-- other, by their numbers; and what a walk gains by what it meets.
 use Rattle.std.specs.Prelude.{◌≡◌, ◌<◌, ℕ, ◌+◌, List, [], ◌∷◌, ◌++◌, length, map, true, Option, if◌then◌else◌}
 use Rattle.std.specs.List.{flat_map, slice_index_or, sum_by}
 use Rattle.serde_json.specs.Data.{Data, Items, Members, no_members}
@@ -80,7 +80,8 @@ cases_met k s n ms spot next = meetings k s (case_scope s n (rank n) (below s n)
 abbrev pub inside_at : Kind → Rows → NodeId → Below
 inside_at k s n = record { inside = λ at from inner ds. children_met k s inner n ds at from; cases = []; nodes = [] }
 
--- where an object is to be, on this way, and in it: in objects of these numbers, and in the entry of this one
+-- where an object is to be, on this way, and in it: in objects of these numbers, and in the entry
+-- of this one
 abbrev pub object_at : Kind → Rows → NodeId → Option ℕ → Trail → List ℕ → ℕ → ℕ → Data → List Meeting
 object_at k s n item here outer entry next d =
     object_met n item (below s n) (record { path = places s here; around = next ∷ outer; entry = entry }) next d (inside_at k s n)

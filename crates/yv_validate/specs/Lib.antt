@@ -10,8 +10,6 @@ pub mod InnerTrail
 pub mod InnerPath
 pub mod InnerWalk
 pub mod InnerMemory
-pub mod InnerNames
 pub mod InnerNotes
-pub mod InnerQuiet
 pub use Rattle.yv_nodes.specs.Tree
 pub use Rattle.yv_nodes.specs.Rows

@@ -1,6 +1,7 @@
--- The steps of a validation: one for each member that is looked up, for each node that is met at an object, or one for each default of it
--- where it has more, for each type that is tried, for each tuple that is looked up among those before it, and for each value of a leafref
--- that is looked up among those of its target.
+-- The steps of a validation: one for each member that is looked up, for each node that is met at an
+-- object, or one for each default of it where it has more, for each type that is tried, for each
+-- tuple that is looked up among those before it, and for each value of a leafref that is looked up
+-- among those of its target.
 use Rattle.std.specs.Prelude.{ℕ, ◌+◌, List, [], ◌∷◌, Option, Some, None}
 use Rattle.std.specs.List.{sum_by}
 use Rattle.serde_json.specs.Data.{Data, object}

@@ -5,8 +5,8 @@ ghost use Rattle.yv_validate.specs.Size.{size, items_size, members_size};
 
 use serde_json::{Map, Value};
 
-/// The members of objects and the items of arrays of a document, at any depth; where there are more than
-/// 2^64 - 1, that number.
+/// The members of objects and the items of arrays of a document, at any depth; where there are more
+/// than 2^64 - 1, that number.
 #[cycle(count)]
 pub fn size(value: &Value) -> u64
     ensures { result ≡ min (size (view value.now)) 18446744073709551615 }

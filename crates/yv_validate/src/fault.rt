@@ -9,18 +9,22 @@ use std::marker::Model;
 pub enum FaultKind {
     /// A member names no child data node.
     Unknown,
-    /// A container, an anydata node, a list entry or the document is not an object, or a list or leaf-list is not an array.
+    /// A container, an anydata node, a list entry or the document is not an object, or a list or
+    /// leaf-list is not an array.
     Shape,
     /// The types of a leaf, or of an item of a leaf-list, don't read its value.
     Value,
     /// An entry of a list lacks a key (RFC 7950, section 7.8.2).
     MissingKey,
-    /// The keys of an entry, or a value of a configuration leaf-list, are the same as earlier ones (RFC 7950, sections
+    /// The keys of an entry, or a value of a configuration leaf-list, are the same as earlier ones
+    /// (RFC 7950, sections
     /// 7.8.2 and 7.7).
     Duplicate,
-    /// An entry has the same values as an earlier one for a `unique` statement (RFC 7950, section 7.8.3).
+    /// An entry has the same values as an earlier one for a `unique` statement (RFC 7950, section
+    /// 7.8.3).
     Unique,
-    /// A leaf, choice, anydata or anyxml node is missing that must be there (RFC 7950, sections 7.6.5 and 7.9.4).
+    /// A leaf, choice, anydata or anyxml node is missing that must be there (RFC 7950, sections
+    /// 7.6.5 and 7.9.4).
     Mandatory,
     /// A list or leaf-list has too few entries (RFC 7950, section 7.7.5).
     Min,
@@ -28,7 +32,8 @@ pub enum FaultKind {
     Max,
     /// Two or more cases of a choice exist (RFC 7950, section 7.9).
     Choice,
-    /// The value of a leafref, or of an item of a leaf-list of them, is the same as none that its path reaches (RFC 7950, sections
+    /// The value of a leafref, or of an item of a leaf-list of them, is the same as none that its
+    /// path reaches (RFC 7950, sections
     /// 9.9 and 9.9.3).
     Reference,
     /// State is in a document that is to have configuration alone (RFC 7950, section 7.21.1).
@@ -59,14 +64,15 @@ impl FaultKind {
     }
 }
 
-/// A fault: its kind, the path to its place from the top, and the number of the schema statement that it
-/// is about, or 0 where it is about none.
+/// A fault: its kind, the path to its place from the top, and the number of the schema statement
+/// that it is about, or 0 where it is about none.
 #[derive(Drop)]
 pub struct Fault {
     pub kind: FaultKind,
     pub path: Path,
     pub number: u32,
-    /// The number from 1 of the first entry or item that this one repeats, for `Duplicate` and `Unique`.
+    /// The number from 1 of the first entry or item that this one repeats, for `Duplicate` and
+    /// `Unique`.
     pub earlier: Option<u32>,
 }
 
@@ -78,8 +84,8 @@ impl Model for Fault {
     ghost view = { λ f. record { kind = f.kind; path = f.path; number = f.number; earlier = f.earlier } };
 }
 
-/// The faults of a document, in their order, and how many members were looked up, nodes met, types tried, and tuples and references
-/// looked for; where there are more than 2^64 - 1, that number.
+/// The faults of a document, in their order, and how many members were looked up, nodes met, types
+/// tried, and tuples and references looked for; where there are more than 2^64 - 1, that number.
 #[derive(Drop)]
 pub struct Report {
     pub faults: Vec<Fault>,

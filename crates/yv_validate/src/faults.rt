@@ -16,8 +16,9 @@ use yv_leafref_values::Step;
 use yv_nodes::Node;
 use yv_schema_tables::Schema;
 
-/// Faults in order. Ways to nodes are kept, so that the paths of later faults share them, and so are the entries around the last fault.
-/// Contracts see the faults alone: what is kept is compared before it is shared.
+/// Faults in order. Ways to nodes are kept, so that the paths of later faults share them, and so
+/// are the entries around the last fault. Contracts see the faults alone: what is kept is compared
+/// before it is shared.
 #[derive(Drop)]
 pub(crate) struct Faults {
     list: Vec<Fault>,
@@ -119,7 +120,8 @@ fn cut<'e>(entries: &'e Rc<Entries>, most: u64) -> &'e Rc<Entries> {
     }
 }
 
-// The entries on a way, of which there are so many, and whether they are the same as others: then they are shared.
+// The entries on a way, of which there are so many, and whether they are the same as others: then
+// they are shared.
 fn entries_on(
     alloc: Global,
     trail: &Trail<'_>,

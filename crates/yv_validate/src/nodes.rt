@@ -40,7 +40,8 @@ pub(crate) fn count_of(items: &Vec<Value>) -> usize
 }
 
 impl<'a> Walk<'a> {
-    /// The visit of a node at an object: one step, or one for each of its defaults where it has more.
+    /// The visit of a node at an object: one step, or one for each of its defaults where it has
+    /// more.
     pub(crate) fn visit(&self, id: NodeId, meter: &mut Meter)
         requires { id.0 < length self.now.schema.now.nodes }
         ensures { meter.new ≡ count_up (meter.old + width (row_at self.now.schema.now id).label) }
@@ -63,12 +64,19 @@ impl<'a> Walk<'a> {
         requires kind { (row_at self.now.schema.now id).label.defined.kind ≡ Leaf }
         requires asks { is_asked scope ≡ true }
         requires way { IsWithin self.now.schema.now path.now }
-        ensures grows { OnOk result ((ms : Members) → Writes self.now.schema.now id (option_map (λ v. view v.now) value.entry) ms
-            → ClosesAt self.now.kind self.now.schema.now path.now position (progress_view progress.old) (progress_view progress.new)
-            (leaf_at self.now.schema.now id (option_map (λ v. view v.now) value.entry)) (node_at self.now.schema.now scope id ms)) }
-        ensures notes { OnOk result ((ms : Members) → Writes self.now.schema.now id (option_map (λ v. view v.now) value.entry) ms
+        ensures grows { OnOk result
+            ((ms : Members)
+            → Writes self.now.schema.now id (option_map (λ v. view v.now) value.entry) ms
+            → ClosesAt self.now.kind self.now.schema.now path.now position
+            (progress_view progress.old) (progress_view progress.new)
+            (leaf_at self.now.schema.now id (option_map (λ v. view v.now) value.entry))
+            (node_at self.now.schema.now scope id ms)) }
+        ensures notes { OnOk result
+            ((ms : Members)
+            → Writes self.now.schema.now id (option_map (λ v. view v.now) value.entry) ms
             → GainsBy self.now.schema.now notes.old notes.new
-            (with_node (leaf_at self.now.schema.now id (option_map (λ v. view v.now) value.entry)) (node_at self.now.schema.now scope id ms))) }
+            (with_node (leaf_at self.now.schema.now id (option_map (λ v. view v.now) value.entry))
+            (node_at self.now.schema.now scope id ms))) }
     {
         laws::nothing_met();
         laws::met_behind();
@@ -82,7 +90,8 @@ impl<'a> Walk<'a> {
         }
     }
 
-    // Notes the default of a leaf that isn't written, and keeps it for references, where it is in use.
+    // Notes the default of a leaf that isn't written, and keeps it for references, where it is in
+    // use.
     fn note_default(
         &self,
         scope: RuleScope,
@@ -93,8 +102,12 @@ impl<'a> Walk<'a> {
     ) -> Result<(), AllocError>
         requires { id.0 < length self.now.schema.now.nodes }
         ensures notes { OnOk result (Gains self.now.schema.now notes.old notes.new
-            (λ n. if id.0 == n then (if uses_defaults scope then default_value (row_at self.now.schema.now id).label else None) else None)) }
-        ensures finds { OnOk result (Finds found.old found.new (empty_found self.now.schema.now scope id position)) }
+            (λ n. if id.0 == n
+            then
+            (if uses_defaults scope then default_value (row_at self.now.schema.now id).label
+            else None) else None)) }
+        ensures finds { OnOk result
+            (Finds found.old found.new (empty_found self.now.schema.now scope id position)) }
     {
         laws::nothing_met();
         if !scope.uses_defaults() {
@@ -104,7 +117,8 @@ impl<'a> Walk<'a> {
         self.use_defaults(id, position, found)
     }
 
-    // Keeps for references that the defaults of a leaf or leaf-list are in use in the object with this number, where it has some.
+    // Keeps for references that the defaults of a leaf or leaf-list are in use in the object with
+    // this number, where it has some.
     fn use_defaults(
         &self,
         id: NodeId,
@@ -113,7 +127,8 @@ impl<'a> Walk<'a> {
     ) -> Result<(), AllocError>
         requires { id.0 < length self.now.schema.now.nodes }
         ensures { OnOk result (Finds found.old found.new
-            (defaults_found self.now.schema.now id position (defaults_of (row_at self.now.schema.now id).label))) }
+            (defaults_found self.now.schema.now id position
+            (defaults_of (row_at self.now.schema.now id).label))) }
     {
         laws::nothing_met();
         if self.schema.node(id).defaults().is_empty() {
@@ -131,7 +146,9 @@ impl<'a> Walk<'a> {
     ) -> Result<(), AllocError>
         requires node { id.0 < length self.now.schema.now.nodes }
         requires way { IsWithin self.now.schema.now path.now }
-        ensures { OnOk result (faults.new.items ≡ faults.old.items ++ leaf_faults (plain_at self.now.schema.now scope id path.now) None) }
+        ensures { OnOk result
+            (faults.new.items ≡ faults.old.items
+            ++ leaf_faults (plain_at self.now.schema.now scope id path.now) None) }
     {
         let node = self.schema.node(id);
         let here = Trail::Below(&*path, id, None);
@@ -153,10 +170,13 @@ impl<'a> Walk<'a> {
     ) -> Result<(), AllocError>
         requires node { id.0 < length self.now.schema.now.nodes }
         requires way { IsWithin self.now.schema.now path.now }
-        ensures grows { OnOk result (GrowsAt self.now.kind self.now.schema.now path.now position (progress_view progress.old) (progress_view progress.new)
+        ensures grows { OnOk result
+            (GrowsAt self.now.kind self.now.schema.now path.now position
+            (progress_view progress.old) (progress_view progress.new)
             (leaf_at self.now.schema.now id (Some (view value.now)))) }
         ensures notes { OnOk result (Gains self.now.schema.now notes.old notes.new
-            (λ n. if id.0 == n then value_of (row_at self.now.schema.now id).label (view value.now) else None)) }
+            (λ n. if id.0 == n then value_of (row_at self.now.schema.now id).label (view value.now)
+            else None)) }
     {
         laws::value_met();
         let here = Trail::Below(&*path, id, None);
@@ -167,8 +187,8 @@ impl<'a> Walk<'a> {
         }
     }
 
-    // The value of a leaf or an item in the object with this number, where the types of its node read it; it is kept and noted for
-    // references, with its number from 1, where it is an item.
+    // The value of a leaf or an item in the object with this number, where the types of its node
+    // read it; it is kept and noted for references, with its number from 1, where it is an item.
     fn read(
         &self,
         id: NodeId,
@@ -178,10 +198,12 @@ impl<'a> Walk<'a> {
         progress: &mut Progress<'a>,
     ) -> Result<Option<Read>, AllocError>
         requires { id.0 < length self.now.schema.now.nodes }
-        ensures value { IfOk result (λ read. read ≡ value_of (row_at self.now.schema.now id).label (view value.now)) }
+        ensures value { IfOk result
+            (λ read. read ≡ value_of (row_at self.now.schema.now id).label (view value.now)) }
         ensures faults { progress.new.faults.items ≡ progress.old.faults.items }
         ensures finds { OnOk result (Finds progress.old.found progress.new.found
-            (value_found self.now.schema.now id position item (value_of (row_at self.now.schema.now id).label (view value.now)))) }
+            (value_found self.now.schema.now id position item
+            (value_of (row_at self.now.schema.now id).label (view value.now)))) }
         ensures steps { OnOk result (count_up progress.new.meter ≡ count_up (progress.old.meter
             + value_work (row_at self.now.schema.now id).label (view value.now))) }
     {
@@ -210,7 +232,8 @@ impl<'a> Walk<'a> {
         requires node { id.0 < length self.now.schema.now.nodes }
         requires way { IsWithin self.now.schema.now path.now }
         ensures { OnOk result (faults.new.items ≡ faults.old.items
-            ++ anydata_faults (plain_at self.now.schema.now scope id path.now) (option_map (λ v. view v.now) value.entry)) }
+            ++ anydata_faults (plain_at self.now.schema.now scope id path.now)
+            (option_map (λ v. view v.now) value.entry)) }
     {
         let here = Trail::Below(&*path, id, None);
         match value {
@@ -232,7 +255,8 @@ impl<'a> Walk<'a> {
         requires node { id.0 < length self.now.schema.now.nodes }
         requires way { IsWithin self.now.schema.now path.now }
         ensures { OnOk result (faults.new.items ≡ faults.old.items
-            ++ anyxml_faults (plain_at self.now.schema.now scope id path.now) (option_map (λ v. view v.now) value.entry)) }
+            ++ anyxml_faults (plain_at self.now.schema.now scope id path.now)
+            (option_map (λ v. view v.now) value.entry)) }
     {
         let here = Trail::Below(&*path, id, None);
         match value {
@@ -253,7 +277,8 @@ impl<'a> Walk<'a> {
         requires node { id.0 < length self.now.schema.now.nodes }
         requires way { IsWithin self.now.schema.now path.now }
         ensures { OnOk result (faults.new.items ≡ faults.old.items
-            ++ (if is_asked scope then choice_faults (plain_at self.now.schema.now scope id path.now) existing else [])) }
+            ++ (if is_asked scope
+            then choice_faults (plain_at self.now.schema.now scope id path.now) existing else [])) }
     {
         if !scope.is_asked() {
             return Ok(());
@@ -277,7 +302,9 @@ impl<'a> Walk<'a> {
     ) -> Result<(), AllocError>
         requires node { id.0 < length self.now.schema.now.nodes }
         requires way { IsWithin self.now.schema.now path.now }
-        ensures { OnOk result (faults.new.items ≡ faults.old.items ++ count_faults (plain_at self.now.schema.now scope id path.now) total) }
+        ensures { OnOk result
+            (faults.new.items ≡ faults.old.items
+            ++ count_faults (plain_at self.now.schema.now scope id path.now) total) }
     {
         let node = self.schema.node(id);
         let here = Trail::Below(&*path, id, None);
@@ -296,7 +323,9 @@ impl<'a> Walk<'a> {
     ) -> Result<(), AllocError>
         requires node { id.0 < length self.now.schema.now.nodes }
         requires way { IsWithin self.now.schema.now path.now }
-        ensures { OnOk result (faults.new.items ≡ faults.old.items ++ misshapen_faults (plain_at self.now.schema.now RuleScope.Always id path.now)) }
+        ensures { OnOk result
+            (faults.new.items ≡ faults.old.items
+            ++ misshapen_faults (plain_at self.now.schema.now RuleScope.Always id path.now)) }
     {
         self.tell(FaultKind::Shape, &Trail::Below(&*path, id, None), faults)
     }
@@ -310,7 +339,9 @@ impl<'a> Walk<'a> {
         faults: &mut Faults,
     ) -> Result<(), AllocError>
         requires { IsWithin self.now.schema.now here.now }
-        ensures { OnOk result (faults.new.items ≡ faults.old.items ++ flaw_if is_wrong kind (places self.now.schema.now here.now)) }
+        ensures { OnOk result
+            (faults.new.items ≡ faults.old.items
+            ++ flaw_if is_wrong kind (places self.now.schema.now here.now)) }
     {
         if is_wrong {
             self.tell(kind, here, faults)?;
@@ -318,7 +349,8 @@ impl<'a> Walk<'a> {
         Ok(())
     }
 
-    /// A leaf-list that was visited, written so or not. Where it has no items, its defaults are in use.
+    /// A leaf-list that was visited, written so or not. Where it has no items, its defaults are in
+    /// use.
     pub(crate) fn leaf_list(
         &self,
         scope: RuleScope,
@@ -332,9 +364,13 @@ impl<'a> Walk<'a> {
         requires kind { (row_at self.now.schema.now id).label.defined.kind ≡ LeafList }
         requires asks { is_asked scope ≡ true }
         requires way { IsWithin self.now.schema.now path.now }
-        ensures grows { OnOk result ((ms : Members) → Writes self.now.schema.now id (option_map (λ v. view v.now) value.entry) ms
-            → ClosesAt self.now.kind self.now.schema.now path.now position (progress_view progress.old) (progress_view progress.new)
-            (leaf_list_at self.now.schema.now id (option_map (λ v. view v.now) value.entry)) (node_at self.now.schema.now scope id ms)) }
+        ensures grows { OnOk result
+            ((ms : Members)
+            → Writes self.now.schema.now id (option_map (λ v. view v.now) value.entry) ms
+            → ClosesAt self.now.kind self.now.schema.now path.now position
+            (progress_view progress.old) (progress_view progress.new)
+            (leaf_list_at self.now.schema.now id (option_map (λ v. view v.now) value.entry))
+            (node_at self.now.schema.now scope id ms)) }
     {
         laws::nothing_met();
         laws::met_behind();
@@ -358,9 +394,12 @@ impl<'a> Walk<'a> {
     ) -> Result<(), AllocError>
         requires node { id.0 < length self.now.schema.now.nodes }
         requires way { IsWithin self.now.schema.now path.now }
-        ensures grows { OnOk result (GrowsWithAt self.now.kind self.now.schema.now path.now position (progress_view progress.old) (progress_view progress.new)
+        ensures grows { OnOk result
+            (GrowsWithAt self.now.kind self.now.schema.now path.now position
+            (progress_view progress.old) (progress_view progress.new)
             (leaf_list_at self.now.schema.now id (option_map (λ v. view v.now) value.entry))
-            (array_faults (plain_at self.now.schema.now scope id path.now) (option_map (λ v. view v.now) value.entry))) }
+            (array_faults (plain_at self.now.schema.now scope id path.now)
+            (option_map (λ v. view v.now) value.entry))) }
     {
         laws::nothing_met();
         match value {
@@ -385,7 +424,9 @@ impl<'a> Walk<'a> {
     ) -> Result<(), AllocError>
         requires node { id.0 < length self.now.schema.now.nodes }
         requires way { IsWithin self.now.schema.now path.now }
-        ensures grows { OnOk result (GrowsAt self.now.kind self.now.schema.now path.now position (progress_view progress.old) (progress_view progress.new)
+        ensures grows { OnOk result
+            (GrowsAt self.now.kind self.now.schema.now path.now position
+            (progress_view progress.old) (progress_view progress.new)
             (items_at self.now.schema.now id [] (items_view items.now.items))) }
     {
         laws::nothing_met();
@@ -412,11 +453,17 @@ impl<'a> Walk<'a> {
     ) -> Result<(), AllocError>
         requires node { id.0 < length self.now.schema.now.nodes }
         requires way { IsWithin self.now.schema.now path.now }
-        requires keeps { Remembers kept.now (item_tuple (row_at self.now.schema.now id).label) (map view earlier.now) }
-        ensures grows { OnOk result ((outer : List ℕ) (entry : ℕ) → Grows self.now.kind self.now.schema.now (progress_view progress.old) (progress_view progress.new)
-            (at_value (written_at self.now.schema.now id (Some (map view earlier.now)) (view item.now)
+        requires keeps { Remembers kept.now (item_tuple (row_at self.now.schema.now id).label)
+            (map view earlier.now) }
+        ensures grows { OnOk result
+            ((outer : List ℕ) (entry : ℕ)
+            → Grows self.now.kind self.now.schema.now (progress_view progress.old)
+            (progress_view progress.new)
+            (at_value
+            (written_at self.now.schema.now id (Some (map view earlier.now)) (view item.now)
             (spot_at self.now.schema.now path.now position outer entry)) ∷ [])) }
-        ensures keeps { OnOk result (Remembers kept.new (item_tuple (row_at self.now.schema.now id).label)
+        ensures keeps { OnOk result
+            (Remembers kept.new (item_tuple (row_at self.now.schema.now id).label)
             (map view earlier.now ++ view item.now ∷ [])) }
     {
         laws::value_met();
@@ -436,7 +483,8 @@ impl<'a> Walk<'a> {
 
 // Whether the defaults of a leaf-list are in use.
 fn takes_defaults(scope: RuleScope, value: Option<&Value>) -> bool
-    ensures { result ≡ (uses_defaults scope && is_empty_at LeafList (option_map (λ v. view v.now) value.entry)) }
+    ensures { result
+        ≡ (uses_defaults scope && is_empty_at LeafList (option_map (λ v. view v.now) value.entry)) }
 {
     scope.uses_defaults() && has_no_items(value)
 }

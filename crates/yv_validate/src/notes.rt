@@ -10,7 +10,8 @@ use yv_nodes::NodeId;
 use yv_schema_tables::Schema;
 use yv_values::{Tuple, Value};
 
-/// The values of leafs, by the leafs' numbers. A default in use is only in the schema, and is copied only where it is wanted.
+/// The values of leafs, by the leafs' numbers. A default in use is only in the schema, and is
+/// copied only where it is wanted.
 #[derive(Drop)]
 pub(crate) struct Notes {
     alloc: Global,
@@ -30,7 +31,8 @@ impl Notes {
 
     /// Notes a value that was read.
     pub(crate) fn keep(&mut self, id: NodeId, value: Value) -> Result<(), AllocError>
-        ensures { OnOk result ((s : Rows) → Gains s self.old self.new (λ n. if id.0 == n then Some value else None)) }
+        ensures { OnOk result
+            ((s : Rows) → Gains s self.old self.new (λ n. if id.0 == n then Some value else None)) }
     {
         self.values.insert(id.0, Some(value))?;
         Ok(())
@@ -66,7 +68,8 @@ impl Notes {
         schema: &Schema,
         leafs: &[NodeId],
     ) -> Result<Option<Tuple>, AllocError>
-        ensures { IfOk result (λ t. t ≡ tuple_of (noted_at schema.now self.now) (map (λ n. Some n) leafs.now)) }
+        ensures { IfOk result
+            (λ t. t ≡ tuple_of (noted_at schema.now self.now) (map (λ n. Some n) leafs.now)) }
     {
         if leafs.is_empty() {
             return Ok(None);
@@ -75,7 +78,8 @@ impl Notes {
     }
 
     fn values(&self, schema: &Schema, leafs: &[NodeId]) -> Result<Option<Tuple>, AllocError>
-        ensures { IfOk result (λ t. t ≡ all_values (noted_at schema.now self.now) (map (λ n. Some n) leafs.now)) }
+        ensures { IfOk result
+            (λ t. t ≡ all_values (noted_at schema.now self.now) (map (λ n. Some n) leafs.now)) }
     {
         let mut tuple = Tuple::new(self.alloc);
         for leaf in leafs {

@@ -11,7 +11,8 @@ use std::marker::Model;
 use std::rc::Rc;
 use yv_leafref_values::{MemberName, Step, ValuePath, ValueSteps};
 
-/// The way to a node, or to a member that names none: what its steps are called. The ways below one share it.
+/// The way to a node, or to a member that names none: what its steps are called. The ways below one
+/// share it.
 #[derive(Drop)]
 pub(crate) enum Way {
     /// That of the document.
@@ -32,14 +33,15 @@ pub(crate) enum Entries {
 // A path as it is kept.
 #[derive(Drop)]
 enum KeptWay {
-    // By its way, the entries around its place, and the number of that, where it is an entry or an item itself.
+    // By its way, the entries around its place, and the number of that, where it is an entry or an
+    // item itself.
     Shared(Rc<Way>, Rc<Entries>, Option<u64>),
     // That of a value.
     Value(ValuePath),
 }
 
-/// The path to a place of a document from the top. Paths share what is around their places, so that one takes as much memory where it
-/// is long as where it is short.
+/// The path to a place of a document from the top. Paths share what is around their places, so that
+/// one takes as much memory where it is long as where it is short.
 #[derive(Drop)]
 pub struct Path {
     kept: KeptWay,
@@ -96,7 +98,8 @@ enum Left<'p> {
     Value(ValueSteps<'p>),
 }
 
-/// A step of a path: what the member is called, and its number from 1 where it is an entry or an item of an array.
+/// A step of a path: what the member is called, and its number from 1 where it is an entry or an
+/// item of an array.
 #[derive(Clone, Copy)]
 pub struct Part<'p> {
     /// The name of the member.
@@ -106,8 +109,8 @@ pub struct Part<'p> {
 }
 
 impl Part<'_> {
-    /// What the member is called, with its module in front where it is written with it; a choice, which no member writes, in
-    /// parentheses. The text is made anew.
+    /// What the member is called, with its module in front where it is written with it; a choice,
+    /// which no member writes, in parentheses. The text is made anew.
     pub fn member(&self, alloc: Global) -> Result<String, AllocError>
         ensures { IfOk result (λ text. string_bytes text ≡ (part_of self.now).member) }
     {
@@ -177,7 +180,9 @@ impl<'p> PathSteps<'p> {
 
 // A name, behind that of its module where it is written with it.
 fn qualified_name(alloc: Global, name: &MemberName<'_>) -> Result<String, AllocError>
-    ensures { IfOk result (λ text. string_bytes text ≡ behind (option_map (λ m. m.now) name.now.module) name.now.name.now) }
+    ensures { IfOk result
+        (λ text. string_bytes text
+        ≡ behind (option_map (λ m. m.now) name.now.module) name.now.name.now) }
 {
     let mut text = String::new(alloc);
     if let Some(module) = name.module {
@@ -188,7 +193,8 @@ fn qualified_name(alloc: Global, name: &MemberName<'_>) -> Result<String, AllocE
     Ok(text)
 }
 
-// The last step of a way, in these entries, to an entry or an item of this number; and those before it.
+// The last step of a way, in these entries, to an entry or an item of this number; and those before
+// it.
 fn last_of<'p>(
     way: &'p Way,
     entries: &'p Entries,
@@ -209,9 +215,12 @@ fn last_of<'p>(
     }
 }
 
-// The steps of a way, in these entries, the innermost of which is at its end where that is an entry.
+// The steps of a way, in these entries, the innermost of which is at its end where that is an
+// entry.
 fn around<'p>(way: &'p Way, is_entry: bool, entries: &'p Entries) -> PathSteps<'p>
-    ensures { result ≡ places_of (way_names way.now) (rest_if is_entry (numbers entries.now)) (first_if is_entry (numbers entries.now)) }
+    ensures { result
+        ≡ places_of (way_names way.now) (rest_if is_entry (numbers entries.now))
+        (first_if is_entry (numbers entries.now)) }
 {
     match entries {
         Entries::Within(outer, number, _) if is_entry => PathSteps {
@@ -224,7 +233,8 @@ fn around<'p>(way: &'p Way, is_entry: bool, entries: &'p Entries) -> PathSteps<'
 }
 
 fn last_among<'p>(steps: &ValueSteps<'p>) -> Option<(Part<'p>, PathSteps<'p>)>
-    ensures { MatchOption result (left_steps steps.now ≡ []) (λ r. left_steps steps.now ≡ r.1 ++ part_of r.0 ∷ []) }
+    ensures { MatchOption result (left_steps steps.now ≡ [])
+        (λ r. left_steps steps.now ≡ r.1 ++ part_of r.0 ∷ []) }
 {
     let last = steps.split_last()?;
     let part = Part {

@@ -10,8 +10,8 @@ use yv_nodes::NodeId;
 use yv_schema_tables::Schema;
 use yv_values::{Matchers, Meter, Value};
 
-/// What a walk has reported so far, what it has found of references and of their targets, the steps that it took, and the matchers of
-/// patterns that it keeps.
+/// What a walk has reported so far, what it has found of references and of their targets, the steps
+/// that it took, and the matchers of patterns that it keeps.
 #[derive(Drop)]
 pub(crate) struct Progress<'a> {
     pub(crate) faults: Faults,
@@ -36,8 +36,9 @@ impl<'a> Progress<'a> {
     }
 }
 
-/// Keeps a value of a leaf or an item in the object with this number, where the node is a target, and notes it, where the node is a
-/// leafref with a link; with its number from 1, where it is an item. Nothing is kept of what wasn't read.
+/// Keeps a value of a leaf or an item in the object with this number, where the node is a target,
+/// and notes it, where the node is a leafref with a link; with its number from 1, where it is an
+/// item. Nothing is kept of what wasn't read.
 pub(crate) fn meet(
     schema: &Schema,
     node: NodeId,
@@ -46,7 +47,8 @@ pub(crate) fn meet(
     position: u64,
     found: &mut Findings,
 ) -> Result<(), AllocError>
-    ensures { OnOk result (Finds found.old found.new (value_found schema.now node position item read.now)) }
+    ensures { OnOk result
+        (Finds found.old found.new (value_found schema.now node position item read.now)) }
 {
     match read {
         Some(value) => {

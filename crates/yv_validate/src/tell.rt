@@ -38,7 +38,9 @@ impl Walk<'_> {
         faults: &mut Faults,
     ) -> Result<(), AllocError>
         requires { IsWithin self.now.schema.now trail.now }
-        ensures { OnOk result (faults.new.items ≡ faults.old.items ++ flaw kind (places self.now.schema.now trail.now) ∷ []) }
+        ensures { OnOk result
+            (faults.new.items ≡ faults.old.items ++ flaw kind (places self.now.schema.now trail.now)
+            ∷ []) }
     {
         let path = faults.path(self.alloc, self.schema, trail)?;
         faults.push(Fault {
@@ -57,7 +59,9 @@ impl Walk<'_> {
         faults: &mut Faults,
     ) -> Result<(), AllocError>
         requires { IsWithin self.now.schema.now trail.now }
-        ensures { OnOk result (faults.new.items ≡ faults.old.items ++ repeat_faults first FaultKind.Duplicate (places self.now.schema.now trail.now) 0) }
+        ensures { OnOk result
+            (faults.new.items ≡ faults.old.items
+            ++ repeat_faults first FaultKind.Duplicate (places self.now.schema.now trail.now) 0) }
     {
         let Some(place) = first else {
             return Ok(());
@@ -80,7 +84,9 @@ impl Walk<'_> {
     ) -> Result<(), AllocError>
         requires { IsWithin self.now.schema.now trail.now }
         ensures { OnOk result (faults.new.items ≡ faults.old.items
-            ++ map (λ key. flaw FaultKind.Unknown (under (places self.now.schema.now trail.now) key)) (map (λ k. k.now) names.now)) }
+            ++ map
+            (λ key. flaw FaultKind.Unknown (under (places self.now.schema.now trail.now) key))
+            (map (λ k. k.now) names.now)) }
     {
         for name in names {
             self.tell_unknown(name, trail, faults)?;
@@ -117,7 +123,8 @@ impl Walk<'_> {
     ) -> Result<(), AllocError>
         requires { IsWithin self.now.schema.now trail.now }
         ensures { OnOk result (faults.new.items ≡ faults.old.items
-            ++ flaw_if (node.now.label.defined.is_mandatory && enforces scope) FaultKind.Mandatory (places self.now.schema.now trail.now)) }
+            ++ flaw_if (node.now.label.defined.is_mandatory && enforces scope) FaultKind.Mandatory
+            (places self.now.schema.now trail.now)) }
     {
         if node.mandatory() && scope.enforces() {
             self.tell(FaultKind::Mandatory, trail, faults)?;

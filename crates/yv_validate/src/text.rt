@@ -12,9 +12,10 @@ use itoa::Buffer;
 use std::alloc::{AllocError, Global};
 use yv_leafref_values::MemberName;
 
-/// A fault's line without its line feed: the name of its kind, a blank and its path, and after a blank the
-/// number where it isn't 0. A path is `/`, or for each step `/` and the member's name, with the number of an
-/// item in brackets; in a name bytes that are not visible ASCII characters, and `%`, are percent-encoded.
+/// A fault's line without its line feed: the name of its kind, a blank and its path, and after a
+/// blank the number where it isn't 0. A path is `/`, or for each step `/` and the member's name,
+/// with the number of an item in brackets; in a name bytes that are not visible ASCII characters,
+/// and `%`, are percent-encoded.
 pub fn line(alloc: Global, fault: &Fault) -> Result<String, AllocError>
     ensures { IfOk result (λ s. string_bytes s ≡ line_text fault.now) }
 {
@@ -29,9 +30,11 @@ pub fn line(alloc: Global, fault: &Fault) -> Result<String, AllocError>
     Ok(text)
 }
 
-/// Appends a fault's line to a text. The line is made first, so that the text stays as it is where memory runs out.
+/// Appends a fault's line to a text. The line is made first, so that the text stays as it is where
+/// memory runs out.
 pub fn push_line(text: &mut String, fault: &Fault) -> Result<(), AllocError>
-    ensures line { OnOk result (string_bytes text.new ≡ string_bytes text.old ++ line_text fault.now) }
+    ensures line { OnOk result
+        (string_bytes text.new ≡ string_bytes text.old ++ line_text fault.now) }
     ensures same { OnErr result (string_bytes text.new ≡ string_bytes text.old) }
 {
     let line = line(*text.allocator(), fault)?;
@@ -60,7 +63,8 @@ fn push_steps(text: &mut String, path: &PathSteps<'_>) -> Result<(), AllocError>
 }
 
 fn push_step(text: &mut String, step: &Part<'_>) -> Result<(), AllocError>
-    ensures { OnOk result (string_bytes text.new ≡ string_bytes text.old ++ place_text (part_of step.now)) }
+    ensures { OnOk result
+        (string_bytes text.new ≡ string_bytes text.old ++ place_text (part_of step.now)) }
 {
     text.push('/')?;
     push_member(text, &step.name)?;
@@ -69,7 +73,9 @@ fn push_step(text: &mut String, step: &Part<'_>) -> Result<(), AllocError>
 
 fn push_member(text: &mut String, name: &MemberName<'_>) -> Result<(), AllocError>
     ensures { OnOk result (string_bytes text.new ≡ string_bytes text.old
-        ++ escape (member_text name.now.is_choice (option_map (λ m. m.now) name.now.module) name.now.name.now)) }
+        ++ escape
+        (member_text name.now.is_choice (option_map (λ m. m.now) name.now.module)
+        name.now.name.now)) }
 {
     if !name.is_choice {
         return push_qualified(text, name);

@@ -4,7 +4,7 @@ ghost use Rattle.serde_json.specs.Data.{Data};
 ghost use Rattle.serde_json.specs.View.{view};
 ghost use Rattle.yv_values.specs.Count.{count_up};
 ghost use Rattle.yv_validate.specs.InnerMemory.{RemembersEach};
-ghost use Rattle.yv_validate.specs.InnerNames.{uniques_at};
+ghost use Rattle.yv_quiet_nodes.specs.NamedLeafs.{uniques_at};
 ghost use Rattle.yv_validate.specs.InnerNotes.{HasTuples, list_tuple, tuple_in};
 ghost use Rattle.yv_validate.specs.InnerTrail.{places, IsWithin};
 ghost use Rattle.yv_validate.specs.Faults.{unique_faults, unique_if};
@@ -28,7 +28,8 @@ impl Walk<'_> {
         notes: &Option<Notes>,
         leafs: &[NodeId],
     ) -> Result<Option<Tuple>, AllocError>
-        ensures { IfOk result (λ t. t ≡ tuple_in self.now.schema.now notes.now (map (λ n. Some n) leafs.now)) }
+        ensures { IfOk result
+            (λ t. t ≡ tuple_in self.now.schema.now notes.now (map (λ n. Some n) leafs.now)) }
     {
         match notes {
             Some(notes) => notes.tuple(self.schema, leafs),
@@ -39,7 +40,9 @@ impl Walk<'_> {
     /// An empty index for each `unique` statement of a list.
     pub(crate) fn no_tuples(&self, id: NodeId) -> Result<Vec<Index>, AllocError>
         requires { id.0 < length self.now.schema.now.nodes }
-        ensures { IfOk result (λ v. RemembersEach v.items (list_tuple self.now.kind self.now.schema.now id) (uniques_at self.now.schema.now id) []) }
+        ensures { IfOk result
+            (λ v. RemembersEach v.items (list_tuple self.now.kind self.now.schema.now id)
+            (uniques_at self.now.schema.now id) []) }
     {
         let mut uniques = Vec::new(self.alloc);
         for _statement in self.schema.uniques(id) {
@@ -48,7 +51,8 @@ impl Walk<'_> {
         Ok(uniques)
     }
 
-    /// What comes after an entry, whose leafs have these values, for the `unique` statements of its list.
+    /// What comes after an entry, whose leafs have these values, for the `unique` statements of its
+    /// list.
     pub(crate) fn end_uniques(
         &self,
         id: NodeId,
@@ -61,14 +65,25 @@ impl Walk<'_> {
     ) -> Result<(), AllocError>
         requires node { id.0 < length self.now.schema.now.nodes }
         requires way { IsWithin self.now.schema.now here.now }
-        requires keeps { RemembersEach kept.now.items (list_tuple self.now.kind self.now.schema.now id) (uniques_at self.now.schema.now id) (map view earlier.now) }
-        ensures faults { OnOk result ((d : Data) → HasTuples self.now.kind self.now.schema.now id notes.now d → faults.new.items ≡ faults.old.items
-            ++ unique_faults (list_tuple self.now.kind self.now.schema.now id) (places self.now.schema.now here.now) 1 (uniques_at self.now.schema.now id)
+        requires keeps { RemembersEach kept.now.items
+            (list_tuple self.now.kind self.now.schema.now id) (uniques_at self.now.schema.now id)
+            (map view earlier.now) }
+        ensures faults { OnOk result
+            ((d : Data) → HasTuples self.now.kind self.now.schema.now id notes.now d
+            → faults.new.items ≡ faults.old.items
+            ++ unique_faults (list_tuple self.now.kind self.now.schema.now id)
+            (places self.now.schema.now here.now) 1 (uniques_at self.now.schema.now id)
             (map view earlier.now) d) }
-        ensures keeps { OnOk result ((d : Data) → HasTuples self.now.kind self.now.schema.now id notes.now d → RemembersEach kept.new.items
-            (list_tuple self.now.kind self.now.schema.now id) (uniques_at self.now.schema.now id) (map view earlier.now ++ d ∷ [])) }
-        ensures steps { OnOk result ((d : Data) → HasTuples self.now.kind self.now.schema.now id notes.now d → count_up meter.new ≡ count_up (meter.old
-            + uniques_work (list_tuple self.now.kind self.now.schema.now id) (uniques_at self.now.schema.now id) d)) }
+        ensures keeps { OnOk result
+            ((d : Data) → HasTuples self.now.kind self.now.schema.now id notes.now d
+            → RemembersEach kept.new.items
+            (list_tuple self.now.kind self.now.schema.now id) (uniques_at self.now.schema.now id)
+            (map view earlier.now ++ d ∷ [])) }
+        ensures steps { OnOk result
+            ((d : Data) → HasTuples self.now.kind self.now.schema.now id notes.now d
+            → count_up meter.new ≡ count_up (meter.old
+            + uniques_work (list_tuple self.now.kind self.now.schema.now id)
+            (uniques_at self.now.schema.now id) d)) }
     {
         let place = earlier.len() as u64 + 1;
         for (number, leafs) in self.schema.uniques(id).iter().enumerate() {
@@ -79,8 +94,8 @@ impl Walk<'_> {
         Ok(())
     }
 
-    // Tells that an entry has the values of an earlier one, of this place, for the `unique` statement behind so many, where there is
-    // one.
+    // Tells that an entry has the values of an earlier one, of this place, for the `unique`
+    // statement behind so many, where there is one.
     fn tell_unique(
         &self,
         first: Option<u64>,
@@ -89,7 +104,9 @@ impl Walk<'_> {
         faults: &mut Faults,
     ) -> Result<(), AllocError>
         requires { IsWithin self.now.schema.now here.now }
-        ensures { OnOk result (faults.new.items ≡ faults.old.items ++ unique_if first (places self.now.schema.now here.now) (before + 1)) }
+        ensures { OnOk result
+            (faults.new.items ≡ faults.old.items
+            ++ unique_if first (places self.now.schema.now here.now) (before + 1)) }
     {
         let Some(place) = first else {
             return Ok(());

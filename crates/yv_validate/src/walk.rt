@@ -14,7 +14,8 @@ ghost use Rattle.yv_leafref_values.specs.Findings.{first_of};
 ghost use Rattle.yv_leafref_values.specs.InUse.{is_asked, is_number};
 ghost use Rattle.yv_validate.specs.Faults.{array_faults, faults as all_faults, flaw};
 ghost use Rattle.yv_validate.specs.InnerNotes.{GainsBy, HasTuples};
-ghost use Rattle.yv_validate.specs.InnerQuiet.{AreKnown, IsEmptied, IsPassed};
+ghost use Rattle.yv_quiet_nodes.specs.Quiet.{AreKnown, IsEmptied, IsPassed};
+ghost use Rattle.yv_quiet_nodes.specs.Runs.{HasRuns};
 ghost use Rattle.yv_validate.specs.InnerTrail.{places, IsWithin};
 ghost use Rattle.yv_validate.specs.InnerWalk.{cases_met, children_met, ClosesAt, container_at, data_met, entries_at, Grows, GrowsAt, GrowsWithAt, list_at, Meets, MeetsBelow, next_of, node_at, object_at, one_met, plain_at, scope_at, progress_view, unknowns, with_node, Writes};
 ghost use Rattle.yv_validate.specs.Size.{size};
@@ -27,7 +28,6 @@ use crate::memory::stood_before;
 use crate::nodes::count_of;
 use crate::notes::Notes;
 use crate::progress::Progress;
-use crate::quiet::{inner_steps, known_nodes, known_steps};
 use crate::tell::tell_references;
 use crate::trail::Trail;
 use serde_json::{Map, Value};
@@ -35,23 +35,28 @@ use std::alloc::{AllocError, Global};
 use yv_leafref_values::{RuleScope, answer, laws as found_laws};
 use yv_node_definition::NodeKind;
 use yv_nodes::NodeId;
+use yv_quiet_nodes::{RunTable, inner_steps, known_nodes, known_steps, pass_quiet};
 use yv_schema_tables::Schema;
 use yv_statement::Kind;
 use yv_values::{Index, Meter};
 use yv_walk::{Context, Existence, is_there, laws};
 
-/// A validation: where its memory comes from, the schema, what kind of document is asked for, and what is known of the nodes of the schema.
+/// A validation: where its memory comes from, the schema, what kind of document is asked for, and
+/// what is known of the nodes of the schema and of cases one after the other.
 #[derive(Clone, Copy)]
 pub(crate) struct Walk<'a> {
     pub(crate) alloc: Global,
     pub(crate) schema: &'a Schema,
     pub(crate) kind: Kind,
     pub(crate) known: &'a [Option<u64>],
+    pub(crate) runs: &'a RunTable,
     ghost nodes: { AreKnown schema.now known.now },
+    ghost cases: { HasRuns schema.now runs.now },
 }
 
-/// The faults of a document of this kind, in order (RFC 7950, section 8; RFC 7951): what is wrong with its data, and after it the
-/// references that reach nothing, in the order in which their values are met.
+/// The faults of a document of this kind, in order (RFC 7950, section 8; RFC 7951): what is wrong
+/// with its data, and after it the references that reach nothing, in the order in which their
+/// values are met.
 pub fn validate(
     alloc: Global,
     schema: &Schema,
@@ -60,18 +65,24 @@ pub fn validate(
 ) -> Result<Report, AllocError>
     requires size { size (view document.now) ≤ 16777216 }
     requires nests { nesting (view document.now) ≤ 127 }
-    ensures faults { IfOk result (λ r. r.faults.items ≡ all_faults kind schema.now (view document.now)) }
-    ensures steps { IfOk result (λ r. r.steps ≡ count_up (work kind schema.now (view document.now))) }
+    ensures faults { IfOk result
+        (λ r. r.faults.items ≡ all_faults kind schema.now (view document.now)) }
+    ensures steps { IfOk result
+        (λ r. r.steps ≡ count_up (work kind schema.now (view document.now))) }
     ensures bound { IfOk result (λ r. r.steps ≤ (size (view document.now) + 1)
-        * ((measures_of (whole schema.now)).m + (measures_of (whole schema.now)).u + (measures_of (whole schema.now)).w + 1)) }
+        *
+        ((measures_of (whole schema.now)).m + (measures_of (whole schema.now)).u
+        + (measures_of (whole schema.now)).w + 1)) }
 {
     is_bounded(schema, document, kind);
     let known = known_nodes(alloc, schema)?;
+    let runs = RunTable::read(alloc, schema, known.as_slice())?;
     let walk = Walk {
         alloc,
         schema,
         kind,
         known: known.as_slice(),
+        runs: &runs,
     };
     match document {
         Value::Object(members) => walk.document(members),
@@ -79,10 +90,13 @@ pub fn validate(
     }
 }
 
-// The law of the bound for this schema and document: each reading of a schema tells what the law asks of it.
+// The law of the bound for this schema and document: each reading of a schema tells what the law
+// asks of it.
 fn is_bounded(schema: &Schema, document: &Value, kind: Kind)
     ensures { work kind schema.now (view document.now) ≤ (size (view document.now) + 1)
-        * ((measures_of (whole schema.now)).m + (measures_of (whole schema.now)).u + (measures_of (whole schema.now)).w + 1) }
+        *
+        ((measures_of (whole schema.now)).m + (measures_of (whole schema.now)).u
+        + (measures_of (whole schema.now)).w + 1) }
 {
     let _nodes = schema.children(Schema::ROOT);
     let _document = document;
@@ -91,10 +105,18 @@ fn is_bounded(schema: &Schema, document: &Value, kind: Kind)
 }
 
 impl<'a> Walk<'a> {
-    // The faults of a document that is an object: what is wrong with its data, and behind it its references that reach nothing.
+    // The faults of a document that is an object: what is wrong with its data, and behind it its
+    // references that reach nothing.
     fn document(&self, members: &Map<String, Value>) -> Result<Report, AllocError>
-        ensures faults { IfOk result (λ r. r.faults.items ≡ all_faults self.now.kind self.now.schema.now (an_object (members_view members.now.entries))) }
-        ensures steps { IfOk result (λ r. r.steps ≡ count_up (work self.now.kind self.now.schema.now (an_object (members_view members.now.entries)))) }
+        ensures faults { IfOk result
+            (λ r. r.faults.items
+            ≡ all_faults self.now.kind self.now.schema.now
+            (an_object (members_view members.now.entries))) }
+        ensures steps { IfOk result
+            (λ r. r.steps
+            ≡ count_up
+            (work self.now.kind self.now.schema.now
+            (an_object (members_view members.now.entries)))) }
     {
         let mut progress = Progress::new(self.alloc)?;
         let mut notes = Notes::new(self.alloc);
@@ -148,10 +170,13 @@ impl<'a> Walk<'a> {
         requires object { is_object self.now.schema.now parent ≡ true }
         requires way { IsWithin self.now.schema.now here.now }
         ensures faults { OnOk result (faults.new.items ≡ faults.old.items
-            ++ unknowns (places self.now.schema.now here.now) (below self.now.schema.now parent) (members_view members.now.entries)) }
+            ++ unknowns (places self.now.schema.now here.now) (below self.now.schema.now parent)
+            (members_view members.now.entries)) }
         ensures meets { IfOk result (λ c. MeetsBelow self.now.schema.now c parent) }
         ensures members { IfOk result (λ c. members_of c ≡ members_view members.now.entries) }
-        ensures steps { OnOk result (count_up meter.new ≡ count_up (meter.old + members_len (members_view members.now.entries))) }
+        ensures steps { OnOk result
+            (count_up meter.new
+            ≡ count_up (meter.old + members_len (members_view members.now.entries))) }
     {
         let _children = self.schema.children(parent);
         let context = Context::read(self.alloc, self.schema, meter, parent, members)?;
@@ -160,8 +185,8 @@ impl<'a> Walk<'a> {
         Ok(context)
     }
 
-    // An object of a node, with all that is below it, which is in the object with this number; with its number from 1, where it is
-    // an entry.
+    // An object of a node, with all that is below it, which is in the object with this number; with
+    // its number from 1, where it is an entry.
     #[cycle(walk)]
     fn object(
         &self,
@@ -177,11 +202,14 @@ impl<'a> Walk<'a> {
         requires object { is_object self.now.schema.now id ≡ true }
         requires way { IsWithin self.now.schema.now here.now }
         ensures grows { OnOk result ((outer : List ℕ) (entry : ℕ) → first_of outer ≡ position
-            → Grows self.now.kind self.now.schema.now (progress_view progress.old) (progress_view progress.new)
-            (object_at self.now.kind self.now.schema.now id item here.now outer entry (next_of (progress_view progress.old))
+            → Grows self.now.kind self.now.schema.now (progress_view progress.old)
+            (progress_view progress.new)
+            (object_at self.now.kind self.now.schema.now id item here.now outer entry
+            (next_of (progress_view progress.old))
             (an_object (members_view members.now.entries)))) }
         ensures notes { OnOk result (GainsBy self.now.schema.now notes.old notes.new
-            (children_met self.now.kind self.now.schema.now RuleScope.Always id (members_view members.now.entries))) }
+            (children_met self.now.kind self.now.schema.now RuleScope.Always id
+            (members_view members.now.entries))) }
     {
         found_laws::object_met();
         let context = self.enter(id, members, here, &mut progress.meter, &mut progress.faults)?;
@@ -207,10 +235,14 @@ impl<'a> Walk<'a> {
         requires meets { MeetsBelow self.now.schema.now context.now parent }
         requires members { members_of context.now ≡ members_view members.now.entries }
         requires way { IsWithin self.now.schema.now path.now }
-        ensures grows { OnOk result (GrowsAt self.now.kind self.now.schema.now path.now position (progress_view progress.old) (progress_view progress.new)
-            (children_met self.now.kind self.now.schema.now RuleScope.Always parent (members_of context.now))) }
+        ensures grows { OnOk result
+            (GrowsAt self.now.kind self.now.schema.now path.now position
+            (progress_view progress.old) (progress_view progress.new)
+            (children_met self.now.kind self.now.schema.now RuleScope.Always parent
+            (members_of context.now))) }
         ensures notes { OnOk result (GainsBy self.now.schema.now notes.old notes.new
-            (children_met self.now.kind self.now.schema.now RuleScope.Always parent (members_of context.now))) }
+            (children_met self.now.kind self.now.schema.now RuleScope.Always parent
+            (members_of context.now))) }
     {
         found_laws::nothing_met();
         if let Some(steps) = self.empty_steps(parent, members) {
@@ -228,10 +260,12 @@ impl<'a> Walk<'a> {
         )
     }
 
-    // The steps of what is below a node in an object without members, where nothing else comes of it.
+    // The steps of what is below a node in an object without members, where nothing else comes of
+    // it.
     fn empty_steps(&self, parent: NodeId, members: &Map<String, Value>) -> Option<u64>
         requires { rank parent ≤ length self.now.schema.now.nodes }
-        ensures { IfSome result (IsEmptied self.now.schema.now parent (members_view members.now.entries)) }
+        ensures { IfSome result
+            (IsEmptied self.now.schema.now parent (members_view members.now.entries)) }
     {
         if !members.is_empty() {
             return None;
@@ -255,10 +289,14 @@ impl<'a> Walk<'a> {
         requires node { rank parent ≤ length self.now.schema.now.nodes }
         requires meets { MeetsBelow self.now.schema.now context.now parent }
         requires way { IsWithin self.now.schema.now path.now }
-        ensures grows { OnOk result (GrowsAt self.now.kind self.now.schema.now path.now position (progress_view progress.old) (progress_view progress.new)
-            (children_met self.now.kind self.now.schema.now scope parent (members_of context.now))) }
+        ensures grows { OnOk result
+            (GrowsAt self.now.kind self.now.schema.now path.now position
+            (progress_view progress.old) (progress_view progress.new)
+            (children_met self.now.kind self.now.schema.now scope parent
+            (members_of context.now))) }
         ensures notes { OnOk result (GainsBy self.now.schema.now notes.old notes.new
-            (children_met self.now.kind self.now.schema.now scope parent (members_of context.now))) }
+            (children_met self.now.kind self.now.schema.now scope parent
+            (members_of context.now))) }
     {
         laws::child_numbers();
         found_laws::nothing_met();
@@ -270,7 +308,8 @@ impl<'a> Walk<'a> {
         Ok(())
     }
 
-    // The cases of a choice, each in a scope of its own.
+    // The cases of a choice, each in a scope of its own: many of which nothing comes are passed
+    // over at once.
     #[cycle(walk)]
     fn cases(
         &self,
@@ -286,7 +325,9 @@ impl<'a> Walk<'a> {
         requires kind { (row_at self.now.schema.now choice).label.defined.kind ≡ NodeKind.Choice }
         requires meets { MeetsBelow self.now.schema.now context.now choice }
         requires way { IsWithin self.now.schema.now path.now }
-        ensures grows { OnOk result (GrowsAt self.now.kind self.now.schema.now path.now position (progress_view progress.old) (progress_view progress.new)
+        ensures grows { OnOk result
+            (GrowsAt self.now.kind self.now.schema.now path.now position
+            (progress_view progress.old) (progress_view progress.new)
             (cases_met self.now.kind self.now.schema.now choice (members_of context.now))) }
         ensures notes { OnOk result (GainsBy self.now.schema.now notes.old notes.new
             (cases_met self.now.kind self.now.schema.now choice (members_of context.now))) }
@@ -297,10 +338,22 @@ impl<'a> Walk<'a> {
         found_laws::kept_objects_are_entered();
         let _node = self.schema.node(choice);
         let fallback = self.fallback(choice, context);
-        for child in self.schema.children(choice) {
-            let those = context.existence_of(self.schema, *child);
-            let scope = case_scope(fallback, *child, those);
-            self.meet(scope, *child, context, position, path, notes, progress)?;
+        let children = self.schema.children(choice);
+        let runs = self.runs.runs_at(choice);
+        let mut place = pass_quiet(self.schema, runs, choice, 0, context, &mut progress.meter);
+        while place < children.len() {
+            let child = children[place];
+            let those = context.existence_of(self.schema, child);
+            let scope = case_scope(fallback, child, those);
+            self.meet(scope, child, context, position, path, notes, progress)?;
+            place = pass_quiet(
+                self.schema,
+                runs,
+                choice,
+                place + 1,
+                context,
+                &mut progress.meter,
+            );
         }
         Ok(())
     }
@@ -310,7 +363,10 @@ impl<'a> Walk<'a> {
         requires node { choice.0 < length self.now.schema.now.nodes }
         requires meets { Meets self.now.schema.now context.now choice }
         requires kind { (row_at self.now.schema.now choice).label.defined.kind ≡ NodeKind.Choice }
-        ensures { result ≡ (if any (existence_of (rank choice) (below self.now.schema.now choice) (members_of context.now)) then None
+        ensures { result
+            ≡ (if any
+            (existence_of (rank choice) (below self.now.schema.now choice) (members_of context.now))
+            then None
             else default_case_at self.now.schema.now.nodes choice) }
     {
         let _node = self.schema.node(choice);
@@ -320,8 +376,8 @@ impl<'a> Walk<'a> {
         self.schema.default_case(choice)
     }
 
-    // A node that may be in the object, whose surroundings have this scope. Most nodes of an object are often not in it, and nothing comes of
-    // them: then their steps are counted at once.
+    // A node that may be in the object, whose surroundings have this scope. Most nodes of an object
+    // are often not in it, and nothing comes of them: then their steps are counted at once.
     #[cycle(walk)]
     fn meet(
         &self,
@@ -336,10 +392,14 @@ impl<'a> Walk<'a> {
         requires node { id.0 < length self.now.schema.now.nodes }
         requires meets { Meets self.now.schema.now context.now id }
         requires way { IsWithin self.now.schema.now path.now }
-        ensures grows { OnOk result (GrowsAt self.now.kind self.now.schema.now path.now position (progress_view progress.old) (progress_view progress.new)
-            (one_met self.now.kind self.now.schema.now (scope_at self.now.kind self.now.schema.now scope id) id (members_of context.now))) }
+        ensures grows { OnOk result
+            (GrowsAt self.now.kind self.now.schema.now path.now position
+            (progress_view progress.old) (progress_view progress.new)
+            (one_met self.now.kind self.now.schema.now
+            (scope_at self.now.kind self.now.schema.now scope id) id (members_of context.now))) }
         ensures notes { OnOk result (GainsBy self.now.schema.now notes.old notes.new
-            (one_met self.now.kind self.now.schema.now (scope_at self.now.kind self.now.schema.now scope id) id (members_of context.now))) }
+            (one_met self.now.kind self.now.schema.now
+            (scope_at self.now.kind self.now.schema.now scope id) id (members_of context.now))) }
     {
         found_laws::nothing_met();
         if let Some(steps) = self.passed_steps(id, context) {
@@ -349,7 +409,8 @@ impl<'a> Walk<'a> {
         self.node(scope, id, context, position, path, notes, progress)
     }
 
-    // The steps of a node with all that is met below it, where none of them exists in the object and nothing else comes of them.
+    // The steps of a node with all that is met below it, where none of them exists in the object
+    // and nothing else comes of them.
     fn passed_steps(&self, id: NodeId, context: &Context<'_>) -> Option<u64>
         requires node { id.0 < length self.now.schema.now.nodes }
         requires meets { Meets self.now.schema.now context.now id }
@@ -378,10 +439,14 @@ impl<'a> Walk<'a> {
         requires node { id.0 < length self.now.schema.now.nodes }
         requires meets { Meets self.now.schema.now context.now id }
         requires way { IsWithin self.now.schema.now path.now }
-        ensures grows { OnOk result (GrowsAt self.now.kind self.now.schema.now path.now position (progress_view progress.old) (progress_view progress.new)
-            (one_met self.now.kind self.now.schema.now (scope_at self.now.kind self.now.schema.now scope id) id (members_of context.now))) }
+        ensures grows { OnOk result
+            (GrowsAt self.now.kind self.now.schema.now path.now position
+            (progress_view progress.old) (progress_view progress.new)
+            (one_met self.now.kind self.now.schema.now
+            (scope_at self.now.kind self.now.schema.now scope id) id (members_of context.now))) }
         ensures notes { OnOk result (GainsBy self.now.schema.now notes.old notes.new
-            (one_met self.now.kind self.now.schema.now (scope_at self.now.kind self.now.schema.now scope id) id (members_of context.now))) }
+            (one_met self.now.kind self.now.schema.now
+            (scope_at self.now.kind self.now.schema.now scope id) id (members_of context.now))) }
     {
         found_laws::nothing_met();
         found_laws::met_behind();
@@ -422,7 +487,9 @@ impl<'a> Walk<'a> {
         requires kind { (row_at self.now.schema.now id).label.defined.kind ≡ NodeKind.Choice }
         requires meets { MeetsBelow self.now.schema.now context.now id }
         requires way { IsWithin self.now.schema.now path.now }
-        ensures grows { OnOk result (ClosesAt self.now.kind self.now.schema.now path.now position (progress_view progress.old) (progress_view progress.new)
+        ensures grows { OnOk result
+            (ClosesAt self.now.kind self.now.schema.now path.now position
+            (progress_view progress.old) (progress_view progress.new)
             (cases_met self.now.kind self.now.schema.now id (members_of context.now))
             (node_at self.now.schema.now scope id (members_of context.now))) }
         ensures notes { OnOk result (GainsBy self.now.schema.now notes.old notes.new
@@ -452,13 +519,21 @@ impl<'a> Walk<'a> {
         requires node { id.0 < length self.now.schema.now.nodes }
         requires data { is_data (row_at self.now.schema.now id).label.defined.kind ≡ true }
         requires way { IsWithin self.now.schema.now path.now }
-        ensures grows { OnOk result ((ms : Members) → Writes self.now.schema.now id (option_map (λ v. view v.now) value.entry) ms
-            → ClosesAt self.now.kind self.now.schema.now path.now position (progress_view progress.old) (progress_view progress.new)
-            (data_met self.now.kind self.now.schema.now scope id (option_map (λ v. view v.now) value.entry))
+        ensures grows { OnOk result
+            ((ms : Members)
+            → Writes self.now.schema.now id (option_map (λ v. view v.now) value.entry) ms
+            → ClosesAt self.now.kind self.now.schema.now path.now position
+            (progress_view progress.old) (progress_view progress.new)
+            (data_met self.now.kind self.now.schema.now scope id
+            (option_map (λ v. view v.now) value.entry))
             (node_at self.now.schema.now scope id ms)) }
-        ensures notes { OnOk result ((ms : Members) → Writes self.now.schema.now id (option_map (λ v. view v.now) value.entry) ms
+        ensures notes { OnOk result
+            ((ms : Members)
+            → Writes self.now.schema.now id (option_map (λ v. view v.now) value.entry) ms
             → GainsBy self.now.schema.now notes.old notes.new
-            (with_node (data_met self.now.kind self.now.schema.now scope id (option_map (λ v. view v.now) value.entry))
+            (with_node
+            (data_met self.now.kind self.now.schema.now scope id
+            (option_map (λ v. view v.now) value.entry))
             (node_at self.now.schema.now scope id ms))) }
     {
         found_laws::nothing_met();
@@ -481,7 +556,8 @@ impl<'a> Walk<'a> {
         }
     }
 
-    // State, where configuration alone is asked for: it may not be there, and what is written of it isn't entered.
+    // State, where configuration alone is asked for: it may not be there, and what is written of it
+    // isn't entered.
     #[cycle(walk)]
     fn state(
         &self,
@@ -497,13 +573,21 @@ impl<'a> Walk<'a> {
         requires data { is_data (row_at self.now.schema.now id).label.defined.kind ≡ true }
         requires nothing_asked { is_asked scope ≡ false }
         requires way { IsWithin self.now.schema.now path.now }
-        ensures grows { OnOk result ((ms : Members) → Writes self.now.schema.now id (option_map (λ v. view v.now) value.entry) ms
-            → ClosesAt self.now.kind self.now.schema.now path.now position (progress_view progress.old) (progress_view progress.new)
-            (data_met self.now.kind self.now.schema.now scope id (option_map (λ v. view v.now) value.entry))
+        ensures grows { OnOk result
+            ((ms : Members)
+            → Writes self.now.schema.now id (option_map (λ v. view v.now) value.entry) ms
+            → ClosesAt self.now.kind self.now.schema.now path.now position
+            (progress_view progress.old) (progress_view progress.new)
+            (data_met self.now.kind self.now.schema.now scope id
+            (option_map (λ v. view v.now) value.entry))
             (node_at self.now.schema.now scope id ms)) }
-        ensures notes { OnOk result ((ms : Members) → Writes self.now.schema.now id (option_map (λ v. view v.now) value.entry) ms
+        ensures notes { OnOk result
+            ((ms : Members)
+            → Writes self.now.schema.now id (option_map (λ v. view v.now) value.entry) ms
             → GainsBy self.now.schema.now notes.old notes.new
-            (with_node (data_met self.now.kind self.now.schema.now scope id (option_map (λ v. view v.now) value.entry))
+            (with_node
+            (data_met self.now.kind self.now.schema.now scope id
+            (option_map (λ v. view v.now) value.entry))
             (node_at self.now.schema.now scope id ms))) }
     {
         found_laws::nothing_met();
@@ -539,10 +623,14 @@ impl<'a> Walk<'a> {
         requires node { id.0 < length self.now.schema.now.nodes }
         requires object { is_object self.now.schema.now id ≡ true }
         requires way { IsWithin self.now.schema.now path.now }
-        ensures grows { OnOk result (GrowsAt self.now.kind self.now.schema.now path.now position (progress_view progress.old) (progress_view progress.new)
-            (container_at self.now.kind self.now.schema.now scope id (option_map (λ v. view v.now) value.entry))) }
+        ensures grows { OnOk result
+            (GrowsAt self.now.kind self.now.schema.now path.now position
+            (progress_view progress.old) (progress_view progress.new)
+            (container_at self.now.kind self.now.schema.now scope id
+            (option_map (λ v. view v.now) value.entry))) }
         ensures notes { OnOk result (GainsBy self.now.schema.now notes.old notes.new
-            (container_at self.now.kind self.now.schema.now scope id (option_map (λ v. view v.now) value.entry))) }
+            (container_at self.now.kind self.now.schema.now scope id
+            (option_map (λ v. view v.now) value.entry))) }
     {
         found_laws::nothing_met();
         let node = self.schema.node(id);
@@ -578,9 +666,13 @@ impl<'a> Walk<'a> {
         requires node { id.0 < length self.now.schema.now.nodes }
         requires object { is_object self.now.schema.now id ≡ true }
         requires way { IsWithin self.now.schema.now path.now }
-        ensures grows { OnOk result (GrowsWithAt self.now.kind self.now.schema.now path.now position (progress_view progress.old) (progress_view progress.new)
-            (list_at self.now.kind self.now.schema.now id (option_map (λ v. view v.now) value.entry))
-            (array_faults (plain_at self.now.schema.now scope id path.now) (option_map (λ v. view v.now) value.entry))) }
+        ensures grows { OnOk result
+            (GrowsWithAt self.now.kind self.now.schema.now path.now position
+            (progress_view progress.old) (progress_view progress.new)
+            (list_at self.now.kind self.now.schema.now id
+            (option_map (λ v. view v.now) value.entry))
+            (array_faults (plain_at self.now.schema.now scope id path.now)
+            (option_map (λ v. view v.now) value.entry))) }
     {
         found_laws::nothing_met();
         match value {
@@ -607,7 +699,9 @@ impl<'a> Walk<'a> {
         requires node { id.0 < length self.now.schema.now.nodes }
         requires object { is_object self.now.schema.now id ≡ true }
         requires way { IsWithin self.now.schema.now path.now }
-        ensures grows { OnOk result (GrowsAt self.now.kind self.now.schema.now path.now position (progress_view progress.old) (progress_view progress.new)
+        ensures grows { OnOk result
+            (GrowsAt self.now.kind self.now.schema.now path.now position
+            (progress_view progress.old) (progress_view progress.new)
             (entries_at self.now.kind self.now.schema.now id [] (items_view items.now.items))) }
     {
         found_laws::nothing_met();
@@ -638,7 +732,8 @@ impl<'a> Walk<'a> {
         Ok(())
     }
 
-    // An entry of a list, with its number from 1, and the values of its leafs where it is an object.
+    // An entry of a list, with its number from 1, and the values of its leafs where it is an
+    // object.
     #[cycle(walk)]
     fn entry(
         &self,
@@ -652,10 +747,15 @@ impl<'a> Walk<'a> {
         requires node { id.0 < length self.now.schema.now.nodes }
         requires object { is_object self.now.schema.now id ≡ true }
         requires way { IsWithin self.now.schema.now here.now }
-        ensures grows { OnOk result ((outer : List ℕ) → Grows self.now.kind self.now.schema.now (progress_view progress.old) (progress_view progress.new)
-            (object_at self.now.kind self.now.schema.now id (Some place) here.now (position ∷ outer) (next_of (progress_view progress.old))
+        ensures grows { OnOk result
+            ((outer : List ℕ)
+            → Grows self.now.kind self.now.schema.now (progress_view progress.old)
+            (progress_view progress.new)
+            (object_at self.now.kind self.now.schema.now id (Some place) here.now (position ∷ outer)
+            (next_of (progress_view progress.old))
             (next_of (progress_view progress.old)) (view item.now))) }
-        ensures tuples { IfOk result (λ o. HasTuples self.now.kind self.now.schema.now id o (view item.now)) }
+        ensures tuples { IfOk result
+            (λ o. HasTuples self.now.kind self.now.schema.now id o (view item.now)) }
     {
         found_laws::nothing_met();
         let _node = self.schema.node(id);
@@ -681,9 +781,11 @@ impl<'a> Walk<'a> {
     }
 }
 
-// The scope of a choice's child, of which these nodes exist, where the default case counts if there is one.
+// The scope of a choice's child, of which these nodes exist, where the default case counts if there
+// is one.
 fn case_scope(fallback: Option<NodeId>, child: NodeId, those: Existence) -> RuleScope
-    ensures { result ≡ (if is_number fallback child.0 then RuleScope.InDefault else RuleScope.InCase those) }
+    ensures { result
+        ≡ (if is_number fallback child.0 then RuleScope.InDefault else RuleScope.InCase those) }
 {
     match fallback {
         Some(number) if number.0 == child.0 => RuleScope::InDefault,

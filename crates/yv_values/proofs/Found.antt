@@ -1,15 +1,17 @@
 -- An identity that is sought among identities in their order.
-use Rattle.std.proofs.Common.{◌≡◌, ℕ, zero, suc, ◌<◌, Bool, true, false, ◌||◌, ◌&&◌, List, [], ◌∷◌, length, get_or, map, refl, sym, ◌∙◌, ap, arith, inl, inr}
+use Rattle.std.proofs.Common.{◌≡◌, ℕ, zero, suc, ◌<◌, ◌≤◌, ◌-◌, Bool, Some, true, false, ◌||◌, ◌&&◌, List, [], ◌∷◌, length, get_or, map, refl, sym, ◌∙◌, ap, arith, inl, inr}
 use Rattle.std.specs.Cmp.{IsTotalOrder}
 use Rattle.std.specs.Cmp.Lexicographic.{slice_cmp, on_texts, texts_ties}
-use Rattle.std.specs.List.{list_any, HoldsAt}
+use Rattle.std.specs.List.{list_any, slice_get, HoldsAt}
 use Rattle.std.specs.List.Sorted.{IsSortedByKey, IsNonDecreasingBy, IsPartitionPoint}
 use Rattle.std.specs.Ordering.{is_eq, nat_cmp, ordering_index}
 use Rattle.std.specs.Str.{bytes_eq}
+use Rattle.std.specs.declared.cmp.Ordering.{Ordering}
 use Rattle.std.specs.declared.cmp.Ordering.TheVariants.{Less, Equal, Greater}
 use Rattle.std.proofs.lemmas.Bool.{cases_lt}
 use Rattle.std.proofs.lemmas.Cmp.{then_total}
 use Rattle.std.proofs.lemmas.List.Sorted.{searchable_from_sorted}
+use Rattle.std.proofs.lemmas.Option.{get_or_from_slice_get, slice_get-get_or, slice_get_within}
 use Rattle.std.proofs.lemmas.Slice.Eq.{bytes_eq-Decides}
 use Rattle.yv_values.specs.declared.members.Member.{Member}
 use Rattle.yv_values.specs.Identities.{Id, id_cmp, id_of, is_identity}
@@ -31,6 +33,12 @@ and_left false b h = absurd (cc)
 and_right : (a b : Bool) → (a && b) ≡ true → b ≡ true
 and_right true b h = h
 and_right false b h = absurd (cc)
+
+pub either_order : (a b : Bool) → (a && b) ≡ (b && a)
+either_order true true = refl
+either_order true false = refl
+either_order false true = refl
+either_order false false = refl
 
 abbrev id_with : List ℕ → List ℕ → Id
 id_with module_file called = record { module_file = module_file; name = called }
@@ -60,6 +68,11 @@ module _ (module_file called : List ℕ) (xs : List Member) where
   pub found : (at : ℕ) (d : Member) → at < length xs → HoldsAt (λ y. id_cmp (id_of y) record { module_file = module_file; name = called } ≡ Equal) xs at → list_any (is_identity module_file called) (map id_of xs) ≡ true
   found at d b h = any_mapped id_of (is_identity module_file called) xs ∙ any_at (λ m. is_identity module_file called (id_of m)) xs at d b (compared module_file called (id_of (get_or xs at d)) ∙ ap is_eq (h d))
 
+  pub found_at : (at : ℕ) (m : Member) → slice_get xs at ≡ Some m → is_identity module_file called (id_of m) ≡ true → list_any (is_identity module_file called) (map id_of xs) ≡ true
+  found_at at m e h =
+      any_mapped id_of (is_identity module_file called) xs ∙ any_at (λ m. is_identity module_file called (id_of m)) xs at m (slice_get_within xs at m e)
+      (ap (λ (y : Member). is_identity module_file called (id_of y)) (get_or_from_slice_get xs at m m e) ∙ h)
+
   pub absent : (at : ℕ) → IsSortedByKey id_of id_cmp xs → (IsNonDecreasingBy (λ y. ordering_index (id_cmp (id_of y) record { module_file = module_file; name = called })) xs → IsPartitionPoint (λ y. id_cmp (id_of y) record { module_file = module_file; name = called } ≡ Less) (λ y. id_cmp (id_of y) record { module_file = module_file; name = called } ≡ Greater) xs at) → list_any (is_identity module_file called) (map id_of xs) ≡ false
   absent at up h =
       let point = h (searchable_from_sorted ids_total id_of xs record { module_file = module_file; name = called } up) in
@@ -68,3 +81,38 @@ module _ (module_file called : List ℕ) (xs : List Member) where
         | inl low ↦ ap is_eq (point.0 k d (omega arith) low)
         | inr high ↦ ap is_eq (point.1 k d high b)
       ])
+
+  -- it is none of them where it stands after the one before a place, and before the one at that
+  -- place
+  abbrev side : Member → ℕ
+  side y = ordering_index (id_cmp (id_of y) record { module_file = module_file; name = called })
+
+  between : (at : ℕ) → IsNonDecreasingBy side xs → (0 < at → (m : Member) × (slice_get xs (at - 1) ≡ Some m) × (side m ≡ 0)) → ((m : Member) → slice_get xs at ≡ Some m → side m ≡ 2) → (k : ℕ) (d : Member) → k < length xs → side (get_or xs k d) ≡ 1 → ⊥
+  between at up below above k d b one = elim (cases_lt k at) [
+    | inl low ↦
+        let last = below (omega arith) in
+        let e : get_or xs (at - 1) d ≡ last.0 = get_or_from_slice_get xs (at - 1) last.0 d last.1 in
+        let within : at - 1 < length xs = slice_get_within xs (at - 1) last.0 last.1 in
+        let falls : side (get_or xs k d) ≤ side (get_or xs (at - 1) d) = up k (at - 1) d (omega arith) within in
+        let none : side (get_or xs (at - 1) d) ≡ 0 = ap side e ∙ last.2 in
+        omega arith
+    | inr high ↦
+        let within : at < length xs = omega arith in
+        let two : side (get_or xs at d) ≡ 2 = above (get_or xs at d) (slice_get-get_or xs at d within) in
+        let rises : side (get_or xs at d) ≤ side (get_or xs k d) = up at k d high b in
+        omega arith
+  ]
+
+  pub apart : (at : ℕ) → IsSortedByKey id_of id_cmp xs
+      → (0 < at → (m : Member) × (slice_get xs (at - 1) ≡ Some m) × (id_cmp (id_of m) record { module_file = module_file; name = called } ≡ Less))
+      → ((m : Member) → slice_get xs at ≡ Some m → id_cmp (id_of m) record { module_file = module_file; name = called } ≡ Greater)
+      → list_any (is_identity module_file called) (map id_of xs) ≡ false
+  apart at up below above =
+      any_mapped id_of (is_identity module_file called) xs ∙ any_none (λ m. is_identity module_file called (id_of m)) xs (λ k d b.
+      compared module_file called (id_of (get_or xs k d)) ∙ not_one (id_cmp (id_of (get_or xs k d)) record { module_file = module_file; name = called })
+      (between at (searchable_from_sorted ids_total id_of xs record { module_file = module_file; name = called } up) (λ h. let m = below h in (m.0, m.1, ap ordering_index m.2)) (λ m h. ap ordering_index (above m h)) k d b))
+    where
+      not_one : (o : Ordering) → (ordering_index o ≡ 1 → ⊥) → is_eq o ≡ false
+      not_one Less h = refl
+      not_one Equal h = absurd (h refl)
+      not_one Greater h = refl

@@ -1,5 +1,5 @@
 -- Lists each of whose elements stands before all behind it.
-use Rattle.std.proofs.Common.{◌≡◌, zero, suc, ◌+◌, ◌⊎◌, inl, inr, Bool, true, false, ◌||◌, cond, List, [], ◌∷◌, get_or, map, refl, sym, ◌∙◌, ap, subst, arith}
+use Rattle.std.proofs.Common.{◌≡◌, zero, suc, ◌+◌, ◌⊎◌, inl, inr, Bool, true, false, ◌||◌, cond, Result, Ok, Err, IfOk, List, [], ◌∷◌, get_or, map, refl, sym, ◌∙◌, ap, subst, arith}
 use Rattle.std.specs.Cmp.{IsTotalOrder}
 use Rattle.std.specs.List.{AllByRecursion, dedup, dedup_from, list_any}
 use Rattle.std.specs.List.Sorted.{IsPermutation, IsSortedBy, IsStrictlySortedBy}
@@ -42,6 +42,13 @@ one_less false false r e = refl
 one_less true false r e = absurd (cc)
 one_less false true r e = absurd (cc)
 
+pub moved_same : {X K : Type 0} (f : X → K) (p : K → Bool) (xs ys : List X) → IsPermutation xs ys → list_any p (map f ys) ≡ list_any p (map f xs)
+moved_same f p xs ys moved = any_mapped f p ys ∙ sym (list_any-IsPermutation (λ x. p (f x)) xs ys moved) ∙ sym (any_mapped f p xs)
+
+pub where_ok : {A E : Type 0} {P Q : A → Type 0} (r : Result A E) → ((a : A) → P a → Q a) → IfOk r P → IfOk r Q
+where_ok (Ok a) to h = to a h
+where_ok (Err e) to h = tt
+
 any_from : {X : Type 0} (same : X → X → Bool) (p : X → Bool) → ((x y : X) → same x y ≡ true → p x ≡ p y) → (k : X) (xs : List X) → list_any p (dedup_from same k xs) ≡ (p k || list_any p xs)
 any_from same p e k [] = refl
 any_from same p e k (x ∷ xs) = by (same x k) (λ t. e x k t) (any_from same p e k xs) (any_from same p e x xs)
@@ -54,10 +61,14 @@ pub any_dedup : {X : Type 0} (same : X → X → Bool) (p : X → Bool) → ((x 
 any_dedup same p e [] = refl
 any_dedup same p e (x ∷ xs) = any_from same p e x xs
 
--- a list that is sorted and from which elements are left out that are read as the one before: it rises, and has the same
+-- a list that is sorted and from which elements are left out that are read as the one before: it
+-- rises, and has the same
 module _ {X K : Type 0} (f : X → K) (c : K → K → Ordering) (same : X → X → Bool) where
   pub left_rises : IsTotalOrder (λ (a b : X). c (f a) (f b)) → ((x y : X) → same x y ≡ eq_by_cmp (λ (a b : X). c (f a) (f b)) x y) → (xs : List X) → IsSortedBy (λ (a b : X). is_lt (c (f a) (f b))) xs → IsStrictlySortedBy c (map f (dedup same xs))
   left_rises o ties xs up = rises_mapped f c (dedup same xs) (IsStrictlySortedBy-dedup o ties xs up)
+
+  pub kept_same : ((x y : X) → same x y ≡ true → f x ≡ f y) → (p : K → Bool) (xs : List X) → list_any p (map f (dedup same xs)) ≡ list_any p (map f xs)
+  kept_same e p xs = any_mapped f p (dedup same xs) ∙ any_dedup same (λ x. p (f x)) (λ x y h. ap p (e x y h)) xs ∙ sym (any_mapped f p xs)
 
   pub left_same : ((x y : X) → same x y ≡ true → f x ≡ f y) → (p : K → Bool) (xs ys : List X) → IsPermutation xs ys → list_any p (map f (dedup same ys)) ≡ list_any p (map f xs)
   left_same e p xs ys moved =

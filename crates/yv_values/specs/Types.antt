@@ -6,9 +6,9 @@ use Rattle.yv_values.specs.declared.plain.PlainType.TheVariants.{Whole, Decimal,
 pub use Rattle.yv_values.specs.Identities.{Id, id_of}
 pub use Rattle.yv_values.specs.Patterns.{Test, test_of}
 
--- The whole numbers of intervals, and whether JSON writes them as texts; decimals by digits and intervals of the
--- scaled number; texts by lengths and patterns; the truth values; the names of an enumeration; the bits' names;
--- octets by lengths; identities; the one value of empty.
+-- The whole numbers of intervals, and whether JSON writes them as texts; decimals by digits and
+-- intervals of the scaled number; texts by lengths and patterns; the truth values; the names of an
+-- enumeration; the bits' names; octets by lengths; identities; the one value of empty.
 pub data Plain : Type 0 where
   wholes : Bool → List Interval → Plain
   decimals : ℕ → List Interval → Plain

@@ -1,4 +1,5 @@
--- What a value is (RFC 7950, section 9): its kind and content. Two values are the same where they are one of these.
+-- What a value is (RFC 7950, section 9): its kind and content. Two values are the same where they
+-- are one of these.
 use Rattle.std.specs.Prelude.{ℕ, ℤ, List, Bool, map}
 use Rattle.std.specs.Rc.{rc_str_bytes, rc_slice_items}
 use Rattle.std.specs.declared.rc.RcStr.{RcStr}
@@ -8,8 +9,8 @@ use Rattle.yv_base_numbers.specs.declared.integer.Integer.TheVariants.{Natural, 
 use Rattle.yv_values.specs.declared.value.Atom.{Atom}
 use Rattle.yv_values.specs.declared.value.Atom.TheVariants as atom
 
--- A decimal is its number of digits behind the point and the number scaled by them. A set of bits is its names, in
--- ascending order by bytes. An identity is its module and its name.
+-- A decimal is its number of digits behind the point and the number scaled by them. A set of bits
+-- is its names, in ascending order by bytes. An identity is its module and its name.
 pub data Val : Type 0 where
   whole : ℤ → Val
   decimal : ℕ → ℤ → Val

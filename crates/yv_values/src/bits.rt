@@ -23,8 +23,9 @@ pub fn bits_in(alloc: Global, names: &NameSet, text: &str) -> Result<Option<Valu
     bits_of(alloc, names, text, &words)
 }
 
-// Whether a text has more words than so many. It looks no further than to the first that is one too many, so that long
-// texts, of which one word must stand twice or be no name, are refused without being cut and sorted.
+// Whether a text has more words than so many. It looks no further than to the first that is one too
+// many, so that long texts, of which one word must stand twice or be no name, are refused without
+// being cut and sorted.
 fn has_more_words(text: &str, most: usize) -> bool
     ensures { IsTrue result → most < length (words text.now) }
 {
@@ -49,7 +50,8 @@ fn bits_of(
     words: &[&str],
 ) -> Result<Option<Value>, AllocError>
     requires { Ascends (map (λ w. w.now) words.now) }
-    ensures { IfOk result (λ found. found ≡ bits_of names.now text.now (map (λ w. w.now) words.now)) }
+    ensures { IfOk result
+        (λ found. found ≡ bits_of names.now text.now (map (λ w. w.now) words.now)) }
 {
     if is_trimmed(text.as_bytes()) && are_named(names, words) && are_distinct(words) {
         Ok(Some(Value::bits(RcSlice::from_vec(choose_names(alloc, names, words)?)?)))

@@ -18,15 +18,16 @@ use std::alloc::{AllocError, Global};
 use yv_base_numbers::based_integer_of;
 use yv_pattern::Matchers;
 
-/// The value of a `default` statement's text, where the type has one. The scope is that of the file in which it is
-/// written. Whole numbers may be hexadecimal or octal (RFC 7950, section 9.2.1).
+/// The value of a `default` statement's text, where the type has one. The scope is that of the file
+/// in which it is written. Whole numbers may be hexadecimal or octal (RFC 7950, section 9.2.1).
 pub fn read_text(
     alloc: Global,
     plain: &PlainType,
     text: &str,
     scope: &Scope,
 ) -> Result<Option<Value>, AllocError>
-    ensures { IfOk result (λ found. found ≡ text_value (plain_of plain.now) text.now (place_of scope.now)) }
+    ensures { IfOk result
+        (λ found. found ≡ text_value (plain_of plain.now) text.now (place_of scope.now)) }
 {
     read_text_with(alloc, &mut Matchers::none(alloc), plain, text, scope)
 }
@@ -39,7 +40,8 @@ pub fn read_text_with<'t>(
     text: &str,
     scope: &Scope,
 ) -> Result<Option<Value>, AllocError>
-    ensures { IfOk result (λ found. found ≡ text_value (plain_of plain.now) text.now (place_of scope.now)) }
+    ensures { IfOk result
+        (λ found. found ≡ text_value (plain_of plain.now) text.now (place_of scope.now)) }
 {
     match plain {
         PlainType::Whole(whole) => Ok(whole_among(whole, based_integer_of(text.as_bytes()))),
@@ -72,7 +74,10 @@ fn identity_in_scope(
     scope: &Scope,
     text: &[u8],
 ) -> Result<Option<Value>, AllocError>
-    ensures { IfOk result (λ found. found ≡ identity_in_scope members.now (place_of scope.now) text.now (position (λ b. b == 58) text.now)) }
+    ensures { IfOk result
+        (λ found. found
+        ≡ identity_in_scope members.now (place_of scope.now) text.now
+        (position (λ b. b == 58) text.now)) }
 {
     match colon(text) {
         Some(at) => match module_of(&scope.prefixes, &text[..at]) {

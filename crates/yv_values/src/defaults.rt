@@ -10,15 +10,17 @@ use crate::value::{Tuple, Value};
 use std::alloc::{AllocError, Global};
 use std::marker::Model;
 
-/// The default values of a leaf or leaf-list, which are in use together (RFC 7950, sections 7.6.1 and 7.7.2), in order.
-/// Contracts see them as that list. Two or more are kept in an index too, so that one is found in time log n.
+/// The default values of a leaf or leaf-list, which are in use together (RFC 7950, sections 7.6.1
+/// and 7.7.2), in order. Contracts see them as that list. Two or more are kept in an index too, so
+/// that one is found in time log n.
 #[derive(Drop)]
 pub struct Defaults {
     values: Vec<Value>,
     known: ValueIndex,
 }
 
-// What is known of values: an index of them, where there are two or more, and whether two of them are the same.
+// What is known of values: an index of them, where there are two or more, and whether two of them
+// are the same.
 #[derive(Drop)]
 struct ValueIndex {
     index: Option<Index>,
@@ -124,8 +126,10 @@ fn index_many(alloc: Global, values: &[Value]) -> Result<ValueIndex, AllocError>
 
 // Keeps a value with others, and says whether it is one of them.
 fn keep(alloc: Global, index: &mut Index, value: &Value) -> Result<bool, AllocError>
-    ensures knows { IfOk result (λ known. (vs : List Val) → KeepsAlone index.old vs → known ≡ is_among value.now vs) }
-    ensures keeps { OnOk result ((vs : List Val) → KeepsAlone index.old vs → KeepsAlone index.new (vs ++ value.now ∷ [])) }
+    ensures knows { IfOk result
+        (λ known. (vs : List Val) → KeepsAlone index.old vs → known ≡ is_among value.now vs) }
+    ensures keeps { OnOk result
+        ((vs : List Val) → KeepsAlone index.old vs → KeepsAlone index.new (vs ++ value.now ∷ [])) }
 {
     let mut key = Tuple::new(alloc);
     key.push(value.copy(alloc)?)?;

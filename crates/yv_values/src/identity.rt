@@ -7,8 +7,8 @@ use crate::members::{Member, Members};
 use crate::value::Value;
 use std::alloc::{AllocError, Global};
 
-/// The identity that the text names, where it is one of these: `module:name`, or the plain name of one of the
-/// module.
+/// The identity that the text names, where it is one of these: `module:name`, or the plain name of
+/// one of the module.
 pub fn identity_at(
     alloc: Global,
     members: &Members,

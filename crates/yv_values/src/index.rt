@@ -12,8 +12,9 @@ use std::alloc::{AllocError, Global};
 use std::collections::BTreeMap;
 use std::marker::Model;
 
-/// Which keys were kept, and where. A key is a tuple of values; the least place and the membership of a key are what
-/// can be asked. Keys are found by their order, and the places of a key by theirs.
+/// Which keys were kept, and where. A key is a tuple of values; the least place and the membership
+/// of a key are what can be asked. Keys are found by their order, and the places of a key by
+/// theirs.
 #[derive(Drop)]
 pub struct Index {
     alloc: Global,
@@ -43,8 +44,8 @@ impl Index {
         }
     }
 
-    /// Keeps a key and its place. It counts no step: it is part of the visit or check that calls it. It costs least
-    /// where the places of a key come in ascending order.
+    /// Keeps a key and its place. It counts no step: it is part of the visit or check that calls
+    /// it. It costs least where the places of a key come in ascending order.
     pub fn keep(&mut self, key: Tuple, place: u64) -> Result<(), AllocError>
         ensures keeps { OnOk result (Adds self.old self.new key place) }
         ensures same { OnErr result (self.new ≡ self.old) }
@@ -55,7 +56,8 @@ impl Index {
         self.keep_new(key, place)
     }
 
-    /// The least place that was kept with the same key; where there is none the pair is kept. It is one step.
+    /// The least place that was kept with the same key; where there is none the pair is kept. It is
+    /// one step.
     pub fn keep_first(
         &mut self,
         meter: &mut Meter,
@@ -71,7 +73,8 @@ impl Index {
         Ok(found)
     }
 
-    /// Whether the same key was kept at a place from the first to the last, both included. It is one step.
+    /// Whether the same key was kept at a place from the first to the last, both included. It is
+    /// one step.
     pub fn within(&self, meter: &mut Meter, key: &Tuple, first: u64, last: u64) -> bool
         ensures finds { IsTrue result ↔ IsWithin self.now key.now first last }
         ensures steps { meter.new ≡ count_up (meter.old + 1) }
@@ -80,8 +83,8 @@ impl Index {
         self.is_within(key, first, last)
     }
 
-    /// Whether the same key was kept at a place from the first to the last, both included, or is one of these other
-    /// values, alone. It is one step.
+    /// Whether the same key was kept at a place from the first to the last, both included, or is
+    /// one of these other values, alone. It is one step.
     pub fn within_or_among(
         &self,
         meter: &mut Meter,
@@ -91,14 +94,16 @@ impl Index {
         others: Option<&Defaults>,
     ) -> bool
         ensures finds { IsTrue result ↔
-            (IsWithin self.now key.now first last ⊎ IsAlone key.now (unwrap_or (option_map (λ o. o.now) others.entry) [])) }
+            (IsWithin self.now key.now first last
+            ⊎ IsAlone key.now (unwrap_or (option_map (λ o. o.now) others.entry) [])) }
         ensures steps { meter.new ≡ count_up (meter.old + 1) }
     {
         meter.visit();
         self.is_within(key, first, last) || is_among(key, others)
     }
 
-    // The least place that was kept with the same key; where there is none the pair is kept. It counts no step, and takes one search.
+    // The least place that was kept with the same key; where there is none the pair is kept. It
+    // counts no step, and takes one search.
     pub(crate) fn find_or_keep(&mut self, key: Tuple, place: u64) -> Result<Option<u64>, AllocError>
         ensures least { IfOk result (λ found. IsLeast self.old key found) }
         ensures keeps { AddsIfNone result self.old self.new key place }
@@ -125,7 +130,9 @@ impl Index {
     // Adds a place to those of a key, where there are some, and says whether there are.
     fn add(&mut self, key: &Tuple, place: u64) -> Result<bool, AllocError>
         ensures adds { IfOk result (λ known. known ≡ true → Adds self.old self.new key.now place) }
-        ensures none { IfOk result (λ known. known ≡ false → (self.new ≡ self.old) × ((p : ℕ) → Keeps self.old key.now p → ⊥)) }
+        ensures none { IfOk result
+            (λ known. known ≡ false → (self.new ≡ self.old)
+            × ((p : ℕ) → Keeps self.old key.now p → ⊥)) }
         ensures same { OnErr result (self.new ≡ self.old) }
     {
         match self.places.get_mut(key.as_key()) {
@@ -149,7 +156,8 @@ impl Index {
 
 // Whether the key is one of these values, alone.
 fn is_among(key: &Tuple, others: Option<&Defaults>) -> bool
-    ensures { IsTrue result ↔ IsAlone key.now (unwrap_or (option_map (λ o. o.now) others.entry) []) }
+    ensures { IsTrue result
+        ↔ IsAlone key.now (unwrap_or (option_map (λ o. o.now) others.entry) []) }
 {
     match others {
         Some(values) => values.has(key),

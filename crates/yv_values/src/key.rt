@@ -15,8 +15,8 @@ use std::alloc::{AllocError, Global};
 use std::cmp::Ordering;
 use std::mem::replace;
 
-/// The values of a key, in a row. One takes no memory of its own, since most keys are of one leaf. Keys are compared by their values
-/// alone, however these are kept.
+/// The values of a key, in a row. One takes no memory of its own, since most keys are of one leaf.
+/// Keys are compared by their values alone, however these are kept.
 #[derive(Drop)]
 pub(crate) enum Key {
     Nothing,
@@ -38,7 +38,8 @@ impl Key {
 
     /// Adds a value at the end.
     pub(crate) fn push(&mut self, alloc: Global, atom: Atom) -> Result<(), AllocError>
-        ensures { atoms_of self.new ≡ (if is_ok result then atoms_of self.old ++ atom ∷ [] else atoms_of self.old) }
+        ensures { atoms_of self.new
+            ≡ (if is_ok result then atoms_of self.old ++ atom ∷ [] else atoms_of self.old) }
     {
         match self {
             Key::Nothing => *self = Key::One(atom),

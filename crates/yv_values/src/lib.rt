@@ -1,5 +1,5 @@
-//! Values of YANG leaves: plain types, the values that they read from JSON and from defaults' texts, the count of
-//! steps, and indexes of keys (RFC 7950, section 9; RFC 7951, section 6).
+//! Values of YANG leaves: plain types, the values that they read from JSON and from defaults'
+//! texts, the count of steps, and indexes of keys (RFC 7950, section 9; RFC 7951, section 6).
 #![tactic(auto)]
 
 mod binary;

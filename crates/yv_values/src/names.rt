@@ -14,8 +14,8 @@ use std::cmp::Ordering;
 use std::marker::Model;
 use std::rc::{RcSlice, RcStr};
 
-/// The names of an enumeration or of a bits type, in the order of their bytes and each once, so that each set of bits is
-/// one list, and a name is found by halves. Contracts see it as that list.
+/// The names of an enumeration or of a bits type, in the order of their bytes and each once, so
+/// that each set of bits is one list, and a name is found by halves. Contracts see it as that list.
 #[derive(Drop)]
 pub struct NameSet {
     names: RcSlice<RcStr>,
@@ -38,7 +38,8 @@ impl NameSet {
     /// Puts the names of a type into their order, each once.
     pub fn new(names: Vec<RcStr>) -> Result<NameSet, AllocError>
         ensures rises { IfOk result (λ sorted. Rises sorted) }
-        ensures same { IfOk result (λ sorted. (s : List ℕ) → is_named sorted s ≡ is_named (texts names.items) s) }
+        ensures same { IfOk result
+            (λ sorted. (s : List ℕ) → is_named sorted s ≡ is_named (texts names.items) s) }
     {
         let mut names = names;
         names.sort()?;

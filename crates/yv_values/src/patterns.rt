@@ -31,9 +31,10 @@ struct Block {
     group: Rc<Group>,
 }
 
-/// The tests of a string type, those of the types that it narrows first. A chain of types shares them: each has a list
-/// of blocks that are ever lower, as the digits of a binary number, so that a type costs time and memory logarithmic in
-/// the chain that it continues, and no call nests deeper. Contracts see them as a list.
+/// The tests of a string type, those of the types that it narrows first. A chain of types shares
+/// them: each has a list of blocks that are ever lower, as the digits of a binary number, so that a
+/// type costs time and memory logarithmic in the chain that it continues, and no call nests deeper.
+/// Contracts see them as a list.
 #[derive(Drop)]
 pub struct PatternTests {
     blocks: RcSlice<Block>,
@@ -113,7 +114,8 @@ fn copies(alloc: Global, blocks: &[Block]) -> Result<Vec<Block>, AllocError>
 
 // Puts a block behind others, joined with each at the end that is as high as what is joined so far.
 fn add(alloc: Global, blocks: &mut Vec<Block>, block: Block) -> Result<(), AllocError>
-    ensures { OnOk result (tests_in blocks.new.items ≡ tests_in blocks.old.items ++ tests_of block.group.value) }
+    ensures { OnOk result
+        (tests_in blocks.new.items ≡ tests_in blocks.old.items ++ tests_of block.group.value) }
 {
     let mut block = block;
     while let Some(before) = take_last(blocks, block.height) {
@@ -145,7 +147,9 @@ fn ends_at(blocks: &[Block], height: u32) -> bool {
 
 // One block of two.
 fn join_blocks(alloc: Global, first: Block, second: Block) -> Result<Block, AllocError>
-    ensures { IfOk result (λ both. tests_of both.group.value ≡ tests_of first.group.value ++ tests_of second.group.value) }
+    ensures { IfOk result
+        (λ both. tests_of both.group.value ≡ tests_of first.group.value
+        ++ tests_of second.group.value) }
 {
     let height = first.height.saturating_add(1);
     let group = Rc::new(alloc, Group::Pair(first.group, second.group))?;

@@ -6,8 +6,8 @@ ghost use Rattle.yv_values.specs.Places.{AddsPlace, IsLeastPlace, HasBetween};
 use std::alloc::{AllocError, Global};
 use std::marker::Model;
 
-/// One place or more where something was kept, in ascending order. One takes no memory of its own, since most keys are kept at one
-/// place; of more each takes eight bytes.
+/// One place or more where something was kept, in ascending order. One takes no memory of its own,
+/// since most keys are kept at one place; of more each takes eight bytes.
 #[derive(Drop)]
 pub struct KeyPlaces {
     alloc: Global,
@@ -125,7 +125,8 @@ fn count_below(places: &[u64], place: u64) -> usize
     requires { IsNonDecreasing places.now }
     ensures bound { result ≤ length places.now }
     ensures below { (k : ℕ) → k < result → slice_index places.now k < place }
-    ensures above { (k : ℕ) → result ≤ k → k < length places.now → place ≤ slice_index places.now k }
+    ensures above { (k : ℕ) → result ≤ k → k < length places.now → place
+        ≤ slice_index places.now k }
 {
     places.partition_point(|other| *other < place)
 }

@@ -8,7 +8,8 @@ use crate::patterns::PatternTests;
 use std::alloc::AllocError;
 use yv_base_numbers::Intervals;
 
-/// A type of whole numbers: whether JSON writes them as texts, as it does those of 64 bits (RFC 7951, section
+/// A type of whole numbers: whether JSON writes them as texts, as it does those of 64 bits (RFC
+/// 7951, section
 /// 6.1), and the intervals of its range.
 #[derive(Drop)]
 pub struct WholeType {
@@ -23,15 +24,16 @@ pub struct DecimalType {
     pub spans: Intervals,
 }
 
-/// A string type: the intervals of its lengths in characters, and its patterns, all of which must match.
+/// A string type: the intervals of its lengths in characters, and its patterns, all of which must
+/// match.
 #[derive(Drop)]
 pub struct TextType {
     pub lengths: Intervals,
     pub patterns: PatternTests,
 }
 
-/// A type with typedefs, unions and leafrefs followed, so that one test decides its values. Its lists are shared
-/// by its copies.
+/// A type with typedefs, unions and leafrefs followed, so that one test decides its values. Its
+/// lists are shared by its copies.
 #[derive(Drop)]
 pub enum PlainType {
     Whole(WholeType),

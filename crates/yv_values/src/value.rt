@@ -7,8 +7,9 @@ use std::marker::Model;
 use std::rc::{RcSlice, RcStr};
 use yv_base_numbers::Integer;
 
-/// What a value holds, in 24 bytes. Its order serves to find keys again, and means nothing besides. Texts and lists are shared by the
-/// copies of a value, and names are texts that the type keeps, so that neither costs more where they are long.
+/// What a value holds, in 24 bytes. Its order serves to find keys again, and means nothing besides.
+/// Texts and lists are shared by the copies of a value, and names are texts that the type keeps, so
+/// that neither costs more where they are long.
 #[derive(PartialEq, Eq, PartialOrd, Ord, Drop)]
 pub(crate) enum Atom {
     Whole(Integer),
@@ -26,7 +27,8 @@ pub(crate) enum Atom {
     Empty,
 }
 
-/// What a leaf holds: its kind and content. Values can't be compared outside this crate; an `Index` does it.
+/// What a leaf holds: its kind and content. Values can't be compared outside this crate; an `Index`
+/// does it.
 #[derive(Drop)]
 pub struct Value {
     atom: Atom,
@@ -118,7 +120,8 @@ impl Value {
         Value { atom: Atom::Empty }
     }
 
-    /// The same value once more, over the same texts and lists: it takes no memory, however long they are.
+    /// The same value once more, over the same texts and lists: it takes no memory, however long
+    /// they are.
     pub fn copy(&self, _alloc: Global) -> Result<Value, AllocError>
         ensures { IfOk result (λ copy. copy ≡ self.now) }
     {

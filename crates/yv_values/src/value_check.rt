@@ -26,8 +26,8 @@ struct FirstValue {
     tried: u64,
 }
 
-/// The value of the first type that has one, for a leaf or leaf-list of this module; each type that is tried is a
-/// step. Where memory runs out, no step is counted.
+/// The value of the first type that has one, for a leaf or leaf-list of this module; each type that
+/// is tried is a step. Where memory runs out, no step is counted.
 pub fn check(
     alloc: Global,
     meter: &mut Meter,
@@ -101,7 +101,8 @@ fn read<'t>(
     module: &str,
     json: &Json,
 ) -> Result<Option<Value>, AllocError>
-    ensures { IfOk result (λ found. found ≡ read_kind (plain_of plain.now) module.now (view json.now)) }
+    ensures { IfOk result
+        (λ found. found ≡ read_kind (plain_of plain.now) module.now (view json.now)) }
 {
     match plain {
         PlainType::Whole(whole) => Ok(whole_of(whole, json)),
@@ -118,7 +119,8 @@ fn string_of<'t>(
     module: &str,
     json: &Json,
 ) -> Result<Option<Value>, AllocError>
-    ensures { IfOk result (λ found. found ≡ string_from (plain_of plain.now) module.now (view json.now)) }
+    ensures { IfOk result
+        (λ found. found ≡ string_from (plain_of plain.now) module.now (view json.now)) }
 {
     match json {
         Json::String(text) => string_in(alloc, matchers, plain, module, text.as_str()),

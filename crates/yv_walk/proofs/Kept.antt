@@ -22,7 +22,8 @@ use Rattle.yv_walk.proofs.Naming.{named_member}
 use Rattle.yv_walk.proofs.Single.{get_first}
 use Rattle.yv_walk.proofs.Steps.{is_eq_nat}
 
--- each node that is found in the object of a node has the value of its member here, or else among the members that are left
+-- each node that is found in the object of a node has the value of its member here, or else among
+-- the members that are left
 abbrev pub AreHeld : Rows → NodeId → (ℕ → Option Data) → Members → Members → Type 0
 AreHeld s p values left all =
     (c : NodeId) → IsFound s p c → first_of (values c.0) (get_member (row_at s c).label.member left) ≡ get_member (row_at s c).label.member all

@@ -1,5 +1,5 @@
--- Children by their places: their numbers ascend, nothing exists of one of which nothing is kept, and how many exist of those that are
--- left.
+-- Children by their places: their numbers ascend, nothing exists of one of which nothing is kept,
+-- and how many exist of those that are left.
 use Rattle.std.proofs.Common.{◌≡◌, ℕ, zero, suc, ◌+◌, ◌<◌, ◌≤◌, List, length, drop, get_or, Bool, true, false, cond, Option, None, Some, inl, inr, refl, sym, ap, ◌∙◌, subst, arith}
 use Rattle.std.proofs.lemmas.Bool.{cases_Bool, true≢false}
 use Rattle.std.proofs.lemmas.Bool.Decides.{nat_tests}

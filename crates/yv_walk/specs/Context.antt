@@ -38,8 +38,9 @@ members_of c = elim c.members [
 abbrev pub unknown_of : Context → List (List ℕ)
 unknown_of c = map (λ k. k.now) c.unknown.items
 
--- what was looked up is what the members of the object write: the value of each data node that stands in it, what exists in each choice
--- and case that stands in it, and the members that name no node
+-- what was looked up is what the members of the object write: the value of each data node that
+-- stands in it, what exists in each choice and case that stands in it, and the members that name no
+-- node
 pub record IsContext (s : Rows) (c : Context) : Type 0 where
   pub values : (n : NodeId) → stands_in s (parent_of c) n ≡ true → is_data (row_at s n).label.defined.kind ≡ true
       → value_at c.values n.0 ≡ get_member (row_at s n).label.member (members_of c)

@@ -1,4 +1,5 @@
--- Which data nodes exist in one object of a document: through choices and cases, and each by its number (RFC 7950, sections 7.5 to 7.11).
+-- Which data nodes exist in one object of a document: through choices and cases, and each by its
+-- number (RFC 7950, sections 7.5 to 7.11).
 use Rattle.std.specs.Prelude.{ℕ, ◌+◌, ◌==◌, ◌&&◌, ◌||◌, Bool, true, false, not, Option, Some, None, if◌then◌else◌}
 use Rattle.std.specs.List.{slice_index_or}
 use Rattle.serde_json.specs.Data.{Data, array, no_items, Members}
@@ -37,8 +38,8 @@ abbrev pub has_items : Data → Bool
 has_items (array no_items) = false
 has_items _ = true
 
--- a node of this kind that is written so exists: an empty array has no entry of its list or leaf-list, so that it is as if it weren't
--- written, and only data nodes exist
+-- a node of this kind that is written so exists: an empty array has no entry of its list or
+-- leaf-list, so that it is as if it weren't written, and only data nodes exist
 abbrev pub is_there : NodeKind → Data → Bool
 is_there kind.List d = has_items d
 is_there kind.LeafList d = has_items d
@@ -53,7 +54,8 @@ row_standing k n (Some d) = if is_there k d then Only n else Nothing
 abbrev pub kind_standing : NodeKind → NodeId → Option Data → Existence → Existence
 kind_standing k n found inner = if is_passed k then inner else row_standing k n found
 
--- which data nodes exist of these trees in an object with these members, where the first node has the number `first`
+-- which data nodes exist of these trees in an object with these members, where the first node has
+-- the number `first`
 abbrev pub existence_of : ℕ → Forest → Members → Existence
 existence_of first no_trees ms = Nothing
 existence_of first (tree (node l kids) ts) ms =
@@ -83,7 +85,8 @@ holds first no_trees n = false
 holds first (tree (node l kids) ts) n =
     ((first == n.0) || (is_passed l.defined.kind && holds (first + 1) kids n)) || holds (first + 1 + count kids) ts n
 
--- the node stands in the object of p: a child, or in its choices and cases; a choice or case has no object
+-- the node stands in the object of p: a child, or in its choices and cases; a choice or case has no
+-- object
 abbrev pub stands_in : Rows → (p n : NodeId) → Bool
 stands_in s p n = is_object s p && holds (rank p) (below s p) n
 

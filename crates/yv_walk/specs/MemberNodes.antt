@@ -8,13 +8,15 @@ use Rattle.yv_node_definition.specs.Kinds.{is_data, is_passed}
 use Rattle.yv_nodes.specs.declared.node.NodeId.{NodeId}
 use Rattle.yv_nodes.specs.Tree.{count, Forest, Label, no_trees, node, tree}
 
--- the node of this number is called so exactly where it is the node n, which is a data node of kind k
+-- the node of this number is called so exactly where it is the node n, which is a data node of kind
+-- k
 pub record IsNamed (key : List ℕ) (n : NodeId) (k : NodeKind) (number : ℕ) (l : Label) : Type 0 where
   pub called : is_data l.defined.kind ≡ true → bytes_eq l.member key ≡ (number == n.0)
   pub met : number ≡ n.0 → is_data l.defined.kind ≡ true
   pub alike : number ≡ n.0 → l.defined.kind ≡ k
 
--- of the data nodes of these trees, through choices and cases, the node n alone is called so, and it is of kind k
+-- of the data nodes of these trees, through choices and cases, the node n alone is called so, and
+-- it is of kind k
 abbrev pub AreNamed : List ℕ → NodeId → NodeKind → ℕ → Forest → Type 0
 AreNamed key n k first no_trees = Unit {0}
 AreNamed key n k first (tree (node l kids) ts) =

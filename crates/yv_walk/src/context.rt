@@ -28,8 +28,8 @@ use yv_values::Meter;
 // So many children of a choice or case are few.
 const FEW_CHILDREN: usize = 16;
 
-/// What the members of one object write: the values of its data nodes, the data nodes that exist in its choices and cases, and the
-/// members that name no node.
+/// What the members of one object write: the values of its data nodes, the data nodes that exist in
+/// its choices and cases, and the members that name no node.
 #[derive(Drop)]
 pub struct Context<'v> {
     parent: NodeId,
@@ -57,8 +57,8 @@ impl<'v> Context<'v> {
         }
     }
 
-    /// Looks up each member of an object of this node, or of the root's, once. The meter counts the members. It fails only if memory runs
-    /// out, and then the meter is as it was.
+    /// Looks up each member of an object of this node, or of the root's, once. The meter counts the
+    /// members. It fails only if memory runs out, and then the meter is as it was.
     pub fn read(
         alloc: Global,
         schema: &Schema,
@@ -70,10 +70,13 @@ impl<'v> Context<'v> {
         ensures context { IfOk result (IsContext schema.now) }
         ensures parent { IfOk result (λ c. parent_of c ≡ parent) }
         ensures members { IfOk result (λ c. members_of c ≡ members_view members.now.entries) }
-        ensures steps { OnOk result (count_up meter.new ≡ count_up (meter.old + members_len (members_view members.now.entries))) }
+        ensures steps { OnOk result
+            (count_up meter.new
+            ≡ count_up (meter.old + members_len (members_view members.now.entries))) }
         ensures same { OnErr result (meter.new ≡ meter.old) }
     {
-        // each reading of a schema tells what holds of it: that its rows are those of its tree, and its nodes are found by their members
+        // each reading of a schema tells what holds of it: that its rows are those of its tree, and
+        // its nodes are found by their members
         let _children = schema.children(parent);
         let mut lookups = Meter::new();
         let mut values = WrittenValues::new(alloc);
@@ -107,16 +110,20 @@ impl<'v> Context<'v> {
 
     /// The value that is written for a data node in the object.
     pub fn value(&self, id: NodeId) -> Option<&'v Value>
-        ensures { (s : Rows) → IsContext s self.now → stands_in s (parent_of self.now) id ≡ true → is_data (row_at s id).label.defined.kind ≡ true
-            → option_map (λ v. view v.now) result ≡ get_member (row_at s id).label.member (members_of self.now) }
+        ensures { (s : Rows) → IsContext s self.now → stands_in s (parent_of self.now) id ≡ true
+            → is_data (row_at s id).label.defined.kind ≡ true
+            → option_map (λ v. view v.now) result
+            ≡ get_member (row_at s id).label.member (members_of self.now) }
     {
         self.values.get(id.number())
     }
 
-    /// Which data nodes exist of a node in the object: the node itself, or what is in it where it is a choice or case.
+    /// Which data nodes exist of a node in the object: the node itself, or what is in it where it
+    /// is a choice or case.
     pub fn existence_of(&self, schema: &Schema, id: NodeId) -> Existence
         requires { id.0 < length schema.now.nodes }
-        ensures { IsContext schema.now self.now → stands_in schema.now (parent_of self.now) id ≡ true
+        ensures { IsContext schema.now self.now → stands_in schema.now (parent_of self.now) id
+            ≡ true
             → result ≡ tree_standing id.0 (tree_of schema.now id) (members_of self.now) }
     {
         let kind = schema.node(id).kind();
@@ -127,12 +134,14 @@ impl<'v> Context<'v> {
         }
     }
 
-    /// How many children of a choice or case in the object exist: of a choice its cases, of which one may (RFC 7950,
-    /// section 7.9).
+    /// How many children of a choice or case in the object exist: of a choice its cases, of which
+    /// one may (RFC 7950, section 7.9).
     pub fn count(&self, schema: &Schema, id: NodeId) -> usize
         requires { id.0 < length schema.now.nodes }
-        ensures { IsContext schema.now self.now → stands_in schema.now (parent_of self.now) id ≡ true
-            → passes schema.now id ≡ true → result ≡ count_standing (rank id) (below schema.now id) (members_of self.now) }
+        ensures { IsContext schema.now self.now → stands_in schema.now (parent_of self.now) id
+            ≡ true
+            → passes schema.now id ≡ true → result
+            ≡ count_standing (rank id) (below schema.now id) (members_of self.now) }
     {
         if schema.children(id).len() <= FEW_CHILDREN {
             self.count_each(schema, id)
@@ -144,8 +153,10 @@ impl<'v> Context<'v> {
     // Asks each child: where there are few, this takes the least time.
     fn count_each(&self, schema: &Schema, id: NodeId) -> usize
         requires { id.0 < length schema.now.nodes }
-        ensures { IsContext schema.now self.now → stands_in schema.now (parent_of self.now) id ≡ true
-            → passes schema.now id ≡ true → result ≡ count_standing (rank id) (below schema.now id) (members_of self.now) }
+        ensures { IsContext schema.now self.now → stands_in schema.now (parent_of self.now) id
+            ≡ true
+            → passes schema.now id ≡ true → result
+            ≡ count_standing (rank id) (below schema.now id) (members_of self.now) }
     {
         let mut total = 0;
         for child in schema.children(id) {
@@ -159,8 +170,10 @@ impl<'v> Context<'v> {
     // Goes from one that exists to the next.
     fn count_existing(&self, schema: &Schema, id: NodeId) -> usize
         requires { id.0 < length schema.now.nodes }
-        ensures { IsContext schema.now self.now → stands_in schema.now (parent_of self.now) id ≡ true
-            → passes schema.now id ≡ true → result ≡ count_standing (rank id) (below schema.now id) (members_of self.now) }
+        ensures { IsContext schema.now self.now → stands_in schema.now (parent_of self.now) id
+            ≡ true
+            → passes schema.now id ≡ true → result
+            ≡ count_standing (rank id) (below schema.now id) (members_of self.now) }
     {
         let _children = schema.children(id);
         let mut total = 0;
@@ -172,17 +185,23 @@ impl<'v> Context<'v> {
         total
     }
 
-    /// The place, from 0, of the first child of a choice or case in the object that exists, from this place on. A child of which nothing
-    /// is written takes no time, and any other that is passed takes time log n.
+    /// The place, from 0, of the first child of a choice or case in the object that exists, from
+    /// this place on. A child of which nothing is written takes no time, and any other that is
+    /// passed takes time log n.
     pub fn next_existing(&self, schema: &Schema, id: NodeId, from: usize) -> Option<usize>
         requires { id.0 < length schema.now.nodes }
         ensures behind { IfSome result (λ place. from ≤ place) }
         ensures within { IfSome result (λ place. place < length (children_of schema.now id)) }
-        ensures exists { IsContext schema.now self.now → stands_in schema.now (parent_of self.now) id ≡ true
-            → passes schema.now id ≡ true → IfSome result (λ place. child_exists schema.now id (members_of self.now) place ≡ true) }
-        ensures others { IsContext schema.now self.now → stands_in schema.now (parent_of self.now) id ≡ true
+        ensures exists { IsContext schema.now self.now
+            → stands_in schema.now (parent_of self.now) id ≡ true
+            → passes schema.now id ≡ true
+            → IfSome result
+            (λ place. child_exists schema.now id (members_of self.now) place ≡ true) }
+        ensures others { IsContext schema.now self.now
+            → stands_in schema.now (parent_of self.now) id ≡ true
             → passes schema.now id ≡ true → (place : ℕ) → from ≤ place
-            → place < unwrap_or result (length (children_of schema.now id)) → child_exists schema.now id (members_of self.now) place ≡ false }
+            → place < unwrap_or result (length (children_of schema.now id))
+            → child_exists schema.now id (members_of self.now) place ≡ false }
     {
         let children = schema.children(id);
         let mut place = self.pass_unkept(children, from);
@@ -199,7 +218,8 @@ impl<'v> Context<'v> {
     fn pass_unkept(&self, nodes: &[NodeId], from: usize) -> usize
         requires { Ascend nodes.now }
         ensures behind { from ≤ result }
-        ensures unkept { (place : ℕ) (d : NodeId) → from ≤ place → place < result → place < length nodes.now
+        ensures unkept { (place : ℕ) (d : NodeId) → from ≤ place → place < result → place
+            < length nodes.now
             → IsUnkept self.now (slice_index_or nodes.now place d).0 }
     {
         let Some(first) = nodes.get(from) else {
@@ -228,7 +248,8 @@ impl<'v> Context<'v> {
     /// The names of the members that name no node, in the order of the object.
     pub fn unknown(&self) -> &[&'v str]
         ensures { (s : Rows) → IsContext s self.now
-            → map (λ k. k.now) result.now ≡ unknown_names (object_trees s (parent_of self.now)) (members_of self.now) }
+            → map (λ k. k.now) result.now
+            ≡ unknown_names (object_trees s (parent_of self.now)) (members_of self.now) }
     {
         self.unknown.as_slice()
     }
@@ -253,7 +274,10 @@ fn mark_member(
 ) -> Result<(), AllocError>
     requires { id.0 < length schema.now.nodes }
     ensures { OnOk result ((a : NodeId) → a.0 < length schema.now.nodes → passes schema.now a ≡ true
-        → mark_at marks.new a.0 ≡ with_node (exists (row_at schema.now id).label.defined.kind (view value.now) && holds (rank a) (below schema.now a) id)
+        → mark_at marks.new a.0
+        ≡ with_node
+        (exists (row_at schema.now id).label.defined.kind (view value.now)
+        && holds (rank a) (below schema.now a) id)
         (mark_at marks.old a.0) id) }
 {
     if is_there(schema.node(id).kind(), value) {
@@ -266,14 +290,17 @@ fn mark_member(
 fn count_below(nodes: &[NodeId], number: u32) -> usize
     requires { Ascend nodes.now }
     ensures bound { result ≤ length nodes.now }
-    ensures below { (place : ℕ) (d : NodeId) → place < result → (slice_index_or nodes.now place d).0 < number }
-    ensures others { (place : ℕ) (d : NodeId) → result ≤ place → place < length nodes.now → number ≤ (slice_index_or nodes.now place d).0 }
+    ensures below { (place : ℕ) (d : NodeId) → place < result → (slice_index_or nodes.now place d).0
+        < number }
+    ensures others { (place : ℕ) (d : NodeId) → result ≤ place → place < length nodes.now → number
+        ≤ (slice_index_or nodes.now place d).0 }
 {
     nodes.partition_point(|node| node.0 < number)
 }
 
 fn note<'v>(unknown: &mut Vec<&'v str>, key: &'v str) -> Result<(), AllocError>
-    ensures { OnOk result (map (λ k. k.now) unknown.new.items ≡ map (λ k. k.now) unknown.old.items ++ key.now ∷ []) }
+    ensures { OnOk result
+        (map (λ k. k.now) unknown.new.items ≡ map (λ k. k.now) unknown.old.items ++ key.now ∷ []) }
 {
     unknown.push(key)?;
     Ok(())

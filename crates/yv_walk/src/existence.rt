@@ -44,8 +44,8 @@ impl Existence {
         !matches!(self, Existence::Nothing)
     }
 
-    /// Whether a node exists beside this one: the least number of entries is asked for where another node of the case exists
-    /// (RFC 7950, section 7.7.5).
+    /// Whether a node exists beside this one: the least number of entries is asked for where
+    /// another node of the case exists (RFC 7950, section 7.7.5).
     pub fn any_but(self, id: NodeId) -> bool
         ensures { result ≡ any_but id self }
     {

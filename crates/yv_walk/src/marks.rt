@@ -43,17 +43,21 @@ impl Marks {
     /// The least number from this one on that has a mark.
     pub(crate) fn next(&self, from: u32) -> Option<u32>
         ensures behind { IfSome result (λ next. from ≤ next) }
-        ensures none { (n : ℕ) → from ≤ n → is_before n result ≡ true → mark_at self.now n ≡ Nothing }
+        ensures none { (n : ℕ) → from ≤ n → is_before n result ≡ true → mark_at self.now n
+            ≡ Nothing }
     {
         let (number, _) = self.rows.range(from..).next()?;
         Some(*number)
     }
 
-    /// Marks the choices and cases that contain a node that exists. It fails only if memory runs out, and then each mark is as before.
+    /// Marks the choices and cases that contain a node that exists. It fails only if memory runs
+    /// out, and then each mark is as before.
     pub fn mark(&mut self, schema: &Schema, id: NodeId) -> Result<(), AllocError>
         requires { id.0 < length schema.now.nodes }
-        ensures marks { OnOk result ((a : NodeId) → a.0 < length schema.now.nodes → passes schema.now a ≡ true
-            → mark_at self.new a.0 ≡ with_node (holds (rank a) (below schema.now a) id) (mark_at self.old a.0) id) }
+        ensures marks { OnOk result
+            ((a : NodeId) → a.0 < length schema.now.nodes → passes schema.now a ≡ true
+            → mark_at self.new a.0
+            ≡ with_node (holds (rank a) (below schema.now a) id) (mark_at self.old a.0) id) }
         ensures same { OnErr result ((n : ℕ) → mark_at self.new n ≡ mark_at self.old n) }
     {
         self.make_room(schema, id)?;
@@ -61,7 +65,8 @@ impl Marks {
         Ok(())
     }
 
-    // Makes room for the marks of the choices and cases that contain a node, so that none of them can fail.
+    // Makes room for the marks of the choices and cases that contain a node, so that none of them
+    // can fail.
     fn make_room(&mut self, schema: &Schema, id: NodeId) -> Result<(), AllocError>
         requires { id.0 < length schema.now.nodes }
         ensures same { (n : ℕ) → mark_at self.new n ≡ mark_at self.old n }
@@ -91,7 +96,8 @@ impl Marks {
         requires node { id.0 < length schema.now.nodes }
         requires room { HasRoomAround schema.now self.old id }
         ensures { (a : NodeId) → a.0 < length schema.now.nodes → passes schema.now a ≡ true
-            → mark_at self.new a.0 ≡ with_node (holds (rank a) (below schema.now a) id) (mark_at self.old a.0) id }
+            → mark_at self.new a.0
+            ≡ with_node (holds (rank a) (below schema.now a) id) (mark_at self.old a.0) id }
     {
         let mut here = schema.node(id).parent();
         while is_passed(schema, here) {
@@ -102,7 +108,8 @@ impl Marks {
 
     fn mark_number(&mut self, number: u32, id: NodeId)
         requires { has_room self.old number ≡ true }
-        ensures marks { (n : ℕ) → mark_at self.new n ≡ with_node (number == n) (mark_at self.old n) id }
+        ensures marks { (n : ℕ) → mark_at self.new n
+            ≡ with_node (number == n) (mark_at self.old n) id }
         ensures keeps { (n : ℕ) → has_room self.old n ≡ true → has_room self.new n ≡ true }
     {
         if let Some(mark) = self.rows.get_mut(&number) {

@@ -42,7 +42,9 @@ impl<'v> WrittenValues<'v> {
 
     /// Keeps a value, where the number has none yet.
     pub(crate) fn keep(&mut self, number: u32, value: &'v Value) -> Result<(), AllocError>
-        ensures { OnOk result ((n : ℕ) → value_at self.new n ≡ keep_first (value_at self.old) number (view value.now) n) }
+        ensures { OnOk result
+            ((n : ℕ) → value_at self.new n
+            ≡ keep_first (value_at self.old) number (view value.now) n) }
     {
         if self.get(number).is_none() {
             self.values.insert(number, value)?;

@@ -1,4 +1,5 @@
--- The machine that the reader follows, one token at a time; cited by private clauses alone. What tokens spell is Grammar's.
+-- The machine that the reader follows, one token at a time; cited by private clauses alone. What
+-- tokens spell is Grammar's.
 use Rattle.std.specs.Prelude.{ℕ, Bool, ◌==◌, ◌&&◌, ◌||◌, cond, List, [], ◌∷◌, length, nat_lt}
 use Rattle.yv_statement.specs.Tree.{Tree}
 use Rattle.yv_statement.specs.Builder.{bare, push_child, with_argument, with_more}
@@ -7,8 +8,7 @@ use Rattle.yv_source.specs.Place.{line_of}
 use Rattle.yv_source.specs.Pieces.{Piece, Word, Single, Double, Semicolon, Open, Close, Plus, until, begins, Token}
 use Rattle.yv_source.specs.Quotes.{quoted_value}
 use Rattle.yv_text_if_feature.specs.Names.{is_identifier}
-use Rattle.yv_source.specs.Inner.Place.{place_of}
-use Rattle.yv_source.specs.declared.place.Place.{Place}
+use Rattle.yv_source.specs.Inner.Place.{Place, place_of}
 use Rattle.yv_source.specs.declared.machine.Phase.{Phase}
 use Rattle.yv_source.specs.declared.machine.Phase.TheVariants.{Between, Named, Argued, Said, Joined, Done}
 
@@ -20,7 +20,8 @@ behind_colon (b ∷ rest) = cond (b == colon) rest (behind_colon rest)
 abbrev pub is_keyword : List ℕ → Bool
 is_keyword w = is_identifier w || (is_identifier (until (begins colon) w) && is_identifier (behind_colon w))
 
--- the open statements, the innermost first, with what was read of that one; or why a token isn't taken
+-- the open statements, the innermost first, with what was read of that one; or why a token isn't
+-- taken
 pub data Step : Type 0 where
   Next : (stack : List Tree) → Phase → Step
   Wrong : Step

@@ -1,24 +1,34 @@
--- Places as the code keeps them; cited by private clauses alone.
-use Rattle.std.specs.Prelude.{◌≡◌, ℕ, ◌+◌, ◌≤◌, ◌==◌, count_by, IsTrue, List, length, take}
+-- Places as the reader counts them; cited by private clauses alone.
+use Rattle.std.specs.Prelude.{◌≡◌, ℕ, ◌+◌, ◌≤◌, IsTrue, List, length, take}
 use Rattle.std.specs.List.{list_all}
 use Rattle.yv_source.specs.Pieces.{is_blank, Before, UnquotedWord}
-use Rattle.yv_source.specs.Characters.{line_feed}
-use Rattle.yv_source.specs.Place.{line_of, columns, column_of}
-use Rattle.yv_source.specs.declared.place.Place.{Place}
+use Rattle.yv_source.specs.Place.{line_of, column_of}
+use Rattle.yv_source.specs.declared.place.Lines.{Lines}
+
+-- an offset, its line, from 1, and how many columns are before it on its line
+pub record Place : Type 0 where
+  pub at : ℕ
+  pub line : ℕ
+  pub column : ℕ
 
 -- the place behind this text
 abbrev pub place_of : List ℕ → Place
 place_of front = record { at = length front; line = line_of front; column = column_of front }
 
--- the place behind these bytes, which stand at another
-abbrev pub place_after : Place → List ℕ → Place
-place_after p bytes = record { at = p.at + length bytes; line = p.line + count_by (λ b. b == line_feed) bytes; column = columns p.column bytes }
+-- the place at an offset of a text
+abbrev pub place_at : List ℕ → ℕ → Place
+place_at text at = record { at = at; line = line_of (take at text); column = column_of (take at text) }
 
--- the place behind blanks at the front of a text that stands at another
-abbrev pub IsPastBlanks : Place → List ℕ → Place → Type 0
-IsPastBlanks p rest q = (n : ℕ) × (n ≤ length rest) × IsTrue (list_all is_blank (take n rest)) × (q ≡ place_after p (take n rest))
+-- lines were counted in this text, or in a front of it
+pub record AreCounted (lines : Lines) (front : List ℕ) : Type 0 where
+  pub within : lines.at ≤ length front
+  pub line : lines.line ≡ line_of (take lines.at front)
 
--- the same, but behind an unquoted text the place stays
-abbrev pub IsPastGap : Before → Place → List ℕ → Place → Type 0
-IsPastGap UnquotedWord p rest q = q ≡ p
-IsPastGap _ p rest q = IsPastBlanks p rest q
+-- behind blanks at an offset, which a text begins with
+abbrev pub IsPastBlanks : ℕ → List ℕ → ℕ → Type 0
+IsPastBlanks at rest end = (n : ℕ) × (n ≤ length rest) × IsTrue (list_all is_blank (take n rest)) × (end ≡ at + n)
+
+-- the same, but behind an unquoted text the offset stays
+abbrev pub IsPastGap : Before → ℕ → List ℕ → ℕ → Type 0
+IsPastGap UnquotedWord at rest end = end ≡ at
+IsPastGap _ at rest end = IsPastBlanks at rest end

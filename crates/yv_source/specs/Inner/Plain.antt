@@ -1,7 +1,10 @@
--- Characters that stripping and escapes leave as they are, and those that are legal at first sight; cited by private
--- clauses alone.
+-- Characters that stripping and escapes leave as they are, and those that are legal at first sight;
+-- cited by private clauses alone.
 use Rattle.std.specs.Prelude.{ℕ, Bool, not, ◌==◌, ◌&&◌, ◌||◌, nat_le}
 use Rattle.yv_source.specs.Characters.{tab, line_feed, carriage_return, space, backslash}
+
+abbrev pub is_no_feed : ℕ → Bool
+is_no_feed c = not (c == line_feed)
 
 abbrev pub is_plain : ℕ → Bool
 is_plain c = not (c == line_feed) && not (c == backslash)

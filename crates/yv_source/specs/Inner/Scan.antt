@@ -1,4 +1,5 @@
--- The first piece of a text, as the scanner finds it; cited by private clauses alone. What may stand at a place is Pieces'.
+-- The first piece of a text, as the scanner finds it; cited by private clauses alone. What may
+-- stand at a place is Pieces'.
 use Rattle.std.specs.Prelude.{ℕ, Bool, true, false, ◌==◌, ◌&&◌, ◌||◌, cond, List, [], ◌∷◌, length, Option, Some, None}
 use Rattle.yv_source.specs.Characters.{line_feed, double_quote, single_quote, asterisk, plus_sign, slash, semicolon, backslash, opening_brace, closing_brace}
 use Rattle.yv_source.specs.Pieces.{Piece, Blank, LineComment, BlockComment, Word, Single, Double, Semicolon, Open, Close, Plus, is_blank, begins, begins_two, until, ends_word, up_to_quote, Before, Apart, UnquotedWord, QuotedText}

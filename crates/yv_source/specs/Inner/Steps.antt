@@ -19,7 +19,8 @@ piece_of token.Open = pieces.Open
 piece_of token.Close = pieces.Close
 piece_of token.Plus = pieces.Plus
 
--- the open statements behind a step, the innermost first, and what was answered are those of the machine
+-- the open statements behind a step, the innermost first, and what was answered are those of the
+-- machine
 abbrev pub Gives : Result Phase Halt → List Tree → Step → Type 0
 Gives (Ok phase) stack s = s ≡ Next stack phase
 Gives (Err halt.Wrong) stack s = s ≡ Wrong

@@ -4,7 +4,7 @@ use Rattle.yv_statement.specs.Tree.{Tree}
 use Rattle.yv_source.specs.Pieces.{Piece, Word, Single, Double, Semicolon, Open, Close, Plus, Before, Apart, UnquotedWord, QuotedText, past_gap}
 use Rattle.yv_source.specs.Inner.Machine.{Step, Next, step_at}
 use Rattle.yv_source.specs.Outcome.{most_deep}
-use Rattle.yv_source.specs.declared.place.Place.{Place}
+use Rattle.yv_source.specs.Inner.Place.{Place}
 use Rattle.yv_source.specs.declared.machine.Phase.{Phase}
 use Rattle.yv_source.specs.declared.scan.FoundPiece.{FoundPiece}
 use Rattle.yv_source.specs.declared.scan.FoundPiece.TheVariants as found

@@ -1,13 +1,14 @@
 -- The states of the writer of a double-quoted text; cited by private clauses alone. What such a
 -- text says is Quoted's.
-use Rattle.std.specs.Prelude.{◌≡◌, ℕ, ◌-◌, zero, suc, Bool, true, false, not, ◌==◌, ◌&&◌, ◌||◌, cond, IsTrue, List, [], ◌∷◌, ◌++◌, length, ◌⊎◌}
+use Rattle.std.specs.Prelude.{◌≡◌, ◌≤◌, nat_lt, slice_index, ℕ, ◌-◌, zero, suc, Bool, true, false, not, ◌==◌, ◌&&◌, ◌||◌, cond, IsTrue, List, [], ◌∷◌, ◌++◌, length, ◌⊎◌}
 use Rattle.std.specs.List.{list_all}
 use Rattle.std.specs.Char.{encode_utf8}
 use Rattle.yv_source.specs.Characters.{tab, line_feed, carriage_return, space, double_quote, backslash, letter_n, letter_t}
+use Rattle.yv_source.specs.Escapes.{is_escape}
 use Rattle.yv_source.specs.Quotes.{is_gap}
 
--- the bytes so far, those of spaces and tabs that may stand before a line break, whether a CR may, whether a backslash
--- stands before, and how many columns of the line are still stripped
+-- the bytes so far, those of spaces and tabs that may stand before a line break, whether a CR may,
+-- whether a backslash stands before, and how many columns of the line are still stripped
 pub record WriterState : Type 0 where
   pub out : List ℕ
   pub gap : List ℕ
@@ -119,3 +120,23 @@ abbrev pub Runs : WriterState → List ℕ → WriterState → Type 0
 Runs w run x =
     ((run ≡ []) × (x ≡ w))
     ⊎ (IsTrue (is_at_rest w) × IsTrue (list_all is_in_run run) × IsTrue (ends_well run) × (x ≡ with_run run w))
+
+-- characters in order
+abbrev pub take_each : ℕ → List ℕ → WriterState → WriterState
+take_each indent [] w = w
+take_each indent (c ∷ cs) w = take_each indent cs (take_in indent c w)
+
+abbrev pub is_ascii : ℕ → Bool
+is_ascii c = nat_lt c 128
+
+-- a text begins with an escape, which says this character
+pub record BeginsEscape (text : List ℕ) (said : ℕ) : Type 0 where
+  pub room : 2 ≤ length text
+  pub slash : slice_index text 0 ≡ backslash
+  pub letter : IsTrue (is_escape (slice_index text 1))
+  pub says : encode_utf8 said ≡ escape_bytes (slice_index text 1)
+
+-- characters of ASCII were taken, however much is stripped of a line
+pub record TakesEach (w : WriterState) (run : List ℕ) (x : WriterState) : Type 0 where
+  pub ascii : IsTrue (list_all is_ascii run)
+  pub each : (indent : ℕ) → x ≡ take_each indent run w

@@ -5,9 +5,9 @@ use Rattle.yv_link_scopes.specs.Files.{Files, brief_of}
 use Rattle.yv_link_scopes.specs.Views.{lent_in}
 use Rattle.yv_link_scopes.specs.RowList.{rows_of}
 use Rattle.yv_link_scopes.specs.Rows.{Row}
-use Rattle.yv_expand.specs.Limit.{given_at, given_before}
+use Rattle.yv_expand.specs.StatementBlocks.{given_at, given_before, is_augment, is_node_or_uses, those}
 use Rattle.yv_expand.specs.Tree.{all_of, count, item_list}
-use Rattle.yv_expand.specs.Expands.{blocks_of, is_augment, is_item, those}
+use Rattle.yv_expand.specs.Expands.{blocks_of}
 use Rattle.yv_expand.specs.InnerItems.{ArePlaced, Lists, Give, origins, top_place}
 use Rattle.yv_expand.proofs.Expanding.{added_are, files_give, firsts_are, whole_is}
 use Rattle.yv_expand.proofs.Filing.{order_lists}
@@ -22,10 +22,10 @@ add_items-requires-clause-fits c =
     let order : List ℕ = c.args.order.now in
     let given = files_give files marks order c.args.limit c.requires.within c.requires.fits in
     let numbers : List ℕ = given_before (map brief_of files) rows marks (length files) in
-    let tops : ArePlaced (top_place is_item (map brief_of files)) rows (length (map brief_of files)) c.deref.result.now =
-    subst (λ (l : Lists). ArePlaced (top_place is_item (map brief_of files)) rows (length (map brief_of files)) l) (sym c.deref.ensures.value) c.in_ok-tops.ensures in
-    let firsts : c.deref-2.result.now ≡ those is_item rows (flat_map (given_at (map brief_of files) rows marks) order) =
-    c.deref-2.ensures.value ∙ c.in_ok-own_firsts.ensures ∙ order_lists (map brief_of files) rows is_item c.deref.result.now marks order tops c.requires.within in
+    let tops : ArePlaced (top_place is_node_or_uses (map brief_of files)) rows (length (map brief_of files)) c.deref.result.now =
+    subst (λ (l : Lists). ArePlaced (top_place is_node_or_uses (map brief_of files)) rows (length (map brief_of files)) l) (sym c.deref.ensures.value) c.in_ok-tops.ensures in
+    let firsts : c.deref-2.result.now ≡ those is_node_or_uses rows (flat_map (given_at (map brief_of files) rows marks) order) =
+    c.deref-2.ensures.value ∙ c.in_ok-own_firsts.ensures ∙ order_lists (map brief_of files) rows is_node_or_uses c.deref.result.now marks order tops c.requires.within in
     let own_give : Give (map brief_of files) rows (origins c.deref-2.result.now) (all_of given.trees) =
     subst (λ (l : List ℕ). Give (map brief_of files) rows (origins l) (all_of given.trees)) (sym firsts) given.tops in
     let few : count (all_of given.trees) + count (all_of given.added) ≤ c.args.limit =
@@ -43,17 +43,17 @@ add_items-requires-2-clause-fits c =
     let order : List ℕ = c.args.order.now in
     let given = files_give files marks order c.args.limit c.requires.within c.requires.fits in
     let numbers : List ℕ = given_before (map brief_of files) rows marks (length files) in
-    let tops : ArePlaced (top_place is_item (map brief_of files)) rows (length (map brief_of files)) c.deref.result.now =
-    subst (λ (l : Lists). ArePlaced (top_place is_item (map brief_of files)) rows (length (map brief_of files)) l) (sym c.deref.ensures.value) c.in_ok-tops.ensures in
-    let firsts : c.deref-2.result.now ≡ those is_item rows (flat_map (given_at (map brief_of files) rows marks) order) =
-    c.deref-2.ensures.value ∙ c.in_ok-own_firsts.ensures ∙ order_lists (map brief_of files) rows is_item c.deref.result.now marks order tops c.requires.within in
+    let tops : ArePlaced (top_place is_node_or_uses (map brief_of files)) rows (length (map brief_of files)) c.deref.result.now =
+    subst (λ (l : Lists). ArePlaced (top_place is_node_or_uses (map brief_of files)) rows (length (map brief_of files)) l) (sym c.deref.ensures.value) c.in_ok-tops.ensures in
+    let firsts : c.deref-2.result.now ≡ those is_node_or_uses rows (flat_map (given_at (map brief_of files) rows marks) order) =
+    c.deref-2.ensures.value ∙ c.in_ok-own_firsts.ensures ∙ order_lists (map brief_of files) rows is_node_or_uses c.deref.result.now marks order tops c.requires.within in
     let own_give : Give (map brief_of files) rows (origins c.deref-2.result.now) (all_of given.trees) =
     subst (λ (l : List ℕ). Give (map brief_of files) rows (origins l) (all_of given.trees)) (sym firsts) given.tops in
     let augments : ArePlaced (top_place is_augment (map brief_of files)) rows (length (map brief_of files)) c.deref-3.result.now =
     subst (λ (l : Lists). ArePlaced (top_place is_augment (map brief_of files)) rows (length (map brief_of files)) l) (sym c.deref-3.ensures.value) c.in_ok-applied.ensures in
     let applied : c.deref-4.result.now ≡ those is_augment rows numbers =
     c.deref-4.ensures.value ∙ firsts_are is_augment files marks c.deref-3.result.now _ augments c.in_ok-augments.ensures in
-    let added : c.deref-5.result.now ≡ those is_item rows (blocks_of rows numbers) =
+    let added : c.deref-5.result.now ≡ those is_node_or_uses rows (blocks_of rows numbers) =
     c.deref-5.ensures.value ∙ added_are files c.in_ok-blocks.blocks.own.items numbers c.deref-4.result.now _ c.in_ok-blocks.ensures.own applied c.in_ok-added.ensures in
     let more_give : Give (map brief_of files) rows (origins c.deref-5.result.now) (all_of given.added) =
     subst (λ (l : List ℕ). Give (map brief_of files) rows (origins l) (all_of given.added)) (sym added) given.others in
@@ -76,17 +76,17 @@ returns-clause-expands c =
     let order : List ℕ = c.args.order.now in
     let given = files_give files marks order c.args.limit c.requires.within c.requires.fits in
     let numbers : List ℕ = given_before (map brief_of files) rows marks (length files) in
-    let tops : ArePlaced (top_place is_item (map brief_of files)) rows (length (map brief_of files)) c.deref.result.now =
-    subst (λ (l : Lists). ArePlaced (top_place is_item (map brief_of files)) rows (length (map brief_of files)) l) (sym c.deref.ensures.value) c.in_ok-tops.ensures in
-    let firsts : c.deref-2.result.now ≡ those is_item rows (flat_map (given_at (map brief_of files) rows marks) order) =
-    c.deref-2.ensures.value ∙ c.in_ok-own_firsts.ensures ∙ order_lists (map brief_of files) rows is_item c.deref.result.now marks order tops c.requires.within in
+    let tops : ArePlaced (top_place is_node_or_uses (map brief_of files)) rows (length (map brief_of files)) c.deref.result.now =
+    subst (λ (l : Lists). ArePlaced (top_place is_node_or_uses (map brief_of files)) rows (length (map brief_of files)) l) (sym c.deref.ensures.value) c.in_ok-tops.ensures in
+    let firsts : c.deref-2.result.now ≡ those is_node_or_uses rows (flat_map (given_at (map brief_of files) rows marks) order) =
+    c.deref-2.ensures.value ∙ c.in_ok-own_firsts.ensures ∙ order_lists (map brief_of files) rows is_node_or_uses c.deref.result.now marks order tops c.requires.within in
     let own_give : Give (map brief_of files) rows (origins c.deref-2.result.now) (all_of given.trees) =
     subst (λ (l : List ℕ). Give (map brief_of files) rows (origins l) (all_of given.trees)) (sym firsts) given.tops in
     let augments : ArePlaced (top_place is_augment (map brief_of files)) rows (length (map brief_of files)) c.deref-3.result.now =
     subst (λ (l : Lists). ArePlaced (top_place is_augment (map brief_of files)) rows (length (map brief_of files)) l) (sym c.deref-3.ensures.value) c.in_ok-applied.ensures in
     let applied : c.deref-4.result.now ≡ those is_augment rows numbers =
     c.deref-4.ensures.value ∙ firsts_are is_augment files marks c.deref-3.result.now _ augments c.in_ok-augments.ensures in
-    let added : c.deref-5.result.now ≡ those is_item rows (blocks_of rows numbers) =
+    let added : c.deref-5.result.now ≡ those is_node_or_uses rows (blocks_of rows numbers) =
     c.deref-5.ensures.value ∙ added_are files c.in_ok-blocks.blocks.own.items numbers c.deref-4.result.now _ c.in_ok-blocks.ensures.own applied c.in_ok-added.ensures in
     let more_give : Give (map brief_of files) rows (origins c.deref-5.result.now) (all_of given.added) =
     subst (λ (l : List ℕ). Give (map brief_of files) rows (origins l) (all_of given.added)) (sym added) given.others in

@@ -1,5 +1,5 @@
 use Rattle.std.proofs.Common.{◌≡◌, drop, map}
-use Rattle.yv_expand_augments.specs.Kinds.{kind_in}
+use Rattle.yv_expand_rounds.specs.Kinds.{kind_in}
 use Rattle.yv_expand_augments.proofs.kinds.kind_in.Given as goal
 
 abbrev pub invariant-loop-entry : goal.invariant-loop-entry

@@ -1,7 +1,7 @@
 use Rattle.std.proofs.Common.{◌≡◌, List, map, take}
 use Rattle.yv_link_scopes.specs.Files.{Briefs}
 use Rattle.yv_link_scopes.specs.Rows.{Row}
-use Rattle.yv_expand_paths.specs.Paths.{step_of}
+use Rattle.yv_expand_paths.specs.InnerSteps.{step_of}
 use Rattle.yv_expand_paths.specs.PathTables.{AreNames}
 use Rattle.yv_expand_paths.specs.InnerPrefixes.{IsPrefixTable}
 use Rattle.yv_expand_paths.proofs.paths.path.Given as goal

@@ -1,8 +1,9 @@
 use Rattle.std.proofs.Common.{rules, ◌≡◌, ℕ, List, length, map, string_bytes, ◌++◌, ◌∷◌, [], ap, ◌∙◌, subst, min, append_assoc}
 use Rattle.yv_statement.specs.Codes.{name_of}
 use Rattle.yv_streams.specs.Files.{file_of}
-use Rattle.yv_refusal_notes.specs.Excerpt.{Explains, ShowsPlace}
-use Rattle.yv_refusal_notes.proofs.Quoting.{grown}
+use Rattle.yv_note_text.specs.Excerpt.{ShowsPlace}
+use Rattle.yv_refusal_notes.specs.Explanations.{Explains}
+use Rattle.yv_note_text.proofs.Quoting.{grown}
 use Rattle.yv_refusal_notes.proofs.Speaking.{speaks_longer}
 use Rattle.yv_refusal_notes.proofs.explain.explanation.Goals as goal
 

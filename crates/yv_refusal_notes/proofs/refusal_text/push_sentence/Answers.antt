@@ -4,7 +4,7 @@ use Rattle.std.specs.Option.{option_and_then}
 use Rattle.yv_link_scopes.specs.Rows.{Row}
 use Rattle.yv_link_scopes.specs.Views.{rows_in}
 use Rattle.yv_refusal_notes.specs.Subject.{Names, is_at, subject}
-use Rattle.yv_refusal_notes.proofs.Quoting.{named_behind}
+use Rattle.yv_note_text.proofs.Quoting.{named_behind}
 use Rattle.yv_refusal_notes.proofs.refusal_text.push_sentence.Goals as goal
 
 pub returns-clause-names : goal.returns-clause-names

@@ -2,8 +2,7 @@ use Rattle.std.proofs.Common.{◌≡◌, ◌<◌, ℕ, List, length, ◌∙◌, 
 use Rattle.std.specs.List.{flat_map}
 use Rattle.yv_link_scopes.specs.Views.{files_in, rows_in}
 use Rattle.yv_link_scopes.specs.Rows.{Row}
-use Rattle.yv_expand.specs.Weigh.{block_of}
-use Rattle.yv_expand.specs.Expands.{is_item, is_input, is_output, is_augment, those}
+use Rattle.yv_expand.specs.StatementBlocks.{block_of, is_node_or_uses, is_input, is_output, is_augment, those}
 use Rattle.yv_expand.specs.InnerItems.{Lists, numbers_at}
 use Rattle.yv_expand.proofs.Filing.{block_lists, given_lists}
 use Rattle.yv_expand.proofs.blocks.Blocks.read.Goals as goal
@@ -14,8 +13,8 @@ returns c =
     let rows : List Row = rows_in c.args.rows.now in
     let lists : Lists = c.in_ok-own.own.items in
     let augments : Lists = c.in_ok-augments.augments.items in
-    let own : (k : ℕ) → k < length rows → numbers_at lists k ≡ those is_item rows (block_of rows k) =
-    λ k within. block_lists files rows is_item lists k c.in_ok-own.ensures within in
+    let own : (k : ℕ) → k < length rows → numbers_at lists k ≡ those is_node_or_uses rows (block_of rows k) =
+    λ k within. block_lists files rows is_node_or_uses lists k c.in_ok-own.ensures within in
     record {
       own = own;
       inputs = λ k within. block_lists files rows is_input _ k c.in_ok-of_blocks.ensures within;

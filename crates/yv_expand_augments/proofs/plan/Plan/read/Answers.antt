@@ -6,7 +6,8 @@ use Rattle.yv_link_scopes.specs.Rows.{Row}
 use Rattle.yv_link_scopes.specs.Views.{lent_in, rows_in}
 use Rattle.yv_base_tables.specs.Families.{by_place}
 use Rattle.yv_expand_augments.specs.AugmentOrder.{giving_places, is_augment, place_before}
-use Rattle.yv_expand_augments.specs.RefineTargets.{is_refine, refine_places}
+use Rattle.yv_expand.specs.StatementBlocks.{is_refine}
+use Rattle.yv_expand_augments.specs.RefineTargets.{refine_places}
 use Rattle.yv_expand_augments.specs.MissingTargets.{augment_places}
 use Rattle.yv_expand_augments.proofs.Counting.{giving_long, giving_within, passing_within}
 use Rattle.yv_expand_augments.proofs.plan.Plan.read.Goals as goal

@@ -10,7 +10,7 @@ use Rattle.yv_expand_augments.specs.Augmentation.{path_in}
 use Rattle.yv_expand_augments.specs.InnerRefineTargets.{HasNumber}
 use Rattle.yv_expand_augments.specs.InnerPaths.{target_of_path}
 use Rattle.yv_expand_augments.specs.InnerPlan.{whole_in}
-use Rattle.yv_expand_augments.specs.Kinds.{is_uses}
+use Rattle.yv_expand_rounds.specs.Kinds.{is_uses}
 use Rattle.yv_expand_augments.specs.RefineTargets.{node_meant, refined_at, refines_in}
 use Rattle.yv_expand_augments.specs.Spots.{Whole}
 use Rattle.yv_expand_augments.specs.declared.refine_targets.UsesTargets.{UsesTargets}

@@ -12,7 +12,7 @@ use Rattle.yv_expand_augments.specs.AugmentOrder.{augments_giving}
 use Rattle.yv_expand_augments.specs.Augmentation.{turns_from}
 use Rattle.yv_expand_augments.specs.InnerPlan.{whole_in}
 use Rattle.yv_expand_augments.specs.InnerSchedule.{AreStretches}
-use Rattle.yv_expand_augments.specs.Kinds.{is_uses}
+use Rattle.yv_expand_rounds.specs.Kinds.{is_uses}
 use Rattle.yv_expand_augments.specs.Spots.{Whole, copies_of}
 use Rattle.yv_expand_augments.specs.MissingTargets.{MissesInTurn, MissesOf, augments_in}
 use Rattle.yv_expand_augments.specs.declared.schedule.Stretch.{Stretch}

@@ -2,7 +2,8 @@ use Rattle.std.proofs.Common.{◌≡◌, ◌++◌, ◌∷◌, [], ◌+◌, ℕ, 
 use Rattle.std.proofs.lemmas.List.{length-map, length_push}
 use Rattle.yv_link_scopes.specs.Rows.{Row}
 use Rattle.yv_link_scopes.specs.Views.{rows_in}
-use Rattle.yv_expand_paths.specs.Names.{node_name, own_names, place_of}
+use Rattle.yv_expand_paths.specs.Names.{node_name}
+use Rattle.yv_expand_paths.specs.InnerNameNumbers.{own_names, place_of}
 use Rattle.yv_expand_paths.specs.InnerNames.{table_of}
 use Rattle.yv_expand_paths.proofs.Placing.{place_front}
 use Rattle.yv_expand_paths.proofs.Keeping.{told_more, numbers_behind}

@@ -4,7 +4,7 @@ use Rattle.std.proofs.lemmas.List.{length_push}
 use Rattle.yv_link_scopes.specs.Files.{Briefs}
 use Rattle.yv_link_scopes.specs.Rows.{Row, row}
 use Rattle.yv_link_scopes.specs.Views.{files_in, rows_in}
-use Rattle.yv_expand_paths.specs.Paths.{path_at}
+use Rattle.yv_expand_paths.specs.InnerSteps.{path_at}
 use Rattle.yv_expand_paths.specs.PathTables.{steps_of}
 use Rattle.yv_expand_paths.proofs.Reading.{row_read, rows_count, each_more, each_all}
 use Rattle.yv_expand_paths.proofs.paths.Paths.read.Goals as goal

@@ -1,7 +1,7 @@
 use Rattle.std.proofs.Common.{◌≡◌, ℕ, ◌<◌, length}
 use Rattle.std.specs.List.{slice_get}
 use Rattle.yv_link_scopes.specs.Views.{files_in, rows_in}
-use Rattle.yv_expand_paths.specs.Paths.{path_at}
+use Rattle.yv_expand_paths.specs.InnerSteps.{path_at}
 use Rattle.yv_expand_paths.specs.PathTables.{steps_of}
 use Rattle.yv_expand_paths.proofs.paths.Paths.read.Given as goal
 

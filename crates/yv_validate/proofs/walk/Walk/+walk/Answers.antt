@@ -24,23 +24,25 @@ use Rattle.yv_leafref_values.specs.declared.scope.RuleScope.TheVariants.{Always,
 use Rattle.yv_validate.specs.declared.fault.FaultKind.TheVariants.{State}
 use Rattle.yv_validate.specs.Faults.{array_faults, count_faults, end_faults, flaw_if, leafs_of, state_faults, unique_faults}
 use Rattle.yv_validate.specs.InnerMemory.{Remembers, RemembersEach}
-use Rattle.yv_validate.specs.InnerNames.{is_named, keys_at, uniques_at}
+use Rattle.yv_quiet_nodes.specs.NamedLeafs.{is_named, keys_at, uniques_at}
 use Rattle.yv_validate.specs.InnerNotes.{GainsBy, list_tuple, noted_at, tuple_in}
-use Rattle.yv_validate.specs.InnerQuiet.{IsEmptied}
+use Rattle.yv_quiet_nodes.specs.Quiet.{IsEmptied}
 use Rattle.yv_validate.specs.InnerTrail.{places}
 use Rattle.yv_validate.specs.InnerWalk.{cases_met, children_met, Closes, container_at, data_met, entries_at, Grows, GrowsWith, inside_at, leaf_at, list_at, next_of, node_at, object_at, one_met, ones_met, plain_at, scope_at, spot_at, ProgressView, progress_view, with_node}
 use Rattle.yv_validate.specs.Repeats.{repeat_of}
 use Rattle.yv_validate.specs.Values.{leaf_in}
 use Rattle.yv_validate.specs.Work.{tuple_work, uniques_work}
-use Rattle.yv_validate.proofs.Beneath.{AreKids, ones_drop, ones_start, other_kind, rank_is, split_at}
+use Rattle.yv_validate.proofs.Beneath.{AreKids, ones_drop, ones_start, other_kind}
+use Rattle.yv_quiet_nodes.proofs.Children.{rank_is, split_at}
 use Rattle.yv_validate.proofs.Closed.{arm_closes, at_case, at_choice, at_data, at_operation, at_other, choice_closes, data_absent, data_asked, data_left, data_nothing, no_default, other_closes, state_closes}
 use Rattle.yv_validate.proofs.Entered.{container_none, container_open, container_some, object_grows}
 use Rattle.yv_validate.proofs.Grown.{grows_alone, grows_as, grows_nothing, grows_only, grows_with, in_use_other, in_use_unasked, next_behind, not_fewer, turn, visited}
 use Rattle.yv_validate.proofs.Items.{end_told, ends, entries_split, entry_grows, many_before, one_more}
 use Rattle.yv_validate.proofs.Meeting.{choice_passes, meets_child, meets_object, scope_is}
-use Rattle.yv_validate.proofs.Asked.{by_key, by_unique}
+use Rattle.yv_quiet_nodes.proofs.Asked.{by_key, by_unique}
 use Rattle.yv_validate.proofs.Noted.{noted_fresh, same_tuple}
 use Rattle.yv_validate.proofs.Own.{gains_array, gains_behind, gains_met, gains_none, notes_done, notes_start, notes_turn}
+use Rattle.yv_validate.proofs.Passing.{past_notes, past_turn}
 use Rattle.yv_validate.proofs.Silent.{emptied_says, one_says, quiet_gains, quiet_grows}
 use Rattle.yv_validate.proofs.Steps.{steps_both}
 use Rattle.yv_validate.proofs.walk.Walk.+walk.Goals as goal
@@ -125,16 +127,17 @@ children-returns-clause-notes t c =
 
 -- ---- cases
 
-pub cases-loop-child-init : goal.cases-loop-child-init
-cases-loop-child-init t c =
+pub cases-loop-place-init : goal.cases-loop-place-init
+cases-loop-place-init t c =
     let k = c.args.self.now.kind in
     let s = c.args.self.now.schema.now in
     let p = c.args.choice in
-    let kids = c.children-child-items in
+    let kids = c.children-children in
     let cs = kids.result.now in
     let ms = members_of c.args.context.now in
     let of = case_scope s p (rank p) (below s p) ms in
     let start : ProgressView = progress_view c.args.progress.now in
+    let place = c.pass_quiet-place in
     let le : rank p ≤ length s.nodes = omega (arith, rank_is s p kids.ensures.sound c.requires.node) in
     let are : AreKids s p cs = record {
       same = kids.ensures.value;
@@ -144,28 +147,41 @@ cases-loop-child-init t c =
       numbers = c.child_numbers.ensures s p kids.ensures.sound le;
     } in
     record {
-      grows = λ outer entry x h. grows_as k s start x _ _ (ones_start k s p cs of (spot_at s c.args.path.now c.args.position outer entry) (next_of start) ms are) h;
-      notes = λ spot next lt. notes_start k s of cs ms spot next c.args.notes.now (cases_met k s p ms spot next) lt (ones_start k s p cs of spot next ms are);
+      grows = λ outer entry x h.
+          let spot : Spot = spot_at s c.args.path.now c.args.position outer entry in
+          past_turn c.nothing_met.ensures c.met_behind.ensures c.kept_objects_are_entered.ensures k s of ms spot start start (cases_met k s p ms spot (next_of start)) p cs 0 place.result place.new.meter are place.ensures
+          (λ y g. grows_as k s start y _ _ (ones_start k s p cs of spot (next_of start) ms are) g) x h;
+      notes = λ spot next lt. past_notes k s of ms spot c.args.notes.now c.args.notes.now (cases_met k s p ms spot next) p cs 0 place.result start.steps place.new.meter are place.ensures
+          (notes_start k s of cs ms spot next c.args.notes.now (cases_met k s p ms spot next) lt (ones_start k s p cs of spot next ms are));
     }
 
-pub cases-loop-child-preserved : goal.cases-loop-child-preserved
-cases-loop-child-preserved t c =
+pub cases-loop-place-preserved : goal.cases-loop-place-preserved
+cases-loop-place-preserved t c =
     let k = c.args.self.now.kind in
     let s = c.args.self.now.schema.now in
     let p = c.args.choice in
-    let kids = c.children-child-items in
+    let kids = c.children-children in
     let cs = kids.result.now in
     let ms = members_of c.args.context.now in
     let of = case_scope s p (rank p) (below s p) ms in
-    let i = c.loop-child.child-index in
+    let i = c.loop-place.place in
     let d : NodeId = record { 0 = 0 } in
     let n : NodeId = slice_index_or cs i d in
-    let lt = c.loop-child-test.true in
+    let lt = c.loop-place-test.true in
     let left = drop i cs in
     let rest = drop (i + 1) cs in
+    let place = c.pass_quiet-place-in-loop-place in
     let start : ProgressView = progress_view c.args.progress.now in
-    let old : ProgressView = progress_view c.loop-child.progress in
-    let new : ProgressView = progress_view c.meet.new.progress in
+    let old : ProgressView = progress_view c.loop-place.progress in
+    let mid : ProgressView = progress_view c.meet.new.progress in
+    let le : rank p ≤ length s.nodes = omega (arith, rank_is s p kids.ensures.sound c.requires.node) in
+    let are : AreKids s p cs = record {
+      same = kids.ensures.value;
+      each = kids.ensures.each;
+      trees = kids.ensures.trees;
+      sound = kids.ensures.sound;
+      numbers = c.child_numbers.ensures s p kids.ensures.sound le;
+    } in
     let meets = meets_child s c.args.context.now p cs i d c.requires.meets kids.ensures.value lt in
     let those : c.existence_of-those.result ≡ tree_standing n.0 (tree_of s n) ms = c.existence_of-those.ensures meets.context meets.stands in
     let scope : c.case_scope-scope.result ≡ of n.0 (tree_of s n) =
@@ -174,16 +190,20 @@ cases-loop-child-preserved t c =
     record {
       grows = λ outer entry x later.
           let spot : Spot = spot_at s c.args.path.now c.args.position outer entry in
+          let all : List Meeting = cases_met k s p ms spot (next_of start) in
           let at_scope : RuleScope → List Meeting = λ y. one_met k s (scope_at k s y n) n ms spot (next_of old) in
           let one : List Meeting = at_scope (of n.0 (tree_of s n)) in
-          let grows : Grows k s old new one = grows_as k s old new (at_scope c.case_scope-scope.result) one (ap at_scope scope) (c.in_ok-meet.ensures.grows outer entry) in
-          turn c.met_behind.ensures k s start old new one (ones_met k s of rest ms spot (next_of old + count_entered one)) (ones_met k s of left ms spot (next_of old))
-          (cases_met k s p ms spot (next_of start)) grows (ones_drop k s of spot (next_of old) cs i d ms lt)
-          (c.loop-child.invariant.grows outer entry) x
-          (subst (λ (m : ℕ). Grows k s new x (ones_met k s of rest ms spot m)) (next_behind c.kept_objects_are_entered.ensures k s old new one grows) later);
-      notes = λ spot next less. notes_turn k s of n left rest ms spot c.loop-child.notes c.meet.new.notes c.args.notes.now (cases_met k s p ms spot next)
-          (split_at cs i d lt) (c.loop-child.invariant.notes spot next less)
-          (subst (λ (y : RuleScope). GainsBy s c.loop-child.notes c.meet.new.notes (one_met k s (scope_at k s y n) n ms)) scope c.in_ok-meet.ensures.notes);
+          let grows : Grows k s old mid one = grows_as k s old mid (at_scope c.case_scope-scope.result) one (ap at_scope scope) (c.in_ok-meet.ensures.grows outer entry) in
+          past_turn c.nothing_met.ensures c.met_behind.ensures c.kept_objects_are_entered.ensures k s of ms spot start mid all p cs (i + 1) place.result place.new.meter are place.ensures
+          (λ y g. turn c.met_behind.ensures k s start old mid one (ones_met k s of rest ms spot (next_of old + count_entered one)) (ones_met k s of left ms spot (next_of old)) all
+          grows (ones_drop k s of spot (next_of old) cs i d ms lt) (c.loop-place.invariant.grows outer entry) y
+          (subst (λ (m : ℕ). Grows k s mid y (ones_met k s of rest ms spot m)) (next_behind c.kept_objects_are_entered.ensures k s old mid one grows) g)) x later;
+      notes = λ spot next less.
+          let all : List Meeting = cases_met k s p ms spot next in
+          past_notes k s of ms spot c.meet.new.notes c.args.notes.now all p cs (i + 1) place.result mid.steps place.new.meter are place.ensures
+          (notes_turn k s of n left rest ms spot c.loop-place.notes c.meet.new.notes c.args.notes.now all
+          (split_at cs i d lt) (c.loop-place.invariant.notes spot next less)
+          (subst (λ (y : RuleScope). GainsBy s c.loop-place.notes c.meet.new.notes (one_met k s (scope_at k s y n) n ms)) scope c.in_ok-meet.ensures.notes));
     }
 
 pub cases-returns-clause-grows : goal.cases-returns-clause-grows
@@ -193,11 +213,11 @@ cases-returns-clause-grows t c =
     let p = c.args.choice in
     let ms = members_of c.args.context.now in
     let of = case_scope s p (rank p) (below s p) ms in
-    let cs = c.children-child-items.result.now in
-    let i = c.loop-child.child-index in
-    let now : ProgressView = progress_view c.loop-child.progress in
-    let past : drop i cs ≡ [] = drop_all i cs c.loop-child-test.false in
-    λ outer entry. c.loop-child.invariant.grows outer entry now
+    let cs = c.children-children.result.now in
+    let i = c.loop-place.place in
+    let now : ProgressView = progress_view c.loop-place.progress in
+    let past : drop i cs ≡ [] = drop_all i cs c.loop-place-test.false in
+    λ outer entry. c.loop-place.invariant.grows outer entry now
     (subst (λ (ns : List NodeId). Grows k s now now (ones_met k s of ns ms (spot_at s c.args.path.now c.args.position outer entry) (next_of now)))
     (sym past) (grows_nothing c.nothing_met.ensures k s now))
 
@@ -208,10 +228,10 @@ cases-returns-clause-notes t c =
     let p = c.args.choice in
     let ms = members_of c.args.context.now in
     let of = case_scope s p (rank p) (below s p) ms in
-    let cs = c.children-child-items.result.now in
-    let i = c.loop-child.child-index in
-    λ spot next less. notes_done k s of (drop i cs) ms spot c.loop-child.notes c.args.notes.now (cases_met k s p ms spot next)
-    (drop_all i cs c.loop-child-test.false) (c.loop-child.invariant.notes spot next less)
+    let cs = c.children-children.result.now in
+    let i = c.loop-place.place in
+    λ spot next less. notes_done k s of (drop i cs) ms spot c.loop-place.notes c.args.notes.now (cases_met k s p ms spot next)
+    (drop_all i cs c.loop-place-test.false) (c.loop-place.invariant.notes spot next less)
 
 -- ---- objects
 

@@ -5,10 +5,10 @@ use Rattle.yv_walk.specs.Context.{members_of}
 use Rattle.yv_leafref_values.specs.InUse.{case_scope}
 use Rattle.yv_leafref_values.specs.Meetings.{Spot}
 use Rattle.yv_validate.specs.InnerMemory.{Remembers, RemembersEach}
-use Rattle.yv_validate.specs.InnerNames.{uniques_at}
+use Rattle.yv_quiet_nodes.specs.NamedLeafs.{uniques_at}
 use Rattle.yv_validate.specs.InnerNotes.{list_tuple}
 use Rattle.yv_validate.specs.InnerWalk.{cases_met, children_met, entries_at, Grows, next_of, ones_met, spot_at, ProgressView, progress_view}
-use Rattle.yv_validate.specs.Values.{key_leafs}
+use Rattle.yv_quiet_nodes.specs.NamedLeafs.{key_leafs}
 use Rattle.yv_validate.proofs.Own.{NotesLeft}
 use Rattle.yv_validate.proofs.walk.Walk.+walk.Given as goal
 
@@ -29,21 +29,24 @@ invariant-children-loop-child l =
     }
 
 -- the same of cases
-abbrev pub invariant-cases-loop-child : goal.invariant-cases-loop-child
-invariant-cases-loop-child l =
+abbrev pub invariant-cases-loop-place : goal.invariant-cases-loop-place
+invariant-cases-loop-place l =
     let k = l.self.kind in
     let s = l.self.schema.now in
     let ms = members_of l.context in
     let of = case_scope s l.fn.choice (rank l.fn.choice) (below s l.fn.choice) ms in
-    let left = drop l.child-index l.child-items in
+    let left = drop l.place l.children in
     record {
       grows : (outer : List ℕ) (entry : ℕ) (x : ProgressView)
           → Grows k s (progress_view l.progress) x (ones_met k s of left ms (spot_at s l.path l.fn.position outer entry) (next_of (progress_view l.progress)))
-          → Grows k s (progress_view l.initial.progress) x
-          (cases_met k s l.fn.choice ms (spot_at s l.path l.fn.position outer entry) (next_of (progress_view l.initial.progress)));
+          → Grows k s (progress_view l.fn.progress) x
+          (cases_met k s l.fn.choice ms (spot_at s l.path l.fn.position outer entry) (next_of (progress_view l.fn.progress)));
       notes : (spot : Spot) (next : ℕ) → spot.entry < next
           → NotesLeft k s of left ms spot l.notes l.initial.notes (cases_met k s l.fn.choice ms spot next);
     }
+
+abbrev pub decreases-cases-loop-place : goal.decreases-cases-loop-place
+decreases-cases-loop-place l = length l.children - l.place
 
 -- the same of entries; the indexes know the tuples of those that are done
 abbrev pub invariant-entries-loop-index : goal.invariant-entries-loop-index

@@ -3,15 +3,15 @@ use Rattle.serde_json.specs.Data.{Data}
 use Rattle.serde_json.specs.View.{view}
 use Rattle.yv_values.specs.Count.{count_up}
 use Rattle.yv_validate.specs.Faults.{unique_faults}
-use Rattle.yv_validate.specs.InnerNames.{uniques_at}
+use Rattle.yv_quiet_nodes.specs.NamedLeafs.{uniques_at}
 use Rattle.yv_validate.specs.InnerNotes.{HasTuples, list_tuple}
 use Rattle.yv_validate.specs.InnerTrail.{places}
 use Rattle.yv_validate.specs.Work.{uniques_work}
 use Rattle.yv_validate.proofs.Each.{RemembersSome}
 use Rattle.yv_validate.proofs.walk.Walk.end_uniques.Given as goal
 
--- for an entry that has these values: with the faults and the steps of the statements that are left they are those of all; the indexes of
--- those that are done know the entry
+-- for an entry that has these values: with the faults and the steps of the statements that are left
+-- they are those of all; the indexes of those that are done know the entry
 abbrev pub invariant-loop-number : goal.invariant-loop-number
 invariant-loop-number l =
     let s = l.self.schema.now in

@@ -6,7 +6,8 @@ use Rattle.yv_validate.specs.InnerMemory.{Remembers}
 use Rattle.yv_validate.specs.InnerWalk.{Grows, items_at, next_of, spot_at, ProgressView, progress_view}
 use Rattle.yv_validate.proofs.walk.Walk.items.Given as goal
 
--- what is met at the items that are left leads to what is met at all; the index knows those that are done
+-- what is met at the items that are left leads to what is met at all; the index knows those that
+-- are done
 abbrev pub invariant-loop-index : goal.invariant-loop-index
 invariant-loop-index l =
     let k = l.self.kind in

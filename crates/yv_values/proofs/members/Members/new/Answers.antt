@@ -1,38 +1,10 @@
-use Rattle.std.proofs.Common.{◌≡◌, ◌∙◌, sym, ap, subst, List, Bool, Some, None, cond, map, ◌&&◌}
-use Rattle.std.specs.Cmp.{Equal-is}
-use Rattle.std.specs.List.{dedup}
-use Rattle.std.specs.List.Sorted.{IsSortedByKey}
-use Rattle.std.specs.Ordering.{is_eq}
-use Rattle.std.specs.Rc.{rc_str_bytes}
-use Rattle.std.specs.Str.{bytes_eq}
-use Rattle.std.proofs.lemmas.Cmp.{on_total}
-use Rattle.std.proofs.lemmas.List.Filters.{dedup_is}
-use Rattle.yv_values.specs.declared.members.Member.{Member}
-use Rattle.yv_values.specs.Identities.{RiseById, id_cmp, id_of, identity_in, is_identity}
+use Rattle.std.proofs.Common.{◌∙◌, Bool, Some, None, cond, ap}
+use Rattle.yv_values.specs.Identities.{id_of, is_identity}
 use Rattle.yv_values.specs.Values.{identity}
-use Rattle.yv_values.proofs.Found.{compared, ids_total, same_id}
-use Rattle.yv_values.proofs.Rising.{left_rises, left_same}
+use Rattle.yv_values.proofs.Rising.{moved_same, where_ok}
 use Rattle.yv_values.proofs.members.Members.new.Goals as goal
 
-abbrev same : Member → Member → Bool
-same x y = bytes_eq (rc_str_bytes x.«module») (rc_str_bytes y.«module») && bytes_eq (rc_str_bytes x.name) (rc_str_bytes y.name)
-
-ties : (x y : Member) → same x y ≡ is_eq (id_cmp (id_of x) (id_of y))
-ties x y = compared (rc_str_bytes y.«module») (rc_str_bytes y.name) (id_of x)
-
--- what is left of sorted identities
-rises_left : (xs ys : List Member) → ys ≡ dedup same xs → IsSortedByKey id_of id_cmp xs → RiseById (map id_of ys)
-rises_left xs ys e up = subst (λ (zs : List Member). RiseById (map id_of zs)) (sym e) (left_rises id_of id_cmp same (on_total id_of ids_total) ties xs up)
-
-pub invariant_of-result : goal.invariant_of-result
-invariant_of-result c = rises_left c.sort.new.self.items _ (c.in_ok-from_vec.ensures ∙ dedup_is same _ _ c.dedup.ensures.filtered) c.in_ok-sort.ensures.sorted
-
-pub returns-clause-rises : goal.returns-clause-rises
-returns-clause-rises c = rises_left c.sort.new.self.items _ (c.in_ok-from_vec.ensures ∙ dedup_is same _ _ c.dedup.ensures.filtered) c.in_ok-sort.ensures.sorted
-
 pub returns-clause-same : goal.returns-clause-same
-returns-clause-same c = λ module_file called.
-    let left = dedup_is same _ _ c.dedup.ensures.filtered in
-    ap (λ (xs : List Member). identity_in (map id_of xs) module_file called) (c.in_ok-from_vec.ensures ∙ left)
-    ∙ ap (λ (b : Bool). cond b (Some (identity module_file called)) None)
-    (left_same id_of id_cmp same (λ x y h. same_id (rc_str_bytes y.«module») (rc_str_bytes y.name) (id_of x) ((Equal-is (id_cmp (id_of x) (id_of y))).0 (sym (ties x y) ∙ h))) (is_identity module_file called) _ _ c.in_ok-sort.ensures.permutation)
+returns-clause-same c = where_ok c.from_sorted.result (λ sorted same module_file called.
+    same module_file called
+    ∙ ap (λ (b : Bool). cond b (Some (identity module_file called)) None) (moved_same id_of (is_identity module_file called) _ _ c.in_ok-sort.ensures.permutation ∙ moved_same id_of (is_identity module_file called) _ _ c.in_ok-sort_by.ensures.permutation)) c.from_sorted.ensures.same

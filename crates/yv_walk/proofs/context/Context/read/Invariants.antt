@@ -12,7 +12,8 @@ use Rattle.yv_walk.specs.WrittenValues.{value_at}
 use Rattle.yv_walk.proofs.Kept.{AreHeld}
 use Rattle.yv_walk.proofs.context.Context.read.Given as goal
 
--- with the members that are left, the values, what exists, the unknown names and the steps are those of all members
+-- with the members that are left, the values, what exists, the unknown names and the steps are
+-- those of all members
 abbrev pub invariant-loop-key : goal.invariant-loop-key
 invariant-loop-key l =
     record {

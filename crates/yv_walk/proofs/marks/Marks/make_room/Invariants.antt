@@ -8,7 +8,8 @@ use Rattle.yv_walk.specs.Existence.{passes, holds}
 use Rattle.yv_walk.proofs.Above.{is_at}
 use Rattle.yv_walk.proofs.marks.Marks.make_room.Given as goal
 
--- the marks are as before; each choice and case that contains the node has room, or is still to come
+-- the marks are as before; each choice and case that contains the node has room, or is still to
+-- come
 abbrev pub invariant-loop-here : goal.invariant-loop-here
 invariant-loop-here l =
     record {

@@ -1,0 +1,7 @@
+-- Only private clauses cite this: links without the places after the last of them.
+use Rattle.std.specs.Prelude.{ℕ, ◌++◌, List, Option, None, replicate}
+use Rattle.yv_nodes.specs.Link.{Link}
+
+-- these links, and as many places more without one
+abbrev pub padded : List (Option Link) → (rest : ℕ) → List (Option Link)
+padded links rest = links ++ replicate rest None

@@ -1,0 +1,102 @@
+//! Why the bytes of a document are no JSON.
+ghost use Rattle.std.specs.Prelude.{◌≤◌, length, IfOk, IfSome, IfNone, string_bytes};
+ghost use Rattle.yv_note_json.specs.Document.{IsJson, SaysWhy, ShowsReason, TellsLarge};
+
+use crate::json_reason::reason_at;
+use serde_json::{Error, Value};
+use std::alloc::{AllocError, Global};
+use yv_note_text::excerpt;
+
+// The place of a line and a column of these bytes, both counted from 1; their end, where there is
+// no such place.
+fn offset_of(bytes: &[u8], line: usize, column: usize) -> usize
+    ensures { result ≤ length bytes.now }
+{
+    let start = start_of(bytes, line);
+    let before = column.saturating_sub(1);
+    start.saturating_add(before).min(bytes.len())
+}
+
+// Where a line begins, counted from 1.
+fn start_of(bytes: &[u8], line: usize) -> usize {
+    let mut left = line;
+    for (place, byte) in bytes.iter().enumerate() {
+        if left <= 1 {
+            return place;
+        }
+        if *byte == b'\n' {
+            left -= 1;
+        }
+    }
+    bytes.len()
+}
+
+/// Why these bytes are not JSON: the line and the column with the text of that line, and the
+/// reason. None if they are JSON.
+pub fn why_not_json(alloc: Global, bytes: &[u8]) -> Result<Option<String>, AllocError>
+    ensures why { IfOk result (λ why. IfSome why (λ text. SaysWhy bytes.now (string_bytes text))) }
+    ensures json { IfOk result (λ why. IfNone why (IsJson bytes.now)) }
+{
+    let text = match str::from_utf8(bytes) {
+        Ok(text) => text,
+        Err(error) => return Ok(Some(not_text(alloc, bytes, error.valid_up_to())?)),
+    };
+    match Value::from_str(alloc, text) {
+        Ok(_) => Ok(None),
+        Err(error) if error.is_memory() => Err(AllocError),
+        Err(error) => Ok(Some(json_message(alloc, bytes, &error)?)),
+    }
+}
+
+// That bytes are no text from a place on.
+fn not_text(alloc: Global, bytes: &[u8], valid: usize) -> Result<String, AllocError>
+    ensures { IfOk result (λ text. ShowsReason bytes.now (string_bytes text)) }
+{
+    let mut why = excerpt(alloc, bytes, valid.min(bytes.len()))?;
+    why.push_str(if is_utf16(bytes) { UTF16 } else { NOT_UTF8 })?;
+    Ok(why)
+}
+
+const NOT_UTF8: &str = "data: not UTF-8 from this byte on\n";
+
+const UTF16: &str = "data: not UTF-8 but UTF-16: save the document as UTF-8\n";
+
+// Whether a mark of UTF-16 is at the start.
+fn is_utf16(bytes: &[u8]) -> bool {
+    matches!(bytes, [0xFF, 0xFE, ..] | [0xFE, 0xFF, ..])
+}
+
+// Where a text is not JSON, and why.
+fn json_message(alloc: Global, bytes: &[u8], error: &Error) -> Result<String, AllocError>
+    ensures { IfOk result (λ text. ShowsReason bytes.now (string_bytes text)) }
+{
+    let place = offset_of(bytes, error.line(), error.column());
+    let mut why = excerpt(alloc, bytes, place)?;
+    let message = format!(in alloc; "{error}")?;
+    let reason = if message.as_str().starts_with("number") {
+        "a number has a size below 1.8e308"
+    } else if error.is_eof() {
+        reason_at(alloc, bytes, bytes.len())?
+    } else {
+        reason_at(alloc, bytes, place)?
+    };
+    let line = format!(in alloc; "data: {message}: {reason}\n")?;
+    why.push_str(line.as_str())?;
+    Ok(why)
+}
+
+/// How many bytes a document has at most, and how many members and items.
+const MOST: usize = 16_777_216;
+
+/// Why a document is too large, of which these bytes were read: it has too many bytes, or too many
+/// members and items.
+pub fn why_too_large(alloc: Global, bytes: &[u8]) -> Result<String, AllocError>
+    ensures { IfOk result (λ text. TellsLarge bytes.now (string_bytes text)) }
+{
+    let what = if bytes.len() > MOST { LARGE } else { MANY };
+    String::from_str(alloc, what)
+}
+
+const LARGE: &str = "data: more than 16,777,216 bytes, which is the limit\n";
+
+const MANY: &str = "data: more than 16,777,216 members and items, which is the limit\n";

@@ -1,0 +1,233 @@
+//! Names that are defined twice, or not at all.
+use std::alloc::{AllocError, Global};
+use yv_note_statements::{
+    Guess, Message, Site, definition, is_among, nearest_definition, nearest_word, prefix_of_module,
+    say_guess, words_of,
+};
+use yv_note_text::Likeness;
+use yv_statement::Code;
+
+static BUILT_IN_TYPES: &[&str] = &[
+    "binary",
+    "bits",
+    "boolean",
+    "decimal64",
+    "empty",
+    "enumeration",
+    "identityref",
+    "int8",
+    "int16",
+    "int32",
+    "int64",
+    "leafref",
+    "string",
+    "uint8",
+    "uint16",
+    "uint32",
+    "uint64",
+    "union",
+];
+
+// What other languages call a type, and what YANG calls it.
+static OTHER_NAMES: &[(&str, &str)] = &[
+    ("integer", "int32"),
+    ("int", "int32"),
+    ("uint", "uint32"),
+    ("unsigned", "uint32"),
+    ("long", "int64"),
+    ("float", "decimal64"),
+    ("double", "decimal64"),
+    ("decimal", "decimal64"),
+    ("number", "decimal64"),
+    ("text", "string"),
+    ("str", "string"),
+    ("bytes", "binary"),
+    ("enum", "enumeration"),
+];
+
+// The type of YANG that another language calls so.
+fn other_name(written: &str) -> Option<&'static str> {
+    for (name, meant) in OTHER_NAMES {
+        if *name == written {
+            return Some(*meant);
+        }
+    }
+    None
+}
+
+// Whether a statement gives another one's name a second time: of a file or of a definition of the
+// same kind.
+fn is_namesake(one: &Site<'_, '_>, other: &Site<'_, '_>) -> bool {
+    let are_kin = if other.is_root() {
+        one.is_root()
+    } else {
+        one.keyword() == other.keyword() && is_visible(one, other)
+    };
+    are_kin && one.argument() == other.argument() && one.number != other.number
+}
+
+// Whether a statement is in the block of another one, or in a block around that.
+fn is_visible(one: &Site<'_, '_>, other: &Site<'_, '_>) -> bool {
+    let mut block = other.entry.scope;
+    for _ in 0..MOST_DEPTH {
+        if block == one.entry.scope {
+            return true;
+        }
+        match Site::at(other.entries, block) {
+            Some(around) if !around.is_root() => block = around.entry.scope,
+            _ => return false,
+        }
+    }
+    false
+}
+
+/// How deep statements nest at most.
+const MOST_DEPTH: usize = 64;
+
+// The other statement of the name that a refusal says is there twice.
+fn other_of_name<'s, 'a>(site: &Site<'s, 'a>) -> Option<Site<'s, 'a>> {
+    for number in 0..site.entries.len() {
+        let one = Site::at(site.entries, number)?;
+        if is_namesake(&one, site) {
+            return Some(one);
+        }
+    }
+    None
+}
+
+// Adds where the other statement is, and shows its line.
+fn say_other<'a>(telling: &mut Message<'a>, site: &Site<'_, 'a>) {
+    if let Some(other) = other_of_name(site) {
+        telling.point(" The other one is at ", &other, ":");
+        telling.show(&other);
+    }
+}
+
+/// Adds that a file's name is taken.
+pub fn tell_second_module<'a>(telling: &mut Message<'a>, site: &Site<'_, 'a>) {
+    telling.sentence(Code::DuplicateModule);
+    say_other(telling, site);
+}
+
+/// Adds that the name of a definition is taken.
+pub fn tell_second_name<'a>(telling: &mut Message<'a>, site: &Site<'_, 'a>) {
+    if site.is("typedef") && is_among(site.argument(), BUILT_IN_TYPES) {
+        telling.subject("", " is the name of a built-in type; choose another one.");
+    } else {
+        telling.subject_statement(site, " is defined in this scope already.");
+        say_other(telling, site);
+    }
+}
+
+// Adds how the name of a definition is written in a file, or why it can't be used there.
+fn say_spelling<'a>(telling: &mut Message<'a>, site: &Site<'_, 'a>, definition: &Site<'_, 'a>) {
+    if !is_at_top(definition) {
+        telling.point(
+            " The one at ",
+            definition,
+            " is seen only in its own block: move it to a block around this statement.",
+        );
+        return;
+    }
+    match prefix_of_module(site, definition) {
+        Some(prefix) => {
+            telling.quote_prefixed(" Write ", prefix, definition.argument(), "");
+            telling.point(": it is defined at ", definition, ".");
+        }
+        None => telling.point(" It is defined at ", definition, ": import that module."),
+    }
+}
+
+// Whether a statement is in no block but that of a file.
+fn is_at_top(site: &Site<'_, '_>) -> bool {
+    match site.parent() {
+        Some(parent) => parent.is_root(),
+        None => true,
+    }
+}
+
+// Adds what may be meant by a name: a definition of the same name that isn't seen, or one with a
+// name that is like it.
+fn say_meant<'a>(telling: &mut Message<'a>, site: &Site<'_, 'a>, guess: Option<Guess<'a>>) {
+    match definition_of(site, guess) {
+        Some((guess, definition)) if guess.likeness == Likeness::Same => {
+            say_spelling(telling, site, &definition);
+        }
+        Some((guess, definition)) => {
+            let prefix = prefix_of_module(site, &definition).unwrap_or("");
+            telling.quote_prefixed(" Did you mean ", prefix, guess.name, "");
+            telling.point(", which is defined at ", &definition, "?");
+        }
+        None => say_guess(telling, guess),
+    }
+}
+
+// A guess with the statement that defines it, if there is one.
+fn definition_of<'s, 'a>(
+    site: &Site<'s, 'a>,
+    guess: Option<Guess<'a>>,
+) -> Option<(Guess<'a>, Site<'s, 'a>)> {
+    let guess = guess?;
+    Some((guess, Site::at(site.entries, guess.number?)?))
+}
+
+/// Adds that a type is not defined, and what may be meant.
+pub fn tell_type_name<'a>(telling: &mut Message<'a>, site: &Site<'_, 'a>) {
+    telling.sentence(Code::UnknownType);
+    if let Some(meant) = other_name(site.argument()) {
+        telling.quote(" Did you mean ", meant, "?");
+        return;
+    }
+    let built_in = nearest_word(site.argument(), BUILT_IN_TYPES);
+    let typedef = nearest_definition(site.entries, "typedef", site.argument());
+    say_meant(telling, site, Guess::nearer(built_in, typedef));
+}
+
+/// Adds that a grouping is not defined, and what may be meant.
+pub fn tell_grouping_name<'a>(telling: &mut Message<'a>, site: &Site<'_, 'a>) {
+    telling.sentence(Code::UnknownGrouping);
+    say_nearest(telling, site, "grouping", site.argument());
+}
+
+/// Adds that an identity is not defined, and what may be meant.
+pub fn tell_identity_name<'a>(telling: &mut Message<'a>, site: &Site<'_, 'a>) {
+    telling.sentence(Code::UnknownIdentity);
+    say_nearest(telling, site, "identity", site.argument());
+}
+
+// Adds what may be meant by the name of a definition of this keyword.
+fn say_nearest<'a>(telling: &mut Message<'a>, site: &Site<'_, 'a>, keyword: &str, name: &'a str) {
+    say_meant(
+        telling,
+        site,
+        nearest_definition(site.entries, keyword, name),
+    );
+}
+
+// The first name of an expression that is not that of a feature.
+fn unknown_feature<'a>(alloc: Global, site: &Site<'_, 'a>) -> Result<Option<&'a str>, AllocError> {
+    for word in words_of(alloc, site.argument())?.iter() {
+        let is_name = !is_among(word, &["and", "or", "not"]);
+        if is_name && definition(site, "feature", word).is_none() {
+            return Ok(Some(*word));
+        }
+    }
+    Ok(None)
+}
+
+/// Adds which feature is not defined, and what may be meant.
+pub fn tell_feature_name<'a>(
+    alloc: Global,
+    telling: &mut Message<'a>,
+    site: &Site<'_, 'a>,
+) -> Result<(), AllocError> {
+    let unknown = unknown_feature(alloc, site)?.unwrap_or(site.argument());
+    if unknown == site.argument() {
+        telling.subject("The feature ", " is not defined.");
+    } else {
+        telling.quote("The feature ", unknown, "");
+        telling.subject(" in ", " is not defined.");
+    }
+    say_nearest(telling, site, "feature", unknown);
+    Ok(())
+}

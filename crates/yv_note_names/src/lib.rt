@@ -1,0 +1,13 @@
+//! Modules, prefixes and definitions that are missing, are there twice, or lead to themselves.
+#![tactic(auto)]
+
+mod cycle;
+mod definitions;
+mod modules;
+
+pub use cycle::{tell_cycle, tell_imports};
+pub use definitions::{
+    tell_feature_name, tell_grouping_name, tell_identity_name, tell_second_module,
+    tell_second_name, tell_type_name,
+};
+pub use modules::{tell_missing, tell_prefix, tell_revision, tell_submodule};

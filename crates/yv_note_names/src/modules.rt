@@ -1,0 +1,216 @@
+//! Modules, submodules, revisions and prefixes.
+use std::alloc::{AllocError, Global};
+use yv_link_scopes::prefix_of;
+use yv_note_statements::{
+    Guess, Message, Site, StatementEntry, declaration, named_in_file, next_in_file, say_guess,
+    words_of,
+};
+use yv_statement::Code;
+
+// The file whose name is most like one that was written.
+fn nearest_file<'a>(entries: &[StatementEntry<'a>], written: &str) -> Option<Guess<'a>> {
+    let mut nearest = None;
+    for entry in entries {
+        if entry.is_root {
+            let name = entry.argument.unwrap_or("");
+            nearest = Guess::nearer(nearest, Guess::of(written, name, None));
+        }
+    }
+    nearest
+}
+
+/// Adds that a module is not among the files.
+pub fn tell_missing<'a>(telling: &mut Message<'a>, site: &Site<'_, 'a>) {
+    telling.sentence(Code::MissingModule);
+    match site.argument().strip_suffix(".yang") {
+        Some(name) => telling.quote(" That is the name of a file: did you mean ", name, "?"),
+        None => say_guess(telling, nearest_file(site.entries, site.argument())),
+    }
+}
+
+// The `revision` of a file with the latest date.
+fn latest_revision<'s, 'a>(root: &Site<'s, 'a>) -> Option<Site<'s, 'a>> {
+    let mut latest: Option<Site<'s, 'a>> = None;
+    let mut from = 0;
+    for _ in 0..root.entries.len() {
+        let Some(revision) = next_in_file(root, "revision", from) else {
+            break;
+        };
+        latest = Some(later(latest, revision));
+        from = revision.number.saturating_add(1);
+    }
+    latest
+}
+
+// The `revision` with the later date.
+fn later<'s, 'a>(latest: Option<Site<'s, 'a>>, next: Site<'s, 'a>) -> Site<'s, 'a> {
+    match latest {
+        Some(one) if next.argument() <= one.argument() => one,
+        _ => next,
+    }
+}
+
+/// Adds which revision a module has.
+pub fn tell_revision<'a>(telling: &mut Message<'a>, site: &Site<'_, 'a>) {
+    telling.subject("The revision ", " is asked for, but ");
+    let Some(parent) = site.parent() else {
+        telling.say("the file has another one.");
+        return;
+    };
+    telling.quote("", parent.argument(), " has ");
+    match last_revision(&parent) {
+        Some(revision) => {
+            telling.quote("the revision ", revision.argument(), " at ");
+            telling.point("", &revision, ".");
+        }
+        None => telling.say("no `revision`."),
+    }
+}
+
+// The latest `revision` of the file that an `import` or `include` means.
+fn last_revision<'s, 'a>(site: &Site<'s, 'a>) -> Option<Site<'s, 'a>> {
+    latest_revision(&site.meaning()?)
+}
+
+// The prefix of a file that is most like one that was written.
+fn nearest_prefix<'a>(
+    entries: &[StatementEntry<'a>],
+    file: u32,
+    written: &str,
+) -> Option<Guess<'a>> {
+    let mut nearest = None;
+    for entry in entries {
+        if entry.file == file && entry.keyword == "prefix" {
+            let name = entry.argument.unwrap_or("");
+            nearest = Guess::nearer(nearest, Guess::of(written, name, None));
+        }
+    }
+    nearest
+}
+
+// The first prefix of the words of a statement's argument that the file doesn't declare.
+fn undeclared_prefix<'a>(
+    alloc: Global,
+    site: &Site<'_, 'a>,
+) -> Result<Option<&'a str>, AllocError> {
+    for word in words_of(alloc, site.argument())?.iter() {
+        if let Some(prefix) = prefix_of(word) {
+            if declaration(site, prefix).is_none() {
+                return Ok(Some(prefix));
+            }
+        }
+    }
+    Ok(None)
+}
+
+/// Adds which prefix is not declared, or is declared twice.
+pub fn tell_prefix<'a>(
+    alloc: Global,
+    telling: &mut Message<'a>,
+    site: &Site<'_, 'a>,
+) -> Result<(), AllocError> {
+    if site.is("prefix") {
+        tell_second_prefix(telling, site);
+        return Ok(());
+    }
+    telling.subject("The prefix of ", " is not declared in this file");
+    let prefix = match prefix_of(site.keyword()) {
+        Some(prefix) => Some(prefix),
+        None => undeclared_prefix(alloc, site)?,
+    };
+    say_undeclared(telling, site, prefix);
+    Ok(())
+}
+
+// Adds how a prefix is declared, and which one may be meant.
+fn say_undeclared<'a>(telling: &mut Message<'a>, site: &Site<'_, 'a>, prefix: Option<&'a str>) {
+    let Some(prefix) = prefix else {
+        telling.say(".");
+        return;
+    };
+    match own_prefix(site, prefix) {
+        Some(declared) => {
+            telling.quote(": the module ", prefix, " is imported");
+            telling.quote(" with the prefix ", declared.argument(), "");
+            telling.point(" at ", &declared, ".");
+        }
+        None => {
+            telling.quote(": add an `import` with the prefix ", prefix, ".");
+            say_guess(
+                telling,
+                nearest_prefix(site.entries, site.entry.file, prefix),
+            );
+        }
+    }
+}
+
+// The `prefix` by which the file of a statement imports the module of this name.
+fn own_prefix<'s, 'a>(site: &Site<'s, 'a>, module: &str) -> Option<Site<'s, 'a>> {
+    named_in_file(site, "import", module)?.child("prefix")
+}
+
+fn tell_second_prefix<'a>(telling: &mut Message<'a>, site: &Site<'_, 'a>) {
+    telling.subject("The prefix ", " is declared in this file already");
+    if let Some(first) = declaration(site, site.argument()) {
+        telling.point(", at ", &first, "");
+    }
+    telling.say(".");
+}
+
+// The `belongs-to` of a submodule.
+fn belongs_to<'s, 'a>(root: &Site<'s, 'a>) -> Option<Site<'s, 'a>> {
+    next_in_file(root, "belongs-to", 0)
+}
+
+/// Adds why a module and a submodule don't belong together.
+pub fn tell_submodule<'a>(telling: &mut Message<'a>, site: &Site<'_, 'a>) {
+    match site.keyword() {
+        "include" => tell_include(telling, site.meaning()),
+        "import" => tell_import(telling, site.meaning()),
+        "belongs-to" => {
+            telling.subject("", " is a submodule, and `belongs-to` needs a module.");
+        }
+        _ => tell_not_included(telling, site),
+    }
+}
+
+fn tell_include<'a>(telling: &mut Message<'a>, root: Option<Site<'_, 'a>>) {
+    let Some(root) = root else {
+        telling.sentence(Code::Submodule);
+        return;
+    };
+    if !root.is("submodule") {
+        telling.subject("", " is a module, not a submodule: use `import`.");
+        return;
+    }
+    telling.subject("The submodule ", " belongs to ");
+    match belongs_to(&root) {
+        Some(owner) => {
+            telling.quote("", owner.argument(), " (at ");
+            telling.point("", &owner, "), not to this module.");
+        }
+        None => telling.say("another module."),
+    }
+}
+
+fn tell_import<'a>(telling: &mut Message<'a>, root: Option<Site<'_, 'a>>) {
+    telling.subject("", " is a submodule, and can't be imported.");
+    if let Some(root) = root {
+        if let Some(owner) = belongs_to(&root) {
+            telling.quote(" Import its module ", owner.argument(), ".");
+        }
+    }
+}
+
+fn tell_not_included<'a>(telling: &mut Message<'a>, site: &Site<'_, 'a>) {
+    let Some(owner) = belongs_to(site) else {
+        telling.subject("The submodule ", " is not included by its module.");
+        return;
+    };
+    telling.quote("The module ", owner.argument(), "");
+    telling.subject(" does not include its submodule ", ": add an `include`");
+    if let Some(root) = owner.meaning() {
+        telling.point(" at ", &root, "");
+    }
+    telling.say(".");
+}

@@ -1,0 +1,354 @@
+//! Augments and refines.
+use crate::mandatory::first_mandatory;
+use crate::nodes::{Steps, Way, follow, node_below, nodes_below, root_of, say_no_node};
+use crate::unprefixed_paths::say_prefixed;
+use std::alloc::{AllocError, Global};
+use yv_link_scopes::local;
+use yv_note_statements::{Message, Site, is_among, node_above};
+use yv_statement::Code;
+
+// The grouping of a `uses` in whose block a statement is, or the root of the module where its path
+// begins.
+fn start_of<'s, 'a>(site: &Site<'s, 'a>) -> Option<Site<'s, 'a>> {
+    match site.parent() {
+        Some(uses) if uses.is("uses") => uses.meaning(),
+        _ => root_of(site, site.argument()),
+    }
+}
+
+/// Follows the path of an `augment` or a `refine`.
+pub(crate) fn way_of<'s, 'a>(
+    alloc: Global,
+    site: &Site<'s, 'a>,
+) -> Result<Way<'s, 'a>, AllocError> {
+    match start_of(site) {
+        Some(start) => follow(alloc, &start, site.argument(), Steps::Schema),
+        None => Ok(Way::Unknown),
+    }
+}
+
+/// Adds where the path of a `refine` leads wrong.
+pub fn tell_refine_target<'a>(
+    alloc: Global,
+    telling: &mut Message<'a>,
+    site: &Site<'_, 'a>,
+) -> Result<(), AllocError> {
+    telling.sentence(Code::RefineTarget);
+    match way_of(alloc, site)? {
+        Way::Until(node, name) => say_no_node(alloc, telling, &node, name, Steps::Schema),
+        _ => Ok(()),
+    }
+}
+
+// A property that a `refine` may change, and the nodes that have it.
+struct Property {
+    keyword: &'static str,
+    nodes: &'static [&'static str],
+}
+
+static PROPERTIES: &[Property] = &[
+    Property {
+        keyword: "default",
+        nodes: &["leaf", "leaf-list", "choice"],
+    },
+    Property {
+        keyword: "mandatory",
+        nodes: &["leaf", "choice", "anydata", "anyxml"],
+    },
+    Property {
+        keyword: "presence",
+        nodes: &["container"],
+    },
+    Property {
+        keyword: "min-elements",
+        nodes: &["list", "leaf-list"],
+    },
+    Property {
+        keyword: "max-elements",
+        nodes: &["list", "leaf-list"],
+    },
+];
+
+// Whether a node of this keyword may have a property.
+fn may_have(keyword: &str, sought: &str) -> bool {
+    for property in PROPERTIES {
+        if property.keyword == sought {
+            return is_among(keyword, property.nodes);
+        }
+    }
+    true
+}
+
+// The first property of a `refine` that a node of this keyword can't have.
+fn unfit_property<'s, 'a>(refine: &Site<'s, 'a>, keyword: &str) -> Option<Site<'s, 'a>> {
+    let mut after = refine.number;
+    for _ in 0..refine.entries.len() {
+        let property = refine.next_child(after)?;
+        if !may_have(keyword, property.keyword()) {
+            return Some(property);
+        }
+        after = property.number;
+    }
+    None
+}
+
+/// Adds which property a `refine` can't change.
+pub fn tell_refine<'a>(
+    alloc: Global,
+    telling: &mut Message<'a>,
+    site: &Site<'_, 'a>,
+) -> Result<(), AllocError> {
+    match way_of(alloc, site)? {
+        Way::To(node) => tell_property(telling, site, &node),
+        _ => telling.sentence(Code::BadRefine),
+    }
+    Ok(())
+}
+
+fn tell_property<'a>(telling: &mut Message<'a>, refine: &Site<'_, 'a>, node: &Site<'_, 'a>) {
+    telling.subject("The node ", " (");
+    telling.say(node.keyword());
+    if let Some(property) = unfit_property(refine, node.keyword()) {
+        telling.say(") has no `");
+        telling.say(property.keyword());
+        telling.say("`.");
+    } else if node.is("leaf-list") {
+        telling.say(") can't be refined like this.");
+    } else {
+        telling.say(") is no leaf-list, and so has only one default.");
+        say_second_default(telling, refine);
+    }
+}
+
+// Adds where a `refine` gives a second default.
+fn say_second_default<'a>(telling: &mut Message<'a>, refine: &Site<'_, 'a>) {
+    let Some(first) = refine.child("default") else {
+        return;
+    };
+    if let Some(second) = refine.next_of("default", first.number) {
+        telling.point(" The first is at ", &first, ",");
+        telling.point(" and the second at ", &second, ": leave out one of them.");
+    }
+}
+
+static TARGETS: &[&str] = &[
+    "container",
+    "list",
+    "choice",
+    "case",
+    "input",
+    "output",
+    "notification",
+];
+
+/// Adds where the path of an `augment` leads wrong.
+pub fn tell_augment_target<'a>(
+    alloc: Global,
+    telling: &mut Message<'a>,
+    site: &Site<'_, 'a>,
+) -> Result<(), AllocError> {
+    telling.sentence(Code::AugmentTarget);
+    match way_of(alloc, site)? {
+        Way::Until(node, name) => say_missing_step(alloc, telling, &node, name)?,
+        Way::To(node) => say_no_target(telling, &node),
+        _ => telling.say(" Look at the prefixes of its steps."),
+    }
+    if site.argument().starts_with('/') {
+        say_prefixed(alloc, telling, site, site.argument(), Steps::Schema)?;
+    }
+    Ok(())
+}
+
+// Adds that a node has none of this name below it, or in which case there is one.
+fn say_missing_step<'a>(
+    alloc: Global,
+    telling: &mut Message<'a>,
+    node: &Site<'_, 'a>,
+    name: &'a str,
+) -> Result<(), AllocError> {
+    if node.is("choice") {
+        if let Some(inner) = node_below(alloc, node, name, Steps::Data)? {
+            say_case(telling, &inner);
+            return Ok(());
+        }
+    }
+    say_no_node(alloc, telling, node, name, Steps::Schema)
+}
+
+// Adds the case of a node, which a path leaves out.
+fn say_case<'a>(telling: &mut Message<'a>, node: &Site<'_, 'a>) {
+    match case_around(node) {
+        Some(case) => {
+            telling.statement(" That node is in the ", &case, "");
+            telling.point(" at ", &case, ", which is a step of the path, too.");
+        }
+        None => telling.quote(
+            " The case of ",
+            node.argument(),
+            " is left out in the choice, and is a step of the path all the same: write the name twice.",
+        ),
+    }
+}
+
+// The `case` in whose block a node is.
+fn case_around<'s, 'a>(node: &Site<'s, 'a>) -> Option<Site<'s, 'a>> {
+    let parent = node.parent()?;
+    if parent.is("case") {
+        Some(parent)
+    } else {
+        None
+    }
+}
+
+// Adds why a node is no target.
+fn say_no_target<'a>(telling: &mut Message<'a>, node: &Site<'_, 'a>) {
+    if !is_among(node.keyword(), TARGETS) {
+        telling.statement(" It leads to the ", node, "");
+        telling.point(
+            " at ",
+            node,
+            "; a target is a container, list, choice, case, input, output or notification.",
+        );
+    } else if is_shorthand_case(node) {
+        telling.say(
+            " It leads to a case that is left out, which can't be augmented: write the name of its node once more.",
+        );
+    } else {
+        telling.say(" Look at the prefixes of its steps.");
+    }
+}
+
+// Whether a node is in a choice without a case around it.
+fn is_shorthand_case(node: &Site<'_, '_>) -> bool {
+    match node.parent() {
+        Some(parent) => parent.is("choice") && !node.is("case"),
+        None => false,
+    }
+}
+
+// The `augment` in whose block a node is, by way of groupings too.
+fn augment_around<'s, 'a>(node: &Site<'s, 'a>) -> Option<Site<'s, 'a>> {
+    let parent = node.parent()?;
+    if parent.is("augment") {
+        return Some(parent);
+    }
+    match node_above(node) {
+        Some(above) if above.is("augment") => Some(above),
+        _ => None,
+    }
+}
+
+/// Adds why a node can't be added to the target of an `augment`.
+pub fn tell_augment<'a>(
+    alloc: Global,
+    telling: &mut Message<'a>,
+    site: &Site<'_, 'a>,
+) -> Result<(), AllocError> {
+    let augment = augment_around(site).unwrap_or(*site);
+    let Some(target) = target_of(&way_of(alloc, &augment)?) else {
+        telling.sentence(Code::BadAugment);
+        return Ok(());
+    };
+    let nodes = nodes_below(alloc, &augment, Steps::Schema)?;
+    if let Some(node) = unfit(&nodes, target.keyword) {
+        say_unfit(telling, &node, &target);
+    } else {
+        say_mandatory(telling, &nodes, &target);
+    }
+    Ok(())
+}
+
+/// A node that is augmented. An input or output that isn't written has the statement of its
+/// operation.
+#[derive(Clone, Copy)]
+pub(crate) struct Target<'s, 'a> {
+    keyword: &'a str,
+    pub(crate) node: Site<'s, 'a>,
+}
+
+/// The target to which a path leads.
+pub(crate) fn target_of<'s, 'a>(way: &Way<'s, 'a>) -> Option<Target<'s, 'a>> {
+    match way {
+        Way::To(node) => Some(Target {
+            keyword: node.keyword(),
+            node: *node,
+        }),
+        Way::Until(node, name) if is_operation(node) && is_among(local(name), SIDES) => {
+            Some(Target {
+                keyword: local(name),
+                node: *node,
+            })
+        }
+        _ => None,
+    }
+}
+
+static SIDES: &[&str] = &["input", "output"];
+
+fn is_operation(node: &Site<'_, '_>) -> bool {
+    node.is("rpc") || node.is("action")
+}
+
+// The first of these nodes that can't be in the block of a node of this keyword.
+fn unfit<'s, 'a>(nodes: &[Site<'s, 'a>], target: &str) -> Option<Site<'s, 'a>> {
+    for node in nodes {
+        if !takes(target, node.keyword()) {
+            return Some(*node);
+        }
+    }
+    None
+}
+
+// Whether a node of one keyword may be in the block of one of the other.
+fn takes(target: &str, node: &str) -> bool {
+    match node {
+        "case" => target == "choice",
+        "action" | "notification" => target == "container" || target == "list",
+        _ => true,
+    }
+}
+
+fn say_unfit<'a>(telling: &mut Message<'a>, node: &Site<'_, 'a>, target: &Target<'_, 'a>) {
+    telling.subject("The augment of ", " is wrong: ");
+    telling.statement("the ", node, "");
+    telling.point(" at ", node, "");
+    say_target(telling, " can't be in the ", target);
+    telling.say(".");
+}
+
+// Adds a target and its place.
+fn say_target<'a>(telling: &mut Message<'a>, before: &'a str, target: &Target<'_, 'a>) {
+    telling.say(before);
+    if is_among(target.keyword, SIDES) {
+        telling.say(target.keyword);
+        telling.say(" of the ");
+        let operation = if is_operation(&target.node) {
+            Some(target.node)
+        } else {
+            target.node.parent()
+        };
+        if let Some(operation) = operation {
+            telling.statement("", &operation, "");
+        }
+    } else {
+        telling.statement("", &target.node, "");
+    }
+    telling.point(" at ", &target.node, "");
+}
+
+// Adds that a mandatory node is added to another module, and which one it is.
+fn say_mandatory<'a>(telling: &mut Message<'a>, nodes: &[Site<'_, 'a>], target: &Target<'_, 'a>) {
+    telling.subject(
+        "The augment of ",
+        " adds a mandatory node to another module",
+    );
+    match first_mandatory(nodes) {
+        Some(node) => {
+            telling.statement(": the ", &node, "");
+            telling.point(" at ", &node, " is mandatory, and");
+            say_target(telling, " the ", target);
+            telling.say(" is not of this module.");
+        }
+        None => telling.say("."),
+    }
+}

@@ -1,0 +1,19 @@
+//! What is wrong with the nodes of a schema: with augments and refines, keys, paths, and nodes that
+//! can't be where they are.
+#![tactic(auto)]
+
+mod augments;
+mod default_cases;
+mod lists;
+mod mandatory;
+mod nodes;
+mod paths;
+mod placement;
+mod unprefixed_paths;
+
+pub use augments::{tell_augment, tell_augment_target, tell_refine, tell_refine_target};
+pub use default_cases::tell_default_case;
+pub use lists::{tell_key, tell_unique};
+pub use mandatory::tell_mandatory;
+pub use paths::{tell_path, tell_path_cycle};
+pub use placement::{tell_config, tell_operation, tell_second_node};

@@ -1,0 +1,198 @@
+//! Keys and unique leafs of lists.
+use crate::nodes::{Steps, Way, follow, node_below, say_no_node};
+use std::alloc::{AllocError, Global};
+use yv_note_statements::{Message, Site, is_among, node_above, state_above, words_of};
+
+/// Adds what is wrong with the key of a list.
+pub fn tell_key<'a>(
+    alloc: Global,
+    telling: &mut Message<'a>,
+    list: &Site<'_, 'a>,
+) -> Result<(), AllocError> {
+    let Some(key) = list.child("key") else {
+        telling.subject("The list ", " is configuration, so it needs a `key`.");
+        return Ok(());
+    };
+    telling.subject("The key of list ", " is wrong.");
+    for name in words_of(alloc, key.argument())?.iter() {
+        let Some(leaf) = node_below(alloc, list, name, Steps::Data)? else {
+            return say_no_node(alloc, telling, list, name, Steps::Data);
+        };
+        if let Some(objection) = objection_to(list, &leaf) {
+            telling.statement(objection.before, &leaf, objection.between);
+            telling.point(" at ", &objection.place, objection.after);
+            return Ok(());
+        }
+    }
+    Ok(())
+}
+
+// Why a node can't be a key: words around the node and the place that shows it.
+#[derive(Clone, Copy)]
+struct Objection<'s, 'a> {
+    before: &'static str,
+    between: &'static str,
+    place: Site<'s, 'a>,
+    after: &'static str,
+}
+
+// Why a node of a list can't be its key, if something is known.
+fn objection_to<'s, 'a>(list: &Site<'s, 'a>, leaf: &Site<'s, 'a>) -> Option<Objection<'s, 'a>> {
+    if !leaf.is("leaf") {
+        return Some(Objection {
+            before: " A key has to be a leaf; this one names the ",
+            between: "",
+            place: *leaf,
+            after: ".",
+        });
+    }
+    if let Some(condition) = leaf.child("if-feature") {
+        return Some(Objection {
+            before: " The ",
+            between: " has an `if-feature`",
+            place: condition,
+            after: ", which a key can't have.",
+        });
+    }
+    let config = leaf.child("config")?;
+    if config.argument() == "false" && state_above(list).is_none() {
+        return Some(Objection {
+            before: " The ",
+            between: " is `config false`",
+            place: config,
+            after: ", and the list is configuration.",
+        });
+    }
+    None
+}
+
+/// Adds what is wrong with a `unique` of a list.
+pub fn tell_unique<'a>(
+    alloc: Global,
+    telling: &mut Message<'a>,
+    list: &Site<'_, 'a>,
+) -> Result<(), AllocError> {
+    telling.subject("A `unique` of list ", " is wrong.");
+    for unique in list.children_of(alloc, "unique")?.iter() {
+        if say_unique(alloc, telling, list, unique)? {
+            return Ok(());
+        }
+    }
+    Ok(())
+}
+
+// Adds what is wrong with a `unique`, if something is known.
+fn say_unique<'a>(
+    alloc: Global,
+    telling: &mut Message<'a>,
+    list: &Site<'_, 'a>,
+    unique: &Site<'_, 'a>,
+) -> Result<bool, AllocError> {
+    let mut state = None;
+    let mut configuration = None;
+    for path in unique.argument().split(is_blank) {
+        if path.is_empty() {
+            continue;
+        }
+        let way = follow(alloc, list, path, Steps::Data)?;
+        if say_way(alloc, telling, unique, &way)? {
+            return Ok(true);
+        }
+        if let Way::To(node) = way {
+            if let Some(between) = list_between(list, &node) {
+                say_between(telling, unique, path, &between);
+                return Ok(true);
+            }
+            if state_above(&node).is_some() {
+                state = Some(node);
+            } else {
+                configuration = Some(node);
+            }
+        }
+    }
+    Ok(say_mixed(telling, unique, state, configuration))
+}
+
+fn is_blank(character: char) -> bool {
+    matches!(character, ' ' | '\t' | '\n' | '\r')
+}
+
+/// How many nodes above a leaf are looked at.
+const MOST_STEPS: usize = 64;
+
+// A list between a list and a leaf in it.
+fn list_between<'s, 'a>(list: &Site<'s, 'a>, leaf: &Site<'s, 'a>) -> Option<Site<'s, 'a>> {
+    let mut at = node_above(leaf)?;
+    for _ in 0..MOST_STEPS {
+        if at.number == list.number {
+            return None;
+        }
+        if at.is("list") {
+            return Some(at);
+        }
+        at = node_above(&at)?;
+    }
+    None
+}
+
+fn say_between<'a>(
+    telling: &mut Message<'a>,
+    unique: &Site<'_, 'a>,
+    path: &'a str,
+    between: &Site<'_, 'a>,
+) {
+    telling.point(" It is at ", unique, ".");
+    telling.quote(" The path ", path, "");
+    telling.statement(" goes through the ", between, "");
+    telling.point(" at ", between, ", which is not supported.");
+}
+
+// Adds that of the leafs of a `unique` one is state and one isn't, if there are two such.
+fn say_mixed<'a>(
+    telling: &mut Message<'a>,
+    unique: &Site<'_, 'a>,
+    state: Option<Site<'_, 'a>>,
+    configuration: Option<Site<'_, 'a>>,
+) -> bool {
+    let (Some(state), Some(configuration)) = (state, configuration) else {
+        return false;
+    };
+    telling.point(" It is at ", unique, ".");
+    telling.statement(" The ", &state, "");
+    telling.point(" at ", &state, " is state, and");
+    telling.statement(" the ", &configuration, "");
+    telling.point(" at ", &configuration, " is configuration.");
+    true
+}
+
+// Adds why a path leads to no leaf, if something is known.
+fn say_way<'a>(
+    alloc: Global,
+    telling: &mut Message<'a>,
+    unique: &Site<'_, 'a>,
+    way: &Way<'_, 'a>,
+) -> Result<bool, AllocError> {
+    match way {
+        Way::Until(node, name) => {
+            telling.point(" It is at ", unique, ".");
+            say_no_node(alloc, telling, node, name, Steps::Data)?;
+            Ok(true)
+        }
+        Way::To(node) if !node.is("leaf") => {
+            telling.point(" It is at ", unique, ".");
+            telling.statement(
+                " A path has to lead to a leaf; this one leads to the ",
+                node,
+                "",
+            );
+            telling.point(" at ", node, ".");
+            Ok(true)
+        }
+        _ => Ok(false),
+    }
+}
+
+/// Whether a statement's keyword is one of nodes with a value.
+pub(crate) fn has_value(node: &Site<'_, '_>) -> bool {
+    is_among(node.keyword(), &["leaf", "leaf-list"])
+}

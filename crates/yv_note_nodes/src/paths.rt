@@ -1,0 +1,202 @@
+//! Paths of leafrefs.
+use crate::lists::has_value;
+use crate::nodes::{Steps, Way, follow, root_of, say_no_node};
+use crate::unprefixed_paths::say_prefixed;
+use std::alloc::{AllocError, Global};
+use yv_note_statements::{Message, Site, chain, node_above, say_ring, state_above};
+use yv_statement::Code;
+
+// The `path` of a leafref, with the typedefs through which it is one.
+fn path_of<'s, 'a>(alloc: Global, leaf: &Site<'s, 'a>) -> Result<Option<Site<'s, 'a>>, AllocError> {
+    let Some(own_type) = leaf.child("type") else {
+        return Ok(None);
+    };
+    let types = chain(alloc, &own_type)?;
+    match types.last() {
+        Some(first) => Ok(first.child("path")),
+        None => Ok(None),
+    }
+}
+
+// Follows the path of a leafref.
+fn way_of<'s, 'a>(
+    alloc: Global,
+    leaf: &Site<'s, 'a>,
+    path: &Site<'s, 'a>,
+) -> Result<Way<'s, 'a>, AllocError> {
+    let text = path.argument();
+    if text.starts_with('/') {
+        return match root_of(path, text) {
+            Some(root) => follow(alloc, &root, text, Steps::Data),
+            None => Ok(Way::Unknown),
+        };
+    }
+    match climb(leaf, text) {
+        Some((start, rest)) => follow(alloc, &start, rest, Steps::Data),
+        None => Ok(Way::Above),
+    }
+}
+
+// The node to which the `..` of a path lead, and the rest of the path. None above the top of the
+// module.
+fn climb<'s, 'a>(leaf: &Site<'s, 'a>, path: &'a str) -> Option<(Site<'s, 'a>, &'a str)> {
+    let mut at = *leaf;
+    let mut rest = path;
+    for _ in 0..path.len() {
+        match rest.strip_prefix("../") {
+            Some(behind) => rest = behind,
+            None => break,
+        }
+        at = above(&at)?;
+    }
+    Some((at, rest))
+}
+
+// The node above another one, or the module's root above its top.
+fn above<'s, 'a>(node: &Site<'s, 'a>) -> Option<Site<'s, 'a>> {
+    match node_above(node) {
+        Some(node) => Some(node),
+        None if node.is_root() => None,
+        None => node.module(),
+    }
+}
+
+/// Adds where the path of a leafref leads wrong.
+pub fn tell_path<'a>(
+    alloc: Global,
+    telling: &mut Message<'a>,
+    leaf: &Site<'_, 'a>,
+) -> Result<(), AllocError> {
+    let Some(path) = path_of(alloc, leaf)? else {
+        telling.sentence(Code::BadPath);
+        return Ok(());
+    };
+    telling.subject("The path of ", " is wrong: ");
+    telling.quote("", path.argument(), "");
+    if !is_within(&path, leaf) {
+        telling.point(" at ", &path, "");
+    }
+    telling.say(".");
+    let way = way_of(alloc, leaf, &path)?;
+    match way {
+        Way::Until(node, name) => say_no_node(alloc, telling, &node, name, Steps::Data)?,
+        _ => say_way(telling, leaf, &way),
+    }
+    if path.argument().starts_with('/') {
+        say_prefixed(alloc, telling, &path, path.argument(), Steps::Data)
+    } else {
+        say_climb(alloc, telling, leaf, path.argument())
+    }
+}
+
+// Adds the path with one `..` more or less, if that leads to a leaf or a leaf-list.
+fn say_climb<'a>(
+    alloc: Global,
+    telling: &mut Message<'a>,
+    leaf: &Site<'_, 'a>,
+    path: &'a str,
+) -> Result<(), AllocError> {
+    if is_way(alloc, leaf, path, true)? {
+        telling.quote_joined(" Did you mean ", "../", path, "?");
+    } else if let Some(shorter) = path.strip_prefix("../") {
+        if shorter.starts_with("../") && is_way(alloc, leaf, shorter, false)? {
+            telling.quote(" Did you mean ", shorter, "?");
+        }
+    }
+    Ok(())
+}
+
+// Whether a path leads from a leaf, or from the node above it, to another leaf or leaf-list.
+fn is_way<'a>(
+    alloc: Global,
+    leaf: &Site<'_, 'a>,
+    path: &'a str,
+    is_above: bool,
+) -> Result<bool, AllocError> {
+    let Some(start) = (if is_above { above(leaf) } else { Some(*leaf) }) else {
+        return Ok(false);
+    };
+    let Some((node, rest)) = climb(&start, path) else {
+        return Ok(false);
+    };
+    match follow(alloc, &node, rest, Steps::Data)? {
+        Way::To(target) => Ok(has_value(&target) && target.number != leaf.number),
+        _ => Ok(false),
+    }
+}
+
+// Whether a path is in the `type` of a leaf.
+fn is_within(path: &Site<'_, '_>, leaf: &Site<'_, '_>) -> bool {
+    match path.parent() {
+        Some(around) => around.entry.scope == leaf.number,
+        None => false,
+    }
+}
+
+// Adds where a path leads.
+fn say_way<'a>(telling: &mut Message<'a>, leaf: &Site<'_, 'a>, way: &Way<'_, 'a>) {
+    match way {
+        Way::Above => telling.say(" It goes above the top of the module: it has a `..` too many."),
+        Way::To(node) if !has_value(node) => {
+            telling.statement(" It leads to the ", node, "");
+            telling.point(" at ", node, ", and has to lead to a leaf or leaf-list.");
+        }
+        Way::To(node) if state_above(node).is_some() && state_above(leaf).is_none() => {
+            telling.statement(" The ", node, "");
+            telling.point(
+                " at ",
+                node,
+                " is state, and this leafref is configuration.",
+            );
+        }
+        Way::To(node) => {
+            telling.statement(" The ", node, "");
+            telling.point(
+                " at ",
+                node,
+                " can't be referred to: look at the prefixes and the conditions on the way.",
+            );
+        }
+        _ => {}
+    }
+}
+
+/// How many leafrefs of a cycle are followed.
+const MOST_LEAFREFS: usize = 64;
+
+/// Adds the leafrefs that one leads to, up to itself.
+pub fn tell_path_cycle<'a>(
+    alloc: Global,
+    telling: &mut Message<'a>,
+    leaf: &Site<'_, 'a>,
+) -> Result<(), AllocError> {
+    telling.sentence(Code::PathCycle);
+    let mut ring = Vec::new(alloc);
+    let mut at = *leaf;
+    for _ in 0..MOST_LEAFREFS {
+        let Some(target) = target_of(alloc, &at)? else {
+            break;
+        };
+        ring.push(target.number)?;
+        if target.number == leaf.number {
+            say_ring(telling, leaf, &ring);
+            break;
+        }
+        at = target;
+    }
+    Ok(())
+}
+
+// The target of a leafref.
+fn target_of<'s, 'a>(
+    alloc: Global,
+    leaf: &Site<'s, 'a>,
+) -> Result<Option<Site<'s, 'a>>, AllocError> {
+    let Some(path) = path_of(alloc, leaf)? else {
+        return Ok(None);
+    };
+    match way_of(alloc, leaf, &path)? {
+        Way::To(node) => Ok(Some(node)),
+        _ => Ok(None),
+    }
+}

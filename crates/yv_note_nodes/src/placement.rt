@@ -1,0 +1,392 @@
+//! Nodes that can't be where they are, or whose names are taken there.
+use crate::augments::{target_of, way_of};
+use crate::nodes::{DATA_NODES, Way};
+use std::alloc::{AllocError, Global};
+use yv_note_statements::{Message, Site, is_among, next_uses, node_above, state_above};
+use yv_statement::Code;
+
+/// Adds which node above a node of configuration is state.
+pub fn tell_config<'a>(telling: &mut Message<'a>, site: &Site<'_, 'a>) {
+    telling.subject("The node ", " is `config true`, and ");
+    match state_over(site) {
+        Some(state) => {
+            telling.statement("the ", &state, "");
+            telling.point(" above it, at ", &state, ", is `config false`.");
+        }
+        None => telling.say("a node above it is `config false`."),
+    }
+}
+
+// The nearest node above a node that makes it state.
+fn state_over<'s, 'a>(site: &Site<'s, 'a>) -> Option<Site<'s, 'a>> {
+    state_above(&node_above(site)?)
+}
+
+/// Adds which node above an action or a notification it can't be in.
+pub fn tell_operation<'a>(
+    alloc: Global,
+    telling: &mut Message<'a>,
+    site: &Site<'_, 'a>,
+) -> Result<(), AllocError> {
+    telling.subject_statement(site, " is not allowed here: ");
+    match find_hindrance(alloc, site)? {
+        Some(hindrance) => say_hindrance(telling, &hindrance),
+        None if site.is("action") => {
+            telling.say("an action can't be at the top of a module; that is an `rpc`.");
+        }
+        None => telling.say(
+            "a node above it is an operation, a notification, or a list without a key.",
+        ),
+    }
+    Ok(())
+}
+
+// What an action or a notification can't be in, and the last `uses` by which it comes there.
+#[derive(Clone, Copy)]
+struct Hindrance<'s, 'a> {
+    around: Site<'s, 'a>,
+    uses: Option<Site<'s, 'a>>,
+    /// Whether no other node is between the two.
+    is_direct: bool,
+}
+
+impl Hindrance<'_, '_> {
+    // Whether no action or notification can be there.
+    fn is_one(&self) -> bool {
+        hinders(&self.around) || (self.is_direct && self.around.is("case"))
+    }
+}
+
+fn say_hindrance<'a>(telling: &mut Message<'a>, hindrance: &Hindrance<'_, 'a>) {
+    if let Some(uses) = &hindrance.uses {
+        telling.statement("by the ", uses, "");
+        telling.point(" at ", uses, " ");
+    }
+    let around = &hindrance.around;
+    telling.statement(
+        if around.is("case") {
+            "it can't be in the "
+        } else {
+            "it is inside the "
+        },
+        around,
+        "",
+    );
+    telling.point(
+        " at ",
+        around,
+        if around.is("list") {
+            ", which has no key."
+        } else {
+            "."
+        },
+    );
+}
+
+// The first place that hinders an action or a notification, by way of the `uses` of groupings too.
+fn find_hindrance<'s, 'a>(
+    alloc: Global,
+    site: &Site<'s, 'a>,
+) -> Result<Option<Hindrance<'s, 'a>>, AllocError> {
+    let mut open = Vec::new(alloc);
+    push_around(&mut open, site, None, true)?;
+    let mut followed: usize = 0;
+    for place in 0..MOST_PLACES {
+        let Some(next) = open.get(place).copied() else {
+            break;
+        };
+        if next.is_one() {
+            return Ok(Some(next));
+        }
+        if !is_copied(&next.around) {
+            push_around(&mut open, &next.around, next.uses, false)?;
+        } else if followed < MOST_FOLLOWED {
+            followed += 1;
+            push_copies(alloc, &mut open, &next)?;
+        }
+    }
+    Ok(None)
+}
+
+// Adds the statement around one, unless that is a file.
+fn push_around<'s, 'a>(
+    open: &mut Vec<Hindrance<'s, 'a>>,
+    site: &Site<'s, 'a>,
+    uses: Option<Site<'s, 'a>>,
+    is_direct: bool,
+) -> Result<(), AllocError> {
+    match site.parent() {
+        Some(around) if !around.is_root() => open.push(Hindrance {
+            around,
+            uses,
+            is_direct,
+        })?,
+        _ => {}
+    }
+    Ok(())
+}
+
+// Adds the statements around the `uses` of a grouping.
+fn push_uses<'s, 'a>(
+    alloc: Global,
+    open: &mut Vec<Hindrance<'s, 'a>>,
+    grouping: &Hindrance<'s, 'a>,
+) -> Result<(), AllocError> {
+    for uses in uses_of(alloc, &grouping.around, MOST_USES)?.iter() {
+        push_around(open, uses, Some(*uses), grouping.is_direct)?;
+    }
+    Ok(())
+}
+
+// The `uses` of a grouping, at most so many of them.
+fn uses_of<'s, 'a>(
+    alloc: Global,
+    grouping: &Site<'s, 'a>,
+    most: usize,
+) -> Result<Vec<Site<'s, 'a>>, AllocError> {
+    let mut all = Vec::new(alloc);
+    let mut from = 0;
+    for _ in 0..most {
+        let Some(uses) = next_uses(grouping, from) else {
+            break;
+        };
+        from = uses.number.saturating_add(1);
+        all.push(uses)?;
+    }
+    Ok(all)
+}
+
+// Whether the nodes in a statement come to be elsewhere.
+fn is_copied(site: &Site<'_, '_>) -> bool {
+    site.is("grouping") || site.is("augment")
+}
+
+// Adds where the nodes in a grouping or in an `augment` come to be.
+fn push_copies<'s, 'a>(
+    alloc: Global,
+    open: &mut Vec<Hindrance<'s, 'a>>,
+    copied: &Hindrance<'s, 'a>,
+) -> Result<(), AllocError> {
+    if copied.around.is("grouping") {
+        push_uses(alloc, open, copied)
+    } else {
+        push_target(alloc, open, copied)
+    }
+}
+
+// Adds the target of an `augment`.
+fn push_target<'s, 'a>(
+    alloc: Global,
+    open: &mut Vec<Hindrance<'s, 'a>>,
+    augment: &Hindrance<'s, 'a>,
+) -> Result<(), AllocError> {
+    if let Some(target) = target_of(&way_of(alloc, &augment.around)?) {
+        open.push(Hindrance {
+            around: target.node,
+            uses: augment.uses,
+            is_direct: augment.is_direct,
+        })?;
+    }
+    Ok(())
+}
+
+// Whether no operation or notification can be in a node.
+fn hinders(node: &Site<'_, '_>) -> bool {
+    match node.keyword() {
+        "rpc" | "action" | "notification" => true,
+        "list" => node.child("key").is_none(),
+        _ => false,
+    }
+}
+
+/// How many `uses` of a grouping are looked at.
+const MOST_USES: usize = 64;
+
+/// How many groupings and augments are followed to where their nodes come to be.
+const MOST_FOLLOWED: usize = 16;
+
+/// How many places of a node are compared.
+const MOST_PLACES: usize = 256;
+
+// Where a node comes to be: the block, and the last `uses` by which it comes there.
+#[derive(Clone, Copy)]
+struct Landing<'s, 'a> {
+    node: Site<'s, 'a>,
+    block: Site<'s, 'a>,
+    uses: Option<Site<'s, 'a>>,
+}
+
+// Adds the place of a node in the target of its `augment`, or in the augment, if its target isn't
+// found.
+fn add_target<'s, 'a>(
+    alloc: Global,
+    open: &mut Vec<Landing<'s, 'a>>,
+    landings: &mut Vec<Landing<'s, 'a>>,
+    landing: Landing<'s, 'a>,
+) -> Result<(), AllocError> {
+    match way_of(alloc, &landing.block)? {
+        Way::To(block) => open.push(Landing {
+            node: landing.node,
+            block,
+            uses: landing.uses,
+        })?,
+        _ => landings.push(landing)?,
+    }
+    Ok(())
+}
+
+// Where a statement is, if it is a node of this name.
+fn landing_of<'s, 'a>(site: Site<'s, 'a>, name: &str) -> Option<Landing<'s, 'a>> {
+    if site.argument() == name && is_among(site.keyword(), DATA_NODES) {
+        Some(Landing {
+            node: site,
+            block: site.parent()?,
+            uses: None,
+        })
+    } else {
+        None
+    }
+}
+
+// The nodes of the name of one.
+fn namesakes<'s, 'a>(
+    alloc: Global,
+    site: &Site<'s, 'a>,
+) -> Result<Vec<Landing<'s, 'a>>, AllocError> {
+    let mut landings = Vec::new(alloc);
+    for number in 0..site.entries.len() {
+        if let Some(node) = Site::at(site.entries, number) {
+            if let Some(landing) = landing_of(node, site.argument()) {
+                landings.push(landing)?;
+            }
+        }
+        if landings.len() >= MOST_PLACES {
+            break;
+        }
+    }
+    Ok(landings)
+}
+
+// Follows each node out of choices, cases and groupings.
+fn follow_out<'s, 'a>(
+    alloc: Global,
+    site: &Site<'s, 'a>,
+) -> Result<Vec<Landing<'s, 'a>>, AllocError> {
+    let mut open = namesakes(alloc, site)?;
+    let mut landings = Vec::new(alloc);
+    let mut augments: usize = 0;
+    for _ in 0..MOST_PLACES {
+        let Some(landing) = open.pop() else {
+            break;
+        };
+        match landing.block.keyword() {
+            "choice" | "case" => add_around(&mut open, &landing)?,
+            "grouping" => add_uses(alloc, &mut open, &landing)?,
+            "augment" if augments < MOST_FOLLOWED => {
+                augments += 1;
+                add_target(alloc, &mut open, &mut landings, landing)?;
+            }
+            _ => landings.push(landing)?,
+        }
+    }
+    Ok(landings)
+}
+
+// Adds the place of a node around a choice or a case.
+fn add_around<'s, 'a>(
+    open: &mut Vec<Landing<'s, 'a>>,
+    landing: &Landing<'s, 'a>,
+) -> Result<(), AllocError> {
+    if let Some(block) = landing.block.parent() {
+        open.push(Landing {
+            node: landing.node,
+            block,
+            uses: landing.uses,
+        })?;
+    }
+    Ok(())
+}
+
+// Adds the places to which the `uses` of a grouping bring a node.
+fn add_uses<'s, 'a>(
+    alloc: Global,
+    open: &mut Vec<Landing<'s, 'a>>,
+    landing: &Landing<'s, 'a>,
+) -> Result<(), AllocError> {
+    for uses in uses_of(alloc, &landing.block, MOST_PLACES)?.iter() {
+        if let Some(block) = uses.parent() {
+            open.push(Landing {
+                node: landing.node,
+                block,
+                uses: Some(*uses),
+            })?;
+        }
+    }
+    Ok(())
+}
+
+// Whether two places are in one block, or in augments of one path.
+fn is_one_block(one: &Site<'_, '_>, other: &Site<'_, '_>) -> bool {
+    let are_augments = one.is("augment") && other.is("augment");
+    let are_roots = one.is_root() && other.is_root();
+    one.number == other.number
+        || (are_augments && one.argument() == other.argument())
+        || (are_roots && one.entry.meaning == other.entry.meaning)
+}
+
+// Whether two places are in one block, and one of them is of this node.
+fn is_pair(number: usize, one: &Landing<'_, '_>, other: &Landing<'_, '_>) -> bool {
+    (one.node.number == number || other.node.number == number)
+        && is_one_block(&one.block, &other.block)
+}
+
+// The first of these places that is in one block with this one, where one of the two is of this
+// node.
+fn partner<'s, 'a>(
+    landings: &[Landing<'s, 'a>],
+    number: usize,
+    one: &Landing<'s, 'a>,
+) -> Option<Landing<'s, 'a>> {
+    for other in landings {
+        if is_pair(number, one, other) {
+            return Some(*other);
+        }
+    }
+    None
+}
+
+/// Adds which other node has the name of one, and by which `uses` the two come to be in one place.
+pub fn tell_second_node<'a>(
+    alloc: Global,
+    telling: &mut Message<'a>,
+    site: &Site<'_, 'a>,
+) -> Result<(), AllocError> {
+    telling.sentence(Code::DuplicateNode);
+    let landings = follow_out(alloc, site)?;
+    for (place, one) in landings.iter().enumerate() {
+        if let Some(other) = partner(&landings[..place], site.number, one) {
+            if one.node.number == site.number {
+                say_pair(telling, one, &other);
+            } else {
+                say_pair(telling, &other, one);
+            }
+            return Ok(());
+        }
+    }
+    Ok(())
+}
+
+// Adds the two places of a name, first that of the refusal's node.
+fn say_pair<'a>(telling: &mut Message<'a>, own: &Landing<'_, 'a>, second: &Landing<'_, 'a>) {
+    if let Some(uses) = &own.uses {
+        telling.statement(" This one comes by the ", uses, "");
+        telling.point(" at ", uses, ".");
+    }
+    telling.point(" The other one is at ", &second.node, "");
+    if let Some(uses) = &second.uses {
+        telling.statement(", and comes by the ", uses, "");
+        telling.point(" at ", uses, "");
+    }
+    telling.say(":");
+    telling.show(&second.node);
+}

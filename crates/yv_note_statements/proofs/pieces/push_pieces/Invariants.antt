@@ -1,0 +1,6 @@
+use Rattle.std.proofs.Common.{string_bytes}
+use Rattle.yv_note_text.specs.Quotes.{Extends}
+use Rattle.yv_note_statements.proofs.pieces.push_pieces.Given as goal
+
+abbrev pub invariant-loop-piece : goal.invariant-loop-piece
+invariant-loop-piece l = Extends (string_bytes l.fn.text) (string_bytes l.text)

@@ -1,0 +1,96 @@
+//! The statements of the files as one list, with what their arguments mean.
+use std::alloc::{AllocError, Global};
+use yv_link_scopes::{NameKind, NamePlaces, Rows, first_places, local, name_of};
+use yv_statement::Statement;
+
+/// A statement of the files.
+#[derive(Clone, Copy)]
+pub struct StatementEntry<'a> {
+    /// The number of its file.
+    pub file: u32,
+    /// Whether it is the outermost statement of its file.
+    pub is_root: bool,
+    /// The number of the statement in whose block its names are.
+    pub scope: usize,
+    /// The keyword, with a prefix if it is an extension's.
+    pub keyword: &'a str,
+    pub argument: Option<&'a str>,
+    /// The line on which it begins, from 1.
+    pub line: u64,
+    /// How many bytes of its file come before it.
+    pub offset: u64,
+    /// The number of the statement that the argument means: of a `type`, a `uses` and a `base` the
+    /// definition, of a `prefix` the root of its module, of an `import`, an `include` and a
+    /// `belongs-to` the root of that name, and of a root that of its module.
+    pub meaning: Option<usize>,
+}
+
+// Where definitions are, by block and name.
+#[derive(Drop)]
+struct Definitions<'a> {
+    typedefs: NamePlaces<'a>,
+    groupings: NamePlaces<'a>,
+    identities: NamePlaces<'a>,
+}
+
+impl<'a> Definitions<'a> {
+    fn read(alloc: Global, rows: &Rows<'a, '_>) -> Result<Definitions<'a>, AllocError> {
+        let typedefs = first_places(alloc, NameKind::Typedef, rows)?;
+        let groupings = first_places(alloc, NameKind::Grouping, rows)?;
+        let identities = first_places(alloc, NameKind::Identity, rows)?;
+        Ok(Definitions {
+            typedefs,
+            groupings,
+            identities,
+        })
+    }
+
+    // The identity of a name in a file.
+    fn identity(&self, rows: &Rows<'a, '_>, file: u32, name: &'a str) -> Option<usize> {
+        let block = rows.block_of(file as usize, name)?;
+        self.identities.get(block, local(name))
+    }
+
+    // What the argument of a statement means.
+    fn meaning(
+        &self,
+        rows: &Rows<'a, '_>,
+        number: usize,
+        file: u32,
+        statement: &'a Statement<'_>,
+    ) -> Option<usize> {
+        let name = name_of(statement);
+        match statement.keyword() {
+            "type" => rows.meaning(&self.typedefs, number, name),
+            "uses" => rows.meaning(&self.groupings, number, name),
+            "base" => self.identity(rows, file, name),
+            "prefix" => rows.module_of(file as usize, name),
+            "import" | "include" | "belongs-to" => rows.file_named(name),
+            "module" | "submodule" => Some(rows.module_file(number)),
+            _ => None,
+        }
+    }
+}
+
+/// The statements of the files in their order, which numbers them.
+pub fn entries<'a>(
+    alloc: Global,
+    rows: &Rows<'a, '_>,
+) -> Result<Vec<StatementEntry<'a>>, AllocError> {
+    let definitions = Definitions::read(alloc, rows)?;
+    let mut entries = Vec::new(alloc);
+    for (number, row) in rows.entries().iter().enumerate() {
+        let statement = row.statement;
+        entries.push(StatementEntry {
+            file: row.file,
+            is_root: number < rows.files().len(),
+            scope: row.scope,
+            keyword: statement.keyword(),
+            argument: statement.argument(),
+            line: statement.line(),
+            offset: statement.offset(),
+            meaning: definitions.meaning(rows, number, row.file, statement),
+        })?;
+    }
+    Ok(entries)
+}

@@ -1,0 +1,90 @@
+//! What names mean in the statements of the files.
+use crate::site::{Site, named_in_file};
+use std::alloc::{AllocError, Global};
+use yv_link_scopes::{local, prefix_of};
+
+/// How many steps from one typedef to the next are followed.
+const MOST_STEPS: usize = 64;
+
+/// A `type` statement, and those of the typedefs to which it leads, up to one of a built-in type.
+pub fn chain<'s, 'a>(alloc: Global, site: &Site<'s, 'a>) -> Result<Vec<Site<'s, 'a>>, AllocError> {
+    let mut types = Vec::new(alloc);
+    let mut at = *site;
+    for _ in 0..MOST_STEPS {
+        types.push(at)?;
+        match next_type(&at) {
+            Some(next) => at = next,
+            None => break,
+        }
+    }
+    Ok(types)
+}
+
+// The `type` of the typedef that a `type` means.
+fn next_type<'s, 'a>(site: &Site<'s, 'a>) -> Option<Site<'s, 'a>> {
+    site.meaning()?.child("type")
+}
+
+/// The statement by which the file of a statement declares a prefix.
+pub fn declaration<'s, 'a>(site: &Site<'s, 'a>, prefix: &str) -> Option<Site<'s, 'a>> {
+    named_in_file(site, "prefix", prefix)
+}
+
+/// The root of the module in which a name in a statement is looked up by its prefix.
+pub fn module_of<'s, 'a>(site: &Site<'s, 'a>, name: &str) -> Option<Site<'s, 'a>> {
+    match prefix_of(name) {
+        Some(prefix) => declaration(site, prefix)?.meaning(),
+        None => site.module(),
+    }
+}
+
+/// The definition at the top of a module that a name in a statement means, of a keyword whose
+/// definitions are all there.
+pub fn definition<'s, 'a>(site: &Site<'s, 'a>, keyword: &str, name: &str) -> Option<Site<'s, 'a>> {
+    module_of(site, name)?.child_named(keyword, local(name))
+}
+
+/// How many words of an argument are looked at.
+const MOST_WORDS: usize = 64;
+
+/// The names in a path, a key or an expression: its first 64.
+pub fn words_of<'a>(alloc: Global, text: &'a str) -> Result<Vec<&'a str>, AllocError> {
+    let mut words = Vec::new(alloc);
+    for word in text.split(is_between) {
+        if words.len() < MOST_WORDS && !word.is_empty() {
+            words.push(word)?;
+        }
+    }
+    Ok(words)
+}
+
+// Whether a character separates names.
+fn is_between(character: char) -> bool {
+    matches!(character, ' ' | '\t' | '\n' | '\r' | '/' | '(' | ')')
+}
+
+/// The last name of a path, without its prefix.
+pub fn last_step(path: &str) -> &str {
+    match path.rsplit_once('/') {
+        Some((_, last)) => local(last),
+        None => local(path),
+    }
+}
+
+/// The prefix by which the file of a statement names the module of another one: no text for its
+/// own.
+pub fn prefix_of_module<'a>(site: &Site<'_, 'a>, other: &Site<'_, 'a>) -> Option<&'a str> {
+    let module = other.module()?;
+    if site.module()?.number == module.number {
+        return Some("");
+    }
+    for entry in site.entries {
+        if entry.file == site.entry.file
+            && entry.keyword == "prefix"
+            && entry.meaning == Some(module.number)
+        {
+            return entry.argument;
+        }
+    }
+    None
+}

@@ -1,0 +1,248 @@
+//! Why no statement goes on at a place of a file.
+use crate::outline::{Head, Kind, Outline, Token, word};
+use crate::substatements::is_keyword;
+use crate::syntax_note::text_of;
+use crate::tokens::CURLY;
+use std::alloc::{AllocError, Global};
+use yv_note_statements::Message;
+use yv_note_text::has_curly_quote;
+
+// A place of a file: what was read before it, and what is at it.
+#[derive(Drop)]
+struct Place<'a> {
+    file: u32,
+    outline: Outline<'a>,
+    rest: &'a [u8],
+}
+
+/// Adds why no statement goes on after the front of a file.
+pub(crate) fn tell_syntax<'a>(
+    alloc: Global,
+    telling: &mut Message<'a>,
+    file: u32,
+    front: &'a [u8],
+    rest: &'a [u8],
+) -> Result<(), AllocError> {
+    let place = Place {
+        file,
+        outline: Outline::read(alloc, front)?,
+        rest,
+    };
+    match (place.outline.unfinished, rest.first()) {
+        _ if place.outline.is_over() => place.tell_over(telling),
+        (Some(head), None) => place.tell_unended(telling, &head),
+        (None, None) => place.tell_end(telling),
+        (Some(head), Some(b'}')) => place.tell_unended(telling, &head),
+        (Some(head), Some(_)) if place.outline.is_after(Kind::Plus) => {
+            place.tell_unended(telling, &head);
+        }
+        (Some(head), Some(_)) => place.tell_after(telling, &head),
+        (None, Some(byte)) => place.tell_between(telling, *byte),
+    }
+    Ok(())
+}
+
+impl<'a> Place<'a> {
+    // Adds a statement and its place.
+    fn say_head(
+        &self,
+        telling: &mut Message<'a>,
+        before: &'a str,
+        head: &Head<'a>,
+        after: &'a str,
+    ) {
+        let argument = match head.argument {
+            Some(argument) => Some(text_of(argument)),
+            None => None,
+        };
+        telling.head(before, text_of(head.keyword), argument, "");
+        telling.line(" at ", self.file, head.line, after);
+    }
+
+    // Adds that something follows the outermost statement.
+    fn tell_over(&self, telling: &mut Message<'a>) {
+        let Some(head) = self.outline.ended else {
+            return;
+        };
+        if self.rest.starts_with(b"}") {
+            self.say_head(
+                telling,
+                "This `}` is one too many: the block of ",
+                &head,
+                "",
+            );
+        } else {
+            self.say_head(telling, "Nothing can follow the block of ", &head, "");
+        }
+        if let Some(last) = self.outline.last {
+            telling.line(", which ends at ", self.file, last.last_line, "");
+        }
+        telling.say(if self.rest.starts_with(b"}") {
+            ", is closed already."
+        } else {
+            ": a file has one `module` or `submodule`."
+        });
+        self.say_odd(telling);
+    }
+
+    // Adds which closing brace doesn't fit the statement whose block it closes.
+    fn say_odd(&self, telling: &mut Message<'a>) {
+        if let Some(odd) = self.outline.odd {
+            telling.line(" The `}` at ", self.file, odd.line, "");
+            self.say_head(
+                telling,
+                " closes ",
+                &odd.head,
+                ", but is indented differently.",
+            );
+        }
+    }
+
+    // Adds that a statement isn't ended.
+    fn tell_unended(&self, telling: &mut Message<'a>, head: &Head<'a>) {
+        if self.outline.is_after(Kind::Plus) {
+            telling.say("A `+` joins one more quoted text, which is missing here.");
+        } else if self.rest.is_empty() {
+            self.say_head(
+                telling,
+                "The file ends, and ",
+                head,
+                " has no `;` and no block.",
+            );
+        } else {
+            self.say_head(telling, "A `;` is missing after ", head, ".");
+        }
+    }
+
+    // Adds what is missing at the end of the file.
+    fn tell_end(&self, telling: &mut Message<'a>) {
+        match self.outline.open.last() {
+            Some(head) => {
+                self.say_head(
+                    telling,
+                    "The file ends, and the block of ",
+                    head,
+                    " is not closed: it needs a `}`.",
+                );
+                self.say_odd(telling);
+            }
+            None => {
+                telling.say("The file has no statement: it needs a `module` or a `submodule`.");
+            }
+        }
+    }
+
+    // Adds why a text or a brace can't be where a statement begins.
+    fn tell_between(&self, telling: &mut Message<'a>, byte: u8) {
+        match byte {
+            b';' if self.outline.is_after(Kind::Close) => {
+                telling.say("A block is not followed by a `;`.");
+            }
+            b';' => telling.say("This `;` has no statement before it."),
+            b'{' => self.tell_open(telling),
+            b'}' => telling.say("This `}` closes nothing: no block is open."),
+            b'"' | b'\'' => {
+                telling.say("A statement begins with a keyword, and a keyword is not in quotes.");
+            }
+            b'<' => telling.say("This is no YANG: a file in XML (YIN) has to be converted first."),
+            _ => self.tell_no_keyword(telling),
+        }
+    }
+
+    // Adds that a text is not a keyword.
+    fn tell_no_keyword(&self, telling: &mut Message<'a>) {
+        telling.quote(
+            "",
+            text_of(self.word()),
+            " is not a keyword: that is a name, or a prefix, a colon and a name.",
+        );
+        if has_curly_quote(self.word()) {
+            telling.say(CURLY);
+        } else if self.rest.starts_with(b"#") {
+            telling.say(" Comments are `// ..` and `/* .. */`.");
+        }
+    }
+
+    // Adds that a brace has no statement before it.
+    fn tell_open(&self, telling: &mut Message<'a>) {
+        match self.outline.ended {
+            Some(head) if self.outline.is_after(Kind::Semicolon) => self.say_head(
+                telling,
+                "This `{` has no statement before it: a `;` ends ",
+                &head,
+                ".",
+            ),
+            _ if self.outline.last.is_none() => telling.say(
+                "This `{` has no statement before it. A file is a `module` or a `submodule` in YANG, and not JSON.",
+            ),
+            _ => telling.say("This `{` has no statement before it."),
+        }
+    }
+
+    // The unquoted text at the place.
+    fn word(&self) -> &'a [u8] {
+        self.rest.get(..word(self.rest)).unwrap_or(self.rest)
+    }
+
+    // Adds why a text can't follow a statement's argument.
+    fn tell_after(&self, telling: &mut Message<'a>, head: &Head<'a>) {
+        let is_quoted = matches!(self.rest, [b'"' | b'\'', ..]);
+        match self.outline.last {
+            Some(token) if token.kind == Kind::Quoted => {
+                self.tell_after_quoted(telling, head, &token, is_quoted);
+            }
+            Some(token) if self.is_several(&token) => {
+                self.say_head(
+                    telling,
+                    "The argument of ",
+                    head,
+                    " has several words, so it needs quotes; or a `;` is missing.",
+                );
+                self.say_curly(telling, &token);
+            }
+            _ => self.say_head(telling, "A `;` or a block is missing after ", head, "."),
+        }
+    }
+
+    // Adds that quotes of typography are no quotes, if this token or the text at the place has one.
+    fn say_curly(&self, telling: &mut Message<'a>, token: &Token<'a>) {
+        if has_curly_quote(token.bytes) || has_curly_quote(self.word()) {
+            telling.say(CURLY);
+        }
+    }
+
+    // Whether the text at the place seems to be another word of an argument that ends with this
+    // one.
+    fn is_several(&self, token: &Token<'a>) -> bool {
+        token.kind == Kind::Word
+            && token.last_line == self.outline.line()
+            && !is_keyword(text_of(self.word()))
+    }
+
+    // Adds why a text can't follow an argument in quotes.
+    fn tell_after_quoted(
+        &self,
+        telling: &mut Message<'a>,
+        head: &Head<'a>,
+        token: &Token<'a>,
+        is_quoted: bool,
+    ) {
+        if token.line != token.last_line {
+            telling.line("The quoted text from ", self.file, token.line, "");
+            telling.line(
+                " on ends at ",
+                self.file,
+                token.last_line,
+                ", and something follows it: is a quote or a `;` missing?",
+            );
+        } else if self.outline.is_adjacent() {
+            self.say_head(telling, "Something follows the quoted text of ", head, "");
+            telling.say(" directly: a double quote inside double quotes is written `\\\"`.");
+        } else if is_quoted {
+            self.say_head(telling, "A `;` is missing after ", head, "");
+            telling.say(", or a `+` between two quoted texts.");
+        } else {
+            self.say_head(telling, "A `;` or a block is missing after ", head, ".");
+        }
+    }
+}

@@ -1,0 +1,208 @@
+//! Defaults of leafs and leaf-lists.
+use crate::values::{are_same, is_no_value, say_values};
+use std::alloc::{AllocError, Global};
+use yv_note_statements::{Message, Site, all_sites, chain, last_step, state_above};
+use yv_statement::Code;
+
+/// How many defaults a leaf-list has at most.
+const MOST_DEFAULTS: usize = 1024;
+
+/// Adds what is wrong with the defaults of a leaf or a leaf-list.
+pub fn tell_default<'a>(
+    alloc: Global,
+    telling: &mut Message<'a>,
+    site: &Site<'_, 'a>,
+) -> Result<(), AllocError> {
+    let Some(own_type) = site.child("type") else {
+        telling.sentence(Code::BadDefault);
+        return Ok(());
+    };
+    let types = chain(alloc, &own_type)?;
+    let defaults = defaults_of(alloc, site, &types)?;
+    if is_leafref(&types) {
+        telling.subject("The leafref ", " has a default, which is not supported.");
+        say_first(telling, &defaults);
+        return Ok(());
+    }
+    match defaults.as_slice() {
+        [] => return say_refined(alloc, telling, site, &types),
+        [only] => return tell_value(alloc, telling, site, only, &types),
+        _ => return tell_values(alloc, telling, site, &defaults, &types),
+    }
+    Ok(())
+}
+
+fn is_leafref(types: &[Site<'_, '_>]) -> bool {
+    match types.last() {
+        Some(first) => first.argument() == "leafref",
+        None => false,
+    }
+}
+
+// Adds where the first default is.
+fn say_first<'a>(telling: &mut Message<'a>, defaults: &[Site<'_, 'a>]) {
+    if let Some(default) = defaults.first() {
+        telling.point(" It is at ", default, ".");
+    }
+}
+
+// Adds that a default comes by a `refine`, and which one this can be.
+fn say_refined<'a>(
+    alloc: Global,
+    telling: &mut Message<'a>,
+    site: &Site<'_, 'a>,
+    types: &[Site<'_, 'a>],
+) -> Result<(), AllocError> {
+    if site.is("leaf-list") {
+        telling.subject(
+            "A `refine` gives the leaf-list ",
+            " a default that is not one of its values, or two that are the same.",
+        );
+    } else {
+        telling.subject(
+            "A `refine` gives ",
+            " a default that is not one of its values.",
+        );
+    }
+    for refine in all_sites(alloc, site.entries, "refine")?.iter() {
+        if last_step(refine.argument()) == site.argument() {
+            if let Some(default) = refine.child("default") {
+                telling.quote(" The default ", default.argument(), "");
+                telling.point(" is at ", &default, ".");
+                return say_values(alloc, telling, types, &default);
+            }
+        }
+    }
+    Ok(())
+}
+
+// The defaults of a leaf or a leaf-list: its own, or that of the nearest typedef that has one.
+fn defaults_of<'s, 'a>(
+    alloc: Global,
+    node: &Site<'s, 'a>,
+    types: &[Site<'s, 'a>],
+) -> Result<Vec<Site<'s, 'a>>, AllocError> {
+    let mut defaults = node.children_of(alloc, "default")?;
+    if defaults.is_empty() {
+        if let Some(default) = type_default(types) {
+            defaults.push(default)?;
+        }
+    }
+    Ok(defaults)
+}
+
+// The default of the nearest typedef that has one.
+fn type_default<'s, 'a>(types: &[Site<'s, 'a>]) -> Option<Site<'s, 'a>> {
+    for (place, site) in types.iter().enumerate() {
+        if place > 0 {
+            if let Some(default) = site.parent()?.child("default") {
+                return Some(default);
+            }
+        }
+    }
+    None
+}
+
+// Adds that the only default is not a value.
+fn tell_value<'a>(
+    alloc: Global,
+    telling: &mut Message<'a>,
+    node: &Site<'_, 'a>,
+    default: &Site<'_, 'a>,
+    types: &[Site<'_, 'a>],
+) -> Result<(), AllocError> {
+    telling.quote("The default ", default.argument(), "");
+    if default.entry.scope != node.number {
+        telling.point(" of the typedef at ", default, "");
+    }
+    telling.subject(" is not a value of ", ".");
+    say_values(alloc, telling, types, default)
+}
+
+// Adds which of several defaults is not a value, or which two are the same.
+fn tell_values<'a>(
+    alloc: Global,
+    telling: &mut Message<'a>,
+    node: &Site<'_, 'a>,
+    defaults: &[Site<'_, 'a>],
+    types: &[Site<'_, 'a>],
+) -> Result<(), AllocError> {
+    if defaults.len() > MOST_DEFAULTS {
+        telling.subject("The leaf-list ", " has ");
+        telling.count(
+            "",
+            defaults.len() as u64,
+            " defaults, and at most 1,024 are taken.",
+        );
+        return Ok(());
+    }
+    if let Some(default) = first_unread(types, defaults) {
+        telling.quote("The default ", default.argument(), "");
+        telling.point(" at ", &default, "");
+        telling.subject(" is not a value of ", ".");
+        return say_values(alloc, telling, types, &default);
+    }
+    match first_repeated(types, defaults) {
+        Some((first, second)) if state_above(node).is_none() => {
+            say_same(telling, &first, &second);
+        }
+        _ => telling.subject(
+            "A default of the leaf-list ",
+            " is not one of its values, or two of its defaults are the same.",
+        ),
+    }
+    Ok(())
+}
+
+/// How many defaults are looked at.
+const MOST_READ: usize = 32;
+
+// The first of these defaults that is surely not a value.
+fn first_unread<'s, 'a>(types: &[Site<'s, 'a>], defaults: &[Site<'s, 'a>]) -> Option<Site<'s, 'a>> {
+    for default in defaults.iter().take(MOST_READ) {
+        if is_no_value(types, default.argument()) {
+            return Some(*default);
+        }
+    }
+    None
+}
+
+// The first of these defaults that is the same value as one before it, after that one.
+fn first_repeated<'s, 'a>(
+    types: &[Site<'s, 'a>],
+    defaults: &[Site<'s, 'a>],
+) -> Option<(Site<'s, 'a>, Site<'s, 'a>)> {
+    for (place, default) in defaults.iter().enumerate() {
+        if let Some(first) = first_same(types, defaults, place, default.argument()) {
+            return Some((first, *default));
+        }
+    }
+    None
+}
+
+// The first of so many defaults that is the same value as this one.
+fn first_same<'s, 'a>(
+    types: &[Site<'s, 'a>],
+    defaults: &[Site<'s, 'a>],
+    count: usize,
+    value: &str,
+) -> Option<Site<'s, 'a>> {
+    for default in defaults.iter().take(count) {
+        if are_same(types, default.argument(), value) {
+            return Some(*default);
+        }
+    }
+    None
+}
+
+// Adds that two defaults are the same value.
+fn say_same<'a>(telling: &mut Message<'a>, first: &Site<'_, 'a>, second: &Site<'_, 'a>) {
+    telling.subject(
+        "The entries of the leaf-list ",
+        " differ, as it is configuration, and two of its defaults are the same value: ",
+    );
+    telling.quote("", first.argument(), "");
+    telling.point(" at ", first, " and");
+    telling.quote(" ", second.argument(), "");
+    telling.point(" at ", second, ". Leave out one of them.");
+}

@@ -1,0 +1,269 @@
+//! Ranges, lengths and patterns.
+use std::alloc::{AllocError, Global};
+use yv_base_numbers::{Integer, integer_of, is_at_most, scaled_of};
+use yv_note_statements::{Message, Site, chain};
+
+// A bound as it is written, and as a number.
+#[derive(Clone, Copy)]
+struct Bound<'a> {
+    text: &'a str,
+    number: Integer,
+}
+
+// From one bound to the other.
+#[derive(Clone, Copy)]
+struct Part<'a> {
+    low: Bound<'a>,
+    high: Bound<'a>,
+}
+
+// What the bounds of a part are read by: the digits after the point, and what `min` and `max` mean.
+#[derive(Clone, Copy)]
+pub(crate) struct Reading<'a> {
+    digits: Option<u32>,
+    least: Bound<'a>,
+    greatest: Bound<'a>,
+}
+
+const NATURAL: Bound<'static> = Bound {
+    text: "0",
+    number: Integer::Natural(0),
+};
+
+const HUGE: Bound<'static> = Bound {
+    text: "18446744073709551615",
+    number: Integer::Natural(18_446_744_073_709_551_615),
+};
+
+/// The least and the greatest number of a built-in type, or of lengths.
+pub(crate) fn limits_of(built_in: &str) -> Option<(&'static str, &'static str)> {
+    match built_in {
+        "int8" => Some(("-128", "127")),
+        "int16" => Some(("-32768", "32767")),
+        "int32" => Some(("-2147483648", "2147483647")),
+        "int64" => Some(("-9223372036854775808", "9223372036854775807")),
+        "uint8" => Some(("0", "255")),
+        "uint16" => Some(("0", "65535")),
+        "uint32" => Some(("0", "4294967295")),
+        "uint64" | "string" | "binary" => Some(("0", "18446744073709551615")),
+        _ => None,
+    }
+}
+
+fn bound_of(digits: Option<u32>, text: &str) -> Option<Bound<'_>> {
+    let number = match digits {
+        Some(digits) => scaled_of(digits, text.as_bytes())?,
+        None => integer_of(text.as_bytes())?,
+    };
+    Some(Bound { text, number })
+}
+
+impl<'a> Reading<'a> {
+    fn bound_in(&self, written: &'a str) -> Option<Bound<'a>> {
+        match written.trim() {
+            "min" => Some(self.least),
+            "max" => Some(self.greatest),
+            text => bound_of(self.digits, text),
+        }
+    }
+
+    fn part(&self, written: &'a str) -> Option<Part<'a>> {
+        let (low, high) = written.split_once("..").unwrap_or((written, written));
+        let low = self.bound_in(low)?;
+        let high = self.bound_in(high)?;
+        Some(Part { low, high })
+    }
+
+    /// Whether a number is in a part of a restriction that is read like this.
+    pub(crate) fn is_in(&self, restriction: &'a str, number: Integer) -> bool {
+        for written in restriction.split('|') {
+            if let Some(part) = self.part(written) {
+                if part.has(number) {
+                    return true;
+                }
+            }
+        }
+        false
+    }
+
+    /// Whether a number is between the least and the greatest.
+    pub(crate) fn is_within(&self, number: Integer) -> bool {
+        is_at_most(self.least.number, number) && is_at_most(number, self.greatest.number)
+    }
+}
+
+impl Part<'_> {
+    fn has(&self, number: Integer) -> bool {
+        is_at_most(self.low.number, number) && is_at_most(number, self.high.number)
+    }
+}
+
+// Whether the one number is below the other.
+fn is_below(one: Integer, other: Integer) -> bool {
+    !is_at_most(other, one)
+}
+
+/// The digits after the point of a decimal64.
+pub(crate) fn digits_of(first: &Site<'_, '_>) -> Option<u32> {
+    first
+        .child("fraction-digits")?
+        .argument()
+        .parse::<u32>()
+        .ok()
+}
+
+/// How a restriction of the built-in type of this chain of types is read.
+pub(crate) fn widest_of<'a>(chain: &[Site<'_, 'a>]) -> Option<Reading<'a>> {
+    let first = chain.last()?;
+    widest(first.argument(), digits_of(first))
+}
+
+// How a restriction of a type is read: by the nearest restriction of a type that it is derived
+// from, or by its built-in type.
+fn reading_of<'a>(alloc: Global, site: &Site<'_, 'a>) -> Result<Option<Reading<'a>>, AllocError> {
+    let Some(restricted) = site.parent() else {
+        return Ok(None);
+    };
+    let chain = chain(alloc, &restricted)?;
+    let Some(mut reading) = widest_of(&chain) else {
+        return Ok(None);
+    };
+    for derived in chain.iter().rev() {
+        if derived.number != restricted.number {
+            reading = narrow(reading, derived.child(site.keyword()));
+        }
+    }
+    Ok(Some(reading))
+}
+
+// How a restriction of a built-in type is read.
+fn widest<'a>(built_in: &str, digits: Option<u32>) -> Option<Reading<'a>> {
+    if digits.is_some() {
+        return Some(Reading {
+            digits,
+            least: Bound {
+                text: "the least of the type",
+                number: Integer::Below(9_223_372_036_854_775_807),
+            },
+            greatest: Bound {
+                text: "the greatest of the type",
+                number: Integer::Natural(9_223_372_036_854_775_807),
+            },
+        });
+    }
+    let (least, greatest) = limits_of(built_in)?;
+    Some(Reading {
+        digits: None,
+        least: bound_of(None, least).unwrap_or(NATURAL),
+        greatest: bound_of(None, greatest).unwrap_or(HUGE),
+    })
+}
+
+// The same within a restriction: by its least and its greatest number.
+fn narrow<'a>(reading: Reading<'a>, restriction: Option<Site<'_, 'a>>) -> Reading<'a> {
+    let Some(restriction) = restriction else {
+        return reading;
+    };
+    let mut narrow = reading;
+    let mut is_first = true;
+    for written in restriction.argument().split('|') {
+        if let Some(part) = reading.part(written) {
+            if is_first {
+                narrow.least = part.low;
+            }
+            narrow.greatest = part.high;
+            is_first = false;
+        }
+    }
+    narrow
+}
+
+/// Adds what is wrong with a `range` or a `length`.
+pub fn tell_restriction<'a>(
+    alloc: Global,
+    telling: &mut Message<'a>,
+    site: &Site<'_, 'a>,
+) -> Result<(), AllocError> {
+    telling.subject_statement(site, " is wrong.");
+    if let Some(reading) = reading_of(alloc, site)? {
+        say_parts(telling, site, &reading);
+    }
+    Ok(())
+}
+
+// What is wrong with a part of a restriction.
+#[derive(Clone, Copy)]
+enum Fault<'a> {
+    Unread(&'a str),
+    /// A bound, how it stands to another one, and this.
+    Order(Bound<'a>, &'static str, Bound<'a>),
+}
+
+impl<'a> Reading<'a> {
+    // What is wrong with a part that comes after one that ends with this bound.
+    fn fault(&self, written: &'a str, before: Option<Bound<'a>>) -> Option<Fault<'a>> {
+        let Some(part) = self.part(written) else {
+            return Some(Fault::Unread(written.trim()));
+        };
+        let (low, high) = (part.low, part.high);
+        if is_below(high.number, low.number) {
+            return Some(Fault::Order(low, " is above ", high));
+        }
+        if is_below(self.greatest.number, high.number) {
+            return Some(Fault::Order(high, ABOVE, self.greatest));
+        }
+        if is_below(low.number, self.least.number) {
+            return Some(Fault::Order(low, BELOW, self.least));
+        }
+        match before {
+            Some(end) if is_at_most(low.number, end.number) => {
+                Some(Fault::Order(low, OVERLAPPING, end))
+            }
+            _ => None,
+        }
+    }
+}
+
+const ABOVE: &str = " is above the greatest that is allowed, ";
+
+const BELOW: &str = " is below the least that is allowed, ";
+
+const OVERLAPPING: &str = " has to be above the part before it, which ends with ";
+
+// Adds which part of a restriction is wrong.
+fn say_parts<'a>(telling: &mut Message<'a>, site: &Site<'_, 'a>, reading: &Reading<'a>) {
+    let mut before: Option<Bound<'a>> = None;
+    for written in site.argument().split('|') {
+        if let Some(fault) = reading.fault(written, before) {
+            say_fault(telling, reading, fault);
+            return;
+        }
+        before = match reading.part(written) {
+            Some(part) => Some(part.high),
+            None => None,
+        };
+    }
+    telling.say(" A part of it is between two parts of the type that is restricted.");
+}
+
+fn say_fault<'a>(telling: &mut Message<'a>, reading: &Reading<'a>, fault: Fault<'a>) {
+    match fault {
+        Fault::Unread(written) => {
+            telling.quote(" The part ", written, "");
+            telling.say(if reading.digits.is_some() {
+                " is neither a number with at most as many digits after the point as `fraction-digits` says, nor two of them with `..` between."
+            } else {
+                " is neither a whole number nor two of them with `..` between."
+            });
+            telling.say(if written.is_ascii() {
+                ""
+            } else {
+                " It has a character outside ASCII; quotes are `\"` and `'`."
+            });
+        }
+        Fault::Order(one, words, other) => {
+            telling.quote(" The bound ", one.text, words);
+            telling.quote("", other.text, ".");
+        }
+    }
+}

@@ -1,0 +1,194 @@
+//! What is said of a value that no type of its node reads.
+use crate::listed_names::{push_bits, push_enums, push_guess, push_identities};
+use crate::numbers::{Scale, push_count, push_lengths, push_spans};
+use crate::values::push_written;
+use serde_json::{Number, Value};
+use std::alloc::{AllocError, Global};
+use yv_nodes::Node;
+use yv_note_text::push_quoted;
+use yv_statement::is_legal_text;
+use yv_values::{DecimalType, Integer, Intervals, PlainType, TextType, WholeType};
+
+/// How many types of a union are listed.
+const MOST_TYPES: usize = 4;
+
+/// A value, if there is one; of a text also the number of its characters, and whether YANG allows
+/// them. The text is read once for all types of a union, since it may be as long as a document.
+#[derive(Clone, Copy)]
+struct Written<'v> {
+    value: Option<&'v Value>,
+    length: Option<u64>,
+    is_legal: bool,
+}
+
+impl<'v> Written<'v> {
+    fn new(value: Option<&'v Value>) -> Written<'v> {
+        match value {
+            Some(Value::String(written)) => Written {
+                value,
+                length: Some(written.as_str().chars().count() as u64),
+                is_legal: is_legal_text(written.as_str()),
+            },
+            _ => Written {
+                value,
+                length: None,
+                is_legal: true,
+            },
+        }
+    }
+}
+
+/// Adds the name of a node's type, what it takes in place of a value, that value, and what may be
+/// meant by it.
+pub fn push_type(
+    alloc: Global,
+    text: &mut String,
+    node: &Node,
+    value: Option<&Value>,
+) -> Result<(), AllocError> {
+    text.push_str("the type ")?;
+    push_quoted(text, node.type_text())?;
+    text.push_str(" takes ")?;
+    push_types(alloc, text, node.types(), &Written::new(value))?;
+    push_instead(alloc, text, node.types(), value)?;
+    push_guess(alloc, text, node.types(), value)
+}
+
+// Adds the value that types don't take, if there is one that they take.
+fn push_instead(
+    alloc: Global,
+    text: &mut String,
+    types: &[PlainType],
+    value: Option<&Value>,
+) -> Result<(), AllocError> {
+    match value {
+        Some(value) if types.iter().any(has_values) => {
+            text.push_str(", not ")?;
+            push_written(alloc, text, value)
+        }
+        _ => Ok(()),
+    }
+}
+
+fn has_values(plain: &PlainType) -> bool {
+    match plain {
+        PlainType::Enumeration(names) => !names.as_slice().is_empty(),
+        PlainType::Identity(members) => !members.as_slice().is_empty(),
+        _ => true,
+    }
+}
+
+// Adds what types take in place of a value, of many the first 4.
+fn push_types(
+    alloc: Global,
+    text: &mut String,
+    types: &[PlainType],
+    written: &Written<'_>,
+) -> Result<(), AllocError> {
+    for (place, plain) in types.iter().enumerate() {
+        if place >= MOST_TYPES {
+            return text.push_str(", or something else");
+        }
+        if place > 0 {
+            text.push_str(", or ")?;
+        }
+        push_plain(alloc, text, plain, written)?;
+    }
+    Ok(())
+}
+
+// Adds what a type takes (RFC 7951, section 6).
+fn push_plain(
+    alloc: Global,
+    text: &mut String,
+    plain: &PlainType,
+    written: &Written<'_>,
+) -> Result<(), AllocError> {
+    match plain {
+        PlainType::Whole(whole) => push_whole(text, whole, written),
+        PlainType::Decimal(decimal) => push_decimal(text, decimal),
+        PlainType::Text(plain) => push_text(text, plain, written),
+        PlainType::Boolean => text.push_str("true or false without quotes"),
+        PlainType::Enumeration(names) => push_enums(text, names.as_slice()),
+        PlainType::Bits(names) => push_bits(text, names.as_slice()),
+        PlainType::Binary(lengths) => {
+            text.push_str("base64 in quotes")?;
+            push_size(text, lengths, "octet", "octets")
+        }
+        PlainType::Identity(members) => push_identities(alloc, text, members.as_slice()),
+        PlainType::Empty => text.push_str("[null]"),
+    }
+}
+
+fn push_whole(
+    text: &mut String,
+    whole: &WholeType,
+    written: &Written<'_>,
+) -> Result<(), AllocError> {
+    text.push_str("a whole number")?;
+    text.push_str(if whole.is_text {
+        " in quotes"
+    } else {
+        unlike_a_whole_number(written.value)
+    })?;
+    text.push_str(" in the range ")?;
+    push_spans(text, whole.spans.spans(), Scale::Places(0))
+}
+
+// How a whole number without quotes is written, by what is written instead.
+fn unlike_a_whole_number(value: Option<&Value>) -> &'static str {
+    match value {
+        Some(Value::Number(number)) if is_whole(number) => "",
+        Some(Value::Number(_)) => " without a point or an exponent",
+        _ => " without quotes",
+    }
+}
+
+fn is_whole(number: &Number) -> bool {
+    number.as_u64().is_some() || number.as_i64().is_some()
+}
+
+fn push_decimal(text: &mut String, decimal: &DecimalType) -> Result<(), AllocError> {
+    text.push_str("a number in quotes with at most ")?;
+    push_count(text, u64::from(decimal.digits), "digit", "digits")?;
+    text.push_str(" after the point in the range ")?;
+    push_spans(
+        text,
+        decimal.spans.spans(),
+        Scale::Places(decimal.digits as usize),
+    )
+}
+
+// A text of a length and of characters that fit is one that a pattern rules out.
+fn push_text(text: &mut String, plain: &TextType, written: &Written<'_>) -> Result<(), AllocError> {
+    match written.length {
+        Some(length) if !plain.lengths.holds(Integer::Natural(length)) => {
+            text.push_str("a string")?;
+            push_size(text, &plain.lengths, "character", "characters")
+        }
+        Some(_) if !written.is_legal => {
+            text.push_str("a string without control characters and noncharacters")
+        }
+        Some(_) => text.push_str("a string that matches all patterns of the type"),
+        None => {
+            text.push_str("a string in quotes")?;
+            push_size(text, &plain.lengths, "character", "characters")
+        }
+    }
+}
+
+// Adds lengths, where they are bounded.
+fn push_size(
+    text: &mut String,
+    lengths: &Intervals,
+    one: &str,
+    several: &str,
+) -> Result<(), AllocError> {
+    let is_bounded = !lengths.holds(Integer::Natural(0))
+        || !lengths.holds(Integer::Natural(u64::MAX));
+    if is_bounded {
+        text.push_str(" of ")?;
+        push_lengths(text, lengths.spans(), one, several)?;
+    }
+    Ok(())
+}

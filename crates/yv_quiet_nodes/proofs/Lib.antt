@@ -1,0 +1,5 @@
+pub mod Children
+pub mod Leafs
+pub mod Asked
+pub mod Known
+pub mod Passed

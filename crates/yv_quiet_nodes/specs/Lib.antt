@@ -1,0 +1,3 @@
+pub mod NamedLeafs
+pub mod Quiet
+pub mod Runs

@@ -1,0 +1,12 @@
+//! Nodes of a schema of which nothing comes but steps where they aren't in an object: their steps
+//! are counted at once.
+#![tactic(auto)]
+
+mod named_leafs;
+mod quiet;
+mod quiet_cases;
+mod runs;
+
+pub use quiet::{inner_steps, known_nodes, known_steps};
+pub use quiet_cases::pass_quiet;
+pub use runs::{Run, RunTable};

@@ -1,0 +1,148 @@
+//! Quiet nodes one after the other, among the children of a node.
+ghost use Rattle.std.specs.Prelude.{◌≡◌, ◌∷◌, ◌<◌, ◌≤◌, List, ℕ, drop, length, Some, IfOk, IfSome, OnOk};
+ghost use Rattle.yv_nodes.specs.Rows.{children_of, rank, Rows};
+ghost use Rattle.yv_nodes.specs.declared.node.NodeId.{NodeId};
+ghost use Rattle.yv_quiet_nodes.specs.Quiet.{AreKnown, steps_at};
+ghost use Rattle.yv_quiet_nodes.specs.Runs.{AreRuns, HasRuns, HaveRuns, IsRun, runs_in};
+
+use crate::quiet::known_steps;
+use std::alloc::{AllocError, Global};
+use std::collections::BTreeMap;
+use yv_node_definition::NodeKind;
+use yv_nodes::NodeId;
+use yv_schema_tables::Schema;
+
+// Of so many cases each is asked, which takes the least time.
+const FEW_CASES: usize = 16;
+
+/// Quiet nodes one after the other: how many there are, and their steps with all that is met below
+/// them.
+#[derive(Clone, Copy)]
+pub struct Run {
+    pub(crate) many: usize,
+    pub(crate) steps: u64,
+}
+
+/// The runs among the cases of each choice that has many.
+#[derive(Drop)]
+pub struct RunTable {
+    rows: BTreeMap<u32, Vec<Run>>,
+}
+
+impl RunTable {
+    /// Finds the runs, in time n log n and memory linear in the nodes.
+    pub fn read(
+        alloc: Global,
+        schema: &Schema,
+        known: &[Option<u64>],
+    ) -> Result<RunTable, AllocError>
+        requires { AreKnown schema.now known.now }
+        ensures { IfOk result (HasRuns schema.now) }
+    {
+        let mut rows = BTreeMap::new(alloc);
+        for index in 0..schema.len() {
+            keep_runs(alloc, schema, known, NodeId(index), &mut rows)?;
+        }
+        Ok(RunTable { rows })
+    }
+
+    /// The run that begins at each case of a choice, from the last to the first: none where there
+    /// are few cases.
+    pub fn runs_at(&self, choice: NodeId) -> &[Run]
+        ensures { result.now ≡ runs_in self.now choice }
+    {
+        match self.rows.get(&choice.0) {
+            Some(runs) => runs,
+            None => &[],
+        }
+    }
+}
+
+// Keeps the runs among the cases of a choice, where there are many.
+fn keep_runs(
+    alloc: Global,
+    schema: &Schema,
+    known: &[Option<u64>],
+    id: NodeId,
+    rows: &mut BTreeMap<u32, Vec<Run>>,
+) -> Result<(), AllocError>
+    requires node { id.0 < length schema.now.nodes }
+    requires known { AreKnown schema.now known.now }
+    requires runs { HaveRuns schema.now rows.old }
+    ensures { OnOk result (HaveRuns schema.now rows.new) }
+{
+    if !has_many_cases(schema, id) {
+        return Ok(());
+    }
+    let runs = child_runs(alloc, schema, known, id)?;
+    rows.insert(id.0, runs)?;
+    Ok(())
+}
+
+fn has_many_cases(schema: &Schema, id: NodeId) -> bool
+    requires { id.0 < length schema.now.nodes }
+{
+    let node = schema.node(id);
+    matches!(node.kind(), NodeKind::Choice) && node.children().len() > FEW_CASES
+}
+
+// The run that begins at each child of a node, from the last to the first.
+fn child_runs(
+    alloc: Global,
+    schema: &Schema,
+    known: &[Option<u64>],
+    parent: NodeId,
+) -> Result<Vec<Run>, AllocError>
+    requires node { rank parent ≤ length schema.now.nodes }
+    requires known { AreKnown schema.now known.now }
+    ensures { IfOk result (λ runs. AreRuns schema.now (children_of schema.now parent) runs.items) }
+{
+    let children = schema.children(parent);
+    let mut runs = Vec::new(alloc);
+    let mut run = Run { many: 0, steps: 0 };
+    for index in 0..children.len() {
+        let child = children[children.len() - 1 - index];
+        let steps = known_steps(schema, known, child);
+        run = longer(run, steps).unwrap_or(Run { many: 0, steps: 0 });
+        runs.push(run)?;
+    }
+    Ok(runs)
+}
+
+// A run with a node before it that has these steps: none if the node isn't known to be quiet, or a
+// sum doesn't fit.
+fn longer(run: Run, steps: Option<u64>) -> Option<Run>
+    ensures { IfSome result (λ r. (s : Rows) (n : NodeId) (ns : List NodeId) → IsRun s ns run
+        → IfSome steps (λ w. steps_at s n ≡ Some w) → IsRun s (n ∷ ns) r) }
+{
+    let own = steps?;
+    let many = run.many.checked_add(1)?;
+    let all = run.steps.checked_add(own)?;
+    Some(Run { many, steps: all })
+}
+
+/// The run that begins at a place among so many children: an empty one where none is kept.
+pub(crate) fn run_at(count: usize, runs: &[Run], place: usize) -> Run
+    ensures { (s : Rows) (ns : List NodeId) → length ns ≡ count → AreRuns s ns runs.now
+        → IsRun s (drop place ns) result }
+{
+    if count <= place {
+        return Run { many: 0, steps: 0 };
+    }
+    match runs.get(count - 1 - place) {
+        Some(run) => *run,
+        None => Run { many: 0, steps: 0 },
+    }
+}
+
+/// The steps of so many nodes at the beginning of a run, where the rest of it is this one.
+pub(crate) fn first_steps(run: Run, many: usize, rest: Run) -> Option<u64>
+    ensures { IfSome result (λ steps. (s : Rows) (ns : List NodeId) → IsRun s ns run
+        → IsRun s (drop many ns) rest → IsRun s ns (record { many = many; steps = steps })) }
+{
+    let others = run.many.checked_sub(many)?;
+    if others != rest.many {
+        return None;
+    }
+    run.steps.checked_sub(rest.steps)
+}

@@ -1,6 +1,0 @@
-use Rattle.std.proofs.Common.{string_bytes}
-use Rattle.yv_refusal_notes.specs.Quotes.{Extends}
-use Rattle.yv_refusal_notes.proofs.pieces.push_number.Given as goal
-
-abbrev pub invariant-loop-place : goal.invariant-loop-place
-invariant-loop-place l = Extends (string_bytes l.fn.text) (string_bytes l.text)

@@ -1,5 +1,0 @@
-use Rattle.std.proofs.Common.{◌≡◌, ◌++◌, string_bytes, replicate}
-use Rattle.yv_refusal_notes.proofs.place.add_blanks.Given as goal
-
-abbrev pub invariant-loop : goal.invariant-loop
-invariant-loop l = string_bytes l.text ≡ string_bytes l.fn.text ++ replicate l.counter 32

@@ -1,0 +1,25 @@
+mod Hanging
+pub mod ReferralNumbering
+pub mod Beginning
+pub mod Blocks
+pub mod Told
+pub mod TypePhases
+pub mod Plain
+pub mod Called
+pub mod Rowing
+pub mod ModuleFilesGiven
+pub mod Targeting
+pub mod Parenting
+pub mod Numbering
+pub mod Noting
+pub mod Forming
+pub mod Telling
+pub mod Built
+pub mod Building
+pub mod PhaseLemmas
+pub mod Resolving
+pub mod Typing
+pub mod Unlinked
+pub mod Counting
+pub mod Interior
+pub mod RequiredLinks

@@ -1,0 +1,34 @@
+-- What is refused of single files, and of the types of all (RFC 7950, sections 7 and 9).
+use Rattle.std.specs.Prelude.{◌≡◌, ◌⊎◌, ℕ, length}
+use Rattle.yv_statement.specs.Tree.{Tree}
+use Rattle.yv_statement.specs.declared.refusal.Refusal.{Refusal}
+use Rattle.yv_text_grammar.specs.Refusals.{Bad}
+use Rattle.yv_statement.specs.Order.{Among}
+use Rattle.yv_statement.specs.Selection.{Selected}
+use Rattle.yv_link_scopes.specs.Files.{Files}
+use Rattle.yv_link.specs.Links.{BadLinks}
+use Rattle.yv_link_definitions.specs.Refusals.{BadNames}
+use Rattle.yv_types.specs.Refusals.{BadTypes}
+use Rattle.yv_expand_changes.specs.Truth.{Truth, IsTruth}
+
+-- a refusal that names the file as 0, told of the file of this number
+abbrev pub in_file : ℕ → Refusal → Refusal
+in_file n r = record { code = r.code; file = n; offset = r.offset; line = r.line }
+
+-- f stands in the file of this number: its statements aren't as the tables of the language say
+pub record BadFile (n : ℕ) (t : Tree) (f : Refusal) : Type 0 where
+  pub own : Refusal
+  pub stands : Bad t own
+  pub is : f ≡ in_file n own
+
+-- f stands at a type of the files, by the truth of their conditions
+pub record BadTyping (choice : Selected) (files : Files) (f : Refusal) : Type 0 where
+  pub truth : Truth
+  pub is_truth : IsTruth files choice truth
+  pub bad : BadTypes files truth f
+
+-- what is refused before files are expanded: of every file as such, of its links to others, its
+-- features and its identities, and of the names of its definitions
+abbrev pub RefusesBeforeExpansion : Files → Refusal → Type 0
+RefusesBeforeExpansion files f =
+    Among files BadFile (length files) f ⊎ (BadLinks files f ⊎ BadNames files f)

@@ -1,0 +1,75 @@
+//! The compilation of files.
+ghost use Rattle.std.specs.Prelude.{◌≡◌, ◌<◌, ◌≤◌, length, IfOk, OnOk, Some, None, Err};
+ghost use Rattle.yv_statement.specs.declared.refusal.Refusal.{Refusal};
+ghost use Rattle.yv_statement.specs.declared.refusal.Stop.TheVariants.{Fault, NoMemory, PatternBuild};
+ghost use Rattle.yv_statement.specs.Order.{IsLeast};
+ghost use Rattle.yv_statement.specs.Selection.{selected_of};
+ghost use Rattle.yv_link_scopes.specs.RowList.{rows_of};
+ghost use Rattle.yv_type_restrictions.specs.Types.{HasTypePattern};
+ghost use Rattle.yv_schema_build.specs.InnerRefuses.{RefusesByNumber, RefusesBeforeTypesByNumber};
+ghost use Rattle.yv_nodes.specs.Rows.{whole};
+ghost use Rattle.yv_schema_tables.specs.Sound.{IsSound};
+ghost use Rattle.yv_schema_build.specs.InnerStages.{AreFew, HaveFinalTree, Stops};
+ghost use Rattle.yv_schema_build.specs.Module.{modules_of};
+ghost use Rattle.yv_schema_build.specs.InnerSchema.{AreNumberedNotes, AreNumberedReferences, IsNumberedSchema};
+
+use crate::conformance::first_bad_file;
+use crate::phases::of_linked;
+use std::alloc::Global;
+use yv_expand_tree::laws::refusals_of_expansions_have_phases;
+use yv_link::laws::links_have_phases;
+use yv_link::link;
+use yv_schema_tables::Schema;
+use yv_statement::{Selection, Statement, Stop};
+
+/// The schema of the modules that are implemented, by the numbered items of the statements of the
+/// files of all modules (RFC 7950, sections 5.1 and 7.1), or the least refusal by phase, file,
+/// offset and code. Statements that are outside the profile, such as `must`, are refused as
+/// `Unsupported`. If these modules expand to more units than the limit, they are refused as
+/// `TooManyNodes` before anything is built. `PatternBuild` says that the library of regular
+/// expressions doesn't build a pattern of the dialect. More than 2^32 files are answered as if
+/// memory ran out; so are more than 2^32 - 3 statements that fit the tables of the language.
+pub fn compile(
+    alloc: Global,
+    files: &[Statement<'_>],
+    selection: &Selection,
+    limit: u32,
+) -> Result<Schema, Stop>
+    ensures schema { IfOk result
+        (λ s. IsNumberedSchema (selected_of selection.now) files.now (whole s)) }
+    ensures limit { IfOk result (λ s. s.limit ≡ limit) }
+    ensures modules { IfOk result
+        (λ s. s.modules ≡ modules_of (selected_of selection.now) files.now) }
+    ensures augments { IfOk result
+        (λ s. AreNumberedNotes (selected_of selection.now) files.now s.augments) }
+    ensures references { IfOk result
+        (λ s. AreNumberedReferences (selected_of selection.now) files.now s.links) }
+    ensures sound { IfOk result IsSound }
+    ensures clear { OnOk result
+        (IsLeast (RefusesByNumber (selected_of selection.now) files.now limit) None) }
+    ensures refusal { (r : Refusal) → result ≡ Err (Fault r)
+        → IsLeast (RefusesByNumber (selected_of selection.now) files.now limit) (Some r) }
+    ensures builds { result ≡ Err PatternBuild → HasTypePattern files.now }
+    ensures before { result ≡ Err PatternBuild
+        → IsLeast (RefusesBeforeTypesByNumber (selected_of selection.now) files.now limit) None }
+    ensures many { 4294967296 < length files.now → result ≡ Err NoMemory }
+    ensures few { OnOk result (length (rows_of files.now) ≤ 4294967293) }
+    ensures stops { (r : Refusal) → result ≡ Err (Fault r)
+        → Stops (selected_of selection.now) files.now limit r }
+    ensures final_tree { result ≡ Err PatternBuild
+        → AreFew files.now × HaveFinalTree (selected_of selection.now) files.now }
+{
+    links_have_phases();
+    refusals_of_expansions_have_phases();
+    if files.len() > 4_294_967_296 {
+        return Err(Stop::NoMemory);
+    }
+    if let Some(refusal) = first_bad_file(files) {
+        return Err(Stop::Fault(refusal));
+    }
+    let linked = match link(alloc, files, selection) {
+        Ok(linked) => linked,
+        Err(stop) => return Err(stop),
+    };
+    of_linked(alloc, &linked, selection, limit)
+}

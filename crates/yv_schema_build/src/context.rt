@@ -1,0 +1,100 @@
+//! What is known of files before their nodes are built.
+ghost use Rattle.std.specs.Prelude.{◌≡◌, [], None, IfOk, slice_index_or};
+ghost use Rattle.yv_expand.specs.Tree.{item_list};
+ghost use Rattle.yv_statement.specs.Selection.{Selected};
+ghost use Rattle.yv_node_statements.specs.Definitions.{refined_definition};
+ghost use Rattle.yv_node_statements.specs.Context.{files_in, typing_in};
+ghost use Rattle.yv_expand_tree.specs.Final.{changes_of};
+ghost use Rattle.yv_expand_tree.specs.FinalTree.{AreKept, origin_at};
+ghost use Rattle.yv_schema_build.specs.InnerBasis.{NumberedBasis, module_file_of};
+ghost use Rattle.yv_schema_build.specs.InnerContext.{IsRefinedOf, Tells};
+
+use std::alloc::{AllocError, Global};
+use yv_expand::RemainingNode;
+use yv_expand_tree::FinalTree;
+use yv_node_definition::Definition;
+use yv_node_statements::{Definitions, RefinedDefinitions};
+use yv_values::Matchers;
+
+/// What the statements of files say of the nodes of a tree, once for each way in which refines
+/// change one.
+pub(crate) fn refined_definitions<'c, 'a, 'b>(
+    alloc: Global,
+    definitions: &'c Definitions<'c, 'a, 'b>,
+    tree: &'c FinalTree,
+) -> Result<RefinedDefinitions<'c, 'c, 'a, 'b>, AllocError>
+    ensures { IfOk result (IsRefinedOf definitions.now tree.now) }
+{
+    let changes = tree.changes();
+    let mut refined = RefinedDefinitions::new(alloc, definitions, changes);
+    let mut matchers = Matchers::new(alloc);
+    for item in 0..tree.len() as usize {
+        if let Some(sequence) = changes.sequence(item) {
+            refined.keep(&mut matchers, tree.origin(item), sequence)?;
+        }
+    }
+    Ok(refined)
+}
+
+/// What the statements of files say of nodes, and the final tree of these.
+#[derive(Clone, Copy)]
+pub(crate) struct Context<'c, 'a, 'b> {
+    definitions: &'c Definitions<'c, 'a, 'b>,
+    refined: &'c RefinedDefinitions<'c, 'c, 'a, 'b>,
+    pub(crate) tree: &'c FinalTree,
+}
+
+impl<'c, 'a, 'b> Context<'c, 'a, 'b> {
+    /// What these say.
+    pub(crate) fn new(
+        definitions: &'c Definitions<'c, 'a, 'b>,
+        refined: &'c RefinedDefinitions<'c, 'c, 'a, 'b>,
+        tree: &'c FinalTree,
+    ) -> Context<'c, 'a, 'b>
+        ensures tree { result.tree.now ≡ tree.now }
+        ensures tells { (b : NumberedBasis) (choice : Selected) → files_in definitions.now ≡ b.files
+            → typing_in definitions.now ≡ b.typing
+            → IsRefinedOf definitions.now tree.now refined.now
+            → (k : AreKept choice b.files b.truth tree.now) → k.final ≡ b.final → k.nodes ≡ b.nodes
+            → (tells : Tells b result) × (tells.choice ≡ choice) }
+    {
+        Context {
+            definitions,
+            refined,
+            tree,
+        }
+    }
+
+    /// The nodes that are left.
+    pub(crate) fn remaining_nodes(&self) -> &'c [RemainingNode]
+        ensures own { result.now ≡ self.now.tree.now.left }
+        ensures tells { (b : NumberedBasis) → Tells b self.now → result.now
+            ≡ item_list None 0 b.nodes }
+    {
+        self.tree.remaining_nodes()
+    }
+
+    /// What statements say of nodes.
+    pub(crate) fn definitions(&self) -> &'c Definitions<'c, 'a, 'b>
+        ensures { result.now ≡ self.now.definitions.now }
+    {
+        self.definitions
+    }
+
+    /// The number of the file of the module to which an item belongs.
+    pub(crate) fn module_file(&self, item: usize) -> u32
+        ensures { (b : NumberedBasis) → Tells b self.now → result ≡ module_file_of b item }
+    {
+        self.tree.module_file(item)
+    }
+
+    /// What is said of the node of an item.
+    pub(crate) fn definition(&self, item: usize) -> Result<Definition, AllocError>
+        ensures { (b : NumberedBasis) → Tells b self.now → IfOk result (λ d. d
+            ≡ refined_definition b.typing b.files (origin_at b.final.items item)
+            (slice_index_or (changes_of b.files b.final) item [])) }
+    {
+        let sequence = self.tree.changes().sequence(item);
+        self.refined.of(self.tree.origin(item), sequence)
+    }
+}

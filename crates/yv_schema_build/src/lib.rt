@@ -1,0 +1,29 @@
+//! From the statements of YANG modules to their schema.
+#![tactic(auto)]
+
+mod all_referrals;
+mod build;
+mod compilation;
+mod conformance;
+mod context;
+mod draft;
+mod families;
+pub mod laws;
+mod leafref;
+mod leafrefs;
+mod module_names;
+mod name;
+mod notes;
+mod number_table;
+mod phases;
+pub mod referral_laws;
+mod referral_table;
+mod tree;
+
+pub use all_referrals::referrals;
+pub use compilation::compile;
+pub use families::{ChildLists, families_of};
+pub use referral_table::Referrals;
+pub use yv_node_definition::{NodeKind, NodeStatus};
+pub use yv_nodes::{Node, NodeId};
+pub use yv_schema_tables::{Measures, Schema};

@@ -1,9 +1,0 @@
-pub mod Numbering
-pub mod Marks
-pub mod Trees
-pub mod Schemas
-pub mod Added
-pub mod Notes
-pub mod Phases
-pub mod Refusals
-pub mod Limits

@@ -1,3 +1,0 @@
-pub mod SchemaTree
-pub mod TreeNotes
-pub mod TreeRefusals
