@@ -4,6 +4,7 @@ use Rattle.std.specs.Ordering.{nat_cmp}
 use Rattle.std.specs.Cmp.Lexicographic.{slice_cmp}
 use Rattle.std.specs.Str.{bytes_eq}
 use Rattle.std.specs.List.{slice_get}
+use Rattle.std.specs.Option.{unwrap_or}
 use Rattle.std.specs.BTreeMap.{BTreeMap, UpdatesBy}
 use Rattle.std.proofs.lemmas.List.{map_push, take_more, length-take-le, take-append-drop}
 use Rattle.std.proofs.lemmas.Map.Text.{is_eq-slice_cmp}
@@ -14,31 +15,18 @@ use Rattle.yv_expand_paths.specs.InnerNameNumbers.{place_of}
 use Rattle.yv_expand_paths.specs.InnerNames.{lookup_in, first_some, keep_first}
 use Rattle.yv_expand_paths.proofs.Placing.{place_push, place_front}
 
-chosen : (b : Bool) (old : Option ℕ) (number : ℕ) → (b ≡ true → old ≡ None) → cond b (Some number) old ≡ first_some old (cond b (Some number) None)
-chosen true old number h = ap (λ o. first_some o (Some number)) (sym (h refl))
-chosen false None number h = refl
-chosen false (Some x) number h = refl
+chosen : (b : Bool) (old there : Option ℕ) (number given : ℕ) → (b ≡ true → old ≡ there) → given ≡ unwrap_or there number → cond b (Some given) old ≡ first_some old (cond b (Some number) None)
+chosen true old None number given h is = ap (λ n. Some n) is ∙ ap (λ o. first_some o (Some number)) (sym (h refl))
+chosen true old (Some x) number given h is = ap (λ n. Some n) is ∙ ap (λ o. first_some o (Some number)) (sym (h refl))
+chosen false None there number given h is = refl
+chosen false (Some x) there number given h is = refl
 
--- a name that is new
-pub kept_new : (old new : BTreeMap (Bor (List ℕ)) ℕ) (name : Bor (List ℕ)) (number : ℕ) → lookup_in old name.now ≡ None → UpdatesBy (λ x y. slice_cmp nat_cmp x.now y.now) (λ y. slice_cmp nat_cmp name.now y.now) old new (Some number) → (n : List ℕ) → lookup_in new n ≡ keep_first (lookup_in old) name.now number n
-kept_new old new name number none u n =
+-- a name gets a number, or keeps the one that it has
+pub kept : (old new : BTreeMap (Bor (List ℕ)) ℕ) (name : Bor (List ℕ)) (number given : ℕ) → given ≡ unwrap_or (lookup_in old name.now) number → UpdatesBy (λ x y. slice_cmp nat_cmp x.now y.now) (λ y. slice_cmp nat_cmp name.now y.now) old new (Some given) → (n : List ℕ) → lookup_in new n ≡ keep_first (lookup_in old) name.now number n
+kept old new name number given is u n =
     u.0 (record { ref_ptr = (0, 0); now = n })
-    ∙ ap (λ b. cond b (Some number) (lookup_in old n)) (is_eq-slice_cmp name.now n)
-    ∙ chosen (bytes_eq name.now n) (lookup_in old n) number (λ h. ap (lookup_in old) (sym ((bytes_eq-Decides name.now n).0 h)) ∙ none)
-
--- a name that is there stays
-pub kept_old : (table : List ℕ → Option ℕ) (name : List ℕ) (number x : ℕ) → table name ≡ Some x → (n : List ℕ) → table n ≡ keep_first table name number n
-kept_old table name number x some n = stays (bytes_eq name n) (table n) (λ h. (x, ap table (sym ((bytes_eq-Decides name n).0 h)) ∙ some))
-  where
-    stays : (b : Bool) (old : Option ℕ) → (b ≡ true → (y : ℕ) × (old ≡ Some y)) → old ≡ first_some old (cond b (Some number) None)
-    stays true None h = absurd (let e = (h refl).1 in cc)
-    stays true (Some y) h = refl
-    stays false None h = refl
-    stays false (Some y) h = refl
-
--- the number that it has then
-pub kept_at : (table : List ℕ → Option ℕ) (name : List ℕ) (number : ℕ) → table name ≡ None → keep_first table name number name ≡ Some number
-kept_at table name number none = ap (λ o. first_some o (cond (bytes_eq name name) (Some number) None)) none ∙ ap (λ b. cond b (Some number) None) ((bytes_eq-Decides name name).1 refl)
+    ∙ ap (λ b. cond b (Some given) (lookup_in old n)) (is_eq-slice_cmp name.now n)
+    ∙ chosen (bytes_eq name.now n) (lookup_in old n) (lookup_in old name.now) number given (λ h. ap (lookup_in old) (sym ((bytes_eq-Decides name.now n).0 h))) is
 
 -- one more name of a list
 pub told_more : (names : List (List ℕ)) (name : List ℕ) (number : ℕ) (old new : List ℕ → Option ℕ) → number ≡ length names → ((n : List ℕ) → old n ≡ place_of names n) → ((n : List ℕ) → new n ≡ keep_first old name number n) → (n : List ℕ) → new n ≡ place_of (names ++ name ∷ []) n

@@ -2,4 +2,3 @@ pub mod Placing
 pub mod Keeping
 pub mod Stepping
 pub mod Reading
-pub mod Homing

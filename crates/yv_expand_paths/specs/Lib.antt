@@ -2,7 +2,5 @@ pub mod Names
 pub mod Paths
 pub mod PathTables
 pub mod InnerNames
-pub mod InnerModuleFiles
-pub mod InnerPrefixes
 pub mod InnerNameNumbers
 pub mod InnerSteps

@@ -5,7 +5,6 @@
 pub mod laws;
 mod names;
 mod paths;
-mod prefixes;
 mod step;
 mod table;
 

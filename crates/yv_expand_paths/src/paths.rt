@@ -7,13 +7,12 @@ ghost use Rattle.yv_link_scopes.specs.Views.{files_in, rows_in};
 ghost use Rattle.yv_expand_paths.specs.Paths.{behind_root, steps_of};
 ghost use Rattle.yv_expand_paths.specs.InnerSteps.{step_with, step_of, has_path, path_of, path_at};
 ghost use Rattle.yv_expand_paths.specs.PathTables.{AreNames};
-ghost use Rattle.yv_expand_paths.specs.InnerPrefixes.{IsPrefixTable};
+ghost use Rattle.yv_link_scopes.specs.Prefixes.{IsPrefixTable};
 
 use crate::names::NodeNames;
-use crate::prefixes::PrefixTable;
 use crate::step::SchemaStep;
 use std::alloc::{AllocError, Global};
-use yv_link_scopes::{Entry, Rows, local, name_of, prefix_of};
+use yv_link_scopes::{Entry, PrefixTable, Rows, local, name_of, prefix_of};
 
 // A step whose name has this number.
 fn named_step<'a>(

@@ -28,17 +28,15 @@ impl<'a> Table<'a> {
         self.map.get(&name.as_bytes()).copied()
     }
 
-    /// Gives a name this number, where it has none yet, and answers the number that it has.
+    /// Gives a name this number, where it has none yet, and answers the number that it has. The
+    /// name is looked up once.
     pub(crate) fn keep(&mut self, name: &'a str, number: u32) -> Result<u32, AllocError>
         ensures tells { OnOk result
             ((n : List ℕ) → table_of self.new n
             ≡ keep_first (table_of self.old) name.now number n) }
         ensures number { IfOk result (λ given. table_of self.new name.now ≡ Some given) }
     {
-        if let Some(given) = self.get(name) {
-            return Ok(given);
-        }
-        self.map.insert(name.as_bytes(), number)?;
-        Ok(number)
+        let given = self.map.entry(name.as_bytes())?.or_insert(number);
+        Ok(*given)
     }
 }

@@ -6,3 +6,5 @@ pub mod Joining
 pub mod Placing
 pub mod Faulty
 pub mod Knowing
+pub mod Unknown
+pub mod Told

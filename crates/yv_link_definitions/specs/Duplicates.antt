@@ -27,11 +27,14 @@ is_scoped Typedef = true
 is_scoped Grouping = true
 is_scoped kind = false
 
--- The numbered definition has a name that an earlier one of its kind has in its block (RFC 7950, section 6.2.1), or, if
--- it is a typedef or a grouping, that one has in a block around its own, before or behind it (section 5.5), or, if it
--- is a typedef, that a built-in type has (section 7.3).
+-- The numbered definition has a name that an earlier one of its kind has in its block (RFC 7950,
+-- section 6.2.1), or, if it is a typedef or a grouping, that one has in a block around its own,
+-- before or behind it (section 5.5), or, if it is a typedef, that a built-in type has (section
+-- 7.3).
 pub data IsTaken (rows : List Row) (k : ℕ) (r : Row) : Type 0 where
-  again : {kind : NameKind} (e : ℕ) → kind_defined r ≡ Some kind → e < k → IsNamed kind rows r.scope (name_in r) e → IsTaken rows k r
-  outside : {kind : NameKind} {outer : ℕ} (e : ℕ) → kind_defined r ≡ Some kind → is_scoped kind ≡ true → outer ≢ r.scope → Encloses rows outer r.scope
+  again : {kind : NameKind} (e : ℕ) → kind_defined r ≡ Some kind → e < k
+      → IsNamed kind rows r.scope (name_in r) e → IsTaken rows k r
+  outside : {kind : NameKind} {outer : ℕ} (e : ℕ) → kind_defined r ≡ Some kind
+      → is_scoped kind ≡ true → outer ≢ r.scope → Encloses rows outer r.scope
       → IsNamed kind rows outer (name_in r) e → IsTaken rows k r
   built_in : kind_defined r ≡ Some Typedef → is_built_in (name_in r) ≡ true → IsTaken rows k r

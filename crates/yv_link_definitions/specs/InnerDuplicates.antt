@@ -1,4 +1,5 @@
--- Inner definitions, which only private clauses cite: where the name of a definition stands besides.
+-- Inner definitions, which only private clauses cite: where the name of a definition stands
+-- besides.
 use Rattle.std.specs.Prelude.{◌≢◌, ℕ, ◌<◌, List}
 use Rattle.yv_link_scopes.specs.Rows.{Row, name_in}
 use Rattle.yv_link_scopes.specs.Scopes.{Encloses, IsNamed}
@@ -10,4 +11,6 @@ HasBefore kind rows k r = (e : ℕ) × (e < k) × IsNamed kind rows r.scope (nam
 
 -- in a block around its own
 abbrev pub HasAround : NameKind → List Row → Row → Type 0
-HasAround kind rows r = (outer : ℕ) × (outer ≢ r.scope) × Encloses rows outer r.scope × (e : ℕ) × IsNamed kind rows outer (name_in r) e
+HasAround kind rows r =
+    (outer : ℕ) × (outer ≢ r.scope) × Encloses rows outer r.scope × (e : ℕ)
+    × IsNamed kind rows outer (name_in r) e

@@ -14,4 +14,6 @@ placed_in places = lookup_in places.map
 
 -- the first number of a place is kept
 abbrev pub keep_first : (ℕ → ℕ → Option ℕ) → ℕ → ℕ → ℕ → ℕ → ℕ → Option ℕ
-keep_first table f o number file offset = first_some (table file offset) (if (f == file) && (o == offset) then Some number else None)
+keep_first table f o number file offset =
+    first_some (table file offset)
+    (if (f == file) && (o == offset) then Some number else None)

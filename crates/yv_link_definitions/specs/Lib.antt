@@ -7,4 +7,5 @@ pub mod References
 pub mod Meanings
 pub mod InnerGraph
 pub mod InnerPlaces
+pub mod InnerAnswers
 pub mod InnerDuplicates

@@ -14,12 +14,16 @@ abbrev pub meant_in : Names → ℕ → Option ℕ
 meant_in names k = option_and_then (λ meant. meant) (slice_get names.meanings.items k)
 
 abbrev pub definition_in : Names → ℕ → Option DefRef
-definition_in names k = option_and_then (λ meant. slice_get names.refs.items meant) (meant_in names k)
+definition_in names k =
+    option_and_then (λ meant. slice_get names.refs.items meant) (meant_in names k)
 
 -- these are the names of these files; how, only the readers ask
 pub record AreNames (files : Files) (names : Names) : Type 0 where
-  pub meant : (k d : ℕ) → (meant_in names k ≡ Some d) ↔ RefersTo (map brief_of files) (rows_of files) k d
+  pub meant : (k d : ℕ) → (meant_in names k ≡ Some d)
+      ↔ RefersTo (map brief_of files) (rows_of files) k d
   pub refs : map ref_of (rows_of files) ≡ names.refs.items
-  pub types : (file offset : ℕ) → placed_in names.types file offset ≡ number_at (rows_of files) (codes "type") file offset
-  pub uses : (file offset : ℕ) → placed_in names.uses file offset ≡ number_at (rows_of files) (codes "uses") file offset
+  pub types : (file offset : ℕ) → placed_in names.types file offset
+      ≡ number_at (rows_of files) (codes "type") file offset
+  pub uses : (file offset : ℕ) → placed_in names.uses file offset
+      ≡ number_at (rows_of files) (codes "uses") file offset
   pub order : IsOrderOf (map brief_of files) (rows_of files) names.order.items

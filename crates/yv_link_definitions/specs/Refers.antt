@@ -1,4 +1,5 @@
--- What the names of types and groupings mean where they are used (RFC 7950, sections 5.5, 7.4 and 7.13).
+-- What the names of types and groupings mean where they are used (RFC 7950, sections 5.5, 7.4 and
+-- 7.13).
 use Rattle.std.specs.Prelude.{◌≡◌, ℕ, ◌&&◌, not, Bool, true, false, List, Some, None, codes, slice_get}
 use Rattle.yv_link_scopes.specs.Files.{Briefs, has_word}
 use Rattle.yv_link_scopes.specs.Rows.{Row, name_in}
@@ -21,7 +22,8 @@ names_definition kind r = false
 
 -- the numbered statement names a definition of the kind, and there is none
 abbrev pub IsUnknown : Briefs → List Row → NameKind → ℕ → Row → Type 0
-IsUnknown files rows kind k r = (names_definition kind r ≡ true) × MeansIn files rows kind k (name_in r) None
+IsUnknown files rows kind k r =
+    (names_definition kind r ≡ true) × MeansIn files rows kind k (name_in r) None
 
 -- it names definition d of the kind
 pub record Refers (files : Briefs) (rows : List Row) (kind : NameKind) (k d : ℕ) : Type 0 where

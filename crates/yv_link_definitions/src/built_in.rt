@@ -1,6 +1,8 @@
 //! The types that need no typedef.
-ghost use Rattle.std.specs.Prelude.{◌≡◌, map};
-ghost use Rattle.yv_link_definitions.specs.BuiltIn.{is_among, is_built_in};
+ghost use Rattle.std.specs.Prelude.{◌≡◌};
+ghost use Rattle.yv_link_definitions.specs.BuiltIn.{is_built_in};
+
+use yv_statement::is_among;
 
 static BUILT_INS: [&str; 19] = [
     "binary",
@@ -23,18 +25,6 @@ static BUILT_INS: [&str; 19] = [
     "uint64",
     "union",
 ];
-
-// Whether one of the words is the name.
-fn is_among(words: &[&str], name: &str) -> bool
-    ensures { result ≡ is_among (map (λ w. w.now) words.now) name.now }
-{
-    for word in words {
-        if *word == name {
-            return true;
-        }
-    }
-    false
-}
 
 /// Whether a name is that of a built-in type.
 #[tactic(auto, unfolding(crate::specs::BuiltIn::is_built_in))]

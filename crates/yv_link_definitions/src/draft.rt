@@ -7,7 +7,7 @@ ghost use Rattle.yv_link_scopes.specs.declared.kind.NameKind.TheVariants.{Typede
 ghost use Rattle.yv_link_definitions.specs.Duplicates.{kind_defined, is_of};
 
 use std::alloc::{AllocError, Global};
-use yv_link_scopes::{Entry, NameKind, NamePlaces, Rows, first_places};
+use yv_link_scopes::{Entry, NameKind, NamePlaces, Rows, definition_places};
 
 /// The statements, and where a name of each kind occurs first in each block.
 #[derive(Drop)]
@@ -33,24 +33,21 @@ impl<'r, 'a, 'b> Draft<'r, 'a, 'b> {
     ) -> Result<Draft<'r, 'a, 'b>, AllocError>
         ensures { IfOk result (λ draft. draft.rows.now ≡ rows.now) }
     {
-        let features = first_places(alloc, NameKind::Feature, rows)?;
-        let identities = first_places(alloc, NameKind::Identity, rows)?;
-        let extensions = first_places(alloc, NameKind::Extension, rows)?;
-        let typedefs = first_places(alloc, NameKind::Typedef, rows)?;
-        let groupings = first_places(alloc, NameKind::Grouping, rows)?;
+        let places = definition_places(alloc, rows)?;
         Ok(Draft {
             rows,
-            features,
-            identities,
-            extensions,
-            typedefs,
-            groupings,
+            features: places.features,
+            identities: places.identities,
+            extensions: places.extensions,
+            typedefs: places.typedefs,
+            groupings: places.groupings,
         })
     }
 
     /// Where names of a kind occur that is defined in blocks.
     pub(crate) fn places(&self, kind: NameKind) -> &NamePlaces<'a>
-        ensures { (r : Row) → kind_defined r ≡ Some kind → table_of result.now ≡ first_of kind (rows_in self.now.rows.now) }
+        ensures { (r : Row) → kind_defined r ≡ Some kind
+            → table_of result.now ≡ first_of kind (rows_in self.now.rows.now) }
     {
         match kind {
             NameKind::Feature => &self.features,

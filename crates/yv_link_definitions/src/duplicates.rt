@@ -60,7 +60,8 @@ impl<'a, 'b> Draft<'_, 'a, 'b> {
     // Whether an earlier definition of the kind has the name in the block of this one.
     fn has_before(&self, kind: NameKind, number: usize, entry: &Entry<'a, 'b>) -> bool
         requires { kind_defined (row entry.now) ≡ Some kind }
-        ensures { IsTrue result ↔ HasBefore kind (rows_in self.now.rows.now) number (row entry.now) }
+        ensures { IsTrue result
+            ↔ HasBefore kind (rows_in self.now.rows.now) number (row entry.now) }
     {
         let places = self.places(kind);
         match places.get(entry.scope, name_of(entry.statement)) {

@@ -23,7 +23,8 @@ impl<'a, 'b> Draft<'_, 'a, 'b> {
     /// The number of the definition of the kind that a numbered statement counts for.
     pub(crate) fn owner(&self, kind: NameKind, number: usize) -> Option<usize>
         requires { number < length (rows_in self.now.rows.now) }
-        ensures { (d : ℕ) → (result ≡ Some d) ↔ CountsFor (rows_in self.now.rows.now) kind number d }
+        ensures { (d : ℕ)
+            → (result ≡ Some d) ↔ CountsFor (rows_in self.now.rows.now) kind number d }
     {
         yv_link_scopes::laws::blocks_are_nested();
         let entries = self.rows.entries();

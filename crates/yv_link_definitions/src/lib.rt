@@ -1,8 +1,10 @@
-//! The names of definitions: what is wrong with them, which typedef or grouping a name means where it is used, and
-//! an order in which each definition comes after all to which it leads. All takes time linear in statements except
-//! for ordered tables, and for the way from a statement out to the blocks around it.
+//! The names of definitions: what is wrong with them, which typedef or grouping a name means where
+//! it is used, and an order in which each definition comes after all to which it leads. All takes
+//! time linear in statements except for ordered tables, and for the way from a statement out to the
+//! blocks around it.
 #![tactic(auto)]
 
+mod answers;
 mod build;
 mod built_in;
 mod draft;

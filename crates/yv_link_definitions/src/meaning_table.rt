@@ -37,8 +37,8 @@ impl Names {
         self.refs.get(meant).copied()
     }
 
-    /// The number of the typedef that the type of this number means, or of the grouping that the uses of this number
-    /// means. None for other statements, and for built-in types.
+    /// The number of the typedef that the type of this number means, or of the grouping that the
+    /// uses of this number means. None for other statements, and for built-in types.
     pub fn meaning(&self, number: usize) -> Option<usize>
         ensures { (files : Files) → AreNames files self.now
             → (d : ℕ) → (result ≡ Some d) ↔ RefersTo (map brief_of files) (rows_of files) number d }
@@ -46,8 +46,8 @@ impl Names {
         self.definition_at(number)
     }
 
-    /// The typedef that the type statement at an offset of a file means. None where there is no such statement, and for
-    /// built-in types.
+    /// The typedef that the type statement at an offset of a file means. None where there is no
+    /// such statement, and for built-in types.
     pub fn typedef(&self, file: u32, offset: u64) -> Option<DefRef>
         ensures { (files : Files) → AreNames files self.now
             → (ref : DefRef) → (result ≡ Some ref) ↔ RefersAt files (codes "type") file offset ref }
@@ -56,7 +56,8 @@ impl Names {
         self.definition(number)
     }
 
-    /// The grouping that the uses statement at an offset of a file means. None where there is no such statement.
+    /// The grouping that the uses statement at an offset of a file means. None where there is no
+    /// such statement.
     pub fn grouping(&self, file: u32, offset: u64) -> Option<DefRef>
         ensures { (files : Files) → AreNames files self.now
             → (ref : DefRef) → (result ≡ Some ref) ↔ RefersAt files (codes "uses") file offset ref }
@@ -65,9 +66,11 @@ impl Names {
         self.definition(number)
     }
 
-    /// The numbers of all statements, each once, and each typedef and grouping after all to which it leads.
+    /// The numbers of all statements, each once, and each typedef and grouping after all to which
+    /// it leads.
     pub fn order(&self) -> &[usize]
-        ensures { (files : Files) → AreNames files self.now → IsOrderOf (map brief_of files) (rows_of files) result.now }
+        ensures { (files : Files) → AreNames files self.now
+            → IsOrderOf (map brief_of files) (rows_of files) result.now }
     {
         &self.order
     }

@@ -4,7 +4,9 @@ ghost use Rattle.yv_link_scopes.specs.Rows.{row, name_in};
 ghost use Rattle.yv_link_scopes.specs.Scopes.{MeansIn};
 ghost use Rattle.yv_link_scopes.specs.Views.{files_in, rows_in};
 ghost use Rattle.yv_link_scopes.specs.declared.kind.NameKind.{NameKind};
-ghost use Rattle.yv_link_definitions.specs.Refers.{IsUnknown, RefersTo, is_type, is_uses, names_definition};
+ghost use Rattle.yv_link_definitions.specs.Refers.{IsUnknown, RefersTo};
+ghost use Rattle.yv_link_definitions.specs.Refers.{is_type, is_uses, names_definition};
+ghost use Rattle.yv_link_definitions.specs.InnerAnswers.{AreMeant, meant_at};
 
 use crate::built_in::is_built_in;
 use crate::draft::Draft;
@@ -36,8 +38,9 @@ fn names_definition(kind: NameKind, entry: &Entry<'_, '_>) -> bool
 }
 
 /// Of which kind the definition is that a statement names.
-pub(crate) fn named_kind(entry: &Entry<'_, '_>) -> Option<NameKind>
-    ensures { (kind : NameKind) → (result ≡ Some kind) ↔ (names_definition kind (row entry.now) ≡ true) }
+fn named_kind(entry: &Entry<'_, '_>) -> Option<NameKind>
+    ensures { (kind : NameKind)
+        → (result ≡ Some kind) ↔ (names_definition kind (row entry.now) ≡ true) }
 {
     if names_definition(NameKind::Typedef, entry) {
         Some(NameKind::Typedef)
@@ -48,16 +51,30 @@ pub(crate) fn named_kind(entry: &Entry<'_, '_>) -> Option<NameKind>
     }
 }
 
+/// Of which kind the definition is that a statement means, if it means one.
+pub(crate) fn meant_kind(entry: &Entry<'_, '_>) -> NameKind
+    ensures { (kind : NameKind) → names_definition kind (row entry.now) ≡ true → result ≡ kind }
+{
+    if is_type(entry) {
+        NameKind::Typedef
+    } else {
+        NameKind::Grouping
+    }
+}
+
+/// The number of the definition that a numbered statement means.
+pub(crate) fn meant_at(meanings: &[Option<usize>], number: usize) -> Option<usize>
+    ensures { result ≡ meant_at meanings.now number }
+{
+    *meanings.get(number)?
+}
+
 impl<'a, 'b> Draft<'_, 'a, 'b> {
-    /// The number of the definition of the kind that a statement names.
-    pub(crate) fn definition(
-        &self,
-        kind: NameKind,
-        number: usize,
-        entry: &Entry<'a, 'b>,
-    ) -> Option<usize>
+    // The number of the definition of the kind that a statement names.
+    fn definition(&self, kind: NameKind, number: usize, entry: &Entry<'a, 'b>) -> Option<usize>
         requires { names_definition kind (row entry.now) ≡ true }
-        ensures { MeansIn (files_in self.now.rows.now) (rows_in self.now.rows.now) kind number (name_in (row entry.now)) result }
+        ensures { let rows = self.now.rows.now
+            in MeansIn (files_in rows) (rows_in rows) kind number (name_in (row entry.now)) result }
     {
         let name = name_of(entry.statement);
         match kind {
@@ -68,21 +85,31 @@ impl<'a, 'b> Draft<'_, 'a, 'b> {
     }
 
     /// Whether a statement names a definition of the kind that doesn't exist.
-    pub(crate) fn is_unknown(&self, kind: NameKind, number: usize, entry: &Entry<'a, 'b>) -> bool
-        ensures { IsTrue result ↔ IsUnknown (files_in self.now.rows.now) (rows_in self.now.rows.now) kind number (row entry.now) }
+    pub(crate) fn is_unknown(
+        &self,
+        kind: NameKind,
+        meanings: &[Option<usize>],
+        number: usize,
+        entry: &Entry<'a, 'b>,
+    ) -> bool
+        requires at { slice_get (rows_in self.now.rows.now) number ≡ Some (row entry.now) }
+        requires meant { let rows = self.now.rows.now
+            in AreMeant (files_in rows) (rows_in rows) meanings.now }
+        ensures { let rows = self.now.rows.now
+            in IsTrue result
+            ↔ IsUnknown (files_in rows) (rows_in rows) kind number (row entry.now) }
     {
         yv_link_scopes::laws::a_name_means_one_thing();
-        if !names_definition(kind, entry) {
-            return false;
-        }
-        let meant = self.definition(kind, number, entry);
-        meant.is_none()
+        yv_link_scopes::laws::a_name_means_something_or_nothing();
+        let meant = meant_at(meanings, number);
+        meant.is_none() && names_definition(kind, entry)
     }
 
     /// The number of the definition that a type or a uses means.
     pub(crate) fn meaning(&self, number: usize, entry: &Entry<'a, 'b>) -> Option<usize>
         requires { slice_get (rows_in self.now.rows.now) number ≡ Some (row entry.now) }
-        ensures { (d : ℕ) → (result ≡ Some d) ↔ RefersTo (files_in self.now.rows.now) (rows_in self.now.rows.now) number d }
+        ensures { let rows = self.now.rows.now
+            in (d : ℕ) → (result ≡ Some d) ↔ RefersTo (files_in rows) (rows_in rows) number d }
     {
         yv_link_scopes::laws::a_name_means_one_thing();
         match named_kind(entry) {

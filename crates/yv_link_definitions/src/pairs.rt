@@ -4,9 +4,10 @@ ghost use Rattle.yv_link_scopes.specs.Rows.{row};
 ghost use Rattle.yv_link_scopes.specs.Views.{files_in, rows_in};
 ghost use Rattle.yv_link_definitions.specs.Leads.{Joins};
 ghost use Rattle.yv_link_definitions.specs.InnerGraph.{AreSteps, HasNoEdge};
+ghost use Rattle.yv_link_definitions.specs.InnerAnswers.{AreMeant};
 
 use crate::draft::Draft;
-use crate::meanings::named_kind;
+use crate::meanings::{meant_at, meant_kind};
 use std::alloc::{AllocError, Global};
 use yv_link_scopes::Entry;
 
@@ -14,7 +15,7 @@ use yv_link_scopes::Entry;
 fn no_steps(alloc: Global, count: usize) -> Result<Vec<Vec<usize>>, AllocError>
     ensures { IfOk result (λ steps. (length steps.items ≡ count) × HasNoEdge steps.items) }
 {
-    let mut steps = Vec::new(alloc);
+    let mut steps = Vec::with_capacity(alloc, count)?;
     for _ in 0..count {
         steps.push(Vec::new(alloc))?;
     }
@@ -23,25 +24,39 @@ fn no_steps(alloc: Global, count: usize) -> Result<Vec<Vec<usize>>, AllocError>
 
 impl<'a, 'b> Draft<'_, 'a, 'b> {
     // The definition for which a statement counts, and that which it means.
-    fn pair(&self, number: usize, entry: &Entry<'a, 'b>) -> Option<(usize, usize)>
-        requires { slice_get (rows_in self.now.rows.now) number ≡ Some (row entry.now) }
-        ensures { (a b : ℕ) → (result ≡ Some (a, b)) ↔ Joins (files_in self.now.rows.now) (rows_in self.now.rows.now) number a b }
+    fn pair(
+        &self,
+        meanings: &[Option<usize>],
+        number: usize,
+        entry: &Entry<'a, 'b>,
+    ) -> Option<(usize, usize)>
+        requires at { slice_get (rows_in self.now.rows.now) number ≡ Some (row entry.now) }
+        requires meant { let rows = self.now.rows.now
+            in AreMeant (files_in rows) (rows_in rows) meanings.now }
+        ensures { let rows = self.now.rows.now
+            in (a b : ℕ)
+            → (result ≡ Some (a, b)) ↔ Joins (files_in rows) (rows_in rows) number a b }
     {
-        yv_link_scopes::laws::a_name_means_one_thing();
-        let kind = named_kind(entry)?;
-        let meant = self.definition(kind, number, entry)?;
-        let own = self.owner(kind, number)?;
+        let meant = meant_at(meanings, number)?;
+        let own = self.owner(meant_kind(entry), number)?;
         Some((own, meant))
     }
 
     /// For each statement the definitions to which it leads in one step.
-    pub(crate) fn steps(&self, alloc: Global) -> Result<Vec<Vec<usize>>, AllocError>
-        ensures { IfOk result (λ steps. AreSteps (files_in self.now.rows.now) (rows_in self.now.rows.now) steps.items) }
+    pub(crate) fn steps(
+        &self,
+        alloc: Global,
+        meanings: &[Option<usize>],
+    ) -> Result<Vec<Vec<usize>>, AllocError>
+        requires { let rows = self.now.rows.now
+            in AreMeant (files_in rows) (rows_in rows) meanings.now }
+        ensures { let rows = self.now.rows.now
+            in IfOk result (λ steps. AreSteps (files_in rows) (rows_in rows) steps.items) }
     {
         let entries = self.rows.entries();
         let mut steps = no_steps(alloc, entries.len())?;
         for (number, entry) in entries.iter().enumerate() {
-            if let Some((own, meant)) = self.pair(number, entry) {
+            if let Some((own, meant)) = self.pair(meanings, number, entry) {
                 steps[own].push(meant)?;
             }
         }

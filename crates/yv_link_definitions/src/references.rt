@@ -1,14 +1,13 @@
 //! References to definitions, and where statements are.
-ghost use Rattle.std.specs.Prelude.{◌≡◌, ℕ, map, OnOk, IfOk};
-ghost use Rattle.yv_link_scopes.specs.Rows.{row};
-ghost use Rattle.yv_link_scopes.specs.Views.{rows_in};
+ghost use Rattle.std.specs.Prelude.{◌≡◌, ◌+◌, ℕ, List, take, Some, None, OnOk, slice_get};
+ghost use Rattle.yv_link_scopes.specs.Rows.{Row, row};
 ghost use Rattle.yv_link_scopes.specs.Files.{has_word};
 ghost use Rattle.yv_link_definitions.specs.References.{number_at, ref_of};
 ghost use Rattle.yv_link_definitions.specs.InnerPlaces.{placed_in, keep_first};
 
 use std::alloc::{AllocError, Global};
 use std::collections::BTreeMap;
-use yv_link_scopes::{Entry, Rows};
+use yv_link_scopes::Entry;
 
 /// A typedef or a grouping, by its statement's file and offset.
 #[derive(Clone, Copy, Debug, PartialEq, Eq)]
@@ -17,25 +16,14 @@ pub struct DefRef {
     pub offset: u64,
 }
 
-// The reference to a statement.
-fn reference(entry: &Entry<'_, '_>) -> DefRef
+/// The reference to a statement.
+pub(crate) fn reference(entry: &Entry<'_, '_>) -> DefRef
     ensures { result ≡ ref_of (row entry.now) }
 {
     DefRef {
         file: entry.file,
         offset: entry.statement.offset(),
     }
-}
-
-/// A reference to each statement.
-pub(crate) fn read_refs(alloc: Global, rows: &Rows<'_, '_>) -> Result<Vec<DefRef>, AllocError>
-    ensures { IfOk result (λ refs. map ref_of (rows_in rows.now) ≡ refs.items) }
-{
-    let mut refs = Vec::new(alloc);
-    for entry in rows.entries() {
-        refs.push(reference(entry))?;
-    }
-    Ok(refs)
 }
 
 // Whether a statement has this keyword.
@@ -52,23 +40,31 @@ pub(crate) struct References {
 }
 
 impl References {
-    /// The places of the statements of a keyword.
-    pub(crate) fn read(
-        alloc: Global,
-        rows: &Rows<'_, '_>,
-        word: &str,
-    ) -> Result<References, AllocError>
-        ensures { IfOk result (λ places. (f o : ℕ) → placed_in places f o ≡ number_at (rows_in rows.now) word.now f o) }
+    /// No places.
+    pub(crate) fn new(alloc: Global) -> References
+        ensures { (f o : ℕ) → placed_in result f o ≡ None }
     {
-        let mut places = References {
+        References {
             map: BTreeMap::new(alloc),
-        };
-        for (number, entry) in rows.entries().iter().enumerate() {
-            if has_word(entry, word) {
-                places.keep(entry.file, entry.statement.offset(), number)?;
-            }
         }
-        Ok(places)
+    }
+
+    /// Keeps the place of the next statement, where it has the keyword.
+    pub(crate) fn add(
+        &mut self,
+        word: &str,
+        number: usize,
+        entry: &Entry<'_, '_>,
+    ) -> Result<(), AllocError>
+        ensures { (rows : List Row) → slice_get rows number ≡ Some (row entry.now)
+            → ((f o : ℕ) → placed_in self.old f o ≡ number_at (take number rows) word.now f o)
+            → OnOk result ((f o : ℕ)
+            → placed_in self.new f o ≡ number_at (take (number + 1) rows) word.now f o) }
+    {
+        if has_word(entry, word) {
+            self.keep(entry.file, entry.statement.offset(), number)?;
+        }
+        Ok(())
     }
 
     /// The number of the first statement at an offset of a file.
@@ -80,7 +76,8 @@ impl References {
 
     // Puts a number at a place, where there is none yet.
     fn keep(&mut self, file: u32, offset: u64, number: usize) -> Result<(), AllocError>
-        ensures { OnOk result ((f o : ℕ) → placed_in self.new f o ≡ keep_first (placed_in self.old) file offset number f o) }
+        ensures { OnOk result ((f o : ℕ)
+            → placed_in self.new f o ≡ keep_first (placed_in self.old) file offset number f o) }
     {
         if self.get(file, offset).is_none() {
             self.map.insert((file, offset), number)?;

@@ -1,10 +1,12 @@
 //! What is wrong with the names of definitions.
-ghost use Rattle.std.specs.Prelude.{◌≡◌, ◌↔◌, IsTrue, false, slice_index_or};
-ghost use Rattle.yv_statement.specs.Order.{IsLeast};
+ghost use Rattle.std.specs.Prelude.{◌≡◌, ◌↔◌, ◌||◌, IsTrue, false, if◌then◌else◌, Some, None};
+ghost use Rattle.std.specs.Prelude.{slice_get, slice_index_or};
+ghost use Rattle.yv_statement.specs.Order.{IsLeast, refusal_at};
 ghost use Rattle.yv_link_scopes.specs.Rows.{row};
 ghost use Rattle.yv_link_scopes.specs.Views.{files_in, rows_in};
 ghost use Rattle.yv_link_definitions.specs.Refusals.{BadIn, BadRow, IsOnCycle};
 ghost use Rattle.yv_link_definitions.specs.InnerGraph.{AreDefinitionCycles};
+ghost use Rattle.yv_link_definitions.specs.InnerAnswers.{AreMeant};
 
 use crate::draft::{Draft, is_of};
 use yv_link_scopes::{Entry, NameKind};
@@ -17,6 +19,21 @@ fn is_marked(marks: &[bool], number: usize) -> bool
     marks.get(number).copied().unwrap_or(false)
 }
 
+// Whether one of five holds.
+fn any(first: bool, second: bool, third: bool, fourth: bool, fifth: bool) -> bool
+    ensures { result ≡ (first || (second || (third || (fourth || fifth)))) }
+{
+    first || second || third || fourth || fifth
+}
+
+// The refusal of a statement, where it is bad.
+fn refusal_of(bad: bool, code: Code, entry: &Entry<'_, '_>) -> Option<Refusal>
+    ensures { let r = row entry.now
+        in result ≡ (if bad then Some (refusal_at code r.file r.head) else None) }
+{
+    refusal_if(bad, code, entry.file, entry.statement)
+}
+
 impl<'a, 'b> Draft<'_, 'a, 'b> {
     // Whether a statement is a definition of the kind that leads to itself.
     fn is_on_cycle(
@@ -26,57 +43,76 @@ impl<'a, 'b> Draft<'_, 'a, 'b> {
         number: usize,
         entry: &Entry<'a, 'b>,
     ) -> bool
-        requires { AreDefinitionCycles (files_in self.now.rows.now) (rows_in self.now.rows.now) cycles.now }
-        ensures { IsTrue result ↔ IsOnCycle (files_in self.now.rows.now) (rows_in self.now.rows.now) kind number (row entry.now) }
+        requires { let rows = self.now.rows.now
+            in AreDefinitionCycles (files_in rows) (rows_in rows) cycles.now }
+        ensures { let rows = self.now.rows.now
+            in IsTrue result
+            ↔ IsOnCycle (files_in rows) (rows_in rows) kind number (row entry.now) }
     {
-        is_of(kind, entry) && is_marked(cycles, number)
+        is_marked(cycles, number) && is_of(kind, entry)
     }
 
     // What is wrong with a statement.
-    fn row_refusal(&self, cycles: &[bool], number: usize, entry: &Entry<'a, 'b>) -> Option<Refusal>
-        requires { AreDefinitionCycles (files_in self.now.rows.now) (rows_in self.now.rows.now) cycles.now }
-        ensures { IsLeast (BadRow (files_in self.now.rows.now) (rows_in self.now.rows.now) number (row entry.now)) result }
+    fn row_refusal(
+        &self,
+        meanings: &[Option<usize>],
+        cycles: &[bool],
+        number: usize,
+        entry: &Entry<'a, 'b>,
+    ) -> Option<Refusal>
+        requires at { slice_get (rows_in self.now.rows.now) number ≡ Some (row entry.now) }
+        requires meant { let rows = self.now.rows.now
+            in AreMeant (files_in rows) (rows_in rows) meanings.now }
+        requires cycles { let rows = self.now.rows.now
+            in AreDefinitionCycles (files_in rows) (rows_in rows) cycles.now }
+        ensures { let rows = self.now.rows.now
+            in IsLeast (BadRow (files_in rows) (rows_in rows) number (row entry.now)) result }
     {
         let is_taken = self.is_taken(number, entry);
-        let no_typedef = self.is_unknown(NameKind::Typedef, number, entry);
+        let no_typedef = self.is_unknown(NameKind::Typedef, meanings, number, entry);
         let is_typedef_cycle = self.is_on_cycle(NameKind::Typedef, cycles, number, entry);
-        let no_grouping = self.is_unknown(NameKind::Grouping, number, entry);
+        let no_grouping = self.is_unknown(NameKind::Grouping, meanings, number, entry);
         let is_grouping_cycle = self.is_on_cycle(NameKind::Grouping, cycles, number, entry);
-        let taken = refusal_if(is_taken, Code::DuplicateName, entry.file, entry.statement);
-        let typedef = refusal_if(no_typedef, Code::UnknownType, entry.file, entry.statement);
-        let typedef_cycle = refusal_if(
+        if !any(
+            is_taken,
+            no_typedef,
             is_typedef_cycle,
-            Code::TypeCycle,
-            entry.file,
-            entry.statement,
-        );
-        let grouping = refusal_if(
             no_grouping,
-            Code::UnknownGrouping,
-            entry.file,
-            entry.statement,
-        );
-        let grouping_cycle = refusal_if(
             is_grouping_cycle,
-            Code::GroupingCycle,
-            entry.file,
-            entry.statement,
-        );
+        ) {
+            return None;
+        }
+        let taken = refusal_of(is_taken, Code::DuplicateName, entry);
+        let typedef = refusal_of(no_typedef, Code::UnknownType, entry);
+        let typedef_cycle = refusal_of(is_typedef_cycle, Code::TypeCycle, entry);
+        let grouping = refusal_of(no_grouping, Code::UnknownGrouping, entry);
+        let grouping_cycle = refusal_of(is_grouping_cycle, Code::GroupingCycle, entry);
         let groupings = lesser(grouping, grouping_cycle);
         let cycles = lesser(typedef_cycle, groupings);
         let types = lesser(typedef, cycles);
         lesser(taken, types)
     }
 
-    /// The least that is wrong, those definitions being marked that lead to themselves.
-    pub(crate) fn first_refusal(&self, cycles: &[bool]) -> Option<Refusal>
-        requires { AreDefinitionCycles (files_in self.now.rows.now) (rows_in self.now.rows.now) cycles.now }
-        ensures { IsLeast (BadIn (files_in self.now.rows.now) (rows_in self.now.rows.now)) result }
+    /// The least that is wrong, the meanings being known, and those definitions being marked that
+    /// lead to themselves.
+    pub(crate) fn first_refusal(
+        &self,
+        meanings: &[Option<usize>],
+        cycles: &[bool],
+    ) -> Option<Refusal>
+        requires meant { let rows = self.now.rows.now
+            in AreMeant (files_in rows) (rows_in rows) meanings.now }
+        requires cycles { let rows = self.now.rows.now
+            in AreDefinitionCycles (files_in rows) (rows_in rows) cycles.now }
+        ensures { let rows = self.now.rows.now
+            in IsLeast (BadIn (files_in rows) (rows_in rows)) result }
     {
         let mut least = None;
         for (number, entry) in self.rows.entries().iter().enumerate() {
-            let fault = self.row_refusal(cycles, number, entry);
-            least = lesser(least, fault);
+            let fault = self.row_refusal(meanings, cycles, number, entry);
+            if fault.is_some() {
+                least = lesser(least, fault);
+            }
         }
         least
     }

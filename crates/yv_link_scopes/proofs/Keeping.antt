@@ -46,6 +46,19 @@ kept_new old new scope name place none u s n =
     ∙ ap (λ b. cond b (Some place) (lookup_in old s n)) (test_is scope s name.now n)
     ∙ chosen (is_same s n scope name.now) (lookup_in old s n) place (λ h. let p = same_parts s n scope name.now h in ap (λ k. lookup_in old k n) (sym p.0) ∙ ap (lookup_in old scope) (sym p.1) ∙ none)
 
+back : (b : Bool) (old : Option ℕ) (place x : ℕ) → (b ≡ true → old ≡ Some x) → cond b (Some x) (cond b (Some place) old) ≡ first_some old (cond b (Some place) None)
+back true old place x h = ap (λ o. first_some o (Some place)) (sym (h refl))
+back false None place x h = refl
+back false (Some y) place x h = refl
+
+-- one that was there is put back
+pub kept_back : (old mid new : BTreeMap (ℕ × Bor (List ℕ)) ℕ) (scope : ℕ) (name : Bor (List ℕ)) (place x : ℕ) → Some x ≡ lookup_in old scope name.now → UpdatesBy (λ x y. ordering_then (nat_cmp x.0 y.0) (slice_cmp nat_cmp x.1.now y.1.now)) (λ y. ordering_then (nat_cmp scope y.0) (slice_cmp nat_cmp name.now y.1.now)) old mid (Some place) → UpdatesBy (λ x y. ordering_then (nat_cmp x.0 y.0) (slice_cmp nat_cmp x.1.now y.1.now)) (λ y. ordering_then (nat_cmp scope y.0) (slice_cmp nat_cmp name.now y.1.now)) mid new (Some x) → (s : ℕ) (n : List ℕ) → lookup_in new s n ≡ keep_first (lookup_in old) scope name.now place s n
+kept_back old mid new scope name place x some u v s n =
+    v.0 (s, record { ref_ptr = (0, 0); now = n })
+    ∙ ap (λ b. cond b (Some x) (lookup_in mid s n)) (test_is scope s name.now n)
+    ∙ ap (λ o. cond (is_same s n scope name.now) (Some x) o) (u.0 (s, record { ref_ptr = (0, 0); now = n }) ∙ ap (λ b. cond b (Some place) (lookup_in old s n)) (test_is scope s name.now n))
+    ∙ back (is_same s n scope name.now) (lookup_in old s n) place x (λ h. let p = same_parts s n scope name.now h in ap (λ k. lookup_in old k n) (sym p.0) ∙ ap (lookup_in old scope) (sym p.1) ∙ sym some)
+
 -- a name that is there stays
 pub kept_old : (table : Table) (scope : ℕ) (name : List ℕ) (place x : ℕ) → table scope name ≡ Some x → (s : ℕ) (n : List ℕ) → table s n ≡ keep_first table scope name place s n
 kept_old table scope name place x some s n = stays (is_same s n scope name) (table s n) (λ h. let p = same_parts s n scope name h in (x, ap (λ k. table k n) (sym p.0) ∙ ap (table scope) (sym p.1) ∙ some))

@@ -8,3 +8,5 @@ pub mod Within
 pub mod Telling
 pub mod Blocks
 pub mod Order
+pub mod FirstPrefixes
+pub mod Reading

@@ -1,6 +1,9 @@
 -- Only private clauses cite this: a table with one more name, and the lesser of two numbers.
-use Rattle.std.specs.Prelude.{ℕ, nat_lt, List, Option, Some, None, if◌then◌else◌}
-use Rattle.yv_link_scopes.specs.Tables.{Table, is_same}
+use Rattle.std.specs.Prelude.{◌≡◌, ℕ, nat_lt, List, Option, Some, None, if◌then◌else◌}
+use Rattle.yv_link_scopes.specs.Tables.{Table, first_of, is_same, table_of}
+use Rattle.yv_link_scopes.specs.Rows.{Row}
+use Rattle.yv_link_scopes.specs.declared.kind.NameKind.{NameKind}
+use Rattle.yv_link_scopes.specs.declared.places.NamePlaces.{NamePlaces}
 
 abbrev pub first_some : Option ℕ → Option ℕ → Option ℕ
 first_some None b = b
@@ -15,3 +18,7 @@ abbrev pub lesser_of : Option ℕ → Option ℕ → Option ℕ
 lesser_of None b = b
 lesser_of (Some a) None = Some a
 lesser_of (Some a) (Some b) = Some (if nat_lt b a then b else a)
+
+-- these are the first statements of the kind with each name
+abbrev pub AreFirst : NameKind → List Row → NamePlaces → Type 0
+AreFirst kind rows places = (s : ℕ) (n : List ℕ) → table_of places s n ≡ first_of kind rows s n

@@ -5,6 +5,9 @@ pub mod RowList
 pub mod Tables
 pub mod Scopes
 pub mod Views
+pub mod Prefixes
+pub mod InnerModuleFiles
 pub mod InnerPlaces
+pub mod InnerDefinitions
 pub mod Blocks
 pub mod Order

@@ -1,9 +1,13 @@
 //! The kinds of names, and where a name of a kind occurs first.
-ghost use Rattle.std.specs.Prelude.{◌≡◌, ℕ, List, map, IfOk};
+ghost use Rattle.std.specs.Prelude.{◌≡◌, ◌+◌, ℕ, List, Some, map, slice_get, take, IfOk, OnOk};
 ghost use Rattle.yv_link_scopes.specs.Tables.{table_of, word_of, place_of_kind, first_of};
 ghost use Rattle.yv_link_scopes.specs.Files.{has_word};
-ghost use Rattle.yv_link_scopes.specs.Rows.{row};
+ghost use Rattle.yv_link_scopes.specs.Rows.{Row, row};
 ghost use Rattle.yv_link_scopes.specs.Views.{rows_in};
+ghost use Rattle.yv_link_scopes.specs.InnerPlaces.{AreFirst};
+ghost use Rattle.yv_link_scopes.specs.InnerDefinitions.{ArePlaces};
+ghost use Rattle.yv_link_scopes.specs.declared.kind.NameKind.TheVariants.{Typedef, Grouping};
+ghost use Rattle.yv_link_scopes.specs.declared.kind.NameKind.TheVariants.{Feature, Identity, Extension};
 
 use crate::entries::Entry;
 use crate::names::name_of;
@@ -57,6 +61,25 @@ fn has_word(word: &str, entry: &Entry<'_, '_>) -> bool
     entry.statement.keyword() == word
 }
 
+// Keeps the name of the next statement, where that is of the kind and its name is new.
+fn keep_name<'a>(
+    places: &mut NamePlaces<'a>,
+    kind: NameKind,
+    number: usize,
+    entry: &Entry<'a, '_>,
+) -> Result<(), AllocError>
+    ensures { (rows : List Row) → slice_get rows number ≡ Some (row entry.now)
+        → AreFirst kind (take number rows) places.old
+        → OnOk result (AreFirst kind (take (number + 1) rows) places.new) }
+{
+    if has_word(kind.word(), entry) {
+        let place = kind.place(entry);
+        let name = name_of(entry.statement);
+        places.keep(place, name.as_bytes(), number)?;
+    }
+    Ok(())
+}
+
 /// The first of these statements of a kind with each name.
 pub(crate) fn first_entries<'a>(
     alloc: Global,
@@ -69,11 +92,7 @@ pub(crate) fn first_entries<'a>(
 {
     let mut places = NamePlaces::new(alloc);
     for (number, entry) in entries.iter().enumerate() {
-        if has_word(kind.word(), entry) {
-            let place = kind.place(entry);
-            let name = name_of(entry.statement);
-            places.keep(place, name.as_bytes(), number)?;
-        }
+        keep_name(&mut places, kind, number, entry)?;
     }
     Ok(places)
 }
@@ -88,4 +107,60 @@ pub fn first_places<'a>(
     ensures { IfOk result (λ places. table_of places ≡ first_of kind (rows_in rows.now)) }
 {
     first_entries(alloc, kind, rows.entries())
+}
+
+/// Where the names of definitions occur first, in their blocks.
+#[derive(Drop)]
+pub struct DefinitionPlaces<'a> {
+    pub features: NamePlaces<'a>,
+    pub identities: NamePlaces<'a>,
+    pub extensions: NamePlaces<'a>,
+    pub typedefs: NamePlaces<'a>,
+    pub groupings: NamePlaces<'a>,
+}
+
+impl<'a> DefinitionPlaces<'a> {
+    // Keeps the name of the next statement, where that is a definition and its name is new.
+    fn add(&mut self, number: usize, entry: &Entry<'a, '_>) -> Result<(), AllocError>
+        ensures { (rows : List Row) → slice_get rows number ≡ Some (row entry.now)
+            → ArePlaces (take number rows) self.old
+            → OnOk result (ArePlaces (take (number + 1) rows) self.new) }
+    {
+        keep_name(&mut self.features, NameKind::Feature, number, entry)?;
+        keep_name(&mut self.identities, NameKind::Identity, number, entry)?;
+        keep_name(&mut self.extensions, NameKind::Extension, number, entry)?;
+        keep_name(&mut self.typedefs, NameKind::Typedef, number, entry)?;
+        keep_name(&mut self.groupings, NameKind::Grouping, number, entry)?;
+        Ok(())
+    }
+}
+
+/// The first statement of each kind of definition with each name, in its block: what `first_places`
+/// gives for each of these kinds, in one pass over the statements.
+pub fn definition_places<'a>(
+    alloc: Global,
+    rows: &Rows<'a, '_>,
+) -> Result<DefinitionPlaces<'a>, AllocError>
+    ensures features { IfOk result
+        (λ places. table_of places.features ≡ first_of Feature (rows_in rows.now)) }
+    ensures identities { IfOk result
+        (λ places. table_of places.identities ≡ first_of Identity (rows_in rows.now)) }
+    ensures extensions { IfOk result
+        (λ places. table_of places.extensions ≡ first_of Extension (rows_in rows.now)) }
+    ensures typedefs { IfOk result
+        (λ places. table_of places.typedefs ≡ first_of Typedef (rows_in rows.now)) }
+    ensures groupings { IfOk result
+        (λ places. table_of places.groupings ≡ first_of Grouping (rows_in rows.now)) }
+{
+    let mut places = DefinitionPlaces {
+        features: NamePlaces::new(alloc),
+        identities: NamePlaces::new(alloc),
+        extensions: NamePlaces::new(alloc),
+        typedefs: NamePlaces::new(alloc),
+        groupings: NamePlaces::new(alloc),
+    };
+    for (number, entry) in rows.entries().iter().enumerate() {
+        places.add(number, entry)?;
+    }
+    Ok(places)
 }

@@ -12,12 +12,14 @@ mod kind;
 pub mod laws;
 mod names;
 mod places;
+mod prefixes;
 mod rows;
 mod scopes;
 
 pub use entries::Entry;
 pub use files::File;
-pub use kind::{NameKind, first_places};
+pub use kind::{DefinitionPlaces, NameKind, definition_places, first_places};
 pub use names::{local, name_of, prefix_of};
 pub use places::NamePlaces;
+pub use prefixes::PrefixTable;
 pub use rows::Rows;

@@ -46,8 +46,9 @@ impl<'a> NamePlaces<'a> {
         ensures { OnOk result ((s : ℕ) (n : List ℕ)
             → table_of self.new s n ≡ keep_first (table_of self.old) scope name.now place s n) }
     {
-        if self.get_bytes(scope, name).is_none() {
-            self.map.insert((scope, name), place)?;
+        // A new name is searched for once. The number of one that was there is put back.
+        if let Some(first) = self.map.insert((scope, name), place)? {
+            self.map.insert((scope, name), first)?;
         }
         Ok(())
     }

@@ -1,12 +1,9 @@
--- Only private clauses cite this: what is known of prefixes that were read.
-use Rattle.std.specs.Prelude.{◌≡◌, map}
+-- Only private clauses cite this: what is known of the prefixes of files that were read.
+use Rattle.std.specs.Prelude.{map}
 use Rattle.yv_link_scopes.specs.Files.{Files, brief_of}
+use Rattle.yv_link_scopes.specs.Prefixes.{IsPrefixTable as IsTable}
 use Rattle.yv_link_scopes.specs.RowList.{rows_of}
-use Rattle.yv_link_scopes.specs.Tables.{table_of, first_of}
-use Rattle.yv_link_scopes.specs.declared.kind.NameKind.TheVariants.{Prefix}
-use Rattle.yv_node_paths.specs.InnerModuleFiles.{module_file_of_prefix}
-use Rattle.yv_node_paths.specs.declared.prefixes.PrefixTable.{PrefixTable}
+use Rattle.yv_link_scopes.specs.declared.prefixes.PrefixTable.{PrefixTable}
 
-pub record IsPrefixTable (files : Files) (module_files : PrefixTable) : Type 0 where
-  pub prefixes : table_of module_files.prefixes ≡ first_of Prefix (rows_of files)
-  pub module_files_are : map (module_file_of_prefix (map brief_of files) (rows_of files)) (rows_of files) ≡ module_files.module_files.items
+abbrev pub IsPrefixTable : Files → PrefixTable → Type 0
+IsPrefixTable files prefixes = IsTable (map brief_of files) (rows_of files) prefixes

@@ -6,7 +6,6 @@ mod first_word;
 pub mod laws;
 mod paths;
 mod pieces;
-mod prefixes;
 mod referral;
 mod steps;
 

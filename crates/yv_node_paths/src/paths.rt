@@ -7,11 +7,10 @@ ghost use Rattle.yv_node_paths.specs.InnerFirstWord.{name_in, path_in};
 
 use crate::first_word::cut;
 use crate::pieces::read_pieces;
-use crate::prefixes::PrefixTable;
 use crate::referral::{LeafrefPath, read_referral};
 use crate::steps::{read_path, read_step};
 use std::alloc::{AllocError, Global};
-use yv_link_scopes::Rows;
+use yv_link_scopes::{PrefixTable, Rows};
 use yv_node_definition::{PathPiece, PathStep};
 
 // Adds the path that a text without blanks is. An empty one is none.

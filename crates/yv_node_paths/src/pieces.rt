@@ -4,11 +4,10 @@ ghost use Rattle.yv_link_scopes.specs.Files.{Files};
 ghost use Rattle.yv_node_paths.specs.InnerPrefixes.{IsPrefixTable};
 ghost use Rattle.yv_node_paths.specs.Referral.{piece_of, pieces_of};
 
-use crate::prefixes::PrefixTable;
 use crate::steps::texts_of;
 use std::alloc::{AllocError, Global};
 use std::rc::RcStr;
-use yv_link_scopes::{local, prefix_of};
+use yv_link_scopes::{PrefixTable, local, prefix_of};
 use yv_node_definition::PathPiece;
 
 // The piece that is written so in a file.

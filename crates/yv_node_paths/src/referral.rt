@@ -6,9 +6,9 @@ ghost use Rattle.yv_node_paths.specs.InnerPrefixes.{IsPrefixTable};
 ghost use Rattle.yv_node_paths.specs.Referral.{climbs_of, is_absolute, is_up, names_behind, steps_in, ups_of};
 ghost use Rattle.yv_node_paths.specs.Steps.{path_of, step_of};
 
-use crate::prefixes::PrefixTable;
 use crate::steps::{read_path, read_steps, texts_of};
 use std::alloc::{AllocError, Global};
+use yv_link_scopes::PrefixTable;
 use yv_node_definition::PathStep;
 
 /// The path of a leafref (RFC 7950, section 9.9.2).

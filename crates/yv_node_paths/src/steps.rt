@@ -5,10 +5,9 @@ ghost use Rattle.yv_link_scopes.specs.Files.{Files};
 ghost use Rattle.yv_node_paths.specs.Steps.{path_of, step_of, texts_of};
 ghost use Rattle.yv_node_paths.specs.InnerPrefixes.{IsPrefixTable};
 
-use crate::prefixes::PrefixTable;
 use std::alloc::{AllocError, Global};
 use std::rc::RcStr;
-use yv_link_scopes::{local, prefix_of};
+use yv_link_scopes::{PrefixTable, local, prefix_of};
 use yv_node_definition::PathStep;
 
 // A step without a prefix.

@@ -1,8 +1,8 @@
 //! Whether a word occurs twice in a text, found without allocating memory.
 //!
 //! Words that fill a table on the stack are sorted there, the words after them are looked up among
-//! them, and so on. So n words cost about n * n / (2 * N) searches by a table of N words: three
-//! seconds for 4 MiB of different short words.
+//! them, and so on. So n words cost about n * n / (2 * N) searches by a table of N words: 4 MiB of
+//! different short words fill the largest table five times, and take half a second.
 ghost use Rattle.std.specs.Prelude.{◌≡◌, ◌≤◌, ◌<◌, ℕ, [], ◌++◌, length, map, take};
 ghost use Rattle.std.specs.List.{list_any};
 ghost use Rattle.std.specs.List.Sorted.{IsSorted};
@@ -17,8 +17,11 @@ use crate::words::Words;
 /// How many words a small table holds, and up to how many bytes a text may be for it.
 const FEW: usize = 256;
 
-/// How many words a large table holds.
+/// The same of a large table.
 const MANY: usize = 16_384;
+
+/// How many words the largest table holds: it takes 2 MiB.
+const MOST: usize = 131_072;
 
 /// Whether no word of a text occurs twice.
 pub fn none_twice(text: &[u8]) -> bool
@@ -26,11 +29,16 @@ pub fn none_twice(text: &[u8]) -> bool
 {
     if text.len() <= 2 * FEW {
         none_twice_short(text)
-    } else {
+    } else if text.len() <= 2 * MANY {
         none_twice_long(text)
+    } else {
+        none_twice_longest(text)
     }
 }
 
+// This and the next stay functions of their own, since the caller would reserve a place for their
+// tables at each statement.
+#[inline(never)]
 fn none_twice_short(text: &[u8]) -> bool
     ensures { result ≡ none_twice (words text.now) }
 {
@@ -38,10 +46,20 @@ fn none_twice_short(text: &[u8]) -> bool
     none_twice_in(&mut table, text)
 }
 
+#[inline(never)]
 fn none_twice_long(text: &[u8]) -> bool
     ensures { result ≡ none_twice (words text.now) }
 {
     let mut table: [&[u8]; MANY] = [b""; MANY];
+    none_twice_in(&mut table, text)
+}
+
+// A table of this size is on the stack only where such a text is.
+#[inline(never)]
+fn none_twice_longest(text: &[u8]) -> bool
+    ensures { result ≡ none_twice (words text.now) }
+{
+    let mut table: [&[u8]; MOST] = [b""; MOST];
     none_twice_in(&mut table, text)
 }
 

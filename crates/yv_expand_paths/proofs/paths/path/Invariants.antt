@@ -3,7 +3,7 @@ use Rattle.yv_link_scopes.specs.Files.{Briefs}
 use Rattle.yv_link_scopes.specs.Rows.{Row}
 use Rattle.yv_expand_paths.specs.InnerSteps.{step_of}
 use Rattle.yv_expand_paths.specs.PathTables.{AreNames}
-use Rattle.yv_expand_paths.specs.InnerPrefixes.{IsPrefixTable}
+use Rattle.yv_link_scopes.specs.Prefixes.{IsPrefixTable}
 use Rattle.yv_expand_paths.proofs.paths.path.Given as goal
 
 abbrev pub invariant-loop-text : goal.invariant-loop-text

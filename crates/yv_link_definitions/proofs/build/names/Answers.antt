@@ -1,22 +1,26 @@
-use Rattle.std.proofs.Common.{None, Some, ℕ, ◌≡◌, ◌↔◌, subst}
-use Rattle.std.specs.List.{slice_get}
-use Rattle.std.specs.Option.{option_and_then}
-use Rattle.yv_link_definitions.specs.Refers.{RefersTo}
+use Rattle.std.proofs.Common.{None, Some, ◌≡◌, length, subst}
 use Rattle.yv_link_definitions.specs.Leads.{IsOrderOf}
 use Rattle.yv_statement.specs.Order.{IsLeast}
 use Rattle.yv_statement.specs.declared.refusal.Stop.TheVariants.{Fault}
 use Rattle.yv_link_definitions.specs.Refusals.{BadIn}
 use Rattle.yv_link_scopes.specs.declared.rows.Rows.{Rows}
 use Rattle.yv_link_scopes.specs.Views.{files_in, rows_in}
+use Rattle.yv_link_definitions.specs.InnerAnswers.{TellFirst}
+use Rattle.yv_link_definitions.proofs.Told.{meanings_read, meanings_told, refs_told, types_told, uses_told}
 use Rattle.yv_link_definitions.proofs.build.names.Goals as goal
+
+pub order-requires : goal.order-requires
+order-requires c = meanings_read (files_in c.in_ok-draft.draft.rows.now) (rows_in c.in_ok-draft.draft.rows.now) c.in_ok-answers.answers _ c.deref.ensures.value c.in_ok-answers.ensures
 
 pub returns-clause-makes : goal.returns-clause-makes
 returns-clause-makes c =
+    let told : TellFirst (files_in c.args.rows.now) (rows_in c.args.rows.now) (length (rows_in c.args.rows.now)) c.in_ok-answers.answers =
+        subst (λ (x : Rows). TellFirst (files_in x) (rows_in x) (length (rows_in x)) c.in_ok-answers.answers) c.in_ok-draft.ensures c.in_ok-answers.ensures in
     record {
-      meant = subst (λ (x : Rows). (k d : ℕ) → (option_and_then (λ m. m) (slice_get c.in_ok-meanings.meanings.items k) ≡ Some d) ↔ RefersTo (files_in x) (rows_in x) k d) c.in_ok-draft.ensures c.in_ok-meanings.ensures;
-      refs = c.in_ok-refs.ensures;
-      types = c.in_ok-types.ensures;
-      uses = c.in_ok-uses.ensures;
+      meant = (meanings_told (files_in c.args.rows.now) (rows_in c.args.rows.now) c.in_ok-answers.answers told).exact;
+      refs = refs_told (files_in c.args.rows.now) (rows_in c.args.rows.now) c.in_ok-answers.answers told;
+      types = types_told (files_in c.args.rows.now) (rows_in c.args.rows.now) c.in_ok-answers.answers told;
+      uses = uses_told (files_in c.args.rows.now) (rows_in c.args.rows.now) c.in_ok-answers.answers told;
       order = subst (λ (x : Rows). IsOrderOf (files_in x) (rows_in x) c.in-Ok.order.items) c.in_ok-draft.ensures c.in-Ok.ensures.makes;
     }
 

@@ -4,7 +4,7 @@ use Rattle.yv_link_definitions.proofs.Joining.{no_edge_none, no_edge_more}
 use Rattle.yv_link_definitions.proofs.pairs.no_steps.Goals as goal
 
 pub loop-init : goal.loop-init
-loop-init c = record { each = ap length c.new-steps.ensures.items; none = no_edge_none _ c.new-steps.ensures.items }
+loop-init c = record { each = ap length c.in_ok-steps.ensures.items; none = no_edge_none _ c.in_ok-steps.ensures.items }
 
 pub loop-preserved : goal.loop-preserved
 loop-preserved c = record {

@@ -19,7 +19,7 @@ loop-entry-preserved c =
     record {
       each = ap length c.in_ok-push.ensures.items ∙ length_push c.loop-entry.paths.items _ ∙ omega (arith, c.loop-entry.invariant.each);
       steps = each_more steps_of (λ k. path_at files rows (slice_get rows k)) c.loop-entry.paths.items c.push.new.self.items _ i c.loop-entry.invariant.each c.in_ok-push.ensures.items
-          (c.in_ok-path_at.ensures files rows c.in_ok-module_files.ensures c.requires ∙ ap (path_at files rows) (sym at)) c.loop-entry.invariant.steps;
+          (c.in_ok-path_at.ensures files rows c.in_ok-module_files.ensures.table c.requires ∙ ap (path_at files rows) (sym at)) c.loop-entry.invariant.steps;
     }
 
 pub returns : goal.returns

@@ -11,8 +11,8 @@ pub loop-number-init : goal.loop-number-init
 loop-number-init c =
     pairing_none _ _ _ (c.in_ok-steps.ensures.0 ∙ rows_count row _ (rows_in c.args.self.now.rows.now) c.entries-entries.ensures) c.in_ok-steps.ensures.1
 
-pub pair-requires : goal.pair-requires
-pair-requires c = row_read row _ (rows_in c.args.self.now.rows.now) c.loop-number.number c.index-entries-number.result c.entries-entries.ensures c.loop-number-test.true c.index-entries-number.is
+pub pair-requires-clause-at : goal.pair-requires-clause-at
+pair-requires-clause-at c = row_read row _ (rows_in c.args.self.now.rows.now) c.loop-number.number c.index-entries-number.result c.entries-entries.ensures c.loop-number-test.true c.index-entries-number.is
 
 pub index_mut-requires : goal.index_mut-requires
 index_mut-requires c =

@@ -1,0 +1,26 @@
+-- What is told of all statements.
+use Rattle.std.proofs.Common.{◌≡◌, ℕ, ◌≤◌, List, length, map, take, codes, Option, sym, ◌∙◌, ap, subst, arith}
+use Rattle.std.proofs.lemmas.List.{take_all}
+use Rattle.yv_link_scopes.specs.Files.{Briefs}
+use Rattle.yv_link_scopes.specs.Rows.{Row}
+use Rattle.yv_link_definitions.specs.References.{number_at, ref_of}
+use Rattle.yv_link_definitions.specs.InnerPlaces.{placed_in}
+use Rattle.yv_link_definitions.specs.InnerAnswers.{AreMeant, TellFirst}
+use Rattle.yv_link_definitions.specs.declared.answers.Answers.{Answers}
+use Rattle.yv_link_definitions.proofs.Knowing.{meant_all}
+
+module _ (files : Briefs) (rows : List Row) (answers : Answers) (told : TellFirst files rows (length rows) answers) where
+  pub meanings_told : AreMeant files rows answers.meanings.items
+  meanings_told = record { exact = meant_all files rows (length rows) answers.meanings.items (omega arith) told.meant }
+
+  pub refs_told : map ref_of rows ≡ answers.refs.items
+  refs_told = ap (map ref_of) (sym (take_all (length rows) rows (omega arith))) ∙ told.refs
+
+  pub types_told : (file offset : ℕ) → placed_in answers.types file offset ≡ number_at rows (codes "type") file offset
+  types_told file offset = told.types file offset ∙ ap (λ xs. number_at xs (codes "type") file offset) (take_all (length rows) rows (omega arith))
+
+  pub uses_told : (file offset : ℕ) → placed_in answers.uses file offset ≡ number_at rows (codes "uses") file offset
+  uses_told file offset = told.uses file offset ∙ ap (λ xs. number_at xs (codes "uses") file offset) (take_all (length rows) rows (omega arith))
+
+pub meanings_read : (files : Briefs) (rows : List Row) (answers : Answers) (meanings : List (Option ℕ)) → meanings ≡ answers.meanings.items → TellFirst files rows (length rows) answers → AreMeant files rows meanings
+meanings_read files rows answers meanings is told = subst (λ (xs : List (Option ℕ)). AreMeant files rows xs) (sym is) (meanings_told files rows answers told)
