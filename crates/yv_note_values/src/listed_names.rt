@@ -3,10 +3,13 @@ use serde_json::Value;
 use std::alloc::{AllocError, Global};
 use std::rc::RcStr;
 use yv_note_text::{Joint, Likeness, compare, push_between, push_quoted};
-use yv_values::{Member, PlainType};
+use yv_values::{Member, Members, PlainType};
 
 /// Among how many names of a type one is looked for that is like what is written.
 const MOST_COMPARED: usize = 1000;
+
+/// How many identities are read to list 8: one more, which tells that there are others.
+const MOST_LISTED: usize = 9;
 
 /// How many words of a set of bits are compared.
 const MOST_WORDS: usize = 8;
@@ -58,8 +61,9 @@ fn push_list(text: &mut String, names: &[RcStr]) -> Result<(), AllocError> {
 pub(crate) fn push_identities(
     alloc: Global,
     text: &mut String,
-    members: &[Member],
+    members: &Members,
 ) -> Result<(), AllocError> {
+    let members = members.front(alloc, MOST_LISTED)?;
     if members.is_empty() {
         return text.push_str(NO_IDENTITY);
     }
@@ -98,7 +102,7 @@ pub(crate) fn push_guess(
         Some(Value::String(written)) => written.as_str(),
         _ => return Ok(()),
     };
-    let near = match nearest(types, written) {
+    let near = match nearest(alloc, types, written)? {
         Some(near) => near,
         None => return Ok(()),
     };
@@ -111,20 +115,28 @@ pub(crate) fn push_guess(
 }
 
 // The value of these types that is most like one that is written.
-fn nearest<'t>(types: &'t [PlainType], written: &str) -> Option<Near<'t>> {
+fn nearest<'t>(
+    alloc: Global,
+    types: &'t [PlainType],
+    written: &str,
+) -> Result<Option<Near<'t>>, AllocError> {
     let mut found = None;
     for plain in types {
-        found = nearer(found, nearest_of(plain, written));
+        found = nearer(found, nearest_of(alloc, plain, written)?);
     }
-    found
+    Ok(found)
 }
 
-fn nearest_of<'t>(plain: &'t PlainType, written: &str) -> Option<Near<'t>> {
+fn nearest_of<'t>(
+    alloc: Global,
+    plain: &'t PlainType,
+    written: &str,
+) -> Result<Option<Near<'t>>, AllocError> {
     match plain {
-        PlainType::Enumeration(names) => nearest_name(names.as_slice(), written),
-        PlainType::Bits(names) => nearest_word(names.as_slice(), written),
-        PlainType::Identity(members) => nearest_member(members.as_slice(), local(written)),
-        _ => None,
+        PlainType::Enumeration(names) => Ok(nearest_name(names.as_slice(), written)),
+        PlainType::Bits(names) => Ok(nearest_word(names.as_slice(), written)),
+        PlainType::Identity(members) => nearest_member(alloc, members, local(written)),
+        _ => Ok(None),
     }
 }
 
@@ -159,12 +171,16 @@ fn near_name<'t>(name: &'t RcStr, written: &str) -> Option<Near<'t>> {
 }
 
 // The identity whose name is most like what is written: the same name of another module too.
-fn nearest_member<'t>(members: &'t [Member], written: &str) -> Option<Near<'t>> {
+fn nearest_member<'t>(
+    alloc: Global,
+    members: &'t Members,
+    written: &str,
+) -> Result<Option<Near<'t>>, AllocError> {
     let mut found = None;
-    for member in members.iter().take(MOST_COMPARED) {
+    for member in members.front(alloc, MOST_COMPARED)? {
         found = nearer(found, near_member(member, written));
     }
-    found
+    Ok(found)
 }
 
 fn near_member<'t>(member: &'t Member, written: &str) -> Option<Near<'t>> {

@@ -61,20 +61,31 @@ fn push_instead(
     types: &[PlainType],
     value: Option<&Value>,
 ) -> Result<(), AllocError> {
-    match value {
-        Some(value) if types.iter().any(has_values) => {
-            text.push_str(", not ")?;
-            push_written(alloc, text, value)
-        }
-        _ => Ok(()),
+    let Some(value) = value else {
+        return Ok(());
+    };
+    if !have_values(alloc, types)? {
+        return Ok(());
     }
+    text.push_str(", not ")?;
+    push_written(alloc, text, value)
 }
 
-fn has_values(plain: &PlainType) -> bool {
+// Whether one of these types has a value.
+fn have_values(alloc: Global, types: &[PlainType]) -> Result<bool, AllocError> {
+    for plain in types {
+        if has_values(alloc, plain)? {
+            return Ok(true);
+        }
+    }
+    Ok(false)
+}
+
+fn has_values(alloc: Global, plain: &PlainType) -> Result<bool, AllocError> {
     match plain {
-        PlainType::Enumeration(names) => !names.as_slice().is_empty(),
-        PlainType::Identity(members) => !members.as_slice().is_empty(),
-        _ => true,
+        PlainType::Enumeration(names) => Ok(!names.as_slice().is_empty()),
+        PlainType::Identity(members) => Ok(!members.front(alloc, 1)?.is_empty()),
+        _ => Ok(true),
     }
 }
 
@@ -115,7 +126,7 @@ fn push_plain(
             text.push_str("base64 in quotes")?;
             push_size(text, lengths, "octet", "octets")
         }
-        PlainType::Identity(members) => push_identities(alloc, text, members.as_slice()),
+        PlainType::Identity(members) => push_identities(alloc, text, members),
         PlainType::Empty => text.push_str("[null]"),
     }
 }

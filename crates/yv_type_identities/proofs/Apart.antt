@@ -42,7 +42,7 @@ module _ {X : Type 0} (p : X → Bool) where
   ]
 
   -- the first is the only one
-  only_first : (xs : List X) (i : ℕ) (x : X) (o : Option ℕ) → first_where p xs ≡ o → slice_get xs i ≡ Some x → p x ≡ true → ((j : ℕ) (y : X) → slice_get xs j ≡ Some y → p y ≡ true → j ≡ i) → o ≡ Some i
+  pub only_first : (xs : List X) (i : ℕ) (x : X) (o : Option ℕ) → first_where p xs ≡ o → slice_get xs i ≡ Some x → p x ≡ true → ((j : ℕ) (y : X) → slice_get xs j ≡ Some y → p y ≡ true → j ≡ i) → o ≡ Some i
   only_first xs i x None h at t only = absurd (position_none 0 xs h i x at t)
   only_first xs i x (Some d) h at t only =
       let f = position_found 0 d xs h in
@@ -55,7 +55,7 @@ module _ (files : Briefs) (rows : List Row) (place base : IdentityRef) where
   is_there r = is_identity r && is_at place (ref_of r)
 
   -- what is derived is an identity
-  own_of : (i b : ℕ) → IsDerivedFrom files rows i b → (r : Row) × (slice_get rows i ≡ Some r) × (is_identity r ≡ true)
+  pub own_of : (i b : ℕ) → IsDerivedFrom files rows i b → (r : Row) × (slice_get rows i ≡ Some r) × (is_identity r ≡ true)
   own_of i b (directly h) = (h.own, h.own_at, h.is_one)
   own_of i b (further h d) = (h.own, h.own_at, h.is_one)
 

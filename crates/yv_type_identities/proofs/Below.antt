@@ -24,7 +24,7 @@ same_place place ref e =
 abbrev pub ref_at : ℕ × ℕ → IdentityRef
 ref_at k = record { file = k.0; offset = k.1 }
 
-named : (base : IdentityRef) (k : ℕ × ℕ) → is_key base k ≡ true → base ≡ ref_at k
+pub named : (base : IdentityRef) (k : ℕ × ℕ) → is_key base k ≡ true → base ≡ ref_at k
 named base k h = sym (same_at (ref_at k) base h)
 
 names_itself : (k : ℕ × ℕ) → is_key (ref_at k) k ≡ true

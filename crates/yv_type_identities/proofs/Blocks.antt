@@ -81,7 +81,7 @@ module _ (files : Briefs) (rows : List Row) where
         )
   ]
 
-  means : (s : Row) (base : IdentityRef) (b : Bool) → is_base s ≡ b → cond b (reference_of files rows s.file (name_in s)) None ≡ Some base → (is_base s ≡ true) × (reference_of files rows s.file (name_in s) ≡ Some base)
+  pub means : (s : Row) (base : IdentityRef) (b : Bool) → is_base s ≡ b → cond b (reference_of files rows s.file (name_in s)) None ≡ Some base → (is_base s ≡ true) × (reference_of files rows s.file (name_in s) ≡ Some base)
   means s base true e h = (e, h)
   means s base false e h = cc
 

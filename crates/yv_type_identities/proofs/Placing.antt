@@ -17,7 +17,7 @@ is_eq_then Less q = refl
 is_eq_then Equal q = refl
 is_eq_then Greater q = refl
 
-test_is : (file f offset o : ℕ) → is_eq (ordering_then (nat_cmp file f) (nat_cmp offset o)) ≡ ((file == f) && (offset == o))
+pub test_is : (file f offset o : ℕ) → is_eq (ordering_then (nat_cmp file f) (nat_cmp offset o)) ≡ ((file == f) && (offset == o))
 test_is file f offset o = is_eq_then (nat_cmp file f) (nat_cmp offset o) ∙ ap (λ b. b && is_eq (nat_cmp offset o)) (is_eq_nat file f) ∙ ap (λ b. (file == f) && b) (is_eq_nat offset o)
 
 pub added : (old new : BTreeSet (ℕ × ℕ)) (ref : IdentityRef) → UpdatesBy (λ x y. ordering_then (nat_cmp x.0 y.0) (nat_cmp x.1 y.1)) (λ y. ordering_then (nat_cmp ref.file y.0) (nat_cmp ref.offset y.1)) old new true → (place : IdentityRef) → has_key new place.file place.offset ≡ (has_key old place.file place.offset || is_at place ref)

@@ -12,6 +12,8 @@ use Rattle.yv_values.specs.Identities.{Id, is_identity}
 use Rattle.yv_type_identities.specs.Bases.{NamesBase}
 use Rattle.yv_type_identities.specs.InnerBases.{bases_at}
 use Rattle.yv_type_identities.specs.InnerCandidates.{AreCandidates, HasKeyValue}
+use Rattle.yv_type_identities.specs.InnerRuns.{AreShared}
+use Rattle.yv_type_identities.specs.declared.shared_members.SharedMembers.{SharedMembers}
 use Rattle.yv_type_identities.specs.declared.identities.KeyMembers.{KeyMembers}
 use Rattle.yv_type_identities.specs.declared.identities.IdentityLists.{IdentityLists}
 
@@ -26,4 +28,5 @@ pub record AreIdentities (linked : Linked) (identities : IdentityLists) : Type 0
       → IsTrue (list_any (is_at base) (bases_at identities.bases.items block)) ↔ NamesBase (map brief_of files) (rows_of files) block base
   pub candidates : (files : Files) (choice : Selected) → AreLinked files choice linked
       → AreCandidates (truth_in linked) choice files identities.candidates.list.items
+  pub shared : (s : SharedMembers) → identities.shared ≡ Some s → AreShared linked identities.candidates.list.items s
   pub found : (k : ℕ) (f : KeyMembers) → slice_get identities.found.items k ≡ Some f → IsFound linked f.key.items f.members

@@ -5,3 +5,4 @@ pub mod InnerSets
 pub mod InnerBases
 pub mod InnerCandidates
 pub mod InnerPlaces
+pub mod InnerRuns

@@ -36,15 +36,15 @@ struct Draft<'r, 'a, 'b> {
     off: BTreeSet<usize>,
 }
 
-// Whether a statement is an identity.
-fn is_identity(entry: &Entry<'_, '_>) -> bool
+/// Whether a statement is an identity.
+pub(crate) fn is_identity(entry: &Entry<'_, '_>) -> bool
     ensures { result ≡ is_identity (row entry.now) }
 {
     entry.statement.keyword() == "identity"
 }
 
-// The reference to a statement.
-fn reference(entry: &Entry<'_, '_>) -> IdentityRef
+/// The reference to a statement.
+pub(crate) fn reference(entry: &Entry<'_, '_>) -> IdentityRef
     ensures { result ≡ ref_of (row entry.now) }
 {
     IdentityRef {

@@ -12,6 +12,7 @@ use crate::bases::below;
 use crate::inside::bases_inside;
 use crate::keys::key_of;
 use crate::lists::{Candidates, members_of};
+use crate::shared_members::SharedMembers;
 use std::alloc::{AllocError, Global};
 use std::collections::BTreeMap;
 use yv_link::{IdentityRef, Linked};
@@ -24,18 +25,19 @@ pub(crate) struct KeyMembers {
     pub members: Members,
 }
 
-/// What identityref types ask of linked files, and the lists of identities that were made for some:
-/// types with the same bases share one.
+/// What identityref types ask of linked files. Types share one list of identities, of which each
+/// has a part; where that can't be, types with the same bases share a list that was made for one.
 #[derive(Drop)]
 pub struct IdentityLists {
     pub(crate) bases: Vec<Vec<IdentityRef>>,
     pub(crate) candidates: Candidates,
+    pub(crate) shared: Option<SharedMembers>,
     pub(crate) found: Vec<KeyMembers>,
     places: BTreeMap<Vec<(u32, u64)>, usize>,
 }
 
-// The bases in a block.
-fn bases_of(inside: &[Vec<IdentityRef>], block: usize) -> &[IdentityRef]
+/// The bases in a block.
+pub(crate) fn bases_of(inside: &[Vec<IdentityRef>], block: usize) -> &[IdentityRef]
     ensures { result.now ≡ bases_at inside.now block }
 {
     match inside.get(block) {
@@ -54,9 +56,11 @@ impl IdentityLists {
     {
         let bases = bases_inside(alloc, linked)?;
         let candidates = Candidates::read(alloc, linked)?;
+        let shared = SharedMembers::read(alloc, linked, &bases, &candidates.list)?;
         Ok(IdentityLists {
             bases,
             candidates,
+            shared,
             found: Vec::new(alloc),
             places: BTreeMap::new(alloc),
         })
@@ -69,10 +73,11 @@ impl IdentityLists {
     /// derived through others whether or not these are values. A base whose name means nothing,
     /// which linking refuses, counts as none, and a type without a base has all identities.
     ///
-    /// For the first type with these bases it takes for each of them the time of
-    /// `Linked::descendants`, and n log n in the identities that are derived from it; only a type
-    /// without a base goes through all identities here. For the others it takes the time of sorting
-    /// the bases.
+    /// Where identities and their bases make a tree, it takes the time of sorting the bases, and
+    /// the list is a part of one that all types share. Otherwise it takes for the first type with
+    /// these bases for each of them the time of `Linked::descendants`, and n log n in the
+    /// identities that are derived from it; only a type without a base goes through all identities
+    /// here. For the others it takes the time of sorting the bases.
     pub fn of(
         &mut self,
         alloc: Global,
@@ -98,9 +103,23 @@ impl IdentityLists {
         Ok(members)
     }
 
+    // The list of a key, if it is a part of the shared one or was made before.
+    fn find(&self, key: &[(u32, u64)]) -> Result<Option<Members>, AllocError>
+        ensures rises { IfOk result (λ found. IfSome found RiseById) }
+        ensures right { (linked : Linked) → AreIdentities linked self.now
+            → IfOk result (λ found. IfSome found (IsFound linked key.now)) }
+    {
+        if let Some(shared) = &self.shared {
+            if let Some(members) = shared.members(key)? {
+                return Ok(Some(members));
+            }
+        }
+        self.find_made(key)
+    }
+
     // The list that was made for a key. That it is the one of this key is looked at, and not kept
     // as a fact.
-    fn find(&self, key: &[(u32, u64)]) -> Result<Option<Members>, AllocError>
+    fn find_made(&self, key: &[(u32, u64)]) -> Result<Option<Members>, AllocError>
         ensures rises { IfOk result (λ found. IfSome found RiseById) }
         ensures right { (linked : Linked) → AreIdentities linked self.now
             → IfOk result (λ found. IfSome found (IsFound linked key.now)) }

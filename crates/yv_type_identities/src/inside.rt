@@ -15,8 +15,8 @@ use std::alloc::{AllocError, Global};
 use yv_link::{IdentityRef, Linked};
 use yv_link_scopes::{Entry, name_of};
 
-// The base that a statement gives the type in whose block it stands.
-fn base_of<'a, 'b>(linked: &Linked<'a, 'b>, entry: &Entry<'a, 'b>) -> Option<IdentityRef>
+/// The base that a statement gives the type or the identity in whose block it stands.
+pub(crate) fn base_of<'a, 'b>(linked: &Linked<'a, 'b>, entry: &Entry<'a, 'b>) -> Option<IdentityRef>
     ensures { (files : Files) (choice : Selected) → AreLinked files choice linked.now
         → result ≡ base_of (map brief_of files) (rows_of files) (row entry.now) }
 {

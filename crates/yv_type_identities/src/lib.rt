@@ -4,13 +4,17 @@
 
 mod bases;
 mod candidates;
+mod graph;
 mod identities;
+mod identity_places;
 mod if_features;
 mod inside;
 mod keys;
 pub mod laws;
 mod lists;
 mod places;
+mod runs;
 mod sets;
+mod shared_members;
 
 pub use identities::IdentityLists;

@@ -13,8 +13,7 @@ use Rattle.std.proofs.lemmas.Cmp.{then_total}
 use Rattle.std.proofs.lemmas.List.Sorted.{searchable_from_sorted}
 use Rattle.std.proofs.lemmas.Option.{get_or_from_slice_get, slice_get-get_or, slice_get_within}
 use Rattle.std.proofs.lemmas.Slice.Eq.{bytes_eq-Decides}
-use Rattle.yv_values.specs.declared.members.Member.{Member}
-use Rattle.yv_values.specs.Identities.{Id, id_cmp, id_of, is_identity}
+use Rattle.yv_values.specs.Identities.{Id, id_cmp, is_identity}
 use Rattle.yv_values.proofs.Mapped.{any_mapped}
 use Rattle.yv_values.proofs.Same.{then_equal}
 
@@ -64,30 +63,30 @@ any_none : {X : Type 0} (p : X → Bool) (xs : List X) → ((k : ℕ) (d : X) �
 any_none p [] h = refl
 any_none p (x ∷ xs) h = rw (h zero x (omega arith)) (any_none p xs (λ k d b. h (suc k) d (omega arith)))
 
-module _ (module_file called : List ℕ) (xs : List Member) where
-  pub found : (at : ℕ) (d : Member) → at < length xs → HoldsAt (λ y. id_cmp (id_of y) record { module_file = module_file; name = called } ≡ Equal) xs at → list_any (is_identity module_file called) (map id_of xs) ≡ true
-  found at d b h = any_mapped id_of (is_identity module_file called) xs ∙ any_at (λ m. is_identity module_file called (id_of m)) xs at d b (compared module_file called (id_of (get_or xs at d)) ∙ ap is_eq (h d))
+module _ {X : Type 0} (f : X → Id) (module_file called : List ℕ) (xs : List X) where
+  pub found : (at : ℕ) (d : X) → at < length xs → HoldsAt (λ y. id_cmp (f y) record { module_file = module_file; name = called } ≡ Equal) xs at → list_any (is_identity module_file called) (map f xs) ≡ true
+  found at d b h = any_mapped f (is_identity module_file called) xs ∙ any_at (λ m. is_identity module_file called (f m)) xs at d b (compared module_file called (f (get_or xs at d)) ∙ ap is_eq (h d))
 
-  pub found_at : (at : ℕ) (m : Member) → slice_get xs at ≡ Some m → is_identity module_file called (id_of m) ≡ true → list_any (is_identity module_file called) (map id_of xs) ≡ true
+  pub found_at : (at : ℕ) (m : X) → slice_get xs at ≡ Some m → is_identity module_file called (f m) ≡ true → list_any (is_identity module_file called) (map f xs) ≡ true
   found_at at m e h =
-      any_mapped id_of (is_identity module_file called) xs ∙ any_at (λ m. is_identity module_file called (id_of m)) xs at m (slice_get_within xs at m e)
-      (ap (λ (y : Member). is_identity module_file called (id_of y)) (get_or_from_slice_get xs at m m e) ∙ h)
+      any_mapped f (is_identity module_file called) xs ∙ any_at (λ m. is_identity module_file called (f m)) xs at m (slice_get_within xs at m e)
+      (ap (λ (y : X). is_identity module_file called (f y)) (get_or_from_slice_get xs at m m e) ∙ h)
 
-  pub absent : (at : ℕ) → IsSortedByKey id_of id_cmp xs → (IsNonDecreasingBy (λ y. ordering_index (id_cmp (id_of y) record { module_file = module_file; name = called })) xs → IsPartitionPoint (λ y. id_cmp (id_of y) record { module_file = module_file; name = called } ≡ Less) (λ y. id_cmp (id_of y) record { module_file = module_file; name = called } ≡ Greater) xs at) → list_any (is_identity module_file called) (map id_of xs) ≡ false
+  pub absent : (at : ℕ) → IsSortedByKey f id_cmp xs → (IsNonDecreasingBy (λ y. ordering_index (id_cmp (f y) record { module_file = module_file; name = called })) xs → IsPartitionPoint (λ y. id_cmp (f y) record { module_file = module_file; name = called } ≡ Less) (λ y. id_cmp (f y) record { module_file = module_file; name = called } ≡ Greater) xs at) → list_any (is_identity module_file called) (map f xs) ≡ false
   absent at up h =
-      let point = h (searchable_from_sorted ids_total id_of xs record { module_file = module_file; name = called } up) in
-      any_mapped id_of (is_identity module_file called) xs ∙ any_none (λ m. is_identity module_file called (id_of m)) xs (λ k d b.
-      compared module_file called (id_of (get_or xs k d)) ∙ elim (cases_lt k at) [
+      let point = h (searchable_from_sorted ids_total f xs record { module_file = module_file; name = called } up) in
+      any_mapped f (is_identity module_file called) xs ∙ any_none (λ m. is_identity module_file called (f m)) xs (λ k d b.
+      compared module_file called (f (get_or xs k d)) ∙ elim (cases_lt k at) [
         | inl low ↦ ap is_eq (point.0 k d (omega arith) low)
         | inr high ↦ ap is_eq (point.1 k d high b)
       ])
 
   -- it is none of them where it stands after the one before a place, and before the one at that
   -- place
-  abbrev side : Member → ℕ
-  side y = ordering_index (id_cmp (id_of y) record { module_file = module_file; name = called })
+  abbrev side : X → ℕ
+  side y = ordering_index (id_cmp (f y) record { module_file = module_file; name = called })
 
-  between : (at : ℕ) → IsNonDecreasingBy side xs → (0 < at → (m : Member) × (slice_get xs (at - 1) ≡ Some m) × (side m ≡ 0)) → ((m : Member) → slice_get xs at ≡ Some m → side m ≡ 2) → (k : ℕ) (d : Member) → k < length xs → side (get_or xs k d) ≡ 1 → ⊥
+  between : (at : ℕ) → IsNonDecreasingBy side xs → (0 < at → (m : X) × (slice_get xs (at - 1) ≡ Some m) × (side m ≡ 0)) → ((m : X) → slice_get xs at ≡ Some m → side m ≡ 2) → (k : ℕ) (d : X) → k < length xs → side (get_or xs k d) ≡ 1 → ⊥
   between at up below above k d b one = elim (cases_lt k at) [
     | inl low ↦
         let last = below (omega arith) in
@@ -103,14 +102,14 @@ module _ (module_file called : List ℕ) (xs : List Member) where
         omega arith
   ]
 
-  pub apart : (at : ℕ) → IsSortedByKey id_of id_cmp xs
-      → (0 < at → (m : Member) × (slice_get xs (at - 1) ≡ Some m) × (id_cmp (id_of m) record { module_file = module_file; name = called } ≡ Less))
-      → ((m : Member) → slice_get xs at ≡ Some m → id_cmp (id_of m) record { module_file = module_file; name = called } ≡ Greater)
-      → list_any (is_identity module_file called) (map id_of xs) ≡ false
+  pub apart : (at : ℕ) → IsSortedByKey f id_cmp xs
+      → (0 < at → (m : X) × (slice_get xs (at - 1) ≡ Some m) × (id_cmp (f m) record { module_file = module_file; name = called } ≡ Less))
+      → ((m : X) → slice_get xs at ≡ Some m → id_cmp (f m) record { module_file = module_file; name = called } ≡ Greater)
+      → list_any (is_identity module_file called) (map f xs) ≡ false
   apart at up below above =
-      any_mapped id_of (is_identity module_file called) xs ∙ any_none (λ m. is_identity module_file called (id_of m)) xs (λ k d b.
-      compared module_file called (id_of (get_or xs k d)) ∙ not_one (id_cmp (id_of (get_or xs k d)) record { module_file = module_file; name = called })
-      (between at (searchable_from_sorted ids_total id_of xs record { module_file = module_file; name = called } up) (λ h. let m = below h in (m.0, m.1, ap ordering_index m.2)) (λ m h. ap ordering_index (above m h)) k d b))
+      any_mapped f (is_identity module_file called) xs ∙ any_none (λ m. is_identity module_file called (f m)) xs (λ k d b.
+      compared module_file called (f (get_or xs k d)) ∙ not_one (id_cmp (f (get_or xs k d)) record { module_file = module_file; name = called })
+      (between at (searchable_from_sorted ids_total f xs record { module_file = module_file; name = called } up) (λ h. let m = below h in (m.0, m.1, ap ordering_index m.2)) (λ m h. ap ordering_index (above m h)) k d b))
     where
       not_one : (o : Ordering) → (ordering_index o ≡ 1 → ⊥) → is_eq o ≡ false
       not_one Less h = refl

@@ -5,6 +5,7 @@ pub mod Fewer
 pub mod Found
 pub mod Keys
 pub mod Mapped
+pub mod Numbered
 pub mod Order
 pub mod Rising
 pub mod Same

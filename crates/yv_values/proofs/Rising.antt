@@ -1,11 +1,13 @@
 -- Lists each of whose elements stands before all behind it.
-use Rattle.std.proofs.Common.{◌≡◌, zero, suc, ◌+◌, ◌⊎◌, inl, inr, Bool, true, false, ◌||◌, cond, Result, Ok, Err, IfOk, List, [], ◌∷◌, get_or, map, refl, sym, ◌∙◌, ap, subst, arith}
+use Rattle.std.proofs.Common.{◌≡◌, zero, suc, ◌+◌, ◌⊎◌, inl, inr, Bool, true, false, ◌||◌, cond, Result, Ok, Err, IfOk, List, [], ◌∷◌, length, get_or, map, refl, sym, ◌∙◌, ap, subst, arith}
 use Rattle.std.specs.Cmp.{IsTotalOrder}
-use Rattle.std.specs.List.{AllByRecursion, dedup, dedup_from, list_any}
+use Rattle.std.specs.List.{AllAdjacentBelow, AllByRecursion, dedup, dedup_from, list_any}
 use Rattle.std.specs.List.Sorted.{IsPermutation, IsSortedBy, IsStrictlySortedBy}
 use Rattle.std.specs.Ordering.{eq_by_cmp, is_lt, ordering_reverse}
 use Rattle.std.specs.declared.cmp.Ordering.{Ordering}
 use Rattle.std.specs.declared.cmp.Ordering.TheVariants.{Less, Equal, Greater}
+use Rattle.std.proofs.lemmas.Cmp.{on_total}
+use Rattle.std.proofs.lemmas.Map.Keys.{sorted_from_all_adjacent}
 use Rattle.std.proofs.lemmas.List.Kept.{IsStrictlySortedBy-dedup}
 use Rattle.std.proofs.lemmas.List.Sorted.{list_any-IsPermutation}
 use Rattle.yv_values.proofs.Mapped.{any_mapped}
@@ -19,6 +21,12 @@ pub rises_mapped : {X K : Type 0} (f : X → K) (c : K → K → Ordering) (xs :
 unfolding IsStrictlySortedBy
 rises_mapped f c [] h = tt
 rises_mapped f c (x ∷ xs) h = (all_mapped f (λ y. c (f x) y ≡ Less) xs h.0, rises_mapped f c xs h.1)
+
+-- a list each of whose elements stands before the next
+pub adjacent_rises : {X K : Type 0} (f : X → K) (c : K → K → Ordering) → IsTotalOrder c → (xs : List X) → AllAdjacentBelow (λ a b. c (f a) (f b) ≡ Less) xs (length xs) → IsStrictlySortedBy c (map f xs)
+unfolding IsStrictlySortedBy
+adjacent_rises f c o [] h = tt
+adjacent_rises f c o (x ∷ xs) h = rises_mapped f c (x ∷ xs) (sorted_from_all_adjacent (on_total f o) (x ∷ xs) x (λ k b. h k x b))
 
 greater_isnt_less : (o r : Ordering) → o ≡ ordering_reverse r → r ≡ Less → is_lt o ≡ false
 greater_isnt_less o Less e h = rw e refl

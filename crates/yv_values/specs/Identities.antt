@@ -1,13 +1,14 @@
 -- Identities (RFC 7950, section 7.18).
-use Rattle.std.specs.Prelude.{ℕ, List, Bool, ◌&&◌, Option, Some, None, if◌then◌else◌}
+use Rattle.std.specs.Prelude.{ℕ, List, Bool, ◌&&◌, Option, Some, None, if◌then◌else◌, map, nat_le, nat_lt}
 use Rattle.std.specs.Cmp.Lexicographic.{slice_cmp}
-use Rattle.std.specs.List.{list_any}
+use Rattle.std.specs.List.{filter, list_any}
 use Rattle.std.specs.List.Sorted.{IsStrictlySortedBy}
 use Rattle.std.specs.Ordering.{nat_cmp, ordering_then}
 use Rattle.std.specs.Rc.{rc_str_bytes}
 use Rattle.std.specs.Str.{bytes_eq}
 use Rattle.std.specs.declared.cmp.Ordering.{Ordering}
 use Rattle.yv_values.specs.declared.members.Member.{Member}
+use Rattle.yv_values.specs.declared.numbered_members.NumberedMember.{NumberedMember}
 use Rattle.yv_values.specs.Values.{Val, identity}
 
 -- an identity: its module and its name
@@ -32,3 +33,22 @@ is_identity module_file called i = bytes_eq i.module_file module_file && bytes_e
 -- the identity of this module and name, where it is one of these (section 9.10)
 abbrev pub identity_in : List Id → List ℕ → List ℕ → Option Val
 identity_in ids module_file called = if list_any (is_identity module_file called) ids then Some (identity module_file called) else None
+
+-- an identity with a number
+pub record NumberedId : Type 0 where
+  pub id : Id
+  pub number : ℕ
+
+abbrev pub numbered_of : NumberedMember → NumberedId
+numbered_of m = record { id = id_of m.member; number = m.number }
+
+abbrev pub ids_of : List NumberedId → List Id
+ids_of all = map (λ (e : NumberedId). e.id) all
+
+-- a number is from the low one up to the high one, and not that
+abbrev pub is_between : ℕ → ℕ → ℕ → Bool
+is_between low high n = nat_le low n && nat_lt n high
+
+-- the identities whose numbers are
+abbrev pub between : List NumberedId → ℕ → ℕ → List Id
+between all low high = ids_of (filter (λ (e : NumberedId). is_between low high e.number) all)

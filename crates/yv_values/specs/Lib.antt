@@ -3,6 +3,7 @@ pub mod Identities
 pub mod InnerBits
 pub mod InnerDefaults
 pub mod InnerKeys
+pub mod InnerMembers
 pub mod InnerNames
 pub mod InnerPatterns
 pub mod InnerPlaces

@@ -1,18 +1,18 @@
 //! The identities of an identityref type, in one order.
-ghost use Rattle.std.specs.Prelude.{◌≡◌, ◌<◌, ◌-◌, ◌&&◌, List, ℕ, Some, true, false, IfOk, IfSome};
-ghost use Rattle.std.specs.Prelude.{IsTrue, is_some, map, slice_get};
+ghost use Rattle.std.specs.Prelude.{◌≡◌, ◌&&◌, List, ℕ, IfOk, IfSome, is_some, map, take};
 ghost use Rattle.std.specs.List.{list_any};
 ghost use Rattle.std.specs.List.Sorted.{IsSortedByKey};
 ghost use Rattle.std.specs.Rc.{rc_str_bytes};
 ghost use Rattle.std.specs.Str.{bytes_eq};
-ghost use Rattle.std.specs.declared.cmp.Ordering.TheVariants.{Less, Greater};
-ghost use Rattle.yv_values.specs.Identities.{Id, RiseById, id_cmp, id_of, is_identity, identity_in};
+ghost use Rattle.yv_values.specs.Identities.{RiseById, between, id_cmp, id_of, identity_in, is_between, is_identity, numbered_of};
+ghost use Rattle.yv_values.specs.InnerMembers.{with_zero};
 
 use crate::names::compare;
+use crate::numbered_members::{NumberedMember, NumberedMembers, quick_order};
 use std::alloc::{AllocError, Global};
 use std::cmp::Ordering;
 use std::marker::Model;
-use std::rc::{RcSlice, RcStr};
+use std::rc::RcStr;
 
 /// An identity: the module that defines it, and its name. Texts are shared by its copies.
 #[derive(PartialEq, Eq, PartialOrd, Ord, Drop)]
@@ -22,25 +22,24 @@ pub struct Member {
 }
 
 /// The identities of an identityref type, in the order of their modules and then of their names and
-/// each once, so that one is found by halves. Contracts see them as that list.
+/// each once. Contracts see them as that list. They are some of a list that types share: those
+/// whose numbers are from the low one up to the high one, and not that.
 #[derive(Drop)]
 pub struct Members {
-    members: RcSlice<Member>,
-    // The places at which another module begins. Names of modules may be long, so a search goes by
-    // these. It looks at what it finds, and only its time depends on them.
-    starts: RcSlice<usize>,
+    all: NumberedMembers,
+    low: usize,
+    high: usize,
 }
 
 impl Model for Members {
-    ghost use Rattle.std.specs.Prelude.{List, map};
-    ghost use Rattle.std.specs.Rc.{rc_slice_items};
-    ghost use Rattle.yv_values.specs.Identities.{Id, RiseById, id_of};
+    ghost use Rattle.std.specs.Prelude.{List};
+    ghost use Rattle.yv_values.specs.Identities.{Id, RiseById, between, ids_of};
 
     ghost Value = { List Id };
 
-    ghost view = { λ i. map id_of (rc_slice_items i.members) };
+    ghost view = { λ i. between i.all i.low i.high };
 
-    ghost invariant = { λ i. RiseById (map id_of (rc_slice_items i.members)) };
+    ghost invariant = { λ i. RiseById (ids_of i.all) };
 }
 
 impl Members {
@@ -69,18 +68,37 @@ impl Members {
     {
         let mut members = members;
         members.dedup_by(|later, earlier| later.is_same(earlier));
-        let starts = starts_of(*members.allocator(), &members)?;
-        Ok(Members {
-            members: RcSlice::from_vec(members)?,
-            starts,
-        })
+        Members::from_rising(members)
     }
 
-    /// They, in their order.
-    pub fn as_slice(&self) -> &[Member]
-        ensures { map id_of result.now ≡ self.now }
+    // Takes the identities of a type in their order.
+    fn from_rising(members: Vec<Member>) -> Result<Members, AllocError>
+        requires { RiseById (map id_of members.items) }
+        ensures { IfOk result (λ sorted. sorted ≡ map id_of members.items) }
     {
-        &self.members
+        let all = NumberedMembers::from_rising(without_numbers(members)?)?;
+        Members::of_numbers(all, 0, 1)
+    }
+
+    /// Those of a list whose numbers are from the low one up to the high one, and not that.
+    pub(crate) fn of_numbers(
+        all: NumberedMembers,
+        low: usize,
+        high: usize,
+    ) -> Result<Members, AllocError>
+        ensures same { IfOk result (λ members. members ≡ between all low high) }
+        ensures rises { IfOk result (λ members. RiseById members) }
+    {
+        all.rise();
+        Ok(Members { all, low, high })
+    }
+
+    /// The first of them, so many at most.
+    pub fn front(&self, alloc: Global, most: usize) -> Result<Vec<&Member>, AllocError>
+        ensures { IfOk result
+            (λ front. map (λ m. id_of m.now) front.items ≡ take most self.now) }
+    {
+        front_between(alloc, self.all.as_slice(), self.low, self.high, most)
     }
 
     /// The identity of this module and name, where it is one of these.
@@ -89,75 +107,11 @@ impl Members {
         ensures same { IfSome result
             (λ m. id_of m.now ≡ record { module_file = module.now; name = name.now }) }
     {
-        let at = self.likely_place(module, name);
-        match self.match_at(at, module, name) {
-            Some(member) => Some(member),
-            None if self.is_absent(at, module, name) => None,
-            None => self.search(module, name),
-        }
-    }
-
-    // Where the identity of this module and name is, or would be, if the starts are right.
-    fn likely_place(&self, module: &[u8], name: &[u8]) -> usize {
-        let count = self
-            .starts
-            .partition_point(|start| self.is_up_to(*start, module));
-        let low = match count.checked_sub(1) {
-            Some(last) => self.starts.get(last).copied().unwrap_or(0),
-            None => 0,
-        };
-        let high = self
-            .starts
-            .get(count)
-            .copied()
-            .unwrap_or(self.members.len());
-        match self.members.get(low..high) {
-            Some(span) => low.saturating_add(span.partition_point(|member| member.is_below(name))),
-            None => low,
-        }
-    }
-
-    // Whether the module of the identity at a place is this one or stands before it.
-    fn is_up_to(&self, place: usize, module: &[u8]) -> bool {
-        match self.members.get(place) {
-            Some(member) => compare(member.module.as_str().as_bytes(), module).is_le(),
-            None => false,
-        }
-    }
-
-    // The identity at a place, if it is the one of this module and name.
-    fn match_at(&self, place: usize, module: &[u8], name: &[u8]) -> Option<&Member>
-        ensures there { IfSome result (λ m.
-            list_any (is_identity module.now name.now) self.now ≡ true) }
-        ensures same { IfSome result (λ m.
-            id_of m.now ≡ record { module_file = module.now; name = name.now }) }
-    {
-        match self.members.get(place) {
-            Some(member) if member.is_named(module, name) => Some(member),
-            _ => None,
-        }
-    }
-
-    // Whether the identities before and at a place show that none is of this module and name.
-    fn is_absent(&self, place: usize, module: &[u8], name: &[u8]) -> bool
-        ensures { IsTrue result → list_any (is_identity module.now name.now) self.now ≡ false }
-    {
-        stands_after(&self.members, place, module, name)
-            && stands_before(&self.members, place, module, name)
-    }
-
-    // The same as `find`, whatever the starts are.
-    fn search(&self, module: &[u8], name: &[u8]) -> Option<&Member>
-        ensures value { is_some result ≡ list_any (is_identity module.now name.now) self.now }
-        ensures same { IfSome result (λ m.
-            id_of m.now ≡ record { module_file = module.now; name = name.now }) }
-    {
-        match self
-            .members
-            .binary_search_by(|member| member.compare(module, name))
-        {
-            Ok(at) => Some(&self.members[at]),
-            Err(_) => None,
+        let entry = self.all.find(module, name)?;
+        if is_between(self.low, self.high, entry.number) {
+            Some(&entry.member)
+        } else {
+            None
         }
     }
 
@@ -166,7 +120,7 @@ impl Members {
         ensures { RiseById self.now }
     {
         // What a value keeps is known where it is read.
-        let _count = self.members.len();
+        let _low = self.low;
     }
 
     /// The same identities once more, over the same list.
@@ -174,9 +128,7 @@ impl Members {
         ensures same { IfOk result (λ copy. copy ≡ self.now) }
         ensures rises { IfOk result (λ copy. RiseById copy) }
     {
-        let members = self.members.clone()?;
-        let starts = self.starts.clone()?;
-        Ok(Members { members, starts })
+        Members::of_numbers(self.all.copy()?, self.low, self.high)
     }
 }
 
@@ -191,8 +143,8 @@ impl Member {
         })
     }
 
-    // Whether it is the identity of this module and name. Names come first, since most differ.
-    fn is_named(&self, module: &[u8], name: &[u8]) -> bool
+    /// Whether it is the identity of this module and name. Names come first, since most differ.
+    pub(crate) fn is_named(&self, module: &[u8], name: &[u8]) -> bool
         ensures { result ≡ (bytes_eq (rc_str_bytes self.now.name) name.now
             && bytes_eq (rc_str_bytes self.now.module) module.now) }
     {
@@ -210,12 +162,13 @@ impl Member {
         )
     }
 
-    // Whether its name stands before another.
-    fn is_below(&self, name: &[u8]) -> bool {
+    /// Whether its name stands before another.
+    pub(crate) fn is_below(&self, name: &[u8]) -> bool {
         compare(self.name.as_str().as_bytes(), name).is_lt()
     }
 
-    fn compare(&self, module: &[u8], name: &[u8]) -> Ordering
+    /// Its order beside the identity of this module and name.
+    pub(crate) fn compare(&self, module: &[u8], name: &[u8]) -> Ordering
         ensures { result
             ≡ id_cmp (id_of self.now) record { module_file = module.now; name = name.now } }
     {
@@ -226,53 +179,44 @@ impl Member {
     }
 }
 
-// Whether this identity stands after the one before a place, where there is one.
-fn stands_after(members: &[Member], place: usize, module: &[u8], name: &[u8]) -> bool
-    ensures { IsTrue result → 0 < place
-        → (m : Member) × (slice_get members.now (place - 1) ≡ Some m)
-        × (id_cmp (id_of m) record { module_file = module.now; name = name.now } ≡ Less) }
+// Whether a number is from the low one up to the high one, and not that.
+fn is_between(low: usize, high: usize, number: usize) -> bool
+    ensures { result ≡ is_between low high number }
 {
-    if place == 0 {
-        return true;
-    }
-    match members.get(place - 1) {
-        Some(member) => member.compare(module, name).is_lt(),
-        None => false,
-    }
+    low <= number && number < high
 }
 
-// Whether this identity stands before the one at a place, where there is one.
-fn stands_before(members: &[Member], place: usize, module: &[u8], name: &[u8]) -> bool
-    ensures { IsTrue result → (m : Member) → slice_get members.now place ≡ Some m
-        → id_cmp (id_of m) record { module_file = module.now; name = name.now } ≡ Greater }
+// The first of these whose numbers are from the low one up to the high one, and not that.
+fn front_between(
+    alloc: Global,
+    entries: &[NumberedMember],
+    low: usize,
+    high: usize,
+    most: usize,
+) -> Result<Vec<&Member>, AllocError>
+    ensures { IfOk result
+        (λ front. map (λ m. id_of m.now) front.items
+        ≡ take most (between (map numbered_of entries.now) low high)) }
 {
-    match members.get(place) {
-        Some(member) => member.compare(module, name).is_gt(),
-        None => true,
-    }
-}
-
-// The order of two identities. Those of one file share the text of its module, which is not read.
-fn quick_order(one: &Member, other: &Member) -> Ordering {
-    if RcStr::ptr_eq(&one.module, &other.module) {
-        one.name.cmp(&other.name)
-    } else {
-        one.cmp(other)
-    }
-}
-
-// Whether two identities are of different modules. Those of one file share the text of its module.
-fn are_apart(one: &Member, other: &Member) -> bool {
-    !RcStr::ptr_eq(&one.module, &other.module) && one.module != other.module
-}
-
-// The places at which another module begins.
-fn starts_of(alloc: Global, members: &[Member]) -> Result<RcSlice<usize>, AllocError> {
-    let mut starts = Vec::new(alloc);
-    for place in 1..members.len() {
-        if are_apart(&members[place - 1], &members[place]) {
-            starts.push(place)?;
+    let mut front = Vec::new(alloc);
+    for entry in entries {
+        if front.len() >= most {
+            break;
+        }
+        if is_between(low, high, entry.number) {
+            front.push(&entry.member)?;
         }
     }
-    RcSlice::from_vec(starts)
+    Ok(front)
+}
+
+// The same identities, each with the number 0.
+fn without_numbers(members: Vec<Member>) -> Result<Vec<NumberedMember>, AllocError>
+    ensures { IfOk result (λ entries. entries.items ≡ map with_zero members.items) }
+{
+    let alloc = *members.allocator();
+    members
+        .into_iter()
+        .map(|member| NumberedMember { member, number: 0 })
+        .collect(alloc)
 }

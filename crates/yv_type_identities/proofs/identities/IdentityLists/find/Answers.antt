@@ -1,6 +1,10 @@
-use Rattle.yv_type_identities.proofs.Kept.{again_found}
+use Rattle.std.proofs.Common.{List, Option, subst}
+use Rattle.std.specs.Prelude.{IfSome}
+use Rattle.yv_values.specs.Identities.{Id}
+use Rattle.yv_type_identities.specs.Identities.{IsFound}
 use Rattle.yv_type_identities.proofs.identities.IdentityLists.find.Goals as goal
 
-pub returns-in_ok-copy-clause-right : goal.returns-in_ok-copy-clause-right
-returns-in_ok-copy-clause-right c = λ linked are.
-    again_found linked c.args.self.now.found.items c.deref.result.now c.in-Some-get.found.now c.in-Some.place.now c.args.key.now c.deref-2.result.now c.in_ok-copy.field-0 c.deref.ensures.value c.in-Some-get.ensures.lookup.3.0 c.in-Some-get.ensures.lookup.1 c.deref-2.ensures.value (c.is_same.ensures c.if-is_same.true) c.in_ok-copy.ensures.same are.found
+pub returns-in-Some-2-clause-right : goal.returns-in-Some-2-clause-right
+returns-in-Some-2-clause-right c = λ linked are.
+    let told = c.in_ok-members.ensures.right linked c.args.self.now.candidates.list.items (are.shared c.in-Some.shared c.in-Some.is) are.candidates in
+    subst (λ (o : Option (List Id)). IfSome o (IsFound linked c.args.key.now)) c.in-Some-2.is told

@@ -5,6 +5,7 @@ pub returns-in_err-insert : goal.returns-in_err-insert
 returns-in_err-insert c = λ linked are is. record {
   bases = are.bases;
   candidates = are.candidates;
+  shared = are.shared;
   found = one_found linked c.args.self.now.found.items c.push.new.self.items _ c.in_ok-push.ensures.items is are.found;
 }
 
@@ -12,5 +13,6 @@ pub returns : goal.returns
 returns c = λ linked are is. record {
   bases = are.bases;
   candidates = are.candidates;
+  shared = are.shared;
   found = one_found linked c.args.self.now.found.items c.push.new.self.items _ c.in_ok-push.ensures.items is are.found;
 }

@@ -1,16 +1,19 @@
 use Rattle.std.proofs.Common.{◌∙◌, List, ap, sym, refl}
 use Rattle.std.specs.List.{list_any}
 use Rattle.std.specs.Rc.{rc_slice_items}
-use Rattle.yv_values.specs.Identities.{Id, id_cmp, id_of, is_identity}
+use Rattle.yv_values.specs.Identities.{Id, id_cmp, ids_of, is_identity}
+use Rattle.yv_values.specs.InnerMembers.{entry_id}
 use Rattle.yv_values.proofs.Found.{apart, ids_total}
+use Rattle.yv_values.proofs.Numbered.{ids_numbered}
 use Rattle.yv_values.proofs.Rising.{sorted_from_rising}
-use Rattle.yv_values.proofs.members.Members.is_absent.Goals as goal
+use Rattle.yv_values.proofs.numbered_members.NumberedMembers.is_absent.Goals as goal
 
 pub returns-then-stands_after : goal.returns-then-stands_after
 returns-then-stands_after c = λ t.
     let module_file = c.args.«module».now in
     let called = c.args.name.now in
-    let up = sorted_from_rising id_of id_cmp ids_total _ c.self.invariant in
+    let up = sorted_from_rising entry_id id_cmp ids_total _ c.self.invariant in
     let below = rw c.deref.ensures.value at (c.if-stands_after.ensures refl) in
     let above = rw c.deref-then-stands_after.ensures.value at (c.stands_before.ensures t) in
-    ap (λ (ids : List Id). list_any (is_identity module_file called) ids) (sym c.self.view_is) ∙ apart module_file called (rc_slice_items c.self.inside.members) c.args.place up below above
+    let same = sym (ids_numbered _) ∙ ap ids_of c.self.view_is in
+    ap (λ (ids : List Id). list_any (is_identity module_file called) ids) (sym same) ∙ apart entry_id module_file called (rc_slice_items c.self.inside.members) c.args.place up below above

@@ -1,0 +1,6 @@
+use Rattle.std.proofs.Common.{take}
+use Rattle.yv_type_identities.proofs.Running.{Joins}
+use Rattle.yv_type_identities.proofs.runs.run_of.Given as goal
+
+abbrev pub invariant-loop-node : goal.invariant-loop-node
+invariant-loop-node l = Joins l.runs l.ranks (take l.node-index l.nodes) l.run
